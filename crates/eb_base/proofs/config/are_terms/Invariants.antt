@@ -1,0 +1,5 @@
+use Rattle.std.proofs.Common.{◌≡◌, ℕ, ◌<◌, ◌≤◌, ◌^◌}
+use Rattle.eb_base.proofs.config.are_terms.Given as goal
+
+abbrev pub invariant-loop-bits : goal.invariant-loop-bits
+invariant-loop-bits l = (k : ℕ) → 8 ≤ k → k < l.bits → l.terms ≡ 2 ^ k → ⊥

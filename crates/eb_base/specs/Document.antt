@@ -1,0 +1,26 @@
+-- What a document is, and its limits.
+use Rattle.std.specs.Prelude.{ℕ, ◌<◌, ◌≤◌, ◌^◌, List, length, sum_by}
+use Rattle.std.specs.List.{All}
+use Rattle.eb_base.specs.Term.{AreBytes}
+use Rattle.eb_base.specs.declared.document.TheConstants.{MAX_TOKENS, MAX_BYTES}
+
+-- a document: an id, and its terms in the order of its words; the position of a term is its place
+-- in this list, counted from 0
+pub record Doc : Type 0 where
+  pub id : ℕ
+  pub terms : List (List ℕ)
+
+-- the bytes of all terms
+abbrev pub bytes_of : List (List ℕ) → ℕ
+bytes_of terms = sum_by length terms
+
+-- so many terms, with so many bytes in all, are a document's at most
+pub record AreWithinLimits (terms : List (List ℕ)) : Type 0 where
+  pub tokens : length terms ≤ MAX_TOKENS
+  pub bytes : bytes_of terms ≤ MAX_BYTES
+
+-- the document is one that can be made: an id of 64 bits, and terms of bytes, within the limits
+pub record IsDocument (d : Doc) : Type 0 where
+  pub id : d.id < 2 ^ 64
+  pub terms : All AreBytes d.terms
+  pub limits : AreWithinLimits d.terms

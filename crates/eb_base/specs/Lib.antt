@@ -1,0 +1,5 @@
+pub mod Term
+pub mod Document
+pub mod Query
+pub mod Match
+pub mod Setting

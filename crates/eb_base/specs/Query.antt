@@ -1,0 +1,123 @@
+-- Queries as plain trees: what a query asks, however it lies in memory.
+use Rattle.std.specs.Prelude.{ℕ, ◌+◌, ◌≤◌, List, [], ◌∷◌, length, map, Option, Some, None, option_and_then, nat_lt, cond, ◌-◌, Bool, true, false}
+use Rattle.eb_base.specs.declared.query.Query.{Query, fold-Query}
+use Rattle.eb_base.specs.declared.query.Query.TheOpen.{Query-F, Queries-F}
+use Rattle.eb_base.specs.declared.query.Queries.{Queries}
+
+-- what a query is, however it lies in memory
+mutual
+  pub data Tree : Type 0 where
+    word : List ℕ → Tree
+    phrase : List (List ℕ) → Tree
+    negation : Tree → Tree
+    conjunction : Trees → Tree
+    disjunction : Trees → Tree
+
+  pub data Trees : Type 0 where
+    no_trees : Trees
+    trees : Tree → Trees → Trees
+
+-- a list of trees as parts
+abbrev pub trees_of : List Tree → Trees
+trees_of [] = no_trees
+trees_of (t ∷ ts) = trees t (trees_of ts)
+
+-- one level, with each part already seen as its tree
+abbrev pub tree_step : Query-F Tree Trees → Tree
+tree_step (Query-F.Word t) = word t
+tree_step (Query-F.Phrase ts) = phrase ts
+tree_step (Query-F.Not q) = negation q.value
+tree_step (Query-F.And qs) = conjunction qs
+tree_step (Query-F.Or qs) = disjunction qs
+
+abbrev pub parts_step : Queries-F Tree Trees → Trees
+parts_step qs = trees_of qs.parts.items
+
+abbrev pub tree : Query → Tree
+tree = fold-Query Tree Trees tree_step parts_step
+
+-- the queries in order
+abbrev pub queries_of : Queries → List Query
+queries_of qs = qs.parts.items
+
+-- the parts in order
+abbrev pub parts_of : Queries → List Tree
+parts_of qs = map tree qs.parts.items
+
+-- what an and or an or of these parts is: one part is that part
+abbrev pub and_of : List Tree → Tree
+and_of [] = conjunction no_trees
+and_of (t ∷ []) = t
+and_of (t ∷ u ∷ ts) = conjunction (trees t (trees u (trees_of ts)))
+
+abbrev pub or_of : List Tree → Tree
+or_of [] = disjunction no_trees
+or_of (t ∷ []) = t
+or_of (t ∷ u ∷ ts) = disjunction (trees t (trees u (trees_of ts)))
+
+abbrev mutual
+  pub size : Tree → ℕ
+  size (word t) = 1
+  size (phrase ts) = length ts
+  size (negation t) = 1 + size t
+  size (conjunction ts) = 1 + sizes ts
+  size (disjunction ts) = 1 + sizes ts
+
+  -- the sizes of all of them
+  pub sizes : Trees → ℕ
+  sizes no_trees = 0
+  sizes (trees t ts) = size t + sizes ts
+
+-- two or more
+abbrev pub AreSeveral : Trees → Type 0
+AreSeveral no_trees = ⊥
+AreSeveral (trees t no_trees) = ⊥
+AreSeveral (trees t (trees u ts)) = Unit {0}
+
+-- phrases of at least two terms, and ands and ors of at least two parts
+abbrev mutual
+  pub IsFormed : Tree → Type 0
+  IsFormed (word t) = Unit {0}
+  IsFormed (phrase ts) = 2 ≤ length ts
+  IsFormed (negation t) = IsFormed t
+  IsFormed (conjunction ts) = AreSeveral ts × AreFormed ts
+  IsFormed (disjunction ts) = AreSeveral ts × AreFormed ts
+
+  pub AreFormed : Trees → Type 0
+  AreFormed no_trees = Unit {0}
+  AreFormed (trees t ts) = IsFormed t × AreFormed ts
+
+pub record IsWellFormed (t : Tree) : Type 0 where
+  pub formed : IsFormed t
+  pub within : size t ≤ 64
+
+-- the room less n, where it is that much
+abbrev pub less : ℕ → ℕ → Option ℕ
+less n room = cond (nat_lt room n) None (Some (room - n))
+
+abbrev pub several : Trees → Bool
+several no_trees = false
+several (trees t no_trees) = false
+several (trees t (trees u ts)) = true
+
+-- the room that is left after a query that is formed well and has room
+abbrev mutual
+  pub left_after : Tree → ℕ → Option ℕ
+  left_after (word t) room = less 1 room
+  left_after (phrase ts) room = cond (nat_lt (length ts) 2) None (less (length ts) room)
+  left_after (negation t) room = option_and_then (left_after t) (less 1 room)
+  left_after (conjunction ts) room = cond (several ts) (option_and_then (left_after_each ts) (less 1 room)) None
+  left_after (disjunction ts) room = cond (several ts) (option_and_then (left_after_each ts) (less 1 room)) None
+
+  pub left_after_each : Trees → ℕ → Option ℕ
+  left_after_each no_trees room = Some room
+  left_after_each (trees t ts) room = option_and_then (left_after_each ts) (left_after t room)
+
+abbrev pub left_after_all : Trees → ℕ → Option ℕ
+left_after_all ts room = cond (several ts) (option_and_then (left_after_each ts) (less 1 room)) None
+
+-- what a text with these terms asks: nothing without a term
+abbrev pub leaf_of : List (List ℕ) → Option Tree
+leaf_of [] = None
+leaf_of (t ∷ []) = Some (word t)
+leaf_of (t ∷ u ∷ ts) = Some (phrase (t ∷ u ∷ ts))

@@ -1,0 +1,106 @@
+ghost use Rattle.std.specs.Prelude.{◌≡◌, ℕ, ◌<◌, List, [], ◌∷◌, ◌++◌, length, slice_get, IfOk, OnOk, OnErr, MatchOption, Some, IsTrue, ◌↔◌};
+
+use crate::memory::NoMemory;
+use std::alloc::Global;
+use std::marker::Model;
+
+/// A term: one folded word of a text, as a list of bytes.
+#[derive(Debug, Drop)]
+pub struct Term {
+    bytes: Vec<u8>,
+}
+
+impl Model for Term {
+    ghost use Rattle.std.specs.Prelude.{ℕ, List};
+    ghost use Rattle.eb_base.specs.Term.{AreBytes};
+
+    ghost Value = { List ℕ };
+
+    ghost view = { λ t. t.bytes.items };
+
+    ghost invariant = { λ t. AreBytes t.bytes.items };
+}
+
+impl Term {
+    /// The term with these bytes, which are copied. Takes memory.
+    pub fn new(alloc: Global, bytes: &[u8]) -> Result<Term, NoMemory>
+        ensures { IfOk result (λ term. term ≡ bytes.now) }
+    {
+        let bytes = bytes.to_vec(alloc)?;
+        Ok(Term { bytes })
+    }
+
+    /// The bytes of the term.
+    pub fn bytes(&self) -> &[u8]
+        ensures { result.now ≡ self.now }
+    {
+        self.bytes.as_slice()
+    }
+}
+
+/// A list of terms: those of a document in the order of its words, or those of a phrase.
+#[derive(Debug, Drop)]
+pub struct Terms {
+    terms: Vec<Term>,
+}
+
+impl Model for Terms {
+    ghost use Rattle.std.specs.Prelude.{ℕ, List};
+    ghost use Rattle.std.specs.List.{All};
+    ghost use Rattle.eb_base.specs.Term.{AreBytes};
+
+    ghost Value = { List (List ℕ) };
+
+    ghost view = { λ t. t.terms.items };
+
+    ghost invariant = { λ t. All AreBytes t.terms.items };
+}
+
+impl Terms {
+    /// No terms. Takes no memory.
+    pub fn new(alloc: Global) -> Terms
+        ensures { result ≡ [] }
+    {
+        Terms {
+            terms: Vec::new(alloc),
+        }
+    }
+
+    /// Puts the term at the end. Without memory the list stays as it was, and the term is dropped.
+    pub fn push(&mut self, term: Term) -> Result<(), NoMemory>
+        ensures ok { OnOk result (self.new ≡ self.old ++ term ∷ []) }
+        ensures err { OnErr result (self.new ≡ self.old) }
+    {
+        self.terms.push(term)?;
+        Ok(())
+    }
+
+    // Takes the last term away.
+    pub(crate) fn pop(&mut self) -> Option<Term>
+        ensures { MatchOption result (self.old ≡ []) (λ term. self.old ≡ self.new ++ term ∷ []) }
+    {
+        self.terms.pop()
+    }
+
+    /// The number of terms.
+    pub fn len(&self) -> usize
+        ensures { result ≡ length self.now }
+    {
+        self.terms.len()
+    }
+
+    /// Whether there is no term.
+    pub fn is_empty(&self) -> bool
+        ensures { IsTrue result ↔ (self.now ≡ []) }
+    {
+        self.terms.is_empty()
+    }
+
+    /// The term at this place, counted from 0.
+    pub fn get(&self, at: usize) -> &Term
+        requires { at < length self.now }
+        ensures { slice_get self.now at ≡ Some result.now }
+    {
+        &self.terms[at]
+    }
+}
