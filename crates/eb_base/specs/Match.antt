@@ -30,7 +30,7 @@ has_phrase p [] = starts_with bytes_eq [] p
 has_phrase p (t ∷ ts) = starts_with bytes_eq (t ∷ ts) p || has_phrase p ts
 
 -- `Matches` as a test of a document's terms
-unfoldable mutual
+abbrev mutual
   pub is_match : Tree → List (List ℕ) → Bool
   is_match (word t) ts = list_any (bytes_eq t) ts
   is_match (phrase p) ts = has_phrase p ts

@@ -9,6 +9,8 @@ mod gate;
 mod memory;
 mod query;
 mod terms;
+#[cfg(test)]
+mod tests;
 
 pub use config::{Config, ConfigFault};
 pub use document::{DocFault, Document};

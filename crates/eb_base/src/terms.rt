@@ -38,6 +38,26 @@ impl Term {
     }
 }
 
+impl PartialEq for Term {
+    ghost use Rattle.std.specs.Prelude.{bytes_eq};
+    ghost use Rattle.std.specs.Cmp as Cmp;
+    ghost use Rattle.std.proofs.lemmas.Cmp.{nat_list_eq_equiv};
+
+    ghost eq = { bytes_eq };
+
+    ghost laws = { Cmp.partial_equiv_from_equiv nat_list_eq_equiv };
+
+    fn eq(&self, other: &Term) -> bool {
+        self.bytes() == other.bytes()
+    }
+}
+
+impl Eq for Term {
+    ghost use Rattle.std.proofs.lemmas.Cmp.{nat_list_eq_equiv};
+
+    ghost laws = { nat_list_eq_equiv };
+}
+
 /// A list of terms: those of a document in the order of its words, or those of a phrase.
 #[derive(Debug, Drop)]
 pub struct Terms {
@@ -94,6 +114,13 @@ impl Terms {
         ensures { IsTrue result ↔ (self.now ≡ []) }
     {
         self.terms.is_empty()
+    }
+
+    /// The terms in order.
+    pub fn as_slice(&self) -> &[Term]
+        ensures { result.now ≡ self.now }
+    {
+        self.terms.as_slice()
     }
 
     /// The term at this place, counted from 0.

@@ -1,0 +1,4 @@
+pub mod LineKinds
+pub mod Words
+pub mod Texts
+pub mod Runs

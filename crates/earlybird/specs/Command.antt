@@ -1,0 +1,6 @@
+-- What the words of a command line ask; they are without the program's name.
+use Rattle.std.specs.Prelude.{◌≡◌, ℕ, List, [], ◌∷◌, codes}
+
+-- the one word `run`
+abbrev pub IsRun : List (List ℕ) → Type 0
+IsRun words = words ≡ codes "run" ∷ []

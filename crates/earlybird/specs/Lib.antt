@@ -1,0 +1,10 @@
+pub mod Kinds
+pub mod Reading
+pub mod Reads
+pub mod Session
+pub mod Text
+pub mod Works
+pub mod Output
+pub mod Worked
+pub mod Command
+pub mod StatusLine

@@ -1,0 +1,11 @@
+-- The work of a line stands for what the line is.
+use Rattle.eb_base.specs.Query.{tree}
+use Rattle.earlybird.specs.declared.work.Work.{Work}
+use Rattle.earlybird.specs.declared.work.Work.TheVariants.{Nothing, Add, Answer, Refuse}
+use Rattle.earlybird.specs.Reading.{Reading, blank, document, query, refused}
+
+abbrev pub reading_of : Work → Reading
+reading_of Nothing = blank
+reading_of (Add d) = document d
+reading_of (Answer k q) = query k (tree q)
+reading_of (Refuse r) = refused r

@@ -1,0 +1,281 @@
+ghost use Rattle.std.specs.Prelude.{◌≤◌};
+
+use crate::{Status, run};
+use eb_base::OpenGate;
+use eb_io::{Got, MemSink, MemSource, Source};
+use std::alloc::{AllocError, Global};
+use std::process::Abort;
+use std::test::Fail;
+use std::thread::Threads;
+
+// What a run left: its status, and what it printed and said.
+#[derive(Drop)]
+struct Left {
+    status: Status,
+    printed: Vec<u8>,
+    said: Vec<u8>,
+}
+
+// Runs on these bytes. The source gives `piece` bytes a call and the output takes as many; they fail
+// at the calls of these numbers.
+fn run_on<R: Threads + Abort + Sync>(
+    rt: &R,
+    alloc: Global,
+    words: &[&str],
+    input: &[u8],
+    piece: usize,
+    reads: &[u64],
+    writes: &[u64],
+) -> Result<Left, Fail> {
+    let mut list = Vec::new(alloc);
+    for word in words {
+        list.push(String::from_str(alloc, word)?)?;
+    }
+    let mut source = source_of(alloc, input, piece.max(1), reads)?;
+    let mut out = sink_of(alloc, piece.max(1), writes)?;
+    let mut err = sink_of(alloc, 3, &[])?;
+    let status = run(rt, alloc, &list, &mut source, &mut out, &mut err, &OpenGate);
+    if status == Status::Usage {
+        let mut byte = [0u8; 1];
+        assert!(rt;
+            input.is_empty() || source.read(&mut byte) == Got::Bytes(1),
+            "read at once"
+        );
+    }
+    Ok(Left {
+        status,
+        printed: out.bytes().to_vec(alloc)?,
+        said: err.bytes().to_vec(alloc)?,
+    })
+}
+
+fn source_of(
+    alloc: Global,
+    bytes: &[u8],
+    piece: usize,
+    failing: &[u64],
+) -> Result<MemSource, AllocError>
+    requires { 1 ≤ piece }
+{
+    MemSource::new(alloc, bytes, piece, failing).map_err(|_| AllocError)
+}
+
+fn sink_of(alloc: Global, piece: usize, failing: &[u64]) -> Result<MemSink, AllocError>
+    requires { 1 ≤ piece }
+{
+    MemSink::new(alloc, 65_536, piece, failing).map_err(|_| AllocError)
+}
+
+const MESSAGES: &str =
+    "{\"id\":20,\"user\":\"lena\",\"lang\":\"de\",\"text\":\"Sunset over the Straße tonight 🌅 can't believe it's already March in Berlin! #spring @lena\"}
+{\"id\":21,\"user\":\"tom\",\"text\":\"Rain in BERLIN, rain again ☔ and the trams are late\"}
+?10 STRASSE
+?10 #spring
+?10 berlin
+?10 berlin -rain
+?10 \"can't believe\"
+?10 trams OR (sunset march)
+?10 \"over the\" the
+";
+
+#[test]
+fn answers_each_input(rt: HostRuntime) -> Result<(), Fail> {
+    let cases = [
+        (
+            "{\"id\":7,\"text\":\"hello world\"}\n?5 hello\n",
+            "2 seen 1: 7\nend: documents 1, queries 1, refused 0\n",
+            0,
+        ),
+        ("", "end: documents 0, queries 0, refused 0\n", 0),
+        (
+            "?5 a\n{\"id\":1,\"text\":\"a\"}\n?5 a\n",
+            "1 seen 0:\n3 seen 1: 1\nend: documents 1, queries 2, refused 0\n",
+            0,
+        ),
+        (
+            "{\"id\":1,\"text\":\"a\"}\n{\"id\":2,\"text\":\"a\"}\n{\"id\":3,\"text\":\"a\"}\n?2 a\n?1000 a\n?0 a\n?1001 a\n?0002 a\n",
+            "4 seen 3: 3 2\n5 seen 3: 3 2 1\n6 refused: bad number\n7 refused: bad number\n8 seen 3: 3 2\nend: documents 3, queries 3, refused 2\n",
+            1,
+        ),
+        (
+            "{\"id\":9,\"text\":\"a\"}\n{\"id\":9,\"text\":\"a a\"}\n?5 a\n",
+            "3 seen 2: 9 9\nend: documents 2, queries 1, refused 0\n",
+            0,
+        ),
+        (
+            "{\"id\":4,\"text\":\"!!!\"}\n{\"id\":5,\"text\":\"foo\"}\n?5 -foo\n",
+            "3 seen 2: 4\nend: documents 2, queries 1, refused 0\n",
+            0,
+        ),
+        (
+            "{\"id\":1,\"text\":\"a b b a b a\"}\n?5 \"a b a\"\n?5 \"b b a b\"\n?5 \"b a b b\"\n",
+            "2 seen 1: 1\n3 seen 1: 1\n4 seen 1:\nend: documents 1, queries 3, refused 0\n",
+            0,
+        ),
+        (
+            "{\"id\":1,\"text\":\"a b\"}\n{\"id\":2,\"text\":\"c d\"}\n?5 \"b c\"\n?5 b c\n?5 b OR c\n",
+            "3 seen 2:\n4 seen 2:\n5 seen 2: 2 1\nend: documents 2, queries 3, refused 0\n",
+            0,
+        ),
+        (
+            "{\"id\":1,\"text\":\"a\"}\r\n\r\n?5 a",
+            "3 seen 1: 1\nend: documents 1, queries 1, refused 0\n",
+            0,
+        ),
+        (
+            MESSAGES,
+            "3 seen 2: 20\n4 seen 2: 20\n5 seen 2: 21 20\n6 seen 2: 20\n7 seen 2: 20\n8 seen 2: 21 20\n9 seen 2: 20\nend: documents 2, queries 7, refused 0\n",
+            0,
+        ),
+        (
+            "hello\n {\"id\":1,\"text\":\"a\"}\n{\"id\":1\n{\"id\":-1,\"text\":\"a\"}\n{\"id\":1,\"text\":null}\n{\"text\":\"a\"}\n{\"id\":18446744073709551615,\"text\":\"a\",\"x\":[1,{\"y\":null}]}\n?1 a\n",
+            "1 refused: bad line\n2 refused: bad line\n3 refused: bad json\n4 refused: bad document\n5 refused: bad document\n6 refused: bad document\n8 seen 1: 18446744073709551615\nend: documents 1, queries 1, refused 6\n",
+            1,
+        ),
+    ];
+    for (input, want, code) in cases {
+        for piece in [1, 5, 100_000] {
+            let left = run_on(&rt, rt.alloc(), &["run"], input.as_bytes(), piece, &[], &[])?;
+            assert_eq!(rt; left.printed.as_slice(), want.as_bytes(), "{input}");
+            assert_eq!(rt; left.status.code(), code, "{input}");
+            assert!(rt; left.said.is_empty(), "{input}");
+        }
+    }
+    Ok(())
+}
+
+#[test]
+fn refuses_each_line(rt: HostRuntime) -> Result<(), Fail> {
+    let alloc = rt.alloc();
+    let cases = [
+        ("?5", "bad query at 3"),
+        ("?5a", "bad number"),
+        ("?x a", "bad number"),
+        ("?5 (a", "bad query at 6"),
+        ("?5 a)", "bad query at 5"),
+        ("?5 \"a", "bad query at 4"),
+        ("?5 OR a", "bad query at 4"),
+        ("?5 a OR", "bad query at 8"),
+        ("?5 !!!", "bad query at 4"),
+        ("?5 a -", "bad query at 7"),
+        ("?5 (((((((((((((((((a)))))))))))))))))", "query too deep"),
+        (
+            "?5 a a a a a a a a a a a a a a a a a a a a a a a a a a a a a a a a a a a a a a a a a a a a a a a a a a a a a a a a a a a a a a a a",
+            "query too large",
+        ),
+    ];
+    for (line, name) in cases {
+        let left = run_on(&rt, rt.alloc(), &["run"], line.as_bytes(), 64, &[], &[])?;
+        let want = format!(in alloc;
+            "1 refused: {name}\nend: documents 0, queries 0, refused 1\n"
+        )?;
+        assert_eq!(rt; left.printed.as_slice(), want.as_bytes(), "{line}");
+    }
+    for line in [
+        "?5 ((((((((((((((((a))))))))))))))))",
+        "?5 a a a a a a a a a a a a a a a a a a a a a a a a a a a a a a a a a a a a a a a a a a a a a a a a a a a a a a a a a a a a a a a",
+    ] {
+        let left = run_on(&rt, rt.alloc(), &["run"], line.as_bytes(), 64, &[], &[])?;
+        let want = "1 seen 0:\nend: documents 0, queries 1, refused 0\n";
+        assert_eq!(rt; left.printed.as_slice(), want.as_bytes(), "{line}");
+    }
+    Ok(())
+}
+
+// The byte, so many times, behind the text.
+fn put_many(text: &mut String, byte: char, count: usize) -> Result<(), AllocError> {
+    for _ in 0..count {
+        text.push(byte)?;
+    }
+    Ok(())
+}
+
+#[test]
+fn keeps_the_limits(rt: HostRuntime) -> Result<(), Fail> {
+    let alloc = rt.alloc();
+    let mut text = String::new(alloc);
+    for (id, words) in [(1, 256), (2, 257)] {
+        text.push_str(format!(in alloc; "{{\"id\":{id},\"text\":\"")?.as_str())?;
+        for _ in 0..words {
+            text.push_str("a ")?;
+        }
+        text.push_str("\"}\n")?;
+    }
+    for (id, letters) in [(3, 4096), (4, 4097)] {
+        text.push_str(format!(in alloc; "{{\"id\":{id},\"text\":\"")?.as_str())?;
+        put_many(&mut text, 'b', letters)?;
+        text.push_str("\"}\n")?;
+    }
+    text.push_str("?5 a\n")?;
+    let left = run_on(&rt, rt.alloc(), &["run"], text.as_bytes(), 4096, &[], &[])?;
+    let want =
+        "2 refused: too long\n4 refused: too long\n5 seen 2: 1\nend: documents 2, queries 1, refused 2\n";
+    assert_eq!(rt; left.printed.as_slice(), want.as_bytes());
+
+    text.clear();
+    for spaces in [65_518, 65_519] {
+        text.push_str("{\"id\":1,\"text\":\"")?;
+        put_many(&mut text, ' ', spaces)?;
+        text.push_str("\"}\n")?;
+    }
+    text.push_str("?5 -a\n")?;
+    let left = run_on(&rt, rt.alloc(), &["run"], text.as_bytes(), 4096, &[], &[])?;
+    let want = "2 refused: long line\n3 seen 1: 1\nend: documents 1, queries 1, refused 1\n";
+    assert_eq!(rt; left.printed.as_slice(), want.as_bytes());
+    Ok(())
+}
+
+const INPUT: &str = "?5 a\n{\"id\":1,\"text\":\"a\"}\n?5 a\n";
+
+const WANT: &str = "1 seen 0:\n3 seen 1: 1\nend: documents 1, queries 2, refused 0\n";
+
+#[test]
+fn ends_at_faults(rt: HostRuntime) -> Result<(), Fail> {
+    for call in 1..20 {
+        let left = run_on(&rt, rt.alloc(), &["run"], INPUT.as_bytes(), 5, &[call], &[])?;
+        assert!(rt;
+            WANT.as_bytes().starts_with(left.printed.as_slice()),
+            "read {call}"
+        );
+        let is_done = left.status == Status::Done && left.printed.as_slice() == WANT.as_bytes();
+        let has_failed = left.status == Status::ReadFault
+            && left.said.as_slice() == b"earlybird: read fault\n".as_slice();
+        assert!(rt; is_done || has_failed, "read {call}");
+        let left = run_on(&rt, rt.alloc(), &["run"], INPUT.as_bytes(), 4, &[], &[call])?;
+        assert!(rt;
+            WANT.as_bytes().starts_with(left.printed.as_slice()),
+            "write {call}"
+        );
+        let is_done = left.status == Status::Done && left.printed.as_slice() == WANT.as_bytes();
+        let has_failed = left.status == Status::WriteFault
+            && left.said.as_slice() == b"earlybird: write fault\n".as_slice();
+        assert!(rt; is_done || has_failed, "write {call}");
+    }
+    let left = run_on(&rt, rt.alloc(), &["run"], INPUT.as_bytes(), 5, &[3], &[])?;
+    assert_eq!(rt; left.printed.as_slice(), b"1 seen 0:\n".as_slice());
+    let left = run_on(&rt, rt.alloc(), &["run"], INPUT.as_bytes(), 4, &[], &[2])?;
+    assert_eq!(rt; left.printed.as_slice(), b"1 se".as_slice());
+    Ok(())
+}
+
+#[test]
+fn refuses_other_words(rt: HostRuntime) -> Result<(), Fail> {
+    let lists: [&[&str]; 6] = [
+        &[],
+        &["walk"],
+        &["run", "x"],
+        &["run", "--"],
+        &["run", ""],
+        &["run", "run"],
+    ];
+    for words in lists {
+        let left = run_on(&rt, rt.alloc(), words, INPUT.as_bytes(), 5, &[], &[])?;
+        assert_eq!(rt; left.status.code(), 2);
+        assert!(rt; left.printed.is_empty());
+        assert_eq!(rt;
+            left.said.as_slice(),
+            b"earlybird: usage: run [--overlap] [--stats] [--segments N] [--docs N] [--terms N] | bench START DOCS\n".as_slice()
+        );
+    }
+    Ok(())
+}

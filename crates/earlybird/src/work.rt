@@ -1,0 +1,108 @@
+ghost use Rattle.std.specs.Prelude.{◌≡◌, ◌≤◌, ◌⊎◌, ℕ, List, ◌++◌, true, Some, IfOk, slice_get};
+ghost use Rattle.eb_io.specs.Faults.{HasRisen};
+ghost use Rattle.eb_io.specs.Held.{HasGiven};
+ghost use Rattle.eb_io.specs.Lines.{Line, line};
+ghost use Rattle.eb_io.specs.Source.{after, IsEmpty};
+ghost use Rattle.earlybird.specs.Worked.{Comes};
+ghost use Rattle.earlybird.specs.Kinds.{kind_of, document_line, query_line, bad_line};
+ghost use Rattle.earlybird.specs.Reads.{Reads, ReadsByKind, IsOfDocument};
+ghost use Rattle.earlybird.specs.Works.{reading_of};
+ghost use Rattle.eb_doc.specs.DocumentLine.{document_of};
+
+use crate::refusal::Refusal;
+use eb_base::{Document, NoMemory, Query};
+use eb_doc::{LineFault, read_document};
+use eb_io::{Lines, Next, Source};
+use eb_query::{QueryFault, read_query};
+use std::alloc::Global;
+use std::str;
+
+// What is to be done for a line.
+#[derive(Drop)]
+pub(crate) enum Work {
+    Nothing,
+    Add(Document),
+    Answer(u32, Query),
+    Refuse(Refusal),
+}
+
+// The work of a line that isn't long.
+pub(crate) fn read_line(alloc: Global, bytes: &[u8]) -> Result<Work, NoMemory>
+    ensures { IfOk result (λ work. Reads (line bytes.now) (reading_of work)) }
+{
+    match bytes.first() {
+        None => Ok(Work::Nothing),
+        Some(b'{') => read_document_line(alloc, bytes),
+        Some(b'?') => read_query_line(alloc, bytes),
+        Some(_) => Ok(Work::Refuse(Refusal::BadLine)),
+    }
+}
+
+fn read_document_line(alloc: Global, bytes: &[u8]) -> Result<Work, NoMemory>
+    ensures { IfOk result (λ work. IsOfDocument (document_of bytes.now) (reading_of work)) }
+{
+    match read_document(alloc, bytes) {
+        Ok(document) => Ok(Work::Add(document)),
+        Err(LineFault::BadJson) => Ok(Work::Refuse(Refusal::BadJson)),
+        Err(LineFault::BadDocument) => Ok(Work::Refuse(Refusal::BadDocument)),
+        Err(LineFault::TooLong) => Ok(Work::Refuse(Refusal::TooLong)),
+        Err(LineFault::NoMemory) => Err(NoMemory),
+    }
+}
+
+fn read_query_line(alloc: Global, bytes: &[u8]) -> Result<Work, NoMemory>
+    requires { slice_get bytes.now 0 ≡ Some 63 }
+    ensures { IfOk result (λ work. ReadsByKind (kind_of bytes.now) bytes.now (reading_of work)) }
+{
+    let Ok(text) = str::from_utf8(bytes) else {
+        return Ok(Work::Refuse(Refusal::BadLine));
+    };
+    read_query_text(alloc, text)
+}
+
+fn read_query_text(alloc: Global, text: &str) -> Result<Work, NoMemory>
+    requires { slice_get text.now 0 ≡ Some 63 }
+    ensures { IfOk result (λ work. ReadsByKind query_line text.now (reading_of work)) }
+{
+    match read_query(alloc, text) {
+        Ok((k, query)) => Ok(Work::Answer(k, query)),
+        Err(QueryFault::BadNumber) => Ok(Work::Refuse(Refusal::BadNumber)),
+        Err(QueryFault::BadQuery { column }) => Ok(Work::Refuse(Refusal::BadQuery(column))),
+        Err(QueryFault::TooDeep) => Ok(Work::Refuse(Refusal::TooDeep)),
+        Err(QueryFault::TooManyNodes) => Ok(Work::Refuse(Refusal::TooManyNodes)),
+        Err(QueryFault::NoMemory) => Err(NoMemory),
+    }
+}
+
+// What comes next in an input.
+#[derive(Drop)]
+pub(crate) enum Upcoming {
+    Line(Work),
+    End,
+    ReadFault,
+    TooLong,
+    NoMemory,
+}
+
+// The work of the line that comes next.
+pub(crate) fn next_work<S: Source>(alloc: Global, lines: &mut Lines, source: &mut S) -> Upcoming
+    ensures told { (before : List ℕ) (given : List Line) → HasGiven before given lines.old
+        → (seen : List ℕ) × (S.left source.old ≡ after seen (S.left source.new)) × Comes result (before ++ seen) given lines.new }
+    ensures fault { result ≡ Upcoming.ReadFault → HasRisen (S.faults source.old) (S.faults source.new) }
+    ensures later { S.faults source.old ≤ S.faults source.new }
+    ensures end { lines.new.is_ended ≡ true → (lines.old.is_ended ≡ true) ⊎ IsEmpty (S.left source.new) }
+    ensures ended { lines.old.is_ended ≡ true → source.new ≡ source.old }
+    ensures limit { lines.new.limit ≡ lines.old.limit }
+    ensures within { lines.new.taken ≤ lines.new.limit }
+{
+    match lines.next_line(source) {
+        Next::Line => match read_line(alloc, lines.line()) {
+            Ok(work) => Upcoming::Line(work),
+            Err(NoMemory) => Upcoming::NoMemory,
+        },
+        Next::LongLine => Upcoming::Line(Work::Refuse(Refusal::LongLine)),
+        Next::End => Upcoming::End,
+        Next::ReadFault => Upcoming::ReadFault,
+        Next::TooLong => Upcoming::TooLong,
+    }
+}

@@ -1,0 +1,107 @@
+//! Document lines: one JSON object a line (RFC 8259, read by `serde_json`), with a number as its `id`
+//! and a string as its `text`.
+#![tactic(auto)]
+
+ghost use Rattle.std.specs.Prelude.{◌≡◌, ◌⊎◌, Ok, Err, IfOk, IfErr, Some, None, option_map};
+ghost use Rattle.serde_json.specs.View.{view};
+ghost use Rattle.eb_text.specs.Tokens.{tokens_of};
+ghost use Rattle.eb_doc.specs.DocumentLine.{document_of, value_of, message, with_value};
+ghost use Rattle.eb_doc.specs.DocumentLine as spec;
+ghost use Rattle.eb_doc.specs.declared.LineFault.TheVariants.{NoMemory as out_of_memory};
+
+use eb_base::{Document, NoMemory};
+use eb_text::tokens;
+use serde_json::Value;
+use std::alloc::Global;
+
+#[cfg(test)]
+mod tests;
+
+/// Why a document line gives no document.
+#[derive(Clone, Copy, Debug, PartialEq, Eq)]
+pub enum LineFault {
+    /// The line isn't UTF-8, or isn't one JSON value with nothing behind it.
+    BadJson,
+    /// The value is no object, its `id` isn't a whole number below 2^64, or its `text` isn't a
+    /// string; a member that is missing counts as of another kind.
+    BadDocument,
+    /// The text has 257 or more tokens, or 4,097 or more bytes of folded tokens.
+    TooLong,
+    /// Memory ran out. It can come for any line.
+    NoMemory,
+}
+
+impl From<NoMemory> for LineFault {
+    ghost from_gives = { λ _ fault. fault ≡ out_of_memory };
+
+    fn from(_error: NoMemory) -> LineFault {
+        LineFault::NoMemory
+    }
+}
+
+/// The document that a line is: its id, and the tokens of its text as terms. The line is any bytes,
+/// without the LF that ends it. Members other than `id` and `text` may hold anything and are passed
+/// over; where a name stands twice, the last value counts.
+///
+/// The refusals come in this order: `BadJson`, `BadDocument`, `TooLong`.
+pub fn read_document(alloc: Global, line: &[u8]) -> Result<Document, LineFault>
+    ensures document { IfOk result (λ document. document_of line.now ≡ Ok document) }
+    ensures refused { IfErr result (λ fault. (fault ≡ LineFault.NoMemory) ⊎ (document_of line.now ≡ Err fault)) }
+{
+    match read_value(alloc, line) {
+        Ok(value) => document_in(alloc, &value),
+        Err(fault) => Err(fault),
+    }
+}
+
+// The JSON value that the line is.
+fn read_value(alloc: Global, line: &[u8]) -> Result<Value, LineFault>
+    ensures value { IfOk result (λ value. value_of line.now ≡ Some (view value)) }
+    ensures refused { IfErr result (λ fault. (fault ≡ LineFault.NoMemory) ⊎ ((fault ≡ LineFault.BadJson) × (value_of line.now ≡ None))) }
+{
+    match Value::from_slice(alloc, line) {
+        Ok(value) => Ok(value),
+        Err(error) => {
+            if error.is_memory() {
+                return Err(LineFault::NoMemory);
+            }
+            Err(LineFault::BadJson)
+        }
+    }
+}
+
+// The number of the member `id`.
+fn id_in(value: &Value) -> Option<u64>
+    ensures { result ≡ spec.id_in (view value.now) }
+{
+    value.get("id").and_then(Value::as_u64)
+}
+
+// The string of the member `text`.
+fn text_in(value: &Value) -> Option<&str>
+    ensures { option_map (λ t. t.now) result ≡ spec.text_in (view value.now) }
+{
+    value.get("text").and_then(Value::as_str)
+}
+
+// The document that a value is.
+fn document_in(alloc: Global, value: &Value) -> Result<Document, LineFault>
+    ensures document { IfOk result (λ document. with_value (Some (view value.now)) ≡ Ok document) }
+    ensures refused { IfErr result (λ fault. (fault ≡ LineFault.NoMemory) ⊎ (with_value (Some (view value.now)) ≡ Err fault)) }
+{
+    let id = id_in(value).ok_or(LineFault::BadDocument)?;
+    let text = text_in(value).ok_or(LineFault::BadDocument)?;
+    make_document(alloc, id, text)
+}
+
+// The document with this id and the tokens of this text.
+fn make_document(alloc: Global, id: u64, text: &str) -> Result<Document, LineFault>
+    ensures document { IfOk result (λ document. message id (tokens_of text.now) ≡ Ok document) }
+    ensures refused { IfErr result (λ fault. (fault ≡ LineFault.NoMemory) ⊎ (message id (tokens_of text.now) ≡ Err fault)) }
+{
+    let terms = tokens(alloc, text)?;
+    match Document::new(id, terms) {
+        Ok(document) => Ok(document),
+        Err(_) => Err(LineFault::TooLong),
+    }
+}

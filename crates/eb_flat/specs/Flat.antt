@@ -1,0 +1,16 @@
+-- The words of an index in one list.
+use Rattle.std.specs.Prelude.{◌≡◌, ℕ, List}
+use Rattle.eb_base.specs.Setting.{Setting}
+use Rattle.eb_place.specs.declared.moment.Moment.{Moment}
+use Rattle.eb_place.specs.Moments.{image, IsMoment}
+
+-- a setting, and all words in order
+pub record Flat : Type 0 where
+  pub setting : Setting
+  pub words : List ℕ
+
+-- the words are the image of this moment, which is one of this setting
+pub record StandsFor (f : Flat) (m : Moment) : Type 0 where
+  pub setting : m.setting ≡ f.setting
+  pub moment : IsMoment m
+  pub image : f.words ≡ image m

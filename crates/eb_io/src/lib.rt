@@ -1,0 +1,24 @@
+//! The outside of Earlybird: where bytes come from, where bytes go, and the lines of the bytes that
+//! come. `specs/Lines.antt` says what the lines of a text are.
+#![tactic(auto)]
+
+mod front;
+mod lines;
+mod mem_sink;
+mod mem_source;
+mod sink;
+mod source;
+mod standard;
+mod sure_source;
+#[cfg(test)]
+mod tests;
+mod write;
+
+pub use lines::{LONGEST_LINE, Lines, Next};
+pub use mem_sink::MemSink;
+pub use mem_source::MemSource;
+pub use sink::{Sink, SinkFailed};
+pub use source::{Got, Source};
+pub use standard::{StdSink, StdSource};
+pub use sure_source::SureSource;
+pub use write::write_all;

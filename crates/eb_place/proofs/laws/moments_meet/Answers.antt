@@ -1,0 +1,5 @@
+use Rattle.eb_place.proofs.MomentsMeet as lemmas
+use Rattle.eb_place.proofs.laws.moments_meet.Goals as goal
+
+pub returns : goal.returns
+returns c = lemmas.moments_meet

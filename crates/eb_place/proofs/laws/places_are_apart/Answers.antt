@@ -1,0 +1,5 @@
+use Rattle.eb_place.proofs.Apart.{places_apart}
+use Rattle.eb_place.proofs.laws.places_are_apart.Goals as goal
+
+pub returns : goal.returns
+returns c = places_apart

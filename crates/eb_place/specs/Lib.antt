@@ -1,0 +1,15 @@
+pub mod Layout
+pub mod Postings
+pub mod Room
+pub mod Address
+pub mod Placing
+pub mod Packed
+pub mod Conversion
+pub mod Moments
+pub mod Later
+pub mod NextStores
+pub mod Seen
+pub mod Tells
+pub mod Walk
+pub mod Meets
+pub mod Laws

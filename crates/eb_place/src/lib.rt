@@ -1,0 +1,26 @@
+//! The definitions of the index. `specs/` says which document fits which segment, where each posting
+//! goes, which stores place a document and which convert a segment, and what the words are at a moment.
+//! The calls give the places and the numbers that these definitions name; the traits say who may load and
+//! store the words. No call takes memory.
+#![tactic(auto)]
+
+mod laws;
+mod moment;
+mod places;
+mod port;
+mod posting_numbers;
+mod slice_addresses;
+mod steps;
+mod used;
+
+pub use laws::{
+    each_document_fits, moments_meet, places_are_apart, put_changes_one_word,
+    store_changes_one_word,
+};
+pub use moment::{Conversions, Documents, Moment};
+pub use places::Places;
+pub use port::{PackPen, Pen, Port};
+pub use posting_numbers::{POSITION_BITS, document_of, position_of, posting};
+pub use slice_addresses::{address, offset_of, pool_of, slice_of};
+pub use steps::Steps;
+pub use used::Used;

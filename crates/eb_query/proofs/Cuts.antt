@@ -1,0 +1,177 @@
+-- Where lexemes begin and end in a line.
+use Rattle.std.proofs.Common.{◌≡◌, ℕ, zero, suc, ◌+◌, ◌-◌, ◌<◌, ◌≤◌, nat_lt, eqb, ◌||◌, Bool, true, false, not, List, [], ◌∷◌, length, take, drop, get_or, Option, Some, None, refl, sym, ap, ◌∙◌, arith, inl, inr, ◌⊎◌, ne_eqb, lt-ltb, le-ltb, ltb-false, drop-cons, length-drop}
+use Rattle.std.proofs.lemmas.Bool.{ltb-true, eqb-true, or_cases}
+use Rattle.std.proofs.lemmas.List.{get_or-drop, drop_all, drop-drop, take_all}
+use Rattle.std.proofs.lemmas.List.Sums.{position_or_len_is, passes_at_first, prefix_len-le-length}
+use Rattle.std.proofs.lemmas.Str.{IsCharBoundary-before_ascii, IsCharBoundary-after_ascii}
+use Rattle.std.specs.List.{position_or_len}
+use Rattle.std.specs.Str.{IsUtf8, IsCharBoundary}
+use Rattle.eb_query.specs.Grammar.{Lexeme, opening, closing, minus, broken}
+use Rattle.eb_query.specs.Lexemes.{Placed, is_blank, ends_run, is_quote, text_lexeme, run_lexeme, quoted, bare, first, lexemes}
+use Rattle.eb_query.specs.Reading.{bad_query, too_deep}
+use Rattle.eb_base.specs.Query.{Tree}
+use Rattle.eb_query.specs.Machine.{State, step, is_deep, finish, ending, outcome}
+
+pub found_at : (p : ℕ → Bool) (xs : List ℕ) (i : ℕ) → i < length xs → ((k : ℕ) → k < i → p (get_or xs k 0) ≡ false) → p (get_or xs i 0) ≡ true → i ≡ position_or_len p xs
+found_at p xs i h below here = sym (position_or_len_is p xs i 0 (omega arith) below (λ _. here))
+
+pub found_none : (p : ℕ → Bool) (xs : List ℕ) (i : ℕ) → length xs ≤ i → ((k : ℕ) → k < i → p (get_or xs k 0) ≡ false) → length xs ≡ position_or_len p xs
+found_none p xs i h below = sym (position_or_len_is p xs (length xs) 0 (omega arith) (λ k l. below k (omega arith)) (λ l. absurd (omega arith)))
+
+pub first_opening : (b : ℕ) (bs : List ℕ) → b ≡ 40 → first b bs ≡ (opening, 0)
+unfolding first
+first_opening b bs e = rw e refl
+
+pub first_closing : (b : ℕ) (bs : List ℕ) → b ≡ 41 → first b bs ≡ (closing, 0)
+unfolding first
+first_closing b bs e = rw e refl
+
+pub first_minus : (b : ℕ) (bs : List ℕ) → b ≡ 45 → first b bs ≡ (minus, 0)
+unfolding first
+first_minus b bs e = rw e refl
+
+pub first_quoted : (b : ℕ) (bs : List ℕ) → b ≡ 34 → first b bs ≡ quoted bs
+unfolding first
+first_quoted b bs e = rw e refl
+
+pub first_bare : (b : ℕ) (bs : List ℕ) → (b ≡ 40 → ⊥) → (b ≡ 41 → ⊥) → (b ≡ 45 → ⊥) → (b ≡ 34 → ⊥) → first b bs ≡ bare b bs
+unfolding first
+first_bare b bs h i j k = rw (ne_eqb b 40 h, ne_eqb b 41 i, ne_eqb b 45 j, ne_eqb b 34 k) refl
+
+pub quoted_none : (bs : List ℕ) (n : ℕ) → n ≡ position_or_len is_quote bs → n ≡ length bs → quoted bs ≡ (broken, length bs)
+unfolding quoted
+quoted_none bs n e h = rw (le-ltb (position_or_len is_quote bs) (length bs) (omega arith)) refl
+
+pub quoted_some : (bs : List ℕ) (n : ℕ) → n ≡ position_or_len is_quote bs → n < length bs → quoted bs ≡ (text_lexeme (take n bs), n + 1)
+unfolding quoted
+quoted_some bs n e h = rw (← e) (rw (lt-ltb n (length bs) h) refl)
+
+pub bare_is : (b : ℕ) (bs : List ℕ) (n : ℕ) → n ≡ position_or_len ends_run bs → bare b bs ≡ (run_lexeme (b ∷ take n bs), n)
+unfolding bare
+bare_is b bs n e = rw (← e) refl
+
+pub blank_small : (b : ℕ) → is_blank b ≡ true → b < 128
+blank_small b k = elim (or_cases _ _ k) [ inl e ↦ (let i = eqb-true b 32 e in omega arith) | inr e ↦ (let i = eqb-true b 9 e in omega arith) ]
+
+pub is_quote_small : (b : ℕ) → is_quote b ≡ true → b < 128
+is_quote_small b h = let e = eqb-true b 34 h in omega arith
+
+pub ends_run_small : (b : ℕ) → ends_run b ≡ true → b < 128
+ends_run_small b h = go (or_cases _ _ h)
+  where
+    blank : (is_blank b ≡ true) → b < 128
+    blank k = elim (or_cases _ _ k) [ inl e ↦ (let i = eqb-true b 32 e in omega arith) | inr e ↦ (let i = eqb-true b 9 e in omega arith) ]
+
+    two : ((is_blank b || eqb b 40) ≡ true) → b < 128
+    two k = elim (or_cases _ _ k) [ inl e ↦ blank e | inr e ↦ (let i = eqb-true b 40 e in omega arith) ]
+
+    three : ((is_blank b || eqb b 40 || eqb b 41) ≡ true) → b < 128
+    three k = elim (or_cases _ _ k) [ inl e ↦ two e | inr e ↦ (let i = eqb-true b 41 e in omega arith) ]
+
+    go : ((is_blank b || eqb b 40 || eqb b 41) ≡ true) ⊎ (eqb b 34 ≡ true) → b < 128
+    go (inl e) = three e
+    go (inr e) = let i = eqb-true b 34 e in omega arith
+
+-- the place that a test found behind at + 1
+pub cut_within : (p : ℕ → Bool) (line : List ℕ) (at n : ℕ) → at < length line → n ≡ position_or_len p (drop (at + 1) line) → at + 1 + n ≤ length line
+cut_within p line at n h e = let l : position_or_len p (drop (at + 1) line) ≤ length (drop (at + 1) line) = prefix_len-le-length (λ b. not (p b)) (drop (at + 1) line) in omega (arith, length-drop (at + 1) line)
+
+pub cut_before : (p : ℕ → Bool) (line : List ℕ) (at n : ℕ) → ((b : ℕ) → p b ≡ true → b < 128) → at < length line → n ≡ position_or_len p (drop (at + 1) line) → IsCharBoundary line (at + 1 + n)
+cut_before p line at n small h e = go (nat_lt (at + 1 + n) (length line)) refl
+  where
+    within : at + 1 + n ≤ length line
+    within = cut_within p line at n h e
+
+    ascii : (at + 1 + n < length line) → get_or line (at + 1 + n) 0 < 128
+    ascii l =
+        let k : position_or_len p (drop (at + 1) line) < length (drop (at + 1) line) = omega (arith, length-drop (at + 1) line) in
+        let t = passes_at_first p (drop (at + 1) line) 0 k in
+        let s : get_or (drop (at + 1) line) n 0 < 128 = rw e (small _ t) in
+        rw get_or-drop at s
+
+    go : (b : Bool) → nat_lt (at + 1 + n) (length line) ≡ b → IsCharBoundary line (at + 1 + n)
+    go true t = IsCharBoundary-before_ascii line (at + 1 + n) (ltb-true _ _ t) (ascii (ltb-true _ _ t))
+    go false f = let k = ltb-false _ _ f in (within, λ l. absurd (omega arith))
+
+-- behind the closing quotation mark
+pub quote_boundary : (line : List ℕ) (at n : ℕ) → IsUtf8 line → at < length line → n ≡ position_or_len is_quote (drop (at + 1) line) → n < length (drop (at + 1) line) → IsCharBoundary line (at + 1 + n + 1)
+quote_boundary line at n u h e k =
+    let t : is_quote (get_or (drop (at + 1) line) n 0) ≡ true = rw e (passes_at_first is_quote (drop (at + 1) line) 0 (omega arith)) in
+    let s : get_or (drop (at + 1) line) n 0 < 128 = is_quote_small _ t in
+    let s2 : get_or line (at + 1 + n) 0 < 128 = rw get_or-drop at s in
+    IsCharBoundary-after_ascii line (at + 1 + n) u (omega (arith, length-drop (at + 1) line)) s2
+
+pub skip : (k c : ℕ) (bs : List ℕ) → lexemes k c bs ≡ lexemes 0 (c + k) (drop k bs)
+unfolding lexemes
+skip zero c bs = let e : c ≡ c + 0 = omega arith in ap (λ (d : ℕ). lexemes 0 d bs) e
+skip (suc k) c [] = refl
+skip (suc k) c (b ∷ bs) = let e : suc c + k ≡ c + suc k = omega arith in skip k (suc c) bs ∙ ap (λ (d : ℕ). lexemes 0 d (drop k bs)) e
+
+pub at_blank : (c b : ℕ) (bs : List ℕ) → is_blank b ≡ true → lexemes 0 c (b ∷ bs) ≡ lexemes 0 (suc c) bs
+unfolding lexemes
+at_blank c b bs e = rw e refl
+
+pub at_lexeme : (c b : ℕ) (bs : List ℕ) → is_blank b ≡ false → lexemes 0 c (b ∷ bs) ≡ record { column = c; lexeme = (first b bs).0 } ∷ lexemes (first b bs).1 (suc c) bs
+unfolding lexemes
+at_lexeme c b bs e = rw e refl
+
+pub placed_at : (line : List ℕ) (at : ℕ) → at < length line → drop at line ≡ get_or line at 0 ∷ drop (at + 1) line
+placed_at line at h = let e : suc at ≡ at + 1 = omega arith in drop-cons line at 0 h ∙ ap (λ (k : ℕ). get_or line at 0 ∷ drop k line) e
+
+pub lexemes_blank : (line : List ℕ) (at : ℕ) → at < length line → is_blank (get_or line at 0) ≡ true → lexemes 0 (at + 1) (drop at line) ≡ lexemes 0 (at + 1 + 1) (drop (at + 1) line)
+lexemes_blank line at h b =
+    let e : suc (at + 1) ≡ at + 1 + 1 = omega arith in
+    ap (lexemes 0 (at + 1)) (placed_at line at h) ∙ at_blank (at + 1) (get_or line at 0) (drop (at + 1) line) b
+    ∙ ap (λ (c : ℕ). lexemes 0 c (drop (at + 1) line)) e
+
+pub lexemes_next : (line : List ℕ) (at end : ℕ) → at < length line → is_blank (get_or line at 0) ≡ false → end ≡ at + 1 + (first (get_or line at 0) (drop (at + 1) line)).1
+    → lexemes 0 (at + 1) (drop at line) ≡ record { column = at + 1; lexeme = (first (get_or line at 0) (drop (at + 1) line)).0 } ∷ lexemes 0 (end + 1) (drop end line)
+lexemes_next line at end h b e =
+    let b0 = get_or line at 0 in
+    let bs = drop (at + 1) line in
+    let k = (first b0 bs).1 in
+    let f : suc (at + 1) + k ≡ end + 1 = omega (arith, e) in
+    ap (lexemes 0 (at + 1)) (placed_at line at h) ∙ at_lexeme (at + 1) b0 bs b
+    ∙ ap (λ (ps : List Placed). record { column = at + 1; lexeme = (first b0 bs).0 } ∷ ps)
+    (skip k (suc (at + 1)) bs ∙ ap (lexemes 0 (suc (at + 1) + k)) (drop-drop k (at + 1) line ∙ ap (λ (d : ℕ). drop d line) (sym e))
+    ∙ ap (λ (c : ℕ). lexemes 0 c (drop end line)) f)
+
+pub lexemes_end : (line : List ℕ) (at : ℕ) → length line ≤ at → lexemes 0 (at + 1) (drop at line) ≡ []
+unfolding lexemes
+lexemes_end line at h = ap (lexemes 0 (at + 1)) (drop_all at line h)
+
+-- what a step of the reader says of the outcome
+pub stood : (line : List ℕ) (at end : ℕ) (l : Lexeme) (s t : State) → at < length line → is_blank (get_or line at 0) ≡ false
+    → l ≡ (first (get_or line at 0) (drop (at + 1) line)).0 → end ≡ at + 1 + (first (get_or line at 0) (drop (at + 1) line)).1
+    → step l s ≡ Some t → is_deep l s ≡ false → outcome line (lexemes 0 (at + 1) (drop at line)) s ≡ outcome line (lexemes 0 (end + 1) (drop end line)) t
+stood line at end l s t h b i e p q = rw (lexemes_next line at end h b e, ← i, p, q) refl
+
+pub misplaced : (line : List ℕ) (at : ℕ) (l : Lexeme) (s : State) → at < length line → is_blank (get_or line at 0) ≡ false
+    → l ≡ (first (get_or line at 0) (drop (at + 1) line)).0 → step l s ≡ None → outcome line (lexemes 0 (at + 1) (drop at line)) s ≡ bad_query (at + 1)
+misplaced line at l s h b i p = rw (lexemes_next line at _ h b refl, ← i, p) refl
+
+pub deep : (line : List ℕ) (at : ℕ) (l : Lexeme) (s t : State) → at < length line → is_blank (get_or line at 0) ≡ false
+    → l ≡ (first (get_or line at 0) (drop (at + 1) line)).0 → step l s ≡ Some t → is_deep l s ≡ true → outcome line (lexemes 0 (at + 1) (drop at line)) s ≡ too_deep
+deep line at l s t h b i p q = rw (lexemes_next line at _ h b refl, ← i, p, q) refl
+
+-- what a range of the line reads
+pub rest_is : (line : List ℕ) (k : ℕ) → take (length line - k) (drop k line) ≡ drop k line
+rest_is line k = take_all (length line - k) (drop k line) (omega (arith, length-drop k line))
+
+pub found_len : (p : ℕ → Bool) (bytes line : List ℕ) (at n : ℕ) → bytes ≡ line → n ≡ position_or_len p (take (length bytes - (at + 1)) (drop (at + 1) bytes)) → n ≡ position_or_len p (drop (at + 1) line)
+found_len p bytes line at n e h = h ∙ ap (λ (xs : List ℕ). position_or_len p (take (length xs - (at + 1)) (drop (at + 1) xs))) e ∙ ap (position_or_len p) (rest_is line (at + 1))
+
+pub quoted_part : (line part : List ℕ) (at n : ℕ) → part ≡ take (at + 1 + n - (at + 1)) (drop (at + 1) line) → part ≡ take n (drop (at + 1) line)
+quoted_part line part at n h = let e : at + 1 + n - (at + 1) ≡ n = omega arith in h ∙ ap (λ (k : ℕ). take k (drop (at + 1) line)) e
+
+pub bare_part : (line part : List ℕ) (at n : ℕ) → at < length line → part ≡ take (at + 1 + n - at) (drop at line) → part ≡ get_or line at 0 ∷ take n (drop (at + 1) line)
+bare_part line part at n l h =
+    let e : at + 1 + n - at ≡ suc n = omega arith in
+    h ∙ ap (λ (k : ℕ). take k (drop at line)) e ∙ ap (take (suc n)) (placed_at line at l)
+
+pub at_end : (line : List ℕ) (at : ℕ) (s : State) (o : Option Tree) → length line ≤ at → finish s ≡ o → outcome line (lexemes 0 (at + 1) (drop at line)) s ≡ ending line o
+at_end line at s o h e = ap (λ (ps : List Placed). outcome line ps s) (lexemes_end line at h) ∙ ap (ending line) e
+
+pub nothing_left : (d : ℕ) → lexemes 0 d [] ≡ []
+unfolding lexemes
+nothing_left d = refl

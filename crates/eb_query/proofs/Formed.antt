@@ -1,0 +1,149 @@
+-- What is read is formed well.
+use Rattle.std.proofs.Common.{◌≡◌, ℕ, zero, suc, ◌+◌, nat_lt, Bool, true, false, cond, List, [], ◌∷◌, ◌++◌, length, refl, sym, ap, ◌∙◌, arith, subst}
+use Rattle.std.proofs.lemmas.Bool.{ltb-true}
+use Rattle.eb_base.specs.Query.{Tree, trees_of, and_of, or_of, size, IsFormed, AreFormed, IsWellFormed, leaf_of}
+use Rattle.eb_text.specs.Tokens.{tokens_of}
+use Rattle.eb_query.specs.Grammar.{Lexeme, opening, closing, minus, or_word, leaf, broken, IsUnary, a_leaf, a_minus, a_group, IsAnd, last, beside, IsOr, final, either, Gives}
+use Rattle.eb_query.specs.Lexemes.{Placed, is_blank, ends_run, text_lexeme, run_lexeme, of_leaf, quoted, bare, first, lexemes, is_quote}
+use Rattle.eb_query.specs.Number.{number_of}
+use Rattle.eb_query.specs.Reading.{Outcome, asks, too_many_nodes, IsOutcome, stands, cannot_stand, stands_too_deep, incomplete, large, complete}
+use Rattle.eb_query.specs.Machine.{start, sized, outcome}
+use Rattle.std.specs.List.{position_or_len}
+use Rattle.std.specs.Str.{bytes_eq}
+use Rattle.std.proofs.Common.{codes, eqb, take}
+use Rattle.eb_query.proofs.Outcomes.{found}
+
+-- a leaf is formed well
+abbrev pub IsSound : Lexeme → Type 0
+IsSound (leaf t) = IsFormed t
+IsSound opening = Unit {0}
+IsSound closing = Unit {0}
+IsSound minus = Unit {0}
+IsSound or_word = Unit {0}
+IsSound broken = Unit {0}
+
+abbrev pub AreSound : List Lexeme → Type 0
+AreSound [] = Unit {0}
+AreSound (l ∷ ls) = IsSound l × AreSound ls
+
+abbrev All : List Tree → Type 0
+All [] = Unit {0}
+All (t ∷ ts) = IsFormed t × All ts
+
+all_formed : (ts : List Tree) → All ts → AreFormed (trees_of ts)
+all_formed [] h = tt
+all_formed (t ∷ ts) h = (h.0, all_formed ts h.1)
+
+some_and : (t : Tree) (ts : List Tree) → All (t ∷ ts) → IsFormed (and_of (t ∷ ts))
+some_and t [] h = h.0
+some_and t (u ∷ ts) h = (tt, all_formed (t ∷ u ∷ ts) h)
+
+some_or : (t : Tree) (ts : List Tree) → All (t ∷ ts) → IsFormed (or_of (t ∷ ts))
+some_or t [] h = h.0
+some_or t (u ∷ ts) h = (tt, all_formed (t ∷ u ∷ ts) h)
+
+mutual
+  unary_formed : {ls rest : List Lexeme} {t : Tree} → IsUnary ls t rest → AreSound ls → IsFormed t × AreSound rest
+  unary_formed a_leaf s = (s.0, s.1)
+  unary_formed (a_minus u) s = unary_formed u s.1
+  unary_formed (a_group o) s = let h = or_formed o s.1 in (h.0.0, h.1.1)
+
+  and_formed : {ls rest : List Lexeme} {ts : List Tree} → IsAnd ls ts rest → AreSound ls → (IsFormed (and_of ts) × All ts) × AreSound rest
+  and_formed (last {ls} {rest} {t} u) s = let h = unary_formed u s in ((h.0, (h.0, tt)), h.1)
+  and_formed (beside {ls} {mid} {rest} {t} {ts} u a) s =
+      let h = unary_formed u s in let k = and_formed a h.1 in ((some_and t ts (h.0, k.0.1), (h.0, k.0.1)), k.1)
+
+  or_formed : {ls rest : List Lexeme} {ts : List Tree} → IsOr ls ts rest → AreSound ls → (IsFormed (or_of ts) × All ts) × AreSound rest
+  or_formed (final {ls} {rest} {ts} a) s = let h = and_formed a s in ((h.0.0, (h.0.0, tt)), h.1)
+  or_formed (either {ls} {mid} {rest} {ts} {us} a o) s =
+      let h = and_formed a s in let k = or_formed o h.1.1 in ((some_or (and_of ts) us (h.0.0, k.0.1), (h.0.0, k.0.1)), k.1)
+
+gives_formed : {ls : List Lexeme} {t : Tree} → Gives ls t → AreSound ls → IsFormed t
+gives_formed {ls} {t} g s = subst IsFormed (sym g.2) (or_formed g.1 s).0.0
+
+sound_append : (ls : List Lexeme) (l : Lexeme) → AreSound ls → IsSound l → AreSound (ls ++ l ∷ [])
+sound_append [] l s h = (h, tt)
+sound_append (k ∷ ls) l s h = (s.0, sound_append ls l s.1 h)
+
+abbrev pub ArePlacedSound : List Placed → Type 0
+ArePlacedSound [] = Unit {0}
+ArePlacedSound (p ∷ ps) = IsSound p.lexeme × ArePlacedSound ps
+
+outcome_formed : {line : List ℕ} {before : List Lexeme} {ps : List Placed} {o : Outcome} → IsOutcome line before ps o → (t : Tree) → o ≡ asks (number_of line) t → AreSound before → ArePlacedSound ps → IsWellFormed t
+outcome_formed (stands {before} {p} {ps} {o} c n r) t e b s = outcome_formed r t e (sound_append before p.lexeme b s.0) s.1
+outcome_formed (cannot_stand n) t e b s = cc
+outcome_formed (stands_too_deep c o n) t e b s = cc
+outcome_formed (incomplete n) t e b s = cc
+outcome_formed (large g l) t e b s = cc
+outcome_formed (complete {before} {t = u} g l) t e b s =
+    let k : u ≡ t = cc in
+    subst IsWellFormed k (record { formed = gives_formed g b; within = l })
+
+leaf_sound : (ts : List (List ℕ)) → IsSound (of_leaf (leaf_of ts))
+leaf_sound [] = tt
+leaf_sound (t ∷ []) = tt
+leaf_sound (t ∷ u ∷ ts) = omega arith
+
+text_sound : (text : List ℕ) → IsSound (text_lexeme text)
+unfolding text_lexeme
+text_sound text = leaf_sound (tokens_of text)
+
+run_sound : (run : List ℕ) → IsSound (run_lexeme run)
+unfolding run_lexeme
+run_sound run = go (bytes_eq run (codes "OR"))
+  where
+    go : (b : Bool) → IsSound (cond b or_word (text_lexeme run))
+    go true = tt
+    go false = text_sound run
+
+quoted_sound : (bs : List ℕ) → IsSound (quoted bs).0
+unfolding quoted
+quoted_sound bs = go (nat_lt (position_or_len is_quote bs) (length bs))
+  where
+    go : (b : Bool) → IsSound (cond {A = Lexeme × ℕ} b (text_lexeme (take (position_or_len is_quote bs) bs), position_or_len is_quote bs + 1) (broken, length bs)).0
+    go true = text_sound (take (position_or_len is_quote bs) bs)
+    go false = tt
+
+bare_sound : (b : ℕ) (bs : List ℕ) → IsSound (bare b bs).0
+unfolding bare
+bare_sound b bs = run_sound (b ∷ take (position_or_len ends_run bs) bs)
+
+first_sound : (b : ℕ) (bs : List ℕ) → IsSound (first b bs).0
+unfolding first
+first_sound b bs = go (eqb b 40) (eqb b 41) (eqb b 45) (eqb b 34)
+  where
+    go : (i j k l : Bool) → IsSound (cond {A = Lexeme × ℕ} i (opening, 0) (cond j (closing, 0) (cond k (minus, 0) (cond l (quoted bs) (bare b bs))))).0
+    go true j k l = tt
+    go false true k l = tt
+    go false false true l = tt
+    go false false false true = quoted_sound bs
+    go false false false false = bare_sound b bs
+
+lexemes_sound : (k c : ℕ) (bs : List ℕ) → ArePlacedSound (lexemes k c bs)
+unfolding lexemes
+lexemes_sound k c [] = tt
+lexemes_sound (suc k) c (b ∷ bs) = lexemes_sound k (suc c) bs
+lexemes_sound zero c (b ∷ bs) = go (is_blank b) (lexemes_sound zero (suc c) bs) (lexemes_sound (first b bs).1 (suc c) bs)
+  where
+    go : (x : Bool) → ArePlacedSound (lexemes zero (suc c) bs) → ArePlacedSound (lexemes (first b bs).1 (suc c) bs)
+        → ArePlacedSound (cond x (lexemes zero (suc c) bs) (record { column = c; lexeme = (first b bs).0 } ∷ lexemes (first b bs).1 (suc c) bs))
+    go true h i = h
+    go false h i = (first_sound b bs, i)
+
+-- what the reader gives is formed well
+pub given_formed : (line : List ℕ) (c : ℕ) (bs : List ℕ) (t : Tree) → outcome line (lexemes 0 c bs) start ≡ asks (number_of line) t → IsWellFormed t
+given_formed line c bs t e = outcome_formed (found line [] (lexemes 0 c bs) start refl) t e tt (lexemes_sound 0 c bs)
+
+pub sized_fits : (line : List ℕ) (t : Tree) → IsWellFormed t → sized line t ≡ asks (number_of line) t
+sized_fits line t w = go (nat_lt 64 (size t)) refl
+  where
+    go : (b : Bool) → nat_lt 64 (size t) ≡ b → cond b too_many_nodes (asks (number_of line) t) ≡ asks (number_of line) t
+    go true h = let k = ltb-true _ _ h in let l = w.within in absurd (omega arith)
+    go false h = refl
+
+pub sized_large : (line : List ℕ) (c : ℕ) (bs : List ℕ) (t : Tree) → outcome line (lexemes 0 c bs) start ≡ sized line t → (IsWellFormed t → ⊥) → outcome line (lexemes 0 c bs) start ≡ too_many_nodes
+sized_large line c bs t e n = go (nat_lt 64 (size t)) refl
+  where
+    go : (b : Bool) → nat_lt 64 (size t) ≡ b → outcome line (lexemes 0 c bs) start ≡ too_many_nodes
+    go true h = e ∙ ap (λ (b : Bool). cond b too_many_nodes (asks (number_of line) t)) h
+    go false h = absurd (n (given_formed line c bs t (e ∙ ap (λ (b : Bool). cond b too_many_nodes (asks (number_of line) t)) h)))

@@ -1,0 +1,14 @@
+pub mod Tails
+pub mod WrittenLexemes
+pub mod Machine
+pub mod Outcomes
+pub mod Cuts
+pub mod Values
+pub mod Formed
+pub mod Asks
+pub mod Written
+pub mod Derived
+pub mod OneOutcome
+pub mod SomeOutcome
+pub mod ReadBack
+pub mod Joins

@@ -1,0 +1,81 @@
+-- A line has one reading.
+use Rattle.std.proofs.Common.{◌≡◌, ℕ, ◌+◌, length, ◌<◌, ◌≤◌, ◌⊎◌, inl, inr, List, [], ◌∷◌, ◌++◌, refl, sym, ap, ◌∙◌, arith}
+use Rattle.eb_base.specs.Query.{Tree, size}
+use Rattle.eb_query.specs.Grammar.{Lexeme, Gives, Continues}
+use Rattle.eb_query.specs.Lexemes.{Placed}
+use Rattle.eb_query.specs.Nesting.{nesting, IsOpener}
+use Rattle.eb_query.specs.Number.{number_of, HasNumber, lexemes_of_line}
+use Rattle.eb_query.specs.Reading.{Outcome, asks, bad_query, too_deep, too_many_nodes, IsOutcome, ReadsAs, bad_number, without_number, with_number, stands, cannot_stand, stands_too_deep, incomplete, large, complete}
+use Rattle.eb_query.proofs.Machine.{one_query}
+
+-- what the rules say at one lexeme, and at the end
+At : List ℕ → List Lexeme → List Placed → Outcome → Type 0
+At line before [] o = ((o ≡ bad_query (length line + 1)) × ((t : Tree) → Gives before t → ⊥)) ⊎ (t : Tree) × Gives before t × (((o ≡ too_many_nodes) × (64 < size t)) ⊎ ((o ≡ asks (number_of line) t) × (size t ≤ 64)))
+At line before (p ∷ ps) o = ((o ≡ bad_query p.column) × (Continues (before ++ p.lexeme ∷ []) → ⊥))
+    ⊎ (Continues (before ++ p.lexeme ∷ []) × (((o ≡ too_deep) × IsOpener p.lexeme × (16 ≤ nesting before)) ⊎ ((IsOpener p.lexeme → nesting before < 16) × IsOutcome line (before ++ p.lexeme ∷ []) ps o)))
+
+at_outcome : {line : List ℕ} {before : List Lexeme} {ps : List Placed} {o : Outcome} → IsOutcome line before ps o → At line before ps o
+unfolding At
+at_outcome (stands c n r) = inr (c, inr (n, r))
+at_outcome (cannot_stand n) = inl (refl, n)
+at_outcome (stands_too_deep c i d) = inr (c, inl (refl, i, d))
+at_outcome (incomplete n) = inl (refl, n)
+at_outcome (large {before} {t} g l) = inr (t, g, inl (refl, l))
+at_outcome (complete {before} {t} g l) = inr (t, g, inr (refl, l))
+
+end_same : (line : List ℕ) (before : List Lexeme) (a b : Outcome) → At line before [] a → At line before [] b → a ≡ b
+unfolding At
+end_same line before a b (inl h) (inl k) = h.0 ∙ sym k.0
+end_same line before a b (inl h) (inr k) = absurd (h.1 k.0 k.1)
+end_same line before a b (inr h) (inl k) = absurd (k.1 h.0 h.1)
+end_same line before a b (inr h) (inr k) = go h.2 k.2
+  where
+    e : h.0 ≡ k.0
+    e = one_query h.1 k.1
+
+    s : size h.0 ≡ size k.0
+    s = ap size e
+
+    go : ((a ≡ too_many_nodes) × (64 < size h.0)) ⊎ ((a ≡ asks (number_of line) h.0) × (size h.0 ≤ 64)) → ((b ≡ too_many_nodes) × (64 < size k.0)) ⊎ ((b ≡ asks (number_of line) k.0) × (size k.0 ≤ 64)) → a ≡ b
+    go (inl x) (inl y) = x.0 ∙ sym y.0
+    go (inl x) (inr y) = let i = x.1 in let j = y.1 in absurd (omega (arith, s))
+    go (inr x) (inl y) = let i = x.1 in let j = y.1 in absurd (omega (arith, s))
+    go (inr x) (inr y) = x.0 ∙ ap (asks (number_of line)) e ∙ sym y.0
+
+same : (line : List ℕ) (ps : List Placed) (before : List Lexeme) (a b : Outcome) → IsOutcome line before ps a → IsOutcome line before ps b → a ≡ b
+unfolding At
+same line [] before a b h k = end_same line before a b (at_outcome h) (at_outcome k)
+same line (p ∷ ps) before a b h k = go (λ i j. same line ps (before ++ p.lexeme ∷ []) a b i j) (at_outcome h) (at_outcome k)
+  where
+    deep : ((a ≡ too_deep) × IsOpener p.lexeme × (16 ≤ nesting before)) ⊎ ((IsOpener p.lexeme → nesting before < 16) × IsOutcome line (before ++ p.lexeme ∷ []) ps a)
+        → ((b ≡ too_deep) × IsOpener p.lexeme × (16 ≤ nesting before)) ⊎ ((IsOpener p.lexeme → nesting before < 16) × IsOutcome line (before ++ p.lexeme ∷ []) ps b)
+        → (IsOutcome line (before ++ p.lexeme ∷ []) ps a → IsOutcome line (before ++ p.lexeme ∷ []) ps b → a ≡ b) → a ≡ b
+    deep (inl x) (inl y) m = x.0 ∙ sym y.0
+    deep (inl x) (inr y) m = let i = x.2 in let j = y.0 x.1 in absurd (omega arith)
+    deep (inr x) (inl y) m = let i = y.2 in let j = x.0 y.1 in absurd (omega arith)
+    deep (inr x) (inr y) m = m x.1 y.1
+
+    go : (IsOutcome line (before ++ p.lexeme ∷ []) ps a → IsOutcome line (before ++ p.lexeme ∷ []) ps b → a ≡ b) → At line before (p ∷ ps) a → At line before (p ∷ ps) b → a ≡ b
+    go m (inl x) (inl y) = x.0 ∙ sym y.0
+    go m (inl x) (inr y) = absurd (x.1 y.0)
+    go m (inr x) (inl y) = absurd (y.1 x.0)
+    go m (inr x) (inr y) = deep x.1 y.1 m
+
+-- what the rules say of the whole line
+Read : List ℕ → Outcome → Type 0
+Read line o = ((o ≡ bad_number) × (HasNumber line → ⊥)) ⊎ (HasNumber line × IsOutcome line [] (lexemes_of_line line) o)
+
+read_as : {line : List ℕ} {o : Outcome} → ReadsAs line o → Read line o
+unfolding Read
+read_as (without_number n) = inl (refl, n)
+read_as (with_number h r) = inr (h, r)
+
+one_read : (line : List ℕ) (a b : Outcome) → Read line a → Read line b → a ≡ b
+unfolding Read
+one_read line a b (inl x) (inl y) = x.0 ∙ sym y.0
+one_read line a b (inl x) (inr y) = absurd (x.1 y.0)
+one_read line a b (inr x) (inl y) = absurd (y.1 x.0)
+one_read line a b (inr x) (inr y) = same line (lexemes_of_line line) [] a b x.1 y.1
+
+pub one_outcome : (line : List ℕ) (a b : Outcome) → ReadsAs line a → ReadsAs line b → a ≡ b
+one_outcome line a b h k = one_read line a b (read_as h) (read_as k)

@@ -1,0 +1,55 @@
+-- The value of a few digits.
+use Rattle.std.proofs.Common.{◌≡◌, ℕ, zero, suc, ◌+◌, ◌-◌, ◌*◌, ◌<◌, ◌≤◌, List, length, drop, get_or, arith, drop-cons, add-one, lit≤, refl, sym, ap, ◌∙◌}
+use Rattle.std.proofs.Common.{take, nat_lt, Bool, true, false, length-drop, ltb-false}
+use Rattle.std.proofs.lemmas.Bool.{ltb-true}
+use Rattle.std.proofs.lemmas.List.Sums.{prefix_len-le-length}
+use Rattle.std.proofs.lemmas.Str.{IsCharBoundary-before_ascii}
+use Rattle.std.specs.List.{position_or_len}
+use Rattle.std.specs.Str.{IsCharBoundary}
+use Rattle.std.proofs.Common.{not}
+use Rattle.eb_query.proofs.Cuts.{rest_is, placed_at, blank_small}
+use Rattle.eb_query.specs.Number.{value_after, is_no_digit, digits_len, number_of, is_blank_or_end}
+
+-- more than the value of n bytes
+unfoldable pub cap : ℕ → ℕ
+cap zero = 1
+cap (suc n) = 10 * cap n + 300
+
+pub cap_next : (i : ℕ) → cap (i + 1) ≡ 10 * cap i + 300
+unfolding cap
+cap_next i = rw add-one refl
+
+pub cap_small : (i : ℕ) → i < 4 → cap i ≤ 40000
+unfolding cap
+cap_small zero h = lit≤ tt
+cap_small (suc zero) h = lit≤ tt
+cap_small (suc (suc zero)) h = lit≤ tt
+cap_small (suc (suc (suc zero))) h = lit≤ tt
+cap_small (suc (suc (suc (suc i)))) h = absurd (omega arith)
+
+pub value_next : (ds : List ℕ) (i v d : ℕ) → i < length ds → d ≡ get_or ds i 0 → value_after v (drop i ds) ≡ value_after (10 * v + (d - 48)) (drop (i + 1) ds)
+value_next ds i v d h e = rw (add-one, drop-cons ds i 0 h, ← e) refl
+
+pub digits_is : (line : List ℕ) (n : ℕ) → n ≡ position_or_len is_no_digit (take (length line - 1) (drop 1 line)) → n ≡ digits_len line
+unfolding digits_len
+digits_is line n h = h ∙ ap (position_or_len is_no_digit) (rest_is line 1)
+
+pub number_is : (line : List ℕ) (n v : ℕ) → n ≡ digits_len line → v ≡ value_after 0 (take (n + 1 - 1) (drop 1 line)) → v ≡ number_of line
+unfolding number_of
+number_is line n v e h = let f : n + 1 - 1 ≡ digits_len line = omega (arith, e) in h ∙ ap (λ (k : ℕ). value_after 0 (take k (drop 1 line))) f
+
+pub digits_within : (line : List ℕ) → 0 < length line → digits_len line + 1 ≤ length line
+unfolding digits_len
+digits_within line h =
+    let l : position_or_len is_no_digit (drop 1 line) ≤ length (drop 1 line) = prefix_len-le-length (λ b. not (is_no_digit b)) (drop 1 line) in
+    omega (arith, length-drop 1 line)
+
+pub apart_boundary : (line : List ℕ) (k : ℕ) → k ≤ length line → is_blank_or_end (drop k line) ≡ true → IsCharBoundary line k
+apart_boundary line k h a = go (nat_lt k (length line)) refl
+  where
+    small : k < length line → get_or line k 0 < 128
+    small l = blank_small (get_or line k 0) (sym (ap is_blank_or_end (placed_at line k l)) ∙ a)
+
+    go : (b : Bool) → nat_lt k (length line) ≡ b → IsCharBoundary line k
+    go true t = IsCharBoundary-before_ascii line k (ltb-true _ _ t) (small (ltb-true _ _ t))
+    go false f = let g = ltb-false _ _ f in (h, λ l. absurd (omega arith))

@@ -1,0 +1,157 @@
+-- What is written reads back: the lexemes of the text, and the grammar over them.
+use Rattle.std.proofs.Common.{◌≡◌, ℕ, suc, ◌+◌, ◌<◌, ◌≤◌, ◌≢◌, false, List, [], ◌∷◌, ◌++◌, length, map, take, drop, refl, sym, ap, ◌∙◌, arith, subst, append_assoc, append-nil, ne_eqb, length-append}
+use Rattle.std.specs.List.{AllByRecursion, position_or_len}
+use Rattle.eb_base.specs.Query.{Tree, word, phrase, negation, conjunction, disjunction, Trees, no_trees, trees, IsFormed, AreFormed, leaf_of}
+use Rattle.eb_query.specs.Grammar.{Lexeme, opening, closing, minus, or_word, leaf}
+use Rattle.eb_query.specs.Lexemes.{Placed, is_blank, text_lexeme, run_lexeme, of_leaf, bare, first, lexemes, is_quote}
+use Rattle.eb_query.specs.Writing.{joined, in_quotes, in_parentheses, unary_text, part_text, and_text, and_more_text, or_text, or_more_text, query_text, IsNamed, AreNamed, AllNamed}
+use Rattle.eb_query.proofs.WrittenLexemes.{unary_lexemes, part_lexemes, and_lexemes, or_lexemes, or_more_lexemes, query_lexemes}
+use Rattle.eb_query.proofs.Cuts.{nothing_left, first_opening, first_closing, first_minus, first_quoted, quoted_some, skip, at_blank, at_lexeme}
+
+abbrev pub kinds : List Placed → List Lexeme
+kinds ps = map (λ (p : Placed). p.lexeme) ps
+
+-- the text begins with these lexemes, and rest follows
+Cuts : List ℕ → List Lexeme → List ℕ → Type 0
+Cuts bs ls rest = (c : ℕ) → (d : ℕ) × (kinds (lexemes 0 c bs) ≡ ls ++ kinds (lexemes 0 d rest))
+
+nothing_cut : (bs : List ℕ) → Cuts bs [] bs
+unfolding Cuts
+nothing_cut bs c = (c, refl)
+
+then_cut : (xs bs cs : List ℕ) (ls ms : List Lexeme) → Cuts xs ls bs → Cuts bs ms cs → Cuts xs (ls ++ ms) cs
+unfolding Cuts
+then_cut xs bs cs ls ms h k c = let p = h c in let q = k p.0 in (q.0, p.1 ∙ ap (λ (ks : List Lexeme). ls ++ ks) q.1 ∙ sym (append_assoc ls ms (kinds (lexemes 0 q.0 cs))))
+
+blank_cut : (bs : List ℕ) → Cuts (32 ∷ bs) [] bs
+unfolding Cuts
+blank_cut bs c = (suc c, ap kinds (at_blank c 32 bs refl))
+
+one_cut : (b : ℕ) (bs rest : List ℕ) (l : Lexeme) (k : ℕ) → is_blank b ≡ false → first b bs ≡ (l, k) → drop k bs ≡ rest → Cuts (b ∷ bs) (l ∷ []) rest
+unfolding Cuts
+one_cut b bs rest l k n f r c = (
+  suc c + k,
+  ap kinds (at_lexeme c b bs n ∙ ap (λ (p : Lexeme × ℕ). record { column = c; lexeme = p.0 } ∷ lexemes p.1 (suc c) bs) f)
+      ∙ ap (λ (ps : List Placed). l ∷ kinds ps) (skip k (suc c) bs ∙ ap (lexemes 0 (suc c + k)) r),
+)
+
+open_cut : (bs : List ℕ) → Cuts (40 ∷ bs) (opening ∷ []) bs
+open_cut bs = one_cut 40 bs bs opening 0 refl (first_opening 40 bs refl) refl
+
+close_cut : (bs : List ℕ) → Cuts (41 ∷ bs) (closing ∷ []) bs
+close_cut bs = one_cut 41 bs bs closing 0 refl (first_closing 41 bs refl) refl
+
+minus_cut : (bs : List ℕ) → Cuts (45 ∷ bs) (minus ∷ []) bs
+minus_cut bs = one_cut 45 bs bs minus 0 refl (first_minus 45 bs refl) refl
+
+or_first : (bs : List ℕ) → first 79 (82 ∷ 32 ∷ bs) ≡ (or_word, 1)
+unfolding first bare run_lexeme
+or_first bs = refl
+
+or_cut : (bs : List ℕ) → Cuts (79 ∷ 82 ∷ 32 ∷ bs) (or_word ∷ []) (32 ∷ bs)
+or_cut bs = one_cut 79 (82 ∷ 32 ∷ bs) (32 ∷ bs) or_word 1 refl (or_first bs) refl
+
+first_quote : (text rest : List ℕ) → AllByRecursion (λ b. b ≢ 34) text → position_or_len is_quote (text ++ 34 ∷ rest) ≡ length text
+first_quote [] rest h = refl
+first_quote (b ∷ text) rest h = rw (ne_eqb b 34 h.0, first_quote text rest h.1) (omega arith)
+
+take_front : (xs ys : List ℕ) → take (length xs) (xs ++ ys) ≡ xs
+take_front [] ys = refl
+take_front (x ∷ xs) ys = ap (λ (zs : List ℕ). x ∷ zs) (take_front xs ys)
+
+drop_front : (xs ys : List ℕ) (y : ℕ) → drop (length xs + 1) (xs ++ y ∷ ys) ≡ ys
+drop_front [] ys y = refl
+drop_front (x ∷ xs) ys y =
+    let e : suc (length xs) + 1 ≡ suc (length xs + 1) = omega arith in
+    ap (λ (k : ℕ). drop k (x ∷ (xs ++ y ∷ ys))) e ∙ drop_front xs ys y
+
+quote_cut : (text rest : List ℕ) (l : Lexeme) → AllByRecursion (λ b. b ≢ 34) text → text_lexeme text ≡ l → Cuts (34 ∷ text ++ 34 ∷ rest) (l ∷ []) rest
+quote_cut text rest l h e =
+    let some : length text < length (text ++ 34 ∷ rest) = simp length-append (omega arith) in
+    one_cut 34 (text ++ 34 ∷ rest) rest l (length text + 1) refl
+    (first_quoted 34 (text ++ 34 ∷ rest) refl ∙ quoted_some (text ++ 34 ∷ rest) (length text) (sym (first_quote text rest h)) some
+    ∙ ap (λ (x : Lexeme). (x, length text + 1)) (ap text_lexeme (take_front text (34 ∷ rest)) ∙ e))
+    (drop_front text rest 34)
+
+same_cut : (xs ys : List ℕ) (ls : List Lexeme) (rest : List ℕ) → xs ≡ ys → Cuts ys ls rest → Cuts xs ls rest
+same_cut xs ys ls rest e h = subst (λ (zs : List ℕ). Cuts zs ls rest) (sym e) h
+
+leaf_cut : (text rest : List ℕ) (terms : List (List ℕ)) (t : Tree) → IsNamed text terms → of_leaf (leaf_of terms) ≡ leaf t → Cuts (in_quotes text ++ rest) (leaf t ∷ []) rest
+unfolding text_lexeme
+leaf_cut text rest terms t h e =
+    same_cut (in_quotes text ++ rest) (34 ∷ text ++ 34 ∷ rest) (leaf t ∷ []) rest (ap (λ (zs : List ℕ). 34 ∷ zs) (append_assoc text (34 ∷ []) rest))
+    (quote_cut text rest (leaf t) h.unquoted (ap (λ (ts : List (List ℕ)). of_leaf (leaf_of ts)) h.tokens ∙ e))
+
+phrase_leaf : (ts : List (List ℕ)) → 2 ≤ length ts → of_leaf (leaf_of ts) ≡ leaf (phrase ts)
+phrase_leaf [] h = absurd (omega arith)
+phrase_leaf (t ∷ []) h = absurd (omega arith)
+phrase_leaf (t ∷ u ∷ ts) h = refl
+
+group_cut : (text rest : List ℕ) (ls : List Lexeme) → Cuts (text ++ 41 ∷ rest) ls (41 ∷ rest) → Cuts (in_parentheses text ++ rest) (opening ∷ ls ++ closing ∷ []) rest
+group_cut text rest ls h =
+    same_cut (in_parentheses text ++ rest) (40 ∷ text ++ 41 ∷ rest) (opening ∷ ls ++ closing ∷ []) rest (ap (λ (zs : List ℕ). 40 ∷ zs) (append_assoc text (41 ∷ []) rest))
+    (then_cut (40 ∷ text ++ 41 ∷ rest) (text ++ 41 ∷ rest) rest (opening ∷ []) (ls ++ closing ∷ []) (open_cut (text ++ 41 ∷ rest))
+    (then_cut (text ++ 41 ∷ rest) (41 ∷ rest) rest ls (closing ∷ []) h (close_cut rest)))
+
+minus_then : (text rest : List ℕ) (ls : List Lexeme) → Cuts (text ++ rest) ls rest → Cuts (45 ∷ text ++ rest) (minus ∷ ls) rest
+minus_then text rest ls h = then_cut (45 ∷ text ++ rest) (text ++ rest) rest (minus ∷ []) ls (minus_cut (text ++ rest)) h
+
+both_cut : (xs ys rest : List ℕ) (ls ms : List Lexeme) → Cuts (xs ++ (ys ++ rest)) ls (ys ++ rest) → Cuts (ys ++ rest) ms rest → Cuts ((xs ++ ys) ++ rest) (ls ++ ms) rest
+both_cut xs ys rest ls ms h k = same_cut ((xs ++ ys) ++ rest) (xs ++ (ys ++ rest)) (ls ++ ms) rest (append_assoc xs ys rest) (then_cut (xs ++ (ys ++ rest)) (ys ++ rest) rest ls ms h k)
+
+mutual
+  unary_cut : (t : Tree) (rest : List ℕ) → IsFormed t → AreNamed t → Cuts (unary_text t ++ rest) (unary_lexemes t) rest
+  unary_cut (word t) rest f h = leaf_cut t rest (t ∷ []) (word t) h refl
+  unary_cut (phrase ts) rest f h = leaf_cut (joined ts) rest ts (phrase ts) h (phrase_leaf ts f)
+  unary_cut (negation t) rest f h = minus_then (unary_text t) rest (unary_lexemes t) (unary_cut t rest f h)
+  unary_cut (conjunction ts) rest f h = group_cut (and_text ts) rest (and_lexemes ts) (and_cut ts (41 ∷ rest) f.1 h)
+  unary_cut (disjunction ts) rest f h = group_cut (or_text ts) rest (or_lexemes ts) (or_text_cut ts (41 ∷ rest) f.1 h)
+
+  part_cut : (t : Tree) (rest : List ℕ) → IsFormed t → AreNamed t → Cuts (part_text t ++ rest) (part_lexemes t) rest
+  part_cut (word t) rest f h = leaf_cut t rest (t ∷ []) (word t) h refl
+  part_cut (phrase ts) rest f h = leaf_cut (joined ts) rest ts (phrase ts) h (phrase_leaf ts f)
+  part_cut (negation t) rest f h = minus_then (unary_text t) rest (unary_lexemes t) (unary_cut t rest f h)
+  part_cut (conjunction ts) rest f h = and_cut ts rest f.1 h
+  part_cut (disjunction ts) rest f h = group_cut (or_text ts) rest (or_lexemes ts) (or_text_cut ts (41 ∷ rest) f.1 h)
+
+  and_cut : (ts : Trees) (rest : List ℕ) → AreFormed ts → AllNamed ts → Cuts (and_text ts ++ rest) (and_lexemes ts) rest
+  and_cut no_trees rest f h = nothing_cut rest
+  and_cut (trees t ts) rest f h =
+      both_cut (unary_text t) (and_more_text ts) rest (unary_lexemes t) (and_lexemes ts) (unary_cut t (and_more_text ts ++ rest) f.0 h.0) (and_more_cut ts rest f.1 h.1)
+
+  and_more_cut : (ts : Trees) (rest : List ℕ) → AreFormed ts → AllNamed ts → Cuts (and_more_text ts ++ rest) (and_lexemes ts) rest
+  and_more_cut no_trees rest f h = nothing_cut rest
+  and_more_cut (trees t ts) rest f h =
+      then_cut (32 ∷ (unary_text t ++ and_more_text ts) ++ rest) ((unary_text t ++ and_more_text ts) ++ rest) rest [] (unary_lexemes t ++ and_lexemes ts) (blank_cut ((unary_text t ++ and_more_text ts) ++ rest))
+      (both_cut (unary_text t) (and_more_text ts) rest (unary_lexemes t) (and_lexemes ts) (unary_cut t (and_more_text ts ++ rest) f.0 h.0) (and_more_cut ts rest f.1 h.1))
+
+  or_text_cut : (ts : Trees) (rest : List ℕ) → AreFormed ts → AllNamed ts → Cuts (or_text ts ++ rest) (or_lexemes ts) rest
+  or_text_cut no_trees rest f h = nothing_cut rest
+  or_text_cut (trees t ts) rest f h =
+      both_cut (part_text t) (or_more_text ts) rest (part_lexemes t) (or_more_lexemes ts) (part_cut t (or_more_text ts ++ rest) f.0 h.0) (or_more_cut ts rest f.1 h.1)
+
+  or_more_cut : (ts : Trees) (rest : List ℕ) → AreFormed ts → AllNamed ts → Cuts (or_more_text ts ++ rest) (or_more_lexemes ts) rest
+  or_more_cut no_trees rest f h = nothing_cut rest
+  or_more_cut (trees t ts) rest f h =
+      let more = (part_text t ++ or_more_text ts) ++ rest in
+      let ls = part_lexemes t ++ or_more_lexemes ts in
+      then_cut (32 ∷ 79 ∷ 82 ∷ 32 ∷ more) (79 ∷ 82 ∷ 32 ∷ more) rest [] (or_word ∷ ls) (blank_cut (79 ∷ 82 ∷ 32 ∷ more))
+      (then_cut (79 ∷ 82 ∷ 32 ∷ more) (32 ∷ more) rest (or_word ∷ []) ls (or_cut more)
+      (then_cut (32 ∷ more) more rest [] ls (blank_cut more)
+      (both_cut (part_text t) (or_more_text ts) rest (part_lexemes t) (or_more_lexemes ts) (part_cut t (or_more_text ts ++ rest) f.0 h.0) (or_more_cut ts rest f.1 h.1))))
+
+query_cut : (t : Tree) (rest : List ℕ) → IsFormed t → AreNamed t → Cuts (query_text t ++ rest) (query_lexemes t) rest
+query_cut (word t) rest f h = unary_cut (word t) rest f h
+query_cut (phrase ts) rest f h = unary_cut (phrase ts) rest f h
+query_cut (negation t) rest f h = unary_cut (negation t) rest f h
+query_cut (conjunction ts) rest f h = and_cut ts rest f.1 h
+query_cut (disjunction ts) rest f h = or_text_cut ts rest f.1 h
+
+pub written_lexemes : (t : Tree) (c : ℕ) → IsFormed t → AreNamed t → kinds (lexemes 0 c (query_text t)) ≡ query_lexemes t
+unfolding Cuts
+written_lexemes t c f h =
+    let p = query_cut t [] f h c in
+    ap (λ (zs : List ℕ). kinds (lexemes 0 c zs)) (sym (append-nil (query_text t))) ∙ p.1 ∙ ap (λ (ks : List Lexeme). query_lexemes t ++ ks) (no_lexemes p.0) ∙ append-nil (query_lexemes t)
+  where
+    no_lexemes : (d : ℕ) → kinds (lexemes 0 d []) ≡ []
+    no_lexemes d = ap kinds (nothing_left d)

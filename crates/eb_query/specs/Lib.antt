@@ -1,0 +1,11 @@
+pub mod Grammar
+pub mod Nesting
+pub mod Lexemes
+pub mod Number
+pub mod Reading
+pub mod Refusal
+pub mod Writing
+pub mod Gaps
+pub mod Laws
+pub mod Machine
+pub mod Views

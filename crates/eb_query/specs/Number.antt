@@ -1,0 +1,38 @@
+-- The number of a query line, which follows its question mark.
+use Rattle.std.specs.Prelude.{◌≡◌, ℕ, ◌+◌, ◌-◌, ◌*◌, ◌≤◌, nat_lt, ◌||◌, Bool, true, List, [], ◌∷◌, take, drop}
+use Rattle.std.specs.List.{position_or_len}
+use Rattle.eb_query.specs.Lexemes.{Placed, is_blank, lexemes}
+
+-- the byte is no ASCII digit
+abbrev pub is_no_digit : ℕ → Bool
+is_no_digit b = nat_lt b 48 || nat_lt 57 b
+
+-- the value of decimal digits, after digits of the value n
+abbrev pub value_after : ℕ → List ℕ → ℕ
+value_after n [] = n
+value_after n (d ∷ ds) = value_after (10 * n + (d - 48)) ds
+
+-- how many digits follow the question mark
+unfoldable pub digits_len : List ℕ → ℕ
+digits_len line = position_or_len is_no_digit (drop 1 line)
+
+-- the value of those digits
+unfoldable pub number_of : List ℕ → ℕ
+number_of line = value_after 0 (take (digits_len line) (drop 1 line))
+
+-- a blank comes first, or there is no byte
+abbrev pub is_blank_or_end : List ℕ → Bool
+is_blank_or_end [] = true
+is_blank_or_end (b ∷ bs) = is_blank b
+
+-- one to four digits of a value from 1 to 1,000, and after them a blank or the end
+pub record HasNumber (line : List ℕ) : Type 0 where
+  pub some : 1 ≤ digits_len line
+  pub few : digits_len line ≤ 4
+  pub positive : 1 ≤ number_of line
+  pub within : number_of line ≤ 1000
+  pub apart : is_blank_or_end (drop (1 + digits_len line) line) ≡ true
+
+-- the lexemes of the query text, which is all behind the digits
+unfoldable pub lexemes_of_line : List ℕ → List Placed
+lexemes_of_line line = lexemes 0 (2 + digits_len line) (drop (1 + digits_len line) line)

@@ -1,0 +1,53 @@
+-- What the values of the reader stand for in its machine.
+use Rattle.std.specs.Prelude.{◌≡◌, ℕ, ◌≤◌, true, false, List, map, reverse, Some, None, Result, Ok, Err}
+use Rattle.eb_base.specs.Query.{tree, parts_of}
+use Rattle.eb_base.specs.declared.query.Query.{Query}
+use Rattle.eb_query.specs.Grammar.{Lexeme, opening, closing, minus, or_word, leaf, broken}
+use Rattle.eb_query.specs.Number.{number_of}
+use Rattle.eb_query.specs.Reading.{Outcome, asks, bad_query, too_deep, too_many_nodes}
+use Rattle.eb_query.specs.Machine.{Level, level, State, state, step, nest, is_deep}
+use Rattle.eb_query.specs.declared.lexeme.Lexeme as found
+use Rattle.eb_query.specs.declared.lexeme.Lexeme.TheVariants as variants
+use Rattle.eb_query.specs.declared.reader.Group.{Group}
+use Rattle.eb_query.specs.declared.reader.Reader.{Reader}
+use Rattle.eb_query.specs.declared.reader.Step.{Step}
+use Rattle.eb_query.specs.declared.reader.Step.TheVariants.{Stood, Misplaced, Deep}
+use Rattle.eb_query.specs.declared.read.QueryFault.{QueryFault}
+use Rattle.eb_query.specs.declared.read.QueryFault.TheVariants as faults
+
+-- the lexeme of the grammar
+abbrev pub lexeme_of : found.Lexeme → Lexeme
+lexeme_of variants.Opening = opening
+lexeme_of variants.Closing = closing
+lexeme_of variants.Minus = minus
+lexeme_of variants.OrWord = or_word
+lexeme_of (variants.Leaf q) = leaf (tree q)
+lexeme_of variants.Broken = broken
+
+-- the group of the machine
+abbrev pub level_of : Group → Level
+level_of g = level (parts_of g.ors) (parts_of g.ands) g.minuses
+
+-- the state of the machine
+abbrev pub state_of : Reader → State
+state_of r = state (level_of r.group) (reverse (map level_of r.outer.items))
+
+-- the count of what is open is right, and at most 16
+pub record IsCounted (r : Reader) : Type 0 where
+  pub nesting : r.nesting ≡ nest (state_of r)
+  pub within : r.nesting ≤ 16
+
+-- what a step from s to t says of the machine
+abbrev pub Steps : Step → Lexeme → State → State → Type 0
+Steps Stood l s t = (step l s ≡ Some t) × (is_deep l s ≡ false)
+Steps Misplaced l s t = step l s ≡ None
+Steps Deep l s t = (r : State) × (step l s ≡ Some r) × (is_deep l s ≡ true)
+
+-- the query text of the line has this outcome, unless memory ran out
+abbrev pub Finds : List ℕ → Outcome → Result Query QueryFault → Type 0
+Finds line o (Ok q) = o ≡ asks (number_of line) (tree q)
+Finds line o (Err faults.BadNumber) = ⊥
+Finds line o (Err (faults.BadQuery c)) = o ≡ bad_query c
+Finds line o (Err faults.TooDeep) = o ≡ too_deep
+Finds line o (Err faults.TooManyNodes) = o ≡ too_many_nodes
+Finds line o (Err faults.NoMemory) = Unit {0}

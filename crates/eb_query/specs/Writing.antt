@@ -1,0 +1,88 @@
+-- How a query is written as a line. Text is its bytes: 32 is a space, 34 the quotation mark, 40
+-- and 41 the parentheses, 45 the minus, 63 the question mark, and 79 82 is `OR`.
+use Rattle.std.specs.Prelude.{◌≡◌, ℕ, ◌≢◌, List, [], ◌∷◌, ◌++◌, decimal}
+use Rattle.std.specs.List.{AllByRecursion}
+use Rattle.eb_base.specs.Query.{Tree, word, phrase, negation, conjunction, disjunction, Trees, no_trees, trees}
+use Rattle.eb_text.specs.Tokens.{tokens_of}
+
+-- terms with one space between
+abbrev pub joined : List (List ℕ) → List ℕ
+joined [] = []
+joined (t ∷ []) = t
+joined (t ∷ u ∷ ts) = t ++ 32 ∷ joined (u ∷ ts)
+
+-- the text between two quotation marks
+abbrev pub in_quotes : List ℕ → List ℕ
+in_quotes text = 34 ∷ text ++ 34 ∷ []
+
+-- the text between parentheses
+abbrev pub in_parentheses : List ℕ → List ℕ
+in_parentheses text = 40 ∷ text ++ 41 ∷ []
+
+abbrev mutual
+  -- a query as a part of an and, and behind a minus: an and and an or stand in parentheses
+  pub unary_text : Tree → List ℕ
+  unary_text (word t) = in_quotes t
+  unary_text (phrase ts) = in_quotes (joined ts)
+  unary_text (negation t) = 45 ∷ unary_text t
+  unary_text (conjunction ts) = in_parentheses (and_text ts)
+  unary_text (disjunction ts) = in_parentheses (or_text ts)
+
+  -- a query as a part of an or: only an or stands in parentheses
+  pub part_text : Tree → List ℕ
+  part_text (word t) = in_quotes t
+  part_text (phrase ts) = in_quotes (joined ts)
+  part_text (negation t) = 45 ∷ unary_text t
+  part_text (conjunction ts) = and_text ts
+  part_text (disjunction ts) = in_parentheses (or_text ts)
+
+  -- the parts of an and, with a space between
+  pub and_text : Trees → List ℕ
+  and_text no_trees = []
+  and_text (trees t ts) = unary_text t ++ and_more_text ts
+
+  -- the further parts of an and, each behind a space
+  pub and_more_text : Trees → List ℕ
+  and_more_text no_trees = []
+  and_more_text (trees t ts) = 32 ∷ unary_text t ++ and_more_text ts
+
+  -- the parts of an or, with ` OR ` between
+  pub or_text : Trees → List ℕ
+  or_text no_trees = []
+  or_text (trees t ts) = part_text t ++ or_more_text ts
+
+  -- the further parts of an or, each behind ` OR `
+  pub or_more_text : Trees → List ℕ
+  or_more_text no_trees = []
+  or_more_text (trees t ts) = 32 ∷ 79 ∷ 82 ∷ 32 ∷ part_text t ++ or_more_text ts
+
+-- a query alone: no parentheses round it
+abbrev pub query_text : Tree → List ℕ
+query_text (word t) = in_quotes t
+query_text (phrase ts) = in_quotes (joined ts)
+query_text (negation t) = 45 ∷ unary_text t
+query_text (conjunction ts) = and_text ts
+query_text (disjunction ts) = or_text ts
+
+-- the line: a question mark, the number in decimal, a space and the query
+abbrev pub line_text : ℕ → Tree → List ℕ
+line_text k t = 63 ∷ decimal k ++ 32 ∷ query_text t
+
+-- the text can be named in a query: it has no quotation mark, and exactly these terms as its tokens
+pub record IsNamed (text : List ℕ) (terms : List (List ℕ)) : Type 0 where
+  pub unquoted : AllByRecursion (λ b. b ≢ 34) text
+  pub tokens : tokens_of text ≡ terms
+
+abbrev mutual
+  -- the text of each leaf can be named
+  pub AreNamed : Tree → Type 0
+  AreNamed (word t) = IsNamed t (t ∷ [])
+  AreNamed (phrase ts) = IsNamed (joined ts) ts
+  AreNamed (negation t) = AreNamed t
+  AreNamed (conjunction ts) = AllNamed ts
+  AreNamed (disjunction ts) = AllNamed ts
+
+  -- and so in each of these parts
+  pub AllNamed : Trees → Type 0
+  AllNamed no_trees = Unit {0}
+  AllNamed (trees t ts) = AreNamed t × AllNamed ts

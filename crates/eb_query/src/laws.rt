@@ -1,0 +1,26 @@
+ghost use Rattle.eb_query.specs.Laws.{SomeReading, OneReading, ReadsBack};
+
+/// The rules of reading leave no line out: each has an outcome, which asks something or is a
+/// refusal. The call does nothing.
+pub fn some_reading()
+    ensures { SomeReading }
+{}
+
+/// The law of reading: the rules give a line at most one outcome. So what [`read_query`] answers
+/// is settled by them: a query that they give can't be refused, and each refusal comes exactly
+/// where they say. The call does nothing.
+///
+/// [`read_query`]: crate::read_query
+pub fn one_reading()
+    ensures { OneReading }
+{}
+
+/// The law of writing: the line that [`write_query`] gives for `k` and a well-formed query reads
+/// as `k` and that query, where no term of a leaf has a quotation mark, each leaf's text has
+/// exactly the leaf's terms as its tokens, and the line doesn't nest deeper than 16. The call does
+/// nothing.
+///
+/// [`write_query`]: crate::write_query
+pub fn reads_back()
+    ensures { ReadsBack }
+{}

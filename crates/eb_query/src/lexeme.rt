@@ -1,0 +1,171 @@
+ghost use Rattle.std.specs.Prelude.{◌≡◌, ◌+◌, ◌<◌, length, drop, slice_index, IfOk};
+ghost use Rattle.std.specs.List.{position_or_len};
+ghost use Rattle.std.specs.Str.{IsCharBoundary};
+ghost use Rattle.eb_query.specs.Lexemes.{is_quote, is_blank, ends_run, text_lexeme, run_lexeme, quoted, bare, first};
+ghost use Rattle.eb_query.specs.Views.{lexeme_of};
+
+use eb_base::{NoMemory, Query};
+use eb_text::tokens;
+use std::alloc::Global;
+
+/// A lexeme of a query text.
+#[derive(Drop)]
+pub enum Lexeme {
+    /// `(`.
+    Opening,
+    /// `)`.
+    Closing,
+    /// `-` where a lexeme begins.
+    Minus,
+    /// The run `OR`.
+    OrWord,
+    /// A bare word or a quoted text, by what it asks.
+    Leaf(Query),
+    /// A quote that isn't closed, or a text without a token.
+    Broken,
+}
+
+/// A lexeme that stands in a line.
+#[derive(Drop)]
+pub struct Found {
+    /// The lexeme.
+    pub lexeme: Lexeme,
+    /// The place of the byte behind its last one, counted from 0.
+    pub end: usize,
+}
+
+/// Whether the byte is a blank: a space or a tab.
+pub fn is_blank_byte(byte: u8) -> bool
+    ensures { result ≡ is_blank byte }
+{
+    byte == b' ' || byte == b'\t'
+}
+
+// Whether a bare word ends before this byte.
+fn ends_run_byte(byte: u8) -> bool
+    ensures { result ≡ ends_run byte }
+{
+    is_blank_byte(byte) || byte == b'(' || byte == b')' || byte == b'"'
+}
+
+// How many bytes stand before the first quotation mark; all, if there is none.
+fn quote_at(bytes: &[u8]) -> usize
+    ensures { result ≡ position_or_len is_quote bytes.now }
+{
+    for (at, byte) in bytes.iter().enumerate() {
+        if *byte == b'"' {
+            return at;
+        }
+    }
+    bytes.len()
+}
+
+// How many bytes stand in front that belong to a bare word.
+fn run_len(bytes: &[u8]) -> usize
+    ensures { result ≡ position_or_len ends_run bytes.now }
+{
+    for (at, byte) in bytes.iter().enumerate() {
+        if ends_run_byte(*byte) {
+            return at;
+        }
+    }
+    bytes.len()
+}
+
+// The lexeme of a text, by its tokens.
+#[tactic(auto, unfolding(crate::specs::Lexemes::text_lexeme))]
+fn text_of(alloc: Global, text: &str) -> Result<Lexeme, NoMemory>
+    ensures { IfOk result (λ lexeme. lexeme_of lexeme ≡ text_lexeme text.now) }
+{
+    match Query::of_terms(tokens(alloc, text)?) {
+        Some(query) => Ok(Lexeme::Leaf(query)),
+        None => Ok(Lexeme::Broken),
+    }
+}
+
+// The lexeme of a run.
+#[tactic(auto, unfolding(crate::specs::Lexemes::run_lexeme))]
+fn run_of(alloc: Global, run: &str) -> Result<Lexeme, NoMemory>
+    ensures { IfOk result (λ lexeme. lexeme_of lexeme ≡ run_lexeme run.now) }
+{
+    if run == "OR" {
+        return Ok(Lexeme::OrWord);
+    }
+    text_of(alloc, run)
+}
+
+// The quoted text whose first quotation mark stands at this place.
+fn quoted_at(alloc: Global, line: &str, at: usize) -> Result<Found, NoMemory>
+    requires within { at < length line.now }
+    requires quote { slice_index line.now at ≡ 34 }
+    ensures lexeme { IfOk result (λ found.
+        lexeme_of found.lexeme ≡ (quoted (drop (at + 1) line.now)).0) }
+    ensures end { IfOk result (λ found.
+        found.end ≡ at + 1 + (quoted (drop (at + 1) line.now)).1) }
+    ensures boundary { IfOk result (λ found. IsCharBoundary line.now found.end) }
+{
+    let start = at + 1;
+    let len = quote_at(&line.as_bytes()[start..]);
+    if len == line.len() - start {
+        return Ok(Found {
+            lexeme: Lexeme::Broken,
+            end: line.len(),
+        });
+    }
+    let lexeme = text_of(alloc, &line[start..start + len])?;
+    Ok(Found {
+        lexeme,
+        end: start + len + 1,
+    })
+}
+
+// The run that begins at this place.
+fn bare_at(alloc: Global, line: &str, at: usize) -> Result<Found, NoMemory>
+    requires boundary { IsCharBoundary line.now at }
+    requires within { at < length line.now }
+    ensures lexeme { IfOk result (λ found.
+        lexeme_of found.lexeme ≡ (bare (slice_index line.now at) (drop (at + 1) line.now)).0) }
+    ensures end { IfOk result (λ found.
+        found.end ≡ at + 1 + (bare (slice_index line.now at) (drop (at + 1) line.now)).1) }
+    ensures boundary { IfOk result (λ found. IsCharBoundary line.now found.end) }
+{
+    let len = run_len(&line.as_bytes()[at + 1..]);
+    let end = at + 1 + len;
+    let lexeme = run_of(alloc, &line[at..end])?;
+    Ok(Found { lexeme, end })
+}
+
+/// The lexeme that begins at this place of the line, where no blank stands.
+pub fn lexeme_at(alloc: Global, line: &str, at: usize) -> Result<Found, NoMemory>
+    requires boundary { IsCharBoundary line.now at }
+    requires within { at < length line.now }
+    ensures lexeme { IfOk result (λ found.
+        lexeme_of found.lexeme ≡ (first (slice_index line.now at) (drop (at + 1) line.now)).0) }
+    ensures end { IfOk result (λ found.
+        found.end ≡ at + 1 + (first (slice_index line.now at) (drop (at + 1) line.now)).1) }
+    ensures boundary { IfOk result (λ found. IsCharBoundary line.now found.end) }
+{
+    let byte = line.as_bytes()[at];
+    if byte == b'(' {
+        return Ok(Found {
+            lexeme: Lexeme::Opening,
+            end: at + 1,
+        });
+    }
+    if byte == b')' {
+        return Ok(Found {
+            lexeme: Lexeme::Closing,
+            end: at + 1,
+        });
+    }
+    if byte == b'-' {
+        return Ok(Found {
+            lexeme: Lexeme::Minus,
+            end: at + 1,
+        });
+    }
+    if byte == b'"' {
+        return quoted_at(alloc, line, at);
+    }
+    bare_at(alloc, line, at)
+}

@@ -1,0 +1,80 @@
+ghost use Rattle.std.specs.Prelude.{◌≡◌, ◌+◌, ◌<◌, ◌≤◌, length, drop, IfSome, IfNone};
+ghost use Rattle.std.specs.List.{position_or_len};
+ghost use Rattle.eb_query.specs.Number.{value_after, is_no_digit, is_blank_or_end, digits_len, number_of, HasNumber};
+
+use crate::lexeme::is_blank_byte;
+
+/// The most matches that a query may ask for (this project's profile, docs/FORMATS.md).
+pub const MAX_NUMBER: u32 = 1000;
+
+/// The number of a query line.
+#[derive(Clone, Copy, Drop)]
+pub struct Number {
+    /// Its value, 1 to [`MAX_NUMBER`].
+    pub value: u32,
+    /// The place of the byte behind its last digit, counted from 0.
+    pub end: usize,
+}
+
+fn is_no_digit_byte(byte: u8) -> bool
+    ensures { result ≡ is_no_digit byte }
+{
+    byte < b'0' || b'9' < byte
+}
+
+// How many digits stand in front.
+fn digits_at(bytes: &[u8]) -> usize
+    ensures { result ≡ position_or_len is_no_digit bytes.now }
+{
+    for (at, byte) in bytes.iter().enumerate() {
+        if is_no_digit_byte(*byte) {
+            return at;
+        }
+    }
+    bytes.len()
+}
+
+// The value of a few digits.
+fn value_of(digits: &[u8]) -> u32
+    requires { length digits.now ≤ 4 }
+    ensures { result ≡ value_after 0 digits.now }
+{
+    let mut value: u32 = 0;
+    for digit in digits {
+        value = 10 * value + u32::from(digit.saturating_sub(b'0'));
+    }
+    value
+}
+
+// Whether a blank stands at this place, or the line ends there.
+fn is_apart(line: &[u8], from: usize) -> bool
+    requires { from ≤ length line.now }
+    ensures { result ≡ is_blank_or_end (drop from line.now) }
+{
+    from == line.len() || is_blank_byte(line[from])
+}
+
+/// The number of a line that begins with a question mark, if it has one: one to four digits of a
+/// value from 1 to [`MAX_NUMBER`], and behind them a blank or the end. Takes no memory.
+pub fn number_at(line: &[u8]) -> Option<Number>
+    requires { 0 < length line.now }
+    ensures none { IfNone result (HasNumber line.now → ⊥) }
+    ensures some { IfSome result (λ number. HasNumber line.now) }
+    ensures value { IfSome result (λ number. number.value ≡ number_of line.now) }
+    ensures end { IfSome result (λ number. number.end ≡ 1 + digits_len line.now) }
+{
+    let digits = digits_at(&line[1..]);
+    if digits == 0 || digits > 4 {
+        return None;
+    }
+    let end = digits + 1;
+    let value = value_of(&line[1..end]);
+    if value == 0 || value > MAX_NUMBER {
+        return None;
+    }
+    if is_apart(line, end) {
+        Some(Number { value, end })
+    } else {
+        None
+    }
+}

@@ -1,0 +1,115 @@
+ghost use Rattle.std.specs.Prelude.{◌≡◌, ◌+◌, ◌≤◌, length, drop, slice_get, IfOk, IfErr};
+ghost use Rattle.std.specs.Str.{IsCharBoundary};
+ghost use Rattle.eb_base.specs.Query.{tree, IsWellFormed};
+ghost use Rattle.eb_query.specs.Lexemes.{lexemes};
+ghost use Rattle.eb_query.specs.Reading.{asks, ReadsAs};
+ghost use Rattle.eb_query.specs.Refusal.{IsRefused};
+ghost use Rattle.eb_query.specs.Machine.{start, outcome};
+ghost use Rattle.eb_query.specs.Views.{Finds};
+
+use crate::lexeme::{is_blank_byte, lexeme_at};
+use crate::number::number_at;
+use crate::reader::{Reader, Step};
+use eb_base::{NoMemory, Query};
+use std::alloc::Global;
+
+/// Why a line is no query. Where several hold, the number comes first, then the first lexeme from
+/// the left that fails, then the end of the line, and last the size.
+#[derive(Clone, Copy, Debug, PartialEq, Eq)]
+pub enum QueryFault {
+    /// The question mark isn't followed by one to four digits of a value from 1 to 1,000 with a
+    /// blank or the end of the line behind them.
+    BadNumber,
+    /// A lexeme can't stand at its place, is a quote that isn't closed or has no token; or the
+    /// line ends before the query is complete.
+    BadQuery {
+        /// The place of the lexeme's first byte in the line, counted from 1 with the question mark
+        /// as 1; at the end of the line its length plus 1.
+        column: u64,
+    },
+    /// A `(` or a `-` may stand at its place, where 16 of them are open already.
+    TooDeep,
+    /// The query is complete, and its size is over 64: 1 for each word and minus and for each `and`
+    /// and `or` of several parts, and the number of its terms for each phrase.
+    TooManyNodes,
+    /// Memory ran out, which says nothing of the line.
+    NoMemory,
+}
+
+impl From<NoMemory> for QueryFault {
+    ghost use Rattle.std.specs.Prelude.{◌≡◌};
+    ghost use Rattle.eb_query.specs.declared.read.QueryFault.TheVariants as faults;
+
+    ghost from_gives = { λ _ fault. fault ≡ faults.NoMemory };
+
+    fn from(_error: NoMemory) -> QueryFault {
+        QueryFault::NoMemory
+    }
+}
+
+// What the text that begins at this place asks.
+fn read_text(alloc: Global, line: &str, from: usize) -> Result<Query, QueryFault>
+    requires boundary { IsCharBoundary line.now from }
+    requires within { from ≤ length line.now }
+    ensures { Finds line.now
+        (outcome line.now (lexemes 0 (from + 1) (drop from line.now)) start) result }
+{
+    let mut reader = Reader::new(alloc);
+    let mut at = from;
+    while at < line.len() {
+        if is_blank_byte(line.as_bytes()[at]) {
+            at += 1;
+        } else {
+            let found = lexeme_at(alloc, line, at)?;
+            match reader.read(alloc, found.lexeme)? {
+                Step::Stood => {}
+                Step::Misplaced => {
+                    return Err(QueryFault::BadQuery {
+                        column: at as u64 + 1,
+                    });
+                }
+                Step::Deep => return Err(QueryFault::TooDeep),
+            }
+            at = found.end;
+        }
+    }
+    match reader.finish()? {
+        None => Err(QueryFault::BadQuery {
+            column: line.len() as u64 + 1,
+        }),
+        Some(query) => {
+            if query.is_well_formed() {
+                Ok(query)
+            } else {
+                Err(QueryFault::TooManyNodes)
+            }
+        }
+    }
+}
+
+/// What a line that begins with `?` asks: how many matches, 1 to 1,000, and a well-formed query
+/// (this project's profile, docs/FORMATS.md). Behind the number stand, apart by spaces and tabs as
+/// wanted:
+///
+/// - a word, or a text between two `"`, cut into tokens as documents are: one token asks for that
+///   word, several for the phrase of them in this order;
+/// - parts side by side: all of them;
+/// - parts with `OR` between: any of them; it binds less than standing side by side;
+/// - `-` where a part begins: not that part;
+/// - `(` and `)` round a query.
+///
+/// Each [`QueryFault`] says when it comes; `NoMemory` comes where a growth was refused.
+pub fn read_query(alloc: Global, line: &str) -> Result<(u32, Query), QueryFault>
+    requires question_mark { slice_get line.now 0 ≡ Some 63 }
+    ensures asks { IfOk result (λ asked. ReadsAs line.now (asks asked.0 (tree asked.1))) }
+    ensures refused { IfErr result (IsRefused line.now) }
+    ensures some { IfOk result (λ asked. 1 ≤ asked.0) }
+    ensures within { IfOk result (λ asked. asked.0 ≤ 1000) }
+    ensures well_formed { IfOk result (λ asked. IsWellFormed (tree asked.1)) }
+{
+    let Some(number) = number_at(line.as_bytes()) else {
+        return Err(QueryFault::BadNumber);
+    };
+    let query = read_text(alloc, line, number.end)?;
+    Ok((number.value, query))
+}

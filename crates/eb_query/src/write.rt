@@ -1,0 +1,148 @@
+ghost use Rattle.std.specs.Prelude.{◌≡◌, ◌≤◌, ◌++◌, IfOk, OnOk, decimal};
+ghost use Rattle.eb_base.specs.Query.{tree, trees_of, parts_of, IsWellFormed};
+ghost use Rattle.eb_query.specs.Writing.{joined, unary_text, part_text, and_text, or_text, line_text};
+ghost use Rattle.eb_query.specs.Gaps.{and_gap, or_gap};
+
+use eb_base::{NoMemory, Queries, Query, Terms};
+use std::alloc::Global;
+
+// Puts these bytes at the end.
+fn put(out: &mut Vec<u8>, bytes: &[u8]) -> Result<(), NoMemory>
+    ensures { OnOk result (out.new.items ≡ out.old.items ++ bytes.now) }
+{
+    out.extend_from_slice(bytes)?;
+    Ok(())
+}
+
+// Puts what stands before the part of an `and`, or the term of a phrase, at this index.
+fn put_gap(out: &mut Vec<u8>, at: usize) -> Result<(), NoMemory>
+    ensures { OnOk result (out.new.items ≡ out.old.items ++ and_gap at) }
+{
+    if at > 0 {
+        out.push(b' ')?;
+    }
+    Ok(())
+}
+
+// Puts what stands before the part of an `or` at this index.
+fn put_or(out: &mut Vec<u8>, at: usize) -> Result<(), NoMemory>
+    ensures { OnOk result (out.new.items ≡ out.old.items ++ or_gap at) }
+{
+    if at > 0 {
+        put(out, b" OR ")?;
+    }
+    Ok(())
+}
+
+// Puts the terms, with a space between.
+fn put_terms(out: &mut Vec<u8>, terms: &Terms) -> Result<(), NoMemory>
+    ensures { OnOk result (out.new.items ≡ out.old.items ++ joined terms.now) }
+{
+    for at in 0..terms.len() {
+        put_gap(out, at)?;
+        put(out, terms.get(at).bytes())?;
+    }
+    Ok(())
+}
+
+// Puts a query as a part of an `and`, or behind a minus.
+#[cycle(put)]
+fn put_unary(out: &mut Vec<u8>, query: &Query) -> Result<(), NoMemory>
+    ensures { OnOk result (out.new.items ≡ out.old.items ++ unary_text (tree query.now)) }
+{
+    match query {
+        Query::Word(term) => {
+            out.push(b'"')?;
+            put(out, term.bytes())?;
+            out.push(b'"')?;
+        }
+        Query::Phrase(terms) => {
+            out.push(b'"')?;
+            put_terms(out, terms)?;
+            out.push(b'"')?;
+        }
+        Query::Not(part) => {
+            out.push(b'-')?;
+            put_unary(out, part)?;
+        }
+        Query::And(parts) => {
+            out.push(b'(')?;
+            put_all(out, parts)?;
+            out.push(b')')?;
+        }
+        Query::Or(parts) => {
+            out.push(b'(')?;
+            put_any(out, parts)?;
+            out.push(b')')?;
+        }
+    }
+    Ok(())
+}
+
+// Puts a query as a part of an `or`.
+#[cycle(put)]
+fn put_part(out: &mut Vec<u8>, query: &Query) -> Result<(), NoMemory>
+    ensures { OnOk result (out.new.items ≡ out.old.items ++ part_text (tree query.now)) }
+{
+    match query {
+        Query::And(parts) => put_all(out, parts),
+        _ => put_unary(out, query),
+    }
+}
+
+// Puts the parts of an `and`.
+#[cycle(put)]
+fn put_all(out: &mut Vec<u8>, parts: &Queries) -> Result<(), NoMemory>
+    ensures { OnOk result
+        (out.new.items ≡ out.old.items ++ and_text (trees_of (parts_of parts.now))) }
+{
+    for (at, part) in parts.as_slice().iter().enumerate() {
+        put_gap(out, at)?;
+        put_unary(out, part)?;
+    }
+    Ok(())
+}
+
+// Puts the parts of an `or`.
+#[cycle(put)]
+fn put_any(out: &mut Vec<u8>, parts: &Queries) -> Result<(), NoMemory>
+    ensures { OnOk result
+        (out.new.items ≡ out.old.items ++ or_text (trees_of (parts_of parts.now))) }
+{
+    for (at, part) in parts.as_slice().iter().enumerate() {
+        put_or(out, at)?;
+        put_part(out, part)?;
+    }
+    Ok(())
+}
+
+// Puts the number in decimal.
+fn put_number(alloc: Global, out: &mut Vec<u8>, number: u32) -> Result<(), NoMemory>
+    ensures { OnOk result (out.new.items ≡ out.old.items ++ decimal number) }
+{
+    put(out, number.to_string(alloc)?.as_bytes())
+}
+
+/// The line that asks for the first `k` matches of the query: `?`, `k`, a space and the query,
+/// without a LF (this project's profile, docs/FORMATS.md). A word or a phrase is its terms between
+/// two `"` with one space between; the parts of an `and` have a space between, those of an `or`
+/// ` OR `; a `-` stands before what is negated; an `and` or an `or` inside another or behind a `-`
+/// stands in parentheses, but for an `and` inside an `or`. `NoMemory` comes where a growth was
+/// refused.
+pub fn write_query(alloc: Global, k: u32, query: &Query) -> Result<Vec<u8>, NoMemory>
+    requires well_formed { IsWellFormed (tree query.now) }
+    requires some { 1 ≤ k }
+    requires within { k ≤ 1000 }
+    ensures { IfOk result (λ line. line.items ≡ line_text k (tree query.now)) }
+{
+    let mut line = Vec::new(alloc);
+    line.push(b'?')?;
+    put_number(alloc, &mut line, k)?;
+    line.push(b' ')?;
+    match query {
+        Query::And(parts) => put_all(&mut line, parts)?,
+        Query::Or(parts) => put_any(&mut line, parts)?,
+        _ => put_unary(&mut line, query)?,
+    }
+    Ok(line)
+}
