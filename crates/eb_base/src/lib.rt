@@ -12,9 +12,9 @@ mod terms;
 #[cfg(test)]
 mod tests;
 
-pub use config::{Config, ConfigFault};
-pub use document::{DocFault, Document};
+pub use config::{Config, ConfigFault, MAX_DOCS, MAX_SEGMENTS, MAX_WORDS};
+pub use document::{DocFault, Document, MAX_BYTES, MAX_TOKENS};
 pub use gate::{Gate, OpenGate, Point};
 pub use memory::NoMemory;
-pub use query::{Queries, Query};
+pub use query::{MAX_SIZE, Queries, Query};
 pub use terms::{Term, Terms};
