@@ -1,13 +1,12 @@
 -- A run, from one line to the next, and how it ends.
-use Rattle.std.proofs.Common.{◌≡◌, ℕ, ◌+◌, ◌-◌, ◌<◌, ◌≤◌, ◌⊎◌, inl, inr, Bool, true, false, List, [], ◌∷◌, ◌++◌, length, map, take, drop, Option, Some, None, refl, sym, ap, ap₂, subst, ◌∙◌, arith, append_assoc, append-nil, length-append, rules}
-use Rattle.std.specs.Prelude.{Result, Ok, Err, nat_lt, if◌then◌else◌, ◌==◌}
-use Rattle.std.specs.List.{AllZip}
+use Rattle.std.proofs.Common.{◌≡◌, ℕ, ◌+◌, ◌<◌, ◌≤◌, ◌⊎◌, inl, inr, true, false, List, [], ◌∷◌, ◌++◌, length, take, drop, Option, Some, None, refl, sym, ap, ap₂, subst, ◌∙◌, arith, append_assoc, append-nil, length-append}
+use Rattle.std.specs.Prelude.{Err, ◌==◌}
 use Rattle.std.proofs.lemmas.List.{take-append-drop, length-map}
 use Rattle.std.proofs.lemmas.Bool.{cases_Bool}
 use Rattle.std.proofs.lemmas.Slice.Zip.{AllZip-long}
 use Rattle.std.proofs.Math.Seq.{take-append_seam}
-use Rattle.eb_io.specs.Lines.{Line, lines_of, whole_lines, pieces, begun_by, line_from, AreWhole}
-use Rattle.eb_io.specs.Held.{Held, HasGiven, HasNoLine, HasAllLines, IsDone}
+use Rattle.eb_io.specs.Lines.{Line, lines_of, whole_lines, pieces, begun_by, line_from}
+use Rattle.eb_io.specs.Held.{Held, HasGiven, HasNoLine, HasAllLines}
 use Rattle.eb_io.specs.Source.{after, IsEmpty}
 use Rattle.eb_io.specs.Sink.{grown}
 use Rattle.eb_io.proofs.Bytes.{grown-grown, grown-nil, after-nil, after-after}
@@ -18,8 +17,8 @@ use Rattle.earlybird.specs.declared.status.TheConstants.{MAX_INPUT}
 use Rattle.earlybird.specs.Reading.{Reading}
 use Rattle.earlybird.specs.Reads.{Reads}
 use Rattle.earlybird.specs.Session.{Session, accepted, refusals, told, session_after, with_line, nothing}
-use Rattle.earlybird.specs.Text.{body, text, summary, output_of}
-use Rattle.earlybird.specs.Output.{AreRead, IsBodyOf, IsTextOf, HasRefusal, HasNoRefusal, IsPartOfOutput, IsStoppedAt, Wrote, IsWorkedOff}
+use Rattle.earlybird.specs.Text.{body, summary, output_of}
+use Rattle.earlybird.specs.Output.{AreRead, IsBodyOf, IsTextOf, HasRefusal, HasNoRefusal, IsPartOfOutput, Wrote, IsWorkedOff}
 use Rattle.earlybird.specs.Worked.{IsAt, Prints, Closes, AreFirst, IsPart, EndsAs, Ends}
 use Rattle.earlybird.proofs.Texts.{session_after-push, session_after-nil, body-push, body-nil}
 

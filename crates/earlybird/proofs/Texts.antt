@@ -1,14 +1,13 @@
 -- The text of some lines, with one line more.
-use Rattle.std.proofs.Common.{◌≡◌, ℕ, zero, suc, ◌+◌, ◌-◌, ◌<◌, ◌≤◌, Bool, true, false, List, [], ◌∷◌, ◌++◌, length, take, drop, count_by, flat_map, refl, sym, ap, ap₂, ◌∙◌, arith, append_assoc, append-nil, zero-add, length-append, rules}
+use Rattle.std.proofs.Common.{◌≡◌, ℕ, ◌+◌, ◌<◌, ◌≤◌, Bool, List, [], ◌∷◌, ◌++◌, length, take, drop, count_by, flat_map, refl, sym, ap, ap₂, ◌∙◌, arith, append_assoc, append-nil, zero-add, length-append}
 use Rattle.std.proofs.lemmas.List.{take-append-le, take-append-drop}
 use Rattle.std.proofs.lemmas.List.Sums.{sum_by-append}
-use Rattle.std.proofs.lemmas.Grind.{common_steps}
-use Rattle.std.proofs.Math.Seq.{take-append_seam, take-length}
+use Rattle.std.proofs.Math.Seq.{take-length}
 use Rattle.eb_base.specs.Document.{Doc}
 use Rattle.eb_base.specs.Match.{answer}
 use Rattle.earlybird.specs.Reading.{Reading, blank, document, query, refused}
-use Rattle.earlybird.specs.Session.{Session, documents_in, is_query, is_refused, accepted, queries, refusals, told, session_after, one_if, with_line, nothing}
-use Rattle.earlybird.specs.Text.{output_of, body_from, body, text, answer_line}
+use Rattle.earlybird.specs.Session.{documents_in, is_query, is_refused, accepted, queries, refusals, told, session_after, one_if, with_line, nothing}
+use Rattle.earlybird.specs.Text.{output_of, body_from, body, answer_line}
 
 flat_map-push : (rs : List Reading) (r : Reading) → flat_map documents_in (rs ++ r ∷ []) ≡ flat_map documents_in rs ++ documents_in r
 flat_map-push [] r = append-nil (documents_in r)

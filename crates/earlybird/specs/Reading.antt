@@ -1,5 +1,5 @@
 -- What the lines of an input are.
-use Rattle.std.specs.Prelude.{◌≡◌, ℕ, List, []}
+use Rattle.std.specs.Prelude.{ℕ}
 use Rattle.eb_base.specs.Document.{Doc}
 use Rattle.eb_base.specs.Query.{Tree}
 use Rattle.earlybird.specs.declared.refusal.Refusal.{Refusal}

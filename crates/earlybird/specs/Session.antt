@@ -1,7 +1,6 @@
 -- What is known after some lines: how many they are, and what they were.
 use Rattle.std.specs.Prelude.{ℕ, ◌+◌, Bool, true, false, List, [], ◌∷◌, ◌++◌, length, count_by, flat_map, take, if◌then◌else◌}
 use Rattle.eb_base.specs.Document.{Doc}
-use Rattle.eb_base.specs.Query.{Tree}
 use Rattle.earlybird.specs.Reading.{Reading, blank, document, query, refused}
 
 -- the document of a line, if it is one

@@ -13,8 +13,8 @@ use Rattle.earlybird.specs.declared.work.Upcoming.TheVariants as next
 use Rattle.earlybird.specs.Reading.{Reading}
 use Rattle.earlybird.specs.Reads.{Reads}
 use Rattle.earlybird.specs.Works.{reading_of}
-use Rattle.earlybird.specs.Session.{Session, session_after, told, with_line}
-use Rattle.earlybird.specs.Text.{body, output_of, summary}
+use Rattle.earlybird.specs.Session.{Session, session_after, told}
+use Rattle.earlybird.specs.Text.{body, summary}
 use Rattle.earlybird.specs.Output.{AreRead, IsBodyOf, IsTextOf, HasRefusal, HasNoRefusal}
 
 -- what comes next, where these bytes are taken by now and these lines were given before

@@ -51,7 +51,7 @@ unfolding all_slices
 all_slices_cost p k h ts = omega (arith, scaled (λ u. slices p (count_of u ts)) (λ u. count_of u ts) k 0 (λ u. h (count_of u ts)) (distinct ts), total_count ts)
 
 -- the text words
-text_cost : (ts : List Term) → 8 * sum_by text_words (distinct ts) ≤ sum_by length ts + 15 * length ts
+pub text_cost : (ts : List Term) → 8 * sum_by text_words (distinct ts) ≤ sum_by length ts + 15 * length ts
 text_cost ts = omega (arith, scaled text_words length 8 15 (λ u. omega arith) (distinct ts), sum_distinct length ts, length_distinct ts)
 
 terms_of_one : (d : Doc) → terms_of (d ∷ []) ≡ d.terms

@@ -1,2 +1,4 @@
 pub mod Parts
 pub mod Matching
+pub mod Recounts
+pub mod HistoryCuts

@@ -1,9 +1,8 @@
 -- The test of a match decides the match.
-use Rattle.std.proofs.Common.{◌≡◌, ℕ, zero, suc, ◌&&◌, ◌||◌, ◌⊎◌, inl, inr, Bool, true, false, List, [], ◌∷◌, length, take, drop, bytes_eq, refl, sym, ap, ◌∙◌}
-use Rattle.std.specs.Prelude.{not}
+use Rattle.std.proofs.Common.{◌≡◌, ℕ, zero, suc, inl, inr, true, List, [], ◌∷◌, length, take, drop, bytes_eq, refl, sym, ap, ◌∙◌}
 use Rattle.std.specs.Bool.{Decides}
-use Rattle.std.specs.List.{list_any, starts_with, Contains}
-use Rattle.std.proofs.lemmas.Bool.{cases_Bool, or_cases, or_left, or_right, and_parts, and_from, not-true, not_from_false, false_from_ne_true}
+use Rattle.std.specs.List.{starts_with}
+use Rattle.std.proofs.lemmas.Bool.{or_cases, or_left, or_right, and_parts, and_from, not-true, not_from_false, false_from_ne_true}
 use Rattle.std.proofs.lemmas.Cmp.{nat_list_eq_equiv}
 use Rattle.std.proofs.lemmas.Map.Views.{list_any-from_Contains, Contains-from_any}
 use Rattle.std.proofs.lemmas.Slice.Eq.{slice_eq-Decides, bytes_eq-Decides}
@@ -22,8 +21,9 @@ drop_nil (suc i) = refl
 stands_at : (p ts : List (List ℕ)) → has_phrase p ts ≡ true → (i : ℕ) × (take (length p) (drop i ts) ≡ p)
 stands_at p [] h = (0, sym ((begins [] p).0 h))
 stands_at p (t ∷ ts) h = elim (or_cases (starts_with bytes_eq (t ∷ ts) p) (has_phrase p ts) h) [
-    inl here ↦ (0, sym ((begins (t ∷ ts) p).0 here))
-  | inr there ↦ let rest = stands_at p ts there in (suc rest.0, rest.1) ]
+  | inl here ↦ (0, sym ((begins (t ∷ ts) p).0 here))
+  | inr there ↦ let rest = stands_at p ts there in (suc rest.0, rest.1)
+]
 
 found_at : (p ts : List (List ℕ)) (i : ℕ) → take (length p) (drop i ts) ≡ p → has_phrase p ts ≡ true
 found_at p [] i e = (begins [] p).1 (sym e ∙ ap (take (length p)) (drop_nil i))
@@ -49,6 +49,7 @@ mutual
   some_decides : (qs : Trees) (d : Doc) → Decides (some_matches qs d.terms) (SomeMatches qs d)
   some_decides no_trees d = (λ h. let no : ⊥ = cc in no, λ h. absurd h)
   some_decides (trees q qs) d =
-      let own = match_decides q d in let rest = some_decides qs d in
-      (λ h. elim (or_cases _ _ h) [ inl here ↦ inl (own.0 here) | inr there ↦ inr (rest.0 there) ],
-       λ h. elim h [ inl here ↦ or_left _ _ (own.1 here) | inr there ↦ or_right _ _ (rest.1 there) ])
+      let own = match_decides q d in let rest = some_decides qs d in (
+        λ h. elim (or_cases _ _ h) [ inl here ↦ inl (own.0 here) | inr there ↦ inr (rest.0 there) ],
+        λ h. elim h [ inl here ↦ or_left _ _ (own.1 here) | inr there ↦ or_right _ _ (rest.1 there) ],
+      )

@@ -1,5 +1,5 @@
 -- The parts of a query, one after another.
-use Rattle.std.proofs.Common.{◌≡◌, ℕ, ◌+◌, ◌<◌, ◌&&◌, ◌||◌, List, map, drop, length, get_or, refl, drop-cons, add-one}
+use Rattle.std.proofs.Common.{◌≡◌, ℕ, ◌+◌, ◌<◌, ◌&&◌, ◌||◌, List, map, drop, length, get_or, drop-cons, add-one}
 use Rattle.eb_base.specs.Query.{tree, trees_of}
 use Rattle.eb_base.specs.Match.{is_match, each_matches, some_matches}
 use Rattle.eb_base.specs.declared.query.Query.{Query}

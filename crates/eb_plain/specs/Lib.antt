@@ -1,0 +1,2 @@
+pub mod TermRoom
+pub mod Cutting

@@ -1,11 +1,16 @@
 //! The plain, slow programs that are the definitions: each body here walks lists and has a
-//! definition as its whole contract. They are what the index is compared with, and they answer no
-//! search once the index does.
+//! definition as its whole contract: which documents match, what the answer is, which document fits
+//! and how a history is cut. They are what the index is compared with.
 #![tactic(auto)]
 
 mod answers;
+mod history;
+mod room;
 mod scan;
-
+#[cfg(test)]
+mod tests;
 
 pub use answers::newest;
+pub use history::{cut, has_room};
+pub use room::fits;
 pub use scan::is_match;

@@ -54,7 +54,7 @@ fn some_matches(parts: &Queries, terms: &[Term]) -> bool
 }
 
 // Whether the term is one of these.
-fn has_term(terms: &[Term], term: &Term) -> bool
+pub(crate) fn has_term(terms: &[Term], term: &Term) -> bool
     ensures { result ≡ list_any (bytes_eq term.now) terms.now }
 {
     terms.iter().any(|own| term == own)

@@ -1,4 +1,4 @@
-use Rattle.std.proofs.Common.{◌≡◌, ◌+◌, ◌-◌, ◌<◌, ◌≤◌, [], ◌++◌, refl, sym, ap, ◌∙◌, le_refl, le_trans, arith}
+use Rattle.std.proofs.Common.{refl, ap, le_refl, le_trans, arith}
 use Rattle.eb_io.specs.Held.{Held}
 use Rattle.earlybird.specs.Session.{Session}
 use Rattle.earlybird.specs.Works.{reading_of}

@@ -1,5 +1,5 @@
-use Rattle.std.proofs.Common.{◌≡◌, List, ℕ, refl, subst, inl, inr}
-use Rattle.eb_io.specs.Lines.{Line, line, long_line}
+use Rattle.std.proofs.Common.{List, ℕ, refl, subst}
+use Rattle.eb_io.specs.Lines.{line, long_line}
 use Rattle.earlybird.specs.Reads.{Reads}
 use Rattle.earlybird.specs.Works.{reading_of}
 use Rattle.earlybird.proofs.work.next_work.Goals as goal

@@ -1,9 +1,7 @@
-use Rattle.std.proofs.Common.{◌≡◌, ℕ, List, refl, subst, sym}
-use Rattle.std.specs.Prelude.{Result, IfOk}
-use Rattle.eb_base.specs.declared.memory.NoMemory.{NoMemory}
-use Rattle.earlybird.specs.declared.work.Work.{Work}
+use Rattle.std.proofs.Common.{ℕ, List, refl, subst, sym}
+use Rattle.std.specs.Prelude.{IfOk}
 use Rattle.earlybird.specs.declared.refusal.Refusal.TheVariants.{BadLine}
-use Rattle.earlybird.specs.Kinds.{Kind, query_line, kind_of}
+use Rattle.earlybird.specs.Kinds.{Kind, query_line}
 use Rattle.earlybird.specs.Reading.{refused}
 use Rattle.earlybird.specs.Reads.{ReadsByKind}
 use Rattle.earlybird.specs.Works.{reading_of}

@@ -1,4 +1,4 @@
-use Rattle.std.proofs.Common.{◌≡◌, List, map, drop}
+use Rattle.std.proofs.Common.{◌≡◌, map, drop}
 use Rattle.eb_base.specs.Query.{tree, parts_of, trees_of}
 use Rattle.eb_base.specs.Match.{each_matches, some_matches}
 use Rattle.eb_plain.proofs.scan.+matches.Given as goal
