@@ -59,7 +59,7 @@ output_same number n m docs docs' (document d) e f = refl
 output_same number n m docs docs' (query k q) e f = ap₂ (λ s ds. answer_line number s (answer q k ds)) e (f ∙ ap (λ s. take s docs') e)
 output_same number n m docs docs' (refused x) e f = refl
 
-body_same : (n m : ℕ → ℕ) (docs docs' : List Doc) (j : ℕ) (rs : List Reading) → ((i : ℕ) → j ≤ i → i < j + length rs → (n i ≡ m i) × (take (n i) docs ≡ take (n i) docs'))
+pub body_same : (n m : ℕ → ℕ) (docs docs' : List Doc) (j : ℕ) (rs : List Reading) → ((i : ℕ) → j ≤ i → i < j + length rs → (n i ≡ m i) × (take (n i) docs ≡ take (n i) docs'))
     → body_from n docs j rs ≡ body_from m docs' j rs
 unfolding body_from
 body_same n m docs docs' j [] h = refl

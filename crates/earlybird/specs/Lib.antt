@@ -8,3 +8,4 @@ pub mod Output
 pub mod Worked
 pub mod Command
 pub mod StatusLine
+pub mod Laws

@@ -2,6 +2,7 @@
 //! the answers on standard output.
 #![tactic(auto)]
 
+mod laws;
 mod printed;
 mod printing;
 mod refusal;
@@ -14,6 +15,7 @@ mod work;
 
 use eb_base::OpenGate;
 use eb_io::{StdSink, StdSource};
+pub use laws::{one_text, some_text};
 pub use refusal::Refusal;
 pub use run::run;
 pub use status::Status;

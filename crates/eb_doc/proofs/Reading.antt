@@ -1,12 +1,15 @@
 -- What a document line is, step by step.
-use Rattle.std.proofs.Common.{◌≡◌, ℕ, List, Option, Some, None, ap, ◌∙◌, inl, inr}
-use Rattle.std.specs.Prelude.{IsUtf8, if◌then◌else◌}
+use Rattle.std.proofs.Common.{◌≡◌, ℕ, ◌||◌, Bool, true, false, refl, length, List, Option, Some, None, ap, ◌∙◌, inl, inr}
+use Rattle.std.specs.Prelude.{IsUtf8, if◌then◌else◌, nat_lt, Ok, Err}
 use Rattle.std.specs.Str.{is_utf8}
 use Rattle.std.proofs.lemmas.Bool.{cases_Bool}
 use Rattle.std.proofs.lemmas.Str.{IsUtf8-from_is_utf8, is_utf8-from_IsUtf8}
 use Rattle.serde_json.specs.Data.{Data}
 use Rattle.serde_json.specs.Read.{read}
-use Rattle.eb_doc.specs.DocumentLine.{value_of, with_value, document_of}
+use Rattle.eb_base.specs.Document.{bytes_of}
+use Rattle.eb_text.specs.Tokens.{tokens_of}
+use Rattle.eb_doc.specs.declared.LineFault.TheVariants.{TooLong, NoMemory}
+use Rattle.eb_doc.specs.DocumentLine.{value_of, id_in, text_in, message, with_members, with_value, document_of}
 
 pub value_some : (line : List ℕ) (v : Data) → IsUtf8 line → read line ≡ Some v → value_of line ≡ Some v
 unfolding value_of
@@ -22,3 +25,24 @@ value_none line h = elim (cases_Bool (is_utf8 line)) [
 pub document_by_value : (line : List ℕ) (value : Option Data) → value_of line ≡ value → document_of line ≡ with_value value
 unfolding document_of
 document_by_value line value e = ap with_value e
+
+-- no line is read as want of memory
+no_memory_message : (id : ℕ) (terms : List (List ℕ)) → message id terms ≡ Err NoMemory → ⊥
+no_memory_message id terms = by_test (nat_lt 256 (length terms) || nat_lt 4096 (bytes_of terms)) refl
+  where
+    by_test : (b : Bool) → nat_lt 256 (length terms) || nat_lt 4096 (bytes_of terms) ≡ b → message id terms ≡ Err NoMemory → ⊥
+    by_test true e h = let is : message id terms ≡ Err TooLong = rw e refl in let no : ⊥ = cc in no
+    by_test false e h = let is : message id terms ≡ Ok (record { id = id; terms = terms }) = rw e refl in let no : ⊥ = cc in no
+
+no_memory_members : (id : Option ℕ) (t : Option (List ℕ)) → with_members id t ≡ Err NoMemory → ⊥
+no_memory_members (Some id) (Some t) h = no_memory_message id (tokens_of t) h
+no_memory_members (Some id) None h = let no : ⊥ = cc in no
+no_memory_members None t h = let no : ⊥ = cc in no
+
+pub document_of-no_memory : (bytes : List ℕ) → document_of bytes ≡ Err NoMemory → ⊥
+unfolding document_of
+document_of-no_memory bytes = go (value_of bytes)
+  where
+    go : (v : Option Data) → with_value v ≡ Err NoMemory → ⊥
+    go None h = let no : ⊥ = cc in no
+    go (Some v) h = no_memory_members (id_in v) (text_in v) h

@@ -1,0 +1,86 @@
+-- An input has exactly one text.
+use Rattle.std.proofs.Common.{◌≡◌, ℕ, ◌<◌, ◌≤◌, ◌||◌, Bool, true, false, List, [], ◌∷◌, ◌++◌, length, Option, Some, None, refl, sym, ap, ap₂, subst, ◌∙◌, arith, inl, inr}
+use Rattle.std.specs.Prelude.{Result, Ok, Err, nat_lt, if◌then◌else◌}
+use Rattle.std.specs.List.{AllZip}
+use Rattle.std.proofs.lemmas.Bool.{cases_Bool}
+use Rattle.eb_base.specs.Document.{Doc, bytes_of}
+use Rattle.eb_io.specs.Lines.{Line, line, long_line, lines_of}
+use Rattle.eb_doc.specs.DocumentLine.{document_of}
+use Rattle.eb_doc.proofs.Reading.{document_of-no_memory}
+use Rattle.eb_doc.specs.declared.LineFault.{LineFault}
+use Rattle.eb_doc.specs.declared.LineFault.TheVariants as fault
+use Rattle.eb_query.specs.Reading.{Outcome, ReadsAs}
+use Rattle.eb_query.proofs.OneOutcome.{one_outcome}
+use Rattle.eb_query.proofs.SomeOutcome.{some_outcome}
+use Rattle.earlybird.specs.declared.refusal.Refusal.TheVariants.{BadLine, LongLine, BadJson, BadDocument, TooLong}
+use Rattle.earlybird.specs.Kinds.{Kind, blank_line, document_line, query_line, bad_line, kind_of}
+use Rattle.earlybird.specs.Reading.{Reading, blank, document, query, refused}
+use Rattle.earlybird.specs.Reads.{Reads, ReadsByKind, IsOfDocument, of_query}
+use Rattle.earlybird.specs.Session.{accepted, told, session_after}
+use Rattle.earlybird.specs.Text.{body, text, summary}
+use Rattle.earlybird.specs.Output.{AreRead, SeesInOrder, IsTextOf, IsOutput}
+use Rattle.earlybird.proofs.Texts.{body_same}
+
+-- ---- a line has one reading
+
+one_document : (d : Result Doc LineFault) (a b : Reading) → IsOfDocument d a → IsOfDocument d b → a ≡ b
+one_document (Ok d) a b e f = e ∙ sym f
+one_document (Err fault.BadJson) a b e f = e ∙ sym f
+one_document (Err fault.BadDocument) a b e f = e ∙ sym f
+one_document (Err fault.TooLong) a b e f = e ∙ sym f
+one_document (Err fault.NoMemory) a b e f = absurd e
+
+one_by_kind : (k : Kind) (bytes : List ℕ) (a b : Reading) → ReadsByKind k bytes a → ReadsByKind k bytes b → a ≡ b
+one_by_kind blank_line bytes a b e f = e ∙ sym f
+one_by_kind document_line bytes a b e f = one_document (document_of bytes) a b e f
+one_by_kind query_line bytes a b e f = e.2 ∙ ap of_query (one_outcome bytes e.0 f.0 e.1 f.1) ∙ sym f.2
+one_by_kind bad_line bytes a b e f = e ∙ sym f
+
+one_reading : (l : Line) (a b : Reading) → Reads l a → Reads l b → a ≡ b
+one_reading (line bytes) a b e f = one_by_kind (kind_of bytes) bytes a b e f
+one_reading long_line a b e f = e ∙ sym f
+
+all_read : (ls : List Line) (rs ss : List Reading) → AreRead ls rs → AreRead ls ss → rs ≡ ss
+all_read [] [] [] e f = refl
+all_read [] [] (s ∷ ss) e f = absurd f
+all_read [] (r ∷ rs) ss e f = absurd e
+all_read (l ∷ ls) [] ss e f = absurd e
+all_read (l ∷ ls) (r ∷ rs) [] e f = absurd f
+all_read (l ∷ ls) (r ∷ rs) (s ∷ ss) e f = ap₂ (λ x xs. x ∷ xs) (one_reading l r s e.0 f.0) (all_read ls rs ss e.1 f.1)
+
+-- the text by the numbers in order
+in_order : (n : ℕ → ℕ) (rs : List Reading) → SeesInOrder rs n → text n rs ≡ text (told rs) rs
+in_order n rs order = ap (λ b. b ++ summary (session_after rs)) (body_same n (told rs) (accepted rs) (accepted rs) 0 rs (λ i low high. (order i, refl)))
+
+pub one_text_of : (lines : List Line) (a b : List ℕ) → IsTextOf lines a → IsTextOf lines b → a ≡ b
+one_text_of lines a b p q =
+    let same = all_read lines p.readings q.readings p.read q.read in
+    p.bytes ∙ in_order p.numbers p.readings p.order ∙ ap (λ rs. text (told rs) rs) same ∙ sym (q.bytes ∙ in_order q.numbers q.readings q.order)
+
+-- ---- a line has a reading
+
+some_document : (d : Result Doc LineFault) → (d ≡ Err fault.NoMemory → ⊥) → (r : Reading) × IsOfDocument d r
+some_document (Ok d) h = (document d, refl)
+some_document (Err fault.BadJson) h = (refused BadJson, refl)
+some_document (Err fault.BadDocument) h = (refused BadDocument, refl)
+some_document (Err fault.TooLong) h = (refused TooLong, refl)
+some_document (Err fault.NoMemory) h = absurd (h refl)
+
+some_by_kind : (k : Kind) (bytes : List ℕ) → (r : Reading) × ReadsByKind k bytes r
+some_by_kind blank_line bytes = (blank, refl)
+some_by_kind document_line bytes = some_document (document_of bytes) (document_of-no_memory bytes)
+some_by_kind query_line bytes = let o = some_outcome bytes in (of_query o.0, (o.0, o.1, refl))
+some_by_kind bad_line bytes = (refused BadLine, refl)
+
+some_reading : (l : Line) → (r : Reading) × Reads l r
+some_reading (line bytes) = some_by_kind (kind_of bytes) bytes
+some_reading long_line = (refused LongLine, refl)
+
+some_read : (ls : List Line) → (rs : List Reading) × AreRead ls rs
+some_read [] = ([], tt)
+some_read (l ∷ ls) = let r = some_reading l in let rs = some_read ls in (r.0 ∷ rs.0, (r.1, rs.1))
+
+pub some_text_of : (lines : List Line) → (printed : List ℕ) × IsTextOf lines printed
+some_text_of lines =
+    let rs = some_read lines in
+    (text (told rs.0) rs.0, record { readings = rs.0; numbers = told rs.0; read = rs.1; order = λ j. refl; bytes = refl })

@@ -1,0 +1,6 @@
+use Rattle.eb_io.specs.Lines.{lines_of}
+use Rattle.earlybird.proofs.OneOutput.{one_text_of}
+use Rattle.earlybird.proofs.laws.one_text.Goals as goal
+
+pub returns : goal.returns
+returns c = λ bytes. one_text_of (lines_of bytes)

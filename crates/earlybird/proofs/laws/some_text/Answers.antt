@@ -1,0 +1,6 @@
+use Rattle.eb_io.specs.Lines.{lines_of}
+use Rattle.earlybird.proofs.OneOutput.{some_text_of}
+use Rattle.earlybird.proofs.laws.some_text.Goals as goal
+
+pub returns : goal.returns
+returns c = λ bytes. some_text_of (lines_of bytes)
