@@ -40,6 +40,7 @@ pub mod Entries
 pub mod Texts
 pub mod CellsOf
 pub mod Dictionary
+pub mod EnteredTerms
 pub mod Telling
 pub mod VectorsHashes
 pub mod VectorsBlocks
