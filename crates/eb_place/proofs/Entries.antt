@@ -86,7 +86,8 @@ row_entries : (s i : ℕ) (vs : List ℕ) → Each (λ (y : Store). is_entry s y
 row_entries s i [] = none
 row_entries s i (v ∷ vs) = more (text_entry s i v) (row_entries s (i + 1) vs)
 
-enter_entries : (σ : Setting) (s : ℕ) (terms : List Term) (t : Term) → Each (λ (y : Store). is_entry s y ≡ true) (enter_stores σ s terms t)
+-- all stores that enter a term are entries
+pub enter_entries : (σ : Setting) (s : ℕ) (terms : List Term) (t : Term) → Each (λ (y : Store). is_entry s y ≡ true) (enter_stores σ s terms t)
 unfolding enter_stores
 enter_entries σ s terms t = Each-append (row_entries s (sum_by text_words terms) (text_of t)) (more (text_place_entry s (length terms) (sum_by text_words terms)) (more (cell_entry s (cell_of_next (2 * σ.terms) terms t) (length terms + 1)) none))
 
