@@ -12,3 +12,6 @@ mod texts;
 pub use entering::enter;
 pub use finding::find;
 pub use hashing::home;
+
+#[cfg(test)]
+mod tests;
