@@ -51,7 +51,8 @@ fields (suc (suc zero)) o x a h l k e = (omega arith, omega arith)
 fields (suc (suc (suc zero))) o x a h l k e = (omega arith, omega arith)
 fields (suc (suc (suc (suc p)))) o x a h l k e = absurd (omega arith)
 
-told : (f a : ℕ) → Parts f a → (address_pool a ≡ pool_at f) × (address_offset a ≡ offset_at f)
+-- the parts of the address of a posting
+pub told : (f a : ℕ) → Parts f a → (address_pool a ≡ pool_at f) × (address_offset a ≡ offset_at f)
 told f a h = let w = fields (pool_at f) (offset_at f) h.slice a (pool_low f) (offset_in f) h.inside h.is in
     (w.0, ap (λ p. a % 2 ^ slice_bits p) w.0 ∙ w.1)
 

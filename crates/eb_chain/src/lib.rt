@@ -3,5 +3,10 @@
 #![tactic(auto)]
 
 mod chain;
+mod new_slices;
 
 pub use chain::Chain;
+pub use new_slices::{NewSlices, needs};
+
+#[cfg(test)]
+mod tests;
