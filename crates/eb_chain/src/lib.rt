@@ -4,9 +4,12 @@
 
 mod chain;
 mod new_slices;
+mod next_place;
+mod writing;
 
 pub use chain::Chain;
 pub use new_slices::{NewSlices, needs};
+pub use writing::append;
 
 #[cfg(test)]
 mod tests;

@@ -1,5 +1,4 @@
-use Rattle.std.proofs.Common.{◌≡◌, ◌+◌, ◌-◌, ◌≤◌, ap, sym, ◌∙◌, subst, arith}
-use Rattle.eb_place.specs.Layout.{address_pool, address_offset}
+use Rattle.std.proofs.Common.{◌+◌, ap, sym, ◌∙◌, subst, arith}
 use Rattle.eb_chain.specs.Needs.{HasLike}
 use Rattle.eb_chain.proofs.Likes.{tail_small, like_0, like_1, like_2, like_3}
 use Rattle.eb_chain.proofs.new_slices.least_before.Goals as goal
