@@ -3,11 +3,13 @@
 #![tactic(auto)]
 
 mod chain;
+mod laws;
 mod new_slices;
 mod next_place;
 mod writing;
 
 pub use chain::Chain;
+pub use laws::reached_words_stay;
 pub use new_slices::{NewSlices, needs};
 pub use writing::append;
 
