@@ -1,8 +1,8 @@
 -- The cells of the terms of a segment: one a term, each the first free one from the term's home cell on.
-use Rattle.std.proofs.Common.{◌≡◌, ℕ, zero, suc, ◌+◌, ◌*◌, ◌<◌, ◌≤◌, ◌==◌, ◌||◌, Bool, true, false, List, [], ◌∷◌, ◌++◌, length, take, get_or, refl, ap, sym, ◌∙◌, subst, arith, inl, inr, append-nil, append_assoc}
+use Rattle.std.proofs.Common.{◌≡◌, ℕ, zero, suc, ◌<◌, ◌≤◌, ◌==◌, ◌||◌, Bool, true, false, List, [], ◌∷◌, ◌++◌, length, get_or, refl, ap, sym, ◌∙◌, subst, arith, inl, inr, append-nil, append_assoc}
 use Rattle.std.specs.List.{position_or_len}
-use Rattle.std.proofs.lemmas.Bool.{cases_Bool, cases_lt, false≢true, eq-eqb, eqb-true}
-use Rattle.std.proofs.lemmas.List.{length_push, length-append, take-append-le, take_at, get_or_append_left}
+use Rattle.std.proofs.lemmas.Bool.{cases_lt, false≢true, eq-eqb, eqb-true}
+use Rattle.std.proofs.lemmas.List.{length_push, length-append, get_or_append_left}
 use Rattle.std.proofs.lemmas.List.Sums.{fold_push, passes_at_first}
 use Rattle.std.proofs.Math.Seq.{get_or-append_seam}
 use Rattle.std.proofs.Math.Nat.{mod-lt}
@@ -10,7 +10,7 @@ use mathlib.Core.List.{IsPrefix}
 use Rattle.eb_base.specs.Term.{Term}
 use Rattle.eb_place.specs.Placing.{cells_of, with_cell, cell_of_next, free_from, hash, home_cell}
 use Rattle.eb_place.proofs.Counts.{by_push}
-use Rattle.eb_place.proofs.Cells.{is_taken, cell_at, Found, free_from_is, free_from_free, position_in}
+use Rattle.eb_place.proofs.Cells.{is_taken, cell_at, free_from_is, free_from_free, position_in}
 use Rattle.eb_place.proofs.Prefixes.{prefix_trans}
 use Rattle.eb_place.proofs.Within.{cell_within}
 

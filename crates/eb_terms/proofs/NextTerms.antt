@@ -1,10 +1,9 @@
 -- What the stores that enter a term change.
-use Rattle.std.proofs.Common.{◌≡◌, ℕ, zero, suc, ◌+◌, ◌-◌, ◌*◌, ◌/◌, ◌^◌, ◌<◌, ◌≤◌, Bool, true, false, cond, List, [], ◌∷◌, ◌++◌, length, take, drop, filter, get_or, count_by, sum_by, refl, ap, sym, ◌∙◌, subst, arith, inl, inr, append-nil, append_assoc, slice_get, Option, Some, None}
+use Rattle.std.proofs.Common.{◌≡◌, ℕ, zero, suc, ◌+◌, ◌*◌, ◌/◌, ◌^◌, ◌<◌, ◌≤◌, Bool, cond, List, [], ◌∷◌, ◌++◌, length, take, drop, filter, get_or, count_by, sum_by, refl, ap, sym, ◌∙◌, subst, arith, slice_get, Some}
 use Rattle.std.proofs.lemmas.List.{length_push, length-append, take_all, take_at}
-use Rattle.std.proofs.lemmas.List.Elements.{filter-append, Contains-push}
+use Rattle.std.proofs.lemmas.List.Elements.{filter-append}
 use Rattle.std.proofs.lemmas.List.Sums.{sum_by-append, sum_by_push, length-filter}
 use Rattle.std.proofs.Math.Seq.{get_or-append_seam}
-use mathlib.Core.List.{IsPrefix}
 use Rattle.eb_base.specs.Term.{Term, AreBytes}
 use Rattle.eb_base.specs.Document.{Doc}
 use Rattle.eb_base.specs.Setting.{Setting}
@@ -21,7 +20,7 @@ use Rattle.eb_place.specs.Placing.{Store, in_row, text_of, enter_stores, cell_of
 use Rattle.eb_place.specs.Moments.{with_current, current_of, document_stores, IsMoment}
 use Rattle.eb_place.specs.Later.{IsNotBefore}
 use Rattle.eb_place.specs.NextStores.{stores_done, IsNext, after_store}
-use Rattle.eb_place.specs.Seen.{segment, is_in, stores_in_region, entered, tokens_seen}
+use Rattle.eb_place.specs.Seen.{is_in, stores_in_region, entered, tokens_seen}
 use Rattle.eb_place.specs.Tells.{TellsSegment}
 use Rattle.eb_place.proofs.Fresh.{Each, Each-append}
 use Rattle.eb_place.proofs.Fresh.Each.{none, more}
@@ -34,11 +33,10 @@ use Rattle.eb_place.proofs.Laters.{later_on}
 use Rattle.eb_place.proofs.Regions.{filter_none, filter_whole}
 use Rattle.eb_place.proofs.Entries.{is_entry, enter_entries, in_region}
 use Rattle.eb_place.proofs.Texts.{HasTerms, Texts, length-text_of, texts_done, text_stores, enter_split, text_stores_behind}
-use Rattle.eb_place.proofs.Dictionary.{Done, entered_done_is, entered_whole, Whole}
-use Rattle.eb_place.proofs.EnteredTerms.{entered_later, entered_bytes, text_same, entered_at, number_is}
-use Rattle.eb_terms.specs.Finding.{HasNumber, cells_in}
+use Rattle.eb_place.proofs.Dictionary.{entered_done_is, entered_whole}
+use Rattle.eb_place.proofs.EnteredTerms.{entered_later, entered_bytes, text_same}
+use Rattle.eb_terms.specs.Finding.{cells_in}
 use Rattle.eb_terms.specs.Entering.{AreNext, IsNextTerm, IsNextText, with_placed, with_stores, HasEntered}
-use Rattle.eb_terms.proofs.Reading.{AreSame}
 use Rattle.eb_terms.proofs.Probing.{has_number}
 use Rattle.eb_terms.proofs.Storing.{After, GoesOn, goes_on, placed_after, placed_next, placed_more, next_as, get_at, next_front}
 use Rattle.eb_terms.proofs.Tails.{enter_not_tail, tokens_same}

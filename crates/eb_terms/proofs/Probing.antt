@@ -1,5 +1,5 @@
 -- Cells that a search has passed.
-use Rattle.std.proofs.Common.{◌≡◌, ℕ, zero, suc, ◌+◌, ◌-◌, ◌*◌, ◌%◌, ◌<◌, ◌≤◌, ◌⊎◌, Bool, true, false, List, [], ◌∷◌, ◌++◌, length, get_or, min, refl, ap, sym, ◌∙◌, subst, arith, inl, inr, nat_lt, Some}
+use Rattle.std.proofs.Common.{◌≡◌, refl, ℕ, zero, suc, ◌+◌, ◌*◌, ◌%◌, ◌<◌, ◌≤◌, ◌⊎◌, Bool, true, false, List, [], ◌∷◌, length, take, get_or, ap, sym, ◌∙◌, subst, arith, inl, inr, Option, Some, None}
 use Rattle.std.specs.List.{prefix_len, range_with_len}
 use Rattle.std.proofs.lemmas.Bool.{cases_Bool, cases_lt, false≢true, lt-ltb}
 use Rattle.std.proofs.lemmas.List.FromFn.{get_or-range_with_len, length-range_with_len}
@@ -11,19 +11,21 @@ use Rattle.eb_place.specs.Layout.{place}
 use Rattle.eb_place.specs.Layout.Slot.{slot}
 use Rattle.eb_place.specs.Layout.Region.{cell_region}
 use Rattle.eb_place.specs.Postings.{number_of, terms_of}
-use Rattle.eb_place.specs.Room.{text_words}
-use Rattle.eb_place.specs.Placing.{cells_of, cell_of_next, home_cell, hash, text_of}
-use Rattle.eb_place.specs.Moments.{word, IsMoment}
+use Rattle.eb_place.specs.Room.{cut, text_words}
+use Rattle.eb_place.specs.Placing.{cells_of, cell_of_next, home_cell, text_of}
+use Rattle.eb_place.specs.Moments.{word, IsMoment, empty_moment}
 use Rattle.eb_place.specs.Later.{IsNotBefore}
-use Rattle.eb_place.specs.Seen.{segment, entered, IsEntered}
+use Rattle.eb_place.specs.Seen.{segment, entered, IsEntered, stores_in_region}
+use Rattle.eb_place.proofs.Counts.{distinct-nil}
+use Rattle.std.proofs.lemmas.List.{take_all}
 use Rattle.eb_place.proofs.Cells.{is_taken}
 use Rattle.eb_place.proofs.CellsOf.{taken_where, taken_stays, cell_taken, next_is, next_not_all, length-cells_of, cell_stays, steps_to, cell_of_one}
 use Rattle.eb_place.proofs.Placed.{setting_terms}
-use Rattle.eb_place.proofs.Texts.{HasTerms, length-text_of}
-use Rattle.eb_place.proofs.Dictionary.{Dictionary, dictionary}
-use Rattle.eb_place.proofs.EnteredTerms.{entered_later, is_entered_later, number_found, number_is, entered_at}
-use Rattle.eb_terms.specs.Finding.{HasNumber, cells_in, is_filled, filled_run, most_loads}
-use Rattle.eb_terms.specs.Comparing.{term_at, cell_of, IsNumber, Holds, words_compared}
+use Rattle.eb_place.proofs.Texts.{length-text_of}
+use Rattle.eb_place.proofs.Dictionary.{dictionary}
+use Rattle.eb_place.proofs.EnteredTerms.{entered_later, number_found, number_is, entered_at}
+use Rattle.eb_terms.specs.Finding.{HasNumber, IsAnswer, cells_in, is_filled, filled_run, most_loads}
+use Rattle.eb_terms.specs.Comparing.{term_at, cell_of, IsNumber, words_compared}
 use Rattle.eb_terms.proofs.Reading.{number_later, same_term_later}
 
 -- the cell that is tried after i others
@@ -205,3 +207,15 @@ some_free m s t k is h all taken =
     let few = (dictionary m s is h).room.few in
     let some = (setting_terms m.setting is.setting).0 in
     next_not_all (cells_in m) (entered m s) t k (omega arith) (omega arith) taken
+
+-- ---- an index without a document
+
+none_entered : (σ : Setting) (s : ℕ) → entered (empty_moment σ) s ≡ []
+unfolding entered cut terms_of
+none_entered σ zero = ap (take (stores_in_region (empty_moment σ) 0 cell_region)) distinct-nil ∙ take_all (stores_in_region (empty_moment σ) 0 cell_region) [] (omega arith)
+none_entered σ (suc s) = ap (take (stores_in_region (empty_moment σ) (suc s) cell_region)) distinct-nil ∙ take_all (stores_in_region (empty_moment σ) (suc s) cell_region) [] (omega arith)
+
+-- a search that begins and ends without a document answers none
+pub nothing_found : (σ : Setting) (s : ℕ) (t : Term) (answer : Option ℕ) → IsAnswer (empty_moment σ) (empty_moment σ) s t answer → answer ≡ None
+nothing_found σ s t None h = refl
+nothing_found σ s t (Some k) h = let j = number_found (empty_moment σ) s t h.entered in absurd (omega (arith, j.1, ap length (none_entered σ s)))

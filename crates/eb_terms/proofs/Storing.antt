@@ -1,15 +1,14 @@
 -- Some stores of a placing, one after the other.
-use Rattle.std.proofs.Common.{◌≡◌, ℕ, zero, suc, ◌+◌, ◌-◌, ◌<◌, ◌≤◌, Bool, true, false, ltb, List, [], ◌∷◌, ◌++◌, length, take, drop, get_or, map, refl, ap, sym, ◌∙◌, subst, arith, inl, inr, append-nil, append_assoc, slice_get, Option, Some, None}
+use Rattle.std.proofs.Common.{◌≡◌, ℕ, zero, suc, ◌+◌, ◌-◌, ◌<◌, ◌≤◌, true, ltb, List, [], ◌∷◌, ◌++◌, length, take, drop, refl, ap, sym, ◌∙◌, subst, arith, inl, inr, append-nil, append_assoc, slice_get, Some}
 use Rattle.std.proofs.lemmas.Bool.{lt-ltb, cases_lt}
 use Rattle.std.proofs.lemmas.List.{length_push, length-append, length-drop}
-use mathlib.Core.List.{IsPrefix}
-use Rattle.eb_base.specs.Document.{Doc, IsDocument}
+use Rattle.eb_base.specs.Document.{Doc}
 use Rattle.eb_base.specs.Setting.{Setting}
 use Rattle.eb_place.specs.declared.moment.Documents.{Documents}
 use Rattle.eb_place.specs.declared.moment.Moment.{Moment}
-use Rattle.eb_place.specs.Layout.{Slot, place}
+use Rattle.eb_place.specs.Layout.{place}
 use Rattle.eb_place.specs.Layout.Slot.{published}
-use Rattle.eb_place.specs.Room.{HasRoom, has_room, cut, with_doc}
+use Rattle.eb_place.specs.Room.{has_room, cut, with_doc}
 use Rattle.eb_place.specs.Placing.{Store, pairs_of, doc_stores, segment_before}
 use Rattle.eb_place.specs.Moments.{document_stores, IsMoment}
 use Rattle.eb_place.specs.Later.{IsNotBefore}

@@ -1,24 +1,22 @@
 -- How many tails of a segment are stored.
-use Rattle.std.proofs.Common.{◌≡◌, ℕ, zero, suc, ◌+◌, ◌-◌, ◌*◌, ◌/◌, ◌%◌, ◌^◌, ◌<◌, ◌≤◌, ◌==◌, ◌&&◌, Bool, true, false, List, [], ◌∷◌, ◌++◌, length, take, filter, count_by, refl, ap, sym, ◌∙◌, subst, arith, inl, inr, append-nil, append_assoc, if◌then◌else◌, nat_le, sum_by}
+use Rattle.std.proofs.Common.{◌≡◌, ℕ, zero, suc, ◌+◌, ◌-◌, ◌*◌, ◌/◌, ◌%◌, ◌^◌, ◌≤◌, ◌==◌, ◌&&◌, false, List, [], ◌∷◌, ◌++◌, length, take, filter, refl, ap, sym, ◌∙◌, arith, inl, inr, append-nil, append_assoc, nat_le, sum_by}
 use Rattle.std.proofs.lemmas.Bool.{cases_Bool, eqb-true}
-use Rattle.std.proofs.lemmas.List.{length_push, length-append, take-append-le}
+use Rattle.std.proofs.lemmas.List.{take-append-le}
 use Rattle.std.proofs.lemmas.List.Elements.{filter-append}
 use Rattle.std.proofs.lemmas.List.Sums.{length-filter}
-use mathlib.Core.List.{IsPrefix}
 use Rattle.eb_base.specs.Term.{Term}
 use Rattle.eb_base.specs.Setting.{Setting}
 use Rattle.eb_place.specs.declared.moment.Moment.{Moment}
-use Rattle.eb_place.specs.Layout.{Region, rank, pool_slot, pool_region}
+use Rattle.eb_place.specs.Layout.{Region, pool_slot, pool_region}
 use Rattle.eb_place.specs.Layout.Slot.{published, slot}
 use Rattle.eb_place.specs.Layout.Region.{first_region, cell_region, text_region, text_place_region, tail_region, id_region}
 use Rattle.eb_place.specs.Postings.{count_of, number_of, distinct, terms_of}
 use Rattle.eb_place.specs.Room.{text_words}
 use Rattle.eb_place.specs.Address.{pool_at, begins, address_of}
-use Rattle.eb_place.specs.Placing.{Store, in_row, text_of, enter_stores, token_stores, cell_of_next}
+use Rattle.eb_place.specs.Placing.{Store, in_row, text_of, enter_stores, cell_of_next}
 use Rattle.eb_place.specs.Moments.{document_stores}
 use Rattle.eb_place.specs.Later.{IsNotBefore}
 use Rattle.eb_place.specs.Seen.{segment, is_in, stores_in_region, tokens_seen}
-use Rattle.eb_place.proofs.Counts.{by_push}
 use Rattle.eb_place.proofs.Fresh.{Each, Each-append, Each-if}
 use Rattle.eb_place.proofs.Fresh.Each.{none, more}
 use Rattle.eb_place.proofs.Reached.{front_stores, tail_store, token_split}

@@ -1,12 +1,12 @@
 -- Where a placing has come to a new term, and the moment after the stores that enter it.
-use Rattle.std.specs.Prelude.{◌≡◌, ℕ, ◌+◌, List, [], ◌∷◌, ◌++◌, length, drop, sum_by, Option, Some}
+use Rattle.std.specs.Prelude.{◌≡◌, ℕ, ◌+◌, List, [], ◌∷◌, ◌++◌, length, drop, Some}
 use mathlib.Core.List.{IsPrefix}
 use Rattle.eb_base.specs.Term.{Term}
 use Rattle.eb_base.specs.Document.{Doc, IsDocument}
 use Rattle.eb_place.specs.declared.moment.Documents.{Documents}
 use Rattle.eb_place.specs.declared.moment.Moment.{Moment}
 use Rattle.eb_place.specs.Layout.Region.{text_region}
-use Rattle.eb_place.specs.Room.{HasRoom, text_words}
+use Rattle.eb_place.specs.Room.{HasRoom}
 use Rattle.eb_place.specs.Placing.{Store, in_row, text_of, enter_stores, doc_stores}
 use Rattle.eb_place.specs.Later.{IsNotBefore}
 use Rattle.eb_place.specs.NextStores.{stores_done, IsCurrent}

@@ -1,12 +1,11 @@
-use Rattle.std.proofs.Common.{◌≡◌, ◌+◌, ◌*◌, ◌<◌, ap, refl, sym, ◌∙◌, subst, arith}
+use Rattle.std.proofs.Common.{◌+◌, ◌<◌, ap, sym, ◌∙◌, subst, arith}
 use Rattle.eb_base.specs.Setting.{Setting}
 use Rattle.eb_place.specs.Layout.{place}
 use Rattle.eb_place.specs.Layout.Slot.{slot}
 use Rattle.eb_place.specs.Layout.Region.{cell_region, text_place_region}
 use Rattle.eb_place.specs.Room.{text_words}
-use Rattle.eb_place.specs.Seen.{entered}
 use Rattle.eb_terms.specs.Entering.{with_placed}
-use Rattle.eb_terms.proofs.NextTerms.{ready, enter_inside, place_next, place_stored, cell_next, cell_stored, enters, enters_tells, term_by, entered_by}
+use Rattle.eb_terms.proofs.NextTerms.{ready, enter_inside, place_next, place_stored, cell_next, cell_stored, enters, enters_tells}
 use Rattle.eb_terms.proofs.entering.enter.Goals as goal
 
 pub free_cell_alone-cell-requires-clause-inside : goal.free_cell_alone-cell-requires-clause-inside
