@@ -145,11 +145,13 @@ around σ docs None d s seg (u ∷ us) later t j cur e w = absurd (
     omega arith
     )
 
-first_within : (σ : Setting) (s : ℕ) (seg : List Doc) (count : ℕ) → s < σ.segments → Each (IsWithin σ) (first_stores s seg count)
+-- the first-document word is a word of the index
+pub first_within : (σ : Setting) (s : ℕ) (seg : List Doc) (count : ℕ) → s < σ.segments → Each (IsWithin σ) (first_stores s seg count)
 unfolding first_stores size
 first_within σ s seg count h = Each-if (length seg == 0) (λ z. more (h, lit< tt) none)
 
-first_plain : (s : ℕ) (seg : List Doc) (count : ℕ) (ts : List Term) → Each (Apart s ts) (first_stores s seg count)
+-- and no posting, link or tail
+pub first_plain : (s : ℕ) (seg : List Doc) (count : ℕ) (ts : List Term) → Each (Apart s ts) (first_stores s seg count)
 unfolding first_stores is_pool is_tail
 first_plain s seg count ts = Each-if (length seg == 0) (λ z. more (plain_apart s ts (slot s first_region 0, count + 1) refl refl) none)
 

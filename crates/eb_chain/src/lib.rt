@@ -9,7 +9,7 @@ mod next_place;
 mod writing;
 
 pub use chain::Chain;
-pub use laws::reached_words_stay;
+pub use laws::{reached_words_stay, stored_once};
 pub use new_slices::{NewSlices, needs};
 pub use writing::append;
 
