@@ -8,3 +8,4 @@ pub mod Readies
 pub mod Documents
 pub mod Steps
 pub mod Phrases
+pub mod Begins

@@ -16,7 +16,7 @@ use Rattle.eb_place.proofs.Counts.{count_of-append}
 use Rattle.eb_place.proofs.Closed.{seen_is, reached_few}
 use Rattle.eb_place.proofs.Enough.{length-postings}
 use Rattle.eb_place.proofs.EnteredTerms.{number_found, entered_is_term}
-use Rattle.eb_place.proofs.Grows.{later_segment}
+use Rattle.eb_place.proofs.Grows.{later_segment, segments_grow}
 use Rattle.eb_place.proofs.Histories.{terms_more, postings_more}
 use Rattle.eb_place.proofs.Laters.{later_on}
 use Rattle.eb_place.proofs.Placed.{placed_all}
@@ -78,3 +78,11 @@ chain_opens m n s docs t c is js l a stands =
 -- the segment is one of a later moment too
 pub first_later : (m n : Moment) (s : ℕ) (docs : List Doc) → IsNotBefore n m → AreFirst m s docs → s < n.setting.segments
 first_later m n s docs l a = subst (λ σ. s < σ.segments) l.setting a.inside
+
+-- the first documents of a segment are so later too
+pub first_on : (m n : Moment) (s : ℕ) (docs : List Doc) → IsNotBefore n m → AreFirst m s docs → AreFirst n s docs
+first_on m n s docs l a =
+    let p = l.documents.accepted in
+    let q = segments_grow m.setting m.documents.accepted p.0 s in
+    let e : accepted_in m s ++ q.0 ≡ accepted_in n s = q.1 ∙ ap (λ (z : List Doc). get_or (cut m.setting z) s []) p.1 ∙ ap (λ σ. get_or (cut σ n.documents.accepted) s []) l.setting in
+    record { inside = first_later m n s docs l a; narrow = a.narrow; rest = a.rest ++ q.0; are = sym e ∙ ap (λ (z : List Doc). z ++ q.0) a.are ∙ append_assoc docs a.rest q.0 }

@@ -181,7 +181,7 @@ phrase_block docs w ps h n = record {
   ];
 }
 
-phrase_top : (docs : List Doc) → Narrow docs → (ps : List (List ℕ)) → 0 < length ps → (end : ℕ) → top (match_at docs (phrase ps)) end ≡ document_end (top (is_start docs ps) (256 * end))
+pub phrase_top : (docs : List Doc) → Narrow docs → (ps : List (List ℕ)) → 0 < length ps → (end : ℕ) → top (match_at docs (phrase ps)) end ≡ document_end (top (is_start docs ps) (256 * end))
 phrase_top docs w ps h end = blocks (match_at docs (phrase ps)) (is_start docs ps) (phrase_block docs w ps h) end
 
 -- ---- the whole phrase

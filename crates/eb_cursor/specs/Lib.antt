@@ -5,3 +5,4 @@ pub mod Posted
 pub mod Ready
 pub mod Opened
 pub mod Asked
+pub mod Begun

@@ -3,6 +3,7 @@
 //! two loads. `specs/` says what a frame is seen as, and what it finds.
 #![tactic(auto)]
 
+pub mod begin;
 pub mod below;
 pub mod cursor;
 pub mod phrase;
