@@ -1,25 +1,22 @@
 -- Accepted documents are whole: their terms are entered, and their postings are seen.
-use Rattle.std.proofs.Common.{◌≡◌, ℕ, zero, suc, ◌+◌, ◌<◌, ◌≤◌, ◌==◌, inl, inr, true, false, cond, List, [], ◌∷◌, ◌++◌, length, take, get_or, min, filter, count_by, sum_by, Contains, None, refl, ap, sym, ◌∙◌, subst, arith, append-nil, bytes_eq, Option}
+use Rattle.std.proofs.Common.{◌≡◌, ℕ, zero, suc, ◌<◌, ◌≤◌, ◌==◌, inl, inr, false, cond, List, [], ◌∷◌, ◌++◌, length, get_or, filter, count_by, Contains, None, refl, ap, sym, ◌∙◌, subst, arith, append-nil, bytes_eq}
 use Rattle.std.specs.List.{position_or_len}
 use Rattle.std.proofs.lemmas.Bool.{cases_Bool, cases_lt}
 use Rattle.std.proofs.lemmas.List.{length-take, length-append}
 use Rattle.std.proofs.lemmas.List.Sums.{sum_by-append}
-use mathlib.Core.List.{IsPrefix}
 use Rattle.eb_base.specs.Term.{Term}
-use Rattle.eb_base.specs.Document.{Doc, IsDocument}
+use Rattle.eb_base.specs.Document.{Doc}
 use Rattle.eb_base.specs.Setting.{Setting}
 use Rattle.eb_place.specs.declared.moment.Moment.{Moment}
-use Rattle.eb_place.specs.declared.moment.Documents.{Documents}
-use Rattle.eb_place.specs.declared.moment.Conversions.{Conversions}
 use Rattle.eb_place.specs.Layout.{place}
 use Rattle.eb_place.specs.Layout.Slot.{slot}
 use Rattle.eb_place.specs.Layout.Region.{cell_region, tail_region}
 use Rattle.eb_place.specs.Postings.{postings, terms_of, distinct, count_of, number_of}
 use Rattle.eb_place.specs.Placing.{Store, pairs_of}
 use Rattle.eb_place.specs.Room.{cut, IsLawful}
-use Rattle.eb_place.specs.Moments.{IsMoment, with_current, current_of, document_stores, placings}
+use Rattle.eb_place.specs.Moments.{IsMoment, current_of, document_stores, placings}
 use Rattle.eb_place.specs.Later.{IsNotBefore, ReachesPacked}
-use Rattle.eb_place.specs.Seen.{segment, tails_done, seen_count, is_in, stores_in_region, entered, IsEntered}
+use Rattle.eb_place.specs.Seen.{segment, tails_done, seen_count, is_in, entered, IsEntered}
 use Rattle.std.proofs.lemmas.Slice.Eq.{bytes_eq-Decides}
 use Rattle.eb_place.proofs.Numbers.{number_low}
 use Rattle.eb_place.proofs.Enough.{length-postings}
@@ -28,11 +25,11 @@ use Rattle.eb_place.proofs.Fresh.Each.{none, more}
 use Rattle.eb_place.proofs.Texts.{Behind}
 use Rattle.eb_place.proofs.Entries.{is_entry, entries, entries_picked}
 use Rattle.eb_place.proofs.Regions.{picks_all}
-use Rattle.eb_place.proofs.Dictionary.{Done, entered_done_is, cells_counted}
+use Rattle.eb_place.proofs.Dictionary.{entered_done_is, cells_counted}
 use Rattle.eb_place.proofs.Placed.{placed_all, lawful_front}
 use Rattle.eb_place.proofs.Prefixes.{prefix_self}
 use Rattle.eb_place.proofs.EnteredTerms.{is_entered_later}
-use Rattle.eb_place.proofs.Grows.{later_reached, later_segment}
+use Rattle.eb_place.proofs.Grows.{later_reached}
 
 -- the moment at which the last accepted document was whole
 abbrev pub whole_moment : Moment → Moment

@@ -1,22 +1,21 @@
 -- What the cursors hold at the beginning.
-use Rattle.std.proofs.Common.{◌≡◌, ℕ, zero, suc, ◌+◌, ◌-◌, ◌*◌, ◌/◌, ◌%◌, ◌<◌, ◌≤◌, ◌⊎◌, Bool, true, false, not, ◌&&◌, cond, List, [], ◌∷◌, ◌++◌, length, take, drop, get_or, set, Option, None, Some, slice_get, is_some, is_none, if◌then◌else◌, refl, sym, ap, ◌∙◌, subst, inl, inr, arith, rules, length-set}
+use Rattle.std.proofs.Common.{◌≡◌, ℕ, zero, suc, ◌+◌, ◌-◌, ◌*◌, ◌/◌, ◌%◌, ◌<◌, ◌≤◌, Bool, true, false, not, List, [], ◌∷◌, ◌++◌, length, take, drop, get_or, set, None, slice_get, if◌then◌else◌, refl, sym, ap, ◌∙◌, subst, inl, inr, arith, length-set}
 use Rattle.std.proofs.lemmas.Bool.{cases_Bool, cases_lt, and_left, and_right, and_parts, lt-leb, false≢true}
 use Rattle.eb_base.specs.Document.{Doc}
 use Rattle.eb_base.specs.Query.{Tree, Trees, size, sizes, word, phrase, negation, conjunction, disjunction, no_trees, trees, IsFormed, AreFormed}
-use Rattle.eb_base.specs.Match.{is_match, each_matches, some_matches}
 use Rattle.eb_place.specs.declared.moment.Moment.{Moment}
-use Rattle.eb_cursor.specs.Tops.{top, below}
-use Rattle.eb_cursor.specs.Lists.{Gives, gives, Gave, IsFalling, from_below}
-use Rattle.eb_cursor.specs.Posted.{terms_in, terms_at, is_term, is_posting, is_start, has_room, is_run_from, match_at, each_at, some_at, Narrow, document_end}
-use Rattle.eb_cursor.specs.Opened.{AreFirst, Opened}
+use Rattle.eb_cursor.specs.Tops.{top}
+use Rattle.eb_cursor.specs.Lists.{Gives, gives, Gave}
+use Rattle.eb_cursor.specs.Posted.{terms_at, is_term, is_posting, is_start, has_room, is_run_from, match_at, each_at, some_at, Narrow, document_end}
+use Rattle.eb_cursor.specs.Opened.{Opened}
 use Rattle.eb_cursor.specs.Ready.{IsLeaf, IsLeft, IsOnly, IsPassed, AllLeaves, Ready, AllReady, upto, rest_of}
 use Rattle.eb_cursor.specs.Begun.{AreClear, AllAt, BegunLeaves, Begun, BegunEach, BegunSome}
 use Rattle.eb_cursor.specs.declared.posting_list.PostingList.{PostingList}
 use Rattle.eb_cursor.specs.declared.cursor.Cursor.{Cursor}
-use Rattle.eb_cursor.proofs.Tellings.{Later, IsLater, gives_later}
-use Rattle.eb_cursor.proofs.Tops.{top_le, top_implied, top_or, top_past}
+use Rattle.eb_cursor.proofs.Tellings.{IsLater, gives_later}
+use Rattle.eb_cursor.proofs.Tops.{top_implied, top_or, top_past}
 use Rattle.eb_cursor.proofs.Leaves.{leaf_lower, leaf_later, leaf_none, gave_left}
-use Rattle.eb_cursor.proofs.Readies.{ready_lower, ready_later, all_lower, all_join}
+use Rattle.eb_cursor.proofs.Readies.{ready_lower, ready_later, all_join}
 use Rattle.eb_cursor.proofs.Phrases.{leaves_upto, upto_set, phrase_top}
 use Rattle.eb_cursor.proofs.Documents.{top_stays, word_top}
 use Rattle.eb_cursor.proofs.Steps.{IsFront}
@@ -29,10 +28,12 @@ opened_leaf n o docs t list c h gave = record { left = h.postings; told = gave_l
 below_none : (f : ℕ → Bool) (n x : ℕ) → top f n ≡ 0 → x < n → f x ≡ false
 below_none f zero x e h = absurd (omega arith)
 below_none f (suc n) x e h = elim (cases_Bool (f n)) [
-    inl i ↦ absurd (some_top f n i e)
+  | inl i ↦ absurd (some_top f n i e)
   | inr i ↦ elim (cases_lt x n) [
-        inl j ↦ below_none f n x (sym (top_past f n i) ∙ e) j
-      | inr j ↦ let k : x ≡ n = omega arith in rw k i ] ]
+    | inl j ↦ below_none f n x (sym (top_past f n i) ∙ e) j
+    | inr j ↦ let k : x ≡ n = omega arith in rw k i
+  ]
+]
   where
     some_top : (f : ℕ → Bool) (n : ℕ) → f n ≡ true → top f (suc n) ≡ 0 → ⊥
     some_top f n i e = let k : suc n ≡ 0 = sym (rw i refl) ∙ e in absurd (omega arith)
@@ -48,8 +49,9 @@ none_in t k = refl
 -- a list without a posting is that of a term that stands nowhere
 pub leaf_absent : (g : Gives) (docs : List Doc) (t : List ℕ) (c : Cursor) → c.current ≡ None → IsLeaf g (is_posting docs t) c (256 * length docs) → (x : ℕ) → is_posting docs t x ≡ false
 leaf_absent g docs t c e leaf x = elim (cases_lt x (256 * length docs)) [
-    inl h ↦ below_none (is_posting docs t) (256 * length docs) x (sym (leaf_none g (is_posting docs t) c (256 * length docs) e leaf)) h
-  | inr h ↦ let far : length docs ≤ x / 256 = omega arith in rw (past_docs docs (x / 256) far) refl ]
+  | inl h ↦ below_none (is_posting docs t) (256 * length docs) x (sym (leaf_none g (is_posting docs t) c (256 * length docs) e leaf)) h
+  | inr h ↦ let far : length docs ≤ x / 256 = omega arith in rw (past_docs docs (x / 256) far) refl
+]
 
 -- ---- the leaves of a phrase
 
@@ -62,12 +64,14 @@ leaves_end n docs (t ∷ ts) (c ∷ cs) e z = absurd (omega arith)
 pub leaves_none : (n : Moment) (docs : List Doc) (ts : List (List ℕ)) (t : List ℕ) (us : List (List ℕ)) (c : Cursor) (cs : List Cursor) → ts ≡ t ∷ us → c.current ≡ None → IsLeaf (gives n) (is_posting docs t) c (256 * length docs) → BegunLeaves docs ts (c ∷ cs) false n
 leaves_none n docs ts t us c cs e none leaf = record {
   ready = λ h. absurd (false≢true h);
-  none = λ _ x. subst (λ (z : List (List ℕ)). is_run_from docs z x ≡ false) (sym e) (and_left (is_posting docs t x) (is_run_from docs us (suc x)) (leaf_absent (gives n) docs t c none leaf x)) }
+  none = λ _ x. subst (λ (z : List (List ℕ)). is_run_from docs z x ≡ false) (sym e) (and_left (is_posting docs t x) (is_run_from docs us (suc x)) (leaf_absent (gives n) docs t c none leaf x));
+}
 
 pub leaves_step : (m n : Moment) (docs : List Doc) (ts : List (List ℕ)) (t : List ℕ) (us : List (List ℕ)) (c : Cursor) (cs : List Cursor) (may : Bool) → ts ≡ t ∷ us → IsLater m n → IsLeaf (gives m) (is_posting docs t) c (256 * length docs) → BegunLeaves docs us cs may n → BegunLeaves docs ts (c ∷ cs) may n
 leaves_step m n docs ts t us c cs may e w leaf more = record {
   ready = λ h. subst (λ (z : List (List ℕ)). AllAt (gives n) docs z (c ∷ cs) (256 * length docs)) (sym e) (leaf_later (gives m) (gives n) (gives_later m n w) (is_posting docs t) c (256 * length docs) leaf, more.ready h);
-  none = λ h x. subst (λ (z : List (List ℕ)). is_run_from docs z x ≡ false) (sym e) (and_right (is_posting docs t x) (is_run_from docs us (suc x)) (more.none h (suc x))) }
+  none = λ h x. subst (λ (z : List (List ℕ)). is_run_from docs z x ≡ false) (sym e) (and_right (is_posting docs t x) (is_run_from docs us (suc x)) (more.none h (suc x)));
+}
 
 leaves_from : (g : Gives) (docs : List Doc) (ts : List (List ℕ)) (cursors : List Cursor) (low end : ℕ) → low + length ts ≤ end + 1 → AllAt g docs ts cursors end → AllLeaves g docs ts cursors low
 leaves_from g docs [] cursors low end h r = r
@@ -136,16 +140,19 @@ mutual
   pub clear_all : (g : Gives) (docs : List Doc) (qs : Trees) (cs : List Cursor) → Narrow docs → AreClear cs → AreFormed qs → length cs ≡ sizes qs → AllReady g docs qs cs 0
   clear_all g docs no_trees [] w h f e = refl
   clear_all g docs no_trees (c ∷ cs) w h f e = absurd (omega arith)
-  clear_all g docs (trees q qs) cs w h f e = (clear_ready g docs q (take (size q) cs) w (clear_take (size q) cs h) f.0 (length-take_min (size q) cs (omega (arith, e))),
-    clear_all g docs qs (drop (size q) cs) w (clear_drop (size q) cs h) f.1 (omega (arith, e, length-drop_min (size q) cs)))
+  clear_all g docs (trees q qs) cs w h f e = (
+    clear_ready g docs q (take (size q) cs) w (clear_take (size q) cs h) f.0 (length-take_min (size q) cs (omega (arith, e))),
+    clear_all g docs qs (drop (size q) cs) w (clear_drop (size q) cs h) f.1 (omega (arith, e, length-drop_min (size q) cs)),
+  )
 
 -- ---- each kind of query
 
 pub begun_word : (n : Moment) (docs : List Doc) (q : Tree) (t : List ℕ) (cursors : List Cursor) (c : Cursor) (may : Bool) → q ≡ word t → length cursors ≡ 1 → Narrow docs → (may ≡ false → c.current ≡ None) → IsLeaf (gives n) (is_posting docs t) c (256 * length docs)
     → Begun docs q (set cursors 0 c) may n
 begun_word n docs q t cursors c may i one w absent leaf = record {
-    ready = subst (λ (x : Tree). Ready (gives n) docs x (set cursors 0 c) (length docs)) (sym i) (only cursors one);
-    none = λ h. ap (λ (x : Tree). top (match_at docs x) (length docs)) i ∙ word_top docs w t (length docs) ∙ ap document_end (sym (leaf_none (gives n) (is_posting docs t) c (256 * length docs) (absent h) leaf)) }
+  ready = subst (λ (x : Tree). Ready (gives n) docs x (set cursors 0 c) (length docs)) (sym i) (only cursors one);
+  none = λ h. ap (λ (x : Tree). top (match_at docs x) (length docs)) i ∙ word_top docs w t (length docs) ∙ ap document_end (sym (leaf_none (gives n) (is_posting docs t) c (256 * length docs) (absent h) leaf));
+}
   where
     only : (cs : List Cursor) → length cs ≡ 1 → IsOnly (gives n) docs t (set cs 0 c) (length docs)
     only [] e = absurd (omega arith)
@@ -159,45 +166,52 @@ no_start docs ts n j h i p k =
     and_left (has_room (length ts) (256 * n + 1 - length ts + j)) (is_run_from docs ts (256 * n + 1 - length ts + j)) (lt-leb ((256 * n + 1 - length ts + j) % 256 + length ts) 256 over)
 
 phrase_passed : (docs : List Doc) (ts : List (List ℕ)) (n : ℕ) → 0 < length ts → length ts ≤ 256 → 0 < n → IsPassed (is_start docs ts) (256 * n + 1 - length ts) (256 * n)
-phrase_passed docs ts n h i p = record { same = λ k.
-    let e : 256 * n + 1 - length ts + (length ts - 1) ≡ 256 * n = omega arith in
-    ap (top (is_start docs ts)) (sym e) ∙ top_stays (is_start docs ts) (256 * n + 1 - length ts) (length ts - 1) (λ j m. no_start docs ts n j h i p m) }
+phrase_passed docs ts n h i p = record {
+  same = λ k.
+      let e : 256 * n + 1 - length ts + (length ts - 1) ≡ 256 * n = omega arith in
+      ap (top (is_start docs ts)) (sym e) ∙ top_stays (is_start docs ts) (256 * n + 1 - length ts) (length ts - 1) (λ j m. no_start docs ts n j h i p m);
+}
 
 top_never : (f : ℕ → Bool) → ((n : ℕ) → f n ≡ false) → (n : ℕ) → top f n ≡ 0
 top_never f w zero = refl
 top_never f w (suc n) = rw (w n) (top_never f w n)
 
 phrase_set : (g : Gives) (docs : List Doc) (ts : List (List ℕ)) (cursors : List Cursor) (d : Cursor) (low : ℕ) → 0 < length cursors → length cursors ≡ length ts → Narrow docs → IsPassed (is_start docs ts) low (256 * length docs) → (0 < low → AllLeaves g docs ts cursors low)
-    → Ready g docs (phrase ts) (set cursors 0 (record {upto = low; current = (get_or cursors 0 d).current; list = (get_or cursors 0 d).list})) (length docs)
+    → Ready g docs (phrase ts) (set cursors 0 (record { upto = low; current = (get_or cursors 0 d).current; list = (get_or cursors 0 d).list })) (length docs)
 phrase_set g docs ts cursors d low some len w passed leaves =
-    let c : Cursor = record {upto = low; current = (get_or cursors 0 d).current; list = (get_or cursors 0 d).list} in
+    let c : Cursor = record { upto = low; current = (get_or cursors 0 d).current; list = (get_or cursors 0 d).list } in
     let u : upto (set cursors 0 c) ≡ low = upto_set cursors c some in
-    let long = length-set cursors 0 c in
-    (omega arith, w, subst (λ y. IsPassed (is_start docs ts) y (256 * length docs)) (sym u) passed, long ∙ len,
-     subst (λ y. 0 < y → AllLeaves g docs ts (set cursors 0 c) y) (sym u) (λ h. leaves_upto g docs ts cursors d low low (leaves h)))
+    let long = length-set cursors 0 c in (
+      omega arith,
+      w,
+      subst (λ y. IsPassed (is_start docs ts) y (256 * length docs)) (sym u) passed,
+      long ∙ len,
+      subst (λ y. 0 < y → AllLeaves g docs ts (set cursors 0 c) y) (sym u) (λ h. leaves_upto g docs ts cursors d low low (leaves h)),
+    )
 
 never_starts : (docs : List Doc) (ts : List (List ℕ)) → ((x : ℕ) → is_run_from docs ts x ≡ false) → (n : ℕ) → top (is_start docs ts) n ≡ 0
 never_starts docs ts h n = top_never (is_start docs ts) (λ x. and_right (has_room (length ts) x) (is_run_from docs ts x) (h x)) n
 
 phrase_ready : (n : Moment) (docs : List Doc) (ts : List (List ℕ)) (cursors : List Cursor) (d : Cursor) (low end : ℕ) (may : Bool) → 2 ≤ length ts → length ts ≤ 64 → 0 < length docs → end ≡ 256 * length docs + 1 - length ts → low ≡ (if may then end else 0) → length cursors ≡ length ts → Narrow docs → BegunLeaves docs ts cursors may n
-    → Ready (gives n) docs (phrase ts) (set cursors 0 (record {upto = low; current = (get_or cursors 0 d).current; list = (get_or cursors 0 d).list})) (length docs)
+    → Ready (gives n) docs (phrase ts) (set cursors 0 (record { upto = low; current = (get_or cursors 0 d).current; list = (get_or cursors 0 d).list })) (length docs)
 phrase_ready n docs ts cursors d low end true few most some at e len w begun =
     let k : low ≡ 256 * length docs + 1 - length ts = e ∙ at in
     phrase_set (gives n) docs ts cursors d low (omega arith) len w
-      (subst (λ y. IsPassed (is_start docs ts) y (256 * length docs)) (sym k) (phrase_passed docs ts (length docs) (omega arith) (omega arith) some))
-      (λ _. leaves_from (gives n) docs ts cursors low (256 * length docs) (omega arith) (begun.ready refl))
+    (subst (λ y. IsPassed (is_start docs ts) y (256 * length docs)) (sym k) (phrase_passed docs ts (length docs) (omega arith) (omega arith) some))
+    (λ _. leaves_from (gives n) docs ts cursors low (256 * length docs) (omega arith) (begun.ready refl))
 phrase_ready n docs ts cursors d low end false few most some at e len w begun =
     phrase_set (gives n) docs ts cursors d low (omega arith) len w
-      (record { same = λ _. never_starts docs ts (begun.none refl) (256 * length docs) ∙ sym (never_starts docs ts (begun.none refl) low) })
-      (λ h. absurd (omega (arith, e)))
+    (record { same = λ _. never_starts docs ts (begun.none refl) (256 * length docs) ∙ sym (never_starts docs ts (begun.none refl) low) })
+    (λ h. absurd (omega (arith, e)))
 
 pub begun_phrase : (n : Moment) (docs : List Doc) (q : Tree) (ts : List (List ℕ)) (cursors : List Cursor) (d : Cursor) (low end : ℕ) (may : Bool) → q ≡ phrase ts → 2 ≤ length ts → length ts ≤ 64 → 0 < length docs → end ≡ 256 * length docs + 1 - length ts → low ≡ (if may then end else 0) → length cursors ≡ length ts → Narrow docs → BegunLeaves docs ts cursors may n
-    → Begun docs q (set cursors 0 (record {upto = low; current = (get_or cursors 0 d).current; list = (get_or cursors 0 d).list})) may n
+    → Begun docs q (set cursors 0 (record { upto = low; current = (get_or cursors 0 d).current; list = (get_or cursors 0 d).list })) may n
 begun_phrase n docs q ts cursors d low end may i few most some at e len w begun =
-    let c : Cursor = record {upto = low; current = (get_or cursors 0 d).current; list = (get_or cursors 0 d).list} in
+    let c : Cursor = record { upto = low; current = (get_or cursors 0 d).current; list = (get_or cursors 0 d).list } in
     record {
       ready = subst (λ (x : Tree). Ready (gives n) docs x (set cursors 0 c) (length docs)) (sym i) (phrase_ready n docs ts cursors d low end may few most some at e len w begun);
-      none = λ h. ap (λ (x : Tree). top (match_at docs x) (length docs)) i ∙ phrase_top docs w ts (omega arith) (length docs) ∙ ap document_end (never_starts docs ts (begun.none h) (256 * length docs)) }
+      none = λ h. ap (λ (x : Tree). top (match_at docs x) (length docs)) i ∙ phrase_top docs w ts (omega arith) (length docs) ∙ ap document_end (never_starts docs ts (begun.none h) (256 * length docs));
+    }
 
 -- an operator begins with nothing passed
 passed_self : (f : ℕ → Bool) (low n : ℕ) → low ≡ n → IsPassed f low n
@@ -215,7 +229,8 @@ each_ready n docs qs c rest false u begun = (omega arith, record { same = λ _. 
 pub begun_and : (n : Moment) (docs : List Doc) (q : Tree) (qs : Trees) (c : Cursor) (rest : List Cursor) (end : ℕ) (may : Bool) → q ≡ conjunction qs → end ≡ length docs → c.upto ≡ (if may then end else 0) → BegunEach docs qs rest may n → Begun docs q (c ∷ rest) may n
 begun_and n docs q qs c rest end may i e u begun = record {
   ready = subst (λ (x : Tree). Ready (gives n) docs x (c ∷ rest) (length docs)) (sym i) (each_ready n docs qs c rest may (u ∙ ap (λ (k : ℕ). if may then k else 0) e) begun);
-  none = λ h. ap (λ (x : Tree). top (match_at docs x) (length docs)) i ∙ begun.none h }
+  none = λ h. ap (λ (x : Tree). top (match_at docs x) (length docs)) i ∙ begun.none h;
+}
 
 pub begun_or : (n : Moment) (docs : List Doc) (q : Tree) (qs : Trees) (c : Cursor) (rest : List Cursor) (may : Bool) → q ≡ disjunction qs → BegunSome docs qs rest may n → Begun docs q (c ∷ rest) may n
 begun_or n docs q qs c rest may i begun =
@@ -226,8 +241,10 @@ begun_or n docs q qs c rest may i begun =
 
 pub each_none : (n : Moment) (docs : List Doc) (qs : Trees) (cursors : List Cursor) → qs ≡ no_trees → length cursors ≡ sizes qs → BegunEach docs qs cursors true n
 each_none n docs qs cursors e len = record {
-    ready = λ _. none cursors (len ∙ ap sizes e);
-    ended = λ h. absurd (false≢true (sym h)); none = λ h. absurd (false≢true (sym h)) }
+  ready = λ _. none cursors (len ∙ ap sizes e);
+  ended = λ h. absurd (false≢true (sym h));
+  none = λ h. absurd (false≢true (sym h));
+}
   where
     none : (cs : List Cursor) → length cs ≡ 0 → AllReady (gives n) docs qs cs (length docs)
     none [] z = subst (λ (x : Trees). AllReady (gives n) docs x [] (length docs)) (sym e) refl
@@ -239,7 +256,8 @@ each_ends n docs qs q qs' cursors own rest own' e w formed len clear begun = rec
   ready = λ h. absurd (false≢true h);
   ended = λ _. all_join (gives n) docs qs q qs' own' rest 0 e.parts (ready_lower (gives n) docs q own' 0 (length docs) (omega arith) begun.ready) (clear_all (gives n) docs qs' rest w clear formed len);
   none = λ _. ap (λ (x : Trees). top (each_at docs x) (length docs)) e.parts
-    ∙ (let h = top_implied (match_at docs q) (each_at docs (trees q qs')) (λ k p. (and_parts (match_at docs q k) (each_at docs qs' k) p).0) (length docs) in omega (arith, h, begun.none refl)) }
+      ∙ (let h = top_implied (match_at docs q) (each_at docs (trees q qs')) (λ k p. (and_parts (match_at docs q k) (each_at docs qs' k) p).0) (length docs) in omega (arith, h, begun.none refl));
+}
 
 pub each_goes : (m n : Moment) (docs : List Doc) (qs : Trees) (q : Tree) (qs' : Trees) (cursors own rest own' rest' : List Cursor) (may1 may : Bool) → IsFront qs q qs' cursors own rest → IsLater m n → Begun docs q own' may1 m → BegunEach docs qs' rest' may n → BegunEach docs qs (own' ++ rest') may n
 each_goes m n docs qs q qs' cursors own rest own' rest' may1 may e w begun more =
@@ -248,12 +266,14 @@ each_goes m n docs qs q qs' cursors own rest own' rest' may1 may e w begun more 
       ready = λ h. all_join (gives n) docs qs q qs' own' rest' (length docs) e.parts kept (more.ready h);
       ended = λ h. all_join (gives n) docs qs q qs' own' rest' 0 e.parts (ready_lower (gives n) docs q own' 0 (length docs) (omega arith) kept) (more.ended h);
       none = λ h. ap (λ (x : Trees). top (each_at docs x) (length docs)) e.parts
-        ∙ (let i = top_implied (each_at docs qs') (each_at docs (trees q qs')) (λ k p. (and_parts (match_at docs q k) (each_at docs qs' k) p).1) (length docs) in omega (arith, i, more.none h)) }
+          ∙ (let i = top_implied (each_at docs qs') (each_at docs (trees q qs')) (λ k p. (and_parts (match_at docs q k) (each_at docs qs' k) p).1) (length docs) in omega (arith, i, more.none h));
+    }
 
 pub some_none : (n : Moment) (docs : List Doc) (qs : Trees) (cursors : List Cursor) → qs ≡ no_trees → length cursors ≡ sizes qs → BegunSome docs qs cursors false n
 some_none n docs qs cursors e len = record {
-    ready = none cursors (len ∙ ap sizes e);
-    none = λ _. ap (λ (x : Trees). top (some_at docs x) (length docs)) e ∙ top_never (some_at docs no_trees) (λ k. refl) (length docs) }
+  ready = none cursors (len ∙ ap sizes e);
+  none = λ _. ap (λ (x : Trees). top (some_at docs x) (length docs)) e ∙ top_never (some_at docs no_trees) (λ k. refl) (length docs);
+}
   where
     none : (cs : List Cursor) → length cs ≡ 0 → AllReady (gives n) docs qs cs (length docs)
     none [] z = subst (λ (x : Trees). AllReady (gives n) docs x [] (length docs)) (sym e) refl
@@ -263,4 +283,5 @@ pub some_goes : (m n : Moment) (docs : List Doc) (qs : Trees) (q : Tree) (qs' : 
 some_goes m n docs qs q qs' cursors own rest own' rest' may1 may2 may e split w begun more = record {
   ready = all_join (gives n) docs qs q qs' own' rest' (length docs) e.parts (ready_later (gives m) (gives n) (gives_later m n w) docs q own' (length docs) begun.ready) more.ready;
   none = λ h. let s = split h in ap (λ (x : Trees). top (some_at docs x) (length docs)) e.parts
-    ∙ (let o = top_or (match_at docs q) (some_at docs qs') (length docs) in omega (arith, o, begun.none s.0, more.none s.1)) }
+      ∙ (let o = top_or (match_at docs q) (some_at docs qs') (length docs) in omega (arith, o, begun.none s.0, more.none s.1));
+}

@@ -1,9 +1,9 @@
 -- From postings to documents.
-use Rattle.std.proofs.Common.{◌≡◌, ℕ, zero, suc, ◌+◌, ◌*◌, ◌/◌, ◌%◌, ◌<◌, ◌≤◌, ◌⊎◌, Bool, true, false, not, ◌||◌, cond, List, [], ◌∷◌, length, Option, None, Some, bytes_eq, refl, sym, ap, ◌∙◌, subst, inl, inr, arith, rules, slice_get}
+use Rattle.std.proofs.Common.{◌≡◌, ℕ, zero, suc, ◌+◌, ◌*◌, ◌/◌, ◌%◌, ◌<◌, ◌≤◌, Bool, true, false, List, [], ◌∷◌, length, bytes_eq, refl, sym, ap, ◌∙◌, inl, inr, arith, slice_get}
 use Rattle.std.specs.List.{list_any}
 use Rattle.std.proofs.lemmas.Bool.{cases_Bool, cases_lt, or_cases, or_parts}
 use Rattle.eb_base.specs.Document.{Doc}
-use Rattle.eb_base.specs.Query.{Tree, Trees, word, phrase}
+use Rattle.eb_base.specs.Query.{word}
 use Rattle.eb_cursor.specs.Tops.{top}
 use Rattle.eb_cursor.specs.Posted.{terms_at, is_term, is_posting, match_at, Narrow, document_end}
 use Rattle.eb_cursor.proofs.Tops.{top_here, top_past, top_le}

@@ -1,5 +1,5 @@
 -- A leaf: the current posting and what its list still gives.
-use Rattle.std.proofs.Common.{◌≡◌, ℕ, zero, suc, ◌+◌, ◌<◌, ◌≤◌, ◌⊎◌, Bool, true, false, List, [], ◌∷◌, Option, None, Some, MatchOption, refl, sym, ap, ◌∙◌, subst, inl, inr, arith, rules}
+use Rattle.std.proofs.Common.{◌≡◌, ℕ, suc, ◌<◌, ◌≤◌, Bool, List, [], ◌∷◌, Option, None, Some, MatchOption, sym, ap, ◌∙◌, subst, arith}
 use Rattle.eb_cursor.specs.Tops.{top, below}
 use Rattle.eb_cursor.specs.Lists.{Gives, from_below, IsFalling, IsUnder}
 use Rattle.eb_cursor.specs.Ready.{IsLeft, IsLeaf}

@@ -1,5 +1,5 @@
 -- What an opened list gives: the postings of the accepted documents, and above them what came since.
-use Rattle.std.proofs.Common.{◌≡◌, ℕ, zero, suc, ◌+◌, ◌*◌, ◌<◌, ◌≤◌, inl, inr, List, [], ◌∷◌, ◌++◌, length, take, reverse, get_or, refl, ap, sym, ◌∙◌, subst, arith, append_assoc}
+use Rattle.std.proofs.Common.{◌≡◌, ℕ, zero, suc, ◌*◌, ◌<◌, ◌≤◌, inl, inr, List, [], ◌∷◌, ◌++◌, length, take, reverse, get_or, refl, ap, sym, ◌∙◌, subst, arith, append_assoc}
 use Rattle.std.proofs.lemmas.Bool.{cases_lt}
 use Rattle.std.proofs.lemmas.List.{length-append}
 use mathlib.Core.List.{IsPrefix}
@@ -23,14 +23,13 @@ use Rattle.eb_place.proofs.Placed.{placed_all}
 use Rattle.eb_terms.specs.Finding.{HasNumber}
 use Rattle.eb_chain.specs.Chains.{Stands}
 use Rattle.eb_chain.specs.declared.chain.Chain.{Chain}
-use Rattle.eb_cursor.specs.Tops.{below}
 use Rattle.eb_cursor.specs.Lists.{from_below, IsFalling}
-use Rattle.eb_cursor.specs.Posted.{is_posting, Narrow}
-use Rattle.eb_cursor.specs.Opened.{accepted_in, AreFirst, Opened}
-use Rattle.eb_cursor.specs.declared.posting_list.PostingList.{PostingList}
+use Rattle.eb_cursor.specs.Posted.{Narrow}
+use Rattle.eb_cursor.specs.Accepted.{accepted_in}
+use Rattle.eb_cursor.specs.Opened.{AreFirst, Opened}
 use Rattle.eb_cursor.specs.declared.posting_list.PostingList.TheVariants.{Empty, Live}
-use Rattle.eb_cursor.proofs.Accepted.{whole_moment, whole_segment, whole_before, seen_accepted, entered_accepted}
-use Rattle.eb_cursor.proofs.PostingsOf.{postings_below, seen_below, narrow_each}
+use Rattle.eb_cursor.proofs.Accepted.{whole_moment, whole_lawful, whole_segment, whole_before, seen_accepted, entered_accepted}
+use Rattle.eb_cursor.proofs.PostingsOf.{postings_below, seen_below, narrow_each, narrow_front}
 
 -- a number that was found is that of a term with postings
 pub term_of : (m : Moment) (s : ℕ) (t : Term) (k : ℕ) → s < m.setting.segments → HasNumber m s t k → IsTerm m s t k
@@ -86,3 +85,20 @@ first_on m n s docs l a =
     let q = segments_grow m.setting m.documents.accepted p.0 s in
     let e : accepted_in m s ++ q.0 ≡ accepted_in n s = q.1 ∙ ap (λ (z : List Doc). get_or (cut m.setting z) s []) p.1 ∙ ap (λ σ. get_or (cut σ n.documents.accepted) s []) l.setting in
     record { inside = first_later m n s docs l a; narrow = a.narrow; rest = a.rest ++ q.0; are = sym e ∙ ap (λ (z : List Doc). z ++ q.0) a.are ∙ append_assoc docs a.rest q.0 }
+
+-- documents that are the first of a segment: the segment is there, and none has more than 256 terms
+pub are_first : (m : Moment) (s : ℕ) (docs : List Doc) → IsMoment m → 1 ≤ length docs → IsPrefix docs (accepted_in m s) → AreFirst m s docs
+are_first m s docs is some p =
+    let placed = placed_all m.setting m.documents.accepted is.setting (whole_lawful m is) in
+    let there : s < length (cut m.setting m.documents.accepted) = in_list (cut m.setting m.documents.accepted) s (omega (arith, ap length (sym p.1), length-append docs p.0)) in
+    record {
+      inside = omega (arith, placed.short);
+      narrow = narrow_front docs p.0 (subst Narrow (sym p.1) (narrow_each (accepted_in m s) (placed.limits s)));
+      rest = p.0;
+      are = sym p.1;
+    }
+  where
+    in_list : (xs : List (List Doc)) (k : ℕ) → 1 ≤ length (get_or xs k []) → k < length xs
+    in_list [] k h = absurd (omega arith)
+    in_list (x ∷ xs) zero h = omega arith
+    in_list (x ∷ xs) (suc k) h = omega (arith, in_list xs k h)

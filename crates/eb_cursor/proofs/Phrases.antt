@@ -1,16 +1,15 @@
 -- Phrases: places from which all terms stand.
-use Rattle.std.proofs.Common.{◌≡◌, ℕ, zero, suc, ◌+◌, ◌-◌, ◌*◌, ◌/◌, ◌%◌, ◌<◌, ◌≤◌, ◌⊎◌, Bool, true, false, not, ◌&&◌, ◌||◌, leb, max, min, List, [], ◌∷◌, ◌++◌, length, take, drop, get_or, set, Option, None, Some, slice_get, bytes_eq, length-set, refl, sym, ap, ◌∙◌, subst, inl, inr, arith, rules}
+use Rattle.std.proofs.Common.{◌≡◌, ℕ, zero, suc, ◌+◌, ◌-◌, ◌*◌, ◌%◌, ◌<◌, ◌≤◌, Bool, true, false, ◌&&◌, min, List, [], ◌∷◌, length, get_or, set, slice_get, bytes_eq, length-set, refl, sym, ap, ◌∙◌, subst, inl, inr, arith}
 use Rattle.std.specs.List.{starts_with}
-use Rattle.std.proofs.lemmas.Bool.{cases_Bool, cases_lt, and_parts, and_from, and_left, and_right, or_cases, or_parts, le-leb, lt-leb, leb-true, leb-false, true≢false, both_ways}
+use Rattle.std.proofs.lemmas.Bool.{cases_Bool, cases_lt, and_parts, and_from, and_left, and_right, or_cases, or_parts, le-leb, lt-leb}
 use Rattle.eb_base.specs.Document.{Doc}
-use Rattle.eb_base.specs.Query.{Tree, phrase}
+use Rattle.eb_base.specs.Query.{phrase}
 use Rattle.eb_base.specs.Match.{has_phrase}
 use Rattle.eb_cursor.specs.Tops.{top}
 use Rattle.eb_cursor.specs.Lists.{Gives}
 use Rattle.eb_cursor.specs.Posted.{terms_at, is_term, is_posting, match_at, is_run_from, has_room, is_start, Narrow, document_end}
 use Rattle.eb_cursor.specs.Ready.{IsLeaf, AllLeaves, IsPassed, Ready, upto}
 use Rattle.eb_cursor.specs.Asked.{IsRun}
-use Rattle.eb_cursor.specs.declared.posting_list.PostingList.{PostingList}
 use Rattle.eb_cursor.specs.declared.cursor.Cursor.{Cursor}
 use Rattle.eb_cursor.proofs.Tellings.{Later}
 use Rattle.eb_cursor.proofs.Tops.{top_le, top_between, top_skips, top_implied, top_and, top_here, top_past, top_same}

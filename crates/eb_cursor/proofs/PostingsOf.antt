@@ -1,17 +1,17 @@
 -- The postings of a term in a segment are the places where it stands, and fall when read backwards.
-use Rattle.std.proofs.Common.{◌≡◌, ℕ, zero, suc, ◌+◌, ◌-◌, ◌*◌, ◌/◌, ◌%◌, ◌<◌, ◌≤◌, ◌⊎◌, inl, inr, Bool, true, false, cond, List, [], ◌∷◌, ◌++◌, length, take, drop, map, filter, reverse, Option, Some, None, slice_get, refl, ap, sym, ◌∙◌, subst, arith, append-nil, append_assoc, bytes_eq}
+use Rattle.std.proofs.Common.{◌≡◌, ℕ, zero, suc, ◌+◌, ◌-◌, ◌*◌, ◌/◌, ◌%◌, ◌<◌, ◌≤◌, inl, inr, Bool, false, List, [], ◌∷◌, ◌++◌, length, take, drop, reverse, None, slice_get, refl, ap, sym, ◌∙◌, subst, arith, append-nil, append_assoc, bytes_eq}
 use Rattle.std.proofs.lemmas.Bool.{cases_Bool, cases_lt}
-use Rattle.std.proofs.lemmas.List.{reverse-append, length-reverse, length-append, take-append-drop, length-take, length-drop}
+use Rattle.std.proofs.lemmas.List.{reverse-append, length-reverse, length-append, take-append-drop, length-drop}
 use Rattle.std.proofs.Math.Seq.{drop-append_seam}
 use Rattle.eb_base.specs.Term.{Term}
 use Rattle.eb_base.specs.Document.{Doc, IsDocument}
-use Rattle.eb_place.specs.Postings.{Token, posting_of, tokens_from, segment_from, tokens, postings}
+use Rattle.eb_place.specs.Postings.{posting_of, tokens_from, segment_from, tokens, postings}
 use Rattle.eb_place.proofs.Histories.{postings_in, postings_append}
 use Rattle.eb_place.proofs.Fresh.{Each}
 use Rattle.eb_place.proofs.Fresh.Each.{none, more}
 use Rattle.eb_cursor.specs.Tops.{below}
 use Rattle.eb_cursor.specs.Lists.{from_below, IsFalling, IsUnder}
-use Rattle.eb_cursor.specs.Posted.{terms_in, terms_at, is_term, is_posting, Narrow}
+use Rattle.eb_cursor.specs.Posted.{terms_at, is_term, is_posting, Narrow}
 use Rattle.eb_cursor.proofs.Tops.{from_below_in, from_below_past, from_below-below}
 
 -- ---- the postings of a term, from the last to the first

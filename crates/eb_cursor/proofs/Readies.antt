@@ -1,13 +1,13 @@
 -- What the cursors hold, lower, later, and put together.
-use Rattle.std.proofs.Common.{◌≡◌, ℕ, zero, suc, ◌+◌, ◌*◌, ◌<◌, ◌≤◌, ◌⊎◌, Bool, true, false, not, List, [], ◌∷◌, ◌++◌, length, take, drop, Option, None, Some, refl, sym, ap, ◌∙◌, subst, inl, inr, arith, rules, length-append, length-take, length-drop}
+use Rattle.std.proofs.Common.{◌≡◌, ℕ, suc, ◌+◌, ◌*◌, ◌<◌, ◌≤◌, Bool, not, List, [], ◌∷◌, ◌++◌, length, take, drop, sym, ap, ◌∙◌, subst, arith, length-append}
 use Rattle.std.proofs.lemmas.List.{take-append-drop}
 use Rattle.std.proofs.Math.Seq.{take-append_seam, drop-append_seam}
 use Rattle.eb_base.specs.Document.{Doc}
 use Rattle.eb_base.specs.Query.{Tree, Trees, size, sizes, word, phrase, negation, conjunction, disjunction, no_trees, trees}
-use Rattle.eb_cursor.specs.Tops.{top, below}
+use Rattle.eb_cursor.specs.Tops.{top}
 use Rattle.eb_cursor.specs.Lists.{Gives}
-use Rattle.eb_cursor.specs.Posted.{is_posting, is_start, match_at, each_at, some_at, Narrow}
-use Rattle.eb_cursor.specs.Ready.{IsLeaf, IsOnly, AllLeaves, IsPassed, upto, rest_of, Ready, AllReady}
+use Rattle.eb_cursor.specs.Posted.{is_posting, is_start, match_at, each_at}
+use Rattle.eb_cursor.specs.Ready.{IsOnly, AllLeaves, IsPassed, upto, rest_of, Ready, AllReady}
 use Rattle.eb_cursor.specs.declared.posting_list.PostingList.{PostingList}
 use Rattle.eb_cursor.specs.declared.cursor.Cursor.{Cursor}
 use Rattle.eb_cursor.proofs.Tops.{top_le, top_between}

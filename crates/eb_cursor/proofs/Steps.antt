@@ -1,21 +1,20 @@
 -- What each kind of query says of its answer.
-use Rattle.std.proofs.Common.{◌≡◌, Box, Global, ℕ, zero, suc, ◌+◌, ◌-◌, ◌*◌, ◌<◌, ◌≤◌, ◌⊎◌, Bool, true, false, not, ◌&&◌, ◌||◌, max, min, List, [], ◌∷◌, ◌++◌, length, take, drop, get_or, set, refl, sym, ap, ◌∙◌, subst, inl, inr, arith, rules}
+use Rattle.std.proofs.Common.{◌≡◌, Box, Global, ℕ, zero, suc, ◌-◌, ◌*◌, ◌<◌, ◌≤◌, Bool, true, false, not, max, min, List, [], ◌∷◌, ◌++◌, take, drop, get_or, set, refl, sym, ap, ◌∙◌, subst, inl, inr, arith, rules}
 use Rattle.std.proofs.lemmas.Bool.{cases_lt, and_parts}
 use Rattle.eb_base.specs.Document.{Doc}
-use Rattle.eb_base.specs.Query.{Tree, Trees, size, sizes, word, phrase, negation, conjunction, disjunction, no_trees, trees, tree, queries_of}
+use Rattle.eb_base.specs.Query.{Tree, Trees, size, word, phrase, negation, conjunction, disjunction, no_trees, trees, tree, queries_of}
 use Rattle.eb_base.specs.declared.query.Query.{Query, And, Or, Not, Word, Phrase, the_lemmas}
 use Rattle.eb_base.specs.declared.query.Queries.{Queries}
-use Rattle.eb_cursor.specs.Tops.{top, below}
+use Rattle.eb_cursor.specs.Tops.{top}
 use Rattle.eb_cursor.specs.Lists.{Gives}
-use Rattle.eb_cursor.specs.Posted.{is_posting, match_at, each_at, some_at, Narrow, document_end}
-use Rattle.eb_cursor.specs.Ready.{IsLeaf, IsOnly, IsPassed, upto, rest_of, Ready, AllReady}
+use Rattle.eb_cursor.specs.Posted.{is_posting, match_at, each_at, some_at, document_end}
+use Rattle.eb_cursor.specs.Ready.{IsLeaf, IsOnly, IsPassed, Ready, AllReady}
 use Rattle.eb_cursor.specs.Asked.{IsRound, trees_in}
-use Rattle.eb_cursor.specs.declared.posting_list.PostingList.{PostingList}
 use Rattle.eb_cursor.specs.declared.cursor.Cursor.{Cursor}
 use Rattle.eb_cursor.proofs.Tellings.{Later}
 use Rattle.eb_cursor.proofs.Tops.{top_le, top_between, top_twice, top_skips, top_implied, top_and, top_or, top_not_here, top_not_past, top_here}
-use Rattle.eb_cursor.proofs.Leaves.{leaf_lower, leaf_later}
-use Rattle.eb_cursor.proofs.Readies.{ready_lower, all_lower, ready_later, all_later, all_front, all_join, ready_length}
+use Rattle.eb_cursor.proofs.Leaves.{leaf_lower}
+use Rattle.eb_cursor.proofs.Readies.{ready_lower, all_lower, ready_later, all_later, all_front, all_join}
 use Rattle.eb_cursor.proofs.Documents.{word_top}
 
 pub tree_And : (qs : Queries) → tree (And qs) ≡ conjunction (trees_in (queries_of qs))

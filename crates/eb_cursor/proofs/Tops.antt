@@ -1,8 +1,8 @@
 -- The greatest number below an end that passes a test.
-use Rattle.std.proofs.Common.{◌≡◌, ℕ, zero, suc, ◌+◌, ◌<◌, ◌≤◌, ◌⊎◌, Bool, true, false, not, cond, ltb, max, ◌&&◌, ◌||◌, List, [], ◌∷◌, refl, sym, ap, ◌∙◌, inl, inr, arith, rules}
-use Rattle.std.proofs.lemmas.Bool.{cases_Bool, cases_lt, ltb-true, ltb-false, lt-ltb, le-ltb, and_parts, and_from, or_cases, or_left, or_right, or_from, cond-true, cond-false, true≢false, both_ways}
+use Rattle.std.proofs.Common.{◌≡◌, ℕ, zero, suc, ◌<◌, ◌≤◌, Bool, true, false, not, max, ◌&&◌, ◌||◌, List, [], ◌∷◌, refl, sym, ap, ◌∙◌, inl, inr, arith}
+use Rattle.std.proofs.lemmas.Bool.{cases_Bool, cases_lt, lt-ltb, le-ltb, and_from, or_left, or_right, or_from, cond-true, cond-false}
 use Rattle.eb_cursor.specs.Tops.{top, below}
-use Rattle.eb_cursor.specs.Lists.{from_below, IsFalling}
+use Rattle.eb_cursor.specs.Lists.{from_below}
 
 pub top_here : (f : ℕ → Bool) (n : ℕ) → f n ≡ true → top f (suc n) ≡ suc n
 top_here f n e = rw e refl

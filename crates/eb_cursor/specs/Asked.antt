@@ -1,5 +1,5 @@
 -- What may be asked of the cursors of a query, and what the answer says.
-use Rattle.std.specs.Prelude.{◌≡◌, ℕ, suc, ◌+◌, ◌≤◌, Bool, not, List, map}
+use Rattle.std.specs.Prelude.{◌≡◌, ℕ, suc, ◌+◌, ◌≤◌, Bool, not, List, map, Option, Some, None}
 use Rattle.eb_base.specs.Document.{Doc}
 use Rattle.eb_base.specs.Query.{Tree, Trees, trees_of, tree, word, phrase, negation, conjunction, disjunction, no_trees, trees}
 use Rattle.eb_base.specs.declared.query.Query.{Query}
@@ -85,3 +85,8 @@ pub record IsRun (g : Gives) (docs : List Doc) (ts : List (List ℕ)) (cursors :
   pub same : top (λ x. is_run_from docs ts (x + at)) end ≡ top (λ x. is_run_from docs ts (x + at)) found
   pub all : found ≡ end → top (λ x. is_run_from docs ts (x + at)) end ≡ end
   pub ready : AllLeaves g docs ts cursors (found + at)
+
+-- the number that an end is one more than, none for 0
+abbrev pub IsNumberBelow : ℕ → Option ℕ → Type 0
+IsNumberBelow end None = end ≡ 0
+IsNumberBelow end (Some n) = end ≡ suc n

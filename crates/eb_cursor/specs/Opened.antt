@@ -1,16 +1,12 @@
 -- What opening a list gives.
-use Rattle.std.specs.Prelude.{◌≡◌, ℕ, ◌*◌, ◌<◌, ◌++◌, List, [], length, get_or}
+use Rattle.std.specs.Prelude.{◌≡◌, ℕ, ◌*◌, ◌<◌, ◌++◌, List, length}
 use Rattle.eb_base.specs.Document.{Doc}
 use Rattle.eb_place.specs.declared.moment.Moment.{Moment}
-use Rattle.eb_place.specs.Room.{cut}
+use Rattle.eb_cursor.specs.Accepted.{accepted_in}
 use Rattle.eb_cursor.specs.Lists.{gives, IsFalling, from_below}
 use Rattle.eb_cursor.specs.Tops.{below}
 use Rattle.eb_cursor.specs.Posted.{is_posting, Narrow}
 use Rattle.eb_cursor.specs.declared.posting_list.PostingList.{PostingList}
-
--- the accepted documents of a segment
-abbrev pub accepted_in : Moment → ℕ → List Doc
-accepted_in m s = get_or (cut m.setting m.documents.accepted) s []
 
 -- these are the first accepted documents of the segment
 pub record AreFirst (m : Moment) (s : ℕ) (docs : List Doc) : Type 0 where

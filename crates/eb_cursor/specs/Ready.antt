@@ -1,7 +1,7 @@
 -- What the cursors of a query hold between two calls.
-use Rattle.std.specs.Prelude.{◌≡◌, ℕ, zero, suc, ◌+◌, ◌*◌, ◌<◌, ◌≤◌, Bool, not, cond, ltb, List, [], ◌∷◌, length, take, drop, min, Option, None, Some}
+use Rattle.std.specs.Prelude.{◌≡◌, ℕ, suc, ◌*◌, ◌<◌, ◌≤◌, Bool, not, List, [], ◌∷◌, length, take, drop, Option, None, Some}
 use Rattle.eb_base.specs.Document.{Doc}
-use Rattle.eb_base.specs.Query.{Tree, Trees, size, sizes, word, phrase, negation, conjunction, disjunction, no_trees, trees}
+use Rattle.eb_base.specs.Query.{Tree, Trees, size, word, phrase, negation, conjunction, disjunction, no_trees, trees}
 use Rattle.eb_cursor.specs.Tops.{top, below}
 use Rattle.eb_cursor.specs.Posted.{is_posting, is_start, match_at, each_at, Narrow}
 use Rattle.eb_cursor.specs.Lists.{Gives, IsFalling, from_below}

@@ -24,7 +24,7 @@ pub fn below<P: Port, L: Ledger>(
     steps: &mut Steps<L>,
     end: u64,
 ) -> u64
-    requires small { (end < 2 ^ 32) × (length cursors.old ≤ 64) }
+    requires small { (end ≤ 2 ^ 32) × (length cursors.old ≤ 64) }
     requires ready { CanAsk P.stands port.old (tree query.now) cursors.old end }
     ensures { (docs : List Doc) (last : ℕ) → end ≤ last → Told P.stands P.keeps port.old port.new (λ m. Ready (gives m) docs (tree query.now) cursors.old last) (Found (tree query.now) docs cursors.new end result) }
 {
@@ -66,7 +66,7 @@ fn word_below<P: Port, L: Ledger>(
     steps: &mut Steps<L>,
     end: u64,
 ) -> u64
-    requires small { end < 2 ^ 32 }
+    requires small { end ≤ 2 ^ 32 }
     requires ready { CanAskWord P.stands port.old cursors.old end }
     ensures { (docs : List Doc) (t : List ℕ) (last : ℕ) → end ≤ last → Told P.stands P.keeps port.old port.new (λ m. Ready (gives m) docs (word t) cursors.old last) (Found (word t) docs cursors.new end result) }
 {
@@ -83,7 +83,7 @@ fn not_below<P: Port, L: Ledger>(
     steps: &mut Steps<L>,
     end: u64,
 ) -> u64
-    requires small { (end < 2 ^ 32) × (length cursors.old ≤ 64) }
+    requires small { (end ≤ 2 ^ 32) × (length cursors.old ≤ 64) }
     requires ready { CanAsk P.stands port.old (tree query.now) cursors.old end }
     ensures { (docs : List Doc) (last : ℕ) → end ≤ last → Told P.stands P.keeps port.old port.new (λ m. Ready (gives m) docs (tree query.now) cursors.old last) (FoundNot (tree query.now) docs cursors.new end result) }
 {
@@ -107,7 +107,7 @@ fn all_below<P: Port, L: Ledger>(
     steps: &mut Steps<L>,
     end: u64,
 ) -> u64
-    requires small { (end < 2 ^ 32) × (length cursors.old ≤ 64) }
+    requires small { (end ≤ 2 ^ 32) × (length cursors.old ≤ 64) }
     requires ready { CanAskAll P.stands port.old (trees_in parts.now) cursors.old end }
     ensures { (docs : List Doc) (last : ℕ) → end ≤ last → Told P.stands P.keeps port.old port.new (λ m. AllReady (gives m) docs (trees_in parts.now) cursors.old last) (FoundAll (trees_in parts.now) docs cursors.new end result) }
 {
@@ -129,7 +129,7 @@ fn round_below<P: Port, L: Ledger>(
     steps: &mut Steps<L>,
     end: u64,
 ) -> u64
-    requires small { (end < 2 ^ 32) × (length cursors.old ≤ 64) }
+    requires small { (end ≤ 2 ^ 32) × (length cursors.old ≤ 64) }
     requires ready { CanAskAll P.stands port.old (trees_in parts.now) cursors.old end }
     ensures { (docs : List Doc) (last : ℕ) → end ≤ last → Told P.stands P.keeps port.old port.new (λ m. AllReady (gives m) docs (trees_in parts.now) cursors.old last) (λ n. IsRound (gives n) docs (trees_in parts.now) cursors.new end result) }
 {
@@ -150,7 +150,7 @@ fn some_below<P: Port, L: Ledger>(
     steps: &mut Steps<L>,
     end: u64,
 ) -> u64
-    requires small { (end < 2 ^ 32) × (length cursors.old ≤ 64) }
+    requires small { (end ≤ 2 ^ 32) × (length cursors.old ≤ 64) }
     requires ready { CanAskAll P.stands port.old (trees_in parts.now) cursors.old end }
     ensures { (docs : List Doc) (last : ℕ) → end ≤ last → Told P.stands P.keeps port.old port.new (λ m. AllReady (gives m) docs (trees_in parts.now) cursors.old last) (FoundSome (trees_in parts.now) docs cursors.new end result) }
 {

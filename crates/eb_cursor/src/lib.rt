@@ -3,9 +3,12 @@
 //! two loads. `specs/` says what a frame is seen as, and what it finds.
 #![tactic(auto)]
 
-pub mod begin;
-pub mod below;
-pub mod cursor;
-pub mod phrase;
-pub mod posting_list;
-pub mod size;
+mod begin;
+mod below;
+mod cursor;
+mod frame;
+mod phrase;
+mod posting_list;
+mod size;
+
+pub use frame::Frame;

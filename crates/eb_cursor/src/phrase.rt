@@ -68,7 +68,7 @@ fn starts_below<P: Port, L: Ledger>(
     steps: &mut Steps<L>,
     end: u64,
 ) -> u64
-    requires small { (end < 2 ^ 40) × (0 < length cursors.old) × (length cursors.old ≤ 64) }
+    requires small { (end ≤ 2 ^ 40) × (0 < length cursors.old) × (length cursors.old ≤ 64) }
     requires ready { CanAskLeaves P.stands port.old cursors.old 0 end }
     ensures { (docs : List Doc) (ts : List (List ℕ)) (last : ℕ) → end ≤ last → Told P.stands P.keeps port.old port.new (λ m. AllLeaves (gives m) docs ts cursors.old last) (FoundStart ts docs cursors.new end result) }
 {
@@ -91,7 +91,7 @@ pub fn phrase_below<P: Port, L: Ledger>(
     steps: &mut Steps<L>,
     end: u64,
 ) -> u64
-    requires small { (end < 2 ^ 32) × (length cursors.old ≤ 64) }
+    requires small { (end ≤ 2 ^ 32) × (length cursors.old ≤ 64) }
     requires ready { CanAskPhrase P.stands port.old cursors.old end }
     ensures { (docs : List Doc) (ts : List (List ℕ)) (last : ℕ) → end ≤ last → Told P.stands P.keeps port.old port.new (λ m. Ready (gives m) docs (phrase ts) cursors.old last) (Found (phrase ts) docs cursors.new end result) }
 {

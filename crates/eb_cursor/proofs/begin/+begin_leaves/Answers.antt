@@ -1,11 +1,6 @@
-use Rattle.std.proofs.Common.{◌≡◌, ℕ, ◌+◌, ◌<◌, List, length, Option, None, Some, ap, sym, subst, arith, rules, true, false, not, is_some, refl, ◌∙◌}
+use Rattle.std.proofs.Common.{◌≡◌, ℕ, ◌+◌, length, Option, None, Some, ap, sym, arith, rules, false, not, is_some, refl, ◌∙◌}
 use Rattle.std.proofs.lemmas.Bool.{false≢true}
-use Rattle.eb_base.specs.Document.{Doc}
-use Rattle.eb_place.specs.declared.moment.Moment.{Moment}
-use Rattle.eb_cursor.specs.Lists.{gives}
-use Rattle.eb_cursor.specs.Opened.{AreFirst}
-use Rattle.eb_cursor.specs.declared.cursor.Cursor.{Cursor}
-use Rattle.eb_cursor.proofs.Tellings.{IsLater, told_itself, told_as, told_on}
+use Rattle.eb_cursor.proofs.Tellings.{told_as, told_on}
 use Rattle.eb_cursor.proofs.Openings.{first_on}
 use Rattle.eb_cursor.proofs.Begins.{leaves_none, leaves_step}
 use Rattle.eb_cursor.proofs.begin.+begin_leaves.Goals as goal
@@ -17,7 +12,7 @@ none_of (Some x) e = absurd (false≢true (sym e))
 pub returns-then-is_none : goal.returns-then-is_none
 returns-then-is_none g t c = λ docs. told_as g.met.P.Port.lawful (c.open_leaf.ensures docs) (λ m a. a)
     (λ m n w a leaf. leaves_none n docs c.args.terms.now c.in-Some-split_first.term.now c.in-Some-split_first.others.now c.open_leaf.result c.in-Some.rest.now c.in-Some-split_first.ensures.cases.0
-      (none_of c.open_leaf.result.current (c.is_none.ensures ∙ ap not c.if-is_none.true)) leaf)
+    (none_of c.open_leaf.result.current (c.is_none.ensures ∙ ap not c.if-is_none.true)) leaf)
 
 pub begin_leaves-requires : goal.begin_leaves-requires
 begin_leaves-requires g t c = λ κs lv. let r = c.requires.first in

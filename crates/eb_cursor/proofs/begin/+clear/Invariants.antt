@@ -1,4 +1,4 @@
-use Rattle.std.proofs.Common.{ℕ, length}
+use Rattle.std.proofs.Common.{length}
 use Rattle.eb_cursor.proofs.begin.+clear.Given as goal
 
 abbrev pub decreases-clear : goal.decreases-clear

@@ -1,15 +1,14 @@
-use Rattle.std.proofs.Common.{◌≡◌, ◌≢◌, ℕ, zero, suc, ◌+◌, ◌-◌, ◌<◌, ◌≤◌, ◌^◌, ◌*◌, List, [], ◌∷◌, ◌++◌, length, take, drop, max, min, not, Bool, arith, ap, ◌∙◌, sym, subst, refl, rules}
-use Rattle.eb_base.specs.Document.{Doc}
-use Rattle.eb_base.specs.Query.{Tree, Trees, size, sizes, tree, word, phrase, negation, conjunction, disjunction, no_trees, trees}
+use Rattle.std.proofs.Common.{◌≡◌, ◌≢◌, ℕ, zero, suc, ◌-◌, ◌<◌, ◌≤◌, List, [], ◌∷◌, length, not, Bool, arith, ap, ◌∙◌, sym, subst, refl, rules}
+use Rattle.eb_base.specs.Query.{Tree, tree, word, phrase, negation, conjunction, disjunction}
 use Rattle.eb_base.specs.declared.query.Query.{Query}
-use Rattle.eb_cursor.specs.Asked.{trees_in, IsRound}
+use Rattle.eb_cursor.specs.Asked.{trees_in}
 use Rattle.eb_cursor.specs.Lists.{gives}
 use Rattle.eb_cursor.specs.Ready.{Ready, AllReady}
 use Rattle.eb_cursor.specs.Tops.{top}
-use Rattle.eb_cursor.specs.Posted.{match_at, each_at, some_at}
+use Rattle.eb_cursor.specs.Posted.{match_at}
 use Rattle.eb_cursor.proofs.Tops.{top_le}
 use Rattle.eb_cursor.proofs.Readies.{ready_lower, all_lower, all_size}
-use Rattle.eb_cursor.proofs.Steps.{tree_Word, tree_Phrase, tree_Not, tree_And, tree_Or, not_asks, not_told, not_here, not_past, each_told, each_asks, round_end, round_step, some_end, some_step, some_asks, some_told, front_of, front_asks, others_ask, IsFront, ended}
+use Rattle.eb_cursor.proofs.Steps.{tree_Word, tree_Phrase, tree_Not, tree_And, tree_Or, not_asks, not_told, not_here, not_past, each_told, each_asks, round_end, round_step, some_end, some_step, some_asks, some_told, front_of, front_asks, others_ask, ended}
 use Rattle.eb_cursor.proofs.Tellings.{IsLater, gives_later, told_itself, told_as, told_on}
 use Rattle.eb_cursor.proofs.below.+below.Goals as goal
 

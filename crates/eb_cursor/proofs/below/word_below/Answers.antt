@@ -1,4 +1,4 @@
-use Rattle.std.proofs.Common.{◌≡◌, ℕ, ◌*◌, ◌≤◌, List, get_or, set, ◌∙◌}
+use Rattle.std.proofs.Common.{◌∙◌}
 use Rattle.eb_cursor.specs.Lists.{gives}
 use Rattle.eb_cursor.specs.Posted.{is_posting}
 use Rattle.eb_cursor.proofs.Steps.{word_asks, word_told}

@@ -1,4 +1,4 @@
-use Rattle.std.proofs.Common.{◌≡◌, ◌+◌, ◌<◌, ◌≤◌, ℕ, suc, Some, arith, ◌∙◌, sym, ap, Bool, refl}
+use Rattle.std.proofs.Common.{◌<◌, ◌≤◌, arith, refl}
 use Rattle.eb_cursor.specs.Lists.{gives}
 use Rattle.eb_cursor.specs.declared.cursor.Cursor.{Cursor}
 use Rattle.eb_cursor.proofs.Leaves.{leaf_found, leaf_none, leaf_next, leaf_ahead, leaf_left}

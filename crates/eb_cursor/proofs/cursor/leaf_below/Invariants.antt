@@ -1,5 +1,4 @@
 use Rattle.std.proofs.Common.{◌≡◌, ℕ, Bool}
-use Rattle.eb_place.specs.declared.moment.Moment.{Moment}
 use Rattle.eb_cursor.specs.Told.{Told}
 use Rattle.eb_cursor.specs.Lists.{gives}
 use Rattle.eb_cursor.specs.Ready.{IsLeaf}

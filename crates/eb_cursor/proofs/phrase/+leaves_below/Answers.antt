@@ -1,12 +1,8 @@
-use Rattle.std.proofs.Common.{◌≡◌, ℕ, zero, suc, ◌+◌, ◌-◌, ◌<◌, ◌≤◌, List, length, arith, ap, ◌∙◌, sym, subst, refl, rules}
-use Rattle.eb_base.specs.Document.{Doc}
-use Rattle.eb_place.specs.declared.moment.Moment.{Moment}
+use Rattle.std.proofs.Common.{◌≡◌, ◌+◌, ◌≤◌, length, arith, rules}
 use Rattle.eb_cursor.specs.Lists.{gives}
 use Rattle.eb_cursor.specs.Posted.{is_posting}
-use Rattle.eb_cursor.specs.Ready.{AllLeaves}
 use Rattle.eb_cursor.proofs.Tops.{top_le}
-use Rattle.eb_cursor.proofs.Readies.{leaves_later}
-use Rattle.eb_cursor.proofs.Phrases.{run_end, run_none, run_asks, run_step, Front, front_leaf, front_rest}
+use Rattle.eb_cursor.proofs.Phrases.{run_end, run_none, run_asks, run_step, front_leaf, front_rest}
 use Rattle.eb_cursor.proofs.Tellings.{told_itself, gives_later, IsLater}
 use Rattle.eb_place.proofs.Laters.{later_on}
 use Rattle.eb_cursor.proofs.phrase.+leaves_below.Goals as goal

@@ -1,4 +1,4 @@
-use Rattle.std.proofs.Common.{ℕ, length}
+use Rattle.std.proofs.Common.{length}
 use Rattle.eb_cursor.proofs.phrase.+leaves_below.Given as goal
 
 abbrev pub decreases-leaves_below : goal.decreases-leaves_below

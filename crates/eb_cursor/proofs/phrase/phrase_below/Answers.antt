@@ -1,7 +1,5 @@
-use Rattle.std.proofs.Common.{◌≡◌, ℕ, ◌<◌, ◌≤◌, ◌*◌, List, length, get_or, set, min, arith, ap, ◌∙◌, sym, subst, refl, rules}
-use Rattle.eb_base.specs.Document.{Doc}
+use Rattle.std.proofs.Common.{◌≡◌, ℕ, ◌≤◌, min, arith, ◌∙◌}
 use Rattle.eb_cursor.specs.Lists.{gives}
-use Rattle.eb_cursor.specs.Ready.{Ready, AllLeaves}
 use Rattle.eb_cursor.proofs.Phrases.{phrase_asks, phrase_past, phrase_told, leaves_at}
 use Rattle.eb_cursor.proofs.Tellings.{told_itself, told_as}
 use Rattle.eb_cursor.proofs.phrase.phrase_below.Goals as goal

@@ -1,13 +1,7 @@
-use Rattle.std.proofs.Common.{◌≡◌, ℕ, zero, suc, ◌+◌, ◌-◌, ◌<◌, ◌≤◌, ◌^◌, ◌*◌, ◌/◌, ◌%◌, List, [], ◌∷◌, ◌++◌, length, get_or, set, max, min, not, arith, ap, ◌∙◌, sym, subst, refl, rules}
-use Rattle.eb_base.specs.Document.{Doc}
+use Rattle.std.proofs.Common.{◌≡◌, ℕ, zero, suc, ◌+◌, ◌-◌, ◌<◌, ◌≤◌, ◌%◌, arith, subst, refl}
 use Rattle.eb_cursor.specs.Tops.{top}
-use Rattle.eb_cursor.specs.Posted.{is_posting, is_start, has_room, document_end}
-use Rattle.eb_cursor.specs.Ready.{Ready, AllLeaves, IsLeaf}
-use Rattle.eb_cursor.specs.Asked.{IsRun}
-use Rattle.eb_cursor.specs.declared.cursor.Cursor.{Cursor}
-use Rattle.eb_cursor.proofs.Tops.{top_le}
-use Rattle.eb_cursor.proofs.Readies.{leaves_lower, leaves_later}
-use Rattle.eb_cursor.proofs.Phrases.{room_here, room_past, run_end, run_asks, run_step, start_round, phrase_asks, phrase_told}
+use Rattle.eb_cursor.specs.Posted.{has_room}
+use Rattle.eb_cursor.proofs.Phrases.{room_here, room_past}
 use Rattle.eb_cursor.proofs.phrase.room_below.Goals as goal
 
 room_over_at : (n x y : ℕ) → y ≡ x → n ≤ 256 → 0 < n → 256 < y % 256 + n → suc x - (y % 256 + n - 256) ≡ top (has_room n) (suc x)

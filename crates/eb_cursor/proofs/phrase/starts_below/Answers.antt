@@ -1,6 +1,4 @@
-use Rattle.std.proofs.Common.{◌≡◌, ◌≢◌, ℕ, ◌+◌, ◌≤◌, List, length, arith, ap, ◌∙◌, sym, subst, refl, rules}
-use Rattle.eb_base.specs.Document.{Doc}
-use Rattle.eb_place.specs.declared.moment.Moment.{Moment}
+use Rattle.std.proofs.Common.{◌≢◌, ◌≤◌, length, arith, ◌∙◌, sym, subst, refl}
 use Rattle.eb_cursor.specs.Lists.{gives}
 use Rattle.eb_cursor.specs.Posted.{has_room}
 use Rattle.eb_cursor.specs.Ready.{AllLeaves}

@@ -1,6 +1,6 @@
-use Rattle.std.proofs.Common.{◌≡◌, ℕ, ◌+◌, ◌<◌, ap, arith, rules}
-use Rattle.eb_base.specs.Query.{size, sizes}
-use Rattle.eb_cursor.specs.Asked.{weight, weights, trees_in}
+use Rattle.std.proofs.Common.{ap, arith}
+use Rattle.eb_base.specs.Query.{sizes}
+use Rattle.eb_cursor.specs.Asked.{weights, trees_in}
 use Rattle.eb_cursor.proofs.size.+size.Goals as goal
 
 pub sizes-sizes-requires : goal.sizes-sizes-requires

@@ -1,4 +1,3 @@
-use Rattle.std.proofs.Common.{ℕ}
 use Rattle.eb_base.specs.Query.{tree}
 use Rattle.eb_cursor.specs.Asked.{weight, weights, trees_in}
 use Rattle.eb_cursor.proofs.size.+size.Given as goal

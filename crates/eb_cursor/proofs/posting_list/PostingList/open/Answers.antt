@@ -1,6 +1,3 @@
-use Rattle.std.proofs.Common.{ℕ, List}
-use Rattle.eb_base.specs.Document.{Doc}
-use Rattle.eb_place.specs.declared.moment.Moment.{Moment}
 use Rattle.eb_place.proofs.Laters.{later_on}
 use Rattle.eb_cursor.proofs.Openings.{term_of, first_later, absent_opens, chain_opens}
 use Rattle.eb_cursor.proofs.posting_list.PostingList.open.Goals as goal
