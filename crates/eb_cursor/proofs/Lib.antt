@@ -1,0 +1,13 @@
+pub mod Tellings
+pub mod Accepted
+pub mod Openings
+pub mod Tops
+pub mod PostingsOf
+pub mod Leaves
+pub mod Readies
+pub mod Documents
+pub mod Steps
+pub mod Phrases
+pub mod Begins
+pub mod Matching
+pub mod Asking

@@ -1,0 +1,104 @@
+-- What an opened list gives: the postings of the accepted documents, and above them what came since.
+use Rattle.std.proofs.Common.{◌≡◌, ℕ, zero, suc, ◌*◌, ◌<◌, ◌≤◌, inl, inr, List, [], ◌∷◌, ◌++◌, length, take, reverse, get_or, refl, ap, sym, ◌∙◌, subst, arith, append_assoc}
+use Rattle.std.proofs.lemmas.Bool.{cases_lt}
+use Rattle.std.proofs.lemmas.List.{length-append}
+use mathlib.Core.List.{IsPrefix}
+use Rattle.eb_base.specs.Term.{Term}
+use Rattle.eb_base.specs.Document.{Doc}
+use Rattle.eb_place.specs.declared.moment.Moment.{Moment}
+use Rattle.eb_place.specs.Postings.{postings, terms_of, count_of}
+use Rattle.eb_place.specs.Room.{cut}
+use Rattle.eb_place.specs.Moments.{IsMoment, with_current}
+use Rattle.eb_place.specs.Later.{IsNotBefore}
+use Rattle.eb_place.specs.Seen.{segment, seen, seen_count, IsEntered}
+use Rattle.eb_place.specs.Walk.{IsTerm}
+use Rattle.eb_place.proofs.Counts.{count_of-append}
+use Rattle.eb_place.proofs.Closed.{seen_is, reached_few}
+use Rattle.eb_place.proofs.Enough.{length-postings}
+use Rattle.eb_place.proofs.EnteredTerms.{number_found, entered_is_term}
+use Rattle.eb_place.proofs.Grows.{later_segment, segments_grow}
+use Rattle.eb_place.proofs.Histories.{terms_more, postings_more}
+use Rattle.eb_place.proofs.Laters.{later_on}
+use Rattle.eb_place.proofs.Placed.{placed_all}
+use Rattle.eb_terms.specs.Finding.{HasNumber}
+use Rattle.eb_chain.specs.Chains.{Stands}
+use Rattle.eb_chain.specs.declared.chain.Chain.{Chain}
+use Rattle.eb_cursor.specs.Lists.{from_below, IsFalling}
+use Rattle.eb_cursor.specs.Posted.{Narrow}
+use Rattle.eb_cursor.specs.Accepted.{accepted_in}
+use Rattle.eb_cursor.specs.Opened.{AreFirst, Opened}
+use Rattle.eb_cursor.specs.declared.posting_list.PostingList.TheVariants.{Empty, Live}
+use Rattle.eb_cursor.proofs.Accepted.{whole_moment, whole_lawful, whole_segment, whole_before, seen_accepted, entered_accepted}
+use Rattle.eb_cursor.proofs.PostingsOf.{postings_below, seen_below, narrow_each, narrow_front}
+
+-- a number that was found is that of a term with postings
+pub term_of : (m : Moment) (s : ℕ) (t : Term) (k : ℕ) → s < m.setting.segments → HasNumber m s t k → IsTerm m s t k
+term_of m s t k inside h =
+    let f = number_found m s t h.entered in
+    let i : IsTerm m s t f.0 = subst (λ z. IsTerm m s z f.0) f.2 (entered_is_term m s f.0 inside f.1) in
+    record { inside = inside; there = i.there; number = h.number }
+
+empty_of : (xs : List ℕ) → length xs ≡ 0 → xs ≡ []
+empty_of [] e = refl
+empty_of (x ∷ xs) e = absurd (omega arith)
+
+-- the segment as it was when its accepted documents were whole
+first_are : (m : Moment) (s : ℕ) (docs : List Doc) → (a : AreFirst m s docs) → segment (whole_moment m) s ≡ docs ++ a.rest
+first_are m s docs a = whole_segment m s ∙ a.are
+
+-- a term that isn't entered has no posting in accepted documents
+pub absent_opens : (m n : Moment) (s : ℕ) (docs : List Doc) (t : Term) → AreFirst m s docs → (IsEntered m s t → ⊥) → Opened n docs t Empty
+absent_opens m n s docs t a away =
+    let few : length (postings t docs) ≡ 0 = elim (cases_lt 0 (count_of t (terms_of docs))) [
+      | inl some ↦ absurd (away (entered_accepted m s t (omega (arith, some, ap (λ (z : List Doc). count_of t (terms_of z)) (first_are m s docs a), ap (count_of t) (terms_more docs a.rest), count_of-append t (terms_of docs) (terms_of a.rest)))))
+      | inr none ↦ omega (arith, length-postings t docs)
+    ] in
+    record { postings = []; told = refl; falls = tt; all = ap reverse (sym (empty_of (postings t docs) few)) ∙ postings_below t docs a.narrow }
+
+-- a chain gives what was seen when it was opened
+pub chain_opens : (m n : Moment) (s : ℕ) (docs : List Doc) (t : Term) (c : Chain) → IsMoment m → IsMoment n → IsNotBefore n m → AreFirst m s docs → Stands n s t c (seen_count n s t) (reverse (seen n s t)) → Opened n docs t (Live c)
+chain_opens m n s docs t c is js l a stands =
+    let p = later_segment (whole_moment m) n s (later_on (whole_moment m) m n (whole_before m) l) in
+    let more : List Doc = a.rest ++ p.0 in
+    let e : segment n s ≡ docs ++ more = sym p.1 ∙ ap (λ (z : List Doc). z ++ p.0) (first_are m s docs a) ∙ append_assoc docs a.rest p.0 in
+    let narrow : Narrow (docs ++ more) = subst Narrow e (narrow_each (segment n s) ((placed_all n.setting (with_current n.documents) js.setting js.lawful).limits s)) in
+    let q = postings_more t docs a.rest in
+    let few : length (postings t docs) ≤ seen_count n s t = omega (arith, seen_accepted m n s t is a.inside l, ap (λ (z : List Doc). length (postings t z)) (first_are m s docs a), ap length q.1, length-append (postings t docs) q.0) in
+    let most : seen_count n s t ≤ length (postings t (docs ++ more)) = omega (arith, reached_few n s t, ap (λ (z : List Doc). length (postings t z)) e) in
+    let is_front : seen n s t ≡ take (seen_count n s t) (postings t (docs ++ more)) = seen_is n s t ∙ ap (λ (z : List Doc). take (seen_count n s t) (postings t z)) e in
+    let w = seen_below t docs more (seen_count n s t) narrow a.narrow few most in
+    record {
+      postings = reverse (seen n s t);
+      told = (s, t, seen_count n s t, stands);
+      falls = subst (λ (z : List ℕ). IsFalling (reverse z)) (sym is_front) w.0;
+      all = ap (λ (z : List ℕ). from_below (256 * length docs) (reverse z)) is_front ∙ w.1;
+    }
+
+-- the segment is one of a later moment too
+pub first_later : (m n : Moment) (s : ℕ) (docs : List Doc) → IsNotBefore n m → AreFirst m s docs → s < n.setting.segments
+first_later m n s docs l a = subst (λ σ. s < σ.segments) l.setting a.inside
+
+-- the first documents of a segment are so later too
+pub first_on : (m n : Moment) (s : ℕ) (docs : List Doc) → IsNotBefore n m → AreFirst m s docs → AreFirst n s docs
+first_on m n s docs l a =
+    let p = l.documents.accepted in
+    let q = segments_grow m.setting m.documents.accepted p.0 s in
+    let e : accepted_in m s ++ q.0 ≡ accepted_in n s = q.1 ∙ ap (λ (z : List Doc). get_or (cut m.setting z) s []) p.1 ∙ ap (λ σ. get_or (cut σ n.documents.accepted) s []) l.setting in
+    record { inside = first_later m n s docs l a; narrow = a.narrow; rest = a.rest ++ q.0; are = sym e ∙ ap (λ (z : List Doc). z ++ q.0) a.are ∙ append_assoc docs a.rest q.0 }
+
+-- documents that are the first of a segment: the segment is there, and none has more than 256 terms
+pub are_first : (m : Moment) (s : ℕ) (docs : List Doc) → IsMoment m → 1 ≤ length docs → IsPrefix docs (accepted_in m s) → AreFirst m s docs
+are_first m s docs is some p =
+    let placed = placed_all m.setting m.documents.accepted is.setting (whole_lawful m is) in
+    let there : s < length (cut m.setting m.documents.accepted) = in_list (cut m.setting m.documents.accepted) s (omega (arith, ap length (sym p.1), length-append docs p.0)) in
+    record {
+      inside = omega (arith, placed.short);
+      narrow = narrow_front docs p.0 (subst Narrow (sym p.1) (narrow_each (accepted_in m s) (placed.limits s)));
+      rest = p.0;
+      are = sym p.1;
+    }
+  where
+    in_list : (xs : List (List Doc)) (k : ℕ) → 1 ≤ length (get_or xs k []) → k < length xs
+    in_list [] k h = absurd (omega arith)
+    in_list (x ∷ xs) zero h = omega arith
+    in_list (x ∷ xs) (suc k) h = omega (arith, in_list xs k h)

@@ -1,0 +1,47 @@
+use Rattle.std.proofs.Common.{◌≡◌, ℕ, ◌+◌, ◌*◌, ◌≤◌, List, not}
+use Rattle.eb_base.specs.Document.{Doc}
+use Rattle.eb_base.specs.Query.{tree}
+use Rattle.eb_cursor.specs.Told.{Told}
+use Rattle.eb_cursor.specs.Lists.{gives}
+use Rattle.eb_cursor.specs.Tops.{top}
+use Rattle.eb_cursor.specs.Posted.{match_at, each_at}
+use Rattle.eb_cursor.specs.Ready.{Ready, AllReady}
+use Rattle.eb_cursor.specs.Asked.{weight, weights, trees_in}
+use Rattle.eb_cursor.proofs.below.+below.Given as goal
+
+abbrev pub decreases-below : goal.decreases-below
+decreases-below g l = 2 * weight (tree l.query.now)
+
+abbrev pub decreases-not_below : goal.decreases-not_below
+decreases-not_below g l = 2 * weight (tree l.query.now) + 1
+
+abbrev pub decreases-all_below : goal.decreases-all_below
+decreases-all_below g l = 2 * weights (trees_in l.parts.now) + 1
+
+abbrev pub decreases-round_below : goal.decreases-round_below
+decreases-round_below g l = 2 * weights (trees_in l.parts.now)
+
+abbrev pub decreases-some_below : goal.decreases-some_below
+decreases-some_below g l = 2 * weights (trees_in l.parts.now)
+
+abbrev pub invariant-all_below-loop-place : goal.invariant-all_below-loop-place
+invariant-all_below-loop-place g l = record {
+  falls : l.place ≤ l.initial.place;
+  found : (docs : List Doc) (last : ℕ) → l.initial.place ≤ last → Told g.P.Port.stands g.P.Port.keeps l.initial.port l.port
+      (λ m. AllReady (gives m) docs (trees_in l.parts) l.initial.cursors last)
+      (λ n. (top (each_at docs (trees_in l.parts)) l.initial.place ≡ top (each_at docs (trees_in l.parts)) l.place) × AllReady (gives n) docs (trees_in l.parts) l.cursors l.place);
+}
+
+abbrev pub decreases-all_below-loop-place : goal.decreases-all_below-loop-place
+decreases-all_below-loop-place g l = l.place
+
+abbrev pub invariant-not_below-loop-place : goal.invariant-not_below-loop-place
+invariant-not_below-loop-place g l = record {
+  falls : l.place ≤ l.initial.place;
+  found : (docs : List Doc) (last : ℕ) → l.initial.place ≤ last → Told g.P.Port.stands g.P.Port.keeps l.initial.port l.port
+      (λ m. Ready (gives m) docs (tree l.query) l.initial.cursors last)
+      (λ n. (top (λ k. not (match_at docs (tree l.query) k)) l.initial.place ≡ top (λ k. not (match_at docs (tree l.query) k)) l.place) × Ready (gives n) docs (tree l.query) l.cursors l.place);
+}
+
+abbrev pub decreases-not_below-loop-place : goal.decreases-not_below-loop-place
+decreases-not_below-loop-place g l = l.place

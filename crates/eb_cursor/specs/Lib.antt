@@ -1,0 +1,12 @@
+pub mod Tops
+pub mod Told
+pub mod Lists
+pub mod Posted
+pub mod Ready
+pub mod Accepted
+pub mod Opened
+pub mod Asked
+pub mod Begun
+pub mod Formed
+pub mod Greatest
+pub mod Frames

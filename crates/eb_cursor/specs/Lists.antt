@@ -1,0 +1,35 @@
+-- Falling lists of postings.
+use Rattle.std.specs.Prelude.{◌≡◌, ℕ, ◌<◌, List, [], ◌∷◌, cond, ltb, MatchOption, Option}
+use Rattle.eb_base.specs.Term.{Term}
+use Rattle.eb_place.specs.declared.moment.Moment.{Moment}
+use Rattle.eb_chain.specs.Chains.{Stands}
+use Rattle.eb_cursor.specs.declared.posting_list.PostingList.{PostingList}
+use Rattle.eb_cursor.specs.declared.posting_list.PostingList.TheVariants.{Empty, Live}
+
+-- which postings a list still gives
+abbrev pub Gives : Type 1
+Gives = PostingList → List ℕ → Type 0
+
+-- the postings that a list still gives at a moment and later
+abbrev pub gives : Moment → Gives
+gives m Empty xs = xs ≡ []
+gives m (Live c) xs = (s : ℕ) × (t : Term) × (opened : ℕ) × Stands m s t c opened xs
+
+-- what a call gave: nothing where nothing was left, else the first of what was left
+abbrev pub Gave : List ℕ → PostingList → Option ℕ → Moment → Type 0
+Gave xs list r n = MatchOption r (xs ≡ []) (λ p. (ys : List ℕ) × (xs ≡ p ∷ ys) × gives n list ys)
+
+-- what is left of a falling list below an end
+abbrev pub from_below : ℕ → List ℕ → List ℕ
+from_below m [] = []
+from_below m (z ∷ zs) = cond (ltb z m) (z ∷ zs) (from_below m zs)
+
+-- the first is below the number
+abbrev pub IsUnder : ℕ → List ℕ → Type 0
+IsUnder m [] = Unit {0}
+IsUnder m (z ∷ zs) = z < m
+
+-- each is below the one before it
+abbrev pub IsFalling : List ℕ → Type 0
+IsFalling [] = Unit {0}
+IsFalling (z ∷ zs) = IsUnder z zs × IsFalling zs

@@ -1,0 +1,23 @@
+-- What opening a list gives.
+use Rattle.std.specs.Prelude.{◌≡◌, ℕ, ◌*◌, ◌<◌, ◌++◌, List, length}
+use Rattle.eb_base.specs.Document.{Doc}
+use Rattle.eb_place.specs.declared.moment.Moment.{Moment}
+use Rattle.eb_cursor.specs.Accepted.{accepted_in}
+use Rattle.eb_cursor.specs.Lists.{gives, IsFalling, from_below}
+use Rattle.eb_cursor.specs.Tops.{below}
+use Rattle.eb_cursor.specs.Posted.{is_posting, Narrow}
+use Rattle.eb_cursor.specs.declared.posting_list.PostingList.{PostingList}
+
+-- these are the first accepted documents of the segment
+pub record AreFirst (m : Moment) (s : ℕ) (docs : List Doc) : Type 0 where
+  pub inside : s < m.setting.segments
+  pub narrow : Narrow docs
+  pub rest : List Doc
+  pub are : accepted_in m s ≡ docs ++ rest
+
+-- the list gives all postings of the term in these documents, and above them what came since
+pub record Opened (m : Moment) (docs : List Doc) (t : List ℕ) (list : PostingList) : Type 0 where
+  pub postings : List ℕ
+  pub told : gives m list postings
+  pub falls : IsFalling postings
+  pub all : from_below (256 * length docs) postings ≡ below (is_posting docs t) (256 * length docs)

@@ -1,0 +1,55 @@
+-- What the cursors of a query hold between two calls.
+use Rattle.std.specs.Prelude.{◌≡◌, ℕ, suc, ◌*◌, ◌<◌, ◌≤◌, Bool, not, List, [], ◌∷◌, length, take, drop, Option, None, Some}
+use Rattle.eb_base.specs.Document.{Doc}
+use Rattle.eb_base.specs.Query.{Tree, Trees, size, word, phrase, negation, conjunction, disjunction, no_trees, trees}
+use Rattle.eb_cursor.specs.Tops.{top, below}
+use Rattle.eb_cursor.specs.Posted.{is_posting, is_start, match_at, each_at, Narrow}
+use Rattle.eb_cursor.specs.Lists.{Gives, IsFalling, from_below}
+use Rattle.eb_cursor.specs.declared.posting_list.PostingList.{PostingList}
+use Rattle.eb_cursor.specs.declared.cursor.Cursor.{Cursor}
+
+-- the current posting and those that the list still gives
+abbrev pub IsLeft : Gives → Option ℕ → PostingList → List ℕ → Type 0
+IsLeft g None list zs = zs ≡ []
+IsLeft g (Some p) list zs = (ys : List ℕ) × (zs ≡ p ∷ ys) × g list ys
+
+-- a leaf that has passed none of the numbers below an end that pass the test
+pub record IsLeaf (g : Gives) (f : ℕ → Bool) (slot : Cursor) (last : ℕ) : Type 0 where
+  pub left : List ℕ
+  pub told : IsLeft g slot.current slot.list left
+  pub falls : IsFalling left
+  pub rest : from_below last left ≡ below f last
+
+abbrev pub IsOnly : Gives → List Doc → List ℕ → List Cursor → ℕ → Type 0
+IsOnly g docs t [] last = ⊥
+IsOnly g docs t (s ∷ ss) last = (ss ≡ []) × Narrow docs × IsLeaf g (is_posting docs t) s (256 * last)
+
+abbrev pub upto : List Cursor → ℕ
+upto [] = 0
+upto (s ∷ ss) = s.upto
+
+abbrev pub rest_of : List Cursor → List Cursor
+rest_of [] = []
+rest_of (s ∷ ss) = ss
+
+-- no number from `low` on below `last` passes
+pub record IsPassed (f : ℕ → Bool) (low last : ℕ) : Type 0 where
+  pub same : low ≤ last → top f last ≡ top f low
+
+-- each leaf of a phrase has passed nothing below its own end
+abbrev pub AllLeaves : Gives → List Doc → List (List ℕ) → List Cursor → ℕ → Type 0
+AllLeaves g docs [] cursors end = cursors ≡ []
+AllLeaves g docs (t ∷ ts) [] end = ⊥
+AllLeaves g docs (t ∷ ts) (s ∷ ss) end = IsLeaf g (is_posting docs t) s end × AllLeaves g docs ts ss (suc end)
+
+abbrev mutual
+  pub Ready : Gives → List Doc → Tree → List Cursor → ℕ → Type 0
+  Ready g docs (word t) cursors last = IsOnly g docs t cursors last
+  Ready g docs (phrase ts) cursors last = (0 < length cursors) × Narrow docs × IsPassed (is_start docs ts) (upto cursors) (256 * last) × (length cursors ≡ length ts) × (0 < upto cursors → AllLeaves g docs ts cursors (upto cursors))
+  Ready g docs (negation q) cursors last = (0 < length cursors) × IsPassed (λ n. not (match_at docs q n)) (upto cursors) last × Ready g docs q (rest_of cursors) (upto cursors)
+  Ready g docs (conjunction qs) cursors last = (0 < length cursors) × IsPassed (each_at docs qs) (upto cursors) last × AllReady g docs qs (rest_of cursors) (upto cursors)
+  Ready g docs (disjunction qs) cursors last = (0 < length cursors) × AllReady g docs qs (rest_of cursors) last
+
+  pub AllReady : Gives → List Doc → Trees → List Cursor → ℕ → Type 0
+  AllReady g docs no_trees cursors last = cursors ≡ []
+  AllReady g docs (trees q qs) cursors last = Ready g docs q (take (size q) cursors) last × AllReady g docs qs (drop (size q) cursors) last

@@ -1,0 +1,196 @@
+//! The first postings of each term of a query.
+ghost use Rattle.std.specs.Prelude.{◌≡◌, ℕ, ◌+◌, ◌*◌, ◌<◌, ◌≤◌, ◌^◌, List, length, if◌then◌else◌};
+ghost use Rattle.eb_base.specs.Document.{Doc};
+ghost use Rattle.eb_base.specs.Query.{tree, size, sizes, IsFormed, AreFormed};
+ghost use Rattle.eb_place.specs.declared.moment.Moment.{Moment};
+ghost use Rattle.eb_cursor.specs.Told.{Told};
+ghost use Rattle.eb_cursor.specs.Lists.{gives};
+ghost use Rattle.eb_cursor.specs.Opened.{AreFirst};
+ghost use Rattle.eb_cursor.specs.Posted.{is_posting};
+ghost use Rattle.eb_cursor.specs.Ready.{IsLeaf};
+ghost use Rattle.eb_cursor.specs.Asked.{trees_in};
+ghost use Rattle.eb_cursor.specs.Begun.{AreClear, CanBegin, Begun, BegunLeaves, BegunEach, BegunSome};
+
+use crate::cursor::Cursor;
+use crate::posting_list::PostingList;
+use crate::size::size;
+use eb_base::{Query, Term};
+use eb_place::{Port, Steps};
+use std::sync::ledger::Ledger;
+
+/// Lets each cursor have passed everything, and forget its list.
+pub fn clear(cursors: &mut [Cursor])
+    ensures { AreClear cursors.new }
+{
+    let Some((own, rest)) = cursors.split_first_mut() else {
+        return;
+    };
+    *own = Cursor::new();
+    clear(rest);
+}
+
+// Opens the list of a term and reads its first posting.
+fn open_leaf<P: Port, L: Ledger>(
+    term: &Term,
+    segment: u32,
+    port: &mut P,
+    steps: &mut Steps<L>,
+) -> Cursor
+    requires { (m : Moment) × (docs : List Doc) × P.stands port.old m × AreFirst m segment docs }
+    ensures { (docs : List Doc) → Told P.stands P.keeps port.old port.new (λ m. AreFirst m segment docs)
+        (λ n. IsLeaf (gives n) (is_posting docs term.now) result (256 * length docs)) }
+{
+    let mut list = PostingList::open(term, segment, port, steps);
+    let current = list.next(port, steps);
+    Cursor {
+        upto: 0,
+        current,
+        list,
+    }
+}
+
+// Opens the lists of the terms of a phrase, up to the first that stands in no document.
+fn begin_leaves<P: Port, L: Ledger>(
+    terms: &[Term],
+    cursors: &mut [Cursor],
+    segment: u32,
+    port: &mut P,
+    steps: &mut Steps<L>,
+) -> bool
+    requires fits { length cursors.old ≡ length terms.now }
+    requires first { (m : Moment) × (docs : List Doc) × P.stands port.old m × AreFirst m segment docs }
+    ensures { (docs : List Doc) → Told P.stands P.keeps port.old port.new (λ m. AreFirst m segment docs)
+        (BegunLeaves docs terms.now cursors.new result) }
+{
+    let Some((own, rest)) = cursors.split_first_mut() else {
+        return true;
+    };
+    let Some((term, others)) = terms.split_first() else {
+        return true;
+    };
+    *own = open_leaf(term, segment, port, steps);
+    if own.current.is_none() {
+        return false;
+    }
+    begin_leaves(others, rest, segment, port, steps)
+}
+
+// The end that an operator begins with: 0 where nothing matches.
+fn end_if(some: bool, end: u64) -> u64
+    ensures { result ≡ (if some then end else 0) }
+{
+    if some { end } else { 0 }
+}
+
+/// Begins a query at the end of the first `documents` documents of a segment. False only where none of
+/// them matches; a term that stands in none ends a word, a phrase and an and at once.
+#[cycle(begin)]
+pub fn begin<P: Port, L: Ledger>(
+    query: &Query,
+    cursors: &mut [Cursor],
+    segment: u32,
+    documents: u32,
+    port: &mut P,
+    steps: &mut Steps<L>,
+) -> bool
+    requires small { (0 < documents) × (length cursors.old ≤ 64) }
+    requires fits { length cursors.old ≡ size (tree query.now) }
+    requires formed { IsFormed (tree query.now) }
+    requires clear { AreClear cursors.old }
+    requires first { CanBegin P.stands port.old segment documents }
+    ensures { (docs : List Doc) → length docs ≡ documents → Told P.stands P.keeps port.old port.new (λ m. AreFirst m segment docs)
+        (Begun docs (tree query.now) cursors.new result) }
+{
+    let end = u64::from(documents);
+    match query {
+        Query::Word(term) => {
+            let leaf = open_leaf(term, segment, port, steps);
+            let some = leaf.current.is_some();
+            cursors[0] = leaf;
+            some
+        }
+        Query::Phrase(terms) => {
+            let all = begin_leaves(terms.as_slice(), cursors, segment, port, steps);
+            let last = 256 * end + 1 - terms.len() as u64;
+            cursors[0].upto = end_if(all, last);
+            all
+        }
+        Query::Not(part) => {
+            let Some((own, rest)) = cursors.split_first_mut() else {
+                return false;
+            };
+            own.upto = end;
+            begin(part, rest, segment, documents, port, steps);
+            true
+        }
+        Query::And(parts) => {
+            let Some((own, rest)) = cursors.split_first_mut() else {
+                return false;
+            };
+            let all = begin_each(parts.as_slice(), rest, segment, documents, port, steps);
+            own.upto = end_if(all, end);
+            all
+        }
+        Query::Or(parts) => {
+            let Some((_own, rest)) = cursors.split_first_mut() else {
+                return false;
+            };
+            begin_some(parts.as_slice(), rest, segment, documents, port, steps)
+        }
+    }
+}
+
+// Begins the parts of an and, up to the first that matches no document.
+#[cycle(begin)]
+fn begin_each<P: Port, L: Ledger>(
+    parts: &[Query],
+    cursors: &mut [Cursor],
+    segment: u32,
+    documents: u32,
+    port: &mut P,
+    steps: &mut Steps<L>,
+) -> bool
+    requires small { (0 < documents) × (length cursors.old ≤ 64) }
+    requires fits { length cursors.old ≡ sizes (trees_in parts.now) }
+    requires formed { AreFormed (trees_in parts.now) }
+    requires clear { AreClear cursors.old }
+    requires first { CanBegin P.stands port.old segment documents }
+    ensures { (docs : List Doc) → length docs ≡ documents → Told P.stands P.keeps port.old port.new (λ m. AreFirst m segment docs)
+        (BegunEach docs (trees_in parts.now) cursors.new result) }
+{
+    let Some((part, others)) = parts.split_first() else {
+        return true;
+    };
+    let (own, rest) = cursors.split_at_mut(size(part));
+    if !begin(part, own, segment, documents, port, steps) {
+        return false;
+    }
+    begin_each(others, rest, segment, documents, port, steps)
+}
+
+// Begins the parts of an or.
+#[cycle(begin)]
+fn begin_some<P: Port, L: Ledger>(
+    parts: &[Query],
+    cursors: &mut [Cursor],
+    segment: u32,
+    documents: u32,
+    port: &mut P,
+    steps: &mut Steps<L>,
+) -> bool
+    requires small { (0 < documents) × (length cursors.old ≤ 64) }
+    requires fits { length cursors.old ≡ sizes (trees_in parts.now) }
+    requires formed { AreFormed (trees_in parts.now) }
+    requires clear { AreClear cursors.old }
+    requires first { CanBegin P.stands port.old segment documents }
+    ensures { (docs : List Doc) → length docs ≡ documents → Told P.stands P.keeps port.old port.new (λ m. AreFirst m segment docs)
+        (BegunSome docs (trees_in parts.now) cursors.new result) }
+{
+    let Some((part, others)) = parts.split_first() else {
+        return false;
+    };
+    let (own, rest) = cursors.split_at_mut(size(part));
+    let some = begin(part, own, segment, documents, port, steps);
+    let other = begin_some(others, rest, segment, documents, port, steps);
+    some || other
+}

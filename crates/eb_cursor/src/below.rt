@@ -1,0 +1,164 @@
+//! The greatest match of a query below an end.
+ghost use Rattle.std.specs.Prelude.{◌≡◌, ℕ, ◌+◌, ◌<◌, ◌≤◌, ◌^◌, List, length};
+ghost use Rattle.eb_base.specs.Document.{Doc};
+ghost use Rattle.eb_base.specs.Query.{tree, word};
+ghost use Rattle.eb_place.specs.declared.moment.Moment.{Moment};
+ghost use Rattle.eb_cursor.specs.Told.{Told};
+ghost use Rattle.eb_cursor.specs.Lists.{gives};
+ghost use Rattle.eb_cursor.specs.Ready.{Ready, AllReady};
+ghost use Rattle.eb_cursor.specs.Asked.{trees_in, CanAsk, CanAskAll, Found, FoundNot, FoundSome, FoundAll, CanAskWord, IsRound};
+
+use crate::cursor::{Cursor, leaf_below};
+use crate::phrase::{phrase_below, to_document_end};
+use crate::size::size;
+use eb_base::Query;
+use eb_place::{Port, Steps};
+use std::sync::ledger::Ledger;
+
+/// One more than the greatest document below `end` that matches, or 0.
+#[cycle(below)]
+pub fn below<P: Port, L: Ledger>(
+    query: &Query,
+    cursors: &mut [Cursor],
+    port: &mut P,
+    steps: &mut Steps<L>,
+    end: u64,
+) -> u64
+    requires small { (end ≤ 2 ^ 32) × (length cursors.old ≤ 64) }
+    requires ready { CanAsk P.stands port.old (tree query.now) cursors.old end }
+    ensures { (docs : List Doc) (last : ℕ) → end ≤ last → Told P.stands P.keeps port.old port.new (λ m. Ready (gives m) docs (tree query.now) cursors.old last) (Found (tree query.now) docs cursors.new end result) }
+{
+    if end == 0 {
+        return 0;
+    }
+    match query {
+        Query::Word(_) => word_below(cursors, port, steps, end),
+        Query::Phrase(_) => phrase_below(cursors, port, steps, end),
+        Query::Not(part) => {
+            let Some((own, rest)) = cursors.split_first_mut() else {
+                return 0;
+            };
+            let found = not_below(part, rest, port, steps, end.min(own.upto));
+            own.upto = found;
+            found
+        }
+        Query::And(parts) => {
+            let Some((own, rest)) = cursors.split_first_mut() else {
+                return 0;
+            };
+            let found = all_below(parts.as_slice(), rest, port, steps, end.min(own.upto));
+            own.upto = found;
+            found
+        }
+        Query::Or(parts) => {
+            let Some((_own, rest)) = cursors.split_first_mut() else {
+                return 0;
+            };
+            some_below(parts.as_slice(), rest, port, steps, end)
+        }
+    }
+}
+
+// One more than the greatest document below `end` that has the term, or 0.
+fn word_below<P: Port, L: Ledger>(
+    cursors: &mut [Cursor],
+    port: &mut P,
+    steps: &mut Steps<L>,
+    end: u64,
+) -> u64
+    requires small { end ≤ 2 ^ 32 }
+    requires ready { CanAskWord P.stands port.old cursors.old end }
+    ensures { (docs : List Doc) (t : List ℕ) (last : ℕ) → end ≤ last → Told P.stands P.keeps port.old port.new (λ m. Ready (gives m) docs (word t) cursors.old last) (Found (word t) docs cursors.new end result) }
+{
+    let found = leaf_below(&mut cursors[0], port, steps, 256 * end);
+    to_document_end(found)
+}
+
+// One more than the greatest document below `end` that doesn't match, or 0.
+#[cycle(below)]
+fn not_below<P: Port, L: Ledger>(
+    query: &Query,
+    cursors: &mut [Cursor],
+    port: &mut P,
+    steps: &mut Steps<L>,
+    end: u64,
+) -> u64
+    requires small { (end ≤ 2 ^ 32) × (length cursors.old ≤ 64) }
+    requires ready { CanAsk P.stands port.old (tree query.now) cursors.old end }
+    ensures { (docs : List Doc) (last : ℕ) → end ≤ last → Told P.stands P.keeps port.old port.new (λ m. Ready (gives m) docs (tree query.now) cursors.old last) (FoundNot (tree query.now) docs cursors.new end result) }
+{
+    let mut place = end;
+    while place > 0 {
+        let found = below(query, cursors, port, steps, place);
+        if found < place {
+            return place;
+        }
+        place -= 1;
+    }
+    place
+}
+
+// Asks all parts in turn, each from where the one before it stopped, until none of them falls.
+#[cycle(below)]
+fn all_below<P: Port, L: Ledger>(
+    parts: &[Query],
+    cursors: &mut [Cursor],
+    port: &mut P,
+    steps: &mut Steps<L>,
+    end: u64,
+) -> u64
+    requires small { (end ≤ 2 ^ 32) × (length cursors.old ≤ 64) }
+    requires ready { CanAskAll P.stands port.old (trees_in parts.now) cursors.old end }
+    ensures { (docs : List Doc) (last : ℕ) → end ≤ last → Told P.stands P.keeps port.old port.new (λ m. AllReady (gives m) docs (trees_in parts.now) cursors.old last) (FoundAll (trees_in parts.now) docs cursors.new end result) }
+{
+    let mut place = end;
+    loop {
+        let found = round_below(parts, cursors, port, steps, place);
+        if found == place {
+            return place;
+        }
+        place = found;
+    }
+}
+
+#[cycle(below)]
+fn round_below<P: Port, L: Ledger>(
+    parts: &[Query],
+    cursors: &mut [Cursor],
+    port: &mut P,
+    steps: &mut Steps<L>,
+    end: u64,
+) -> u64
+    requires small { (end ≤ 2 ^ 32) × (length cursors.old ≤ 64) }
+    requires ready { CanAskAll P.stands port.old (trees_in parts.now) cursors.old end }
+    ensures { (docs : List Doc) (last : ℕ) → end ≤ last → Told P.stands P.keeps port.old port.new (λ m. AllReady (gives m) docs (trees_in parts.now) cursors.old last) (λ n. IsRound (gives n) docs (trees_in parts.now) cursors.new end result) }
+{
+    let Some((part, others)) = parts.split_first() else {
+        return end;
+    };
+    let (own, rest) = cursors.split_at_mut(size(part));
+    let found = below(part, own, port, steps, end);
+    round_below(others, rest, port, steps, found)
+}
+
+// One more than the greatest document below `end` that some part matches, or 0.
+#[cycle(below)]
+fn some_below<P: Port, L: Ledger>(
+    parts: &[Query],
+    cursors: &mut [Cursor],
+    port: &mut P,
+    steps: &mut Steps<L>,
+    end: u64,
+) -> u64
+    requires small { (end ≤ 2 ^ 32) × (length cursors.old ≤ 64) }
+    requires ready { CanAskAll P.stands port.old (trees_in parts.now) cursors.old end }
+    ensures { (docs : List Doc) (last : ℕ) → end ≤ last → Told P.stands P.keeps port.old port.new (λ m. AllReady (gives m) docs (trees_in parts.now) cursors.old last) (FoundSome (trees_in parts.now) docs cursors.new end result) }
+{
+    let Some((part, others)) = parts.split_first() else {
+        return 0;
+    };
+    let (own, rest) = cursors.split_at_mut(size(part));
+    let found = below(part, own, port, steps, end);
+    let other = some_below(others, rest, port, steps, end);
+    found.max(other)
+}

@@ -1,0 +1,105 @@
+//! Phrases: the terms of a phrase leap over its possible places.
+ghost use Rattle.std.specs.Prelude.{◌≡◌, ℕ, ◌+◌, ◌*◌, ◌<◌, ◌≤◌, ◌^◌, List, length};
+ghost use Rattle.eb_base.specs.Document.{Doc};
+ghost use Rattle.eb_base.specs.Query.{phrase};
+ghost use Rattle.eb_place.specs.declared.moment.Moment.{Moment};
+ghost use Rattle.eb_cursor.specs.Told.{Told};
+ghost use Rattle.eb_cursor.specs.Lists.{gives};
+ghost use Rattle.eb_cursor.specs.Posted.{document_end, has_room};
+ghost use Rattle.eb_cursor.specs.Ready.{Ready, AllLeaves};
+ghost use Rattle.eb_cursor.specs.Asked.{CanAskPhrase, CanAskLeaves, Found, FoundStart, IsRun};
+ghost use Rattle.eb_cursor.specs.Tops.{top};
+
+use crate::cursor::{Cursor, leaf_below};
+use eb_place::{Port, Steps};
+use std::sync::ledger::Ledger;
+
+/// One more than the document of the posting before this place, or 0.
+pub fn to_document_end(place: u64) -> u64
+    ensures { result ≡ document_end place }
+{
+    if place == 0 {
+        return 0;
+    }
+    (place - 1) / 256 + 1
+}
+
+// The greatest end at or below this one, from before which `count` places lie in one document.
+fn room_below(count: u64, end: u64) -> u64
+    requires { (0 < count) × (count ≤ 256) }
+    ensures { result ≡ top (has_room count) end }
+{
+    if end == 0 {
+        return 0;
+    }
+    let over = (end - 1) % 256 + count;
+    if over <= 256 {
+        return end;
+    }
+    end - (over - 256)
+}
+
+// Asks each leaf in turn, each for its own place in the phrase; none where the one before it has ended.
+fn leaves_below<P: Port, L: Ledger>(
+    at: u64,
+    cursors: &mut [Cursor],
+    port: &mut P,
+    steps: &mut Steps<L>,
+    end: u64,
+) -> u64
+    requires small { end + at + length cursors.old < 2 ^ 48 }
+    requires ready { CanAskLeaves P.stands port.old cursors.old at end }
+    ensures { (docs : List Doc) (ts : List (List ℕ)) (last : ℕ) → end ≤ last → Told P.stands P.keeps port.old port.new (λ m. AllLeaves (gives m) docs ts cursors.old (last + at)) (λ n. IsRun (gives n) docs ts cursors.new at end result) }
+{
+    if end == 0 {
+        return 0;
+    }
+    let Some((own, rest)) = cursors.split_first_mut() else {
+        return end;
+    };
+    let found = leaf_below(own, port, steps, end + at).saturating_sub(at);
+    leaves_below(at + 1, rest, port, steps, found)
+}
+
+// One more than the greatest place below `end` where the phrase begins, or 0.
+fn starts_below<P: Port, L: Ledger>(
+    cursors: &mut [Cursor],
+    port: &mut P,
+    steps: &mut Steps<L>,
+    end: u64,
+) -> u64
+    requires small { (end ≤ 2 ^ 40) × (0 < length cursors.old) × (length cursors.old ≤ 64) }
+    requires ready { CanAskLeaves P.stands port.old cursors.old 0 end }
+    ensures { (docs : List Doc) (ts : List (List ℕ)) (last : ℕ) → end ≤ last → Told P.stands P.keeps port.old port.new (λ m. AllLeaves (gives m) docs ts cursors.old last) (FoundStart ts docs cursors.new end result) }
+{
+    let count = cursors.len() as u64;
+    let mut place = end;
+    loop {
+        let room = room_below(count, place);
+        let found = leaves_below(0, cursors, port, steps, room);
+        if found == place {
+            return place;
+        }
+        place = found;
+    }
+}
+
+/// One more than the greatest document below `end` that has the phrase, or 0.
+pub fn phrase_below<P: Port, L: Ledger>(
+    cursors: &mut [Cursor],
+    port: &mut P,
+    steps: &mut Steps<L>,
+    end: u64,
+) -> u64
+    requires small { (end ≤ 2 ^ 32) × (length cursors.old ≤ 64) }
+    requires ready { CanAskPhrase P.stands port.old cursors.old end }
+    ensures { (docs : List Doc) (ts : List (List ℕ)) (last : ℕ) → end ≤ last → Told P.stands P.keeps port.old port.new (λ m. Ready (gives m) docs (phrase ts) cursors.old last) (Found (phrase ts) docs cursors.new end result) }
+{
+    let start = (256 * end).min(cursors[0].upto);
+    if start == 0 {
+        return 0;
+    }
+    let found = starts_below(cursors, port, steps, start);
+    cursors[0].upto = found;
+    to_document_end(found)
+}

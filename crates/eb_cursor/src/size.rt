@@ -1,0 +1,32 @@
+//! How many cursors a query needs.
+ghost use Rattle.std.specs.Prelude.{◌≡◌, ◌<◌, ◌^◌};
+ghost use Rattle.eb_base.specs.Query.{tree, size, sizes};
+ghost use Rattle.eb_cursor.specs.Asked.{trees_in};
+
+use eb_base::Query;
+
+/// The size of a query: one for each word, each term of a phrase and each operator.
+#[cycle(size)]
+pub fn size(query: &Query) -> usize
+    requires { size (tree query.now) < 2 ^ 32 }
+    ensures { result ≡ size (tree query.now) }
+{
+    match query {
+        Query::Word(_) => 1,
+        Query::Phrase(terms) => terms.len(),
+        Query::Not(part) => 1 + size(part),
+        Query::And(parts) => 1 + sizes(parts.as_slice()),
+        Query::Or(parts) => 1 + sizes(parts.as_slice()),
+    }
+}
+
+#[cycle(size)]
+fn sizes(parts: &[Query]) -> usize
+    requires { sizes (trees_in parts.now) < 2 ^ 32 }
+    ensures { result ≡ sizes (trees_in parts.now) }
+{
+    let Some((part, others)) = parts.split_first() else {
+        return 0;
+    };
+    size(part) + sizes(others)
+}
