@@ -12,3 +12,6 @@ mod posting_list;
 mod size;
 
 pub use frame::Frame;
+
+#[cfg(test)]
+mod tests;
