@@ -10,7 +10,7 @@ ghost use Rattle.eb_cursor.specs.Ready.{Ready, AllReady};
 ghost use Rattle.eb_cursor.specs.Asked.{trees_in, CanAsk, CanAskAll, Found, FoundNot, FoundSome, FoundAll, CanAskWord, IsRound};
 
 use crate::cursor::{Cursor, leaf_below};
-use crate::phrase::{phrase_below, to_document_end};
+use crate::phrase::{PLACES, phrase_below, to_document_end};
 use crate::size::size;
 use eb_base::Query;
 use eb_place::{Port, Steps};
@@ -73,7 +73,7 @@ fn word_below<P: Port, L: Ledger>(
     ensures found { (docs : List Doc) (t : List ℕ) (last : ℕ) → end ≤ last → Told P.stands P.keeps port.old port.new (λ m. Ready (gives m) docs (word t) cursors.old last) (Found (word t) docs cursors.new end result) }
     ensures loads { steps.new + loads_left cursors.new ≤ steps.old + loads_left cursors.old }
 {
-    let found = leaf_below(&mut cursors[0], port, steps, 256 * end);
+    let found = leaf_below(&mut cursors[0], port, steps, PLACES * end);
     to_document_end(found)
 }
 

@@ -12,8 +12,11 @@ ghost use Rattle.eb_cursor.specs.Asked.{CanAskPhrase, CanAskLeaves, Found, Found
 ghost use Rattle.eb_cursor.specs.Tops.{top};
 
 use crate::cursor::{Cursor, leaf_below};
-use eb_place::{Port, Steps};
+use eb_place::{POSITION_BITS, Port, Steps};
 use std::sync::ledger::Ledger;
+
+/// The places of a document: a posting is the number of its document times this and its position.
+pub const PLACES: u64 = 1 << POSITION_BITS;
 
 /// One more than the document of the posting before this place, or 0.
 pub fn to_document_end(place: u64) -> u64
@@ -22,7 +25,7 @@ pub fn to_document_end(place: u64) -> u64
     if place == 0 {
         return 0;
     }
-    (place - 1) / 256 + 1
+    (place - 1) / PLACES + 1
 }
 
 // The greatest end at or below this one, from before which `count` places lie in one document.
@@ -33,11 +36,11 @@ fn room_below(count: u64, end: u64) -> u64
     if end == 0 {
         return 0;
     }
-    let over = (end - 1) % 256 + count;
-    if over <= 256 {
+    let over = (end - 1) % PLACES + count;
+    if over <= PLACES {
         return end;
     }
-    end - (over - 256)
+    end - (over - PLACES)
 }
 
 // Asks each leaf in turn, each for its own place in the phrase; none where the one before it has ended.
@@ -99,7 +102,7 @@ pub fn phrase_below<P: Port, L: Ledger>(
     ensures found { (docs : List Doc) (ts : List (List ℕ)) (last : ℕ) → end ≤ last → Told P.stands P.keeps port.old port.new (λ m. Ready (gives m) docs (phrase ts) cursors.old last) (Found (phrase ts) docs cursors.new end result) }
     ensures loads { steps.new + loads_left cursors.new ≤ steps.old + loads_left cursors.old }
 {
-    let start = (256 * end).min(cursors[0].upto);
+    let start = (PLACES * end).min(cursors[0].upto);
     if start == 0 {
         return 0;
     }
