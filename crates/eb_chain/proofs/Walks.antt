@@ -1,5 +1,5 @@
 -- What a walk needs: ways stay the same at later moments, and lead to the posting before.
-use Rattle.std.proofs.Common.{◌≡◌, ℕ, zero, suc, ◌+◌, ◌-◌, ◌*◌, ◌/◌, ◌%◌, ◌^◌, ◌<◌, ◌≤◌, ◌&&◌, inl, inr, true, false, Some, None, List, [], ◌∷◌, length, take, reverse, get_or, refl, ap, sym, ◌∙◌, subst, arith, nat_le, nat_lt}
+use Rattle.std.proofs.Common.{◌≡◌, ℕ, zero, suc, ◌+◌, ◌-◌, ◌*◌, ◌/◌, ◌%◌, ◌^◌, ◌<◌, ◌≤◌, inl, inr, true, false, Some, None, List, [], ◌∷◌, length, take, reverse, get_or, refl, ap, sym, ◌∙◌, subst, arith}
 use Rattle.std.proofs.lemmas.Bool.{cases_Bool, cases_lt}
 use Rattle.std.proofs.lemmas.Bool.Decides.{nat_tests}
 use Rattle.std.proofs.lemmas.List.{take_more, reverse-append, length-reverse, length-take-le}
@@ -51,23 +51,24 @@ fields (suc (suc zero)) o x a h l k e = (omega arith, omega arith)
 fields (suc (suc (suc zero))) o x a h l k e = (omega arith, omega arith)
 fields (suc (suc (suc (suc p)))) o x a h l k e = absurd (omega arith)
 
-told : (f a : ℕ) → Parts f a → (address_pool a ≡ pool_at f) × (address_offset a ≡ offset_at f)
+-- the parts of the address of a posting
+pub told : (f a : ℕ) → Parts f a → (address_pool a ≡ pool_at f) × (address_offset a ≡ offset_at f)
 told f a h = let w = fields (pool_at f) (offset_at f) h.slice a (pool_low f) (offset_in f) h.inside h.is in
     (w.0, ap (λ p. a % 2 ^ slice_bits p) w.0 ∙ w.1)
 
-first_at : (pool_at 0 ≡ 0) × (offset_at 0 ≡ 0)
+pub first_at : (pool_at 0 ≡ 0) × (offset_at 0 ≡ 0)
 unfolding pool_at offset_at
 first_at = (refl, refl)
 
-within_at : (f : ℕ) → begins (suc f) ≡ false → 1 ≤ pool_at (suc f) → 2 ≤ offset_at (suc f)
+pub within_at : (f : ℕ) → begins (suc f) ≡ false → 1 ≤ pool_at (suc f) → 2 ≤ offset_at (suc f)
 unfolding pool_at offset_at slice_start
 within_at f h l = grind (arith, nat_tests)
 
-second_at : (f : ℕ) → begins (suc f) ≡ false → pool_at (suc f) ≡ 0 → 1 ≤ offset_at (suc f)
+pub second_at : (f : ℕ) → begins (suc f) ≡ false → pool_at (suc f) ≡ 0 → 1 ≤ offset_at (suc f)
 unfolding pool_at offset_at slice_start
 second_at f h l = grind (arith, nat_tests)
 
-linked_at : (f : ℕ) → begins (suc f) ≡ true → (1 ≤ pool_at (suc f)) × (offset_at (suc f) ≡ 1)
+pub linked_at : (f : ℕ) → begins (suc f) ≡ true → (1 ≤ pool_at (suc f)) × (offset_at (suc f) ≡ 1)
 unfolding pool_at offset_at slice_start
 linked_at f h = (grind (arith, nat_tests), grind (arith, nat_tests))
 
@@ -116,7 +117,7 @@ way_back m s t opened (suc f) a w is o h b =
     ]
 
 -- the newest of the first f + 1
-reverse_take : (f : ℕ) (ps : List ℕ) → f < length ps → reverse (take (suc f) ps) ≡ get_or ps f 0 ∷ reverse (take f ps)
+pub reverse_take : (f : ℕ) (ps : List ℕ) → f < length ps → reverse (take (suc f) ps) ≡ get_or ps f 0 ∷ reverse (take f ps)
 reverse_take f ps h = ap (λ (k : ℕ). reverse (take k ps)) (let q : suc f ≡ f + 1 = omega arith in q) ∙ ap reverse (take_more ps f 0 h) ∙ reverse-append (take f ps) (get_or ps f 0 ∷ [])
 
 gives : (n l : Moment) (s c : ℕ) (t : Term) (v w : Way) (opened x : ℕ) (xs : List ℕ) (a value : ℕ) → IsMoment n → IsMoment l → IsNotBefore l n → Stands n s t record { segment = c; way = v } opened (x ∷ xs)

@@ -3,5 +3,15 @@
 #![tactic(auto)]
 
 mod chain;
+mod laws;
+mod new_slices;
+mod next_place;
+mod writing;
 
 pub use chain::Chain;
+pub use laws::{reached_words_stay, stored_once};
+pub use new_slices::{NewSlices, needs};
+pub use writing::append;
+
+#[cfg(test)]
+mod tests;

@@ -1,4 +1,4 @@
-use Rattle.std.proofs.Common.{◌≡◌, ◌<◌, ◌^◌, ℕ, ap, sym, ◌∙◌, subst, arith}
+use Rattle.std.proofs.Common.{◌≡◌, ap, sym, ◌∙◌, subst, arith}
 use Rattle.eb_base.specs.Setting.{Setting}
 use Rattle.eb_place.specs.Layout.{place, pool_slot, IsInPool}
 use Rattle.eb_place.specs.Moments.{word}
