@@ -1,8 +1,8 @@
 -- The cells of the terms of a segment: one a term, each the first free one from the term's home cell on.
-use Rattle.std.proofs.Common.{◌≡◌, ℕ, zero, suc, ◌+◌, ◌*◌, ◌<◌, ◌≤◌, ◌==◌, ◌||◌, Bool, true, false, List, [], ◌∷◌, ◌++◌, length, take, get_or, refl, ap, sym, ◌∙◌, subst, arith, inl, inr, append-nil, append_assoc}
+use Rattle.std.proofs.Common.{◌≡◌, ℕ, zero, suc, ◌<◌, ◌≤◌, ◌==◌, ◌||◌, Bool, true, false, List, [], ◌∷◌, ◌++◌, length, get_or, refl, ap, sym, ◌∙◌, subst, arith, inl, inr, append-nil, append_assoc}
 use Rattle.std.specs.List.{position_or_len}
-use Rattle.std.proofs.lemmas.Bool.{cases_Bool, cases_lt, false≢true, eq-eqb, eqb-true}
-use Rattle.std.proofs.lemmas.List.{length_push, length-append, take-append-le, take_at, get_or_append_left}
+use Rattle.std.proofs.lemmas.Bool.{cases_lt, false≢true, eq-eqb, eqb-true}
+use Rattle.std.proofs.lemmas.List.{length_push, length-append, get_or_append_left}
 use Rattle.std.proofs.lemmas.List.Sums.{fold_push, passes_at_first}
 use Rattle.std.proofs.Math.Seq.{get_or-append_seam}
 use Rattle.std.proofs.Math.Nat.{mod-lt}
@@ -10,7 +10,7 @@ use mathlib.Core.List.{IsPrefix}
 use Rattle.eb_base.specs.Term.{Term}
 use Rattle.eb_place.specs.Placing.{cells_of, with_cell, cell_of_next, free_from, hash, home_cell}
 use Rattle.eb_place.proofs.Counts.{by_push}
-use Rattle.eb_place.proofs.Cells.{is_taken, cell_at, Found, free_from_is, free_from_free, position_in}
+use Rattle.eb_place.proofs.Cells.{is_taken, cell_at, free_from_is, free_from_free, position_in}
 use Rattle.eb_place.proofs.Prefixes.{prefix_trans}
 use Rattle.eb_place.proofs.Within.{cell_within}
 
@@ -73,18 +73,25 @@ next_is_free cells terms t h = let l = length-cells_of cells terms in
     ∙ free_from_free cells (cells_of cells terms) (home_cell cells t) (mod-lt (hash t) (omega arith)) (omega arith)
 
 -- where a free cell is met behind taken ones, it is the cell of the next term
-pub next_is : (cells : ℕ) (terms : List Term) (t : Term) (k : ℕ) → 1 ≤ cells → k ≤ length terms → ((i : ℕ) → i < k → is_taken (cells_of cells terms) (cell_at cells (home_cell cells t) i) ≡ true) → is_taken (cells_of cells terms) (cell_at cells (home_cell cells t) k) ≡ false
+pub next_is : (cells : ℕ) (terms : List Term) (t : Term) (k : ℕ) → 1 ≤ cells → length terms < cells → ((i : ℕ) → i < k → is_taken (cells_of cells terms) (cell_at cells (home_cell cells t) i) ≡ true) → is_taken (cells_of cells terms) (cell_at cells (home_cell cells t) k) ≡ false
     → cell_of_next cells terms t ≡ cell_at cells (home_cell cells t) k
 unfolding cell_of_next
 next_is cells terms t k some few before free =
     let r = free_from_is cells (cells_of cells terms) (length terms) (home_cell cells t) (mod-lt (hash t) some) in
     elim (cases_lt r.steps k) [
-      | inl low ↦ absurd (false≢true (sym (r.free (omega arith)) ∙ ap (is_taken (cells_of cells terms)) r.is ∙ before r.steps low))
+      | inl low ↦ absurd (false≢true (sym (next_is_free cells terms t few) ∙ ap (is_taken (cells_of cells terms)) r.is ∙ before r.steps low))
       | inr high ↦ elim (cases_lt k r.steps) [
         | inl over ↦ absurd (false≢true (sym free ∙ r.before k over))
         | inr under ↦ r.is ∙ ap (cell_at cells (home_cell cells t)) (let e : r.steps ≡ k = omega arith in e)
       ]
     ]
+
+-- so not all cells are taken
+pub next_not_all : (cells : ℕ) (terms : List Term) (t : Term) (k : ℕ) → cells ≤ k → length terms < cells → ((i : ℕ) → i < k → is_taken (cells_of cells terms) (cell_at cells (home_cell cells t) i) ≡ true) → ⊥
+unfolding cell_of_next
+next_not_all cells terms t k all few taken =
+    let r = free_from_is cells (cells_of cells terms) (length terms) (home_cell cells t) (mod-lt (hash t) (omega arith)) in
+    false≢true (sym (next_is_free cells terms t few) ∙ ap (is_taken (cells_of cells terms)) r.is ∙ taken r.steps (omega (arith, r.within)))
 
 -- cells are cells
 pub cell_low : (cells : ℕ) (terms : List Term) → 1 ≤ cells → (k : ℕ) → k < length terms → get_or (cells_of cells terms) k 0 < cells

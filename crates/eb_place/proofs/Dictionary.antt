@@ -1,37 +1,34 @@
 -- What the words of a segment's dictionary are at a moment.
-use Rattle.std.proofs.Common.{◌≡◌, ℕ, zero, suc, ◌+◌, ◌-◌, ◌*◌, ◌/◌, ◌<◌, ◌≤◌, ◌==◌, ◌||◌, Bool, true, false, cond, List, [], ◌∷◌, ◌++◌, length, take, drop, filter, get_or, count_by, sum_by, All, refl, ap, sym, ◌∙◌, subst, arith, inl, inr, append-nil, append_assoc}
-use Rattle.std.proofs.lemmas.Bool.{cases_Bool, cases_lt, false≢true, ne_eqb, eq-eqb}
+use Rattle.std.proofs.Common.{◌≡◌, ℕ, ◌+◌, ◌-◌, ◌*◌, ◌<◌, ◌==◌, ◌||◌, Bool, true, false, cond, List, [], ◌∷◌, ◌++◌, length, take, filter, get_or, count_by, sum_by, refl, ap, sym, ◌∙◌, subst, arith, inl, inr, append-nil, append_assoc}
+use Rattle.std.proofs.lemmas.Bool.{cases_Bool, cases_lt, false≢true, ne_eqb}
 use Rattle.std.proofs.lemmas.List.{length_push, length-append, length-take, take-append-le, take_all, take_at, get_or_append_left}
 use Rattle.std.proofs.lemmas.List.Sums.{sum_by_push, sum_by-append, sum_by-cons, length-filter}
 use mathlib.Core.List.{IsPrefix}
-use Rattle.eb_base.specs.Term.{Term, AreBytes}
-use Rattle.eb_base.specs.Document.{Doc, IsDocument}
-use Rattle.eb_base.specs.Setting.{Setting, words_of}
+use Rattle.eb_base.specs.Term.{Term}
+use Rattle.eb_base.specs.Setting.{Setting}
 use Rattle.eb_place.specs.declared.moment.Moment.{Moment}
 use Rattle.eb_place.specs.Layout.{Slot, size, place}
 use Rattle.eb_place.specs.Layout.Slot.{slot}
 use Rattle.eb_place.specs.Layout.Region.{cell_region, text_region, text_place_region}
 use Rattle.eb_place.specs.Postings.{terms_of, distinct}
-use Rattle.eb_place.specs.Room.{cut, text_words}
-use Rattle.eb_place.specs.Placing.{Store, pairs_of, in_row, text_of, enter_stores, cells_of, cell_of_next}
-use Rattle.eb_place.specs.Moments.{value_after, word, document_stores, with_current, IsMoment}
-use Rattle.eb_place.specs.Later.{IsNotBefore}
+use Rattle.eb_place.specs.Room.{text_words}
+use Rattle.eb_place.specs.Placing.{Store, pairs_of, text_of, enter_stores, cells_of, cell_of_next}
+use Rattle.eb_place.specs.Moments.{value_after, word, document_stores, IsMoment}
 use Rattle.eb_place.specs.Seen.{segment, is_in, stores_in_region, entered}
 use Rattle.eb_place.proofs.Counts.{by_push}
-use Rattle.eb_place.proofs.Slots.{InTable, place_once, place_in}
-use Rattle.eb_place.proofs.Fresh.{Each, Each-append}
+use Rattle.eb_place.proofs.Slots.{InTable, place_once}
+use Rattle.eb_place.proofs.Fresh.{Each}
 use Rattle.eb_place.proofs.Fresh.Each.{none, more}
-use Rattle.eb_place.proofs.Within.{IsWithin, cell_within, SegmentFits}
+use Rattle.eb_place.proofs.Within.{IsWithin}
 use Rattle.eb_place.proofs.Cells.{is_taken}
-use Rattle.eb_place.proofs.Reached.{val, val_stored, val_keeps, Each-map, Each-take}
+use Rattle.eb_place.proofs.Reached.{val, Each-map, Each-take}
 use Rattle.eb_place.proofs.PackedStores.{is_packed}
-use Rattle.eb_place.proofs.Placed.{placed_all}
 use Rattle.eb_place.proofs.Closed.{word_of_writer, moment_words}
 use Rattle.eb_place.proofs.Entered.{Entered, entered_done}
 use Rattle.eb_place.proofs.CellsOf.{cell_low}
 use Rattle.eb_place.proofs.Tokens.{take_over, Each-back}
 use Rattle.eb_place.proofs.Regions.{filter_none, picks_done, moment_within}
-use Rattle.eb_place.proofs.Entries.{is_entry, entries, entries_push, entries_picked, in_region, not_in, text_entry, text_place_entry, cell_entry}
+use Rattle.eb_place.proofs.Entries.{is_entry, entries, entries_push, entries_picked, in_region, text_entry, text_place_entry, cell_entry}
 use Rattle.eb_place.proofs.Texts.{text_ends, HasTerms, Texts, Behind, text_stores, enter_split, text_stores_behind, enter_within, texts_done, texts_keep, entered_keep}
 
 -- ---- a front of the entries

@@ -1,16 +1,14 @@
 -- The terms that are entered in a segment: their numbers, their bytes, and that they stay.
-use Rattle.std.proofs.Common.{◌≡◌, ℕ, zero, suc, ◌+◌, ◌-◌, ◌*◌, ◌/◌, ◌%◌, ◌^◌, ◌<◌, ◌≤◌, ◌==◌, Bool, true, false, cond, List, [], ◌∷◌, ◌++◌, length, take, drop, get_or, count_by, sum_by, All, Contains, min, refl, ap, sym, ◌∙◌, subst, arith, inl, inr, append-nil, append_assoc, bytes_eq, slice_get, Option, Some, None}
-use Rattle.std.proofs.lemmas.Bool.{cases_Bool, cases_lt, false≢true}
-use Rattle.std.proofs.lemmas.List.{length_push, length-append, length-take, length-drop, take-append-le, take_all, take-append-drop, get_or_append_left, get_or_default}
-use Rattle.std.proofs.lemmas.List.Elements.{All-head, All-tail, All-take, All-drop, All-cons, All-nil, Contains-get_or, Contains-append_left}
+use Rattle.std.proofs.Common.{◌≡◌, ℕ, zero, suc, ◌+◌, ◌*◌, ◌/◌, ◌<◌, ◌≤◌, Bool, cond, List, [], ◌∷◌, ◌++◌, length, take, drop, get_or, count_by, All, Contains, refl, ap, sym, ◌∙◌, subst, arith, inl, inr, append-nil, append_assoc, bytes_eq}
+use Rattle.std.proofs.lemmas.Bool.{cases_lt}
+use Rattle.std.proofs.lemmas.List.{length_push, length-append, length-take, length-drop, take-append-le, take-append-drop, get_or_append_left, get_or_default}
+use Rattle.std.proofs.lemmas.List.Elements.{All-head, All-tail, All-take, All-drop, Contains-get_or, Contains-append_left}
 use Rattle.std.proofs.lemmas.List.Sums.{sum_by-append}
 use Rattle.std.proofs.Math.Seq.{get_or-append_seam}
 use mathlib.Core.List.{IsPrefix}
 use Rattle.eb_base.specs.Term.{Term, AreBytes}
 use Rattle.eb_base.specs.Document.{Doc, IsDocument}
-use Rattle.eb_base.specs.Setting.{Setting}
 use Rattle.eb_place.specs.declared.moment.Moment.{Moment}
-use Rattle.eb_place.specs.Layout.{Region}
 use Rattle.eb_place.specs.Layout.Region.{cell_region}
 use Rattle.eb_place.specs.Postings.{count_of, terms_of, distinct, number_of}
 use Rattle.eb_place.specs.Room.{text_words}
@@ -24,13 +22,13 @@ use Rattle.eb_place.proofs.Fresh.{Each, Each-append}
 use Rattle.eb_place.proofs.Fresh.Each.{none, more}
 use Rattle.eb_place.proofs.Numbers.{number_keeps, number_here, number_absent}
 use Rattle.eb_place.proofs.Histories.{terms_more}
-use Rattle.eb_place.proofs.Prefixes.{prefix_trans, prefix_self}
+use Rattle.eb_place.proofs.Prefixes.{prefix_trans}
 use Rattle.eb_place.proofs.Placed.{placed_all}
 use Rattle.eb_place.proofs.Grows.{later_stores, later_segment}
 use Rattle.std.proofs.lemmas.Grind.{same_number_lists}
 use Rattle.eb_place.proofs.Tokens.{Each-front, Each-back}
 use Rattle.eb_place.proofs.Texts.{length-text_of}
-use Rattle.eb_place.proofs.Dictionary.{Done, entered_done_is}
+use Rattle.eb_place.proofs.Dictionary.{entered_done_is}
 
 -- ---- they stay
 

@@ -1,31 +1,21 @@
 -- The stores that enter the terms of a segment, one term after the other, and what they leave.
-use Rattle.std.proofs.Common.{◌≡◌, ℕ, zero, suc, ◌+◌, ◌-◌, ◌*◌, ◌/◌, ◌%◌, ◌^◌, ◌<◌, ◌≤◌, ◌==◌, ◌&&◌, ◌||◌, ◌⊎◌, Bool, true, false, cond, List, [], ◌∷◌, ◌++◌, length, take, drop, filter, get_or, count_by, sum_by, refl, ap, sym, ◌∙◌, subst, arith, inl, inr, append-nil, append_assoc, if◌then◌else◌, nat_le, bytes_eq}
-use Rattle.std.proofs.lemmas.Bool.{cases_Bool, cases_lt, eq-eqb, eqb-true, false≢true, ne_eqb}
-use Rattle.std.proofs.lemmas.List.{length_push, length-append, take-append-le, take_all, get_or_append_left}
+use Rattle.std.proofs.Common.{◌≡◌, ℕ, zero, suc, ◌+◌, ◌-◌, ◌*◌, ◌/◌, ◌%◌, ◌^◌, ◌==◌, ◌&&◌, ◌||◌, Bool, true, false, List, [], ◌∷◌, ◌++◌, length, filter, sum_by, refl, ap, sym, ◌∙◌, arith, inl, inr, append-nil, append_assoc, if◌then◌else◌, nat_le}
+use Rattle.std.proofs.lemmas.Bool.{cases_Bool, eq-eqb, eqb-true, ne_eqb}
 use Rattle.std.proofs.lemmas.List.Elements.{filter-append}
-use Rattle.std.proofs.lemmas.List.Sums.{sum_by_push, sum_by-append, length-filter}
-use Rattle.std.proofs.Math.Seq.{get_or-append_seam}
-use mathlib.Core.List.{IsPrefix}
 use Rattle.eb_base.specs.Term.{Term}
 use Rattle.eb_base.specs.Setting.{Setting}
-use Rattle.eb_place.specs.Layout.{Slot, Region, rank, size, pool_slot, pool_region, place}
+use Rattle.eb_place.specs.Layout.{Region, rank, pool_slot, pool_region}
 use Rattle.eb_place.specs.Layout.Slot.{published, slot}
 use Rattle.eb_place.specs.Layout.Region.{first_region, cell_region, text_region, text_place_region, tail_region, id_region}
 use Rattle.eb_place.specs.Postings.{count_of, distinct, number_of}
 use Rattle.eb_place.specs.Room.{text_words}
 use Rattle.eb_place.specs.Address.{pool_at, begins, address_of}
-use Rattle.eb_place.specs.Placing.{Store, pairs_of, in_row, text_of, eights, enter_stores, append_stores, token_stores, cells_of, cell_of_next}
-use Rattle.eb_place.specs.Moments.{value_after}
+use Rattle.eb_place.specs.Placing.{Store, in_row, text_of, enter_stores, append_stores, token_stores, cell_of_next}
 use Rattle.eb_place.specs.Seen.{is_in}
-use Rattle.eb_place.proofs.Counts.{by_push, distinct_push, distinct-nil, with_term_cases, once}
-use Rattle.eb_place.proofs.Slots.{InTable, place_once}
+use Rattle.eb_place.proofs.Counts.{distinct_push, distinct-nil, with_term_cases, once}
 use Rattle.eb_place.proofs.Fresh.{Each, Each-append, Each-if}
 use Rattle.eb_place.proofs.Fresh.Each.{none, more}
-use Rattle.eb_place.proofs.Within.{IsWithin, cell_within}
-use Rattle.eb_place.proofs.Reached.{val, val_stored, val_keeps, Each-map, Each-take}
-use Rattle.eb_place.proofs.Tokens.{take_over}
 use Rattle.eb_place.proofs.PlacedDocuments.{Elsewhere}
-use Rattle.eb_place.proofs.Entered.{Entered, entered_done}
 use Rattle.eb_place.proofs.Regions.{Picks, filter_none, filter_whole}
 
 -- whether a store enters a term in the segment: it goes to a text word, a text place or a cell
@@ -86,7 +76,8 @@ row_entries : (s i : ℕ) (vs : List ℕ) → Each (λ (y : Store). is_entry s y
 row_entries s i [] = none
 row_entries s i (v ∷ vs) = more (text_entry s i v) (row_entries s (i + 1) vs)
 
-enter_entries : (σ : Setting) (s : ℕ) (terms : List Term) (t : Term) → Each (λ (y : Store). is_entry s y ≡ true) (enter_stores σ s terms t)
+-- all stores that enter a term are entries
+pub enter_entries : (σ : Setting) (s : ℕ) (terms : List Term) (t : Term) → Each (λ (y : Store). is_entry s y ≡ true) (enter_stores σ s terms t)
 unfolding enter_stores
 enter_entries σ s terms t = Each-append (row_entries s (sum_by text_words terms) (text_of t)) (more (text_place_entry s (length terms) (sum_by text_words terms)) (more (cell_entry s (cell_of_next (2 * σ.terms) terms t) (length terms + 1)) none))
 

@@ -41,6 +41,7 @@ pub mod Texts
 pub mod CellsOf
 pub mod Dictionary
 pub mod EnteredTerms
+pub mod StoredOnce
 pub mod Telling
 pub mod VectorsHashes
 pub mod VectorsBlocks

@@ -1,5 +1,5 @@
 -- The stores that pass a test, among all stores of a history: those of the tokens of one segment.
-use Rattle.std.proofs.Common.{◌≡◌, ℕ, zero, suc, ◌+◌, ◌-◌, ◌==◌, ◌&&◌, Bool, true, false, List, [], ◌∷◌, ◌++◌, length, take, drop, filter, get_or, refl, ap, sym, ◌∙◌, subst, arith, inl, inr, append-nil, append_assoc, Option, Some, None}
+use Rattle.std.proofs.Common.{◌≡◌, ℕ, zero, suc, ◌+◌, ◌-◌, ◌==◌, Bool, true, false, List, [], ◌∷◌, ◌++◌, length, take, drop, filter, get_or, refl, ap, sym, ◌∙◌, subst, inl, inr, append-nil, append_assoc, Option, Some, None}
 use Rattle.std.proofs.lemmas.Bool.{cases_Bool}
 use Rattle.std.proofs.lemmas.List.{take-append-drop}
 use Rattle.std.proofs.lemmas.List.Elements.{filter-append}
@@ -8,7 +8,6 @@ use native.Mathlib.Decide.{ℕ_discrete}
 use Rattle.eb_base.specs.Term.{Term}
 use Rattle.eb_base.specs.Document.{Doc}
 use Rattle.eb_base.specs.Setting.{Setting, IsSetting}
-use Rattle.eb_place.specs.declared.moment.Documents.{Documents}
 use Rattle.eb_place.specs.declared.moment.Moment.{Moment}
 use Rattle.eb_place.specs.Layout.Slot.{published, slot}
 use Rattle.eb_place.specs.Layout.Region.{first_region, id_region}
@@ -24,7 +23,7 @@ use Rattle.eb_place.proofs.Fresh.Each.{none, more}
 use Rattle.eb_place.proofs.Within.{IsWithin}
 use Rattle.eb_place.proofs.Reached.{Each-map}
 use Rattle.eb_place.proofs.Tokens.{Each-front}
-use Rattle.eb_place.proofs.Histories.{Goes, goes, before_in, terms_push}
+use Rattle.eb_place.proofs.Histories.{goes, before_in, terms_push}
 use Rattle.eb_place.proofs.PlacedDocuments.{Elsewhere, doc_elsewhere, doc_within, first_stores, stores_split}
 use Rattle.eb_place.proofs.Placed.{placed_all, joins, placings_push, lawful_front, lawful_last}
 

@@ -1,27 +1,23 @@
 -- What the words of a segment's dictionary are where exactly these terms are entered.
-use Rattle.std.proofs.Common.{◌≡◌, ℕ, zero, suc, ◌+◌, ◌-◌, ◌*◌, ◌/◌, ◌<◌, ◌≤◌, ◌==◌, Bool, true, false, cond, List, [], ◌∷◌, ◌++◌, length, take, drop, filter, get_or, count_by, sum_by, refl, ap, sym, ◌∙◌, subst, arith, inl, inr, append-nil, append_assoc}
-use Rattle.std.proofs.lemmas.Bool.{cases_Bool, cases_lt, false≢true, ne_eqb}
-use Rattle.std.proofs.lemmas.List.{length_push, length-append, take-append-le, take_all, take_at, get_or_append_left}
-use Rattle.std.proofs.lemmas.List.Sums.{sum_by_push, sum_by-append, sum_by-cons}
+use Rattle.std.proofs.Common.{◌≡◌, ℕ, zero, suc, ◌+◌, ◌*◌, ◌/◌, ◌<◌, ◌≤◌, false, List, [], ◌∷◌, ◌++◌, length, take, drop, get_or, sum_by, refl, ap, sym, ◌∙◌, subst, arith, inl, inr, append_assoc}
+use Rattle.std.proofs.lemmas.Bool.{cases_lt}
+use Rattle.std.proofs.lemmas.List.{length_push, take-append-le, take_at, get_or_append_left}
+use Rattle.std.proofs.lemmas.List.Sums.{sum_by_push, sum_by-cons}
 use Rattle.std.proofs.Math.Seq.{get_or-append_seam}
 use Rattle.eb_base.specs.Term.{Term}
 use Rattle.eb_base.specs.Setting.{Setting}
-use Rattle.eb_place.specs.Layout.{Slot, size, place}
+use Rattle.eb_place.specs.Layout.{size}
 use Rattle.eb_place.specs.Layout.Slot.{slot}
 use Rattle.eb_place.specs.Layout.Region.{cell_region, text_region, text_place_region}
 use Rattle.eb_place.specs.Room.{text_words}
-use Rattle.eb_place.specs.Placing.{Store, pairs_of, in_row, text_of, eights, enter_stores, cells_of, cell_of_next}
-use Rattle.eb_place.specs.Moments.{value_after}
+use Rattle.eb_place.specs.Placing.{Store, in_row, text_of, eights, enter_stores, cells_of, cell_of_next}
 use Rattle.eb_place.specs.Seen.{is_in}
-use Rattle.eb_place.proofs.Counts.{by_push}
-use Rattle.eb_place.proofs.Slots.{InTable, place_once}
 use Rattle.eb_place.proofs.Fresh.{Each, Each-append}
 use Rattle.eb_place.proofs.Fresh.Each.{none, more}
 use Rattle.eb_place.proofs.Within.{IsWithin, cell_within}
-use Rattle.eb_place.proofs.Reached.{val, val_stored, val_keeps, Each-map, Each-take}
-use Rattle.eb_place.proofs.Tokens.{take_over}
-use Rattle.eb_place.proofs.Entered.{Entered, entered_done}
-use Rattle.eb_place.proofs.Entries.{entries, entries_push, in_region, not_in}
+use Rattle.eb_place.proofs.Reached.{val, val_stored, val_keeps, Each-map}
+use Rattle.eb_place.proofs.Entered.{Entered}
+use Rattle.eb_place.proofs.Entries.{not_in}
 
 length-eights : (n : ℕ) (bs : List ℕ) → length (eights n bs) ≡ n
 length-eights zero bs = refl
@@ -62,7 +58,7 @@ text_place_index : (s i j : ℕ) → slot s text_place_region i ≡ slot s text_
 text_place_index s i j e = cc
 
 -- stores of a row go to its words
-row_from : (s i : ℕ) (vs : List ℕ) (j : ℕ) → j < i → Each (λ (y : Store). y.0 ≡ slot s text_region j → ⊥) (in_row s text_region i vs)
+pub row_from : (s i : ℕ) (vs : List ℕ) (j : ℕ) → j < i → Each (λ (y : Store). y.0 ≡ slot s text_region j → ⊥) (in_row s text_region i vs)
 row_from s i [] j h = none
 row_from s i (v ∷ vs) j h = more (λ e. let k = text_index s i j e in omega arith) (row_from s (i + 1) vs j (omega arith))
 

@@ -13,3 +13,4 @@ pub mod Tells
 pub mod Walk
 pub mod Meets
 pub mod Laws
+pub mod StoringLaws

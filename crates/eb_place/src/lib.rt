@@ -11,6 +11,7 @@ mod port;
 mod posting_numbers;
 mod slice_addresses;
 mod steps;
+mod storing_laws;
 mod used;
 
 pub use laws::{
@@ -23,4 +24,5 @@ pub use port::{PackPen, Pen, Port};
 pub use posting_numbers::{POSITION_BITS, document_of, position_of, posting};
 pub use slice_addresses::{address, offset_of, pool_of, slice_of};
 pub use steps::Steps;
+pub use storing_laws::{dictionary_is_stored_once, packing_fits, stores_lie_in_regions};
 pub use used::Used;

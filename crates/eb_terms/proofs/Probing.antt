@@ -1,7 +1,7 @@
 -- Cells that a search has passed.
-use Rattle.std.proofs.Common.{◌≡◌, ℕ, zero, suc, ◌+◌, ◌-◌, ◌*◌, ◌%◌, ◌<◌, ◌≤◌, ◌⊎◌, Bool, true, false, List, [], ◌∷◌, ◌++◌, length, get_or, min, refl, ap, sym, ◌∙◌, subst, arith, inl, inr, nat_lt, Some}
+use Rattle.std.proofs.Common.{◌≡◌, refl, ℕ, zero, suc, ◌+◌, ◌*◌, ◌%◌, ◌<◌, ◌≤◌, ◌⊎◌, Bool, true, false, List, [], ◌∷◌, length, take, get_or, ap, sym, ◌∙◌, subst, arith, inl, inr, Option, Some, None}
 use Rattle.std.specs.List.{prefix_len, range_with_len}
-use Rattle.std.proofs.lemmas.Bool.{cases_lt, false≢true, lt-ltb}
+use Rattle.std.proofs.lemmas.Bool.{cases_Bool, cases_lt, false≢true, lt-ltb}
 use Rattle.std.proofs.lemmas.List.FromFn.{get_or-range_with_len, length-range_with_len}
 use Rattle.std.proofs.Math.Nat.{mod-lt, mul-le-mul_right}
 use Rattle.eb_base.specs.Term.{Term}
@@ -11,19 +11,21 @@ use Rattle.eb_place.specs.Layout.{place}
 use Rattle.eb_place.specs.Layout.Slot.{slot}
 use Rattle.eb_place.specs.Layout.Region.{cell_region}
 use Rattle.eb_place.specs.Postings.{number_of, terms_of}
-use Rattle.eb_place.specs.Room.{text_words}
-use Rattle.eb_place.specs.Placing.{cells_of, home_cell, hash, text_of}
-use Rattle.eb_place.specs.Moments.{word, IsMoment}
+use Rattle.eb_place.specs.Room.{cut, text_words}
+use Rattle.eb_place.specs.Placing.{cells_of, cell_of_next, home_cell, text_of}
+use Rattle.eb_place.specs.Moments.{word, IsMoment, empty_moment}
 use Rattle.eb_place.specs.Later.{IsNotBefore}
-use Rattle.eb_place.specs.Seen.{segment, entered, IsEntered}
+use Rattle.eb_place.specs.Seen.{segment, entered, IsEntered, stores_in_region}
+use Rattle.eb_place.proofs.Counts.{distinct-nil}
+use Rattle.std.proofs.lemmas.List.{take_all}
 use Rattle.eb_place.proofs.Cells.{is_taken}
-use Rattle.eb_place.proofs.CellsOf.{taken_where, length-cells_of, cell_stays, steps_to, cell_of_one}
+use Rattle.eb_place.proofs.CellsOf.{taken_where, taken_stays, cell_taken, next_is, next_not_all, length-cells_of, cell_stays, steps_to, cell_of_one}
 use Rattle.eb_place.proofs.Placed.{setting_terms}
-use Rattle.eb_place.proofs.Texts.{HasTerms, length-text_of}
-use Rattle.eb_place.proofs.Dictionary.{Dictionary, dictionary}
-use Rattle.eb_place.proofs.EnteredTerms.{entered_later, is_entered_later, number_found, number_is, entered_at}
-use Rattle.eb_terms.specs.Finding.{HasNumber, cells_in, is_filled, filled_run, most_loads}
-use Rattle.eb_terms.specs.Comparing.{term_at, cell_of, IsNumber, Holds, words_compared}
+use Rattle.eb_place.proofs.Texts.{length-text_of}
+use Rattle.eb_place.proofs.Dictionary.{dictionary}
+use Rattle.eb_place.proofs.EnteredTerms.{entered_later, number_found, number_is, entered_at}
+use Rattle.eb_terms.specs.Finding.{HasNumber, IsAnswer, cells_in, is_filled, filled_run, most_loads}
+use Rattle.eb_terms.specs.Comparing.{term_at, cell_of, IsNumber, words_compared}
 use Rattle.eb_terms.proofs.Reading.{number_later, same_term_later}
 
 -- the cell that is tried after i others
@@ -167,3 +169,53 @@ pub probe_is : (m : Moment) (σ : Setting) (t : Term) (i terms first : ℕ) → 
 probe_is m σ t i terms first e n h =
     let c : 2 * terms ≡ cells_in m = ap (λ k. 2 * k) (n ∙ ap (λ (z : Setting). z.terms) e) in
     ap (λ k. (k + i) % (2 * terms)) h ∙ ap (λ k. (home_cell k t + i) % k) c
+
+-- ---- taken cells
+
+-- the first k cells that are tried are taken
+abbrev pub AreTaken : Moment → ℕ → Term → ℕ → Type 0
+AreTaken m s t k = (i : ℕ) → i < k → is_taken (cells_of (cells_in m) (entered m s)) (probe m t i) ≡ true
+
+-- and stay so
+pub all_taken_later : (m n : Moment) (s : ℕ) (t : Term) (k : ℕ) → IsNotBefore n m → AreTaken m s t k → AreTaken n s t k
+all_taken_later m n s t k l h i o =
+    let p = entered_later m n s l in
+    (λ j. is_taken (cells_of (2 * (sym l.setting j).terms) (sym p.1 j)) (probe_later m n t i l j)) ∙ taken_stays (cells_in m) (entered m s) p.0 (probe m t i) (h i o)
+
+-- one more taken cell
+pub taken_more : (m : Moment) (s : ℕ) (t : Term) (k number : ℕ) → AreTaken m s t k → IsNumber m s number → cell_of m s number ≡ probe m t k → AreTaken m s t (k + 1)
+taken_more m s t k number h is cell i l = elim (cases_lt i k) [
+  | inl low ↦ h i low
+  | inr high ↦ let q : i ≡ k = omega arith in ap (λ z. is_taken (cells_of (cells_in m) (entered m s)) (probe m t z)) q ∙ ap (is_taken (cells_of (cells_in m) (entered m s))) (sym cell) ∙ cell_taken (cells_in m) (entered m s) number is
+]
+
+-- a free cell behind them is that of the next term
+pub next_cell : (m : Moment) (s : ℕ) (t : Term) (k : ℕ) → IsMoment m → s < m.setting.segments → AreTaken m s t k → is_filled m s (probe m t k) ≡ false → probe m t k ≡ cell_of_next (cells_in m) (entered m s) t
+next_cell m s t k is h taken free =
+    let few = (dictionary m s is h).room.few in
+    let some = (setting_terms m.setting is.setting).0 in
+    let C = cells_in m in
+    let empty : is_taken (cells_of C (entered m s)) (probe m t k) ≡ false = elim (cases_Bool (is_taken (cells_of C (entered m s)) (probe m t k))) [
+      | inl full ↦ absurd (false≢true (sym free ∙ taken_filled m s (probe m t k) is h full))
+      | inr e ↦ e
+    ] in
+    sym (next_is C (entered m s) t k (omega arith) (omega arith) taken empty)
+
+-- not all cells are taken
+pub some_free : (m : Moment) (s : ℕ) (t : Term) (k : ℕ) → IsMoment m → s < m.setting.segments → cells_in m ≤ k → AreTaken m s t k → ⊥
+some_free m s t k is h all taken =
+    let few = (dictionary m s is h).room.few in
+    let some = (setting_terms m.setting is.setting).0 in
+    next_not_all (cells_in m) (entered m s) t k (omega arith) (omega arith) taken
+
+-- ---- an index without a document
+
+none_entered : (σ : Setting) (s : ℕ) → entered (empty_moment σ) s ≡ []
+unfolding entered cut terms_of
+none_entered σ zero = ap (take (stores_in_region (empty_moment σ) 0 cell_region)) distinct-nil ∙ take_all (stores_in_region (empty_moment σ) 0 cell_region) [] (omega arith)
+none_entered σ (suc s) = ap (take (stores_in_region (empty_moment σ) (suc s) cell_region)) distinct-nil ∙ take_all (stores_in_region (empty_moment σ) (suc s) cell_region) [] (omega arith)
+
+-- a search that begins and ends without a document answers none
+pub nothing_found : (σ : Setting) (s : ℕ) (t : Term) (answer : Option ℕ) → IsAnswer (empty_moment σ) (empty_moment σ) s t answer → answer ≡ None
+nothing_found σ s t None h = refl
+nothing_found σ s t (Some k) h = let j = number_found (empty_moment σ) s t h.entered in absurd (omega (arith, j.1, ap length (none_entered σ s)))

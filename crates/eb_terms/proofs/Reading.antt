@@ -1,9 +1,9 @@
 -- What the words of the dictionary tell a reader, also at later moments.
-use Rattle.std.proofs.Common.{◌≡◌, ℕ, zero, suc, ◌+◌, ◌-◌, ◌*◌, ◌/◌, ◌%◌, ◌^◌, ◌<◌, ◌≤◌, ◌==◌, Bool, true, false, List, [], ◌∷◌, length, take, get_or, sum_by, min, refl, ap, sym, ◌∙◌, subst, arith, inl, inr, nat_lt, None}
+use Rattle.std.proofs.Common.{◌≡◌, ℕ, zero, suc, ◌+◌, ◌-◌, ◌*◌, ◌/◌, ◌^◌, ◌<◌, ◌≤◌, ◌==◌, List, [], ◌∷◌, length, get_or, sum_by, refl, ap, sym, ◌∙◌, subst, arith, inl, inr, nat_lt, None}
 use Rattle.std.specs.List.{common_prefix_len}
-use Rattle.std.proofs.lemmas.Bool.{cases_Bool, cases_lt, false≢true, lt-ltb, eq-eqb, ne_eqb}
+use Rattle.std.proofs.lemmas.Bool.{cases_Bool, cases_lt, eq-eqb, ne_eqb}
 use Rattle.eb_base.specs.Term.{Term, AreBytes}
-use Rattle.eb_base.specs.Setting.{Setting, IsSetting, words_of}
+use Rattle.eb_base.specs.Setting.{Setting, words_of}
 use Rattle.eb_place.specs.declared.moment.Moment.{Moment}
 use Rattle.eb_place.specs.Layout.{place}
 use Rattle.eb_place.specs.Layout.Slot.{slot}
@@ -12,16 +12,16 @@ use Rattle.eb_place.specs.Room.{text_words}
 use Rattle.eb_place.specs.Placing.{cells_of, text_of}
 use Rattle.eb_place.specs.Moments.{word, IsMoment}
 use Rattle.eb_place.specs.Later.{IsNotBefore}
-use Rattle.eb_place.specs.Seen.{entered, IsEntered}
+use Rattle.eb_place.specs.Seen.{entered}
 use Rattle.eb_place.proofs.Slots.{place_in}
 use Rattle.eb_place.proofs.Cells.{is_taken}
 use Rattle.eb_place.proofs.CellsOf.{taken_where, length-cells_of}
 use Rattle.eb_place.proofs.Placed.{setting_terms}
-use Rattle.eb_place.proofs.Texts.{HasTerms, text_ends, length-text_of}
-use Rattle.eb_place.proofs.Dictionary.{Dictionary, dictionary, entered_room, cell_in_table, text_place_in_table, text_in_table}
-use Rattle.eb_place.proofs.EnteredTerms.{term_later, front_later, entered_bytes, text_same}
-use Rattle.eb_terms.specs.Finding.{cells_in, is_filled}
-use Rattle.eb_terms.specs.Comparing.{term_at, cell_of, text_start, IsNumber, Holds, IsText, words_compared}
+use Rattle.eb_place.proofs.Texts.{text_ends, length-text_of}
+use Rattle.eb_place.proofs.Dictionary.{dictionary, entered_room, cell_in_table, text_place_in_table, text_in_table}
+use Rattle.eb_place.proofs.EnteredTerms.{term_later, front_later, text_same}
+use Rattle.eb_terms.specs.Finding.{cells_in}
+use Rattle.eb_terms.specs.Comparing.{term_at, cell_of, IsNumber, Holds, IsText, words_compared}
 
 -- the segment is one of those of a later moment
 pub inside_later : (m n : Moment) (s : ℕ) → IsNotBefore n m → s < m.setting.segments → s < n.setting.segments

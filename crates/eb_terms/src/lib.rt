@@ -3,10 +3,15 @@
 //! stores and read while it grows. No call takes memory.
 #![tactic(auto)]
 
+mod entering;
 mod finding;
 mod hashing;
 mod loads;
 mod texts;
 
+pub use entering::enter;
 pub use finding::find;
 pub use hashing::home;
+
+#[cfg(test)]
+mod tests;

@@ -1,13 +1,13 @@
-use Rattle.std.proofs.Common.{◌≡◌, ◌+◌, ◌*◌, ◌%◌, ◌<◌, ◌≤◌, ap, refl, sym, ◌∙◌, subst, arith, inl, inr}
+use Rattle.std.proofs.Common.{◌≡◌, ◌*◌, ◌<◌, ap, refl, sym, ◌∙◌, subst, arith, inl, inr}
 use Rattle.std.proofs.lemmas.Bool.{false≢true}
 use Rattle.eb_base.specs.Setting.{Setting}
 use Rattle.eb_place.specs.Placing.{text_of}
 use Rattle.eb_place.proofs.Laters.{later_on}
 use Rattle.eb_place.proofs.EnteredTerms.{is_entered_later}
 use Rattle.eb_terms.specs.Finding.{cells_in, is_filled}
-use Rattle.eb_terms.specs.Comparing.{term_at, cell_of, words_compared}
-use Rattle.eb_terms.proofs.Reading.{inside_later, number_later}
-use Rattle.eb_terms.proofs.Probing.{probe, probe_is, probe_low, probe_later, cell_of_later, all_passed_later, passed_more, run_reaches, not_entered, has_number, loads_none, loads_some, loads_more, loads_end}
+use Rattle.eb_terms.specs.Comparing.{term_at}
+use Rattle.eb_terms.proofs.Reading.{inside_later}
+use Rattle.eb_terms.proofs.Probing.{probe_is, probe_low, probe_later, cell_of_later, all_passed_later, passed_more, run_reaches, not_entered, has_number, loads_none, loads_some, loads_more, loads_end}
 use Rattle.eb_terms.proofs.finding.find.Goals as goal
 
 pub returns-in_default : goal.returns-in_default

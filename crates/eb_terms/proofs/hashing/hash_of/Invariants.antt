@@ -1,4 +1,4 @@
-use Rattle.std.proofs.Common.{◌≡◌, ◌≤◌, take, length}
+use Rattle.std.proofs.Common.{◌≡◌, take}
 use Rattle.eb_place.specs.Placing.{hash}
 use Rattle.eb_terms.proofs.hashing.hash_of.Given as goal
 

@@ -1,5 +1,4 @@
-use Rattle.std.proofs.Common.{◌≡◌, ◌∙◌, ap, sym, arith}
-use Rattle.eb_terms.proofs.Words.{text_word_at, word_from}
+use Rattle.eb_terms.proofs.Words.{word_from}
 use Rattle.eb_terms.proofs.texts.text_word.Goals as goal
 
 pub returns : goal.returns
