@@ -2,6 +2,7 @@
 use Rattle.std.proofs.Common.{◌≡◌, ℕ, suc, ◌<◌, ◌≤◌, Bool, List, [], ◌∷◌, Option, None, Some, MatchOption, sym, ap, ◌∙◌, subst, arith}
 use Rattle.eb_cursor.specs.Tops.{top, below}
 use Rattle.eb_cursor.specs.Lists.{Gives, from_below, IsFalling, IsUnder}
+use Rattle.eb_cursor.specs.Loads.{ahead}
 use Rattle.eb_cursor.specs.Ready.{IsLeft, IsLeaf}
 use Rattle.eb_cursor.specs.declared.posting_list.PostingList.{PostingList}
 use Rattle.eb_cursor.specs.declared.cursor.Cursor.{Cursor}
@@ -65,11 +66,6 @@ leaf_next g g' f s s' p e ys h leaf is gave =
       falls = falls.1;
       rest = sym (from_below_past e p ys h) ∙ ap (from_below e) (sym is) ∙ leaf.rest;
     }
-
--- how far the next posting can be
-abbrev pub ahead : Option ℕ → ℕ
-ahead None = 0
-ahead (Some p) = suc p
 
 ahead_under : (g : Gives) (list : PostingList) (xs : List ℕ) (p : ℕ) (r : Option ℕ) → IsUnder p xs → Given g list xs r → ahead r < suc p
 ahead_under g list xs p None u h = omega arith

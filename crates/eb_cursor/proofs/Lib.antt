@@ -11,3 +11,4 @@ pub mod Phrases
 pub mod Begins
 pub mod Matching
 pub mod Asking
+pub mod LoadsLeft

@@ -5,6 +5,7 @@ use Rattle.eb_base.specs.Query.{Tree, tree}
 use Rattle.eb_place.specs.declared.moment.Moment.{Moment}
 use Rattle.eb_place.specs.Moments.{IsMoment}
 use Rattle.eb_cursor.specs.Lists.{gives}
+use Rattle.eb_cursor.specs.Loads.{loads_left}
 use Rattle.eb_cursor.specs.Ready.{Ready}
 use Rattle.eb_cursor.specs.declared.frame.Frame.{Frame}
 
@@ -33,6 +34,11 @@ pub record MayAsk (m : Moment) (f : Frame) (docs : List Doc) (document : ℕ) : 
   pub documents : f.documents ≡ length docs
   pub ready : Ready (gives m) docs (query_of f) f.cursors.items (min (document + 1) (length docs))
 
+-- the most loads that a frame still takes until it is started again: each load passes a posting for good
+abbrev pub most_loads : Frame → ℕ
+most_loads f = loads_left f.cursors.items
+
 -- a search that the first frame was started for, the second frame goes on with
-abbrev pub GoesOn : Frame → Frame → Type 0
-GoesOn f g = (m : Moment) (docs : List Doc) (document : ℕ) → MayAsk m f docs document → MayAsk m g docs document
+pub record GoesOn (f g : Frame) : Type 0 where
+  pub asks : (m : Moment) (docs : List Doc) (document : ℕ) → MayAsk m f docs document → MayAsk m g docs document
+  pub loads : most_loads g ≡ most_loads f

@@ -5,6 +5,7 @@ pub mod Posted
 pub mod Ready
 pub mod Accepted
 pub mod Opened
+pub mod Loads
 pub mod Asked
 pub mod Begun
 pub mod Formed

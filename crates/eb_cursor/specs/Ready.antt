@@ -14,20 +14,23 @@ IsLeft g None list zs = zs ≡ []
 IsLeft g (Some p) list zs = (ys : List ℕ) × (zs ≡ p ∷ ys) × g list ys
 
 -- a leaf that has passed none of the numbers below an end that pass the test
-pub record IsLeaf (g : Gives) (f : ℕ → Bool) (slot : Cursor) (last : ℕ) : Type 0 where
+pub record IsLeaf (g : Gives) (f : ℕ → Bool) (cursor : Cursor) (last : ℕ) : Type 0 where
   pub left : List ℕ
-  pub told : IsLeft g slot.current slot.list left
+  pub told : IsLeft g cursor.current cursor.list left
   pub falls : IsFalling left
   pub rest : from_below last left ≡ below f last
 
+-- the one cursor of a word is ready
 abbrev pub IsOnly : Gives → List Doc → List ℕ → List Cursor → ℕ → Type 0
 IsOnly g docs t [] last = ⊥
 IsOnly g docs t (s ∷ ss) last = (ss ≡ []) × Narrow docs × IsLeaf g (is_posting docs t) s (256 * last)
 
+-- the end that the first cursor has come to
 abbrev pub upto : List Cursor → ℕ
 upto [] = 0
 upto (s ∷ ss) = s.upto
 
+-- the cursors behind the first
 abbrev pub rest_of : List Cursor → List Cursor
 rest_of [] = []
 rest_of (s ∷ ss) = ss
@@ -42,6 +45,7 @@ AllLeaves g docs [] cursors end = cursors ≡ []
 AllLeaves g docs (t ∷ ts) [] end = ⊥
 AllLeaves g docs (t ∷ ts) (s ∷ ss) end = IsLeaf g (is_posting docs t) s end × AllLeaves g docs ts ss (suc end)
 
+-- the cursors of a query are ready below `last`: they have passed none of the documents below it that match
 abbrev mutual
   pub Ready : Gives → List Doc → Tree → List Cursor → ℕ → Type 0
   Ready g docs (word t) cursors last = IsOnly g docs t cursors last

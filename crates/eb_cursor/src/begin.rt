@@ -12,6 +12,7 @@ ghost use Rattle.eb_cursor.specs.Asked.{trees_in};
 ghost use Rattle.eb_cursor.specs.Begun.{AreClear, CanBegin, Begun, BegunLeaves, BegunEach, BegunSome};
 
 use crate::cursor::Cursor;
+use crate::phrase::PLACES;
 use crate::posting_list::PostingList;
 use crate::size::size;
 use eb_base::{Query, Term};
@@ -111,7 +112,7 @@ pub fn begin<P: Port, L: Ledger>(
         }
         Query::Phrase(terms) => {
             let all = begin_leaves(terms.as_slice(), cursors, segment, port, steps);
-            let last = 256 * end + 1 - terms.len() as u64;
+            let last = PLACES * end + 1 - terms.len() as u64;
             cursors[0].upto = end_if(all, last);
             all
         }

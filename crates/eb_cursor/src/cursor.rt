@@ -1,9 +1,10 @@
 //! What a part of a query remembers.
-ghost use Rattle.std.specs.Prelude.{◌≡◌, ℕ, ◌+◌, ◌<◌, ◌≤◌, ◌^◌, Bool};
+ghost use Rattle.std.specs.Prelude.{◌≡◌, ℕ, ◌+◌, ◌*◌, ◌<◌, ◌≤◌, ◌^◌, Bool};
 ghost use Rattle.eb_place.specs.declared.moment.Moment.{Moment};
 ghost use Rattle.eb_cursor.specs.Told.{Told};
 ghost use Rattle.eb_cursor.specs.Lists.{gives};
 ghost use Rattle.eb_cursor.specs.Ready.{IsLeaf};
+ghost use Rattle.eb_cursor.specs.Loads.{ahead};
 ghost use Rattle.eb_cursor.specs.Asked.{FoundLeaf};
 
 use crate::posting_list::PostingList;
@@ -45,6 +46,7 @@ pub fn leaf_below<P: Port, L: Ledger>(
     requires { (m : Moment) × (f : ℕ → Bool) × P.stands port.old m × IsLeaf (gives m) f cursor.old end }
     ensures upto { cursor.new.upto ≡ cursor.old.upto }
     ensures found { (f : ℕ → Bool) → Told P.stands P.keeps port.old port.new (λ m. IsLeaf (gives m) f cursor.old end) (FoundLeaf f cursor.new end result) }
+    ensures loads { steps.new + 2 * ahead cursor.new.current ≤ steps.old + 2 * ahead cursor.old.current }
 {
     while let Some(posting) = cursor.current {
         let posting = u64::from(posting);

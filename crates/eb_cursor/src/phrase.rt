@@ -5,14 +5,18 @@ ghost use Rattle.eb_base.specs.Query.{phrase};
 ghost use Rattle.eb_place.specs.declared.moment.Moment.{Moment};
 ghost use Rattle.eb_cursor.specs.Told.{Told};
 ghost use Rattle.eb_cursor.specs.Lists.{gives};
+ghost use Rattle.eb_cursor.specs.Loads.{loads_left};
 ghost use Rattle.eb_cursor.specs.Posted.{document_end, has_room};
 ghost use Rattle.eb_cursor.specs.Ready.{Ready, AllLeaves};
 ghost use Rattle.eb_cursor.specs.Asked.{CanAskPhrase, CanAskLeaves, Found, FoundStart, IsRun};
 ghost use Rattle.eb_cursor.specs.Tops.{top};
 
 use crate::cursor::{Cursor, leaf_below};
-use eb_place::{Port, Steps};
+use eb_place::{POSITION_BITS, Port, Steps};
 use std::sync::ledger::Ledger;
+
+/// The places of a document: a posting is the number of its document times this and its position.
+pub const PLACES: u64 = 1 << POSITION_BITS;
 
 /// One more than the document of the posting before this place, or 0.
 pub fn to_document_end(place: u64) -> u64
@@ -21,7 +25,7 @@ pub fn to_document_end(place: u64) -> u64
     if place == 0 {
         return 0;
     }
-    (place - 1) / 256 + 1
+    (place - 1) / PLACES + 1
 }
 
 // The greatest end at or below this one, from before which `count` places lie in one document.
@@ -32,11 +36,11 @@ fn room_below(count: u64, end: u64) -> u64
     if end == 0 {
         return 0;
     }
-    let over = (end - 1) % 256 + count;
-    if over <= 256 {
+    let over = (end - 1) % PLACES + count;
+    if over <= PLACES {
         return end;
     }
-    end - (over - 256)
+    end - (over - PLACES)
 }
 
 // Asks each leaf in turn, each for its own place in the phrase; none where the one before it has ended.
@@ -49,7 +53,8 @@ fn leaves_below<P: Port, L: Ledger>(
 ) -> u64
     requires small { end + at + length cursors.old < 2 ^ 48 }
     requires ready { CanAskLeaves P.stands port.old cursors.old at end }
-    ensures { (docs : List Doc) (ts : List (List ℕ)) (last : ℕ) → end ≤ last → Told P.stands P.keeps port.old port.new (λ m. AllLeaves (gives m) docs ts cursors.old (last + at)) (λ n. IsRun (gives n) docs ts cursors.new at end result) }
+    ensures found { (docs : List Doc) (ts : List (List ℕ)) (last : ℕ) → end ≤ last → Told P.stands P.keeps port.old port.new (λ m. AllLeaves (gives m) docs ts cursors.old (last + at)) (λ n. IsRun (gives n) docs ts cursors.new at end result) }
+    ensures loads { steps.new + loads_left cursors.new ≤ steps.old + loads_left cursors.old }
 {
     if end == 0 {
         return 0;
@@ -70,7 +75,8 @@ fn starts_below<P: Port, L: Ledger>(
 ) -> u64
     requires small { (end ≤ 2 ^ 40) × (0 < length cursors.old) × (length cursors.old ≤ 64) }
     requires ready { CanAskLeaves P.stands port.old cursors.old 0 end }
-    ensures { (docs : List Doc) (ts : List (List ℕ)) (last : ℕ) → end ≤ last → Told P.stands P.keeps port.old port.new (λ m. AllLeaves (gives m) docs ts cursors.old last) (FoundStart ts docs cursors.new end result) }
+    ensures found { (docs : List Doc) (ts : List (List ℕ)) (last : ℕ) → end ≤ last → Told P.stands P.keeps port.old port.new (λ m. AllLeaves (gives m) docs ts cursors.old last) (FoundStart ts docs cursors.new end result) }
+    ensures loads { steps.new + loads_left cursors.new ≤ steps.old + loads_left cursors.old }
 {
     let count = cursors.len() as u64;
     let mut place = end;
@@ -93,9 +99,10 @@ pub fn phrase_below<P: Port, L: Ledger>(
 ) -> u64
     requires small { (end ≤ 2 ^ 32) × (length cursors.old ≤ 64) }
     requires ready { CanAskPhrase P.stands port.old cursors.old end }
-    ensures { (docs : List Doc) (ts : List (List ℕ)) (last : ℕ) → end ≤ last → Told P.stands P.keeps port.old port.new (λ m. Ready (gives m) docs (phrase ts) cursors.old last) (Found (phrase ts) docs cursors.new end result) }
+    ensures found { (docs : List Doc) (ts : List (List ℕ)) (last : ℕ) → end ≤ last → Told P.stands P.keeps port.old port.new (λ m. Ready (gives m) docs (phrase ts) cursors.old last) (Found (phrase ts) docs cursors.new end result) }
+    ensures loads { steps.new + loads_left cursors.new ≤ steps.old + loads_left cursors.old }
 {
-    let start = (256 * end).min(cursors[0].upto);
+    let start = (PLACES * end).min(cursors[0].upto);
     if start == 0 {
         return 0;
     }

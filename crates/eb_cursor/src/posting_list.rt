@@ -1,5 +1,5 @@
 //! Where the postings of a term come from.
-ghost use Rattle.std.specs.Prelude.{◌≡◌, ℕ, ◌<◌, List};
+ghost use Rattle.std.specs.Prelude.{◌≡◌, ℕ, ◌+◌, ◌≤◌, List};
 ghost use Rattle.eb_base.specs.Document.{Doc};
 ghost use Rattle.eb_place.specs.declared.moment.Moment.{Moment};
 ghost use Rattle.eb_cursor.specs.Told.{Told};
@@ -41,7 +41,8 @@ impl PostingList {
     /// The next posting, until all are given. Takes no memory.
     pub fn next<P: Port, L: Ledger>(&mut self, port: &mut P, steps: &mut Steps<L>) -> Option<u32>
         requires { (m : Moment) × (xs : List ℕ) × P.stands port.old m × gives m self.old xs }
-        ensures { (xs : List ℕ) → Told P.stands P.keeps port.old port.new (λ m. gives m self.old xs) (Gave xs self.new result) }
+        ensures given { (xs : List ℕ) → Told P.stands P.keeps port.old port.new (λ m. gives m self.old xs) (Gave xs self.new result) }
+        ensures loads { steps.new ≤ steps.old + 2 }
     {
         match self {
             PostingList::Empty => None,

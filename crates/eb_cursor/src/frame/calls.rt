@@ -1,5 +1,5 @@
 //! The calls of a frame.
-ghost use Rattle.std.specs.Prelude.{◌≡◌, ℕ, ◌<◌, ◌≤◌, ◌^◌, ◌↔◌, List, [], ◌∷◌, ◌++◌, length, IfOk, IsTrue};
+ghost use Rattle.std.specs.Prelude.{◌≡◌, ℕ, ◌+◌, ◌<◌, ◌≤◌, ◌^◌, ◌↔◌, List, [], ◌∷◌, ◌++◌, length, IfOk, IsTrue};
 ghost use mathlib.Core.List.{IsPrefix};
 ghost use Rattle.eb_base.specs.Document.{Doc};
 ghost use Rattle.eb_base.specs.Query.{tree, IsWellFormed};
@@ -9,7 +9,7 @@ ghost use Rattle.eb_cursor.specs.Told.{Told};
 ghost use Rattle.eb_cursor.specs.Asked.{IsNumberBelow};
 ghost use Rattle.eb_cursor.specs.Accepted.{accepted_in};
 ghost use Rattle.eb_cursor.specs.Greatest.{IsGreatestMatch};
-ghost use Rattle.eb_cursor.specs.Frames.{query_of, k_of, ids_of, SeenAs, MayAsk, GoesOn};
+ghost use Rattle.eb_cursor.specs.Frames.{query_of, k_of, ids_of, SeenAs, MayAsk, GoesOn, most_loads};
 
 use crate::begin::{begin, clear};
 use crate::below::below;
@@ -77,7 +77,8 @@ impl Frame {
     /// The greatest number of a document of the segment that is at most `document`, is below the started
     /// number of documents, and whose document matches; `None` exactly where there is none. The frame was
     /// started, the port's moment isn't before that of the start, and `document` isn't above that of an
-    /// earlier call since then. Takes no memory.
+    /// earlier call since then. Each load passes a posting for good, so none is loaded twice between two
+    /// starts. Takes no memory.
     pub fn at_most<P: Port, L: Ledger>(
         &mut self,
         port: &mut P,
@@ -90,6 +91,7 @@ impl Frame {
             → IsGreatestMatch (query_of self.old) docs document result }
         ensures ready { (l : Moment) (docs : List Doc) → MayAsk l self.old docs document → Told P.stands P.keeps port.old port.new
             (λ m. IsNotBefore m l) (λ n. (lower : ℕ) → lower ≤ document → MayAsk n self.new docs lower) }
+        ensures loads { steps.new + most_loads self.new ≤ steps.old + most_loads self.old }
     {
         let end = (u64::from(document) + 1).min(u64::from(self.documents));
         let cursors = self.cursors.as_mut_slice();

@@ -9,33 +9,34 @@ use Rattle.eb_cursor.specs.Posted.{match_at}
 use Rattle.eb_cursor.proofs.Tops.{top_le}
 use Rattle.eb_cursor.proofs.Readies.{ready_lower, all_lower, all_size}
 use Rattle.eb_cursor.proofs.Steps.{tree_Word, tree_Phrase, tree_Not, tree_And, tree_Or, not_asks, not_told, not_here, not_past, each_told, each_asks, round_end, round_step, some_end, some_step, some_asks, some_told, front_of, front_asks, others_ask, ended}
+use Rattle.eb_cursor.proofs.LoadsLeft.{loads_split}
 use Rattle.eb_cursor.proofs.Tellings.{IsLater, gives_later, told_itself, told_as, told_on}
 use Rattle.eb_cursor.proofs.below.+below.Goals as goal
 
 -- ---- each kind of query
 
-pub below-returns-then-end-eq0 : goal.below-returns-then-end-eq0
-below-returns-then-end-eq0 g t c = λ docs last h. told_itself g.met.P.Port.keeps_itself (λ m r. ended (gives m) docs (tree c.args.query.now) c.args.cursors.now c.args.end last c.if-end-eq0.true r)
+pub below-returns-then-end-eq0-clause-found : goal.below-returns-then-end-eq0-clause-found
+below-returns-then-end-eq0-clause-found g t c = λ docs last h. told_itself g.met.P.Port.keeps_itself (λ m r. ended (gives m) docs (tree c.args.query.now) c.args.cursors.now c.args.end last c.if-end-eq0.true r)
 
-pub below-returns-in-Word : goal.below-returns-in-Word
-below-returns-in-Word g t c = λ docs last h.
+pub below-returns-in-Word-clause-found : goal.below-returns-in-Word-clause-found
+below-returns-in-Word-clause-found g t c = λ docs last h.
     let i : tree c.args.query.now ≡ word c.in-Word.field-0 = ap tree c.in-Word.is ∙ tree_Word c.in-Word.field-0 in
-    told_as g.met.P.Port.lawful (c.word_below.ensures docs c.in-Word.field-0 last h)
+    told_as g.met.P.Port.lawful (c.word_below.ensures.found docs c.in-Word.field-0 last h)
     (λ m r. subst (λ x. Ready (gives m) docs x c.args.cursors.now last) i r)
     (λ m n later r w. (w.0 ∙ ap (λ (x : Tree). top (match_at docs x) c.args.end) (sym i), subst (λ x. Ready (gives n) docs x c.word_below.new.cursors c.args.end) (sym i) w.1))
 
-pub below-returns-in-Phrase : goal.below-returns-in-Phrase
-below-returns-in-Phrase g t c = λ docs last h.
+pub below-returns-in-Phrase-clause-found : goal.below-returns-in-Phrase-clause-found
+below-returns-in-Phrase-clause-found g t c = λ docs last h.
     let i : tree c.args.query.now ≡ phrase c.in-Phrase.field-0 = ap tree c.in-Phrase.is ∙ tree_Phrase c.in-Phrase.field-0 in
-    told_as g.met.P.Port.lawful (c.phrase_below.ensures docs c.in-Phrase.field-0 last h)
+    told_as g.met.P.Port.lawful (c.phrase_below.ensures.found docs c.in-Phrase.field-0 last h)
     (λ m r. subst (λ x. Ready (gives m) docs x c.args.cursors.now last) i r)
     (λ m n later r w. (w.0 ∙ ap (λ (x : Tree). top (match_at docs x) c.args.end) (sym i), subst (λ x. Ready (gives n) docs x c.phrase_below.new.cursors c.args.end) (sym i) w.1))
 
-pub below-returns-in-Some : goal.below-returns-in-Some
-below-returns-in-Some g t c = λ docs last h.
+pub below-returns-in-Some-clause-found : goal.below-returns-in-Some-clause-found
+below-returns-in-Some-clause-found g t c = λ docs last h.
     let s = c.in-Some.own.now in
     let i : tree c.args.query.now ≡ negation (tree c.deref.result.now) = ap tree c.in-Not.is ∙ tree_Not c.in-Not.part ∙ ap (λ (x : Query). negation (tree x)) (sym c.deref.ensures) in
-    told_as g.met.P.Port.lawful (c.not_below-found.ensures docs s.upto (omega (arith, c.min.ensures)))
+    told_as g.met.P.Port.lawful (c.not_below-found.ensures.found docs s.upto (omega (arith, c.min.ensures)))
     (λ m r. not_asks (gives m) docs (tree c.args.query.now) (tree c.deref.result.now) c.args.cursors.now s c.in-Some.rest.now last i c.in-Some.ensures.cases.0 r)
     (λ m n later r w. not_told (gives m) (gives n) docs (tree c.args.query.now) (tree c.deref.result.now) c.args.cursors.now s _ c.in-Some.rest.now _ c.min.result c.args.end last c.not_below-found.result
     i c.in-Some.ensures.cases.0 refl h c.min.ensures w r)
@@ -47,19 +48,19 @@ below-all_below-found-requires g t c = λ κs lv.
     let asks = each_asks (gives r.0) r.1 (tree c.args.query.now) (trees_in c.as_slice.result.now) c.args.cursors.now c.in-Some-split_first_mut.own.now c.in-Some-split_first_mut.rest.now r.2 i c.in-Some-split_first_mut.ensures.cases.0 r.5 in
     (search rules, (search rules, (search rules, (search rules, (r.0, r.1, c.in-Some-split_first_mut.own.now.upto, r.3, omega (arith, c.min-in-And.ensures), asks)))))
 
-pub below-returns-in-Some-split_first_mut : goal.below-returns-in-Some-split_first_mut
-below-returns-in-Some-split_first_mut g t c = λ docs last h.
+pub below-returns-in-Some-split_first_mut-clause-found : goal.below-returns-in-Some-split_first_mut-clause-found
+below-returns-in-Some-split_first_mut-clause-found g t c = λ docs last h.
     let s = c.in-Some-split_first_mut.own.now in
     let i : tree c.args.query.now ≡ conjunction (trees_in c.as_slice.result.now) = ap tree c.in-And.is ∙ tree_And c.in-And.parts ∙ ap (λ (x : List Query). conjunction (trees_in x)) (sym c.as_slice.ensures) in
-    told_as g.met.P.Port.lawful (c.all_below-found.ensures docs s.upto (omega (arith, c.min-in-And.ensures)))
+    told_as g.met.P.Port.lawful (c.all_below-found.ensures.found docs s.upto (omega (arith, c.min-in-And.ensures)))
     (λ m r. each_asks (gives m) docs (tree c.args.query.now) (trees_in c.as_slice.result.now) c.args.cursors.now s c.in-Some-split_first_mut.rest.now last i c.in-Some-split_first_mut.ensures.cases.0 r)
     (λ m n later r w. each_told (gives m) (gives n) docs (tree c.args.query.now) (trees_in c.as_slice.result.now) c.args.cursors.now s _ c.in-Some-split_first_mut.rest.now _ c.min-in-And.result c.args.end last c.all_below-found.result
     i c.in-Some-split_first_mut.ensures.cases.0 refl h c.min-in-And.ensures w r)
 
-pub below-returns-in-Some-split_first_mut-2 : goal.below-returns-in-Some-split_first_mut-2
-below-returns-in-Some-split_first_mut-2 g t c = λ docs last h.
+pub below-returns-in-Some-split_first_mut-2-clause-found : goal.below-returns-in-Some-split_first_mut-2-clause-found
+below-returns-in-Some-split_first_mut-2-clause-found g t c = λ docs last h.
     let i : tree c.args.query.now ≡ disjunction (trees_in c.as_slice-in-Or.result.now) = ap tree c.in-Or.is ∙ tree_Or c.in-Or.parts ∙ ap (λ (x : List Query). disjunction (trees_in x)) (sym c.as_slice-in-Or.ensures) in
-    told_as g.met.P.Port.lawful (c.some_below.ensures docs last h)
+    told_as g.met.P.Port.lawful (c.some_below.ensures.found docs last h)
     (λ m r. some_asks (gives m) docs (tree c.args.query.now) (trees_in c.as_slice-in-Or.result.now) c.args.cursors.now c.in-Some-split_first_mut-2._own.now c.in-Some-split_first_mut-2.rest.now last i c.in-Some-split_first_mut-2.ensures.cases.0 r)
     (λ m n later r w. some_told (gives n) docs (tree c.args.query.now) (trees_in c.as_slice-in-Or.result.now) c.in-Some-split_first_mut-2._own.now c.some_below.new.cursors c.args.end c.some_below.result i w)
 
@@ -68,12 +69,13 @@ below-returns-in-Some-split_first_mut-2 g t c = λ docs last h.
 pub not_below-loop-place-init : goal.not_below-loop-place-init
 not_below-loop-place-init g t c = record {
   falls = omega arith;
+  loads = omega arith;
   found = λ docs last h. told_itself g.met.P.Port.keeps_itself (λ m r. (refl, ready_lower (gives m) docs (tree c.args.query.now) c.args.cursors.now c.args.end last h r));
 }
 
-pub not_below-returns-then-found-place : goal.not_below-returns-then-found-place
-not_below-returns-then-found-place g t c = λ docs last h.
-    told_on g.met.P.Port.lawful g.met.P.Port.keeps_on (c.loop-place.invariant.found docs last h) (c.below-found.ensures docs c.loop-place.place (omega arith))
+pub not_below-returns-then-found-place-clause-found : goal.not_below-returns-then-found-place-clause-found
+not_below-returns-then-found-place-clause-found g t c = λ docs last h.
+    told_on g.met.P.Port.lawful g.met.P.Port.keeps_on (c.loop-place.invariant.found docs last h) (c.below-found.ensures.found docs c.loop-place.place (omega arith))
     (λ l r. r) (λ l m w r i. i.1)
     (λ l m n w1 w2 r i w.
     let f : ℕ → _ = match_at docs (tree c.args.query.now) in
@@ -83,8 +85,9 @@ not_below-returns-then-found-place g t c = λ docs last h.
 pub not_below-loop-place-preserved : goal.not_below-loop-place-preserved
 not_below-loop-place-preserved g t c = record {
   falls = omega (arith, c.loop-place.invariant.falls);
+  loads = omega (arith, c.below-found.ensures.loads, c.loop-place.invariant.loads);
   found = λ docs last h.
-      told_on g.met.P.Port.lawful g.met.P.Port.keeps_on (c.loop-place.invariant.found docs last h) (c.below-found.ensures docs c.loop-place.place (omega arith))
+      told_on g.met.P.Port.lawful g.met.P.Port.keeps_on (c.loop-place.invariant.found docs last h) (c.below-found.ensures.found docs c.loop-place.place (omega arith))
       (λ l r. r) (λ l m w r i. i.1)
       (λ l m n w1 w2 r i w.
       let f : ℕ → _ = match_at docs (tree c.args.query.now) in
@@ -102,8 +105,8 @@ at_zero : (f : ℕ → Bool) (place : ℕ) → place ≤ 0 → place ≡ top f p
 at_zero f zero h = refl
 at_zero f (suc n) h = absurd (omega arith)
 
-pub not_below-returns : goal.not_below-returns
-not_below-returns g t c = λ docs last h.
+pub not_below-returns-clause-found : goal.not_below-returns-clause-found
+not_below-returns-clause-found g t c = λ docs last h.
     told_as g.met.P.Port.lawful (c.loop-place.invariant.found docs last h) (λ m r. r)
     (λ m n w r i. (at_zero (λ k. not (match_at docs (tree c.args.query.now) k)) c.loop-place.place c.loop-place-test.false ∙ sym i.0, i.1))
 
@@ -112,6 +115,7 @@ not_below-returns g t c = λ docs last h.
 pub all_below-loop-place-init : goal.all_below-loop-place-init
 all_below-loop-place-init g t c = record {
   falls = omega arith;
+  loads = omega arith;
   found = λ docs last h. told_itself g.met.P.Port.keeps_itself (λ m r. (refl, all_lower (gives m) docs (trees_in c.args.parts.now) c.args.cursors.now c.args.end last h r));
 }
 
@@ -121,9 +125,9 @@ all_below-round_below-found-requires g t c = λ κs lv.
     let i = (c.loop-place.invariant.found r.1 r.2 r.4).told r.0 r.3 r.5 in
     (search rules, (search rules, (search rules, (omega (arith, c.requires.small.0, c.requires.small.1, c.loop-place.invariant.falls, c.loop-place.auto.cursors), (i.0, r.1, c.loop-place.place, i.1, omega arith, i.4.1)))))
 
-pub all_below-returns-then-found-place : goal.all_below-returns-then-found-place
-all_below-returns-then-found-place g t c = λ docs last h.
-    told_on g.met.P.Port.lawful g.met.P.Port.keeps_on (c.loop-place.invariant.found docs last h) (c.round_below-found.ensures docs c.loop-place.place (omega arith))
+pub all_below-returns-then-found-place-clause-found : goal.all_below-returns-then-found-place-clause-found
+all_below-returns-then-found-place-clause-found g t c = λ docs last h.
+    told_on g.met.P.Port.lawful g.met.P.Port.keeps_on (c.loop-place.invariant.found docs last h) (c.round_below-found.ensures.found docs c.loop-place.place (omega arith))
     (λ l r. r) (λ l m w r i. i.1)
     (λ l m n w1 w2 r i round.
     (sym (i.0 ∙ round.all c.if-found-place.true), subst (λ y. AllReady (gives n) docs (trees_in c.args.parts.now) c.round_below-found.new.cursors y) c.if-found-place.true round.ready))
@@ -132,7 +136,7 @@ pub all_below-loop-place-smaller : goal.all_below-loop-place-smaller
 all_below-loop-place-smaller g t c =
     let r = c.requires.ready in
     let i = (c.loop-place.invariant.found r.1 r.2 r.4).told r.0 r.3 r.5 in
-    let x = (c.round_below-found.ensures r.1 c.loop-place.place (omega arith)).told i.0 i.1 i.4.1 in
+    let x = (c.round_below-found.ensures.found r.1 c.loop-place.place (omega arith)).told i.0 i.1 i.4.1 in
     let le : c.round_below-found.result ≤ c.loop-place.place = x.4.falls in
     let ne : c.round_below-found.result ≢ c.loop-place.place = c.if-found-place.false in
     omega arith
@@ -141,11 +145,12 @@ pub all_below-loop-place-preserved : goal.all_below-loop-place-preserved
 all_below-loop-place-preserved g t c =
     let r = c.requires.ready in
     let i = (c.loop-place.invariant.found r.1 r.2 r.4).told r.0 r.3 r.5 in
-    let x = (c.round_below-found.ensures r.1 c.loop-place.place (omega arith)).told i.0 i.1 i.4.1 in
+    let x = (c.round_below-found.ensures.found r.1 c.loop-place.place (omega arith)).told i.0 i.1 i.4.1 in
     record {
       falls = omega (arith, x.4.falls, c.loop-place.invariant.falls);
+      loads = omega (arith, c.round_below-found.ensures.loads, c.loop-place.invariant.loads);
       found = λ docs last h.
-          told_on g.met.P.Port.lawful g.met.P.Port.keeps_on (c.loop-place.invariant.found docs last h) (c.round_below-found.ensures docs c.loop-place.place (omega arith))
+          told_on g.met.P.Port.lawful g.met.P.Port.keeps_on (c.loop-place.invariant.found docs last h) (c.round_below-found.ensures.found docs c.loop-place.place (omega arith))
           (λ l r. r) (λ l m w r i. i.1)
           (λ l m n w1 w2 r i round. (i.0 ∙ round.same, round.ready));
     }
@@ -156,8 +161,8 @@ nil_of : (qs : List Query) → length qs ≡ 0 → qs ≡ []
 nil_of [] e = refl
 nil_of (q ∷ qs) e = absurd (omega arith)
 
-pub round_below-returns-in_default : goal.round_below-returns-in_default
-round_below-returns-in_default g t c = λ docs last h. told_itself g.met.P.Port.keeps_itself (λ m r. round_end (gives m) docs (trees_in c.args.parts.now) c.args.cursors.now c.args.end last (ap trees_in (nil_of _ c.in_default.ensures.cases)) h r)
+pub round_below-returns-in_default-clause-found : goal.round_below-returns-in_default-clause-found
+round_below-returns-in_default-clause-found g t c = λ docs last h. told_itself g.met.P.Port.keeps_itself (λ m r. round_end (gives m) docs (trees_in c.args.parts.now) c.args.cursors.now c.args.end last (ap trees_in (nil_of _ c.in_default.ensures.cases)) h r)
 
 pub round_below-size-requires : goal.round_below-size-requires
 round_below-size-requires g t c = let r = c.requires.ready in
@@ -173,19 +178,19 @@ pub round_below-round_below-requires : goal.round_below-round_below-requires
 round_below-round_below-requires g t c = λ κs lv.
     let r = c.requires.ready in
     let e = front_of c.args.parts.now c.in-Some.part.now c.in-Some.others.now c.args.cursors.now c.split_at_mut-own.result.0.now c.split_at_mut-own.result.1.now c.size.result c.in-Some.ensures.cases.0 c.size.ensures c.split_at_mut-own.ensures.front c.split_at_mut-own.ensures.back in
-    let x = (c.below-found.ensures r.1 r.2 r.4).told r.0 r.3 (front_asks (gives r.0) r.1 (trees_in c.args.parts.now) (tree c.in-Some.part.now) (trees_in c.in-Some.others.now) c.args.cursors.now c.split_at_mut-own.result.0.now c.split_at_mut-own.result.1.now r.2 e r.5) in
+    let x = (c.below-found.ensures.found r.1 r.2 r.4).told r.0 r.3 (front_asks (gives r.0) r.1 (trees_in c.args.parts.now) (tree c.in-Some.part.now) (trees_in c.in-Some.others.now) c.args.cursors.now c.split_at_mut-own.result.0.now c.split_at_mut-own.result.1.now r.2 e r.5) in
     let w : IsLater r.0 x.0 = record { is = g.met.P.Port.lawful _ r.0 r.3; later = x.2 } in
     let more = others_ask (gives r.0) (gives x.0) r.1 (trees_in c.args.parts.now) (tree c.in-Some.part.now) (trees_in c.in-Some.others.now) c.args.cursors.now c.split_at_mut-own.result.0.now c.split_at_mut-own.result.1.now c.args.end r.2 e (gives_later r.0 x.0 w) r.4 r.5 in
     let under : c.below-found.result ≤ c.args.end = omega (arith, x.4.0, top_le (match_at r.1 (tree c.in-Some.part.now)) c.args.end) in
     (search rules, (search rules, (search rules, ((omega (arith, under, c.requires.small.0), search rules), (x.0, r.1, c.args.end, x.1, omega (arith, x.4.0, top_le (match_at r.1 (tree c.in-Some.part.now)) c.args.end), more)))))
 
-pub round_below-returns : goal.round_below-returns
-round_below-returns g t c = λ docs last h.
+pub round_below-returns-clause-found : goal.round_below-returns-clause-found
+round_below-returns-clause-found g t c = λ docs last h.
     let r = c.requires.ready in
     let e = front_of c.args.parts.now c.in-Some.part.now c.in-Some.others.now c.args.cursors.now c.split_at_mut-own.result.0.now c.split_at_mut-own.result.1.now c.size.result c.in-Some.ensures.cases.0 c.size.ensures c.split_at_mut-own.ensures.front c.split_at_mut-own.ensures.back in
-    let x = (c.below-found.ensures r.1 r.2 r.4).told r.0 r.3 (front_asks (gives r.0) r.1 (trees_in c.args.parts.now) (tree c.in-Some.part.now) (trees_in c.in-Some.others.now) c.args.cursors.now c.split_at_mut-own.result.0.now c.split_at_mut-own.result.1.now r.2 e r.5) in
+    let x = (c.below-found.ensures.found r.1 r.2 r.4).told r.0 r.3 (front_asks (gives r.0) r.1 (trees_in c.args.parts.now) (tree c.in-Some.part.now) (trees_in c.in-Some.others.now) c.args.cursors.now c.split_at_mut-own.result.0.now c.split_at_mut-own.result.1.now r.2 e r.5) in
     let under : c.below-found.result ≤ c.args.end = omega (arith, x.4.0, top_le (match_at r.1 (tree c.in-Some.part.now)) c.args.end) in
-    told_on g.met.P.Port.lawful g.met.P.Port.keeps_on (c.below-found.ensures docs last h) (c.round_below.ensures docs c.args.end under)
+    told_on g.met.P.Port.lawful g.met.P.Port.keeps_on (c.below-found.ensures.found docs last h) (c.round_below.ensures.found docs c.args.end under)
     (λ l k. front_asks (gives l) docs (trees_in c.args.parts.now) (tree c.in-Some.part.now) (trees_in c.in-Some.others.now) c.args.cursors.now c.split_at_mut-own.result.0.now c.split_at_mut-own.result.1.now last e k)
     (λ l m w k i. others_ask (gives l) (gives m) docs (trees_in c.args.parts.now) (tree c.in-Some.part.now) (trees_in c.in-Some.others.now) c.args.cursors.now c.split_at_mut-own.result.0.now c.split_at_mut-own.result.1.now c.args.end last e (gives_later l m w) h k)
     (λ l m n w1 w2 k i more. round_step (gives m) (gives n) docs (trees_in c.args.parts.now) (tree c.in-Some.part.now) (trees_in c.in-Some.others.now) c.below-found.new.cursors c.round_below.new.cursors c.args.end c.below-found.result c.round_below.result
@@ -193,8 +198,8 @@ round_below-returns g t c = λ docs last h.
 
 -- ---- what some part matches
 
-pub some_below-returns-in_default : goal.some_below-returns-in_default
-some_below-returns-in_default g t c = λ docs last h. told_itself g.met.P.Port.keeps_itself (λ m r. some_end (gives m) docs (trees_in c.args.parts.now) c.args.cursors.now c.args.end last (ap trees_in (nil_of _ c.in_default.ensures.cases)) h r)
+pub some_below-returns-in_default-clause-found : goal.some_below-returns-in_default-clause-found
+some_below-returns-in_default-clause-found g t c = λ docs last h. told_itself g.met.P.Port.keeps_itself (λ m r. some_end (gives m) docs (trees_in c.args.parts.now) c.args.cursors.now c.args.end last (ap trees_in (nil_of _ c.in_default.ensures.cases)) h r)
 
 pub some_below-size-requires : goal.some_below-size-requires
 some_below-size-requires g t c = let r = c.requires.ready in
@@ -210,16 +215,26 @@ pub some_below-some_below-other-requires : goal.some_below-some_below-other-requ
 some_below-some_below-other-requires g t c = λ κs lv.
     let r = c.requires.ready in
     let e = front_of c.args.parts.now c.in-Some.part.now c.in-Some.others.now c.args.cursors.now c.split_at_mut-own.result.0.now c.split_at_mut-own.result.1.now c.size.result c.in-Some.ensures.cases.0 c.size.ensures c.split_at_mut-own.ensures.front c.split_at_mut-own.ensures.back in
-    let x = (c.below-found.ensures r.1 r.2 r.4).told r.0 r.3 (front_asks (gives r.0) r.1 (trees_in c.args.parts.now) (tree c.in-Some.part.now) (trees_in c.in-Some.others.now) c.args.cursors.now c.split_at_mut-own.result.0.now c.split_at_mut-own.result.1.now r.2 e r.5) in
+    let x = (c.below-found.ensures.found r.1 r.2 r.4).told r.0 r.3 (front_asks (gives r.0) r.1 (trees_in c.args.parts.now) (tree c.in-Some.part.now) (trees_in c.in-Some.others.now) c.args.cursors.now c.split_at_mut-own.result.0.now c.split_at_mut-own.result.1.now r.2 e r.5) in
     let w : IsLater r.0 x.0 = record { is = g.met.P.Port.lawful _ r.0 r.3; later = x.2 } in
     let more = others_ask (gives r.0) (gives x.0) r.1 (trees_in c.args.parts.now) (tree c.in-Some.part.now) (trees_in c.in-Some.others.now) c.args.cursors.now c.split_at_mut-own.result.0.now c.split_at_mut-own.result.1.now c.args.end r.2 e (gives_later r.0 x.0 w) r.4 r.5 in
     (search rules, (search rules, (search rules, (search rules, (x.0, r.1, c.args.end, x.1, omega arith, more)))))
 
-pub some_below-returns : goal.some_below-returns
-some_below-returns g t c = λ docs last h.
+pub some_below-returns-clause-found : goal.some_below-returns-clause-found
+some_below-returns-clause-found g t c = λ docs last h.
     let e = front_of c.args.parts.now c.in-Some.part.now c.in-Some.others.now c.args.cursors.now c.split_at_mut-own.result.0.now c.split_at_mut-own.result.1.now c.size.result c.in-Some.ensures.cases.0 c.size.ensures c.split_at_mut-own.ensures.front c.split_at_mut-own.ensures.back in
-    told_on g.met.P.Port.lawful g.met.P.Port.keeps_on (c.below-found.ensures docs last h) (c.some_below-other.ensures docs c.args.end (omega arith))
+    told_on g.met.P.Port.lawful g.met.P.Port.keeps_on (c.below-found.ensures.found docs last h) (c.some_below-other.ensures.found docs c.args.end (omega arith))
     (λ l k. front_asks (gives l) docs (trees_in c.args.parts.now) (tree c.in-Some.part.now) (trees_in c.in-Some.others.now) c.args.cursors.now c.split_at_mut-own.result.0.now c.split_at_mut-own.result.1.now last e k)
     (λ l m w k i. others_ask (gives l) (gives m) docs (trees_in c.args.parts.now) (tree c.in-Some.part.now) (trees_in c.in-Some.others.now) c.args.cursors.now c.split_at_mut-own.result.0.now c.split_at_mut-own.result.1.now c.args.end last e (gives_later l m w) h k)
     (λ l m n w1 w2 k i more. some_step (gives m) (gives n) docs (trees_in c.args.parts.now) (tree c.in-Some.part.now) (trees_in c.in-Some.others.now) c.below-found.new.cursors c.some_below-other.new.cursors c.args.end c.below-found.result c.some_below-other.result c.max.result
     e.parts (gives_later m n w2) c.max.ensures i.0 i.1 more.0 more.1)
+
+-- ---- the loads
+
+pub round_below-returns-clause-loads : goal.round_below-returns-clause-loads
+round_below-returns-clause-loads g t c = loads_split c.args.cursors.now c.split_at_mut-own.result.0.now c.split_at_mut-own.result.1.now c.below-found.new.cursors c.round_below.new.cursors c.args.steps.now c.below-found.new.steps c.round_below.new.steps
+    c.split_at_mut-own.ensures.value c.below-found.ensures.loads c.round_below.ensures.loads
+
+pub some_below-returns-clause-loads : goal.some_below-returns-clause-loads
+some_below-returns-clause-loads g t c = loads_split c.args.cursors.now c.split_at_mut-own.result.0.now c.split_at_mut-own.result.1.now c.below-found.new.cursors c.some_below-other.new.cursors c.args.steps.now c.below-found.new.steps c.some_below-other.new.steps
+    c.split_at_mut-own.ensures.value c.below-found.ensures.loads c.some_below-other.ensures.loads

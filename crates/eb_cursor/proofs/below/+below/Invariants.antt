@@ -3,6 +3,7 @@ use Rattle.eb_base.specs.Document.{Doc}
 use Rattle.eb_base.specs.Query.{tree}
 use Rattle.eb_cursor.specs.Told.{Told}
 use Rattle.eb_cursor.specs.Lists.{gives}
+use Rattle.eb_cursor.specs.Loads.{loads_left}
 use Rattle.eb_cursor.specs.Tops.{top}
 use Rattle.eb_cursor.specs.Posted.{match_at, each_at}
 use Rattle.eb_cursor.specs.Ready.{Ready, AllReady}
@@ -27,6 +28,7 @@ decreases-some_below g l = 2 * weights (trees_in l.parts.now)
 abbrev pub invariant-all_below-loop-place : goal.invariant-all_below-loop-place
 invariant-all_below-loop-place g l = record {
   falls : l.place ≤ l.initial.place;
+  loads : l.steps + loads_left l.cursors ≤ l.initial.steps + loads_left l.initial.cursors;
   found : (docs : List Doc) (last : ℕ) → l.initial.place ≤ last → Told g.P.Port.stands g.P.Port.keeps l.initial.port l.port
       (λ m. AllReady (gives m) docs (trees_in l.parts) l.initial.cursors last)
       (λ n. (top (each_at docs (trees_in l.parts)) l.initial.place ≡ top (each_at docs (trees_in l.parts)) l.place) × AllReady (gives n) docs (trees_in l.parts) l.cursors l.place);
@@ -38,6 +40,7 @@ decreases-all_below-loop-place g l = l.place
 abbrev pub invariant-not_below-loop-place : goal.invariant-not_below-loop-place
 invariant-not_below-loop-place g l = record {
   falls : l.place ≤ l.initial.place;
+  loads : l.steps + loads_left l.cursors ≤ l.initial.steps + loads_left l.initial.cursors;
   found : (docs : List Doc) (last : ℕ) → l.initial.place ≤ last → Told g.P.Port.stands g.P.Port.keeps l.initial.port l.port
       (λ m. Ready (gives m) docs (tree l.query) l.initial.cursors last)
       (λ n. (top (λ k. not (match_at docs (tree l.query) k)) l.initial.place ≡ top (λ k. not (match_at docs (tree l.query) k)) l.place) × Ready (gives n) docs (tree l.query) l.cursors l.place);

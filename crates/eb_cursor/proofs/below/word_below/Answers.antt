@@ -8,8 +8,8 @@ use Rattle.eb_cursor.proofs.below.word_below.Goals as goal
 pub leaf_below-found-requires : goal.leaf_below-found-requires
 leaf_below-found-requires g c = let r = c.requires.ready in (r.0, is_posting r.1 r.2, r.4, word_asks (gives r.0) r.1 r.2 c.args.cursors.now _ c.args.end r.3 r.5 r.6)
 
-pub returns : goal.returns
-returns g c = λ docs t last h. told_as g.met.P.Port.lawful (c.leaf_below-found.ensures.found (is_posting docs t))
+pub returns-clause-found : goal.returns-clause-found
+returns-clause-found g c = λ docs t last h. told_as g.met.P.Port.lawful (c.leaf_below-found.ensures.found (is_posting docs t))
     (λ m r. word_asks (gives m) docs t c.args.cursors.now _ c.args.end last h r)
     (λ m n later r w.
     let told = word_told (gives m) (gives n) docs t c.args.cursors.now c.leaf_below-found.new.cursor c.args.end last c.leaf_below-found.result w.0 w.1 r in

@@ -4,8 +4,8 @@ use Rattle.eb_cursor.proofs.Phrases.{phrase_asks, phrase_past, phrase_told, leav
 use Rattle.eb_cursor.proofs.Tellings.{told_itself, told_as}
 use Rattle.eb_cursor.proofs.phrase.phrase_below.Goals as goal
 
-pub returns-then-start-eq0 : goal.returns-then-start-eq0
-returns-then-start-eq0 g c = λ docs ts last h. told_itself g.met.P.Port.keeps_itself (λ m r.
+pub returns-then-start-eq0-clause-found : goal.returns-then-start-eq0-clause-found
+returns-then-start-eq0-clause-found g c = λ docs ts last h. told_itself g.met.P.Port.keeps_itself (λ m r.
     phrase_past (gives m) docs ts c.args.cursors.now _ c.min-start.result c.args.end last c.min-start.ensures c.if-start-eq0.true h r)
 
 pub starts_below-found-requires-clause-ready : goal.starts_below-found-requires-clause-ready
@@ -16,8 +16,8 @@ starts_below-found-requires-clause-ready g c = let r = c.requires.ready in
 phrase_under : (start a b : ℕ) → start ≡ min a b → start ≤ b
 phrase_under start a b e = omega arith
 
-pub returns : goal.returns
-returns g c = λ docs ts last h. told_as g.met.P.Port.lawful (c.starts_below-found.ensures docs ts _ (phrase_under _ _ _ c.min-start.ensures))
+pub returns-clause-found : goal.returns-clause-found
+returns-clause-found g c = λ docs ts last h. told_as g.met.P.Port.lawful (c.starts_below-found.ensures.found docs ts _ (phrase_under _ _ _ c.min-start.ensures))
     (λ m r. (phrase_asks (gives m) docs ts c.args.cursors.now _ c.min-start.result c.args.end last c.min-start.ensures c.if-start-eq0.false r).1)
     (λ m n later r w.
     let told = phrase_told (gives m) (gives n) docs ts c.args.cursors.now c.starts_below-found.new.cursors _ _ c.min-start.result c.args.end last c.starts_below-found.result

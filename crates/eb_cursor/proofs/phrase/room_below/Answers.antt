@@ -15,8 +15,8 @@ room_in : (n end : ℕ) → (end ≡ 0 → ⊥) → (end - 1) % 256 + n ≤ 256 
 room_in n zero h k = absurd (h refl)
 room_in n (suc x) h k = let m : suc x - 1 ≡ x = omega arith in room_here n x (subst (λ y. y % 256 + n ≤ 256) m k)
 
-pub returns-then-over-le256 : goal.returns-then-over-le256
-returns-then-over-le256 c = room_in c.args.count c.args.end c.if-end-eq0.false c.if-over-le256.true
+pub returns-then-over-le-PLACES : goal.returns-then-over-le-PLACES
+returns-then-over-le-PLACES c = room_in c.args.count c.args.end c.if-end-eq0.false c.if-over-le-PLACES.true
 
 pub returns : goal.returns
-returns c = room_over c.args.count c.args.end c.if-end-eq0.false c.requires.1 c.requires.0 c.if-over-le256.false
+returns c = room_over c.args.count c.args.end c.if-end-eq0.false c.requires.1 c.requires.0 c.if-over-le-PLACES.false

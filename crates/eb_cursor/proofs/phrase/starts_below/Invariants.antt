@@ -1,7 +1,8 @@
-use Rattle.std.proofs.Common.{◌≡◌, ℕ, ◌≤◌, List}
+use Rattle.std.proofs.Common.{◌≡◌, ℕ, ◌+◌, ◌≤◌, List}
 use Rattle.eb_base.specs.Document.{Doc}
 use Rattle.eb_cursor.specs.Told.{Told}
 use Rattle.eb_cursor.specs.Lists.{gives}
+use Rattle.eb_cursor.specs.Loads.{loads_left}
 use Rattle.eb_cursor.specs.Posted.{is_start}
 use Rattle.eb_cursor.specs.Ready.{AllLeaves}
 use Rattle.eb_cursor.specs.Tops.{top}
@@ -13,6 +14,7 @@ decreases-loop-place g l = l.place
 abbrev pub invariant-loop-place : goal.invariant-loop-place
 invariant-loop-place g l = record {
   falls : l.place ≤ l.initial.place;
+  loads : l.steps + loads_left l.cursors ≤ l.initial.steps + loads_left l.initial.cursors;
   found : (docs : List Doc) (ts : List (List ℕ)) (last : ℕ) → l.initial.place ≤ last → Told g.P.Port.stands g.P.Port.keeps l.initial.port l.port
       (λ m. AllLeaves (gives m) docs ts l.initial.cursors last)
       (λ n. (top (is_start docs ts) l.initial.place ≡ top (is_start docs ts) l.place) × AllLeaves (gives n) docs ts l.cursors l.place);

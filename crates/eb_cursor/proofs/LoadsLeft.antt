@@ -1,0 +1,13 @@
+-- The loads that cursors can still make.
+use Rattle.std.proofs.Common.{◌≡◌, ℕ, ◌+◌, ◌≤◌, List, [], ◌∷◌, ◌++◌, ap, arith}
+use Rattle.eb_cursor.specs.Loads.{loads_left}
+use Rattle.eb_cursor.specs.declared.cursor.Cursor.{Cursor}
+
+-- those of two lists of cursors add up
+pub loads_left-append : (xs ys : List Cursor) → loads_left (xs ++ ys) ≡ loads_left xs + loads_left ys
+loads_left-append [] ys = omega arith
+loads_left-append (x ∷ xs) ys = omega (arith, loads_left-append xs ys)
+
+-- the cursors in front and the others, one after the other
+pub loads_split : (all xs ys xs' ys' : List Cursor) (before between after : ℕ) → all ≡ xs ++ ys → between + loads_left xs' ≤ before + loads_left xs → after + loads_left ys' ≤ between + loads_left ys → after + loads_left (xs' ++ ys') ≤ before + loads_left all
+loads_split all xs ys xs' ys' before between after e h k = omega (arith, ap loads_left e, loads_left-append xs ys, loads_left-append xs' ys', h, k)
