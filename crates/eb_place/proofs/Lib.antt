@@ -35,6 +35,12 @@ pub mod MomentsMeet
 pub mod Apart
 pub mod Entered
 pub mod Images
+pub mod Regions
+pub mod Entries
+pub mod Texts
+pub mod CellsOf
+pub mod Dictionary
+pub mod EnteredTerms
 pub mod Telling
 pub mod VectorsHashes
 pub mod VectorsBlocks

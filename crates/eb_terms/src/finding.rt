@@ -1,0 +1,69 @@
+ghost use Rattle.std.specs.Prelude.{◌≡◌, ℕ, ◌+◌, ◌*◌, ◌<◌, ◌≤◌, ◌↔◌, IsTrue};
+ghost use Rattle.eb_place.specs.declared.moment.Moment.{Moment};
+ghost use Rattle.eb_place.specs.Placing.{text_of};
+ghost use Rattle.eb_place.specs.Later.{IsNotBefore};
+ghost use Rattle.eb_terms.specs.Finding.{IsAnswer, most_loads};
+ghost use Rattle.eb_terms.specs.Comparing.{IsNumber, term_at, words_compared};
+
+use crate::hashing::home;
+use crate::loads::{number_in, start_of, word_of_text};
+use crate::texts::{count_words, text_word};
+use eb_base::Term;
+use eb_place::{Port, Steps};
+use std::sync::ledger::Ledger;
+
+/// The number of a term in a segment's dictionary, by linear probing from the term's home cell (this
+/// project's profile, docs/FORMATS.md).
+///
+/// A number is that of the term at the moment on exit, at which it is entered. None comes only where the
+/// term isn't entered at the moment on entry, also where words grow between two loads. The loads are at
+/// most `(r + 1) * (3 + w)`, with `r` the filled cells that follow each other from the home cell, wrapping,
+/// at the moment on exit, and `w` the text words of the term. Takes no memory.
+pub fn find<P: Port, L: Ledger>(
+    port: &mut P,
+    segment: u32,
+    term: &Term,
+    steps: &mut Steps<L>,
+) -> Option<u32>
+    requires { (m : Moment) × P.stands port.old m × (segment < m.setting.segments) }
+    ensures told { (m : Moment) → P.stands port.old m
+        → (n : Moment) × P.stands port.new n × IsNotBefore n m × P.keeps port.old m port.new n
+        × IsAnswer m n segment term.now result × (steps.new ≤ steps.old + most_loads n segment term.now) }
+{
+    let cells = 2 * port.config().terms();
+    let first = home(term, cells);
+    for step in 0..cells {
+        let cell = (first + step) % cells;
+        let Some(number) = number_in(port, segment, cell, steps) else {
+            return None;
+        };
+        if is_term(port, segment, number, term, steps) {
+            return Some(number);
+        }
+    }
+    None
+}
+
+// Whether the entered term of this number is the given one: the lengths are compared first, then the words
+// of the bytes, up to the first that differs.
+fn is_term<P: Port, L: Ledger>(
+    port: &mut P,
+    segment: u32,
+    number: u32,
+    term: &Term,
+    steps: &mut Steps<L>,
+) -> bool
+    requires { (m : Moment) × P.stands port.old m × (segment < m.setting.segments) × IsNumber m segment number }
+    ensures told { (m : Moment) → P.stands port.old m → segment < m.setting.segments → IsNumber m segment number
+        → (n : Moment) × P.stands port.new n × IsNotBefore n m × P.keeps port.old m port.new n
+        × IsNumber n segment number × (IsTrue result ↔ (term_at n segment number ≡ term.now))
+        × (steps.new ≡ steps.old + 1 + words_compared (text_of (term_at n segment number)) (text_of term.now)) }
+{
+    let start = start_of(port, segment, number, steps);
+    for at in 0..count_words(term) {
+        if word_of_text(port, segment, start, at, steps) != text_word(term, at) {
+            return false;
+        }
+    }
+    true
+}

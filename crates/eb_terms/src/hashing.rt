@@ -1,0 +1,25 @@
+ghost use Rattle.std.specs.Prelude.{◌≡◌, ◌≤◌, fold};
+ghost use Rattle.eb_place.specs.Placing.{hash, home_cell};
+
+use eb_base::Term;
+
+/// The home cell of a term among this many cells: the cell where the search for the term begins. It is the
+/// rest of the term's hash, of 32 bits, by the number of cells (this project's profile, docs/FORMATS.md).
+/// Takes no memory.
+pub fn home(term: &Term, cells: u32) -> u32
+    requires { 1 ≤ cells }
+    ensures { result ≡ home_cell cells term.now }
+{
+    hash_of(term) % cells
+}
+
+// The hash of a term: 0, and for each byte 31 times the hash plus the byte, modulo 2^32.
+pub(crate) fn hash_of(term: &Term) -> u32
+    ensures { result ≡ hash term.now }
+{
+    let mut hash = 0u32;
+    for &byte in term.bytes() {
+        hash = hash.wrapping_mul(31).wrapping_add(u32::from(byte));
+    }
+    hash
+}

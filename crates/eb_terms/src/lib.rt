@@ -1,0 +1,14 @@
+//! The dictionary of a segment: an open-addressed hash table over parallel arrays of words. Its cells hold
+//! term numbers; a term's text stands among the text words, from its text place on. It is filled by single
+//! stores and read while it grows. No call takes memory.
+#![tactic(auto)]
+
+mod entering;
+mod finding;
+mod hashing;
+mod loads;
+mod texts;
+
+pub use entering::enter;
+pub use finding::find;
+pub use hashing::home;

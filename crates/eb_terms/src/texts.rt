@@ -1,0 +1,49 @@
+ghost use Rattle.std.specs.Prelude.{◌≡◌, ◌-◌, ◌<◌, ◌≤◌, ◌++◌, get_or, length, replicate};
+ghost use Rattle.eb_base.specs.Term.{AreBytes};
+ghost use Rattle.eb_place.specs.Room.{text_words};
+ghost use Rattle.eb_place.specs.Placing.{text_of, little_endian};
+
+use eb_base::Term;
+
+// The bytes of a text word.
+const WORD_BYTES: usize = 8;
+
+// How many text words a term takes: its length, and its bytes by eights.
+pub(crate) fn count_words(term: &Term) -> usize
+    ensures count { result ≡ text_words term.now }
+    ensures bytes { AreBytes term.now }
+{
+    let bytes = term.bytes();
+    1 + bytes.len().div_ceil(WORD_BYTES)
+}
+
+// A text word of a term: its length in bytes, or eight of its bytes, lowest first.
+pub(crate) fn text_word(term: &Term, at: usize) -> u64
+    requires { at < text_words term.now }
+    ensures { result ≡ get_or (text_of term.now) at 0 }
+{
+    let bytes = term.bytes();
+    if at == 0 {
+        return bytes.len() as u64;
+    }
+    let rest = &bytes[(at - 1) * WORD_BYTES..];
+    lowest_first(&rest[..rest.len().min(WORD_BYTES)])
+}
+
+// Up to eight bytes as a number, the first lowest.
+fn lowest_first(bytes: &[u8]) -> u64
+    requires { length bytes.now ≤ 8 }
+    ensures { result ≡ little_endian bytes.now }
+{
+    u64::from_le_bytes(filled_up(bytes))
+}
+
+// Up to eight bytes, and as many bytes 0 behind them as make eight.
+fn filled_up(bytes: &[u8]) -> [u8; WORD_BYTES]
+    requires { length bytes.now ≤ 8 }
+    ensures { result ≡ bytes.now ++ replicate (8 - length bytes.now) 0 }
+{
+    let mut word = [0u8; WORD_BYTES];
+    word[..bytes.len()].copy_from_slice(bytes);
+    word
+}
