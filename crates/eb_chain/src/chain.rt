@@ -1,0 +1,132 @@
+ghost use Rattle.std.specs.Prelude.{◌≡◌, ℕ, List, ◌+◌, ◌<◌, ◌≤◌, ◌^◌, length, reverse};
+ghost use Rattle.eb_base.specs.Term.{Term};
+ghost use Rattle.eb_place.specs.declared.moment.Moment.{Moment};
+ghost use Rattle.eb_place.specs.Later.{IsNotBefore};
+ghost use Rattle.eb_place.specs.Seen.{seen, seen_count};
+ghost use Rattle.eb_place.specs.Walk.{IsAddress, IsLink, IsTerm};
+ghost use Rattle.eb_chain.specs.Chains.{Stands, Given, next_loads, IsWayBefore, IsPosting, IsWayOf};
+
+use eb_place::{Places, Port, Steps, offset_of, pool_of};
+use std::sync::ledger::Ledger;
+
+// Where the next posting of a walk is found.
+#[derive(Clone, Copy, Debug, PartialEq, Eq)]
+enum Way {
+    // There is none.
+    End,
+    // At this address.
+    At(u32),
+    // At the address that the link at this address holds.
+    Link(u32),
+}
+
+/// A backward walk over the postings of one term in one segment. Each slice is linked to the term's
+/// earlier slice, so the walk begins at the tail and meets the newest posting first (the Earlybird paper
+/// of 2012). It stands for the postings whose tails were stored when it was opened, also while more come.
+#[derive(Clone, Copy, Debug, PartialEq, Eq)]
+pub struct Chain {
+    segment: u32,
+    way: Way,
+}
+
+impl Chain {
+    /// Opens the chain of a term, by the term's number in the segment. It stands for the term's postings
+    /// at the moment of this call's one load, that of the tail; those of a document that is being placed
+    /// are among them where their tails are stored. Takes no memory.
+    pub fn open<P: Port, L: Ledger>(
+        port: &mut P,
+        segment: u32,
+        term: u32,
+        steps: &mut Steps<L>,
+    ) -> Chain
+        requires { (m : Moment) × (t : Term) × P.stands port.old m × IsTerm m segment t term }
+        ensures told { (m : Moment) (t : Term) → P.stands port.old m → IsTerm m segment t term
+            → (n : Moment) × P.stands port.new n × IsNotBefore n m × P.keeps port.old m port.new n
+            × Stands n segment t result (seen_count n segment t) (reverse (seen n segment t)) }
+        ensures steps { steps.new ≡ steps.old + 1 }
+    {
+        let places = Places::new(port.config());
+        let tail = port.load(places.tail(segment, term), steps);
+        Chain {
+            segment,
+            way: way_from(tail),
+        }
+    }
+
+    /// The newest posting that wasn't given yet, a number of 32 bits; `None` exactly after the oldest, and
+    /// from then on. The port's moment isn't before that of the opening. One load a posting, and one more
+    /// where the posting given before was the first of a slice that has a link; none where the answer is
+    /// `None`. Takes no memory.
+    pub fn next<P: Port, L: Ledger>(&mut self, port: &mut P, steps: &mut Steps<L>) -> Option<u32>
+        requires { (m : Moment) × (s : ℕ) × (t : Term) × (opened : ℕ) × (rest : List ℕ)
+            × P.stands port.old m × Stands m s t self.old opened rest }
+        ensures told { (m : Moment) (s : ℕ) (t : Term) (opened : ℕ) (rest : List ℕ)
+            → P.stands port.old m → Stands m s t self.old opened rest
+            → (n : Moment) × P.stands port.new n × IsNotBefore n m × P.keeps port.old m port.new n
+            × Given n s t self.new opened rest result }
+        ensures steps { (m : Moment) (s : ℕ) (t : Term) (opened : ℕ) (rest : List ℕ)
+            → Stands m s t self.old opened rest → steps.new ≡ steps.old + next_loads opened (length rest) }
+    {
+        let address = match self.way {
+            Way::End => return None,
+            Way::At(address) => address,
+            Way::Link(link) => follow(port, self.segment, link, steps),
+        };
+        let posting = posting_in(port, self.segment, address, steps);
+        self.way = way_before(address);
+        Some(posting)
+    }
+}
+
+// The way from a tail word: 0, or the address of the newest posting plus 1.
+fn way_from(tail: u64) -> Way
+    requires { tail ≤ 2 ^ 32 }
+    ensures { IsWayOf tail result }
+{
+    if tail == 0 {
+        Way::End
+    } else {
+        Way::At((tail - 1) as u32)
+    }
+}
+
+// The way from the address of a posting to the posting before it.
+fn way_before(address: u32) -> Way
+    ensures { IsWayBefore address result }
+{
+    match (pool_of(address), offset_of(address)) {
+        (0, 0) => Way::End,
+        (0, _) => Way::At(address - 1),
+        (_, 1) => Way::Link(address - 1),
+        (_, _) => Way::At(address - 1),
+    }
+}
+
+// The address that a link holds. Ticks one load.
+fn follow<P: Port, L: Ledger>(port: &mut P, segment: u32, link: u32, steps: &mut Steps<L>) -> u32
+    requires { (m : Moment) × (t : Term) × (f : ℕ) × P.stands port.old m × IsLink m segment t f link }
+    ensures told { (m : Moment) (t : Term) (f : ℕ) → P.stands port.old m → IsLink m segment t f link
+        → (n : Moment) × P.stands port.new n × IsNotBefore n m × P.keeps port.old m port.new n
+        × IsAddress n segment t f result }
+    ensures steps { steps.new ≡ steps.old + 1 }
+{
+    let places = Places::new(port.config());
+    port.load(places.posting_at(segment, link), steps) as u32
+}
+
+// The posting at an address. Ticks one load.
+fn posting_in<P: Port, L: Ledger>(
+    port: &mut P,
+    segment: u32,
+    address: u32,
+    steps: &mut Steps<L>,
+) -> u32
+    requires { (m : Moment) × (t : Term) × (f : ℕ) × P.stands port.old m × IsAddress m segment t f address }
+    ensures told { (m : Moment) (t : Term) (f : ℕ) → P.stands port.old m → IsAddress m segment t f address
+        → (n : Moment) × P.stands port.new n × IsNotBefore n m × P.keeps port.old m port.new n
+        × IsPosting n segment t f address result }
+    ensures steps { steps.new ≡ steps.old + 1 }
+{
+    let places = Places::new(port.config());
+    port.load(places.posting_at(segment, address), steps) as u32
+}

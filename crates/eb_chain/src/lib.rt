@@ -1,0 +1,17 @@
+//! Chains: the postings of one term in one segment, in slices that grow while they are read. One writer
+//! appends; readers walk backwards, newest first. No call takes memory.
+#![tactic(auto)]
+
+mod chain;
+mod laws;
+mod new_slices;
+mod next_place;
+mod writing;
+
+pub use chain::Chain;
+pub use laws::reached_words_stay;
+pub use new_slices::{NewSlices, needs};
+pub use writing::append;
+
+#[cfg(test)]
+mod tests;

@@ -1,0 +1,68 @@
+ghost use Rattle.std.specs.Prelude.{◌≡◌, ℕ, ◌≤◌, ◌<◌, ◌^◌};
+ghost use Rattle.eb_place.specs.Room.{slices};
+ghost use Rattle.eb_chain.specs.Needs.{IsTailWord, TakesSlices, HasLike};
+
+use eb_place::{offset_of, pool_of};
+
+/// How many new slices of each pool some postings take.
+#[derive(Clone, Copy, Debug, PartialEq, Eq)]
+pub struct NewSlices {
+    /// Slices of pool 0, which hold 2 postings.
+    pub pool0: u32,
+    /// Slices of pool 1, which hold 15 postings and a link.
+    pub pool1: u32,
+    /// Slices of pool 2, which hold 127 postings and a link.
+    pub pool2: u32,
+    /// Slices of pool 3, which hold 2,047 postings and a link.
+    pub pool3: u32,
+}
+
+/// The new slices that so many further postings of a term take, of which this is the tail word: 0, or one
+/// more than the address of its last posting. There are at most 256 postings in a document. Takes no
+/// memory.
+pub fn needs(tail: u64, postings: u32) -> NewSlices
+    requires tail { (f : ℕ) × IsTailWord f tail }
+    requires few { postings ≤ 256 }
+    ensures { (f : ℕ) → IsTailWord f tail → TakesSlices f postings result }
+{
+    let before = least_before(tail);
+    let after = before + postings;
+    NewSlices {
+        pool0: slices_in(0, after) - slices_in(0, before),
+        pool1: slices_in(1, after) - slices_in(1, before),
+        pool2: slices_in(2, after) - slices_in(2, before),
+        pool3: slices_in(3, after) - slices_in(3, before),
+    }
+}
+
+// The least number of postings of a term that has this tail word. Slices of pool 3 are alike, so a tail
+// there doesn't tell how many came before its slice.
+fn least_before(tail: u64) -> u32
+    requires { (f : ℕ) × IsTailWord f tail }
+    ensures like { (f : ℕ) → IsTailWord f tail → HasLike f result }
+    ensures small { result ≤ 2191 }
+{
+    if tail == 0 {
+        return 0;
+    }
+    let last = (tail - 1) as u32;
+    match pool_of(last) {
+        0 => offset_of(last) + 1,
+        1 => offset_of(last) + 2,
+        2 => offset_of(last) + 17,
+        _ => offset_of(last) + 144,
+    }
+}
+
+// The slices of a pool that a term with so many postings has.
+fn slices_in(pool: u32, postings: u32) -> u32
+    requires { postings < 2 ^ 16 }
+    ensures { result ≡ slices pool postings }
+{
+    match pool {
+        0 => u32::from(postings > 0),
+        1 => u32::from(postings > 2),
+        2 => u32::from(postings > 17),
+        _ => postings.saturating_sub(144).div_ceil(2047),
+    }
+}
