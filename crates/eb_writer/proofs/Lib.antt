@@ -1,0 +1,4 @@
+pub mod Recalling
+pub mod Idle
+pub mod Tallies
+pub mod Finding
