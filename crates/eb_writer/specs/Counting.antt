@@ -1,7 +1,7 @@
 -- What a document needs of a segment, and what is found of its tokens.
 use Rattle.std.specs.Prelude.{◌≡◌, ℕ, ◌+◌, ◌*◌, ◌<◌, ◌≤◌, List, [], ◌∷◌, ◌++◌, length, get_or, take, sum_by, None, Some, slice_get}
 use Rattle.eb_base.specs.Term.{Term}
-use Rattle.eb_base.specs.Document.{Doc}
+use Rattle.eb_base.specs.Document.{Doc, IsDocument}
 use Rattle.eb_place.specs.declared.moment.Moment.{Moment}
 use Rattle.eb_place.specs.declared.used.Used.{Used}
 use Rattle.eb_place.specs.Postings.{terms_of, distinct, count_of, number_of}
@@ -58,6 +58,7 @@ pub record IsReady (m : Moment) (s : ℕ) (u : Used) : Type 0 where
 
 -- the document's tokens are found in the segment, and so much of it is used with them
 pub record IsPlan (m : Moment) (s : ℕ) (u : Used) (d : Doc) (plan : Plan) : Type 0 where
+  pub limits : IsDocument d
   pub found : AreFound (tokens_in m s) d.terms plan.found (length d.terms)
   pub used : IsUsedBy plan.used (tokens_in m s ++ d.terms)
   pub documents : plan.used.documents ≡ u.documents

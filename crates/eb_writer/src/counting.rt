@@ -27,6 +27,7 @@ pub(crate) struct Found {
 }
 
 // What the placing of a document in a segment will do.
+#[derive(Drop)]
 pub(crate) struct Plan {
     // Its tokens, in order.
     pub found: [Found; MAX_TOKENS],

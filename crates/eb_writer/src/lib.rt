@@ -3,4 +3,8 @@
 #![tactic(auto)]
 
 mod counting;
+mod placer;
 mod recall;
+mod storing;
+
+pub use placer::{Full, Placer};

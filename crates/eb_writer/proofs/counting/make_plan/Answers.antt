@@ -162,6 +162,7 @@ returns g c m st ready =
       k.2,
       k.3,
       record {
+        limits = c.terms-terms.ensures.document;
         found = subst (λ (z : List Term). AreFound A z c.loop-at.found (length z)) e (subst (AreFound A ts c.loop-at.found) end k.4);
         used = subst (λ (z : List Term). IsUsedBy c.loop-at.used (A ++ z)) (take_all c.loop-at.at ts (omega arith) ∙ e) k.5;
         documents = c.loop-at.invariant.3;
