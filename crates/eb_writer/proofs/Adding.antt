@@ -14,18 +14,23 @@ use Rattle.eb_place.specs.Room.{text_words, all_slices, holds, fits, cut, with_d
 use Rattle.eb_place.specs.Address.{begun_after}
 use Rattle.eb_place.specs.Placing.{segment_before}
 use Rattle.eb_place.specs.Moments.{empty_moment, IsMoment}
-use Rattle.eb_place.specs.Seen.{entered, tokens_seen}
+use Rattle.eb_place.specs.Seen.{entered, tokens_seen, stores_in_region}
+use Rattle.eb_place.specs.Later.{IsNotBefore}
 use Rattle.eb_place.specs.Tells.{TellsSegment}
 use Rattle.eb_place.proofs.Counts.{begun_is}
 use Rattle.eb_place.proofs.Cuts.{cut_push, with_doc_last}
 use Rattle.eb_place.proofs.Histories.{goes, terms_push}
 use Rattle.eb_place.proofs.Firsts.{cut_nonempty}
 use Rattle.eb_place.proofs.Placed.{placed_all}
+use Rattle.eb_place.proofs.Laters.{later_on}
 use Rattle.eb_place.proofs.Telling.{tells_nothing}
-use Rattle.eb_writer.specs.Counting.{IsIdle, tokens_in, IsUsedBy, IsReady}
-use Rattle.eb_writer.specs.Storing.{before_it, tokens_until, IsPlaced, HasComeTo, IsAccepted, BeginsSegment}
+use Rattle.eb_writer.specs.declared.counting.Found.{Found}
+use Rattle.eb_writer.specs.declared.counting.Plan.{Plan}
+use Rattle.eb_writer.specs.Counting.{IsIdle, tokens_in, IsUsedBy, IsReady, AreFound, IsPlan}
+use Rattle.eb_writer.specs.Storing.{before_it, tokens_until, IsPlaced, HasComeTo, IsAccepted, GoesOn, BeginsSegment, with_document}
 use Rattle.eb_writer.specs.Progress.{Progress, Stands, IsLastFull, HasNoRoom}
-use Rattle.eb_writer.proofs.Idle.{lawful_in, idle_entered, idle_tokens, told_used, used_tells}
+use Rattle.eb_writer.proofs.Idle.{lawful_in, idle_entered, idle_tokens, told_used, used_tells, tokens_same}
+use Rattle.eb_writer.proofs.Ends.{join_first}
 use Rattle.eb_writer.proofs.Coming.{joined}
 
 -- nothing is used
@@ -205,4 +210,94 @@ stands_accepted p q m n d s h placed a e segments documents tells =
       segments = omega (arith, segments, placed.place, most, ap length new);
       documents = omega (arith, documents, h.documents, length_push docs d, ap (λ (x : Documents). length x.accepted) a.documents);
       used = subst (TellsSegment q.used n) (let k : s ≡ q.segments - 1 = omega arith in k) tells;
+    }
+
+-- ---- from one moment to another with the same documents part
+
+pub tells_same : (m n : Moment) (s : ℕ) (u : Used) → IsNotBefore n m → n.documents ≡ m.documents → TellsSegment u m s → TellsSegment u n s
+unfolding entered tokens_seen stores_in_region
+tells_same m n s u l e h =
+    let P : Setting → Documents → Type 0 = λ σ x. TellsSegment u record { setting = σ; documents = x; conversions = n.conversions } s in
+    let at : P m.setting m.documents = record { documents = h.documents; terms = h.terms; text = h.text; pool0 = h.pool0; pool1 = h.pool1; pool2 = h.pool2; pool3 = h.pool3 } in
+    subst (λ (z : Setting × Documents). P z.0 z.1) (λ i. (l.setting i, sym e i)) at
+
+pub stands_same : (p : Progress) (m n : Moment) → IsNotBefore n m → n.documents ≡ m.documents → Stands p m → Stands p n
+stands_same p m n l e h = record {
+  setting = h.setting ∙ l.setting;
+  idle = ap (λ (x : Documents). x.current) e ∙ h.idle;
+  segments = h.segments ∙ (λ i. length (cut (l.setting i) ((sym e i).accepted)));
+  documents = h.documents ∙ (λ i. length ((sym e i).accepted));
+  used = tells_same m n (p.segments - 1) p.used l e h.used;
+}
+
+pub full_same : (m n : Moment) (d : Doc) → IsNotBefore n m → n.documents ≡ m.documents → IsLastFull m d → IsLastFull n d
+full_same m n d l e h = subst (λ (z : Setting × Documents). 1 ≤ length (cut z.0 z.1.accepted) → fits z.0 (last_of (cut z.0 z.1.accepted)) d ≡ false) (λ i. (l.setting i, sym e i)) h
+
+-- what holds of the accepted documents
+pub accepted_same : (m n k : Moment) (d : Doc) → IsNotBefore n m → n.documents ≡ m.documents → IsAccepted n k d → IsAccepted m k d
+accepted_same m n k d l e a = record { later = later_on m n k l a.later; documents = a.documents ∙ ap (λ x. with_document x d) e }
+
+pub accepted_on : (m n k : Moment) (d : Doc) → GoesOn m n → IsAccepted n k d → IsAccepted m k d
+accepted_on m n k d l a = record { later = later_on m n k l.later a.later; documents = a.documents ∙ ap (λ z. record { accepted = z ++ d ∷ []; current = None }) l.accepted }
+
+pub before_same : (m n : Moment) (d : Doc) → IsNotBefore n m → n.documents.accepted ≡ m.documents.accepted → before_it n d ≡ before_it m d
+before_same m n d l e = λ i. segment_before (sym l.setting i) (e i) d
+
+-- ---- the document's first token
+
+-- whether the document fits the last segment
+pub fits_last : (p : Progress) (m : Moment) (d : Doc) (plan : Plan) → Stands p m → 1 ≤ p.segments → IsPlan m (p.segments - 1) p.used d plan → is_room p.setting plan.used ≡ fits m.setting (last_of (cut m.setting m.documents.accepted)) d
+fits_last p m d plan h some q =
+    let seg = get_or (cut m.setting m.documents.accepted) (p.segments - 1) [] in
+    (λ i. is_room (h.setting i) plan.used) ∙ fits_is m.setting seg d plan.used q.used (q.documents ∙ h.used.documents) ∙ ap (λ z. fits m.setting z d) (last_at p m h some)
+
+-- what is known where the first token comes next, in segment s
+pub record Starts (m n : Moment) (d : Doc) (s : ℕ) (u : Used) (found : List Found) (count : ℕ) : Type 0 where
+  pub room : HasRoom m.setting m.documents.accepted d
+  pub placed : IsPlaced n d s
+  pub come : HasComeTo n d s 0
+  pub tells : TellsSegment u n s
+  pub tokens : AreFound (terms_of (before_it n d)) d.terms found (length d.terms)
+  pub counted : count ≡ length n.documents.accepted
+
+pub starts_last : (p : Progress) (m n : Moment) (d : Doc) (plan : Plan) → IsMoment m → IsMoment n → IsNotBefore n m → n.documents ≡ m.documents → Stands p m → 1 ≤ p.segments
+    → IsPlan m (p.segments - 1) p.used d plan → is_room p.setting plan.used ≡ true → Starts m n d (p.segments - 1) p.used plan.found p.documents
+starts_last p m n d plan is js l e h some q f =
+    let s = p.segments - 1 in
+    let fit = sym (fits_last p m d plan h some q) ∙ f in
+    let hn = stands_same p m n l e h in
+    let fit_n : fits n.setting (last_of (cut n.setting n.documents.accepted)) d ≡ true = (λ i. fits (sym l.setting i) (last_of (cut (sym l.setting i) ((e i).accepted))) d) ∙ fit in
+    let j = joins_last p n d js q.limits hn some fit_n in
+    record {
+      room = (joins_last p m d is q.limits h some fit).placed.room;
+      placed = j.placed;
+      come = join_first n d s js hn.idle j.placed j.some;
+      tells = hn.used;
+      tokens = subst (λ (z : List Term). AreFound z d.terms plan.found (length d.terms)) (sym (ap terms_of j.before ∙ tokens_same m n s l e)) q.found;
+      counted = hn.documents;
+    }
+
+pub begins_same : (p : Progress) (m n : Moment) (d : Doc) → IsMoment n → IsNotBefore n m → n.documents ≡ m.documents → IsDocument d → Stands p m → IsLastFull m d → length (cut m.setting m.documents.accepted) < m.setting.segments → BeginsSegment n d p.segments
+begins_same p m n d js l e limits h f low =
+    let hn = stands_same p m n l e h in
+    begins_next p n d js limits hn (full_same m n d l e f) (subst (λ (σ : Setting). length (cut n.setting n.documents.accepted) < σ.segments) l.setting (omega (arith, low, h.segments, hn.segments)))
+
+pub starts_next : (p : Progress) (m n k : Moment) (d : Doc) (plan : Plan) → IsMoment m → IsMoment n → IsNotBefore n m → n.documents ≡ m.documents → Stands p m → IsLastFull m d → length (cut m.setting m.documents.accepted) < m.setting.segments
+    → IsPlan m p.segments nothing d plan → GoesOn n k → HasComeTo k d p.segments 0 → Starts m k d p.segments nothing plan.found p.documents
+starts_next p m n k d plan is js l e h f low q on come =
+    let s = p.segments in
+    let b = begins_same p m n d js l e q.limits h f low in
+    let hn = stands_same p m n l e h in
+    let before : before_it k d ≡ [] = before_same n k d on.later on.accepted ∙ b.first in
+    let none = get_or_past (cut m.setting m.documents.accepted) s [] (omega (arith, h.segments)) in
+    let empty : tokens_in m s ≡ [] = no_terms (get_or (cut m.setting m.documents.accepted) s []) none in
+    let until : tokens_until k d 0 ≡ [] = append-nil (terms_of (before_it k d)) ∙ no_terms (before_it k d) before in
+    let same : get_or (cut k.setting k.documents.accepted) s [] ≡ [] = (λ i. get_or (cut (sym on.later.setting i) (on.accepted i)) s []) ∙ (λ i. get_or (cut (sym l.setting i) ((e i).accepted)) s []) ∙ none in
+    record {
+      room = (begins_next p m d is q.limits h f low).placed.room;
+      placed = come.placed;
+      come = come;
+      tells = used_tells k s nothing [] (come.entered ∙ ap distinct until) (come.seen ∙ until) (sym (ap length same)) used_nothing;
+      tokens = subst (λ (z : List Term). AreFound z d.terms plan.found (length d.terms)) (empty ∙ sym (no_terms (before_it k d) before)) q.found;
+      counted = hn.documents ∙ sym (ap length on.accepted);
     }
