@@ -1,0 +1,4 @@
+pub mod Recall
+pub mod Counting
+pub mod Storing
+pub mod Progress

@@ -1,0 +1,179 @@
+ghost use Rattle.std.specs.Prelude.{◌≡◌, ◌<◌, ◌≤◌, ◌+◌, ◌++◌, ◌∷◌, [], List, ℕ, length, take};
+ghost use Rattle.eb_base.specs.Term.{Term};
+ghost use Rattle.eb_place.specs.declared.moment.Moment.{Moment};
+ghost use Rattle.eb_place.specs.Postings.{count_of, number_of, distinct};
+ghost use Rattle.eb_place.specs.Room.{text_words};
+ghost use Rattle.eb_place.specs.Later.{IsNotBefore};
+ghost use Rattle.eb_chain.specs.Needs.{IsTailWord};
+ghost use Rattle.eb_writer.specs.Recall.{Remembers, term_at};
+ghost use Rattle.eb_writer.specs.Counting.{IsIdle, tokens_in, IsUsedBy, IsFound, AreFound, IsFirst, IsReady, IsPlan, IsSmall};
+
+use crate::recall::{Recall, last_place, recall_nothing, remember};
+use eb_base::{Document, MAX_TOKENS, Term, Terms};
+use eb_chain::{NewSlices, needs};
+use eb_place::{Pen, Places, Steps, Used};
+use eb_terms::find;
+use std::sync::ledger::{Blank, Ledger};
+
+// What is found of a token before the document is placed.
+#[derive(Clone, Copy)]
+pub(crate) struct Found {
+    // The number that its term has in the segment, or will get.
+    pub number: u32,
+    // The term's tail word before the document.
+    pub tail: u64,
+    // How often the term stands earlier in the document.
+    pub earlier: u32,
+}
+
+// What the placing of a document in a segment will do.
+#[derive(Drop)]
+pub(crate) struct Plan {
+    // Its tokens, in order.
+    pub found: [Found; MAX_TOKENS],
+    // What is used of the segment with them.
+    pub used: Used,
+}
+
+// Counts what a document needs of a segment, token by token, before anything is stored of it.
+pub(crate) fn make_plan<P: Pen, L: Ledger>(
+    pen: &mut P,
+    document: &Document,
+    segment: u32,
+    used: Used,
+    blank: Blank,
+) -> Plan
+    requires blank { (blank.name ≡ L.name) × (blank.parts ≡ L.parts) × (0 < blank.parts) }
+    requires ready { (m : Moment) × P.stands pen.old m × IsReady m segment used }
+    ensures { (m : Moment) → P.stands pen.old m → IsReady m segment used
+        → (n : Moment) × P.stands pen.new n × IsNotBefore n m × P.keeps pen.old m pen.new n × IsPlan m segment used document.now result }
+{
+    let terms = document.terms();
+    let mut steps = Steps::<L>::new(blank);
+    let mut recall = recall_nothing(terms);
+    let mut found = [Found {
+        number: 0,
+        tail: 0,
+        earlier: 0,
+    }; MAX_TOKENS];
+    let mut used = used;
+    for at in 0..terms.len() {
+        let token = found_at(pen, segment, terms, at, &recall, &found, used.terms, &mut steps);
+        used = with_token(used, terms.get(at), token);
+        found[at] = token;
+        remember(&mut recall, terms, at);
+    }
+    Plan { found, used }
+}
+
+// What is found of the token at a place: that of the same term's last token in the document, with one more
+// earlier token, or what the segment says.
+fn found_at<P: Pen, L: Ledger>(
+    pen: &mut P,
+    segment: u32,
+    terms: &Terms,
+    at: usize,
+    recall: &Recall,
+    found: &[Found; MAX_TOKENS],
+    next: u32,
+    steps: &mut Steps<L>,
+) -> Found
+    requires place { (at < length terms.now) × (length terms.now ≤ 256) × Remembers recall.now terms.now at }
+    requires ready { (m : Moment) × P.stands pen.old m × IsIdle m × (segment < m.setting.segments) × AreFound (tokens_in m segment) terms.now found.now at }
+    ensures { (m : Moment) → P.stands pen.old m → IsIdle m → segment < m.setting.segments → AreFound (tokens_in m segment) terms.now found.now at
+        → next ≡ length (distinct (tokens_in m segment ++ take at terms.now))
+        → (n : Moment) × P.stands pen.new n × IsNotBefore n m × P.keeps pen.old m pen.new n × IsFound (tokens_in m segment) terms.now at result }
+{
+    match last_place(recall, terms, at) {
+        Some(place) => {
+            let last = found[place];
+            Found {
+                earlier: last.earlier + 1,
+                ..last
+            }
+        }
+        None => first_found(pen, segment, terms.get(at), next, steps),
+    }
+}
+
+// What the segment says of a term.
+fn first_found<P: Pen, L: Ledger>(
+    pen: &mut P,
+    segment: u32,
+    term: &Term,
+    next: u32,
+    steps: &mut Steps<L>,
+) -> Found
+    requires { (m : Moment) × P.stands pen.old m × IsIdle m × (segment < m.setting.segments) }
+    ensures { (m : Moment) → P.stands pen.old m → IsIdle m → segment < m.setting.segments
+        → (n : Moment) × P.stands pen.new n × IsNotBefore n m × P.keeps pen.old m pen.new n × IsFirst (tokens_in m segment) term.now next result }
+{
+    match find(pen, segment, term, steps) {
+        Some(number) => {
+            let place = Places::new(pen.config()).tail(segment, number);
+            Found {
+                number,
+                tail: pen.load(place, steps),
+                earlier: 0,
+            }
+        }
+        None => Found {
+            number: next,
+            tail: 0,
+            earlier: 0,
+        },
+    }
+}
+
+// What is used with one more token.
+fn with_token(used: Used, term: &Term, token: Found) -> Used
+    requires tail { (f : ℕ) × IsTailWord f token.tail }
+    requires few { token.earlier < 256 }
+    requires short { length term.now ≤ 4096 }
+    requires small { (n : ℕ) × (n ≤ 256) × IsSmall used n }
+    ensures documents { result.documents ≡ used.documents }
+    ensures used { (f : ℕ) (before : List (List ℕ)) → IsTailWord f token.tail → f + token.earlier ≡ count_of term.now before
+        → token.number ≡ number_of term.now before → IsUsedBy used before → IsUsedBy result (before ++ term.now ∷ []) }
+{
+    let before = needs(token.tail, token.earlier);
+    let after = needs(token.tail, token.earlier + 1);
+    let used = with_slices(used, before, after);
+    if token.number == used.terms {
+        return Used {
+            terms: used.terms + 1,
+            text: used.text + words_of_text(term),
+            ..used
+        };
+    }
+    used
+}
+
+// What is used with the slices that one more posting takes.
+fn with_slices(used: Used, before: NewSlices, after: NewSlices) -> Used
+    requires small { (n : ℕ) × (n ≤ 256) × IsSmall used n }
+    requires pool0 { (before.pool0 ≤ after.pool0) × (after.pool0 ≤ before.pool0 + 1) }
+    requires pool1 { (before.pool1 ≤ after.pool1) × (after.pool1 ≤ before.pool1 + 1) }
+    requires pool2 { (before.pool2 ≤ after.pool2) × (after.pool2 ≤ before.pool2 + 1) }
+    requires pool3 { (before.pool3 ≤ after.pool3) × (after.pool3 ≤ before.pool3 + 1) }
+    ensures others { (result.documents ≡ used.documents) × (result.terms ≡ used.terms) × (result.text ≡ used.text) }
+    ensures pool0 { result.pool0 + before.pool0 ≡ used.pool0 + after.pool0 }
+    ensures pool1 { result.pool1 + before.pool1 ≡ used.pool1 + after.pool1 }
+    ensures pool2 { result.pool2 + before.pool2 ≡ used.pool2 + after.pool2 }
+    ensures pool3 { result.pool3 + before.pool3 ≡ used.pool3 + after.pool3 }
+{
+    Used {
+        pool0: used.pool0 + (after.pool0 - before.pool0),
+        pool1: used.pool1 + (after.pool1 - before.pool1),
+        pool2: used.pool2 + (after.pool2 - before.pool2),
+        pool3: used.pool3 + (after.pool3 - before.pool3),
+        ..used
+    }
+}
+
+// How many text words a term of a document takes: its length, and its bytes by eights.
+fn words_of_text(term: &Term) -> u32
+    requires { length term.now ≤ 4096 }
+    ensures { result ≡ text_words term.now }
+{
+    1 + term.bytes().len().div_ceil(8) as u32
+}

@@ -1,0 +1,10 @@
+//! The placer: it adds documents to an index by single stores, segment after segment, and refuses a
+//! document for which there is no room before it stores anything. No call takes memory.
+#![tactic(auto)]
+
+mod counting;
+mod placer;
+mod recall;
+mod storing;
+
+pub use placer::{Full, Placer};

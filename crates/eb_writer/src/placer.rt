@@ -1,0 +1,177 @@
+ghost use Rattle.std.specs.Prelude.{◌≡◌, ◌<◌, ◌≤◌, ◌+◌, ◌++◌, ◌*◌, ◌/◌, ◌&&◌, List, length, nat_le, IfOk, OnErr, MatchOption};
+ghost use Rattle.eb_base.specs.Document.{Doc};
+ghost use Rattle.eb_place.specs.declared.moment.Moment.{Moment};
+ghost use Rattle.eb_place.specs.Postings.{terms_of};
+ghost use Rattle.eb_place.specs.Room.{cut, HasRoom};
+ghost use Rattle.eb_place.specs.Moments.{empty_moment};
+ghost use Rattle.eb_place.specs.Later.{IsNotBefore};
+ghost use Rattle.eb_place.specs.Tells.{TellsSegment};
+ghost use Rattle.eb_writer.specs.Counting.{AreFound};
+ghost use Rattle.eb_writer.specs.Storing.{HasComeTo, IsAccepted, before_it};
+ghost use Rattle.eb_writer.specs.Progress.{Stands, IsLastFull, HasNoRoom};
+
+use crate::counting::{Found, make_plan};
+use crate::storing::{begin, finish, store_tokens};
+use eb_base::{Config, Document, MAX_TOKENS};
+use eb_place::{Pen, Used};
+use std::marker::{Brand, Model};
+use std::sync::ledger::Blank;
+
+/// There is no room for the document: it doesn't fit the last segment that is begun, and all segments of
+/// the index are begun.
+#[derive(Clone, Copy, Debug, PartialEq, Eq)]
+pub struct Full;
+
+// What is used of a segment at first.
+const NOTHING: Used = Used {
+    documents: 0,
+    terms: 0,
+    text: 0,
+    pool0: 0,
+    pool1: 0,
+    pool2: 0,
+    pool3: 0,
+};
+
+/// Adds documents to an index, for its one writer: it knows how many segments are begun, and how much of
+/// the last one is used. The relation `Stands` of `specs/` says when it stands at a moment of the words.
+#[derive(Debug, Drop)]
+pub struct Placer {
+    config: Config,
+    segments: u32,
+    documents: u64,
+    used: Used,
+}
+
+impl Model for Placer {
+    ghost use Rattle.eb_writer.specs.Progress.{Progress};
+
+    ghost Value = { Progress };
+
+    ghost view = { λ p. record { setting = p.config; segments = p.segments; documents = p.documents; used = p.used } };
+}
+
+impl Placer {
+    /// A placer for an index of this setting that has no document. Takes no memory.
+    pub fn new(config: Config) -> Placer
+        ensures { Stands result (empty_moment config) }
+    {
+        Placer {
+            config,
+            segments: 0,
+            documents: 0,
+            used: NOTHING,
+        }
+    }
+
+    /// The number of segments of the cut of the documents that it placed.
+    pub fn segments(&self) -> u32
+        ensures { (m : Moment) → Stands self.now m → result ≡ length (cut m.setting m.documents.accepted) }
+    {
+        self.segments
+    }
+
+    /// Adds a document: it does exactly the stores of the document's placing, in order, and gives the new
+    /// count of accepted documents. `Full` exactly where there is no room for the document; then no store is
+    /// done. What the document needs is counted before the first store: the work is that of one search of
+    /// the dictionary for each distinct term, and of a bounded number of steps for each token; where the
+    /// document begins a segment, twice that. Takes no memory.
+    pub fn add<P: Pen>(&mut self, pen: &mut P, document: &Document) -> Result<u64, Full>
+        requires { (m : Moment) × P.stands pen.old m × Stands self.old m }
+        ensures ok { IfOk result (λ count. (m : Moment) → P.stands pen.old m → Stands self.old m
+            → (n : Moment) × P.stands pen.new n × P.same pen.old pen.new × HasRoom m.setting m.documents.accepted document.now
+            × IsAccepted m n document.now × (count ≡ length m.documents.accepted + 1) × Stands self.new n) }
+        ensures full { OnErr result ((m : Moment) → P.stands pen.old m → Stands self.old m
+            → (n : Moment) × P.stands pen.new n × P.keeps pen.old m pen.new n × HasNoRoom m document.now
+            × IsNotBefore n m × (n.documents ≡ m.documents) × Stands self.new n) }
+        ensures unchanged { OnErr result (self.new ≡ self.old) }
+    {
+        if let Some(count) = self.join_last(pen, document) {
+            return Ok(count);
+        }
+        if self.segments == self.config.segments() {
+            return Err(Full);
+        }
+        Ok(self.begin_next(pen, document))
+    }
+
+    // Adds a document to the last segment, where it fits; else none is stored.
+    fn join_last<P: Pen>(&mut self, pen: &mut P, document: &Document) -> Option<u64>
+        requires { (m : Moment) × P.stands pen.old m × Stands self.old m }
+        ensures { MatchOption result
+            ((self.new ≡ self.old) × ((m : Moment) → P.stands pen.old m → Stands self.old m
+            → (n : Moment) × P.stands pen.new n × P.keeps pen.old m pen.new n × IsLastFull m document.now
+            × IsNotBefore n m × (n.documents ≡ m.documents)))
+            (λ count. (m : Moment) → P.stands pen.old m → Stands self.old m
+            → (n : Moment) × P.stands pen.new n × P.same pen.old pen.new × HasRoom m.setting m.documents.accepted document.now
+            × IsAccepted m n document.now × (count ≡ length m.documents.accepted + 1) × Stands self.new n) }
+    {
+        if self.segments == 0 {
+            return None;
+        }
+        let segment = self.segments - 1;
+        let plan = make_plan::<P, Brand>(pen, document, segment, self.used, Blank::new(1));
+        if !is_within(plan.used, self.config) {
+            return None;
+        }
+        let used = self.used;
+        self.used = store_rest(pen, document, segment, used, &plan.found, self.documents);
+        self.documents += 1;
+        Some(self.documents)
+    }
+
+    // Adds a document that doesn't fit the last segment to the next one.
+    fn begin_next<P: Pen>(&mut self, pen: &mut P, document: &Document) -> u64
+        requires { (m : Moment) × P.stands pen.old m × Stands self.old m × IsLastFull m document.now × (length (cut m.setting m.documents.accepted) < m.setting.segments) }
+        ensures { (m : Moment) → P.stands pen.old m → Stands self.old m → IsLastFull m document.now → length (cut m.setting m.documents.accepted) < m.setting.segments
+            → (n : Moment) × P.stands pen.new n × P.same pen.old pen.new × HasRoom m.setting m.documents.accepted document.now
+            × IsAccepted m n document.now × (result ≡ length m.documents.accepted + 1) × Stands self.new n }
+    {
+        let segment = self.segments;
+        let plan = make_plan::<P, Brand>(pen, document, segment, NOTHING, Blank::new(1));
+        begin(pen, document, segment, self.documents);
+        self.used = store_rest(pen, document, segment, NOTHING, &plan.found, self.documents);
+        self.segments += 1;
+        self.documents += 1;
+        self.documents
+    }
+}
+
+// Stores the tokens of a document, its id and the greater count, and gives what is used of its segment then.
+fn store_rest<P: Pen>(
+    pen: &mut P,
+    document: &Document,
+    segment: u32,
+    used: Used,
+    found: &[Found; MAX_TOKENS],
+    count: u64,
+) -> Used
+    requires { (m : Moment) × P.stands pen.old m × HasComeTo m document.now segment 0 × TellsSegment used m segment
+        × AreFound (terms_of (before_it m document.now)) document.now.terms found.now (length document.now.terms) × (count ≡ length m.documents.accepted) }
+    ensures { (m : Moment) → P.stands pen.old m → HasComeTo m document.now segment 0 → TellsSegment used m segment
+        → AreFound (terms_of (before_it m document.now)) document.now.terms found.now (length document.now.terms) → count ≡ length m.documents.accepted
+        → (n : Moment) × P.stands pen.new n × P.same pen.old pen.new × IsAccepted m n document.now × TellsSegment result n segment }
+{
+    let mut used = used;
+    store_tokens(pen, document, segment, &mut used, found);
+    finish(pen, document, segment, used.documents, count);
+    Used {
+        documents: used.documents + 1,
+        ..used
+    }
+}
+
+// Whether a segment has room for so much, and for one more document.
+fn is_within(used: Used, config: Config) -> bool
+    ensures { result ≡ (nat_le (used.documents + 1) config.docs && nat_le used.terms config.terms && nat_le used.text (4 * config.terms)
+        && nat_le used.pool0 config.terms && nat_le used.pool1 (config.terms / 2) && nat_le used.pool2 (config.terms / 16) && nat_le used.pool3 (config.terms / 128)) }
+{
+    let terms = config.terms();
+    used.documents < config.docs()
+        && used.terms <= terms
+        && used.text <= 4 * terms
+        && used.pool0 <= terms
+        && used.pool1 <= terms / 2
+        && used.pool2 <= terms / 16
+        && used.pool3 <= terms / 128
+}
