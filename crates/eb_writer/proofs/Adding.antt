@@ -1,5 +1,5 @@
 -- Where a document goes, and what a placer keeps.
-use Rattle.std.proofs.Common.{◌≡◌, ℕ, zero, suc, ◌+◌, ◌-◌, ◌*◌, ◌/◌, ◌^◌, ◌<◌, ◌≤◌, ◌&&◌, ◌||◌, Bool, true, false, nat_lt, nat_le, List, [], ◌∷◌, ◌++◌, length, take, get_or, sum_by, refl, ap, sym, ◌∙◌, subst, arith, inl, inr, append-nil, IsTrue, lit<, None, if◌then◌else◌}
+use Rattle.std.proofs.Common.{◌≡◌, ℕ, suc, ◌+◌, ◌-◌, ◌*◌, ◌/◌, ◌<◌, ◌≤◌, ◌&&◌, ◌||◌, Bool, true, false, nat_lt, nat_le, List, [], ◌∷◌, ◌++◌, length, take, get_or, sum_by, refl, ap, sym, ◌∙◌, subst, arith, inl, inr, append-nil, IsTrue, lit<, None, if◌then◌else◌}
 use Rattle.std.proofs.lemmas.Bool.{cases_Bool, lt-ltb, le-ltb}
 use Rattle.std.proofs.lemmas.List.{length_push, take_all, get_or_past}
 use Rattle.eb_base.specs.Term.{Term}
@@ -8,7 +8,6 @@ use Rattle.eb_base.specs.Setting.{Setting}
 use Rattle.eb_place.specs.declared.moment.Documents.{Documents}
 use Rattle.eb_place.specs.declared.moment.Moment.{Moment}
 use Rattle.eb_place.specs.declared.used.Used.{Used}
-use Rattle.eb_place.specs.Layout.{pool_slices}
 use Rattle.eb_place.specs.Postings.{terms_of, distinct}
 use Rattle.eb_place.specs.Room.{text_words, all_slices, holds, fits, cut, with_doc, last_of, has_room, HasRoom}
 use Rattle.eb_place.specs.Address.{begun_after}
@@ -194,8 +193,8 @@ tells_accepted m k n d s u v is last p h tells same a count e =
     let ts : tokens_until k d (length d.terms) ≡ tokens_in n s = ap (λ (z : List Doc). terms_of z ++ take (length d.terms) d.terms) same ∙ ap (λ z. terms_of (before_it m d) ++ z) (take_all (length d.terms) d.terms (omega arith)) ∙ sym (terms_push (before_it m d) d) ∙ ap terms_of (sym seg) in
     let used : IsUsedBy u (tokens_in n s) = subst (IsUsedBy u) ts (told_used k s u (tokens_until k d (length d.terms)) h.entered h.seen tells) in
     subst (λ z. TellsSegment z n s) (sym e) (used_tells n s record u { documents = u.documents + 1 } (tokens_in n s) (idle_entered n s last idle) (idle_tokens n s last idle)
-        (omega (arith, count, ap length seg, length_push (before_it m d) d))
-        (record { terms = used.terms; text = used.text; pool0 = used.pool0; pool1 = used.pool1; pool2 = used.pool2; pool3 = used.pool3 }))
+    (omega (arith, count, ap length seg, length_push (before_it m d) d))
+    (record { terms = used.terms; text = used.text; pool0 = used.pool0; pool1 = used.pool1; pool2 = used.pool2; pool3 = used.pool3 }))
 
 -- and the placer stands there
 pub stands_accepted : (p q : Progress) (m n : Moment) (d : Doc) (s : ℕ) → Stands p m → IsPlaced m d s → IsAccepted m n d → q.setting ≡ p.setting → q.segments ≡ s + 1 → q.documents ≡ p.documents + 1 → TellsSegment q.used n s → Stands q n

@@ -1,43 +1,32 @@
 -- From one token of a document that is being placed to the next.
-use Rattle.std.proofs.Common.{◌≡◌, ℕ, zero, suc, ◌+◌, ◌-◌, ◌<◌, ◌≤◌, ◌==◌, Bool, true, false, ltb, List, [], ◌∷◌, ◌++◌, length, take, drop, get_or, sum_by, refl, ap, sym, ◌∙◌, subst, arith, inl, inr, append_assoc, append-nil, slice_get, Some, None, if◌then◌else◌}
-use Rattle.std.proofs.lemmas.Bool.{cases_Bool, cases_lt, eq-eqb, eqb-true, lt-ltb}
-use Rattle.std.proofs.lemmas.List.{length_push, length-append, length-drop, length-take, take_all}
+use Rattle.std.proofs.Common.{◌≡◌, ℕ, zero, suc, ◌+◌, ◌<◌, ◌≤◌, ◌==◌, false, List, [], ◌∷◌, ◌++◌, length, take, drop, get_or, refl, ap, sym, ◌∙◌, subst, arith, inl, inr, append_assoc, if◌then◌else◌}
+use Rattle.std.proofs.lemmas.Bool.{cases_Bool, eq-eqb, eqb-true}
 use Rattle.eb_base.specs.Term.{Term}
-use Rattle.eb_base.specs.Document.{Doc, IsDocument}
+use Rattle.eb_base.specs.Document.{Doc}
 use Rattle.eb_base.specs.Setting.{Setting}
 use Rattle.eb_place.specs.declared.moment.Documents.{Documents}
 use Rattle.eb_place.specs.declared.moment.Moment.{Moment}
-use Rattle.eb_place.specs.declared.used.Used.{Used}
-use Rattle.eb_place.specs.Layout.{place}
-use Rattle.eb_place.specs.Layout.Slot.{published, slot}
-use Rattle.eb_place.specs.Layout.Region.{first_region, cell_region, tail_region, id_region}
+use Rattle.eb_place.specs.Layout.Region.{tail_region}
 use Rattle.eb_place.specs.Postings.{terms_of, distinct, count_of, number_of, posting_of}
-use Rattle.eb_place.specs.Room.{cut, with_doc}
-use Rattle.eb_place.specs.Placing.{Store, pairs_of, enter_stores, append_stores, token_stores, tokens_stores, segment_before, doc_stores}
-use Rattle.eb_place.specs.Moments.{with_current, current_of, current_stores, placings, document_stores, IsMoment}
-use Rattle.eb_place.specs.Later.{IsNotBefore}
-use Rattle.eb_place.specs.NextStores.{stores_done, IsCurrent, IsNext, after_store, documents_after}
+use Rattle.eb_place.specs.Placing.{Store, enter_stores, append_stores, token_stores, tokens_stores, segment_before, doc_stores}
+use Rattle.eb_place.specs.Moments.{IsMoment}
+use Rattle.eb_place.specs.NextStores.{stores_done}
 use Rattle.eb_place.specs.Seen.{segment, stores_in_region, entered, tokens_seen}
-use Rattle.eb_place.specs.Tells.{TellsSegment}
 use Rattle.eb_place.specs.Walk.{IsTerm}
 use Rattle.eb_place.proofs.Writer.{next_rest}
 use Rattle.eb_place.proofs.Numbers.{number_low, number_once}
-use Rattle.eb_place.proofs.PlacedDocuments.{first_stores, stores_split}
 use Rattle.eb_place.proofs.Placed.{placed_all, Joins, joins}
 use Rattle.eb_place.proofs.EnteredTerms.{number_at, number_found, entered_is_term}
-use Rattle.eb_place.proofs.Onward.{later_stored}
-use Rattle.eb_place.proofs.Laters.{later_self}
 use Rattle.eb_terms.specs.Finding.{HasNumber}
 use Rattle.eb_terms.specs.Entering.{IsNextTerm, HasEntered}
 use Rattle.eb_chain.specs.Appends.{tokens_before, stores_from, IsPostingNext, with_stores, HasAppended}
-use Rattle.eb_chain.proofs.RegionCounts.{count_in, count_in-append, counts_placed}
-use Rattle.eb_chain.proofs.Appending.{Done, done_after}
+use Rattle.eb_chain.proofs.RegionCounts.{count_in}
+use Rattle.eb_chain.proofs.Appending.{done_after}
 use Rattle.eb_chain.proofs.Posted.{known}
 use Rattle.eb_writer.specs.Recall.{term_at}
-use Rattle.eb_writer.specs.Counting.{IsIdle, tokens_in}
-use Rattle.eb_writer.specs.Storing.{before_it, tokens_until, IsPlaced, HasComeTo, HasComeToPosting, GoesOn, IsNumbered, IsAccepted, BeginsSegment}
-use Rattle.eb_writer.proofs.Idle.{lawful_in, idle_stores, idle_entered, idle_tokens}
-use Rattle.eb_writer.proofs.Tallies.{take_one, drop_one, number_tells_new, number_tells_old}
+use Rattle.eb_writer.specs.Storing.{before_it, tokens_until, IsPlaced, HasComeTo, HasComeToPosting, IsNumbered}
+use Rattle.eb_writer.proofs.Idle.{lawful_in}
+use Rattle.eb_writer.proofs.Tallies.{take_one, drop_one}
 use Rattle.eb_writer.proofs.Finding.{element}
 
 -- the document's segment

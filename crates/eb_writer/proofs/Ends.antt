@@ -1,9 +1,8 @@
 -- The first and the last stores of a document.
-use Rattle.std.proofs.Common.{◌≡◌, ℕ, zero, suc, ◌+◌, ◌-◌, ◌*◌, ◌^◌, ◌<◌, ◌≤◌, ◌==◌, Bool, true, false, ltb, List, [], ◌∷◌, ◌++◌, length, take, drop, get_or, sum_by, refl, ap, sym, ◌∙◌, subst, arith, inl, inr, append_assoc, append-nil, slice_get, Some, None}
+use Rattle.std.proofs.Common.{◌≡◌, ℕ, zero, suc, ◌+◌, ◌*◌, ◌<◌, ◌≤◌, ◌==◌, false, ltb, List, [], ◌∷◌, ◌++◌, length, take, drop, get_or, sum_by, refl, ap, sym, ◌∙◌, subst, arith, inl, inr, append-nil, slice_get, Some}
 use Rattle.std.proofs.lemmas.Bool.{cases_Bool, eqb-true, ltb-true}
-use Rattle.std.proofs.lemmas.List.{length-append, length-drop, take_all}
+use Rattle.std.proofs.lemmas.List.{length-append, length-drop}
 use Rattle.std.proofs.lemmas.List.Sums.{sum_by-cons}
-use Rattle.eb_base.specs.Term.{Term}
 use Rattle.eb_base.specs.Document.{Doc}
 use Rattle.eb_base.specs.Setting.{Setting}
 use Rattle.eb_place.specs.declared.moment.Documents.{Documents}
@@ -15,9 +14,9 @@ use Rattle.eb_place.specs.Layout.Region.{first_region, cell_region, tail_region,
 use Rattle.eb_place.specs.Postings.{terms_of, distinct}
 use Rattle.eb_place.specs.Room.{cut}
 use Rattle.eb_place.specs.Placing.{Store, pairs_of, tokens_stores, doc_stores}
-use Rattle.eb_place.specs.Moments.{placings, document_stores, with_current, IsMoment}
-use Rattle.eb_place.specs.NextStores.{stores_done, IsCurrent, IsNext, after_store, documents_after}
-use Rattle.eb_place.specs.Seen.{segment, stores_in_region, entered, tokens_seen}
+use Rattle.eb_place.specs.Moments.{placings, document_stores, IsMoment}
+use Rattle.eb_place.specs.NextStores.{stores_done, IsNext, after_store, documents_after}
+use Rattle.eb_place.specs.Seen.{stores_in_region, entered, tokens_seen}
 use Rattle.eb_place.specs.Tells.{TellsSegment}
 use Rattle.eb_place.proofs.Writer.{next_rest}
 use Rattle.eb_place.proofs.Firsts.{cut_sum}

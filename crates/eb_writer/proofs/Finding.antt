@@ -3,9 +3,7 @@ use Rattle.std.proofs.Common.{◌≡◌, ℕ, zero, suc, ◌+◌, ◌-◌, ◌<�
 use native.Mathlib.Decide.{ℕ_discrete}
 use Rattle.std.proofs.lemmas.Bool.{cases_lt}
 use Rattle.eb_base.specs.Term.{Term}
-use Rattle.eb_base.specs.Document.{Doc, IsDocument}
 use Rattle.eb_place.specs.declared.moment.Moment.{Moment}
-use Rattle.eb_place.specs.declared.used.Used.{Used}
 use Rattle.eb_place.specs.Postings.{distinct, count_of, number_of}
 use Rattle.eb_place.specs.Later.{IsNotBefore}
 use Rattle.eb_place.proofs.Counts.{one_if, same_term, count_of-nil, count_of-append, count_of_push}
@@ -14,7 +12,7 @@ use Rattle.eb_place.proofs.Grows.{later_term}
 use Rattle.eb_chain.specs.Needs.{IsTailWord}
 use Rattle.eb_writer.specs.declared.counting.Found.{Found}
 use Rattle.eb_writer.specs.Recall.{term_at, StoodAt}
-use Rattle.eb_writer.specs.Counting.{IsIdle, tokens_in, IsFound, AreFound, IsFirst}
+use Rattle.eb_writer.specs.Counting.{tokens_in, IsFound, AreFound, IsFirst}
 use Rattle.eb_writer.proofs.Recalling.{count_take}
 use Rattle.eb_writer.proofs.Idle.{IsKnown, tokens_same}
 use Rattle.eb_writer.proofs.Tallies.{set_get_here, set_get_other, length_written}

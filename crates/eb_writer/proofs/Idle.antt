@@ -1,20 +1,18 @@
 -- What is known of a segment where no document is being placed.
-use Rattle.std.proofs.Common.{◌≡◌, ℕ, zero, suc, ◌+◌, ◌-◌, ◌*◌, ◌^◌, ◌<◌, ◌≤◌, true, List, [], ◌∷◌, ◌++◌, length, take, get_or, sum_by, refl, ap, sym, ◌∙◌, subst, arith, inl, inr, append-nil, Option, Some, None, lit<}
+use Rattle.std.proofs.Common.{◌≡◌, ℕ, suc, ◌+◌, ◌-◌, ◌*◌, ◌^◌, ◌<◌, ◌≤◌, true, List, [], ◌++◌, length, take, get_or, sum_by, refl, ap, sym, ◌∙◌, subst, arith, inl, inr, append-nil, lit<}
 use Rattle.std.proofs.lemmas.Bool.{cases_lt}
 use Rattle.std.proofs.lemmas.List.{take_all}
 use Rattle.eb_base.specs.Term.{Term}
-use Rattle.eb_base.specs.Document.{Doc}
 use Rattle.eb_base.specs.Setting.{Setting}
 use Rattle.eb_place.specs.declared.moment.Documents.{Documents}
 use Rattle.eb_place.specs.declared.moment.Moment.{Moment}
 use Rattle.eb_place.specs.declared.used.Used.{Used}
-use Rattle.eb_place.specs.Layout.{place, slice_bits, pool_slices}
+use Rattle.eb_place.specs.Layout.{place, slice_bits}
 use Rattle.eb_place.specs.Layout.Slot.{slot}
 use Rattle.eb_place.specs.Layout.Region.{cell_region, tail_region}
 use Rattle.eb_place.specs.Postings.{terms_of, distinct, count_of, number_of}
 use Rattle.eb_place.specs.Room.{cut, text_words, IsLawful}
 use Rattle.eb_place.specs.Address.{pool_at, offset_at, slice_start, slices_begun, front_of, address_of}
-use Rattle.eb_place.specs.Placing.{Store}
 use Rattle.eb_place.specs.Moments.{with_current, current_of, current_stores, placings, document_stores, word, IsMoment}
 use Rattle.eb_place.specs.Later.{IsNotBefore}
 use Rattle.eb_place.specs.Seen.{segment, stores_in_region, entered, tokens_seen, IsEntered}
@@ -25,7 +23,7 @@ use Rattle.eb_place.proofs.Within.{slices_fit}
 use Rattle.eb_place.proofs.Numbers.{number_low, number_once}
 use Rattle.eb_place.proofs.PackedStores.{is_packed}
 use Rattle.eb_place.proofs.Reached.{val, Room}
-use Rattle.eb_place.proofs.Placed.{Placed, placed_all, lawful_front}
+use Rattle.eb_place.proofs.Placed.{placed_all, lawful_front}
 use Rattle.eb_place.proofs.Closed.{Parts, word_of_writer, tail_in_table}
 use Rattle.eb_place.proofs.EnteredTerms.{number_at, number_found, entered_at, entered_is_term}
 use Rattle.eb_terms.specs.Finding.{HasNumber}

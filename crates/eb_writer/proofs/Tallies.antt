@@ -1,16 +1,15 @@
 -- Counting what a document needs, token by token.
-use Rattle.std.proofs.Common.{◌≡◌, ℕ, zero, suc, ◌+◌, ◌-◌, ◌*◌, ◌<◌, ◌≤◌, Bool, true, false, List, [], ◌∷◌, ◌++◌, length, take, drop, get_or, sum_by, refl, ap, sym, ◌∙◌, subst, arith, inl, inr, append-nil, append_assoc, slice_get, slice_set, Option, Some, None, lit<}
-use native.Mathlib.Decide.{ℕ_discrete}
-use Rattle.std.proofs.lemmas.Bool.{cases_Bool, cases_lt, eqb-true}
-use Rattle.std.proofs.lemmas.List.{length_push, length-append}
+use Rattle.std.proofs.Common.{◌≡◌, ℕ, zero, suc, ◌+◌, ◌-◌, ◌<◌, ◌≤◌, Bool, true, false, List, [], ◌∷◌, ◌++◌, length, take, drop, sum_by, refl, ap, sym, ◌∙◌, arith, inl, inr, slice_get, slice_set, Some, lit<}
+use Rattle.std.proofs.lemmas.Bool.{cases_lt}
+use Rattle.std.proofs.lemmas.List.{length_push}
 use Rattle.std.proofs.lemmas.List.Sums.{sum_by_push, sum_by-cons}
 use Rattle.eb_base.specs.Term.{Term}
 use Rattle.eb_place.specs.declared.used.Used.{Used}
 use Rattle.eb_place.specs.Postings.{distinct, count_of, number_of}
 use Rattle.eb_place.specs.Room.{text_words, slices}
 use Rattle.eb_place.specs.Address.{begins_in, slices_begun}
-use Rattle.eb_place.proofs.Counts.{one_if, same_term, count_of-append, count_of_push, begun_push, slices_more, with_term_cases, once, distinct_push}
-use Rattle.eb_place.proofs.Numbers.{number_here, number_stays, number_absent, number_low}
+use Rattle.eb_place.proofs.Counts.{one_if, begun_push, slices_more, with_term_cases, once, distinct_push}
+use Rattle.eb_place.proofs.Numbers.{number_absent, number_low}
 use Rattle.eb_chain.specs.declared.new_slices.NewSlices.{NewSlices}
 use Rattle.eb_chain.specs.Needs.{TakesSlices}
 use Rattle.eb_writer.specs.Counting.{IsUsedBy, IsSmall}

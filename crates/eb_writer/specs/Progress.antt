@@ -1,11 +1,10 @@
 -- How far a placer has come, and what a call of it does.
-use Rattle.std.specs.Prelude.{◌≡◌, ℕ, ◌+◌, ◌-◌, ◌≤◌, Bool, false, List, length, None}
+use Rattle.std.specs.Prelude.{◌≡◌, ℕ, ◌-◌, ◌≤◌, false, length, None}
 use Rattle.eb_base.specs.Document.{Doc}
 use Rattle.eb_base.specs.Setting.{Setting}
 use Rattle.eb_place.specs.declared.moment.Moment.{Moment}
 use Rattle.eb_place.specs.declared.used.Used.{Used}
 use Rattle.eb_place.specs.Room.{cut, last_of, fits, has_room}
-use Rattle.eb_place.specs.Later.{IsNotBefore}
 use Rattle.eb_place.specs.Tells.{TellsSegment}
 
 -- what a placer keeps: the setting of its index, how many segments it has begun, how many documents it has

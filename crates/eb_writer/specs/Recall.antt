@@ -1,5 +1,5 @@
 -- What is remembered of the tokens of a document, to find where a term stood last.
-use Rattle.std.specs.Prelude.{◌≡◌, ℕ, zero, suc, ◌+◌, ◌<◌, ◌≤◌, List, [], length, get_or, take}
+use Rattle.std.specs.Prelude.{◌≡◌, ℕ, suc, ◌<◌, ◌≤◌, List, [], length, get_or, take}
 use Rattle.eb_base.specs.Term.{Term}
 use Rattle.eb_base.specs.declared.document.TheConstants.{MAX_TOKENS}
 use Rattle.eb_place.specs.Postings.{count_of}

@@ -58,7 +58,9 @@ pub(crate) fn make_plan<P: Pen, L: Ledger>(
     }; MAX_TOKENS];
     let mut used = used;
     for at in 0..terms.len() {
-        let token = found_at(pen, segment, terms, at, &recall, &found, used.terms, &mut steps);
+        let token = found_at(
+            pen, segment, terms, at, &recall, &found, used.terms, &mut steps,
+        );
         used = with_token(used, terms.get(at), token);
         found[at] = token;
         remember(&mut recall, terms, at);

@@ -8,3 +8,6 @@ mod recall;
 mod storing;
 
 pub use placer::{Full, Placer};
+
+#[cfg(test)]
+mod tests;

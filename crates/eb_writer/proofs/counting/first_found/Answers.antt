@@ -1,4 +1,4 @@
-use Rattle.std.proofs.Common.{◌≡◌, ◌∙◌, ap, sym, subst, refl, arith, List}
+use Rattle.std.proofs.Common.{◌∙◌, ap, sym, subst, refl, arith, List}
 use Rattle.eb_base.specs.Setting.{Setting}
 use Rattle.eb_base.specs.Term.{Term}
 use Rattle.eb_place.specs.Layout.{place}

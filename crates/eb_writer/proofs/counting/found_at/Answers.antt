@@ -1,4 +1,4 @@
-use Rattle.std.proofs.Common.{◌≡◌, ◌∙◌, ap, sym, subst, refl, arith, []}
+use Rattle.std.proofs.Common.{sym, arith, []}
 use Rattle.eb_place.proofs.Laters.{later_self}
 use Rattle.eb_writer.specs.Recall.{term_at}
 use Rattle.eb_writer.specs.Counting.{tokens_in}

@@ -1,4 +1,4 @@
-use Rattle.std.proofs.Common.{◌≡◌, ◌++◌, ◌∷◌, [], ◌<◌, ◌≤◌, ◌∙◌, ◌+◌, ap, sym, subst, refl, arith, length, take, append-nil, append_assoc, List, sum_by}
+use Rattle.std.proofs.Common.{◌≡◌, ◌++◌, ◌∷◌, [], ◌∙◌, ap, sym, subst, refl, arith, length, take, append-nil, append_assoc, List, sum_by}
 use Rattle.std.proofs.lemmas.List.{take_all, length-replicate}
 use Rattle.eb_base.specs.Term.{Term}
 use Rattle.eb_place.specs.Postings.{distinct, count_of, number_of}
@@ -17,13 +17,14 @@ pub loop-at-init : goal.loop-at-init
 loop-at-init g c =
     let r = c.requires.ready in
     let is = g.met.P.Port.lawful _ r.0 r.1 in (
-      λ m st ready.
-          (m,
-          st,
-          later_self m,
-          g.met.P.Port.keeps_itself _ m st,
-          record { places = length-replicate {A = Found} 256 record { number = 0; tail = 0; earlier = 0 }; each = λ i k l e. absurd (omega arith) },
-          subst (IsUsedBy c.args.used) (sym (append-nil (tokens_in m c.args.segment))) (ready_used m c.args.segment c.args.used (g.met.P.Port.lawful _ m st) ready)),
+      λ m st ready. (
+        m,
+        st,
+        later_self m,
+        g.met.P.Port.keeps_itself _ m st,
+        record { places = length-replicate {A = Found} 256 record { number = 0; tail = 0; earlier = 0 }; each = λ i k l e. absurd (omega arith) },
+        subst (IsUsedBy c.args.used) (sym (append-nil (tokens_in m c.args.segment))) (ready_used m c.args.segment c.args.used (g.met.P.Port.lawful _ m st) ready),
+      ),
       c.recall_nothing-recall.ensures,
       small_first r.0 c.args.segment c.args.used is r.2.inside (ready_used r.0 c.args.segment c.args.used is r.2),
       refl,
@@ -57,7 +58,7 @@ with_token-used-requires-clause-tail g c =
     let f = g.met.P.Pen.pen_keeps _ _ m k.0 k.3 in
     let q = tokens_same m k.0 s k.2 f in
     let o = c.found_at-token.ensures k.0 k.1 (idle_same m k.0 f ready.idle) (inside_same m k.0 s k.2 ready.inside) (subst (λ (z : List Term). AreFound z ts c.loop-at.found i) (sym q) k.4)
-        (k.5.terms ∙ ap (λ (z : List Term). length (distinct (z ++ take i ts))) (sym q)) in
+    (k.5.terms ∙ ap (λ (z : List Term). length (distinct (z ++ take i ts))) (sym q)) in
     let token = subst (λ (z : List Term). IsFound z ts i c.found_at-token.result) q o.4 in
     (count_of (term_at ts i) (tokens_in m s), token.tail)
 
@@ -74,7 +75,7 @@ with_token-used-requires-clause-few g c =
     let f = g.met.P.Pen.pen_keeps _ _ m k.0 k.3 in
     let q = tokens_same m k.0 s k.2 f in
     let o = c.found_at-token.ensures k.0 k.1 (idle_same m k.0 f ready.idle) (inside_same m k.0 s k.2 ready.inside) (subst (λ (z : List Term). AreFound z ts c.loop-at.found i) (sym q) k.4)
-        (k.5.terms ∙ ap (λ (z : List Term). length (distinct (z ++ take i ts))) (sym q)) in
+    (k.5.terms ∙ ap (λ (z : List Term). length (distinct (z ++ take i ts))) (sym q)) in
     let token = subst (λ (z : List Term). IsFound z ts i c.found_at-token.result) q o.4 in
     let doc = c.terms-terms.ensures.document in
     let tokens = doc.limits.tokens in
@@ -113,19 +114,20 @@ loop-at-preserved g c = (
       let f = g.met.P.Pen.pen_keeps _ _ m k.0 k.3 in
       let q = tokens_same m k.0 s k.2 f in
       let o = c.found_at-token.ensures k.0 k.1 (idle_same m k.0 f ready.idle) (inside_same m k.0 s k.2 ready.inside) (subst (λ (z : List Term). AreFound z ts c.loop-at.found i) (sym q) k.4)
-          (k.5.terms ∙ ap (λ (z : List Term). length (distinct (z ++ take i ts))) (sym q)) in
+      (k.5.terms ∙ ap (λ (z : List Term). length (distinct (z ++ take i ts))) (sym q)) in
       let token = subst (λ (z : List Term). IsFound z ts i c.found_at-token.result) q o.4 in
       let t = c.get.result.now in
       let at = at_place ts i t [] c.get.ensures in
       let A = tokens_in m s in
       let u = c.with_token-used.ensures.used (count_of (term_at ts i) A) (A ++ take i ts) token.tail
-          (omega (arith, token.earlier, count_of-append (term_at ts i) A (take i ts), ap (λ z. count_of z (A ++ take i ts)) at)) (token.number ∙ ap (λ z. number_of z (A ++ take i ts)) at) k.5 in
-      (o.0,
-      o.1,
-      later_on m k.0 o.0 k.2 o.2,
-      g.met.P.Port.keeps_on _ _ _ m k.0 o.0 k.3 o.3,
-      found_more A ts c.loop-at.found i c.found_at-token.result k.4 token,
-      subst (IsUsedBy c.with_token-used.result) (append_assoc A (take i ts) (t ∷ []) ∙ ap (λ (z : List Term). A ++ z) (sym (take_one ts i t c.get.ensures))) u)),
+      (omega (arith, token.earlier, count_of-append (term_at ts i) A (take i ts), ap (λ z. count_of z (A ++ take i ts)) at)) (token.number ∙ ap (λ z. number_of z (A ++ take i ts)) at) k.5 in (
+        o.0,
+        o.1,
+        later_on m k.0 o.0 k.2 o.2,
+        g.met.P.Port.keeps_on _ _ _ m k.0 o.0 k.3 o.3,
+        found_more A ts c.loop-at.found i c.found_at-token.result k.4 token,
+        subst (IsUsedBy c.with_token-used.result) (append_assoc A (take i ts) (t ∷ []) ∙ ap (λ (z : List Term). A ++ z) (sym (take_one ts i t c.get.ensures))) u,
+      )),
   c.remember.ensures,
   (let r = c.requires.ready in
       let m = r.0 in
@@ -138,13 +140,13 @@ loop-at-preserved g c = (
       let f = g.met.P.Pen.pen_keeps _ _ m k.0 k.3 in
       let q = tokens_same m k.0 s k.2 f in
       let o = c.found_at-token.ensures k.0 k.1 (idle_same m k.0 f ready.idle) (inside_same m k.0 s k.2 ready.inside) (subst (λ (z : List Term). AreFound z ts c.loop-at.found i) (sym q) k.4)
-          (k.5.terms ∙ ap (λ (z : List Term). length (distinct (z ++ take i ts))) (sym q)) in
+      (k.5.terms ∙ ap (λ (z : List Term). length (distinct (z ++ take i ts))) (sym q)) in
       let token = subst (λ (z : List Term). IsFound z ts i c.found_at-token.result) q o.4 in
       let t = c.get.result.now in
       let at = at_place ts i t [] c.get.ensures in
       let A = tokens_in m s in
       let u = c.with_token-used.ensures.used (count_of (term_at ts i) A) (A ++ take i ts) token.tail
-          (omega (arith, token.earlier, count_of-append (term_at ts i) A (take i ts), ap (λ z. count_of z (A ++ take i ts)) at)) (token.number ∙ ap (λ z. number_of z (A ++ take i ts)) at) k.5 in
+      (omega (arith, token.earlier, count_of-append (term_at ts i) A (take i ts), ap (λ z. count_of z (A ++ take i ts)) at)) (token.number ∙ ap (λ z. number_of z (A ++ take i ts)) at) k.5 in
       let bytes = c.terms-terms.ensures.document.limits.bytes in
       small_more c.loop-at.used c.with_token-used.result t (A ++ take i ts) i (omega (arith, bytes, ap (sum_by length) c.terms-terms.ensures.terms, token_short ts i t c.get.ensures)) k.5 u c.loop-at.invariant.2),
   c.with_token-used.ensures.documents ∙ c.loop-at.invariant.3,

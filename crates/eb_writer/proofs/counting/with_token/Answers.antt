@@ -1,4 +1,4 @@
-use Rattle.std.proofs.Common.{◌≡◌, ◌∙◌, ◌+◌, ap, sym, subst, refl, arith}
+use Rattle.std.proofs.Common.{◌∙◌, ◌+◌, sym, arith}
 use Rattle.eb_place.specs.Address.{begins_in}
 use Rattle.eb_writer.proofs.Tallies.{one_more, one_low, slice_more, used_new, used_old, number_tells_new, number_tells_old}
 use Rattle.eb_writer.proofs.counting.with_token.Goals as goal
@@ -40,10 +40,10 @@ returns-then-token-used-clause-used c f before tail count number used =
     let h = c.with_slices-used.ensures in
     let o = one_more f e _ _ (c.needs-before.ensures f tail) (c.needs-after.ensures f tail) in
     used_new u _ t before (number_tells_new t before (sym number ∙ c.if-token-used.true ∙ h.others.1 ∙ used.terms)) used (omega (arith, h.others.1)) (omega (arith, h.others.2, c.words_of_text.ensures))
-        (slice_more 0 f e t before u.pool0 w.pool0 _ _ count o.pool0 h.pool0 used.pool0)
-        (slice_more 1 f e t before u.pool1 w.pool1 _ _ count o.pool1 h.pool1 used.pool1)
-        (slice_more 2 f e t before u.pool2 w.pool2 _ _ count o.pool2 h.pool2 used.pool2)
-        (slice_more 3 f e t before u.pool3 w.pool3 _ _ count o.pool3 h.pool3 used.pool3)
+    (slice_more 0 f e t before u.pool0 w.pool0 _ _ count o.pool0 h.pool0 used.pool0)
+    (slice_more 1 f e t before u.pool1 w.pool1 _ _ count o.pool1 h.pool1 used.pool1)
+    (slice_more 2 f e t before u.pool2 w.pool2 _ _ count o.pool2 h.pool2 used.pool2)
+    (slice_more 3 f e t before u.pool3 w.pool3 _ _ count o.pool3 h.pool3 used.pool3)
 
 pub returns-clause-used : goal.returns-clause-used
 returns-clause-used c f before tail count number used =
@@ -54,7 +54,7 @@ returns-clause-used c f before tail count number used =
     let h = c.with_slices-used.ensures in
     let o = one_more f e _ _ (c.needs-before.ensures f tail) (c.needs-after.ensures f tail) in
     used_old u _ t before (number_tells_old t before (λ z. c.if-token-used.false (number ∙ z ∙ sym used.terms ∙ sym h.others.1))) used h.others.1 h.others.2
-        (slice_more 0 f e t before u.pool0 w.pool0 _ _ count o.pool0 h.pool0 used.pool0)
-        (slice_more 1 f e t before u.pool1 w.pool1 _ _ count o.pool1 h.pool1 used.pool1)
-        (slice_more 2 f e t before u.pool2 w.pool2 _ _ count o.pool2 h.pool2 used.pool2)
-        (slice_more 3 f e t before u.pool3 w.pool3 _ _ count o.pool3 h.pool3 used.pool3)
+    (slice_more 0 f e t before u.pool0 w.pool0 _ _ count o.pool0 h.pool0 used.pool0)
+    (slice_more 1 f e t before u.pool1 w.pool1 _ _ count o.pool1 h.pool1 used.pool1)
+    (slice_more 2 f e t before u.pool2 w.pool2 _ _ count o.pool2 h.pool2 used.pool2)
+    (slice_more 3 f e t before u.pool3 w.pool3 _ _ count o.pool3 h.pool3 used.pool3)

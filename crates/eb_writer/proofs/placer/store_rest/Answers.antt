@@ -1,7 +1,6 @@
-use Rattle.std.proofs.Common.{◌≡◌, ◌∙◌, ap, sym, subst, arith, length, refl, List}
-use Rattle.eb_base.specs.Document.{Doc}
+use Rattle.std.proofs.Common.{◌∙◌, ap, sym, arith, length, refl}
 use Rattle.eb_writer.proofs.Ends.{used_documents, documents_low}
-use Rattle.eb_writer.proofs.Adding.{tells_accepted, accepted_on, before_same}
+use Rattle.eb_writer.proofs.Adding.{tells_accepted, accepted_on}
 use Rattle.eb_writer.proofs.placer.store_rest.Goals as goal
 
 pub finish-requires : goal.finish-requires
@@ -29,6 +28,10 @@ returns g c m st h tells found count =
     let n = c.store_tokens.ensures m st h tells found in
     let is = g.met.P.Port.lawful _ n.0 n.1 in
     let docs = used_documents n.0 d s c.store_tokens.new.used is n.4.placed n.5 in
-    let o = c.finish.ensures n.0 n.1 n.4 docs (count ∙ ap length (sym n.3.accepted)) in
-    (o.0, o.1, g.met.P.Port.same_on _ _ _ n.2 o.2, accepted_on m n.0 o.0 d n.3 o.3,
-    tells_accepted n.0 n.0 o.0 d s c.store_tokens.new.used _ is (g.met.P.Port.lawful _ o.0 o.1) n.4.placed n.4 n.5 refl o.3 docs refl)
+    let o = c.finish.ensures n.0 n.1 n.4 docs (count ∙ ap length (sym n.3.accepted)) in (
+      o.0,
+      o.1,
+      g.met.P.Port.same_on _ _ _ n.2 o.2,
+      accepted_on m n.0 o.0 d n.3 o.3,
+      tells_accepted n.0 n.0 o.0 d s c.store_tokens.new.used _ is (g.met.P.Port.lawful _ o.0 o.1) n.4.placed n.4 n.5 refl o.3 docs refl,
+    )

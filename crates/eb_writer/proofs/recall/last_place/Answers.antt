@@ -1,4 +1,4 @@
-use Rattle.std.proofs.Common.{ℕ, [],  suc, ◌≡◌, ◌<◌, ◌-◌, refl, sym, ◌∙◌, ap, subst, arith, get_or, rules}
+use Rattle.std.proofs.Common.{[], ◌≡◌, ◌-◌, sym, ◌∙◌, ap, subst, arith, get_or}
 use Rattle.std.proofs.lemmas.Slice.Eq.{bytes_eq-Decides}
 use Rattle.std.proofs.lemmas.Bool.{false≢true}
 use Rattle.eb_writer.specs.Recall.{bucket, term_at, LeadsBack}
@@ -41,7 +41,7 @@ loop-next-preserved c =
     let u = at_place ts p c.get.result.now [] c.get.ensures in
     let l = c.requires.2.before p (omega (arith, c.loop-next.invariant.back, c.loop-next-test.true)) in
     sought_more ts c.args.at p c.loop-next.next _ c.requires.0 (omega (arith, c.loop-next-test.true)) c.loop-next.invariant
-        (λ e. false≢true (sym c.if-eq.false ∙ c.eq.ensures ∙ (bytes_eq-Decides c.get.result.now c.get-term.result.now).1 (sym u ∙ sym e ∙ t))) l
+    (λ e. false≢true (sym c.if-eq.false ∙ c.eq.ensures ∙ (bytes_eq-Decides c.get.result.now c.get-term.result.now).1 (sym u ∙ sym e ∙ t))) l
 
 pub returns : goal.returns
 returns c = sought_none c.args.terms.now c.args.at (subst (λ k. IsSought c.args.terms.now c.args.at k) (let e : c.loop-next.next ≡ 0 = omega (arith, c.loop-next-test.false) in e) c.loop-next.invariant)

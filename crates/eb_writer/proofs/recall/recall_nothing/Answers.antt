@@ -1,6 +1,6 @@
-use Rattle.std.proofs.Common.{ℕ, ◌≡◌, refl, sym, subst, arith, get_or, replicate}
+use Rattle.std.proofs.Common.{ℕ, sym, subst, arith}
 use Rattle.std.proofs.lemmas.List.{get_or-replicate, length-replicate}
-use Rattle.eb_writer.specs.Recall.{bucket, term_at, LeadsBack}
+use Rattle.eb_writer.specs.Recall.{LeadsBack}
 use Rattle.eb_writer.proofs.Recalling.{leads_nothing}
 use Rattle.eb_writer.proofs.recall.recall_nothing.Goals as goal
 

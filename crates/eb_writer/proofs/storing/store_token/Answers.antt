@@ -1,4 +1,4 @@
-use Rattle.std.proofs.Common.{◌≡◌, ◌∙◌, ap, sym, subst, arith, length, refl}
+use Rattle.std.proofs.Common.{◌∙◌, ap, arith}
 use Rattle.eb_place.specs.declared.moment.Documents.{Documents}
 use Rattle.eb_place.specs.Postings.{posting_of}
 use Rattle.eb_place.proofs.Laters.{later_on}

@@ -1,5 +1,4 @@
-use Rattle.std.proofs.Common.{◌≡◌, ◌<◌, ◌≤◌, ◌++◌, ◌∙◌, ap, sym, subst, arith, length, refl, take, List}
-use Rattle.eb_base.specs.Document.{Doc}
+use Rattle.std.proofs.Common.{◌≡◌, ◌<◌, ◌++◌, ◌∙◌, ap, sym, subst, arith, length, refl, take}
 use Rattle.eb_place.specs.Postings.{terms_of, number_of}
 use Rattle.eb_place.specs.Placing.{segment_before}
 use Rattle.eb_place.proofs.Laters.{later_self, later_on}

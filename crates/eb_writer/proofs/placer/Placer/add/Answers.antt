@@ -1,9 +1,8 @@
-use Rattle.std.proofs.Common.{ℕ, ◌≡◌, ◌<◌, ◌≤◌, ◌+◌, ◌∙◌, ap, sym, subst, arith, length, refl}
+use Rattle.std.proofs.Common.{◌≡◌, ◌<◌, ◌+◌, ◌∙◌, ap, sym, subst, arith, length}
 use Rattle.eb_base.specs.Setting.{Setting}
 use Rattle.eb_place.specs.declared.moment.Documents.{Documents}
-use Rattle.eb_place.specs.declared.moment.Moment.{Moment}
 use Rattle.eb_place.specs.Room.{cut, has_room}
-use Rattle.eb_writer.specs.Progress.{Progress, Stands}
+use Rattle.eb_writer.specs.Progress.{Stands}
 use Rattle.eb_writer.proofs.Adding.{segments_few, stands_same, full_same, accepted_same, no_room}
 use Rattle.eb_writer.proofs.placer.Placer.add.Goals as goal
 

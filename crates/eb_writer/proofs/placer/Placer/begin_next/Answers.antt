@@ -1,10 +1,7 @@
-use Rattle.std.proofs.Common.{ℕ, suc, ◌≡◌, ◌<◌, ◌≤◌, ◌+◌, ◌-◌, ◌∙◌, ap, sym, subst, arith, length, refl, List, true, false}
-use Rattle.eb_base.specs.Setting.{Setting}
-use Rattle.eb_place.specs.declared.moment.Moment.{Moment}
-use Rattle.eb_place.specs.Room.{cut}
-use Rattle.eb_writer.specs.Progress.{Progress, Stands, IsLastFull}
+use Rattle.std.proofs.Common.{◌+◌, sym, subst, arith, refl}
+use Rattle.eb_writer.specs.Progress.{Progress, Stands}
 use Rattle.eb_writer.proofs.Ends.{documents_few}
-use Rattle.eb_writer.proofs.Adding.{last_ready, next_ready, fits_last, starts_last, starts_next, begins_same, stands_same, stands_accepted, accepted_same, accepted_on, no_room}
+use Rattle.eb_writer.proofs.Adding.{next_ready, starts_next, begins_same, stands_same, stands_accepted, accepted_same, accepted_on}
 use Rattle.eb_writer.proofs.placer.Placer.begin_next.Goals as goal
 
 pub make_plan-plan-requires-clause-ready : goal.make_plan-plan-requires-clause-ready
