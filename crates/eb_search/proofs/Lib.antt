@@ -1,0 +1,4 @@
+pub mod Parts
+pub mod Beginnings
+pub mod Matches
+pub mod Segments

@@ -1,0 +1,105 @@
+-- The accepted documents of a segment, at later moments too.
+use Rattle.std.proofs.Common.{◌≡◌, ℕ, ◌+◌, ◌<◌, ◌≤◌, ◌^◌, List, [], ◌++◌, length, drop, get_or, slice_get, Some, ap, sym, ◌∙◌, subst, arith}
+use Rattle.std.proofs.lemmas.List.{get_or-map}
+use Rattle.std.proofs.lemmas.Option.{get_or_from_slice_get}
+use mathlib.Core.List.{IsPrefix}
+use Rattle.eb_base.specs.Document.{Doc}
+use Rattle.eb_base.specs.Setting.{Setting}
+use Rattle.eb_place.specs.declared.moment.Moment.{Moment}
+use Rattle.eb_place.specs.Layout.{place}
+use Rattle.eb_place.specs.Layout.Slot.{slot}
+use Rattle.eb_place.specs.Layout.Region.{id_region}
+use Rattle.eb_place.specs.Room.{cut}
+use Rattle.eb_place.specs.Moments.{IsMoment, word}
+use Rattle.eb_place.specs.Later.{IsNotBefore}
+use Rattle.eb_place.proofs.Grows.{segments_grow}
+use Rattle.eb_place.proofs.Ids.{word_id}
+use Rattle.eb_place.proofs.Placed.{placed_all}
+use Rattle.eb_place.proofs.Prefixes.{prefix_trans, prefix_get, prefix_length}
+use Rattle.eb_cursor.specs.Accepted.{accepted_in}
+use Rattle.eb_cursor.specs.Frames.{MayAsk}
+use Rattle.eb_cursor.specs.declared.frame.Frame.{Frame}
+use Rattle.eb_cursor.proofs.Accepted.{whole_lawful}
+use Rattle.eb_cursor.proofs.Openings.{are_first}
+use Rattle.eb_place.proofs.Laters.{later_self}
+use Rattle.eb_search.specs.Visible.{AreFirsts, AreVisible, documents_before}
+use Rattle.eb_search.proofs.Parts.{is_part, drop_segment}
+use Rattle.eb_search.proofs.Beginnings.{cut_short}
+
+-- a segment of the first accepted documents begins the accepted documents of that segment
+pub part_accepted : (m : Moment) (docs : List Doc) (s : ℕ) → IsPrefix docs m.documents.accepted → IsPrefix (get_or (cut m.setting docs) s []) (accepted_in m s)
+part_accepted m docs s p = subst (λ z. IsPrefix (get_or (cut m.setting docs) s []) (get_or (cut m.setting z) s [])) p.1 (segments_grow m.setting docs p.0 s)
+
+-- these grow at their end
+pub accepted_later : (m n : Moment) (s : ℕ) → IsNotBefore n m → IsPrefix (accepted_in m s) (accepted_in n s)
+accepted_later m n s l = let p = l.documents.accepted in
+    subst (λ (σ : Setting). IsPrefix (accepted_in m s) (get_or (cut σ n.documents.accepted) s [])) l.setting
+    (subst (λ z. IsPrefix (accepted_in m s) (get_or (cut m.setting z) s [])) p.1 (segments_grow m.setting m.documents.accepted p.0 s))
+
+pub first_later : (m n : Moment) (s : ℕ) (docs : List Doc) → IsNotBefore n m → IsPrefix docs (accepted_in m s) → IsPrefix docs (accepted_in n s)
+first_later m n s docs l p = prefix_trans _ _ _ p (accepted_later m n s l)
+
+-- the first accepted documents stay so, with their segments
+pub visible_later : (m n : Moment) (docs : List Doc) (firsts : List ℕ) (begun : ℕ) → IsNotBefore n m → AreVisible m docs firsts begun → AreVisible n docs firsts begun
+visible_later m n docs firsts begun l v = record {
+  accepted = prefix_trans _ _ _ v.accepted l.documents.accepted;
+  words = subst (λ σ. AreFirsts σ docs firsts begun) l.setting v.words;
+}
+
+-- a document of a segment lies in the table
+pub record IsLow (m : Moment) (s i : ℕ) : Type 0 where
+  pub segment : s < m.setting.segments
+  pub document : i < m.setting.docs
+
+pub is_low : (m : Moment) (s i : ℕ) (docs : List Doc) → IsMoment m → i < length docs → IsPrefix docs (accepted_in m s) → IsLow m s i
+is_low m s i docs is h p =
+    let f = are_first m s docs is (omega arith) p in
+    let placed = placed_all m.setting m.documents.accepted is.setting (whole_lawful m is) in
+    record { segment = f.inside; document = omega (arith, placed.few s, prefix_length docs (accepted_in m s) p) }
+
+-- the id word of one of the first accepted documents of a segment
+pub loaded_id : (m : Moment) (s i w : ℕ) (docs : List Doc) (d : Doc) → IsMoment m → IsPrefix docs (accepted_in m s) → slice_get docs i ≡ Some d → i < length docs → w ≡ word m (place m.setting (slot s id_region i)) → w ≡ d.id
+loaded_id m s i w docs d is p there h e =
+    let low = is_low m s i docs is h p in
+    let long = prefix_length docs (accepted_in m s) p in
+    e ∙ word_id m s i is low.segment (omega arith) ∙ get_or-map {X = Doc} (λ x. x.id) (accepted_in m s) i d 0 (omega arith)
+    ∙ ap (λ (x : Doc). x.id) (get_or_from_slice_get (accepted_in m s) i d d (prefix_get docs (accepted_in m s) i d p there))
+
+-- a search of a segment goes on: its frame may be asked below the end, for these documents
+pub record IsUnderWay (s : ℕ) (docs : List Doc) (f : Frame) (end : ℕ) (n : Moment) : Type 0 where
+  pub first : IsPrefix docs (accepted_in n s)
+  pub asked : Moment
+  pub later : IsNotBefore n asked
+  pub asks : (document : ℕ) → document < end → MayAsk asked f docs document
+
+pub under_way : (m n : Moment) (s : ℕ) (docs : List Doc) (f : Frame) (end : ℕ) → IsNotBefore n m → IsPrefix docs (accepted_in m s) → ((document : ℕ) → MayAsk n f docs document) → IsUnderWay s docs f end n
+under_way m n s docs f end l p asks = record { first = first_later m n s docs l p; asked = n; later = later_self n; asks = λ document h. asks document }
+
+-- the next older segment of a walk
+pub record IsStep (m : Moment) (docs : List Doc) (firsts : List ℕ) (s end : ℕ) : Type 0 where
+  pub low : s < 64
+  pub word : get_or firsts s 0 ≡ documents_before (cut m.setting docs) s + 1
+  pub next : end ≡ documents_before (cut m.setting docs) s + length (get_or (cut m.setting docs) s [])
+  pub some : 1 ≤ length (get_or (cut m.setting docs) s [])
+  pub long : length (get_or (cut m.setting docs) s []) ≤ length (accepted_in m s)
+  pub small : length (get_or (cut m.setting docs) s []) ≤ 2 ^ 24
+  pub first : IsPrefix (get_or (cut m.setting docs) s []) (accepted_in m s)
+  pub rest : drop (documents_before (cut m.setting docs) s) docs ≡ get_or (cut m.setting docs) s [] ++ drop end docs
+
+pub is_step : (m : Moment) (docs : List Doc) (firsts : List ℕ) (begun s end : ℕ) → IsMoment m → AreVisible m docs firsts begun → s + 1 ≤ begun → end ≡ documents_before (cut m.setting docs) (s + 1) → IsStep m docs firsts s end
+is_step m docs firsts begun s end is v le e =
+    let here : s < length (cut m.setting docs) = omega (arith, v.words.all) in
+    let part = is_part m.setting docs s here in
+    let placed = placed_all m.setting m.documents.accepted is.setting (whole_lawful m is) in
+    let first = part_accepted m docs s v.accepted in
+    let long = prefix_length _ _ first in
+    record {
+      low = omega (arith, cut_short m docs is v.accepted, is.setting.segments.1);
+      word = v.words.each s (omega arith);
+      next = e ∙ part.next;
+      some = part.some;
+      long = long;
+      small = omega (arith, long, placed.few s, is.setting.docs.1);
+      first = first;
+      rest = drop_segment m.setting docs s here ∙ ap (λ n. get_or (cut m.setting docs) s [] ++ drop n docs) (sym e);
+    }

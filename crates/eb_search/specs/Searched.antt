@@ -1,0 +1,15 @@
+-- What a search has found.
+use Rattle.std.specs.Prelude.{◌≡◌, ℕ, List, length}
+use Rattle.eb_base.specs.Query.{Tree}
+use Rattle.eb_base.specs.Match.{answer}
+use Rattle.eb_place.specs.declared.moment.Moment.{Moment}
+use Rattle.eb_place.specs.Later.{IsNotBefore}
+
+-- a search that began at moment m and ended at n: at a moment from m to n it loaded the count of accepted documents, and the ids are
+-- the answer over exactly the documents accepted then
+pub record Searched (m n : Moment) (q : Tree) (k counted : ℕ) (found : List ℕ) : Type 0 where
+  pub loaded : Moment
+  pub after : IsNotBefore loaded m
+  pub before : IsNotBefore n loaded
+  pub count : counted ≡ length loaded.documents.accepted
+  pub ids : found ≡ answer q k loaded.documents.accepted

@@ -1,0 +1,25 @@
+-- The segments of the first accepted documents.
+use Rattle.std.specs.Prelude.{◌≡◌, ℕ, ◌+◌, ◌<◌, List, length, take, get_or, sum_by}
+use mathlib.Core.List.{IsPrefix}
+use Rattle.eb_base.specs.Document.{Doc}
+use Rattle.eb_base.specs.Setting.{Setting}
+use Rattle.eb_place.specs.declared.moment.Moment.{Moment}
+use Rattle.eb_place.specs.Room.{cut}
+
+-- how many documents stand in the segments before this one
+abbrev pub documents_before : List (List Doc) → ℕ → ℕ
+documents_before segs s = sum_by length (take s segs)
+
+-- these documents lie in the first segments, so many, and each of these has here the number of its first document plus 1
+pub record AreFirsts (σ : Setting) (docs : List Doc) (firsts : List ℕ) (begun : ℕ) : Type 0 where
+  pub all : begun ≡ length (cut σ docs)
+  pub each : (s : ℕ) → s < begun → get_or firsts s 0 ≡ documents_before (cut σ docs) s + 1
+
+-- so it is for the first documents that are accepted at a moment
+pub record AreVisible (m : Moment) (docs : List Doc) (firsts : List ℕ) (begun : ℕ) : Type 0 where
+  pub accepted : IsPrefix docs m.documents.accepted
+  pub words : AreFirsts m.setting docs firsts begun
+
+-- at some moment that the port stands for, so many documents are accepted, and their segments are known
+abbrev pub CanWalk : {S : Type 0} → (S → Moment → Type 0) → S → ℕ → List ℕ → ℕ → Type 0
+CanWalk stands s count firsts begun = (m : Moment) × (docs : List Doc) × stands s m × (length docs ≡ count) × AreVisible m docs firsts begun

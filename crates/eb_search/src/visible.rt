@@ -1,0 +1,38 @@
+//! The segments that a search looks at.
+ghost use Rattle.std.specs.Prelude.{◌≡◌, ◌≤◌, List, length};
+ghost use mathlib.Core.List.{IsPrefix};
+ghost use Rattle.eb_base.specs.Document.{Doc};
+ghost use Rattle.eb_place.specs.declared.moment.Moment.{Moment};
+ghost use Rattle.eb_cursor.specs.Told.{Told};
+ghost use Rattle.eb_search.specs.Visible.{AreVisible};
+
+use eb_base::MAX_SEGMENTS;
+use eb_place::{Places, Port, Steps};
+use std::sync::ledger::Ledger;
+
+/// How many segments hold one of the first `count` accepted documents. Puts the first-document word of each of
+/// them into `firsts`. A segment that was begun since, or whose first document isn't among them, isn't
+/// counted: its word is 0 or above `count`. Each word is loaded once at most.
+pub(crate) fn visible_segments<P: Port, L: Ledger>(
+    port: &mut P,
+    count: u64,
+    firsts: &mut [u64; MAX_SEGMENTS as usize],
+    steps: &mut Steps<L>,
+) -> u32
+    requires { (m : Moment) × P.stands port.old m × (count ≤ length m.documents.accepted) }
+    ensures { (docs : List Doc) → length docs ≡ count → Told P.stands P.keeps port.old port.new
+        (λ m. IsPrefix docs m.documents.accepted) (λ n. AreVisible n docs firsts.new result) }
+{
+    let config = port.config();
+    let places = Places::new(config);
+    let mut segment = 0;
+    while segment < config.segments() {
+        let first = port.load(places.first(segment), steps);
+        if first == 0 || first > count {
+            return segment;
+        }
+        firsts[segment as usize] = first;
+        segment += 1;
+    }
+    segment
+}
