@@ -8,3 +8,6 @@ mod visible;
 mod walking;
 
 pub use searching::search;
+
+#[cfg(test)]
+mod tests;

@@ -1,5 +1,5 @@
 //! The segments that a search looks at.
-ghost use Rattle.std.specs.Prelude.{◌≡◌, ◌≤◌, List, length};
+ghost use Rattle.std.specs.Prelude.{◌≡◌, ◌≤◌, ◌+◌, List, length};
 ghost use mathlib.Core.List.{IsPrefix};
 ghost use Rattle.eb_base.specs.Document.{Doc};
 ghost use Rattle.eb_place.specs.declared.moment.Moment.{Moment};
@@ -12,7 +12,7 @@ use std::sync::ledger::Ledger;
 
 /// How many segments hold one of the first `count` accepted documents. Puts the first-document word of each of
 /// them into `firsts`. A segment that was begun since, or whose first document isn't among them, isn't
-/// counted: its word is 0 or above `count`. Each word is loaded once at most.
+/// counted: its word is 0 or above `count`. Loads at most one word a segment.
 pub(crate) fn visible_segments<P: Port, L: Ledger>(
     port: &mut P,
     count: u64,
@@ -20,8 +20,9 @@ pub(crate) fn visible_segments<P: Port, L: Ledger>(
     steps: &mut Steps<L>,
 ) -> u32
     requires { (m : Moment) × P.stands port.old m × (count ≤ length m.documents.accepted) }
-    ensures { (docs : List Doc) → length docs ≡ count → Told P.stands P.keeps port.old port.new
+    ensures words { (docs : List Doc) → length docs ≡ count → Told P.stands P.keeps port.old port.new
         (λ m. IsPrefix docs m.documents.accepted) (λ n. AreVisible n docs firsts.new result) }
+    ensures loads { (m : Moment) → P.stands port.old m → steps.new ≤ steps.old + m.setting.segments }
 {
     let config = port.config();
     let places = Places::new(config);

@@ -16,7 +16,7 @@ walk-requires-clause-firsts g c =
     let r = c.requires in
     let l = c.load-count.ensures.told r.0 r.1 in
     let same = sym (l.4 ∙ word_count l.0 (g.met.P.Port.lawful _ l.0 l.1)) in
-    let y = (c.visible_segments-begun.ensures l.0.documents.accepted same).told l.0 l.1 (prefix_self l.0.documents.accepted) in
+    let y = (c.visible_segments-begun.ensures.words l.0.documents.accepted same).told l.0 l.1 (prefix_self l.0.documents.accepted) in
     (y.0, l.0.documents.accepted, y.1, same, y.4)
 
 pub returns-clause-answer : goal.returns-clause-answer
@@ -24,7 +24,7 @@ returns-clause-answer g c = λ m st.
     let l = c.load-count.ensures.told m st in
     let docs = l.0.documents.accepted in
     let same = sym (l.4 ∙ word_count l.0 (g.met.P.Port.lawful _ l.0 l.1)) in
-    let y = (c.visible_segments-begun.ensures docs same).told l.0 l.1 (prefix_self docs) in
+    let y = (c.visible_segments-begun.ensures.words docs same).told l.0 l.1 (prefix_self docs) in
     let z = (c.walk.ensures.ids docs same).told y.0 y.1 y.4 in (
       z.0,
       z.1,

@@ -26,10 +26,12 @@ loop-end-init g c = record {
 }
 
 pub returns-then-is_full-clause-ids : goal.returns-then-is_full-clause-ids
-returns-then-is_full-clause-ids g c = λ docs same.
-    let inv = c.loop-end.invariant in
-    told_as g.met.P.Port.lawful (inv.told docs same) (λ m p. p)
-    (λ m n w p x. found_full (query_of c.args.frame.now) (k_of c.args.frame.now) (ids_of c.args.frame.now) docs c.loop-end.end (ids_of c.loop-end.frame) (c.is_full.ensures.0 c.if-is_full.true ∙ inv.k) x.1)
+returns-then-is_full-clause-ids g c = λ docs same. record {
+  told = λ m st p.
+      let inv = c.loop-end.invariant in
+      let x = (inv.told docs same).told m st p in
+      (x.0, x.1, x.2, x.3, found_full (query_of c.args.frame.now) (k_of c.args.frame.now) (ids_of c.args.frame.now) docs c.loop-end.end (ids_of c.loop-end.frame) (c.is_full.ensures.0 c.if-is_full.true ∙ inv.k) x.4.1);
+}
 
 pub at_most-requires : goal.at_most-requires
 at_most-requires g c =
@@ -142,6 +144,8 @@ loop-end-preserved g c =
     }
 
 pub returns-clause-ids : goal.returns-clause-ids
-returns-clause-ids g c = λ docs same.
-    told_as g.met.P.Port.lawful (c.loop-end.invariant.told docs same) (λ m p. p)
-    (λ m n w p x. found_all (query_of c.args.frame.now) (k_of c.args.frame.now) (ids_of c.args.frame.now) docs c.loop-end.end (ids_of c.loop-end.frame) (omega (arith, c.loop-end-test.false)) x.1)
+returns-clause-ids g c = λ docs same. record {
+  told = λ m st p.
+      let x = (c.loop-end.invariant.told docs same).told m st p in
+      (x.0, x.1, x.2, x.3, found_all (query_of c.args.frame.now) (k_of c.args.frame.now) (ids_of c.args.frame.now) docs c.loop-end.end (ids_of c.loop-end.frame) (omega (arith, c.loop-end-test.false)) x.4.1);
+}

@@ -16,6 +16,7 @@ pub loop-segment-init : goal.loop-segment-init
 loop-segment-init g c = record {
   long = omega (arith, c.fits-firsts);
   told = λ docs same. told_itself g.met.P.Port.keeps_itself (λ m p. none_yet m docs c.args.firsts.now p);
+  loads = omega arith;
   within = omega arith;
 }
 
@@ -26,8 +27,8 @@ load-first-requires g c =
     let x = (c.loop-segment.invariant.told w.0 w.2).told r.0 r.1 w.1 in
     (x.0, x.1, subst (λ (σ : Setting). c.first.result < words_of σ) (c.new-places.ensures ∙ c.config-config.ensures r.0 r.1 ∙ x.2.setting) c.first.ensures.inside)
 
-pub returns-then-first-eq0 : goal.returns-then-first-eq0
-returns-then-first-eq0 g c = λ docs same.
+pub returns-then-first-eq0-clause-words : goal.returns-then-first-eq0-clause-words
+returns-then-first-eq0-clause-words g c = λ docs same.
     let hidden : IsHidden c.args.count c.load-first.result = elim c.then-first-eq0.branch [
       | then-first-eq0-via-then-first-eq0 w ↦ inl w.if-first-eq0.true
       | then-first-eq0-via-else-first-eq0+then-first-count w ↦ inr w.if-first-count.true
@@ -71,11 +72,12 @@ loop-segment-preserved g c = record {
           some_more y.0 docs c.loop-segment.firsts c.loop-segment.segment c.load-first.result (omega (arith, c.loop-segment.invariant.long, inside, is.setting.segments.1)) here (visible_word y.0 docs c.loop-segment.segment c.load-first.result is some.accepted inside value here) some,
         );
   };
+  loads = omega (arith, c.loop-segment.invariant.loads, c.load-first.ensures.step);
   within = omega (arith, c.loop-segment-test.true, c.segments.ensures);
 }
 
-pub returns : goal.returns
-returns g c = λ docs same. record {
+pub returns-clause-words : goal.returns-clause-words
+returns-clause-words g c = λ docs same. record {
   told = λ m st p.
       let x = (c.loop-segment.invariant.told docs same).told m st p in
       let setting = c.config-config.ensures m st ∙ x.2.setting in (
@@ -86,3 +88,10 @@ returns g c = λ docs same. record {
         some_all x.0 docs c.loop-segment.firsts c.loop-segment.segment (omega (arith, cut_short x.0 docs (g.met.P.Port.lawful _ x.0 x.1) x.4.accepted, c.loop-segment-test.false, c.segments.ensures, ap (λ (σ : Setting). σ.segments) setting)) x.4,
       );
 }
+
+pub returns-then-first-eq0-clause-loads : goal.returns-then-first-eq0-clause-loads
+returns-then-first-eq0-clause-loads g c = λ m st.
+    omega (arith, c.loop-segment.invariant.loads, c.load-first.ensures.step, c.loop-segment-test.true, c.segments.ensures, ap (λ (σ : Setting). σ.segments) (c.config-config.ensures m st))
+
+pub returns-clause-loads : goal.returns-clause-loads
+returns-clause-loads g c = λ m st. omega (arith, c.loop-segment.invariant.loads, c.loop-segment.invariant.within, ap (λ (σ : Setting). σ.segments) (c.config-config.ensures m st))

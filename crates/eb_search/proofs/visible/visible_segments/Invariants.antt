@@ -1,4 +1,4 @@
-use Rattle.std.proofs.Common.{◌≡◌, ◌≤◌, ◌-◌, List, length}
+use Rattle.std.proofs.Common.{◌≡◌, ◌≤◌, ◌-◌, ◌+◌, List, length}
 use mathlib.Core.List.{IsPrefix}
 use Rattle.eb_base.specs.Document.{Doc}
 use Rattle.eb_cursor.specs.Told.{Told}
@@ -11,6 +11,7 @@ invariant-loop-segment g l = record {
   told : (docs : List Doc) → length docs ≡ l.count → Told g.P.Port.stands g.P.Port.keeps l.fn.port l.port
       (λ m. IsPrefix docs m.documents.accepted)
       (λ n. AreSome n docs l.firsts l.segment);
+  loads : l.steps ≡ l.fn.steps + l.segment;
   within : l.segment ≤ l.config.segments;
 }
 

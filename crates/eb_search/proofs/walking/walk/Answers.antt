@@ -5,7 +5,7 @@ use Rattle.eb_base.specs.Match.{answer}
 use Rattle.eb_place.specs.Room.{cut}
 use Rattle.eb_place.proofs.Laters.{later_on}
 use Rattle.eb_cursor.specs.Frames.{query_of, k_of, ids_of}
-use Rattle.eb_cursor.proofs.Tellings.{told_as, told_itself}
+use Rattle.eb_cursor.proofs.Tellings.{told_itself}
 use Rattle.eb_search.specs.Visible.{documents_before}
 use Rattle.eb_search.proofs.Parts.{before_end}
 use Rattle.eb_search.proofs.Matches.{answer_first, answer_next, answer_full}
@@ -25,10 +25,12 @@ loop-segment-init g c = record {
 }
 
 pub returns-then-is_full-clause-ids : goal.returns-then-is_full-clause-ids
-returns-then-is_full-clause-ids g c = λ docs same.
-    let inv = c.loop-segment.invariant in
-    told_as g.met.P.Port.lawful (inv.told docs same) (λ m v. v)
-    (λ m n w v x. answer_full (query_of c.args.frame.now) (k_of c.args.frame.now) docs c.loop-segment.end (ids_of c.loop-segment.frame) (c.is_full.ensures.0 c.if-is_full.true ∙ inv.k) x.2)
+returns-then-is_full-clause-ids g c = λ docs same. record {
+  told = λ m st v.
+      let inv = c.loop-segment.invariant in
+      let x = (inv.told docs same).told m st v in
+      (x.0, x.1, x.2, x.3, answer_full (query_of c.args.frame.now) (k_of c.args.frame.now) docs c.loop-segment.end (ids_of c.loop-segment.frame) (c.is_full.ensures.0 c.if-is_full.true ∙ inv.k) x.4.2);
+}
 
 pub bounds-firsts-segment : goal.bounds-firsts-segment
 bounds-firsts-segment g c =
@@ -100,9 +102,10 @@ loop-segment-preserved g c =
     }
 
 pub returns-clause-ids : goal.returns-clause-ids
-returns-clause-ids g c = λ docs same.
-    told_as g.met.P.Port.lawful (c.loop-segment.invariant.told docs same) (λ m v. v)
-    (λ m n w v x.
-    let none : c.loop-segment.segment ≡ 0 = omega (arith, c.loop-segment-test.false) in
-    let first : c.loop-segment.end ≡ 0 = x.1 ∙ ap (documents_before (cut n.setting docs)) none in
-    x.2 ∙ ap (λ e. answer (query_of c.args.frame.now) (k_of c.args.frame.now) (drop e docs)) first)
+returns-clause-ids g c = λ docs same. record {
+  told = λ m st v.
+      let x = (c.loop-segment.invariant.told docs same).told m st v in
+      let none : c.loop-segment.segment ≡ 0 = omega (arith, c.loop-segment-test.false) in
+      let first : c.loop-segment.end ≡ 0 = x.4.1 ∙ ap (documents_before (cut x.0.setting docs)) none in
+      (x.0, x.1, x.2, x.3, x.4.2 ∙ ap (λ e. answer (query_of c.args.frame.now) (k_of c.args.frame.now) (drop e docs)) first);
+}
