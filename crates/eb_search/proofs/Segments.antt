@@ -46,6 +46,10 @@ visible_later m n docs firsts begun l v = record {
   words = subst (λ σ. AreFirsts σ docs firsts begun) l.setting v.words;
 }
 
+-- and their numbers
+pub start_later : (m n : Moment) (docs : List Doc) (s start : ℕ) → IsNotBefore n m → start ≡ documents_before (cut m.setting docs) s → start ≡ documents_before (cut n.setting docs) s
+start_later m n docs s start l e = e ∙ ap (λ (σ : Setting). documents_before (cut σ docs) s) l.setting
+
 -- a document of a segment lies in the table
 pub record IsLow (m : Moment) (s i : ℕ) : Type 0 where
   pub segment : s < m.setting.segments

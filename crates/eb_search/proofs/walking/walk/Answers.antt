@@ -1,5 +1,4 @@
-use Rattle.std.proofs.Common.{◌≡◌, ℕ, ◌+◌, ◌-◌, List, [], ◌++◌, length, drop, get_or, ap, sym, subst, ◌∙◌, arith, refl}
-use Rattle.eb_base.specs.Setting.{Setting}
+use Rattle.std.proofs.Common.{◌≡◌, ℕ, ◌+◌, ◌-◌, List, [], ◌++◌, length, drop, get_or, ap, sym, ◌∙◌, arith, refl}
 use Rattle.eb_base.specs.Document.{Doc}
 use Rattle.eb_base.specs.Match.{answer}
 use Rattle.eb_place.specs.Room.{cut}
@@ -9,7 +8,7 @@ use Rattle.eb_cursor.proofs.Tellings.{told_itself}
 use Rattle.eb_search.specs.Visible.{documents_before}
 use Rattle.eb_search.proofs.Parts.{before_end}
 use Rattle.eb_search.proofs.Matches.{answer_first, answer_next, answer_full}
-use Rattle.eb_search.proofs.Segments.{is_step, visible_later}
+use Rattle.eb_search.proofs.Segments.{is_step, visible_later, start_later}
 use Rattle.eb_search.proofs.walking.walk.Goals as goal
 
 pub loop-segment-init : goal.loop-segment-init
@@ -94,7 +93,7 @@ loop-segment-preserved g c =
               g.met.P.Port.keeps_on _ _ _ m x.0 y.0 x.3 y.3,
               (
                 visible_later x.0 y.0 docs c.args.firsts.now c.args.begun y.2 x.4.0,
-                subst (λ (σ : Setting). get_or c.args.firsts.now older 0 - 1 ≡ documents_before (cut σ docs) older) y.2.setting start,
+                start_later x.0 y.0 docs older (get_or c.args.firsts.now older 0 - 1) y.2 start,
                 answer_next q k docs part (get_or c.args.firsts.now older 0 - 1) c.loop-segment.end (ids_of c.loop-segment.frame) (ids_of c.take_matches.new.frame) (ap (λ n. drop n docs) start ∙ s.rest) x.4.2 more,
               ),
             );
