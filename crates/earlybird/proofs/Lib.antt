@@ -1,5 +1,14 @@
 pub mod LineKinds
-pub mod Words
 pub mod Texts
+pub mod Admissions
 pub mod Runs
 pub mod OneOutput
+pub mod OptionSteps
+pub mod OptionWalks
+pub mod OptionNames
+pub mod OptionItems
+pub mod OptionValues
+pub mod OptionLaw
+pub mod CommandNumbers
+pub mod Benches
+pub mod MadeLines

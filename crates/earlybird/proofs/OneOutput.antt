@@ -4,6 +4,7 @@ use Rattle.std.specs.Prelude.{Result, Ok, Err, nat_lt, if◌then◌else◌}
 use Rattle.std.specs.List.{AllZip}
 use Rattle.std.proofs.lemmas.Bool.{cases_Bool}
 use Rattle.eb_base.specs.Document.{Doc, bytes_of}
+use Rattle.eb_base.specs.Setting.{Setting}
 use Rattle.eb_io.specs.Lines.{Line, line, long_line, lines_of}
 use Rattle.eb_doc.specs.DocumentLine.{document_of}
 use Rattle.eb_doc.proofs.Reading.{document_of-no_memory}
@@ -16,7 +17,8 @@ use Rattle.earlybird.specs.declared.refusal.Refusal.TheVariants.{BadLine, LongLi
 use Rattle.earlybird.specs.Kinds.{Kind, blank_line, document_line, query_line, bad_line, kind_of}
 use Rattle.earlybird.specs.Reading.{Reading, blank, document, query, refused}
 use Rattle.earlybird.specs.Reads.{Reads, ReadsByKind, IsOfDocument, of_query}
-use Rattle.earlybird.specs.Session.{accepted, told, session_after}
+use Rattle.earlybird.specs.Progress.{accepted, told, progress_after}
+use Rattle.earlybird.specs.Admitted.{admitted}
 use Rattle.earlybird.specs.Text.{body, text, summary}
 use Rattle.earlybird.specs.Output.{AreRead, SeesInOrder, IsTextOf, IsOutput}
 use Rattle.earlybird.proofs.Texts.{body_same}
@@ -40,21 +42,24 @@ one_reading : (l : Line) (a b : Reading) → Reads l a → Reads l b → a ≡ b
 one_reading (line bytes) a b e f = one_by_kind (kind_of bytes) bytes a b e f
 one_reading long_line a b e f = e ∙ sym f
 
-all_read : (ls : List Line) (rs ss : List Reading) → AreRead ls rs → AreRead ls ss → rs ≡ ss
-all_read [] [] [] e f = refl
-all_read [] [] (s ∷ ss) e f = absurd f
-all_read [] (r ∷ rs) ss e f = absurd e
-all_read (l ∷ ls) [] ss e f = absurd e
-all_read (l ∷ ls) (r ∷ rs) [] e f = absurd f
-all_read (l ∷ ls) (r ∷ rs) (s ∷ ss) e f = ap₂ (λ x xs. x ∷ xs) (one_reading l r s e.0 f.0) (all_read ls rs ss e.1 f.1)
+raw_same : (ls : List Line) (rs ss : List Reading) → AllZip Reads ls rs → AllZip Reads ls ss → rs ≡ ss
+raw_same [] [] [] e f = refl
+raw_same [] [] (s ∷ ss) e f = absurd f
+raw_same [] (r ∷ rs) ss e f = absurd e
+raw_same (l ∷ ls) [] ss e f = absurd e
+raw_same (l ∷ ls) (r ∷ rs) [] e f = absurd f
+raw_same (l ∷ ls) (r ∷ rs) (s ∷ ss) e f = ap₂ (λ x xs. x ∷ xs) (one_reading l r s e.0 f.0) (raw_same ls rs ss e.1 f.1)
+
+all_read : (σ : Setting) (ls : List Line) (rs ss : List Reading) → AreRead σ ls rs → AreRead σ ls ss → rs ≡ ss
+all_read σ ls rs ss e f = e.2 ∙ ap (admitted σ) (raw_same ls e.0 f.0 e.1 f.1) ∙ sym f.2
 
 -- the text by the numbers in order
 in_order : (n : ℕ → ℕ) (rs : List Reading) → SeesInOrder rs n → text n rs ≡ text (told rs) rs
-in_order n rs order = ap (λ b. b ++ summary (session_after rs)) (body_same n (told rs) (accepted rs) (accepted rs) 0 rs (λ i low high. (order i, refl)))
+in_order n rs order = ap (λ b. b ++ summary (progress_after rs)) (body_same n (told rs) (accepted rs) (accepted rs) 0 rs (λ i low high. (order i, refl)))
 
-pub one_text_of : (lines : List Line) (a b : List ℕ) → IsTextOf lines a → IsTextOf lines b → a ≡ b
-one_text_of lines a b p q =
-    let same = all_read lines p.readings q.readings p.read q.read in
+pub one_text_of : (σ : Setting) (lines : List Line) (a b : List ℕ) → IsTextOf σ lines a → IsTextOf σ lines b → a ≡ b
+one_text_of σ lines a b p q =
+    let same = all_read σ lines p.readings q.readings p.read q.read in
     p.bytes ∙ in_order p.numbers p.readings p.order ∙ ap (λ rs. text (told rs) rs) same ∙ sym (q.bytes ∙ in_order q.numbers q.readings q.order)
 
 -- ---- a line has a reading
@@ -76,11 +81,12 @@ some_reading : (l : Line) → (r : Reading) × Reads l r
 some_reading (line bytes) = some_by_kind (kind_of bytes) bytes
 some_reading long_line = (refused LongLine, refl)
 
-some_read : (ls : List Line) → (rs : List Reading) × AreRead ls rs
+pub some_read : (ls : List Line) → (rs : List Reading) × AllZip Reads ls rs
 some_read [] = ([], tt)
 some_read (l ∷ ls) = let r = some_reading l in let rs = some_read ls in (r.0 ∷ rs.0, (r.1, rs.1))
 
-pub some_text_of : (lines : List Line) → (printed : List ℕ) × IsTextOf lines printed
-some_text_of lines =
-    let rs = some_read lines in
-    (text (told rs.0) rs.0, record { readings = rs.0; numbers = told rs.0; read = rs.1; order = λ j. refl; bytes = refl })
+pub some_text_of : (σ : Setting) (lines : List Line) → (printed : List ℕ) × IsTextOf σ lines printed
+some_text_of σ lines =
+    let raw = some_read lines in
+    let rs = admitted σ raw.0 in
+    (text (told rs) rs, record { readings = rs; numbers = told rs; read = (raw.0, raw.1, refl); order = λ j. refl; bytes = refl })

@@ -3,8 +3,8 @@ use Rattle.std.proofs.Common.{◌≡◌, ℕ, ◌+◌, ◌<◌, ◌≤◌, ◌�
 use Rattle.std.specs.Prelude.{Err, ◌==◌}
 use Rattle.std.proofs.lemmas.List.{take-append-drop, length-map}
 use Rattle.std.proofs.lemmas.Bool.{cases_Bool}
-use Rattle.std.proofs.lemmas.Slice.Zip.{AllZip-long}
 use Rattle.std.proofs.Math.Seq.{take-append_seam}
+use Rattle.eb_base.specs.Setting.{Setting}
 use Rattle.eb_io.specs.Lines.{Line, lines_of, whole_lines, pieces, begun_by, line_from}
 use Rattle.eb_io.specs.Held.{Held, HasGiven, HasNoLine, HasAllLines}
 use Rattle.eb_io.specs.Source.{after, IsEmpty}
@@ -16,11 +16,13 @@ use Rattle.earlybird.specs.declared.status.Status.TheVariants.{Done, Refused, Us
 use Rattle.earlybird.specs.declared.status.TheConstants.{MAX_INPUT}
 use Rattle.earlybird.specs.Reading.{Reading}
 use Rattle.earlybird.specs.Reads.{Reads}
-use Rattle.earlybird.specs.Session.{Session, accepted, refusals, told, session_after, with_line, nothing}
+use Rattle.earlybird.specs.Progress.{Progress, accepted, refusals, told, progress_after, with_line, nothing}
 use Rattle.earlybird.specs.Text.{body, summary, output_of}
 use Rattle.earlybird.specs.Output.{AreRead, IsBodyOf, IsTextOf, HasRefusal, HasNoRefusal, IsPartOfOutput, Wrote, IsWorkedOff}
 use Rattle.earlybird.specs.Worked.{IsAt, Prints, Closes, AreFirst, IsPart, EndsAs, Ends}
-use Rattle.earlybird.proofs.Texts.{session_after-push, session_after-nil, body-push, body-nil}
+use Rattle.earlybird.specs.Admitted.{admit}
+use Rattle.earlybird.proofs.Admissions.{read_none, read_push, read_long}
+use Rattle.earlybird.proofs.Texts.{progress_after-push, progress_after-nil, body-push, body-nil}
 
 -- ---- how many lines there are
 
@@ -42,19 +44,13 @@ lines_few taken given h g =
     let bytes = ap length g.bytes in
     omega (arith, few, cut, ap length g.lines, bytes, length-append g.front (g.begun ++ h.rest), g.count)
 
--- ---- lines that are read, with one more
+-- ---- the text of lines that are read
 
-read_push : (ls : List Line) (rs : List Reading) (l : Line) (r : Reading) → AreRead ls rs → Reads l r → AreRead (ls ++ l ∷ []) (rs ++ r ∷ [])
-read_push [] [] l r h e = (e, tt)
-read_push [] (s ∷ rs) l r h e = absurd h
-read_push (k ∷ ls) [] l r h e = absurd h
-read_push (k ∷ ls) (s ∷ rs) l r h e = (h.0, read_push ls rs l r h.1 e)
+text_of : (σ : Setting) (lines : List Line) (rs : List Reading) → AreRead σ lines rs → IsTextOf σ lines (body (told rs) rs ++ summary (progress_after rs))
+text_of σ lines rs read = record { readings = rs; numbers = told rs; read = read; order = λ j. refl; bytes = refl }
 
-text_of : (lines : List Line) (rs : List Reading) → AreRead lines rs → IsTextOf lines (body (told rs) rs ++ summary (session_after rs))
-text_of lines rs read = record { readings = rs; numbers = told rs; read = read; order = λ j. refl; bytes = refl }
-
-body_of : (lines : List Line) (rs : List Reading) → AreRead lines rs → IsBodyOf lines (body (told rs) rs)
-body_of lines rs read = record { readings = rs; numbers = told rs; read = read; order = λ j. refl; bytes = refl }
+body_of : (σ : Setting) (lines : List Line) (rs : List Reading) → AreRead σ lines rs → IsBodyOf σ lines (body (told rs) rs)
+body_of σ lines rs read = record { readings = rs; numbers = told rs; read = read; order = λ j. refl; bytes = refl }
 
 -- ---- the lines given are first lines
 
@@ -77,8 +73,8 @@ first_before given l taken left f = λ rest e. let m = f rest e in (l ∷ m.0, m
 
 -- ---- from line to line
 
-pub at_start : (left printed : Option (List ℕ)) (h : Held) (s : Session) → HasGiven [] [] h → h.limit ≡ MAX_INPUT → h.taken ≡ 0 → h.is_ended ≡ false → s ≡ nothing → IsAt left left printed printed h s
-at_start left printed h s g limit none open_end known = record {
+pub at_start : (σ : Setting) (left printed : Option (List ℕ)) (h : Held) (s : Progress) → HasGiven [] [] h → h.limit ≡ MAX_INPUT → h.taken ≡ 0 → h.is_ended ≡ false → s ≡ nothing → IsAt σ left left printed printed h s
+at_start σ left printed h s g limit none open_end known = record {
   taken = [];
   given = [];
   readings = [];
@@ -87,19 +83,19 @@ at_start left printed h s g limit none open_end known = record {
   limit = limit;
   within = omega (arith, none);
   ended = λ e. let no : ⊥ = cc in absurd no;
-  read = tt;
-  known = known ∙ sym session_after-nil;
+  read = read_none σ;
+  known = known ∙ sym progress_after-nil;
   printed = sym (ap (grown printed) body-nil ∙ grown-nil printed);
 }
 
-pub at_few : (l0 l1 p0 p1 : Option (List ℕ)) (h : Held) (s : Session) → IsAt l0 l1 p0 p1 h s → s.lines ≤ MAX_INPUT
-unfolding session_after
-at_few l0 l1 p0 p1 h s a =
-    let lines = ap (λ (x : Session). x.lines) a.known in
-    let long = AllZip-long Reads a.given a.readings a.read in
+pub at_few : (σ : Setting) (l0 l1 p0 p1 : Option (List ℕ)) (h : Held) (s : Progress) → IsAt σ l0 l1 p0 p1 h s → s.lines ≤ MAX_INPUT
+unfolding progress_after
+at_few σ l0 l1 p0 p1 h s a =
+    let lines = ap (λ (x : Progress). x.lines) a.known in
+    let long = read_long σ a.given a.readings a.read in
     omega (arith, lines, long, lines_few a.taken a.given h a.lines, a.within, a.limit)
 
-module _ (l0 l1 l2 p0 p1 p2 : Option (List ℕ)) (h g : Held) (s t : Session) (a : IsAt l0 l1 p0 p1 h s) (seen : List ℕ) (left : l1 ≡ after seen l2)
+module _ (σ : Setting) (l0 l1 l2 p0 p1 p2 : Option (List ℕ)) (h g : Held) (s t : Progress) (a : IsAt σ l0 l1 p0 p1 h s) (seen : List ℕ) (left : l1 ≡ after seen l2)
     (ended : g.is_ended ≡ true → (h.is_ended ≡ true) ⊎ IsEmpty l2) (same : h.is_ended ≡ true → l2 ≡ l1) where
   left_all : l0 ≡ after (a.taken ++ seen) l2
   left_all = a.left ∙ ap (after a.taken) left ∙ after-after a.taken seen l2
@@ -109,27 +105,36 @@ module _ (l0 l1 l2 p0 p1 p2 : Option (List ℕ)) (h g : Held) (s t : Session) (a
 
   -- the output of one line, after the session
   output_is : (r : Reading) → output_of (s.lines + 1) (length s.documents) s.documents r ≡ output_of (length a.readings + 1) (length (accepted a.readings)) (accepted a.readings) r
-  unfolding session_after
-  output_is r = ap (λ (x : Session). output_of (x.lines + 1) (length x.documents) x.documents r) a.known
+  unfolding progress_after
+  output_is r = ap (λ (x : Progress). output_of (x.lines + 1) (length x.documents) x.documents r) a.known
+
+  -- the line in the index, after the progress
+  comes_to : (r : Reading) → admit σ s.documents r ≡ admit σ (accepted a.readings) r
+  unfolding progress_after
+  comes_to r = ap (λ (x : Progress). admit σ x.documents r) a.known
+
+  line_is : (r : Reading) → output_of (s.lines + 1) (length s.documents) s.documents (admit σ s.documents r)
+      ≡ output_of (length a.readings + 1) (length (accepted a.readings)) (accepted a.readings) (admit σ (accepted a.readings) r)
+  line_is r = output_is (admit σ s.documents r) ∙ ap (output_of (length a.readings + 1) (length (accepted a.readings)) (accepted a.readings)) (comes_to r)
 
   pub at_next : (l : Line) (r : Reading) → HasGiven (a.taken ++ seen) (a.given ++ l ∷ []) g → Reads l r → g.limit ≡ h.limit → g.taken ≤ g.limit
-      → t ≡ with_line s r → p2 ≡ grown p1 (output_of (s.lines + 1) (length s.documents) s.documents r) → IsAt l0 l2 p0 p2 g t
+      → t ≡ with_line s (admit σ s.documents r) → p2 ≡ grown p1 (output_of (s.lines + 1) (length s.documents) s.documents (admit σ s.documents r)) → IsAt σ l0 l2 p0 p2 g t
   at_next l r lines read limit within known printed = record {
     taken = a.taken ++ seen;
     given = a.given ++ l ∷ [];
-    readings = a.readings ++ r ∷ [];
+    readings = a.readings ++ admit σ (accepted a.readings) r ∷ [];
     left = left_all;
     lines = lines;
     limit = limit ∙ a.limit;
     within = within;
     ended = is_empty;
-    read = read_push a.given a.readings l r a.read read;
-    known = known ∙ ap (λ x. with_line x r) a.known ∙ sym (session_after-push a.readings r);
-    printed = printed ∙ ap₂ grown a.printed (output_is r) ∙ grown-grown p0 _ _ ∙ ap (grown p0) (sym (body-push a.readings r));
+    read = read_push σ a.given a.readings l r a.read read;
+    known = known ∙ ap (with_line s) (comes_to r) ∙ ap (λ x. with_line x (admit σ (accepted a.readings) r)) a.known ∙ sym (progress_after-push a.readings (admit σ (accepted a.readings) r));
+    printed = printed ∙ ap₂ grown a.printed (line_is r) ∙ grown-grown p0 _ _ ∙ ap (grown p0) (sym (body-push a.readings (admit σ (accepted a.readings) r)));
   }
 
   -- the first lines, of which `printed` is a front of the text
-  part_before : (l : Line) → HasGiven (a.taken ++ seen) (a.given ++ l ∷ []) g → p2 ≡ p1 → Ends NoMemory l0 l2 p0 p2
+  part_before : (l : Line) → HasGiven (a.taken ++ seen) (a.given ++ l ∷ []) g → p2 ≡ p1 → Ends σ NoMemory l0 l2 p0 p2
   part_before l lines nothing_more = record {
     taken = a.taken ++ seen;
     printed = body (told a.readings) a.readings;
@@ -137,39 +142,40 @@ module _ (l0 l1 l2 p0 p1 p2 : Option (List ℕ)) (h g : Held) (s t : Session) (a
     put = nothing_more ∙ a.printed;
     ends = record {
       lines = a.given;
-      whole = body (told a.readings) a.readings ++ summary (session_after a.readings);
-      more = summary (session_after a.readings);
+      whole = body (told a.readings) a.readings ++ summary (progress_after a.readings);
+      more = summary (progress_after a.readings);
       first = first_before a.given l (a.taken ++ seen) l2 (first_given (a.taken ++ seen) (a.given ++ l ∷ []) g l2 lines is_empty);
-      text = text_of a.given a.readings a.read;
+      text = text_of σ a.given a.readings a.read;
       front = refl;
     };
   }
 
   -- memory ran out while a line was read
-  pub ends_unread : (l : Line) → HasGiven (a.taken ++ seen) (a.given ++ l ∷ []) g → p2 ≡ p1 → Ends NoMemory l0 l2 p0 p2
+  pub ends_unread : (l : Line) → HasGiven (a.taken ++ seen) (a.given ++ l ∷ []) g → p2 ≡ p1 → Ends σ NoMemory l0 l2 p0 p2
   ends_unread l lines nothing_more = part_before l lines nothing_more
 
   -- a line wasn't printed whole
   pub ends_unprinted : (A : Type 0) (status : Status) (l : Line) (r : Reading) → HasGiven (a.taken ++ seen) (a.given ++ l ∷ []) g → Reads l r
-      → Prints {A = A} (Err status) (output_of (s.lines + 1) (length s.documents) s.documents r) p1 p2 → Ends status l0 l2 p0 p2
+      → Prints {A = A} (Err status) (output_of (s.lines + 1) (length s.documents) s.documents (admit σ s.documents r)) p1 p2 → Ends σ status l0 l2 p0 p2
   ends_unprinted A WriteFault l r lines read prints =
-      let output = output_of (length a.readings + 1) (length (accepted a.readings)) (accepted a.readings) r in
+      let q = admit σ (accepted a.readings) r in
+      let output = output_of (length a.readings + 1) (length (accepted a.readings)) (accepted a.readings) q in
       let own = body (told a.readings) a.readings in
-      let rs = a.readings ++ r ∷ [] in
-      let sum = summary (session_after rs) in
+      let rs = a.readings ++ q ∷ [] in
+      let sum = summary (progress_after rs) in
       let n = prints.0 in
       record {
         taken = a.taken ++ seen;
         printed = own ++ take n output;
         left = left_all;
-        put = prints.1 ∙ ap₂ grown a.printed (ap (take n) (output_is r)) ∙ grown-grown p0 own (take n output);
+        put = prints.1 ∙ ap₂ grown a.printed (ap (take n) (line_is r)) ∙ grown-grown p0 own (take n output);
         ends = record {
           lines = a.given ++ l ∷ [];
           whole = body (told rs) rs ++ sum;
           more = drop n output ++ sum;
           first = first_given (a.taken ++ seen) (a.given ++ l ∷ []) g l2 lines is_empty;
-          text = text_of (a.given ++ l ∷ []) rs (read_push a.given a.readings l r a.read read);
-          front = ap (λ b. b ++ sum) (body-push a.readings r) ∙ ap (λ o. (own ++ o) ++ sum) (sym (take-append-drop n output))
+          text = text_of σ (a.given ++ l ∷ []) rs (read_push σ a.given a.readings l r a.read read);
+          front = ap (λ b. b ++ sum) (body-push a.readings q) ∙ ap (λ o. (own ++ o) ++ sum) (sym (take-append-drop n output))
               ∙ ap (λ b. b ++ sum) (sym (append_assoc own (take n output) (drop n output))) ∙ append_assoc (own ++ take n output) (drop n output) sum;
         };
       }
@@ -180,10 +186,10 @@ module _ (l0 l1 l2 p0 p1 p2 : Option (List ℕ)) (h g : Held) (s t : Session) (a
   ends_unprinted A ReadFault l r lines read prints = absurd prints
   ends_unprinted A TooLong l r lines read prints = absurd prints
 
-  body_of_whole : HasNoLine (a.taken ++ seen) a.given g → IsBodyOf (whole_lines (a.taken ++ seen)) (body (told a.readings) a.readings)
-  body_of_whole lines = subst (λ ls. IsBodyOf ls (body (told a.readings) a.readings)) (sym lines.whole) (body_of a.given a.readings a.read)
+  body_of_whole : HasNoLine (a.taken ++ seen) a.given g → IsBodyOf σ (whole_lines (a.taken ++ seen)) (body (told a.readings) a.readings)
+  body_of_whole lines = subst (λ ls. IsBodyOf σ ls (body (told a.readings) a.readings)) (sym lines.whole) (body_of σ a.given a.readings a.read)
 
-  pub ends_at_fault : HasNoLine (a.taken ++ seen) a.given g → p2 ≡ p1 → Ends ReadFault l0 l2 p0 p2
+  pub ends_at_fault : HasNoLine (a.taken ++ seen) a.given g → p2 ≡ p1 → Ends σ ReadFault l0 l2 p0 p2
   ends_at_fault lines nothing_more = record {
     taken = a.taken ++ seen;
     printed = body (told a.readings) a.readings;
@@ -192,7 +198,7 @@ module _ (l0 l1 l2 p0 p1 p2 : Option (List ℕ)) (h g : Held) (s t : Session) (a
     ends = body_of_whole lines;
   }
 
-  pub ends_too_long : HasNoLine (a.taken ++ seen) a.given g → length (a.taken ++ seen) ≡ g.limit → g.limit ≡ h.limit → p2 ≡ p1 → Ends TooLong l0 l2 p0 p2
+  pub ends_too_long : HasNoLine (a.taken ++ seen) a.given g → length (a.taken ++ seen) ≡ g.limit → g.limit ≡ h.limit → p2 ≡ p1 → Ends σ TooLong l0 l2 p0 p2
   ends_too_long lines long limit nothing_more = record {
     taken = a.taken ++ seen;
     printed = body (told a.readings) a.readings;
@@ -202,19 +208,19 @@ module _ (l0 l1 l2 p0 p1 p2 : Option (List ℕ)) (h g : Held) (s t : Session) (a
   }
 
   -- the end of the input
-  whole_text : HasAllLines (a.taken ++ seen) a.given g → IsTextOf (lines_of (a.taken ++ seen)) (body (told a.readings) a.readings ++ summary s)
+  whole_text : HasAllLines (a.taken ++ seen) a.given g → IsTextOf σ (lines_of (a.taken ++ seen)) (body (told a.readings) a.readings ++ summary s)
   whole_text lines =
-      let T : List Line → Type 0 = λ ls. IsTextOf ls (body (told a.readings) a.readings ++ summary (session_after a.readings)) in
-      subst (λ x. IsTextOf (lines_of (a.taken ++ seen)) (body (told a.readings) a.readings ++ summary x)) (sym a.known) (subst T (sym lines.all) (text_of a.given a.readings a.read))
+      let T : List Line → Type 0 = λ ls. IsTextOf σ ls (body (told a.readings) a.readings ++ summary (progress_after a.readings)) in
+      subst (λ x. IsTextOf σ (lines_of (a.taken ++ seen)) (body (told a.readings) a.readings ++ summary x)) (sym a.known) (subst T (sym lines.all) (text_of σ a.given a.readings a.read))
 
-  read_all : HasAllLines (a.taken ++ seen) a.given g → AreRead (lines_of (a.taken ++ seen)) a.readings
-  read_all lines = subst (λ ls. AreRead ls a.readings) (sym lines.all) a.read
+  read_all : HasAllLines (a.taken ++ seen) a.given g → AreRead σ (lines_of (a.taken ++ seen)) a.readings
+  read_all lines = subst (λ ls. AreRead σ ls a.readings) (sym lines.all) a.read
 
   refused_is : s.refused ≡ refusals a.readings
-  unfolding session_after
-  refused_is = ap (λ (x : Session). x.refused) a.known
+  unfolding progress_after
+  refused_is = ap (λ (x : Progress). x.refused) a.known
 
-  pub ends_closed : (status : Status) → HasAllLines (a.taken ++ seen) a.given g → Closes status s p1 p2 → Ends status l0 l2 p0 p2
+  pub ends_closed : (status : Status) → HasAllLines (a.taken ++ seen) a.given g → Closes status s.refused (summary s) p1 p2 → Ends σ status l0 l2 p0 p2
   ends_closed Done lines closes = record {
     taken = a.taken ++ seen;
     printed = body (told a.readings) a.readings ++ summary s;
@@ -239,10 +245,10 @@ module _ (l0 l1 l2 p0 p1 p2 : Option (List ℕ)) (h g : Held) (s t : Session) (a
         put = closes.1 ∙ ap (λ p. grown p (take n (summary s))) a.printed ∙ grown-grown p0 _ _;
         ends = record {
           lines = a.given;
-          whole = own ++ summary (session_after a.readings);
+          whole = own ++ summary (progress_after a.readings);
           more = drop n (summary s);
           first = first_given (a.taken ++ seen) a.given g l2 lines.has is_empty;
-          text = text_of a.given a.readings a.read;
+          text = text_of σ a.given a.readings a.read;
           front = ap (λ x. own ++ summary x) (sym a.known) ∙ ap (λ o. own ++ o) (sym (take-append-drop n (summary s))) ∙ sym (append_assoc own (take n (summary s)) (drop n (summary s)));
         };
       }
@@ -253,10 +259,10 @@ module _ (l0 l1 l2 p0 p1 p2 : Option (List ℕ)) (h g : Held) (s t : Session) (a
     put = closes ∙ a.printed;
     ends = record {
       lines = a.given;
-      whole = body (told a.readings) a.readings ++ summary (session_after a.readings);
-      more = summary (session_after a.readings);
+      whole = body (told a.readings) a.readings ++ summary (progress_after a.readings);
+      more = summary (progress_after a.readings);
       first = first_given (a.taken ++ seen) a.given g l2 lines.has is_empty;
-      text = text_of a.given a.readings a.read;
+      text = text_of σ a.given a.readings a.read;
       front = refl;
     };
   }
@@ -265,18 +271,18 @@ module _ (l0 l1 l2 p0 p1 p2 : Option (List ℕ)) (h g : Held) (s t : Session) (a
   ends_closed TooLong lines closes = absurd closes
 
 -- no memory for the first line
-pub ends_at_once : (left printed : Option (List ℕ)) → Ends NoMemory left left printed printed
-ends_at_once left printed = record {
+pub ends_at_once : (σ : Setting) (left printed : Option (List ℕ)) → Ends σ NoMemory left left printed printed
+ends_at_once σ left printed = record {
   taken = [];
   printed = [];
   left = sym (after-nil left);
   put = sym (grown-nil printed);
   ends = record {
     lines = [];
-    whole = body (told []) [] ++ summary (session_after []);
-    more = body (told []) [] ++ summary (session_after []);
+    whole = body (told []) [] ++ summary (progress_after []);
+    more = body (told []) [] ++ summary (progress_after []);
     first = λ rest e. (lines_of rest, refl);
-    text = text_of [] [] tt;
+    text = text_of σ [] [] (read_none σ);
     front = refl;
   };
 }
@@ -287,15 +293,15 @@ drop_told : (bytes taken : List ℕ) (l1 : Option (List ℕ)) → after taken l1
 drop_told bytes taken None e = let no : ⊥ = cc in absurd no
 drop_told bytes taken (Some rest) e = (rest, refl, (let same : taken ++ rest ≡ bytes = cc in same))
 
-part_told : (bytes taken rest printed : List ℕ) (l1 : Option (List ℕ)) → l1 ≡ Some rest → taken ++ rest ≡ bytes → IsPart taken l1 printed → IsPartOfOutput bytes printed
-part_told bytes taken rest printed l1 still all p =
+part_told : (σ : Setting) (bytes taken rest printed : List ℕ) (l1 : Option (List ℕ)) → l1 ≡ Some rest → taken ++ rest ≡ bytes → IsPart σ taken l1 printed → IsPartOfOutput σ bytes printed
+part_told σ bytes taken rest printed l1 still all p =
     let first = p.first rest still in
     let front : take (length p.lines) (lines_of bytes) ≡ p.lines = ap (λ b. take (length p.lines) (lines_of b)) (sym all) ∙ ap (take (length p.lines)) first.1 ∙ take-append_seam p.lines first.0 in
     record {
       count = length p.lines;
       whole = p.whole;
       more = p.more;
-      text = subst (λ ls. IsTextOf ls p.whole) (sym front) p.text;
+      text = subst (λ ls. IsTextOf σ ls p.whole) (sym front) p.text;
       front = p.front;
     }
 
@@ -305,29 +311,29 @@ all_told bytes taken rest l1 still all empty =
     let none : rest ≡ [] = subst E still empty in
     (still ∙ ap Some none, sym (append-nil taken) ∙ ap (λ r. taken ++ r) (sym none) ∙ all)
 
-wrote : (status : Status) (bytes taken rest printed : List ℕ) (l1 : Option (List ℕ)) → l1 ≡ Some rest → taken ++ rest ≡ bytes → EndsAs status taken l1 printed → Wrote status bytes l1 printed
-wrote Done bytes taken rest printed l1 still all e =
+wrote : (σ : Setting) (status : Status) (bytes taken rest printed : List ℕ) (l1 : Option (List ℕ)) → l1 ≡ Some rest → taken ++ rest ≡ bytes → EndsAs σ status taken l1 printed → Wrote σ status bytes l1 printed
+wrote σ Done bytes taken rest printed l1 still all e =
     let whole = all_told bytes taken rest l1 still all e.0 in
-    (whole.0, subst (λ b. IsTextOf (lines_of b) printed) whole.1 e.1, subst (λ b. HasNoRefusal (lines_of b)) whole.1 e.2)
-wrote Refused bytes taken rest printed l1 still all e =
+    (whole.0, subst (λ b. IsTextOf σ (lines_of b) printed) whole.1 e.1, subst (λ b. HasNoRefusal σ (lines_of b)) whole.1 e.2)
+wrote σ Refused bytes taken rest printed l1 still all e =
     let whole = all_told bytes taken rest l1 still all e.0 in
-    (whole.0, subst (λ b. IsTextOf (lines_of b) printed) whole.1 e.1, subst (λ b. HasRefusal (lines_of b)) whole.1 e.2)
-wrote ReadFault bytes taken rest printed l1 still all e = (taken, record { rest = rest; whole = sym all; still = still; body = e })
-wrote TooLong bytes taken rest printed l1 still all e = (taken, record { rest = rest; whole = sym all; still = still; body = e.0 }, e.1)
-wrote WriteFault bytes taken rest printed l1 still all e = part_told bytes taken rest printed l1 still all e
-wrote NoMemory bytes taken rest printed l1 still all e = part_told bytes taken rest printed l1 still all e
-wrote Usage bytes taken rest printed l1 still all e = absurd e
+    (whole.0, subst (λ b. IsTextOf σ (lines_of b) printed) whole.1 e.1, subst (λ b. HasRefusal σ (lines_of b)) whole.1 e.2)
+wrote σ ReadFault bytes taken rest printed l1 still all e = (taken, record { rest = rest; whole = sym all; still = still; body = e })
+wrote σ TooLong bytes taken rest printed l1 still all e = (taken, record { rest = rest; whole = sym all; still = still; body = e.0 }, e.1)
+wrote σ WriteFault bytes taken rest printed l1 still all e = part_told σ bytes taken rest printed l1 still all e
+wrote σ NoMemory bytes taken rest printed l1 still all e = part_told σ bytes taken rest printed l1 still all e
+wrote σ Usage bytes taken rest printed l1 still all e = absurd e
 
-pub ends_told : (status : Status) (l0 l1 p0 p1 : Option (List ℕ)) (bytes before : List ℕ) → Ends status l0 l1 p0 p1 → l0 ≡ Some bytes → p0 ≡ Some before
-    → (printed : List ℕ) × (p1 ≡ Some (before ++ printed)) × Wrote status bytes l1 printed
-ends_told status l0 l1 p0 p1 bytes before e source sink =
+pub ends_told : (σ : Setting) (status : Status) (l0 l1 p0 p1 : Option (List ℕ)) (bytes before : List ℕ) → Ends σ status l0 l1 p0 p1 → l0 ≡ Some bytes → p0 ≡ Some before
+    → (printed : List ℕ) × (p1 ≡ Some (before ++ printed)) × Wrote σ status bytes l1 printed
+ends_told σ status l0 l1 p0 p1 bytes before e source sink =
     let d = drop_told bytes e.taken l1 (sym e.left ∙ source) in
-    (e.printed, e.put ∙ ap (λ p. grown p e.printed) sink, wrote status bytes e.taken d.0 e.printed l1 d.1 d.2 e.ends)
+    (e.printed, e.put ∙ ap (λ p. grown p e.printed) sink, wrote σ status bytes e.taken d.0 e.printed l1 d.1 d.2 e.ends)
 
 -- ---- a run ends in time
 
-module _ (l0 l1 p0 p1 : Option (List ℕ)) (read_rose write_rose : Type 0) (bytes : List ℕ) where
-  pub completes : (status : Status) → Ends status l0 l1 p0 p1 → (status ≡ ReadFault → read_rose) → (status ≡ WriteFault → write_rose)
+module _ (σ : Setting) (l0 l1 p0 p1 : Option (List ℕ)) (read_rose write_rose : Type 0) (bytes : List ℕ) where
+  pub completes : (status : Status) → Ends σ status l0 l1 p0 p1 → (status ≡ ReadFault → read_rose) → (status ≡ WriteFault → write_rose)
       → (read_rose → ⊥) → (write_rose → ⊥) → l0 ≡ Some bytes → length bytes < MAX_INPUT → IsWorkedOff status
   completes Done e f g no_read no_write source short = inl refl
   completes Refused e f g no_read no_write source short = inr (inl refl)

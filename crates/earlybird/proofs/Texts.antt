@@ -6,7 +6,7 @@ use Rattle.std.proofs.Math.Seq.{take-length}
 use Rattle.eb_base.specs.Document.{Doc}
 use Rattle.eb_base.specs.Match.{answer}
 use Rattle.earlybird.specs.Reading.{Reading, blank, document, query, refused}
-use Rattle.earlybird.specs.Session.{documents_in, is_query, is_refused, accepted, queries, refusals, told, session_after, one_if, with_line, nothing}
+use Rattle.earlybird.specs.Progress.{documents_in, is_query, is_refused, accepted, queries, refusals, told, progress_after, one_if, with_line, nothing}
 use Rattle.earlybird.specs.Text.{output_of, body_from, body, answer_line}
 
 flat_map-push : (rs : List Reading) (r : Reading) → flat_map documents_in (rs ++ r ∷ []) ≡ flat_map documents_in rs ++ documents_in r
@@ -25,15 +25,15 @@ accepted-append (r ∷ rs) ss = ap (λ ds. documents_in r ++ ds) (accepted-appen
 count_push : (p : Reading → Bool) (rs : List Reading) (r : Reading) → count_by p (rs ++ r ∷ []) ≡ count_by p rs + one_if (p r)
 count_push p rs r = sum_by-append (λ x. one_if (p x)) rs (r ∷ []) ∙ ap (λ n. count_by p rs + n) (zero-add (one_if (p r)))
 
-pub session_after-push : (rs : List Reading) (r : Reading) → session_after (rs ++ r ∷ []) ≡ with_line (session_after rs) r
-unfolding session_after queries refusals
-session_after-push rs r =
+pub progress_after-push : (rs : List Reading) (r : Reading) → progress_after (rs ++ r ∷ []) ≡ with_line (progress_after rs) r
+unfolding progress_after queries refusals
+progress_after-push rs r =
     let counted : length (rs ++ r ∷ []) ≡ length rs + 1 = length-append rs (r ∷ []) in
     rw (counted, accepted-push rs r, count_push is_query rs r, count_push is_refused rs r) refl
 
-pub session_after-nil : session_after [] ≡ nothing
-unfolding session_after accepted queries refusals
-session_after-nil = refl
+pub progress_after-nil : progress_after [] ≡ nothing
+unfolding progress_after accepted queries refusals
+progress_after-nil = refl
 
 -- ---- what an answer sees
 

@@ -1,11 +1,15 @@
 pub mod Kinds
 pub mod Reading
 pub mod Reads
-pub mod Session
+pub mod Progress
 pub mod Text
 pub mod Works
+pub mod Admitted
+pub mod Session
 pub mod Output
 pub mod Worked
 pub mod Command
+pub mod Bench
+pub mod Options
 pub mod StatusLine
 pub mod Laws

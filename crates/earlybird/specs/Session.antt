@@ -1,66 +1,50 @@
--- What is known after some lines: how many they are, and what they were.
-use Rattle.std.specs.Prelude.{ℕ, ◌+◌, Bool, true, false, List, [], ◌∷◌, ◌++◌, length, count_by, flat_map, take, if◌then◌else◌}
+-- What the index of a run holds, and what becomes of a line.
+use Rattle.std.specs.Prelude.{◌≡◌, ℕ, ◌≤◌, Bool, true, false, List, [], ◌∷◌, ◌++◌, length}
 use Rattle.eb_base.specs.Document.{Doc}
+use Rattle.eb_base.specs.Setting.{Setting}
+use Rattle.eb_base.specs.Match.{answer}
+use Rattle.eb_place.specs.declared.moment.Moment.{Moment}
+use Rattle.eb_place.specs.Room.{has_room}
+use Rattle.eb_flat.specs.Flat.{StandsFor}
+use Rattle.eb_writer.specs.Progress.{Stands}
+use Rattle.eb_cursor.specs.Frames.{ids_of}
+use Rattle.earlybird.specs.declared.session.Session.{Session}
+use Rattle.earlybird.specs.declared.session.Outcome.{Outcome}
+use Rattle.earlybird.specs.declared.session.Outcome.TheVariants.{Nothing, Answered, Refused}
 use Rattle.earlybird.specs.Reading.{Reading, blank, document, query, refused}
+use Rattle.earlybird.specs.Progress.{Progress}
 
--- the document of a line, if it is one
-abbrev pub documents_in : Reading → List Doc
-documents_in blank = []
-documents_in (document d) = d ∷ []
-documents_in (query k q) = []
-documents_in (refused r) = []
+-- the session has come so far, in an index of this setting: at some moment that its words and its placer stand for,
+-- the accepted documents are those of the run
+pub record HasCome (s : Session) (σ : Setting) (p : Progress) : Type 0 where
+  pub moment : Moment
+  pub setting : moment.setting ≡ σ
+  pub words : StandsFor s.words moment
+  pub placer : Stands s.placer moment
+  pub accepted : moment.documents.accepted ≡ p.documents
+  pub documents : s.documents ≡ length p.documents
+  pub lines : s.lines ≡ p.lines
+  pub queries : s.queries ≡ p.queries
+  pub refused : s.refused ≡ p.refused
+  pub few_queries : p.queries ≤ p.lines
+  pub few_refused : p.refused ≤ p.lines
 
-abbrev pub is_query : Reading → Bool
-is_query blank = false
-is_query (document d) = false
-is_query (query k q) = true
-is_query (refused r) = false
+-- a document behind these accepted ones is placed, or there was no room for it and the session has come no further
+abbrev pub WithPlaced : Session → Setting → Progress → Doc → Bool → Type 0
+WithPlaced s σ p d true = (has_room σ p.documents d ≡ true) × HasCome s σ (record { lines = p.lines; documents = p.documents ++ d ∷ []; queries = p.queries; refused = p.refused })
+WithPlaced s σ p d false = (has_room σ p.documents d ≡ false) × HasCome s σ p
 
-abbrev pub is_refused : Reading → Bool
-is_refused blank = false
-is_refused (document d) = false
-is_refused (query k q) = false
-is_refused (refused r) = true
-
--- the documents that the lines add, in order
-unfoldable pub accepted : List Reading → List Doc
-accepted rs = flat_map documents_in rs
-
--- how many queries and how many refused lines there are among the lines
-unfoldable pub queries : List Reading → ℕ
-queries rs = count_by is_query rs
-
-unfoldable pub refusals : List Reading → ℕ
-refusals rs = count_by is_refused rs
-
--- how many documents are accepted before line j, counted from 0
-unfoldable pub told : List Reading → ℕ → ℕ
-told rs j = length (accepted (take j rs))
-
--- how far a run has come: the lines that it worked off, the accepted documents, the answered queries
--- and the refused lines
-pub record Session : Type 0 where
-  pub lines : ℕ
-  pub documents : List Doc
-  pub queries : ℕ
-  pub refused : ℕ
-
--- before the first line
-abbrev pub nothing : Session
-nothing = record { lines = 0; documents = []; queries = 0; refused = 0 }
-
--- after these lines
-unfoldable pub session_after : List Reading → Session
-session_after rs = record { lines = length rs; documents = accepted rs; queries = queries rs; refused = refusals rs }
-
-abbrev pub one_if : Bool → ℕ
-one_if b = if b then 1 else 0
-
--- after one line more
-abbrev pub with_line : Session → Reading → Session
-with_line s r = record {
-  lines = s.lines + 1;
-  documents = s.documents ++ documents_in r;
-  queries = s.queries + one_if (is_query r);
-  refused = s.refused + one_if (is_refused r);
-}
+-- what a line behind these documents comes to: an answer over all of them, a refusal, or nothing
+abbrev pub IsOutcome : List Doc → Reading → Outcome → Type 0
+IsOutcome docs blank Nothing = Unit {0}
+IsOutcome docs (document d) Nothing = Unit {0}
+IsOutcome docs (query k q) (Answered seen frame) = (seen ≡ length docs) × (ids_of frame ≡ answer q k docs)
+IsOutcome docs (refused r) (Refused x) = x ≡ r
+IsOutcome docs blank (Answered seen frame) = ⊥
+IsOutcome docs blank (Refused x) = ⊥
+IsOutcome docs (document d) (Answered seen frame) = ⊥
+IsOutcome docs (document d) (Refused x) = ⊥
+IsOutcome docs (query k q) Nothing = ⊥
+IsOutcome docs (query k q) (Refused x) = ⊥
+IsOutcome docs (refused r) Nothing = ⊥
+IsOutcome docs (refused r) (Answered seen frame) = ⊥

@@ -4,9 +4,9 @@ use Rattle.std.specs.Fmt.{decimal}
 use Rattle.eb_base.specs.Document.{Doc}
 use Rattle.eb_base.specs.Match.{answer}
 use Rattle.earlybird.specs.declared.refusal.Refusal.{Refusal}
-use Rattle.earlybird.specs.declared.refusal.Refusal.TheVariants.{BadLine, LongLine, BadJson, BadDocument, TooLong, BadNumber, BadQuery, TooManyNodes, TooDeep}
+use Rattle.earlybird.specs.declared.refusal.Refusal.TheVariants.{BadLine, LongLine, BadJson, BadDocument, TooLong, Full, BadNumber, BadQuery, TooManyNodes, TooDeep}
 use Rattle.earlybird.specs.Reading.{Reading, blank, document, query, refused}
-use Rattle.earlybird.specs.Session.{Session, accepted, session_after}
+use Rattle.earlybird.specs.Progress.{Progress, accepted, progress_after}
 
 -- each id, with a space before it
 abbrev pub spaced : List ℕ → List ℕ
@@ -23,6 +23,7 @@ refusal_name LongLine = codes "long line"
 refusal_name BadJson = codes "bad json"
 refusal_name BadDocument = codes "bad document"
 refusal_name TooLong = codes "too long"
+refusal_name Full = codes "full"
 refusal_name BadNumber = codes "bad number"
 refusal_name (BadQuery column) = codes "bad query at " ++ decimal column
 refusal_name TooManyNodes = codes "query too large"
@@ -52,9 +53,9 @@ body n rs = body_from n (accepted rs) 0 rs
 abbrev pub summary_of : ℕ → ℕ → ℕ → List ℕ
 summary_of d q r = codes "end: documents " ++ decimal d ++ codes ", queries " ++ decimal q ++ codes ", refused " ++ decimal r ++ 10 ∷ []
 
-abbrev pub summary : Session → List ℕ
+abbrev pub summary : Progress → List ℕ
 summary s = summary_of (length s.documents) s.queries s.refused
 
 -- the whole text of some lines
 abbrev pub text : (ℕ → ℕ) → List Reading → List ℕ
-text n rs = body n rs ++ summary (session_after rs)
+text n rs = body n rs ++ summary (progress_after rs)

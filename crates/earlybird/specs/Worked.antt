@@ -1,6 +1,7 @@
 -- How far a run has come between two lines, and how it ends, also over a source or a sink that tells
 -- no bytes.
 use Rattle.std.specs.Prelude.{◌≡◌, ℕ, ◌<◌, ◌≤◌, true, List, [], ◌∷◌, ◌++◌, length, take, Option, Some, Result, Ok, Err}
+use Rattle.eb_base.specs.Setting.{Setting}
 use Rattle.eb_io.specs.Lines.{Line, lines_of, whole_lines}
 use Rattle.eb_io.specs.Held.{Held, HasGiven, HasNoLine, HasAllLines}
 use Rattle.eb_io.specs.Source.{after, IsEmpty}
@@ -13,8 +14,8 @@ use Rattle.earlybird.specs.declared.work.Upcoming.TheVariants as next
 use Rattle.earlybird.specs.Reading.{Reading}
 use Rattle.earlybird.specs.Reads.{Reads}
 use Rattle.earlybird.specs.Works.{reading_of}
-use Rattle.earlybird.specs.Session.{Session, session_after, told}
-use Rattle.earlybird.specs.Text.{body, summary}
+use Rattle.earlybird.specs.Progress.{Progress, progress_after, told}
+use Rattle.earlybird.specs.Text.{body}
 use Rattle.earlybird.specs.Output.{AreRead, IsBodyOf, IsTextOf, HasRefusal, HasNoRefusal}
 
 -- what comes next, where these bytes are taken by now and these lines were given before
@@ -26,7 +27,7 @@ Comes next.TooLong taken given held = HasNoLine taken given held × (length take
 Comes next.NoMemory taken given held = (l : Line) × HasGiven taken (given ++ l ∷ []) held
 
 -- between two lines: the lines given are those of the bytes taken, and what they print is printed
-pub record IsAt (left_old left_new printed_old printed_new : Option (List ℕ)) (held : Held) (session : Session) : Type 0 where
+pub record IsAt (σ : Setting) (left_old left_new printed_old printed_new : Option (List ℕ)) (held : Held) (session : Progress) : Type 0 where
   pub taken : List ℕ
   pub given : List Line
   pub readings : List Reading
@@ -35,8 +36,8 @@ pub record IsAt (left_old left_new printed_old printed_new : Option (List ℕ)) 
   pub limit : held.limit ≡ MAX_INPUT
   pub within : held.taken ≤ held.limit
   pub ended : held.is_ended ≡ true → IsEmpty left_new
-  pub read : AreRead given readings
-  pub known : session ≡ session_after readings
+  pub read : AreRead σ given readings
+  pub known : session ≡ progress_after readings
   pub printed : printed_new ≡ grown printed_old (body (told readings) readings)
 
 -- what printing one line leaves: all of it, a front of it, or nothing
@@ -50,43 +51,43 @@ Prints (Err Usage) output printed_old printed_new = ⊥
 Prints (Err ReadFault) output printed_old printed_new = ⊥
 Prints (Err TooLong) output printed_old printed_new = ⊥
 
--- what printing the summary leaves
-abbrev pub Closes : Status → Session → Option (List ℕ) → Option (List ℕ) → Type 0
-Closes Done s printed_old printed_new = (s.refused ≡ 0) × (printed_new ≡ grown printed_old (summary s))
-Closes Refused s printed_old printed_new = (0 < s.refused) × (printed_new ≡ grown printed_old (summary s))
-Closes WriteFault s printed_old printed_new = (n : ℕ) × (printed_new ≡ grown printed_old (take n (summary s)))
-Closes NoMemory s printed_old printed_new = printed_new ≡ printed_old
-Closes Usage s printed_old printed_new = ⊥
-Closes ReadFault s printed_old printed_new = ⊥
-Closes TooLong s printed_old printed_new = ⊥
+-- what printing the last line leaves, where so many lines are refused
+abbrev pub Closes : Status → ℕ → List ℕ → Option (List ℕ) → Option (List ℕ) → Type 0
+Closes Done refused last printed_old printed_new = (refused ≡ 0) × (printed_new ≡ grown printed_old last)
+Closes Refused refused last printed_old printed_new = (0 < refused) × (printed_new ≡ grown printed_old last)
+Closes WriteFault refused last printed_old printed_new = (n : ℕ) × (printed_new ≡ grown printed_old (take n last))
+Closes NoMemory refused last printed_old printed_new = printed_new ≡ printed_old
+Closes Usage refused last printed_old printed_new = ⊥
+Closes ReadFault refused last printed_old printed_new = ⊥
+Closes TooLong refused last printed_old printed_new = ⊥
 
 -- these are the first lines of the bytes taken and what is left, where that is told
 abbrev pub AreFirst : List Line → List ℕ → Option (List ℕ) → Type 0
 AreFirst lines taken left = (rest : List ℕ) → left ≡ Some rest → (more : List Line) × (lines_of (taken ++ rest) ≡ lines ++ more)
 
 -- a front of the text of some first lines
-pub record IsPart (taken : List ℕ) (left : Option (List ℕ)) (printed : List ℕ) : Type 0 where
+pub record IsPart (σ : Setting) (taken : List ℕ) (left : Option (List ℕ)) (printed : List ℕ) : Type 0 where
   pub lines : List Line
   pub whole : List ℕ
   pub more : List ℕ
   pub first : AreFirst lines taken left
-  pub text : IsTextOf lines whole
+  pub text : IsTextOf σ lines whole
   pub front : whole ≡ printed ++ more
 
 -- how a run over these taken bytes ends
-abbrev pub EndsAs : Status → List ℕ → Option (List ℕ) → List ℕ → Type 0
-EndsAs Done taken left printed = IsEmpty left × IsTextOf (lines_of taken) printed × HasNoRefusal (lines_of taken)
-EndsAs Refused taken left printed = IsEmpty left × IsTextOf (lines_of taken) printed × HasRefusal (lines_of taken)
-EndsAs ReadFault taken left printed = IsBodyOf (whole_lines taken) printed
-EndsAs TooLong taken left printed = IsBodyOf (whole_lines taken) printed × (length taken ≡ MAX_INPUT)
-EndsAs WriteFault taken left printed = IsPart taken left printed
-EndsAs NoMemory taken left printed = IsPart taken left printed
-EndsAs Usage taken left printed = ⊥
+abbrev pub EndsAs : Setting → Status → List ℕ → Option (List ℕ) → List ℕ → Type 0
+EndsAs σ Done taken left printed = IsEmpty left × IsTextOf σ (lines_of taken) printed × HasNoRefusal σ (lines_of taken)
+EndsAs σ Refused taken left printed = IsEmpty left × IsTextOf σ (lines_of taken) printed × HasRefusal σ (lines_of taken)
+EndsAs σ ReadFault taken left printed = IsBodyOf σ (whole_lines taken) printed
+EndsAs σ TooLong taken left printed = IsBodyOf σ (whole_lines taken) printed × (length taken ≡ MAX_INPUT)
+EndsAs σ WriteFault taken left printed = IsPart σ taken left printed
+EndsAs σ NoMemory taken left printed = IsPart σ taken left printed
+EndsAs σ Usage taken left printed = ⊥
 
 -- some bytes were taken and some printed, as the status says
-pub record Ends (status : Status) (left_old left_new printed_old printed_new : Option (List ℕ)) : Type 0 where
+pub record Ends (σ : Setting) (status : Status) (left_old left_new printed_old printed_new : Option (List ℕ)) : Type 0 where
   pub taken : List ℕ
   pub printed : List ℕ
   pub left : left_old ≡ after taken left_new
   pub put : printed_new ≡ grown printed_old printed
-  pub ends : EndsAs status taken left_new printed
+  pub ends : EndsAs σ status taken left_new printed

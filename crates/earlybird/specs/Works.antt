@@ -1,5 +1,5 @@
 -- The work of a line stands for what the line is.
-use Rattle.eb_base.specs.Query.{tree}
+use Rattle.eb_cursor.specs.Frames.{query_of, k_of}
 use Rattle.earlybird.specs.declared.work.Work.{Work}
 use Rattle.earlybird.specs.declared.work.Work.TheVariants.{Nothing, Add, Answer, Refuse}
 use Rattle.earlybird.specs.Reading.{Reading, blank, document, query, refused}
@@ -7,5 +7,5 @@ use Rattle.earlybird.specs.Reading.{Reading, blank, document, query, refused}
 abbrev pub reading_of : Work → Reading
 reading_of Nothing = blank
 reading_of (Add d) = document d
-reading_of (Answer k q) = query k (tree q)
+reading_of (Answer frame) = query (k_of frame) (query_of frame)
 reading_of (Refuse r) = refused r

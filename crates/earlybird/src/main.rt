@@ -2,17 +2,21 @@
 //! the answers on standard output.
 #![tactic(auto)]
 
+mod bench;
+mod command;
 mod laws;
 mod printed;
 mod printing;
 mod refusal;
 mod run;
+mod searching;
 mod session;
 mod status;
 #[cfg(test)]
 mod tests;
 mod work;
 
+pub use command::{Command, CommandFault, read_command};
 use eb_base::{NoMemory, OpenGate};
 use eb_io::{StdSink, StdSource, write_all};
 pub use laws::{one_text, some_text};

@@ -1,90 +1,166 @@
-ghost use Rattle.std.specs.Prelude.{◌≡◌, ◌+◌, ◌<◌, ◌^◌, ◌++◌, [], length, OnOk, IsTrue, ◌↔◌};
-ghost use Rattle.std.specs.String.{string_bytes};
-ghost use Rattle.earlybird.specs.Session.{with_line, nothing};
-ghost use Rattle.earlybird.specs.Text.{output_of, summary};
+ghost use Rattle.std.specs.Prelude.{◌≡◌, ◌+◌, ◌<◌, ◌^◌, IfOk, IsTrue, ◌↔◌, length};
+ghost use Rattle.eb_base.specs.Document.{Doc};
+ghost use Rattle.eb_base.specs.Setting.{Setting};
+ghost use Rattle.eb_base.specs.Match.{answer};
+ghost use Rattle.eb_place.specs.declared.moment.Moment.{Moment};
+ghost use Rattle.eb_flat.specs.Flat.{StandsFor};
+ghost use Rattle.eb_cursor.specs.Frames.{query_of, k_of, ids_of};
+ghost use Rattle.earlybird.specs.Reading.{blank, document as reads_document, query, refused};
+ghost use Rattle.earlybird.specs.Progress.{Progress, with_line, nothing};
+ghost use Rattle.earlybird.specs.Admitted.{admit};
+ghost use Rattle.earlybird.specs.Session.{HasCome, IsOutcome, WithPlaced};
 ghost use Rattle.earlybird.specs.Works.{reading_of};
 
-use crate::printing::{put_answer, put_refusal, put_summary};
+use crate::refusal::Refusal;
+use crate::searching::search_words;
 use crate::work::Work;
-use eb_base::{Document, NoMemory};
-use eb_plain::newest;
+use eb_base::{Config, Document, Gate, NoMemory};
+use eb_cursor::Frame;
+use eb_flat::FlatWords;
+use eb_writer::{Full, Placer};
 use std::alloc::Global;
-use std::marker::Model;
+use std::marker::Brand;
+use std::sync::ledger::Blank;
 
-// How far a run has come: the lines that it worked off, the accepted documents in order, the
-// answered queries and the refused lines.
+// How far a run has come: the index of the accepted documents, and how many documents were accepted, lines
+// worked off, queries answered and lines refused.
 #[derive(Drop)]
 pub(crate) struct Session {
+    words: FlatWords,
+    placer: Placer,
+    documents: u64,
     lines: u64,
-    documents: Vec<Document>,
     queries: u64,
     refused: u64,
 }
 
-impl Model for Session {
-    ghost use Rattle.std.specs.Prelude.{◌≤◌};
-    ghost use Rattle.earlybird.specs.Session.{Session as Known};
-
-    ghost Value = { Known };
-
-    ghost view = { λ s. record { lines = s.lines; documents = s.documents.items; queries = s.queries; refused = s.refused } };
-
-    ghost invariant = { λ s. (s.queries ≤ s.lines) × (s.refused ≤ s.lines) };
+// What a line comes to.
+#[derive(Drop)]
+pub(crate) enum Outcome {
+    // It prints nothing.
+    Nothing,
+    // How many documents the query saw, and a frame with the ids that it found.
+    Answered(u64, Frame),
+    // It is refused.
+    Refused(Refusal),
 }
 
 impl Session {
-    pub(crate) fn new(alloc: Global) -> Session
-        ensures { result ≡ nothing }
+    // A session with an empty index. Takes all the memory of the index.
+    pub(crate) fn new(alloc: Global, config: Config) -> Result<Session, NoMemory>
+        ensures { IfOk result (λ session. HasCome session config nothing) }
     {
-        Session {
+        let words = FlatWords::new(alloc, config)?;
+        Ok(Session {
+            words,
+            placer: Placer::new(config),
+            documents: 0,
             lines: 0,
-            documents: Vec::new(alloc),
             queries: 0,
             refused: 0,
-        }
+        })
     }
 
-    // Works off one line, and puts what it prints behind the text.
-    pub(crate) fn work_off(
-        &mut self,
-        alloc: Global,
-        work: Work,
-        text: &mut String,
-    ) -> Result<(), NoMemory>
-        requires { self.old.lines + 1 < 2 ^ 64 }
-        ensures session { OnOk result (self.new ≡ with_line self.old (reading_of work)) }
-        ensures text { OnOk result (string_bytes text.new
-            ≡ string_bytes text.old ++ output_of (self.old.lines + 1) (length self.old.documents) self.old.documents (reading_of work)) }
+    // Works off one line. Takes no memory.
+    pub(crate) fn work_off<G: Gate>(&mut self, work: Work, gate: &G) -> Outcome
+        requires { (σ : Setting) × (p : Progress) × HasCome self.old σ p × (p.lines + 1 < 2 ^ 64) }
+        ensures session { (σ : Setting) (p : Progress) → HasCome self.old σ p → HasCome self.new σ (with_line p (admit σ p.documents (reading_of work))) }
+        ensures outcome { (σ : Setting) (p : Progress) → HasCome self.old σ p → IsOutcome p.documents (admit σ p.documents (reading_of work)) result }
     {
-        let number = self.lines + 1;
         match work {
-            Work::Nothing => {}
-            Work::Add(document) => self.documents.push(document)?,
-            Work::Answer(k, query) => {
-                let ids = newest(alloc, &query, k as usize, self.documents.as_slice())?;
-                put_answer(text, number, self.documents.len() as u64, ids.as_slice())?;
-                self.queries += 1;
-            }
-            Work::Refuse(refusal) => {
-                put_refusal(text, number, refusal)?;
-                self.refused += 1;
-            }
+            Work::Nothing => self.pass(),
+            Work::Add(document) => self.add(&document),
+            Work::Answer(frame) => self.answer(frame, gate),
+            Work::Refuse(refusal) => self.refuse(refusal),
         }
-        self.lines = number;
-        Ok(())
     }
 
-    // Puts the summary behind the text.
-    pub(crate) fn sum_up(&self, text: &mut String) -> Result<(), NoMemory>
-        ensures { OnOk result (string_bytes text.new ≡ string_bytes text.old ++ summary self.now) }
+    // Passes over a blank line.
+    fn pass(&mut self) -> Outcome
+        requires { (σ : Setting) × (p : Progress) × HasCome self.old σ p × (p.lines + 1 < 2 ^ 64) }
+        ensures session { (σ : Setting) (p : Progress) → HasCome self.old σ p → HasCome self.new σ (with_line p blank) }
+        ensures outcome { result ≡ Outcome.Nothing }
     {
-        put_summary(text, self.documents.len(), self.queries, self.refused)
+        self.lines += 1;
+        Outcome::Nothing
     }
 
-    // Whether a line was refused.
-    pub(crate) fn has_refused(&self) -> bool
-        ensures { IsTrue result ↔ (0 < self.now.refused) }
+    // Adds a document to the index, where there is room.
+    fn add(&mut self, document: &Document) -> Outcome
+        requires { (σ : Setting) × (p : Progress) × HasCome self.old σ p × (p.lines + 1 < 2 ^ 64) }
+        ensures session { (σ : Setting) (p : Progress) → HasCome self.old σ p → HasCome self.new σ (with_line p (admit σ p.documents (reads_document document.now))) }
+        ensures outcome { (σ : Setting) (p : Progress) → HasCome self.old σ p → IsOutcome p.documents (admit σ p.documents (reads_document document.now)) result }
     {
-        self.refused > 0
+        if self.place(document) {
+            self.pass()
+        } else {
+            self.refuse(Refusal::Full)
+        }
+    }
+
+    // Places a document in the index. False exactly where there is no room for it; the index is then as before.
+    fn place(&mut self, document: &Document) -> bool
+        requires { (σ : Setting) × (p : Progress) × HasCome self.old σ p }
+        ensures { (σ : Setting) (p : Progress) → HasCome self.old σ p → WithPlaced self.new σ p document.now result }
+    {
+        match self.placer.add(&mut self.words, document) {
+            Ok(count) => {
+                self.documents = count;
+                true
+            }
+            Err(Full) => false,
+        }
+    }
+
+    // Answers a query over all accepted documents.
+    fn answer<G: Gate>(&mut self, frame: Frame, gate: &G) -> Outcome
+        requires { (σ : Setting) × (p : Progress) × HasCome self.old σ p × (p.lines + 1 < 2 ^ 64) }
+        ensures session { (σ : Setting) (p : Progress) → HasCome self.old σ p → HasCome self.new σ (with_line p (query (k_of frame) (query_of frame))) }
+        ensures outcome { (σ : Setting) (p : Progress) → HasCome self.old σ p → IsOutcome p.documents (query (k_of frame) (query_of frame)) result }
+    {
+        let mut frame = frame;
+        let seen = search_words::<G, Brand>(&mut self.words, &mut frame, gate, Blank::new(1));
+        self.queries += 1;
+        self.lines += 1;
+        Outcome::Answered(seen, frame)
+    }
+
+    // Counts a refused line.
+    fn refuse(&mut self, refusal: Refusal) -> Outcome
+        requires { (σ : Setting) × (p : Progress) × HasCome self.old σ p × (p.lines + 1 < 2 ^ 64) }
+        ensures session { (σ : Setting) (p : Progress) → HasCome self.old σ p → HasCome self.new σ (with_line p (refused refusal)) }
+        ensures outcome { result ≡ Outcome.Refused refusal }
+    {
+        self.refused += 1;
+        self.lines += 1;
+        Outcome::Refused(refusal)
+    }
+
+    // The number of lines that are worked off.
+    pub(crate) fn lines(&self) -> u64
+        ensures { (σ : Setting) (p : Progress) → HasCome self.now σ p → result ≡ p.lines }
+    {
+        self.lines
+    }
+
+    // The number of accepted documents.
+    pub(crate) fn documents(&self) -> u64
+        ensures { (σ : Setting) (p : Progress) → HasCome self.now σ p → result ≡ length p.documents }
+    {
+        self.documents
+    }
+
+    // The number of answered queries.
+    pub(crate) fn queries(&self) -> u64
+        ensures { (σ : Setting) (p : Progress) → HasCome self.now σ p → result ≡ p.queries }
+    {
+        self.queries
+    }
+
+    // The number of refused lines.
+    pub(crate) fn refused(&self) -> u64
+        ensures { (σ : Setting) (p : Progress) → HasCome self.now σ p → result ≡ p.refused }
+    {
+        self.refused
     }
 }

@@ -1,5 +1,8 @@
 ghost use Rattle.std.specs.Prelude.{◌≤◌};
 
+mod commands;
+mod index;
+
 use crate::{Status, run};
 use eb_base::OpenGate;
 use eb_io::{Got, MemSink, MemSource, Source};
@@ -63,8 +66,11 @@ fn source_of(
 fn sink_of(alloc: Global, piece: usize, failing: &[u64]) -> Result<MemSink, AllocError>
     requires { 1 ≤ piece }
 {
-    MemSink::new(alloc, 65_536, piece, failing).map_err(|_| AllocError)
+    MemSink::new(alloc, 262_144, piece, failing).map_err(|_| AllocError)
 }
+
+// The words of a run over a small index.
+const SMALL: [&str; 4] = ["run", "--segments=1", "--terms", "256"];
 
 const MESSAGES: &str =
     "{\"id\":20,\"user\":\"lena\",\"lang\":\"de\",\"text\":\"Sunset over the Straße tonight 🌅 can't believe it's already March in Berlin! #spring @lena\"}
@@ -135,7 +141,7 @@ fn answers_each_input(rt: HostRuntime) -> Result<(), Fail> {
     ];
     for (input, want, code) in cases {
         for piece in [1, 5, 100_000] {
-            let left = run_on(&rt, rt.alloc(), &["run"], input.as_bytes(), piece, &[], &[])?;
+            let left = run_on(&rt, rt.alloc(), &SMALL, input.as_bytes(), piece, &[], &[])?;
             assert_eq!(rt; left.printed.as_slice(), want.as_bytes(), "{input}");
             assert_eq!(rt; left.status.code(), code, "{input}");
             assert!(rt; left.said.is_empty(), "{input}");
@@ -165,7 +171,7 @@ fn refuses_each_line(rt: HostRuntime) -> Result<(), Fail> {
         ),
     ];
     for (line, name) in cases {
-        let left = run_on(&rt, rt.alloc(), &["run"], line.as_bytes(), 64, &[], &[])?;
+        let left = run_on(&rt, rt.alloc(), &SMALL, line.as_bytes(), 64, &[], &[])?;
         let want = format!(in alloc;
             "1 refused: {name}\nend: documents 0, queries 0, refused 1\n"
         )?;
@@ -175,7 +181,7 @@ fn refuses_each_line(rt: HostRuntime) -> Result<(), Fail> {
         "?5 ((((((((((((((((a))))))))))))))))",
         "?5 a a a a a a a a a a a a a a a a a a a a a a a a a a a a a a a a a a a a a a a a a a a a a a a a a a a a a a a a a a a a a a a",
     ] {
-        let left = run_on(&rt, rt.alloc(), &["run"], line.as_bytes(), 64, &[], &[])?;
+        let left = run_on(&rt, rt.alloc(), &SMALL, line.as_bytes(), 64, &[], &[])?;
         let want = "1 seen 0:\nend: documents 0, queries 1, refused 0\n";
         assert_eq!(rt; left.printed.as_slice(), want.as_bytes(), "{line}");
     }
@@ -232,7 +238,7 @@ const WANT: &str = "1 seen 0:\n3 seen 1: 1\nend: documents 1, queries 2, refused
 #[test]
 fn ends_at_faults(rt: HostRuntime) -> Result<(), Fail> {
     for call in 1..20 {
-        let left = run_on(&rt, rt.alloc(), &["run"], INPUT.as_bytes(), 5, &[call], &[])?;
+        let left = run_on(&rt, rt.alloc(), &SMALL, INPUT.as_bytes(), 5, &[call], &[])?;
         assert!(rt;
             WANT.as_bytes().starts_with(left.printed.as_slice()),
             "read {call}"
@@ -241,7 +247,7 @@ fn ends_at_faults(rt: HostRuntime) -> Result<(), Fail> {
         let has_failed = left.status == Status::ReadFault
             && left.said.as_slice() == b"earlybird: read fault\n".as_slice();
         assert!(rt; is_done || has_failed, "read {call}");
-        let left = run_on(&rt, rt.alloc(), &["run"], INPUT.as_bytes(), 4, &[], &[call])?;
+        let left = run_on(&rt, rt.alloc(), &SMALL, INPUT.as_bytes(), 4, &[], &[call])?;
         assert!(rt;
             WANT.as_bytes().starts_with(left.printed.as_slice()),
             "write {call}"
@@ -251,22 +257,29 @@ fn ends_at_faults(rt: HostRuntime) -> Result<(), Fail> {
             && left.said.as_slice() == b"earlybird: write fault\n".as_slice();
         assert!(rt; is_done || has_failed, "write {call}");
     }
-    let left = run_on(&rt, rt.alloc(), &["run"], INPUT.as_bytes(), 5, &[3], &[])?;
+    let left = run_on(&rt, rt.alloc(), &SMALL, INPUT.as_bytes(), 5, &[3], &[])?;
     assert_eq!(rt; left.printed.as_slice(), b"1 seen 0:\n".as_slice());
-    let left = run_on(&rt, rt.alloc(), &["run"], INPUT.as_bytes(), 4, &[], &[2])?;
+    let left = run_on(&rt, rt.alloc(), &SMALL, INPUT.as_bytes(), 4, &[], &[2])?;
     assert_eq!(rt; left.printed.as_slice(), b"1 se".as_slice());
     Ok(())
 }
 
 #[test]
 fn refuses_other_words(rt: HostRuntime) -> Result<(), Fail> {
-    let lists: [&[&str]; 6] = [
+    let lists: [&[&str]; 13] = [
         &[],
         &["walk"],
         &["run", "x"],
+        &["run", "--docs", "0"],
+        &["run", "--terms", "300"],
+        &["run", "--segments", "64", "--docs", "16777216"],
+        &["run", "--overlap", "--overlap"],
         &["run", "--"],
         &["run", ""],
-        &["run", "run"],
+        &["bench", "0"],
+        &["bench", "0", "0"],
+        &["bench", "0", "40001"],
+        &["bench", "18446744073709551616", "1"],
     ];
     for words in lists {
         let left = run_on(&rt, rt.alloc(), words, INPUT.as_bytes(), 5, &[], &[])?;

@@ -10,7 +10,8 @@ ghost use Rattle.earlybird.specs.Works.{reading_of};
 ghost use Rattle.eb_doc.specs.DocumentLine.{document_of};
 
 use crate::refusal::Refusal;
-use eb_base::{Document, NoMemory, Query};
+use eb_base::{Document, NoMemory};
+use eb_cursor::Frame;
 use eb_doc::{LineFault, read_document};
 use eb_io::{Lines, Next, Source};
 use eb_query::{QueryFault, read_query};
@@ -22,7 +23,7 @@ use std::str;
 pub(crate) enum Work {
     Nothing,
     Add(Document),
-    Answer(u32, Query),
+    Answer(Frame),
     Refuse(Refusal),
 }
 
@@ -65,7 +66,7 @@ fn read_query_text(alloc: Global, text: &str) -> Result<Work, NoMemory>
     ensures { IfOk result (λ work. ReadsByKind query_line text.now (reading_of work)) }
 {
     match read_query(alloc, text) {
-        Ok((k, query)) => Ok(Work::Answer(k, query)),
+        Ok((k, query)) => Ok(Work::Answer(Frame::new(alloc, query, k)?)),
         Err(QueryFault::BadNumber) => Ok(Work::Refuse(Refusal::BadNumber)),
         Err(QueryFault::BadQuery { column }) => Ok(Work::Refuse(Refusal::BadQuery(column))),
         Err(QueryFault::TooDeep) => Ok(Work::Refuse(Refusal::TooDeep)),

@@ -1,0 +1,164 @@
+//! `bench`: works off a made input and prints its line of figures.
+ghost use Rattle.std.specs.Prelude.{◌≡◌, ◌+◌, ◌*◌, ◌<◌, ◌≤◌, ◌++◌, ◌∷◌, ◌^◌, List, [], length, sum, IfOk, OnOk};
+ghost use Rattle.eb_gen.specs.Made.{made};
+ghost use Rattle.earlybird.specs.Worked.{Closes};
+ghost use Rattle.eb_io.specs.Faults.{HasRisen};
+ghost use Rattle.eb_io.specs.Lines.{Line, line, lines_of};
+ghost use Rattle.earlybird.specs.Bench.{HasCounted, lines_until, ids_in, bench_line, PrintsFigures};
+
+use crate::printed::print_last;
+use crate::printing::put_figures;
+use crate::session::{Outcome, Session};
+use crate::status::Status;
+use crate::work::read_line;
+use eb_base::{Config, Gate, NoMemory};
+use eb_gen::{line_of, query_of};
+use eb_io::Sink;
+use std::alloc::Global;
+
+// A session over a made input, with the number of ids in all answers and their sum.
+#[derive(Drop)]
+pub(crate) struct Bench {
+    session: Session,
+    ids: u64,
+    sum: u128,
+}
+
+impl Bench {
+    // Before the first line.
+    fn new(alloc: Global) -> Result<Bench, NoMemory>
+        ensures { IfOk result (λ bench. HasCounted bench []) }
+    {
+        let session = Session::new(alloc, Config::usual())?;
+        Ok(Bench {
+            session,
+            ids: 0,
+            sum: 0,
+        })
+    }
+
+    // Works off one line.
+    fn work_line<G: Gate>(&mut self, alloc: Global, bytes: &[u8], gate: &G) -> Result<(), NoMemory>
+        requires { (lines : List Line) × HasCounted self.old lines × (length lines < 2 ^ 17) }
+        ensures { OnOk result ((lines : List Line) → HasCounted self.old lines → length lines < 2 ^ 17 → HasCounted self.new (lines ++ line bytes.now ∷ [])) }
+    {
+        let work = read_line(alloc, bytes)?;
+        let outcome = self.session.work_off(work, gate);
+        self.count(&outcome);
+        Ok(())
+    }
+
+    // Counts the ids of an answer.
+    fn count(&mut self, outcome: &Outcome)
+        requires few { length (ids_in outcome.now) ≤ 2 ^ 17 }
+        requires ids { self.old.ids ≤ 2 ^ 34 }
+        requires sum { self.old.sum ≤ 2 ^ 98 }
+        ensures session { self.new.session ≡ self.old.session }
+        ensures ids { self.new.ids ≡ self.old.ids + length (ids_in outcome.now) }
+        ensures sum { self.new.sum ≡ self.old.sum + sum (ids_in outcome.now) }
+        ensures small { sum (ids_in outcome.now) ≤ 2 ^ 64 * length (ids_in outcome.now) }
+    {
+        if let Outcome::Answered(_, frame) = outcome {
+            let ids = frame.ids();
+            self.ids += ids.len() as u64;
+            self.sum += sum_of(ids);
+        }
+    }
+
+    // Works off the lines of one document of a made input of `docs` documents.
+    fn work_document<G: Gate>(
+        &mut self,
+        alloc: Global,
+        start: u64,
+        docs: u32,
+        number: u32,
+        gate: &G,
+    ) -> Result<(), NoMemory>
+        requires small { (number < docs) × (docs ≤ 40000) }
+        requires before { HasCounted self.old (lines_until start docs number) }
+        ensures { OnOk result (HasCounted self.new (lines_until start docs (number + 1))) }
+    {
+        let document = line_of(alloc, start, number)?;
+        self.work_line(alloc, document.as_slice(), gate)?;
+        if (number + 1) % 1000 != 0 && number + 1 != docs {
+            return Ok(());
+        }
+        let query = query_of(alloc, start, number)?;
+        self.work_line(alloc, query.as_slice(), gate)?;
+        Ok(())
+    }
+
+    // Prints the line of figures.
+    fn print<K: Sink>(&self, text: &mut String, out: &mut K) -> Status
+        ensures printed { (lines : List Line) → HasCounted self.now lines → PrintsFigures result lines (K.taken out.old) (K.taken out.new) }
+        ensures fault { result ≡ Status.WriteFault → HasRisen (K.faults out.old) (K.faults out.new) }
+    {
+        let documents = self.session.documents();
+        let queries = self.session.queries();
+        let refused = self.session.refused();
+        print_figures(documents, queries, self.ids, self.sum, refused, text, out)
+    }
+}
+
+fn print_figures<K: Sink>(
+    documents: u64,
+    queries: u64,
+    ids: u64,
+    sum: u128,
+    refused: u64,
+    text: &mut String,
+    out: &mut K,
+) -> Status
+    ensures printed { Closes result refused (bench_line documents queries ids sum) (K.taken out.old) (K.taken out.new) }
+    ensures fault { result ≡ Status.WriteFault → HasRisen (K.faults out.old) (K.faults out.new) }
+{
+    text.clear();
+    if put_figures(text, documents, queries, ids, sum).is_err() {
+        return Status::NoMemory;
+    }
+    print_last(refused, text, out)
+}
+
+// The sum of the ids.
+fn sum_of(ids: &[u64]) -> u128
+    requires { length ids.now ≤ 2 ^ 17 }
+    ensures sum { result ≡ sum ids.now }
+    ensures small { result ≤ 2 ^ 64 * length ids.now }
+{
+    let mut total = 0u128;
+    for id in ids {
+        total += u128::from(*id);
+    }
+    total
+}
+
+// Works off the whole made input.
+fn count_made<G: Gate>(alloc: Global, start: u64, docs: u32, gate: &G) -> Result<Bench, NoMemory>
+    requires { docs ≤ 40000 }
+    ensures { IfOk result (λ bench. HasCounted bench (lines_until start docs docs)) }
+{
+    let mut bench = Bench::new(alloc)?;
+    for number in 0..docs {
+        bench.work_document(alloc, start, docs, number, gate)?;
+    }
+    Ok(bench)
+}
+
+// Works off the made input of so many documents, and prints its line of figures.
+pub(crate) fn run_bench<K: Sink, G: Gate>(
+    alloc: Global,
+    start: u64,
+    docs: u32,
+    out: &mut K,
+    gate: &G,
+) -> Status
+    requires { docs ≤ 40000 }
+    ensures printed { PrintsFigures result (lines_of (made start docs)) (K.taken out.old) (K.taken out.new) }
+    ensures fault { result ≡ Status.WriteFault → HasRisen (K.faults out.old) (K.faults out.new) }
+{
+    let Ok(bench) = count_made(alloc, start, docs, gate) else {
+        return Status::NoMemory;
+    };
+    let mut text = String::new(alloc);
+    bench.print(&mut text, out)
+}

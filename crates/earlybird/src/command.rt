@@ -1,0 +1,65 @@
+ghost use Rattle.std.specs.Prelude.{◌≡◌, Some, None, IfOk, IsErrOf, map, string_bytes};
+ghost use Rattle.earlybird.specs.Command.{command_of};
+
+mod bench;
+mod number;
+mod options;
+mod setting;
+
+use bench::read_bench;
+use eb_base::Config;
+use setting::read_setting;
+use std::alloc::Global;
+
+/// What the words of a command line ask for.
+#[derive(Clone, Copy, Debug, PartialEq, Eq)]
+pub enum Command {
+    /// `run`: read lines, with an index of this setting.
+    Run {
+        /// The setting that the options give; what they don't name is as in `Config::usual`.
+        config: Config,
+    },
+    /// `bench START DOCS`: work off made input.
+    Bench {
+        /// Where the made input starts, any 64-bit number.
+        start: u64,
+        /// How many documents it has, 1 to 40,000.
+        docs: u32,
+    },
+}
+
+/// Why no command is read from the words.
+#[derive(Clone, Copy, Debug, PartialEq, Eq)]
+pub enum CommandFault {
+    /// The words aren't in the grammar, or ask for a setting that isn't allowed.
+    Usage,
+    /// There was no memory to read them.
+    NoMemory,
+}
+
+/// The command that the words ask for; they are without the program's name.
+///
+/// - `run`, and then items in any order, each option at most once: for x of `segments`, `docs` and
+///   `terms` the two words `--x V` or the one word `--x=V`. V is one to nine digits, leading zeros
+///   allowed; what isn't named is as in `Config::usual`. `Config::new` has to allow the setting.
+/// - `bench START DOCS`: one to twenty digits of value at most 18446744073709551615, and one to nine
+///   digits of value 1 to 40,000; leading zeros allowed.
+///
+/// Usage comes exactly where the words are neither; NoMemory is free.
+pub fn read_command(alloc: Global, words: &Vec<String>) -> Result<Command, CommandFault>
+    ensures command { IfOk result (λ command. command_of (map string_bytes words.now.items) ≡ Some command) }
+    ensures usage { IsErrOf result CommandFault.Usage → command_of (map string_bytes words.now.items) ≡ None }
+{
+    if words.is_empty() {
+        return Err(CommandFault::Usage);
+    }
+    let name = words[0].as_str();
+    if name == "run" {
+        let config = read_setting(alloc, words.as_slice())?;
+        return Ok(Command::Run { config });
+    }
+    if name == "bench" {
+        return read_bench(words.as_slice()).ok_or(CommandFault::Usage);
+    }
+    Err(CommandFault::Usage)
+}

@@ -1,0 +1,116 @@
+use crate::{Command, CommandFault, read_command};
+use eb_base::Config;
+use std::alloc::Global;
+use std::test::Fail;
+
+// What is read from these words, between which stands a bar.
+fn read_line(alloc: Global, line: &str) -> Result<Result<Command, CommandFault>, Fail> {
+    let mut words = Vec::new(alloc);
+    for word in line.split('|') {
+        words.push(String::from_str(alloc, word)?)?;
+    }
+    Ok(read_command(alloc, &words))
+}
+
+#[test]
+fn refuses_words_outside_the_grammar(rt: HostRuntime) -> Result<(), Fail> {
+    let alloc = rt.alloc();
+    assert!(rt;
+        read_command(alloc, &Vec::new(alloc)) == Err(CommandFault::Usage),
+        "none"
+    );
+    let lines = [
+        "walk",
+        "run|x",
+        "run|--docs|0",
+        "run|--terms|300",
+        "run|--segments|64|--docs|16777216",
+        "run|--overlap|--overlap",
+        "run|--",
+        "run|--docs|1|--",
+        "run|",
+        "run|--docs|",
+        "run|run",
+        "run|--docs|1|--docs|2",
+        "run|--docs",
+        "run|--docs=",
+        "run|--docs|-",
+        "run|--docs|--terms|256",
+        "run|--docs|--",
+        "run|--docs=5=6",
+        "run|--docs|1234567890",
+        "run|--docs|+5",
+        "run|--docs=0x5",
+        "run|--doc|5",
+        "run|-docs|5",
+        "bench",
+        "bench|0",
+        "bench|0|0",
+        "bench|0|40001",
+        "bench|18446744073709551616|1",
+        "bench|0|1|2",
+        "bench|a|1",
+        "bench|-1|5",
+        "bench|000000000000000000001|1",
+    ];
+    for line in lines {
+        let read = read_line(alloc, line)?;
+        assert!(rt;
+            read == Err(CommandFault::Usage),
+            "{line} is read as a command"
+        );
+    }
+    Ok(())
+}
+
+#[test]
+fn reads_commands(rt: HostRuntime) -> Result<(), Fail> {
+    let alloc = rt.alloc();
+    let config = Config::usual();
+    let usual = read_line(alloc, "run")?;
+    assert!(rt;
+        usual == Ok(Command::Run { config }),
+        "run is read otherwise"
+    );
+    let lines = [
+        ("run", 12, 4096, 8192),
+        ("run|--docs=1", 12, 1, 8192),
+        ("run|--docs|1|--segments=1", 1, 1, 8192),
+        ("run|--terms|256", 12, 4096, 256),
+        ("run|--docs=000000005", 12, 5, 8192),
+        ("run|--terms=1048576|--segments|1", 1, 4096, 1_048_576),
+    ];
+    for (line, segments, docs, terms) in lines {
+        let Ok(config) = Config::new(segments, docs, terms) else {
+            return Err(Fail::new("a setting of the table"));
+        };
+        let read = read_line(alloc, line)?;
+        assert!(rt;
+            read == Ok(Command::Run { config }),
+            "{line} is read otherwise"
+        );
+    }
+    Ok(())
+}
+
+#[test]
+fn reads_bench(rt: HostRuntime) -> Result<(), Fail> {
+    let alloc = rt.alloc();
+    let lines = [
+        ("bench|0|1", 0, 1),
+        (
+            "bench|18446744073709551615|40000",
+            18_446_744_073_709_551_615,
+            40_000,
+        ),
+        ("bench|007|00001", 7, 1),
+    ];
+    for (line, start, docs) in lines {
+        let read = read_line(alloc, line)?;
+        assert!(rt;
+            read == Ok(Command::Bench { start, docs }),
+            "{line} is read otherwise"
+        );
+    }
+    Ok(())
+}
