@@ -1,0 +1,5 @@
+pub mod Records
+pub mod StoresLeft
+pub mod Additions
+pub mod OneSegment
+pub mod Givings

@@ -1,0 +1,102 @@
+ghost use Rattle.std.specs.Prelude.{◌≡◌, IfOk};
+ghost use Rattle.eb_place.specs.Moments.{empty_moment};
+ghost use Rattle.eb_trials.specs.Recorded.{IsRecord};
+
+use eb_base::{Config, Document, NoMemory};
+use eb_flat::FlatWords;
+use eb_place::{Pen, Port, Steps};
+use std::alloc::Global;
+use std::sync::ledger::Ledger;
+
+/// Words in a vector, and all stores that were done to them, in order, as pairs of place and value: a
+/// pen whose stores can be looked at. Where there is no memory for a store it is done and not recorded,
+/// and the record says so.
+#[derive(Drop)]
+pub struct RecordingPen {
+    words: FlatWords,
+    stores: Vec<(u64, u64)>,
+    has_lost: bool,
+}
+
+impl RecordingPen {
+    /// The words of an index without a document, and no store. Takes the memory of the words; a store
+    /// may take more.
+    pub fn new(alloc: Global, config: Config) -> Result<RecordingPen, NoMemory>
+        ensures { IfOk result (λ pen. IsRecord pen (empty_moment config)) }
+    {
+        let words = FlatWords::new(alloc, config)?;
+        Ok(RecordingPen {
+            words,
+            stores: Vec::new(alloc),
+            has_lost: false,
+        })
+    }
+
+    /// Whether a store was not recorded.
+    pub fn has_lost(&self) -> bool
+        ensures { result ≡ self.now.has_lost }
+    {
+        self.has_lost
+    }
+
+    /// The recorded stores, in order: pairs of place and value.
+    pub fn stores(&self) -> &[(u64, u64)]
+        ensures { result.now ≡ self.now.stores.items }
+    {
+        self.stores.as_slice()
+    }
+
+    /// The recorded stores for themselves.
+    pub fn into_stores(self) -> Vec<(u64, u64)>
+        ensures { result.items ≡ self.stores.items }
+    {
+        let RecordingPen {
+            words,
+            stores,
+            has_lost,
+        } = self;
+        let _ = words;
+        let _ = has_lost;
+        stores
+    }
+}
+
+impl Port for RecordingPen {
+    ghost use Rattle.std.proofs.Common.{refl, ◌∙◌};
+    ghost use Rattle.eb_trials.specs.Recorded.{IsRecord};
+
+    ghost stands = { IsRecord };
+
+    ghost keeps = { λ s m t n. (t ≡ s) × (n ≡ m) };
+
+    ghost same = { λ s t. t.words.setting ≡ s.words.setting };
+
+    fn config(&self) -> Config {
+        self.words.config()
+    }
+
+    fn load<L: Ledger>(&mut self, place: u64, steps: &mut Steps<L>) -> u64 {
+        self.words.load(place, steps)
+    }
+
+    ghost lawful = { λ s m h. h.words.moment };
+
+    ghost keeps_itself = { λ s m h. (refl, refl) };
+
+    ghost keeps_on = { λ s t u l m n h k. (k.0 ∙ h.0, k.1 ∙ h.1) };
+
+    ghost keeps_same = { λ s t m n h. λ i. (h.0 i).words.setting };
+
+    ghost same_on = { λ s t u h k. k ∙ h };
+}
+
+impl Pen for RecordingPen {
+    fn store(&mut self, document: &Document, place: u64, value: u64) {
+        self.words.store(document, place, value);
+        if self.stores.push((place, value)).is_err() {
+            self.has_lost = true;
+        }
+    }
+
+    ghost pen_keeps = { λ s t m n h. λ i. (h.1 i).documents };
+}

@@ -1,0 +1,8 @@
+//! The tests, by what they show, and what they make their indexes of.
+mod asking;
+mod chains;
+mod cursors;
+mod dictionary;
+mod made;
+mod placing;
+mod queries;

@@ -1,0 +1,190 @@
+//! What cursors find, compared with the plain scan.
+ghost use Rattle.std.specs.Prelude.{◌≡◌, ◌<◌, length, IfOk};
+ghost use Rattle.eb_place.specs.declared.moment.Moment.{Moment};
+ghost use Rattle.eb_flat.specs.Flat.{StandsFor};
+ghost use Rattle.eb_trials.specs.Added.{HasAccepted};
+ghost use Rattle.eb_trials.specs.Grown.{Grows};
+
+use super::asking::{found, query};
+use super::made::{document, grow_by, growing, index_of};
+use super::queries::small_queries;
+use crate::{GrowingPort, Pace};
+use eb_base::{Config, Document};
+use eb_flat::FlatWords;
+use eb_place::{Port, Steps};
+use eb_plain::is_match;
+use std::alloc::Global;
+use std::marker::Brand;
+use std::sync::ledger::{Blank, Ledger};
+use std::test::Fail;
+
+// An index of one segment that holds these documents.
+fn one_segment(alloc: Global, documents: &[Document]) -> Result<FlatWords, Fail>
+    ensures { IfOk result (λ words. HasAccepted StandsFor words (length documents.now)) }
+{
+    let config = Config::new(1, 512, 512)?;
+    let words = index_of(alloc, config, documents)?;
+    Ok(words)
+}
+
+// The same, which grows by one document more: so many of its stores are done, and one more is done before
+// each load.
+fn growing_segment(
+    alloc: Global,
+    documents: &[Document],
+    last: Document,
+    stores: usize,
+) -> Result<GrowingPort, Fail>
+    ensures { IfOk result (λ port. HasAccepted Grows port (length documents.now)) }
+{
+    let config = Config::new(1, 512, 512)?;
+    let mut port = growing(alloc, config, documents, last, Pace::OneFrom(0))?;
+    grow_by(&mut port, stores);
+    Ok(port)
+}
+
+// The numbers of the documents that the query of this text matches, greatest first, as the cursors find
+// them.
+fn asked<P: Port, L: Ledger>(
+    alloc: Global,
+    port: &mut P,
+    text: &[u8],
+    documents: &[Document],
+    blank: Blank,
+) -> Result<Vec<u64>, Fail>
+    requires blank { (blank.name ≡ L.name) × (blank.parts ≡ L.parts) × (0 < blank.parts) }
+    requires port { HasAccepted P.stands port.old (length documents.now) }
+    ensures { (m : Moment) × (n : Moment) × P.stands port.old m × P.stands port.new n × P.keeps port.old m port.new n }
+{
+    let query = query(alloc, text)?;
+    let count = u32::try_from(documents.len())?;
+    if count == 0 {
+        return Ok(Vec::new(alloc));
+    }
+    let mut steps = Steps::<L>::new(blank);
+    found(alloc, port, query, count, &mut steps)
+}
+
+// The same, as a scan of the documents finds them.
+fn scanned(alloc: Global, text: &[u8], documents: &[Document]) -> Result<Vec<u64>, Fail> {
+    let query = query(alloc, text)?;
+    let mut numbers = Vec::new(alloc);
+    for at in 0..documents.len() {
+        let number = documents.len() - 1 - at;
+        if is_match(&query, &documents[number]) {
+            numbers.push(number as u64)?;
+        }
+    }
+    Ok(numbers)
+}
+
+// Whether cursors over words that don't grow find what the scan finds.
+fn is_as_scanned(
+    alloc: Global,
+    words: &mut FlatWords,
+    text: &[u8],
+    documents: &[Document],
+) -> Result<bool, Fail>
+    requires { HasAccepted StandsFor words.old (length documents.now) }
+    ensures { words.new ≡ words.old }
+{
+    let numbers = asked::<FlatWords, Brand>(alloc, words, text, documents, Blank::new(1))?;
+    Ok(numbers.as_slice() == scanned(alloc, text, documents)?.as_slice())
+}
+
+// The number behind this one.
+fn next(number: u64) -> u64 {
+    number
+        .wrapping_mul(6_364_136_223_846_793_005)
+        .wrapping_add(1_442_695_040_888_963_407)
+}
+
+// So many documents of none to five of the words `a`, `b` and `c`, made by a rule.
+fn made(alloc: Global, count: usize) -> Result<Vec<Document>, Fail> {
+    let mut documents = Vec::new(alloc);
+    let mut number = 7;
+    for id in 0..count {
+        let mut text = Vec::new(alloc);
+        number = next(number);
+        for _ in 0..(number >> 33) % 6 {
+            number = next(number);
+            text.push(b'a' + ((number >> 33) % 3) as u8)?;
+            text.push(b' ')?;
+        }
+        documents.push(document(alloc, id as u64, text.as_slice())?)?;
+    }
+    Ok(documents)
+}
+
+// What cursors find of two documents.
+fn found_of_two(alloc: Global, texts: [&[u8]; 2], text: &[u8]) -> Result<Vec<u64>, Fail> {
+    let [first, second] = texts;
+    let documents = [document(alloc, 1, first)?, document(alloc, 2, second)?];
+    let mut words = one_segment(alloc, documents.as_slice())?;
+    asked::<FlatWords, Brand>(alloc, &mut words, text, documents.as_slice(), Blank::new(1))
+}
+
+#[test]
+fn cursors_find_by_hand(rt: HostRuntime) -> Result<(), Fail> {
+    let alloc = rt.alloc();
+    let none: &[u64] = &[];
+    let runs = [b"a b b a b a".as_slice(), b""];
+    let pairs = [b"a b".as_slice(), b"c d"];
+    for (texts, text, want) in [
+        (
+            [b"".as_slice(), b"foo"],
+            b"foo -".as_slice(),
+            [0].as_slice(),
+        ),
+        (runs, b"\" a b a \"", &[0]),
+        (runs, b"\" b b a b \"", &[0]),
+        (runs, b"\" b a b b \"", none),
+        (pairs, b"\" b c \"", none),
+        (pairs, b"b c &2", none),
+        (pairs, b"b c |2", &[1, 0]),
+    ] {
+        assert_eq!(rt; found_of_two(alloc, texts, text)?.as_slice(), want);
+    }
+    Ok(())
+}
+
+#[test]
+fn cursors_find_as_a_scan_does(rt: HostRuntime) -> Result<(), Fail> {
+    let alloc = rt.alloc();
+    let documents = made(alloc, 400)?;
+    let texts = small_queries(alloc)?;
+    assert_eq!(rt; texts.len(), 408);
+    let mut words = one_segment(alloc, documents.as_slice())?;
+    for text in texts.as_slice() {
+        let text = text.as_slice();
+        assert!(rt; is_as_scanned(alloc, &mut words, text, documents.as_slice())?);
+    }
+    Ok(())
+}
+
+// What cursors find while one document more is placed, of which so many stores are done.
+fn found_growing(
+    alloc: Global,
+    text: &[u8],
+    documents: &[Document],
+    stores: usize,
+) -> Result<Vec<u64>, Fail> {
+    let last = document(alloc, 99, b"a b c c b a a b c")?;
+    let mut port = growing_segment(alloc, documents, last, stores)?;
+    asked::<GrowingPort, Brand>(alloc, &mut port, text, documents, Blank::new(1))
+}
+
+#[test]
+fn cursors_find_what_was_accepted(rt: HostRuntime) -> Result<(), Fail> {
+    let alloc = rt.alloc();
+    let documents = made(alloc, 20)?;
+    for text in small_queries(alloc)?.as_slice() {
+        let text = text.as_slice();
+        let want = scanned(alloc, text, documents.as_slice())?;
+        for stores in [0, 3, 10, 19] {
+            let numbers = found_growing(alloc, text, documents.as_slice(), stores)?;
+            assert_eq!(rt; numbers.as_slice(), want.as_slice(), "{stores}");
+        }
+    }
+    Ok(())
+}
