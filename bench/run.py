@@ -55,7 +55,7 @@ def corpora(count):
     zipf = Zipf(100_000, 1)
     picks = Zipf(100_000, 2)
     return [
-        ("made", ["--segments", "12", "--docs", "20000", "--terms", "8192"], [made_words(m) for m in range(count)],
+        ("made", ["--segments", "12", "--docs", "20000", "--terms", "65536"], [made_words(m) for m in range(count)],
          lambda at: made_words(at)[:2]),
         ("zipf", ["--segments", "12", "--docs", "20000", "--terms", "65536"], [zipf.words(15) for _ in range(count)],
          lambda at: picks.words(2)),

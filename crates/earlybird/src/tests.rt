@@ -141,7 +141,8 @@ fn answers_each_input(rt: HostRuntime) -> Result<(), Fail> {
     ];
     for (input, want, code) in cases {
         for piece in [1, 5, 100_000] {
-            let left = run_on(&rt, rt.alloc(), &SMALL, input.as_bytes(), piece, &[], &[])?;
+            let words: &[&str] = if piece == 5 { &["run"] } else { &SMALL };
+            let left = run_on(&rt, rt.alloc(), words, input.as_bytes(), piece, &[], &[])?;
             assert_eq!(rt; left.printed.as_slice(), want.as_bytes(), "{input}");
             assert_eq!(rt; left.status.code(), code, "{input}");
             assert!(rt; left.said.is_empty(), "{input}");
@@ -171,7 +172,7 @@ fn refuses_each_line(rt: HostRuntime) -> Result<(), Fail> {
         ),
     ];
     for (line, name) in cases {
-        let left = run_on(&rt, rt.alloc(), &SMALL, line.as_bytes(), 64, &[], &[])?;
+        let left = run_on(&rt, rt.alloc(), &["run"], line.as_bytes(), 64, &[], &[])?;
         let want = format!(in alloc;
             "1 refused: {name}\nend: documents 0, queries 0, refused 1\n"
         )?;
@@ -181,7 +182,7 @@ fn refuses_each_line(rt: HostRuntime) -> Result<(), Fail> {
         "?5 ((((((((((((((((a))))))))))))))))",
         "?5 a a a a a a a a a a a a a a a a a a a a a a a a a a a a a a a a a a a a a a a a a a a a a a a a a a a a a a a a a a a a a a a",
     ] {
-        let left = run_on(&rt, rt.alloc(), &SMALL, line.as_bytes(), 64, &[], &[])?;
+        let left = run_on(&rt, rt.alloc(), &["run"], line.as_bytes(), 64, &[], &[])?;
         let want = "1 seen 0:\nend: documents 0, queries 1, refused 0\n";
         assert_eq!(rt; left.printed.as_slice(), want.as_bytes(), "{line}");
     }
@@ -257,9 +258,9 @@ fn ends_at_faults(rt: HostRuntime) -> Result<(), Fail> {
             && left.said.as_slice() == b"earlybird: write fault\n".as_slice();
         assert!(rt; is_done || has_failed, "write {call}");
     }
-    let left = run_on(&rt, rt.alloc(), &SMALL, INPUT.as_bytes(), 5, &[3], &[])?;
+    let left = run_on(&rt, rt.alloc(), &["run"], INPUT.as_bytes(), 5, &[3], &[])?;
     assert_eq!(rt; left.printed.as_slice(), b"1 seen 0:\n".as_slice());
-    let left = run_on(&rt, rt.alloc(), &SMALL, INPUT.as_bytes(), 4, &[], &[2])?;
+    let left = run_on(&rt, rt.alloc(), &["run"], INPUT.as_bytes(), 4, &[], &[2])?;
     assert_eq!(rt; left.printed.as_slice(), b"1 se".as_slice());
     Ok(())
 }

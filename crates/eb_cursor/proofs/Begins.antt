@@ -176,40 +176,40 @@ top_never : (f : ℕ → Bool) → ((n : ℕ) → f n ≡ false) → (n : ℕ) �
 top_never f w zero = refl
 top_never f w (suc n) = rw (w n) (top_never f w n)
 
-phrase_set : (g : Gives) (docs : List Doc) (ts : List (List ℕ)) (cursors : List Cursor) (d : Cursor) (low : ℕ) → 0 < length cursors → length cursors ≡ length ts → Narrow docs → IsPassed (is_start docs ts) low (256 * length docs) → (0 < low → AllLeaves g docs ts cursors low)
-    → Ready g docs (phrase ts) (set cursors 0 (record { upto = low; current = (get_or cursors 0 d).current; list = (get_or cursors 0 d).list })) (length docs)
-phrase_set g docs ts cursors d low some len w passed leaves =
-    let c : Cursor = record { upto = low; current = (get_or cursors 0 d).current; list = (get_or cursors 0 d).list } in
+phrase_set : (g : Gives) (docs : List Doc) (ts : List (List ℕ)) (cursors : List Cursor) (d : Cursor) (low lead : ℕ) → 0 < length cursors → length cursors ≡ length ts → Narrow docs → IsPassed (is_start docs ts) low (256 * length docs) → (0 < low → AllLeaves g docs ts cursors low)
+    → Ready g docs (phrase ts) (set cursors 0 (record { upto = low; lead = lead; current = (get_or cursors 0 d).current; list = (get_or cursors 0 d).list })) (length docs)
+phrase_set g docs ts cursors d low lead some len w passed leaves =
+    let c : Cursor = record { upto = low; lead = lead; current = (get_or cursors 0 d).current; list = (get_or cursors 0 d).list } in
     let u : upto (set cursors 0 c) ≡ low = upto_set cursors c some in
     let long = length-set cursors 0 c in (
       omega arith,
       w,
       subst (λ y. IsPassed (is_start docs ts) y (256 * length docs)) (sym u) passed,
       long ∙ len,
-      subst (λ y. 0 < y → AllLeaves g docs ts (set cursors 0 c) y) (sym u) (λ h. leaves_upto g docs ts cursors d low low (leaves h)),
+      subst (λ y. 0 < y → AllLeaves g docs ts (set cursors 0 c) y) (sym u) (λ h. leaves_upto g docs ts cursors d low lead low (leaves h)),
     )
 
 never_starts : (docs : List Doc) (ts : List (List ℕ)) → ((x : ℕ) → is_run_from docs ts x ≡ false) → (n : ℕ) → top (is_start docs ts) n ≡ 0
 never_starts docs ts h n = top_never (is_start docs ts) (λ x. and_right (has_room (length ts) x) (is_run_from docs ts x) (h x)) n
 
-phrase_ready : (n : Moment) (docs : List Doc) (ts : List (List ℕ)) (cursors : List Cursor) (d : Cursor) (low end : ℕ) (may : Bool) → 2 ≤ length ts → length ts ≤ 64 → 0 < length docs → end ≡ 256 * length docs + 1 - length ts → low ≡ (if may then end else 0) → length cursors ≡ length ts → Narrow docs → BegunLeaves docs ts cursors may n
-    → Ready (gives n) docs (phrase ts) (set cursors 0 (record { upto = low; current = (get_or cursors 0 d).current; list = (get_or cursors 0 d).list })) (length docs)
-phrase_ready n docs ts cursors d low end true few most some at e len w begun =
+phrase_ready : (n : Moment) (docs : List Doc) (ts : List (List ℕ)) (cursors : List Cursor) (d : Cursor) (low lead end : ℕ) (may : Bool) → 2 ≤ length ts → length ts ≤ 64 → 0 < length docs → end ≡ 256 * length docs + 1 - length ts → low ≡ (if may then end else 0) → length cursors ≡ length ts → Narrow docs → BegunLeaves docs ts cursors may n
+    → Ready (gives n) docs (phrase ts) (set cursors 0 (record { upto = low; lead = lead; current = (get_or cursors 0 d).current; list = (get_or cursors 0 d).list })) (length docs)
+phrase_ready n docs ts cursors d low lead end true few most some at e len w begun =
     let k : low ≡ 256 * length docs + 1 - length ts = e ∙ at in
-    phrase_set (gives n) docs ts cursors d low (omega arith) len w
+    phrase_set (gives n) docs ts cursors d low lead (omega arith) len w
     (subst (λ y. IsPassed (is_start docs ts) y (256 * length docs)) (sym k) (phrase_passed docs ts (length docs) (omega arith) (omega arith) some))
     (λ _. leaves_from (gives n) docs ts cursors low (256 * length docs) (omega arith) (begun.ready refl))
-phrase_ready n docs ts cursors d low end false few most some at e len w begun =
-    phrase_set (gives n) docs ts cursors d low (omega arith) len w
+phrase_ready n docs ts cursors d low lead end false few most some at e len w begun =
+    phrase_set (gives n) docs ts cursors d low lead (omega arith) len w
     (record { same = λ _. never_starts docs ts (begun.none refl) (256 * length docs) ∙ sym (never_starts docs ts (begun.none refl) low) })
     (λ h. absurd (omega (arith, e)))
 
-pub begun_phrase : (n : Moment) (docs : List Doc) (q : Tree) (ts : List (List ℕ)) (cursors : List Cursor) (d : Cursor) (low end : ℕ) (may : Bool) → q ≡ phrase ts → 2 ≤ length ts → length ts ≤ 64 → 0 < length docs → end ≡ 256 * length docs + 1 - length ts → low ≡ (if may then end else 0) → length cursors ≡ length ts → Narrow docs → BegunLeaves docs ts cursors may n
-    → Begun docs q (set cursors 0 (record { upto = low; current = (get_or cursors 0 d).current; list = (get_or cursors 0 d).list })) may n
-begun_phrase n docs q ts cursors d low end may i few most some at e len w begun =
-    let c : Cursor = record { upto = low; current = (get_or cursors 0 d).current; list = (get_or cursors 0 d).list } in
+pub begun_phrase : (n : Moment) (docs : List Doc) (q : Tree) (ts : List (List ℕ)) (cursors : List Cursor) (d : Cursor) (low lead end : ℕ) (may : Bool) → q ≡ phrase ts → 2 ≤ length ts → length ts ≤ 64 → 0 < length docs → end ≡ 256 * length docs + 1 - length ts → low ≡ (if may then end else 0) → length cursors ≡ length ts → Narrow docs → BegunLeaves docs ts cursors may n
+    → Begun docs q (set cursors 0 (record { upto = low; lead = lead; current = (get_or cursors 0 d).current; list = (get_or cursors 0 d).list })) may n
+begun_phrase n docs q ts cursors d low lead end may i few most some at e len w begun =
+    let c : Cursor = record { upto = low; lead = lead; current = (get_or cursors 0 d).current; list = (get_or cursors 0 d).list } in
     record {
-      ready = subst (λ (x : Tree). Ready (gives n) docs x (set cursors 0 c) (length docs)) (sym i) (phrase_ready n docs ts cursors d low end may few most some at e len w begun);
+      ready = subst (λ (x : Tree). Ready (gives n) docs x (set cursors 0 c) (length docs)) (sym i) (phrase_ready n docs ts cursors d low lead end may few most some at e len w begun);
       none = λ h. ap (λ (x : Tree). top (match_at docs x) (length docs)) i ∙ phrase_top docs w ts (omega arith) (length docs) ∙ ap document_end (never_starts docs ts (begun.none h) (256 * length docs));
     }
 

@@ -9,7 +9,7 @@ use Rattle.eb_cursor.specs.Tops.{top}
 use Rattle.eb_cursor.specs.Lists.{Gives}
 use Rattle.eb_cursor.specs.Posted.{terms_at, is_term, is_posting, match_at, is_run_from, has_room, is_start, Narrow, document_end}
 use Rattle.eb_cursor.specs.Ready.{IsLeaf, AllLeaves, IsPassed, Ready, upto}
-use Rattle.eb_cursor.specs.Asked.{IsRun}
+use Rattle.eb_cursor.specs.Asked.{IsLedRun, IsRun}
 use Rattle.eb_cursor.specs.declared.cursor.Cursor.{Cursor}
 use Rattle.eb_cursor.proofs.Tellings.{Later}
 use Rattle.eb_cursor.proofs.Tops.{top_le, top_between, top_skips, top_implied, top_and, top_here, top_past, top_same}
@@ -99,6 +99,56 @@ run_step g1 g' docs ts t us s' ss' at end reach found1 found e w told minus leaf
     let run : IsRun g' docs (t ∷ us) (s' ∷ ss') at end found = record { falls = omega (arith, more.falls); same = two.0; all = two.1; ready = (own, rest) } in
     subst (λ x. IsRun g' docs x (s' ∷ ss') at end found) (sym e) run
 
+-- ---- the leading leaf
+
+-- no leaf leads
+pub led_run_none : (g : Gives) (docs : List Doc) (ts : List (List ℕ)) (cursors : List Cursor) (at end last : ℕ) → end ≤ last → AllLeaves g docs ts cursors (last + at) → IsLedRun g docs ts cursors at end end
+led_run_none g docs ts cursors at end last h r = record {
+  falls = omega arith;
+  most = top_le (λ x. is_run_from docs ts (x + at)) end;
+  ready = leaves_lower g docs ts cursors (end + at) (last + at) (omega arith) r;
+}
+
+-- the first leaf leads
+pub led_run_here : (g : Gives) (docs : List Doc) (ts : List (List ℕ)) (t : List ℕ) (us : List (List ℕ)) (s' : Cursor) (ss : List Cursor) (at end last reach found : ℕ)
+    → ts ≡ t ∷ us → end ≤ last → reach ≡ top (is_posting docs t) (end + at) → found ≡ reach - at → IsLeaf g (is_posting docs t) s' (end + at) → AllLeaves g docs us ss (last + (at + 1)) → IsLedRun g docs ts (s' ∷ ss) at end found
+led_run_here g docs ts t us s' ss at end last reach found e h told minus leaf others =
+    let f : ℕ → Bool = λ x. is_posting docs t (x + at) in
+    let k : ℕ → Bool = λ x. is_run_from docs us (suc (x + at)) in
+    let both : ℕ → Bool = λ x. f x && k x in
+    let told1 : found ≡ top f end = omega (arith, top_shift (is_posting docs t) at end) in
+    let le : found ≤ end = omega (arith, top_le f end) in
+    let under : top both end ≤ top f end = top_implied f both (λ n p. (and_parts (f n) (k n) p).0) end in
+    let most : top both end ≤ found = omega (arith, under, told1) in
+    let own : IsLeaf g (is_posting docs t) s' (found + at) = leaf_lower g (is_posting docs t) s' (found + at) (end + at) (omega arith) leaf in
+    let rest : AllLeaves g docs us ss (suc (found + at)) = leaves_lower g docs us ss (suc (found + at)) (last + (at + 1)) (omega arith) others in
+    let run : IsLedRun g docs (t ∷ us) (s' ∷ ss) at end found = record { falls = le; most = most; ready = (own, rest) } in
+    subst (λ x. IsLedRun g docs x (s' ∷ ss) at end found) (sym e) run
+
+-- a leaf behind the first leads
+pub led_run_there : (g g' : Gives) (docs : List Doc) (ts : List (List ℕ)) (t : List ℕ) (us : List (List ℕ)) (s : Cursor) (ss' : List Cursor) (at end last found : ℕ)
+    → ts ≡ t ∷ us → Later g g' → end ≤ last → IsLeaf g (is_posting docs t) s (last + at) → IsLedRun g' docs us ss' (at + 1) end found → IsLedRun g' docs ts (s ∷ ss') at end found
+led_run_there g g' docs ts t us s ss' at end last found e w h leaf more =
+    let f : ℕ → Bool = λ x. is_posting docs t (x + at) in
+    let k : ℕ → Bool = λ x. is_run_from docs us (suc (x + at)) in
+    let both : ℕ → Bool = λ x. f x && k x in
+    let ks : top k end ≡ top (λ y. is_run_from docs us (y + (at + 1))) end = top_same k (λ y. is_run_from docs us (y + (at + 1))) (λ n. let j : suc (n + at) ≡ n + (at + 1) = omega arith in ap (is_run_from docs us) j) end in
+    let under : top both end ≤ top k end = top_implied k both (λ n p. (and_parts (f n) (k n) p).1) end in
+    let most : top both end ≤ found = omega (arith, under, ks, more.most) in
+    let own : IsLeaf g' (is_posting docs t) s (found + at) = leaf_lower g' (is_posting docs t) s (found + at) (last + at) (omega (arith, more.falls)) (leaf_later g g' w (is_posting docs t) s (last + at) leaf) in
+    let j : found + (at + 1) ≡ suc (found + at) = omega arith in
+    let rest : AllLeaves g' docs us ss' (suc (found + at)) = subst (λ y. AllLeaves g' docs us ss' y) j more.ready in
+    let run : IsLedRun g' docs (t ∷ us) (s ∷ ss') at end found = record { falls = more.falls; most = most; ready = (own, rest) } in
+    subst (λ x. IsLedRun g' docs x (s ∷ ss') at end found) (sym e) run
+
+-- the leading leaf passed no start
+pub led_starts : (g : Gives) (docs : List Doc) (ts : List (List ℕ)) (cursors : List Cursor) (end found : ℕ) → IsLedRun g docs ts cursors 0 end found → top (is_start docs ts) found ≡ top (is_start docs ts) end
+led_starts g docs ts cursors end found run =
+    let k : ℕ → Bool = λ x. is_run_from docs ts (x + 0) in
+    let under : top (is_start docs ts) end ≤ top k end = top_implied k (is_start docs ts) (λ n p. let z : n ≡ n + 0 = omega arith in subst (λ y. is_run_from docs ts y ≡ true) z (and_parts (has_room (length ts) n) (is_run_from docs ts n) p).1) end in
+    let most : top k end ≤ found = run.most in
+    top_between (is_start docs ts) found end (omega (arith, under, most)) run.falls
+
 -- ---- the starts
 
 pub start_round : (docs : List Doc) (ts : List (List ℕ)) (n place room found : ℕ) → n ≡ length ts → room ≡ top (has_room n) place → (g : Gives) (cursors : List Cursor) → IsRun g docs ts cursors 0 room found
@@ -185,14 +235,14 @@ phrase_top docs w ps h end = blocks (match_at docs (phrase ps)) (is_start docs p
 
 -- ---- the whole phrase
 
-leaf_upto : (g : Gives) (f : ℕ → Bool) (s : Cursor) (v y : ℕ) → IsLeaf g f s y → IsLeaf g f (record { upto = v; current = s.current; list = s.list }) y
-leaf_upto g f s v y r = record { left = r.left; told = r.told; falls = r.falls; rest = r.rest }
+leaf_upto : (g : Gives) (f : ℕ → Bool) (s : Cursor) (v k y : ℕ) → IsLeaf g f s y → IsLeaf g f (record { upto = v; lead = k; current = s.current; list = s.list }) y
+leaf_upto g f s v k y r = record { left = r.left; told = r.told; falls = r.falls; rest = r.rest }
 
-pub leaves_upto : (g : Gives) (docs : List Doc) (ts : List (List ℕ)) (cursors : List Cursor) (d : Cursor) (v y : ℕ) → AllLeaves g docs ts cursors y → AllLeaves g docs ts (set cursors 0 (record { upto = v; current = (get_or cursors 0 d).current; list = (get_or cursors 0 d).list })) y
-leaves_upto g docs [] [] d v y r = r
-leaves_upto g docs [] (s ∷ ss) d v y r = let e : s ∷ ss ≡ [] = r in cc
-leaves_upto g docs (t ∷ ts) [] d v y r = absurd r
-leaves_upto g docs (t ∷ ts) (s ∷ ss) d v y r = (leaf_upto g (is_posting docs t) s v y r.0, r.1)
+pub leaves_upto : (g : Gives) (docs : List Doc) (ts : List (List ℕ)) (cursors : List Cursor) (d : Cursor) (v k y : ℕ) → AllLeaves g docs ts cursors y → AllLeaves g docs ts (set cursors 0 (record { upto = v; lead = k; current = (get_or cursors 0 d).current; list = (get_or cursors 0 d).list })) y
+leaves_upto g docs [] [] d v k y r = r
+leaves_upto g docs [] (s ∷ ss) d v k y r = let e : s ∷ ss ≡ [] = r in cc
+leaves_upto g docs (t ∷ ts) [] d v k y r = absurd r
+leaves_upto g docs (t ∷ ts) (s ∷ ss) d v k y r = (leaf_upto g (is_posting docs t) s v k y r.0, r.1)
 
 pub upto_set : (cursors : List Cursor) (s : Cursor) → 0 < length cursors → upto (set cursors 0 s) ≡ s.upto
 upto_set [] s h = absurd (omega arith)
@@ -229,15 +279,15 @@ pub phrase_told : (g g' : Gives) (docs : List Doc) (ts : List (List ℕ)) (curso
     → start ≡ min (256 * end) (get_or cursors 0 d).upto → end ≤ last → length cursors2 ≡ length cursors
     → (found ≡ top (is_start docs ts) start) × AllLeaves g' docs ts cursors2 found
     → Ready g docs (phrase ts) cursors last
-    → (document_end found ≡ top (match_at docs (phrase ts)) end) × Ready g' docs (phrase ts) (set cursors2 0 (record { upto = found; current = (get_or cursors2 0 d').current; list = (get_or cursors2 0 d').list })) end
+    → (document_end found ≡ top (match_at docs (phrase ts)) end) × Ready g' docs (phrase ts) (set cursors2 0 (record { upto = found; lead = (get_or cursors2 0 d').lead; current = (get_or cursors2 0 d').current; list = (get_or cursors2 0 d').list })) end
 phrase_told g g' docs ts cursors cursors2 d d' start end last found m h len w r =
     let f : ℕ → Bool = is_start docs ts in
     let some : 0 < length ts = omega (arith, r.3, r.0) in
     let some2 : 0 < length cursors2 = omega (arith, len, r.0) in
     let top_is : found ≡ top f (256 * end) = w.0 ∙ ap (top f) m ∙ passed_min f (get_or cursors 0 d).upto (256 * end) (256 * last) (omega arith) (passed_at docs ts cursors d last r.0 r.2) in
-    let s' : Cursor = record { upto = found; current = (get_or cursors2 0 d').current; list = (get_or cursors2 0 d').list } in
+    let s' : Cursor = record { upto = found; lead = (get_or cursors2 0 d').lead; current = (get_or cursors2 0 d').current; list = (get_or cursors2 0 d').list } in
     let v : upto (set cursors2 0 s') ≡ found = upto_set cursors2 s' some2 in
     let again : IsPassed f (upto (set cursors2 0 s')) (256 * end) = subst (λ y. IsPassed f y (256 * end)) (sym v) (passed_again f found (256 * end) top_is) in
-    let leaves : AllLeaves g' docs ts (set cursors2 0 s') (upto (set cursors2 0 s')) = subst (λ y. AllLeaves g' docs ts (set cursors2 0 s') y) (sym v) (leaves_upto g' docs ts cursors2 d' found found w.1) in
+    let leaves : AllLeaves g' docs ts (set cursors2 0 s') (upto (set cursors2 0 s')) = subst (λ y. AllLeaves g' docs ts (set cursors2 0 s') y) (sym v) (leaves_upto g' docs ts cursors2 d' found _ found w.1) in
     let long : 0 < length (set cursors2 0 s') = omega (arith, length-set cursors2 0 s') in
     (ap document_end top_is ∙ sym (phrase_top docs r.1 ts some end), (long, r.1, again, length-set cursors2 0 s' ∙ len ∙ r.3, λ _. leaves))

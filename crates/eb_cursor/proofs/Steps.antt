@@ -9,7 +9,7 @@ use Rattle.eb_cursor.specs.Tops.{top}
 use Rattle.eb_cursor.specs.Lists.{Gives}
 use Rattle.eb_cursor.specs.Posted.{is_posting, match_at, each_at, some_at, document_end}
 use Rattle.eb_cursor.specs.Ready.{IsLeaf, IsOnly, IsPassed, Ready, AllReady}
-use Rattle.eb_cursor.specs.Asked.{IsRound, trees_in}
+use Rattle.eb_cursor.specs.Asked.{IsLed, IsRound, trees_in}
 use Rattle.eb_cursor.specs.declared.cursor.Cursor.{Cursor}
 use Rattle.eb_cursor.proofs.Tellings.{Later}
 use Rattle.eb_cursor.proofs.Tops.{top_le, top_between, top_twice, top_skips, top_implied, top_and, top_or, top_not_here, top_not_past, top_here}
@@ -143,6 +143,45 @@ round_step g1 g' docs qs q qs' a b' end found1 found e w told ready more =
       ready = all_join g' docs x q qs' a b' found i (ready_lower g' docs q a found end (omega (arith, more.falls)) (ready_later g1 g' w docs q a end ready)) more.ready;
     } in
     back qs e
+
+-- no part leads
+pub led_none : (g : Gives) (docs : List Doc) (qs : Trees) (cursors : List Cursor) (end last : ℕ) → end ≤ last → AllReady g docs qs cursors last → IsLed g docs qs cursors end end
+led_none g docs qs cursors end last h r = record { falls = omega arith; most = top_le (each_at docs qs) end; ready = all_lower g docs qs cursors end last h r }
+
+-- the first part leads
+pub led_here : (g : Gives) (docs : List Doc) (qs : Trees) (q : Tree) (qs' : Trees) (a b : List Cursor) (end found : ℕ)
+    → qs ≡ trees q qs' → found ≡ top (match_at docs q) end → Ready g docs q a end → AllReady g docs qs' b end → IsLed g docs qs (a ++ b) end found
+led_here g docs qs q qs' a b end found e told ready others =
+    let f : ℕ → Bool = match_at docs q in
+    let h : ℕ → Bool = each_at docs qs' in
+    let both : ℕ → Bool = each_at docs (trees q qs') in
+    let under : top both end ≤ top f end = top_implied f both (λ n p. (and_parts (f n) (h n) p).0) end in
+    let le : found ≤ end = omega (arith, top_le f end) in
+    let most : top both end ≤ found = omega (arith, under, told) in
+    record {
+      falls = le;
+      most = subst (λ y. top (each_at docs y) end ≤ found) (sym e) most;
+      ready = all_join g docs qs q qs' a b found e (ready_lower g docs q a found end le ready) (all_lower g docs qs' b found end le others);
+    }
+
+-- a part behind the first leads
+pub led_there : (g : Gives) (docs : List Doc) (qs : Trees) (q : Tree) (qs' : Trees) (a b : List Cursor) (end last found : ℕ)
+    → qs ≡ trees q qs' → end ≤ last → Ready g docs q a last → IsLed g docs qs' b end found → IsLed g docs qs (a ++ b) end found
+led_there g docs qs q qs' a b end last found e i ready more =
+    let f : ℕ → Bool = match_at docs q in
+    let h : ℕ → Bool = each_at docs qs' in
+    let both : ℕ → Bool = each_at docs (trees q qs') in
+    let under : top both end ≤ top h end = top_implied h both (λ n p. (and_parts (f n) (h n) p).1) end in
+    let most : top both end ≤ found = omega (arith, under, more.most) in
+    record {
+      falls = more.falls;
+      most = subst (λ y. top (each_at docs y) end ≤ found) (sym e) most;
+      ready = all_join g docs qs q qs' a b found e (ready_lower g docs q a found last (omega (arith, more.falls)) ready) more.ready;
+    }
+
+-- the leading part passed no match of all
+pub led_top : (g : Gives) (docs : List Doc) (qs : Trees) (cursors : List Cursor) (end found : ℕ) → IsLed g docs qs cursors end found → top (each_at docs qs) found ≡ top (each_at docs qs) end
+led_top g docs qs cursors end found led = top_between (each_at docs qs) found end led.most led.falls
 
 -- ---- or
 

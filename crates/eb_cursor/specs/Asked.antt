@@ -72,12 +72,24 @@ FoundAll qs docs cursors end found n = (found ≡ top (each_at docs qs) end) × 
 abbrev pub FoundStart : List (List ℕ) → List Doc → List Cursor → ℕ → ℕ → Moment → Type 0
 FoundStart ts docs cursors end found n = (found ≡ top (is_start docs ts) end) × AllLeaves (gives n) docs ts cursors found
 
+-- the leading part passed nothing that all match
+pub record IsLed (g : Gives) (docs : List Doc) (qs : Trees) (cursors : List Cursor) (end found : ℕ) : Type 0 where
+  pub falls : found ≤ end
+  pub most : top (each_at docs qs) end ≤ found
+  pub ready : AllReady g docs qs cursors found
+
 -- one round over the parts passed nothing that all match
 pub record IsRound (g : Gives) (docs : List Doc) (qs : Trees) (cursors : List Cursor) (end found : ℕ) : Type 0 where
   pub falls : found ≤ end
   pub same : top (each_at docs qs) end ≡ top (each_at docs qs) found
   pub all : found ≡ end → top (each_at docs qs) end ≡ end
   pub ready : AllReady g docs qs cursors found
+
+-- the leading leaf passed no place from which all terms stand
+pub record IsLedRun (g : Gives) (docs : List Doc) (ts : List (List ℕ)) (cursors : List Cursor) (at end found : ℕ) : Type 0 where
+  pub falls : found ≤ end
+  pub most : top (λ x. is_run_from docs ts (x + at)) end ≤ found
+  pub ready : AllLeaves g docs ts cursors (found + at)
 
 -- one round over the leaves passed no place from which all terms stand
 pub record IsRun (g : Gives) (docs : List Doc) (ts : List (List ℕ)) (cursors : List Cursor) (at end found : ℕ) : Type 0 where

@@ -14,6 +14,7 @@ ghost use Rattle.eb_cursor.specs.Begun.{AreClear, CanBegin, Begun, BegunLeaves, 
 use crate::cursor::Cursor;
 use crate::phrase::PLACES;
 use crate::posting_list::PostingList;
+use crate::rarest::{rarest, rarest_leaf};
 use crate::size::size;
 use eb_base::{Query, Term};
 use eb_place::{Port, Steps};
@@ -45,6 +46,7 @@ fn open_leaf<P: Port, L: Ledger>(
     let current = list.next(port, steps);
     Cursor {
         upto: 0,
+        lead: 0,
         current,
         list,
     }
@@ -84,7 +86,8 @@ fn end_if(some: bool, end: u64) -> u64
 }
 
 /// Begins a query at the end of the first `documents` documents of a segment. False only where none of
-/// them matches; a term that stands in none ends a word, a phrase and an and at once.
+/// them matches; a term that stands in none ends a word, a phrase and an and at once. In an and and a
+/// phrase the part leads that is likely the rarest.
 #[cycle(begin)]
 pub fn begin<P: Port, L: Ledger>(
     query: &Query,
@@ -113,7 +116,11 @@ pub fn begin<P: Port, L: Ledger>(
         Query::Phrase(terms) => {
             let all = begin_leaves(terms.as_slice(), cursors, segment, port, steps);
             let last = PLACES * end + 1 - terms.len() as u64;
-            cursors[0].upto = end_if(all, last);
+            let upto = end_if(all, last);
+            let lead = rarest_leaf(cursors).number;
+            let first = &mut cursors[0];
+            first.upto = upto;
+            first.lead = lead;
             all
         }
         Query::Not(part) => {
@@ -130,6 +137,7 @@ pub fn begin<P: Port, L: Ledger>(
             };
             let all = begin_each(parts.as_slice(), rest, segment, documents, port, steps);
             own.upto = end_if(all, end);
+            own.lead = rarest(parts.as_slice(), rest).number;
             all
         }
         Query::Or(parts) => {

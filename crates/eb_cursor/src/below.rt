@@ -7,7 +7,7 @@ ghost use Rattle.eb_cursor.specs.Told.{Told};
 ghost use Rattle.eb_cursor.specs.Lists.{gives};
 ghost use Rattle.eb_cursor.specs.Loads.{loads_left};
 ghost use Rattle.eb_cursor.specs.Ready.{Ready, AllReady};
-ghost use Rattle.eb_cursor.specs.Asked.{trees_in, CanAsk, CanAskAll, Found, FoundNot, FoundSome, FoundAll, CanAskWord, IsRound};
+ghost use Rattle.eb_cursor.specs.Asked.{trees_in, CanAsk, CanAskAll, Found, FoundNot, FoundSome, FoundAll, CanAskWord, IsLed, IsRound};
 
 use crate::cursor::{Cursor, leaf_below};
 use crate::phrase::{PLACES, phrase_below, to_document_end};
@@ -48,7 +48,8 @@ pub fn below<P: Port, L: Ledger>(
             let Some((own, rest)) = cursors.split_first_mut() else {
                 return 0;
             };
-            let found = all_below(parts.as_slice(), rest, port, steps, end.min(own.upto));
+            let start = end.min(own.upto);
+            let found = led_below(parts.as_slice(), rest, own.lead, port, steps, start);
             own.upto = found;
             found
         }
@@ -100,6 +101,51 @@ fn not_below<P: Port, L: Ledger>(
         place -= 1;
     }
     place
+}
+
+// Asks the leading part first, and then all parts from where it stopped.
+#[cycle(below)]
+fn led_below<P: Port, L: Ledger>(
+    parts: &[Query],
+    cursors: &mut [Cursor],
+    lead: u32,
+    port: &mut P,
+    steps: &mut Steps<L>,
+    end: u64,
+) -> u64
+    requires small { (end ≤ 2 ^ 32) × (length cursors.old ≤ 64) }
+    requires ready { CanAskAll P.stands port.old (trees_in parts.now) cursors.old end }
+    ensures found { (docs : List Doc) (last : ℕ) → end ≤ last → Told P.stands P.keeps port.old port.new (λ m. AllReady (gives m) docs (trees_in parts.now) cursors.old last) (FoundAll (trees_in parts.now) docs cursors.new end result) }
+    ensures loads { steps.new + loads_left cursors.new ≤ steps.old + loads_left cursors.old }
+{
+    let start = lead_below(parts, cursors, lead, port, steps, end);
+    all_below(parts, cursors, port, steps, start)
+}
+
+// One more than the greatest document below `end` that the leading part matches, or 0; `end` where no
+// part has its number.
+#[cycle(below)]
+fn lead_below<P: Port, L: Ledger>(
+    parts: &[Query],
+    cursors: &mut [Cursor],
+    lead: u32,
+    port: &mut P,
+    steps: &mut Steps<L>,
+    end: u64,
+) -> u64
+    requires small { (end ≤ 2 ^ 32) × (length cursors.old ≤ 64) }
+    requires ready { CanAskAll P.stands port.old (trees_in parts.now) cursors.old end }
+    ensures found { (docs : List Doc) (last : ℕ) → end ≤ last → Told P.stands P.keeps port.old port.new (λ m. AllReady (gives m) docs (trees_in parts.now) cursors.old last) (λ n. IsLed (gives n) docs (trees_in parts.now) cursors.new end result) }
+    ensures loads { steps.new + loads_left cursors.new ≤ steps.old + loads_left cursors.old }
+{
+    let Some((part, others)) = parts.split_first() else {
+        return end;
+    };
+    let (own, rest) = cursors.split_at_mut(size(part));
+    if lead == 0 {
+        return below(part, own, port, steps, end);
+    }
+    lead_below(others, rest, lead - 1, port, steps, end)
 }
 
 // Asks all parts in turn, each from where the one before it stopped, until none of them falls.

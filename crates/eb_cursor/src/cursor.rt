@@ -17,6 +17,8 @@ use std::sync::ledger::Ledger;
 pub struct Cursor {
     /// Of an operator or a phrase: all above this end is passed. A place for a phrase, else a document.
     pub upto: u64,
+    /// Of an and or a phrase: the number of the part or term that is asked first, counted from 0.
+    pub lead: u32,
     /// Of a word or a term of a phrase: the posting that was given last.
     pub current: Option<u32>,
     /// The postings below it.
@@ -30,6 +32,7 @@ impl Cursor {
     {
         Cursor {
             upto: 0,
+            lead: 0,
             current: None,
             list: PostingList::Empty,
         }

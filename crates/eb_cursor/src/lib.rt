@@ -9,6 +9,7 @@ mod cursor;
 mod frame;
 mod phrase;
 mod posting_list;
+mod rarest;
 mod size;
 
 pub use frame::Frame;

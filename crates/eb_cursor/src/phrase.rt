@@ -8,7 +8,7 @@ ghost use Rattle.eb_cursor.specs.Lists.{gives};
 ghost use Rattle.eb_cursor.specs.Loads.{loads_left};
 ghost use Rattle.eb_cursor.specs.Posted.{document_end, has_room};
 ghost use Rattle.eb_cursor.specs.Ready.{Ready, AllLeaves};
-ghost use Rattle.eb_cursor.specs.Asked.{CanAskPhrase, CanAskLeaves, Found, FoundStart, IsRun};
+ghost use Rattle.eb_cursor.specs.Asked.{CanAskPhrase, CanAskLeaves, Found, FoundStart, IsLedRun, IsRun};
 ghost use Rattle.eb_cursor.specs.Tops.{top};
 
 use crate::cursor::{Cursor, leaf_below};
@@ -66,6 +66,30 @@ fn leaves_below<P: Port, L: Ledger>(
     leaves_below(at + 1, rest, port, steps, found)
 }
 
+// One more than the greatest place below `end` from which the leading term can stand, or 0; `end` where
+// no term has its number.
+fn lead_leaf_below<P: Port, L: Ledger>(
+    at: u64,
+    lead: u32,
+    cursors: &mut [Cursor],
+    port: &mut P,
+    steps: &mut Steps<L>,
+    end: u64,
+) -> u64
+    requires small { end + at + length cursors.old < 2 ^ 48 }
+    requires ready { CanAskLeaves P.stands port.old cursors.old at end }
+    ensures found { (docs : List Doc) (ts : List (List ℕ)) (last : ℕ) → end ≤ last → Told P.stands P.keeps port.old port.new (λ m. AllLeaves (gives m) docs ts cursors.old (last + at)) (λ n. IsLedRun (gives n) docs ts cursors.new at end result) }
+    ensures loads { steps.new + loads_left cursors.new ≤ steps.old + loads_left cursors.old }
+{
+    let Some((own, rest)) = cursors.split_first_mut() else {
+        return end;
+    };
+    if lead == 0 {
+        return leaf_below(own, port, steps, end + at).saturating_sub(at);
+    }
+    lead_leaf_below(at + 1, lead - 1, rest, port, steps, end)
+}
+
 // One more than the greatest place below `end` where the phrase begins, or 0.
 fn starts_below<P: Port, L: Ledger>(
     cursors: &mut [Cursor],
@@ -90,6 +114,23 @@ fn starts_below<P: Port, L: Ledger>(
     }
 }
 
+// Asks the leading term first, and then all terms from where it stopped.
+fn led_starts_below<P: Port, L: Ledger>(
+    lead: u32,
+    cursors: &mut [Cursor],
+    port: &mut P,
+    steps: &mut Steps<L>,
+    end: u64,
+) -> u64
+    requires small { (end ≤ 2 ^ 40) × (0 < length cursors.old) × (length cursors.old ≤ 64) }
+    requires ready { CanAskLeaves P.stands port.old cursors.old 0 end }
+    ensures found { (docs : List Doc) (ts : List (List ℕ)) (last : ℕ) → end ≤ last → Told P.stands P.keeps port.old port.new (λ m. AllLeaves (gives m) docs ts cursors.old last) (FoundStart ts docs cursors.new end result) }
+    ensures loads { steps.new + loads_left cursors.new ≤ steps.old + loads_left cursors.old }
+{
+    let start = lead_leaf_below(0, lead, cursors, port, steps, end);
+    starts_below(cursors, port, steps, start)
+}
+
 /// One more than the greatest document below `end` that has the phrase, or 0.
 pub fn phrase_below<P: Port, L: Ledger>(
     cursors: &mut [Cursor],
@@ -106,7 +147,8 @@ pub fn phrase_below<P: Port, L: Ledger>(
     if start == 0 {
         return 0;
     }
-    let found = starts_below(cursors, port, steps, start);
+    let lead = cursors[0].lead;
+    let found = led_starts_below(lead, cursors, port, steps, start);
     cursors[0].upto = found;
     to_document_end(found)
 }

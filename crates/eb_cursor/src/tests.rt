@@ -1,4 +1,6 @@
 use crate::Frame;
+use crate::cursor::Cursor;
+use crate::rarest::rarest_leaf;
 use eb_base::{Queries, Query, Term, Terms};
 use std::alloc::Global;
 use std::test::Fail;
@@ -27,4 +29,21 @@ fn a_frame_takes_ids(rt: HostRuntime) -> Result<(), Fail> {
     frame.clear();
     assert!(rt; frame.ids().is_empty() && !frame.is_full());
     Ok(())
+}
+
+// A leaf that stands at this posting.
+fn leaf(posting: Option<u32>) -> Cursor {
+    let mut cursor = Cursor::new();
+    cursor.current = posting;
+    cursor
+}
+
+#[test]
+fn the_term_with_the_oldest_newest_posting_leads(rt: HostRuntime) {
+    let leaves = [leaf(Some(900)), leaf(Some(300)), leaf(Some(301))];
+    assert_eq!(rt; rarest_leaf(&leaves).number, 1);
+    let leaves = [leaf(Some(7)), leaf(Some(7))];
+    assert_eq!(rt; rarest_leaf(&leaves).number, 0);
+    let leaves = [leaf(Some(7)), leaf(Some(5)), leaf(None)];
+    assert_eq!(rt; rarest_leaf(&leaves).number, 2);
 }

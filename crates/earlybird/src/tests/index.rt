@@ -225,8 +225,40 @@ fn answers_as_the_plain_scan(rt: HostRuntime) -> Result<(), Fail> {
     Ok(())
 }
 
+// The made input of so many documents, of start 0.
+fn made(alloc: Global, docs: u32) -> Result<Vec<u8>, Fail> {
+    let mut input = Vec::new(alloc);
+    for number in 0..docs {
+        input.extend_from_slice(line_of(alloc, 0, number)?.as_slice())?;
+        input.push(b'\n')?;
+        if (number + 1) % 1000 == 0 || number + 1 == docs {
+            input.extend_from_slice(query_of(alloc, 0, number)?.as_slice())?;
+            input.push(b'\n')?;
+        }
+    }
+    Ok(input)
+}
+
+// How many ids the answers of a text have, and their sum.
+fn ids_in(text: &str) -> (u64, u64) {
+    let mut count = 0u64;
+    let mut sum = 0u64;
+    for line in text.lines() {
+        if let Some((seen, ids)) = line.split_once(':') {
+            if seen.contains("seen") {
+                for id in ids.split_whitespace() {
+                    count = count.wrapping_add(1);
+                    sum = sum.wrapping_add(id.parse::<u64>().unwrap_or(0));
+                }
+            }
+        }
+    }
+    (count, sum)
+}
+
 #[test]
 fn bench_prints_its_figures(rt: HostRuntime) -> Result<(), Fail> {
+    let alloc = rt.alloc();
     for (docs, want) in [
         ("1", "bench: documents 1, queries 1, ids 1, sum 0\n"),
         ("2", "bench: documents 2, queries 1, ids 1, sum 1\n"),
@@ -235,5 +267,25 @@ fn bench_prints_its_figures(rt: HostRuntime) -> Result<(), Fail> {
         assert_eq!(rt; left.printed.as_slice(), want.as_bytes());
         assert_eq!(rt; left.status.code(), 0);
     }
+    let input = made(alloc, 1000)?;
+    let run = run_on(&rt, rt.alloc(), &["run"], input.as_slice(), 4096, &[], &[])?;
+    let (ids, sum) = ids_in(str::from_utf8(run.printed.as_slice())?);
+    let want = format!(in alloc; "bench: documents 1000, queries 1, ids {ids}, sum {sum}\n")?;
+    let bench = run_on(&rt, rt.alloc(), &["bench", "0", "1000"], b"", 64, &[], &[])?;
+    assert_eq!(rt; bench.printed.as_slice(), want.as_bytes());
+    Ok(())
+}
+
+#[test]
+fn the_greatest_bench_is_the_same_twice(rt: HostRuntime) -> Result<(), Fail> {
+    let words = ["bench", "0", "40000"];
+    let first = run_on(&rt, rt.alloc(), &words, b"", 64, &[], &[])?;
+    let second = run_on(&rt, rt.alloc(), &words, b"", 64, &[], &[])?;
+    assert!(rt;
+        first
+            .printed
+            .starts_with(b"bench: documents 40000, queries 40, ids ")
+    );
+    assert_eq!(rt; first.printed.as_slice(), second.printed.as_slice());
     Ok(())
 }

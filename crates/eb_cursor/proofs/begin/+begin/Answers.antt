@@ -30,8 +30,8 @@ begin-returns-in-Phrase g t c = λ docs same.
     let kept : length c.begin_leaves-all.new.cursors ≡ length c.args.cursors.now = c.begin_leaves-all.auto.cursors in
     let formed : 2 ≤ length ts = subst IsFormed i c.requires.formed in
     told_as g.met.P.Port.lawful (c.begin_leaves-all.ensures docs) (λ m a. a)
-    (λ m n w a begun. begun_phrase n docs (tree c.args.query.now) ts c.begin_leaves-all.new.cursors _ c.end_if.result (256 * length docs + 1 - length ts) c.begin_leaves-all.result i formed (omega (arith, few, c.requires.small.1)) (omega (arith, same, c.requires.small.0)) refl
-    (c.end_if.ensures ∙ ap (λ (k : ℕ). if c.begin_leaves-all.result then k else 0) (omega (arith, same, c.from-end.ensures, c.len.ensures))) (kept ∙ few) a.narrow
+    (λ m n w a begun. begun_phrase n docs (tree c.args.query.now) ts c.begin_leaves-all.new.cursors _ c.end_if-upto.result _ (256 * length docs + 1 - length ts) c.begin_leaves-all.result i formed (omega (arith, few, c.requires.small.1)) (omega (arith, same, c.requires.small.0)) refl
+    (c.end_if-upto.ensures ∙ ap (λ (k : ℕ). if c.begin_leaves-all.result then k else 0) (omega (arith, same, c.from-end.ensures, c.len.ensures))) (kept ∙ few) a.narrow
     (subst (λ (z : List (List ℕ)). BegunLeaves docs z c.begin_leaves-all.new.cursors c.begin_leaves-all.result n) slice begun))
 
 pub begin-returns-in-Some-split_first_mut : goal.begin-returns-in-Some-split_first_mut

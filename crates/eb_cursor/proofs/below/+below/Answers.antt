@@ -7,8 +7,8 @@ use Rattle.eb_cursor.specs.Ready.{Ready, AllReady}
 use Rattle.eb_cursor.specs.Tops.{top}
 use Rattle.eb_cursor.specs.Posted.{match_at}
 use Rattle.eb_cursor.proofs.Tops.{top_le}
-use Rattle.eb_cursor.proofs.Readies.{ready_lower, all_lower, all_size}
-use Rattle.eb_cursor.proofs.Steps.{tree_Word, tree_Phrase, tree_Not, tree_And, tree_Or, not_asks, not_told, not_here, not_past, each_told, each_asks, round_end, round_step, some_end, some_step, some_asks, some_told, front_of, front_asks, others_ask, ended}
+use Rattle.eb_cursor.proofs.Readies.{ready_lower, ready_later, all_lower, all_size}
+use Rattle.eb_cursor.proofs.Steps.{tree_Word, tree_Phrase, tree_Not, tree_And, tree_Or, not_asks, not_told, not_here, not_past, each_told, each_asks, led_none, led_here, led_there, led_top, round_end, round_step, some_end, some_step, some_asks, some_told, front_of, front_asks, others_ask, ended}
 use Rattle.eb_cursor.proofs.LoadsLeft.{loads_split}
 use Rattle.eb_cursor.proofs.Tellings.{IsLater, gives_later, told_itself, told_as, told_on}
 use Rattle.eb_cursor.proofs.below.+below.Goals as goal
@@ -41,21 +41,21 @@ below-returns-in-Some-clause-found g t c = λ docs last h.
     (λ m n later r w. not_told (gives m) (gives n) docs (tree c.args.query.now) (tree c.deref.result.now) c.args.cursors.now s _ c.in-Some.rest.now _ c.min.result c.args.end last c.not_below-found.result
     i c.in-Some.ensures.cases.0 refl h c.min.ensures w r)
 
-pub below-all_below-found-requires : goal.below-all_below-found-requires
-below-all_below-found-requires g t c = λ κs lv.
+pub below-led_below-found-requires : goal.below-led_below-found-requires
+below-led_below-found-requires g t c = λ κs lv.
     let r = c.requires.ready in
     let i : tree c.args.query.now ≡ conjunction (trees_in c.as_slice.result.now) = ap tree c.in-And.is ∙ tree_And c.in-And.parts ∙ ap (λ (x : List Query). conjunction (trees_in x)) (sym c.as_slice.ensures) in
     let asks = each_asks (gives r.0) r.1 (tree c.args.query.now) (trees_in c.as_slice.result.now) c.args.cursors.now c.in-Some-split_first_mut.own.now c.in-Some-split_first_mut.rest.now r.2 i c.in-Some-split_first_mut.ensures.cases.0 r.5 in
-    (search rules, (search rules, (search rules, (search rules, (r.0, r.1, c.in-Some-split_first_mut.own.now.upto, r.3, omega (arith, c.min-in-And.ensures), asks)))))
+    (search rules, (search rules, (search rules, (search rules, (r.0, r.1, c.in-Some-split_first_mut.own.now.upto, r.3, omega (arith, c.min-start.ensures), asks)))))
 
 pub below-returns-in-Some-split_first_mut-clause-found : goal.below-returns-in-Some-split_first_mut-clause-found
 below-returns-in-Some-split_first_mut-clause-found g t c = λ docs last h.
     let s = c.in-Some-split_first_mut.own.now in
     let i : tree c.args.query.now ≡ conjunction (trees_in c.as_slice.result.now) = ap tree c.in-And.is ∙ tree_And c.in-And.parts ∙ ap (λ (x : List Query). conjunction (trees_in x)) (sym c.as_slice.ensures) in
-    told_as g.met.P.Port.lawful (c.all_below-found.ensures.found docs s.upto (omega (arith, c.min-in-And.ensures)))
+    told_as g.met.P.Port.lawful (c.led_below-found.ensures.found docs s.upto (omega (arith, c.min-start.ensures)))
     (λ m r. each_asks (gives m) docs (tree c.args.query.now) (trees_in c.as_slice.result.now) c.args.cursors.now s c.in-Some-split_first_mut.rest.now last i c.in-Some-split_first_mut.ensures.cases.0 r)
-    (λ m n later r w. each_told (gives m) (gives n) docs (tree c.args.query.now) (trees_in c.as_slice.result.now) c.args.cursors.now s _ c.in-Some-split_first_mut.rest.now _ c.min-in-And.result c.args.end last c.all_below-found.result
-    i c.in-Some-split_first_mut.ensures.cases.0 refl h c.min-in-And.ensures w r)
+    (λ m n later r w. each_told (gives m) (gives n) docs (tree c.args.query.now) (trees_in c.as_slice.result.now) c.args.cursors.now s _ c.in-Some-split_first_mut.rest.now _ c.min-start.result c.args.end last c.led_below-found.result
+    i c.in-Some-split_first_mut.ensures.cases.0 refl h c.min-start.ensures w r)
 
 pub below-returns-in-Some-split_first_mut-2-clause-found : goal.below-returns-in-Some-split_first_mut-2-clause-found
 below-returns-in-Some-split_first_mut-2-clause-found g t c = λ docs last h.
@@ -155,6 +155,57 @@ all_below-loop-place-preserved g t c =
           (λ l m n w1 w2 r i round. (i.0 ∙ round.same, round.ready));
     }
 
+-- ---- the part that leads
+
+pub lead_below-returns-in_default-clause-found : goal.lead_below-returns-in_default-clause-found
+lead_below-returns-in_default-clause-found g t c = λ docs last h. told_itself g.met.P.Port.keeps_itself (λ m r. led_none (gives m) docs (trees_in c.args.parts.now) c.args.cursors.now c.args.end last h r)
+
+pub lead_below-size-requires : goal.lead_below-size-requires
+lead_below-size-requires g t c = let r = c.requires.ready in
+    let n = all_size (gives r.0) r.1 (trees_in c.args.parts.now) (tree c.in-Some.part.now) (trees_in c.in-Some.others.now) c.args.cursors.now r.2 (ap trees_in c.in-Some.ensures.cases.0) r.5 in
+    omega (arith, n, c.requires.small.1)
+
+pub lead_below-split_at_mut-own-requires : goal.lead_below-split_at_mut-own-requires
+lead_below-split_at_mut-own-requires g t c = let r = c.requires.ready in
+    let n = all_size (gives r.0) r.1 (trees_in c.args.parts.now) (tree c.in-Some.part.now) (trees_in c.in-Some.others.now) c.args.cursors.now r.2 (ap trees_in c.in-Some.ensures.cases.0) r.5 in
+    omega (arith, n, c.size.ensures)
+
+pub lead_below-returns-then-lead-eq0-clause-found : goal.lead_below-returns-then-lead-eq0-clause-found
+lead_below-returns-then-lead-eq0-clause-found g t c = λ docs last h.
+    let e = front_of c.args.parts.now c.in-Some.part.now c.in-Some.others.now c.args.cursors.now c.split_at_mut-own.result.0.now c.split_at_mut-own.result.1.now c.size.result c.in-Some.ensures.cases.0 c.size.ensures c.split_at_mut-own.ensures.front c.split_at_mut-own.ensures.back in
+    told_as g.met.P.Port.lawful (c.below.ensures.found docs last h)
+    (λ m r. front_asks (gives m) docs (trees_in c.args.parts.now) (tree c.in-Some.part.now) (trees_in c.in-Some.others.now) c.args.cursors.now c.split_at_mut-own.result.0.now c.split_at_mut-own.result.1.now last e r)
+    (λ m n later r w. led_here (gives n) docs (trees_in c.args.parts.now) (tree c.in-Some.part.now) (trees_in c.in-Some.others.now) c.below.new.cursors c.split_at_mut-own.result.1.now c.args.end c.below.result e.parts w.0 w.1
+    (others_ask (gives m) (gives n) docs (trees_in c.args.parts.now) (tree c.in-Some.part.now) (trees_in c.in-Some.others.now) c.args.cursors.now c.split_at_mut-own.result.0.now c.split_at_mut-own.result.1.now c.args.end last e (gives_later m n later) h r))
+
+pub lead_below-lead_below-requires : goal.lead_below-lead_below-requires
+lead_below-lead_below-requires g t c = λ κs lv.
+    let r = c.requires.ready in
+    let e = front_of c.args.parts.now c.in-Some.part.now c.in-Some.others.now c.args.cursors.now c.split_at_mut-own.result.0.now c.split_at_mut-own.result.1.now c.size.result c.in-Some.ensures.cases.0 c.size.ensures c.split_at_mut-own.ensures.front c.split_at_mut-own.ensures.back in
+    let more = others_ask (gives r.0) (gives r.0) r.1 (trees_in c.args.parts.now) (tree c.in-Some.part.now) (trees_in c.in-Some.others.now) c.args.cursors.now c.split_at_mut-own.result.0.now c.split_at_mut-own.result.1.now r.2 r.2 e (λ l xs y. y) (omega arith) r.5 in
+    (search rules, (search rules, (search rules, (search rules, (r.0, r.1, r.2, r.3, r.4, more)))))
+
+pub lead_below-returns-clause-found : goal.lead_below-returns-clause-found
+lead_below-returns-clause-found g t c = λ docs last h.
+    let e = front_of c.args.parts.now c.in-Some.part.now c.in-Some.others.now c.args.cursors.now c.split_at_mut-own.result.0.now c.split_at_mut-own.result.1.now c.size.result c.in-Some.ensures.cases.0 c.size.ensures c.split_at_mut-own.ensures.front c.split_at_mut-own.ensures.back in
+    told_as g.met.P.Port.lawful (c.lead_below.ensures.found docs last h)
+    (λ m r. others_ask (gives m) (gives m) docs (trees_in c.args.parts.now) (tree c.in-Some.part.now) (trees_in c.in-Some.others.now) c.args.cursors.now c.split_at_mut-own.result.0.now c.split_at_mut-own.result.1.now last last e (λ l xs y. y) (omega arith) r)
+    (λ m n later r w. led_there (gives n) docs (trees_in c.args.parts.now) (tree c.in-Some.part.now) (trees_in c.in-Some.others.now) c.split_at_mut-own.result.0.now c.lead_below.new.cursors c.args.end last c.lead_below.result e.parts h
+    (ready_later (gives m) (gives n) (gives_later m n later) docs (tree c.in-Some.part.now) c.split_at_mut-own.result.0.now last (front_asks (gives m) docs (trees_in c.args.parts.now) (tree c.in-Some.part.now) (trees_in c.in-Some.others.now) c.args.cursors.now c.split_at_mut-own.result.0.now c.split_at_mut-own.result.1.now last e r)) w)
+
+pub led_below-all_below-requires : goal.led_below-all_below-requires
+led_below-all_below-requires g t c = λ κs lv.
+    let r = c.requires.ready in
+    let x = (c.lead_below-start.ensures.found r.1 r.2 r.4).told r.0 r.3 r.5 in
+    let under : c.lead_below-start.result ≤ c.args.end = x.4.falls in
+    (search rules, (search rules, (search rules, ((omega (arith, under, c.requires.small.0), omega (arith, c.requires.small.1, c.lead_below-start.auto.cursors)), (x.0, r.1, c.lead_below-start.result, x.1, omega arith, x.4.ready)))))
+
+pub led_below-returns-clause-found : goal.led_below-returns-clause-found
+led_below-returns-clause-found g t c = λ docs last h.
+    told_on g.met.P.Port.lawful g.met.P.Port.keeps_on (c.lead_below-start.ensures.found docs last h) (c.all_below.ensures.found docs c.lead_below-start.result (omega arith))
+    (λ l r. r) (λ l m w r i. i.ready)
+    (λ l m n w1 w2 r i all. (all.0 ∙ led_top (gives m) docs (trees_in c.args.parts.now) c.lead_below-start.new.cursors c.args.end c.lead_below-start.result i, all.1))
+
 -- ---- one round
 
 nil_of : (qs : List Query) → length qs ≡ 0 → qs ≡ []
@@ -230,6 +281,14 @@ some_below-returns-clause-found g t c = λ docs last h.
     e.parts (gives_later m n w2) c.max.ensures i.0 i.1 more.0 more.1)
 
 -- ---- the loads
+
+pub lead_below-returns-then-lead-eq0-clause-loads : goal.lead_below-returns-then-lead-eq0-clause-loads
+lead_below-returns-then-lead-eq0-clause-loads g t c = loads_split c.args.cursors.now c.split_at_mut-own.result.0.now c.split_at_mut-own.result.1.now c.below.new.cursors c.split_at_mut-own.result.1.now c.args.steps.now c.below.new.steps c.below.new.steps
+    c.split_at_mut-own.ensures.value c.below.ensures.loads (omega arith)
+
+pub lead_below-returns-clause-loads : goal.lead_below-returns-clause-loads
+lead_below-returns-clause-loads g t c = loads_split c.args.cursors.now c.split_at_mut-own.result.0.now c.split_at_mut-own.result.1.now c.split_at_mut-own.result.0.now c.lead_below.new.cursors c.args.steps.now c.args.steps.now c.lead_below.new.steps
+    c.split_at_mut-own.ensures.value (omega arith) c.lead_below.ensures.loads
 
 pub round_below-returns-clause-loads : goal.round_below-returns-clause-loads
 round_below-returns-clause-loads g t c = loads_split c.args.cursors.now c.split_at_mut-own.result.0.now c.split_at_mut-own.result.1.now c.below-found.new.cursors c.round_below.new.cursors c.args.steps.now c.below-found.new.steps c.round_below.new.steps

@@ -31,12 +31,12 @@ loop-cursor-smaller g c = let r = c.requires in
     let x = leaf_left (gives a.0) r.1 c.loop-cursor.cursor c.in-Some.posting c.args.end c.in-Some.is a.4 in
     let y = (c.next-cursor.ensures.given x.0).told a.0 a.1 x.2 in
     leaf_ahead (gives a.0) (gives y.0) r.1 c.loop-cursor.cursor
-    (record { upto = c.loop-cursor.cursor.upto; current = c.next-cursor.result; list = c.next-cursor.new.self }) c.in-Some.posting c.args.end x.0 c.in-Some.is a.4 x.1 y.4
+    (record { upto = c.loop-cursor.cursor.upto; lead = c.loop-cursor.cursor.lead; current = c.next-cursor.result; list = c.next-cursor.new.self }) c.in-Some.posting c.args.end x.0 c.in-Some.is a.4 x.1 y.4
 
 pub loop-cursor-preserved : goal.loop-cursor-preserved
 loop-cursor-preserved g c =
     let above : c.args.end ≤ c.in-Some.posting = omega arith in
-    let next : Cursor = record { upto = c.loop-cursor.cursor.upto; current = c.next-cursor.result; list = c.next-cursor.new.self } in
+    let next : Cursor = record { upto = c.loop-cursor.cursor.upto; lead = c.loop-cursor.cursor.lead; current = c.next-cursor.result; list = c.next-cursor.new.self } in
     record {
       told = λ f. record {
         told = λ m st leaf.
