@@ -2,7 +2,6 @@
 use Rattle.std.specs.Prelude.{ℕ, ◌<◌, ◌≤◌, ◌^◌, List, length, sum_by}
 use Rattle.std.specs.List.{All}
 use Rattle.eb_base.specs.Term.{AreBytes}
-use Rattle.eb_base.specs.declared.document.TheConstants.{MAX_TOKENS, MAX_BYTES}
 
 -- a document: an id, and its terms in the order of its words; the position of a term is its place
 -- in this list, counted from 0
@@ -14,10 +13,18 @@ pub record Doc : Type 0 where
 abbrev pub bytes_of : List (List ℕ) → ℕ
 bytes_of terms = sum_by length terms
 
+-- the most terms of a document
+abbrev pub most_tokens : ℕ
+most_tokens = 256
+
+-- the most bytes of all its terms
+abbrev pub most_bytes : ℕ
+most_bytes = 4096
+
 -- so many terms, with so many bytes in all, are a document's at most
 pub record AreWithinLimits (terms : List (List ℕ)) : Type 0 where
-  pub tokens : length terms ≤ MAX_TOKENS
-  pub bytes : bytes_of terms ≤ MAX_BYTES
+  pub tokens : length terms ≤ most_tokens
+  pub bytes : bytes_of terms ≤ most_bytes
 
 -- the document is one that can be made: an id of 64 bits, and terms of bytes, within the limits
 pub record IsDocument (d : Doc) : Type 0 where

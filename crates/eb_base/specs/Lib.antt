@@ -3,3 +3,4 @@ pub mod Document
 pub mod Query
 pub mod Match
 pub mod Setting
+pub mod MatchLaw

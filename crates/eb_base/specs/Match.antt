@@ -50,6 +50,10 @@ abbrev mutual
 abbrev pub matches : Tree → List Doc → List Doc
 matches q docs = reverse (filter (λ d. is_match q d.terms) docs)
 
+-- the most matches that can be asked for
+abbrev pub most_matches : ℕ
+most_matches = 1000
+
 -- the answer: the ids of the newest k documents that match, newest first
 unfoldable pub answer : Tree → ℕ → List Doc → List ℕ
 answer q k docs = map (λ d. d.id) (take k (matches q docs))

@@ -74,6 +74,10 @@ AreSeveral no_trees = ⊥
 AreSeveral (trees t no_trees) = ⊥
 AreSeveral (trees t (trees u ts)) = Unit {0}
 
+-- the greatest size of a query
+abbrev pub most_size : ℕ
+most_size = 64
+
 -- phrases of at least two terms, and ands and ors of at least two parts
 abbrev mutual
   pub IsFormed : Tree → Type 0
@@ -89,7 +93,7 @@ abbrev mutual
 
 pub record IsWellFormed (t : Tree) : Type 0 where
   pub formed : IsFormed t
-  pub within : size t ≤ 64
+  pub within : size t ≤ most_size
 
 -- the room less n, where it is that much
 abbrev pub less : ℕ → ℕ → Option ℕ

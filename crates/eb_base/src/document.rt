@@ -1,5 +1,5 @@
 ghost use Rattle.std.specs.Prelude.{◌≡◌, ℕ, ◌<◌, ◌≤◌, ◌↔◌, List, length, IfOk, IsErrOf, IsTrue};
-ghost use Rattle.eb_base.specs.Document.{IsDocument, bytes_of};
+ghost use Rattle.eb_base.specs.Document.{IsDocument, bytes_of, most_tokens, most_bytes};
 
 use crate::terms::Terms;
 use std::marker::Model;
@@ -43,8 +43,8 @@ impl Document {
     /// Takes no memory.
     pub fn new(id: u64, terms: Terms) -> Result<Document, DocFault>
         ensures ok { IfOk result (λ document. document ≡ record { id = id; terms = terms }) }
-        ensures tokens { IsErrOf result DocFault.TooManyTokens ↔ 256 < length terms }
-        ensures bytes { IsErrOf result DocFault.TooManyBytes ↔ (length terms ≤ 256) × (4096 < bytes_of terms) }
+        ensures tokens { IsErrOf result DocFault.TooManyTokens ↔ most_tokens < length terms }
+        ensures bytes { IsErrOf result DocFault.TooManyBytes ↔ (length terms ≤ most_tokens) × (most_bytes < bytes_of terms) }
     {
         if terms.len() > MAX_TOKENS {
             return Err(DocFault::TooManyTokens);
@@ -73,7 +73,7 @@ impl Document {
 
 // Whether the terms have no more bytes than a document may have.
 fn is_short(terms: &Terms) -> bool
-    ensures { IsTrue result ↔ (bytes_of terms.now ≤ 4096) }
+    ensures { IsTrue result ↔ (bytes_of terms.now ≤ most_bytes) }
 {
     let mut bytes = 0;
     for at in 0..terms.len() {

@@ -6,6 +6,7 @@
 mod config;
 mod document;
 mod gate;
+mod match_law;
 mod memory;
 mod query;
 mod terms;
@@ -15,6 +16,7 @@ mod tests;
 pub use config::{Config, ConfigFault, MAX_DOCS, MAX_SEGMENTS, MAX_WORDS};
 pub use document::{DocFault, Document, MAX_BYTES, MAX_TOKENS};
 pub use gate::{Gate, OpenGate, Point};
+pub use match_law::match_is_decided;
 pub use memory::NoMemory;
 pub use query::{MAX_SIZE, Queries, Query};
 pub use terms::{Term, Terms};

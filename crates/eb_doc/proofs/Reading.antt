@@ -6,7 +6,7 @@ use Rattle.std.proofs.lemmas.Bool.{cases_Bool}
 use Rattle.std.proofs.lemmas.Str.{IsUtf8-from_is_utf8, is_utf8-from_IsUtf8}
 use Rattle.serde_json.specs.Data.{Data}
 use Rattle.serde_json.specs.Read.{read}
-use Rattle.eb_base.specs.Document.{bytes_of}
+use Rattle.eb_base.specs.Document.{bytes_of, most_tokens, most_bytes}
 use Rattle.eb_text.specs.Tokens.{tokens_of}
 use Rattle.eb_doc.specs.declared.LineFault.TheVariants.{TooLong, NoMemory}
 use Rattle.eb_doc.specs.DocumentLine.{value_of, id_in, text_in, message, with_members, with_value, document_of}
@@ -28,9 +28,9 @@ document_by_value line value e = ap with_value e
 
 -- no line is read as want of memory
 no_memory_message : (id : ℕ) (terms : List (List ℕ)) → message id terms ≡ Err NoMemory → ⊥
-no_memory_message id terms = by_test (nat_lt 256 (length terms) || nat_lt 4096 (bytes_of terms)) refl
+no_memory_message id terms = by_test (nat_lt most_tokens (length terms) || nat_lt most_bytes (bytes_of terms)) refl
   where
-    by_test : (b : Bool) → nat_lt 256 (length terms) || nat_lt 4096 (bytes_of terms) ≡ b → message id terms ≡ Err NoMemory → ⊥
+    by_test : (b : Bool) → nat_lt most_tokens (length terms) || nat_lt most_bytes (bytes_of terms) ≡ b → message id terms ≡ Err NoMemory → ⊥
     by_test true e h = let is : message id terms ≡ Err TooLong = rw e refl in let no : ⊥ = cc in no
     by_test false e h = let is : message id terms ≡ Ok (record { id = id; terms = terms }) = rw e refl in let no : ⊥ = cc in no
 

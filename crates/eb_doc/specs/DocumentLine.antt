@@ -4,7 +4,7 @@ use Rattle.std.specs.Str.{is_utf8}
 use Rattle.serde_json.specs.Data.{Data}
 use Rattle.serde_json.specs.Read.{read}
 use Rattle.serde_json.specs.Find.{get, as_number, as_u64, as_str}
-use Rattle.eb_base.specs.Document.{Doc, bytes_of}
+use Rattle.eb_base.specs.Document.{Doc, bytes_of, most_tokens, most_bytes}
 use Rattle.eb_text.specs.Tokens.{tokens_of}
 use Rattle.eb_doc.specs.declared.LineFault.{LineFault}
 use Rattle.eb_doc.specs.declared.LineFault.TheVariants.{BadJson, BadDocument, TooLong}
@@ -21,9 +21,9 @@ id_in value = option_and_then as_u64 (option_and_then as_number (get (codes "id"
 abbrev pub text_in : Data → Option (List ℕ)
 text_in value = option_and_then as_str (get (codes "text") value)
 
--- an id with these terms is a document, unless there are more than 256 terms or 4,096 bytes in all
+-- an id with these terms is a document, unless there are too many terms, or too many bytes in all
 abbrev pub message : ℕ → List (List ℕ) → Result Doc LineFault
-message id terms = if nat_lt 256 (length terms) || nat_lt 4096 (bytes_of terms) then Err TooLong else Ok (record { id = id; terms = terms })
+message id terms = if nat_lt most_tokens (length terms) || nat_lt most_bytes (bytes_of terms) then Err TooLong else Ok (record { id = id; terms = terms })
 
 abbrev pub with_members : Option ℕ → Option (List ℕ) → Result Doc LineFault
 with_members (Some id) (Some text) = message id (tokens_of text)

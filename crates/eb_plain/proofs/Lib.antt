@@ -1,4 +1,3 @@
 pub mod Parts
-pub mod Matching
 pub mod Recounts
 pub mod HistoryCuts

@@ -8,7 +8,7 @@ use Rattle.std.proofs.lemmas.List.{take_more}
 use Rattle.std.proofs.Math.ListN.{drop_of_length-le}
 use Rattle.std.proofs.Math.Seq.{take-length}
 use Rattle.std.proofs.lemmas.List.Sums.{sum_by-append}
-use Rattle.eb_base.specs.Document.{Doc}
+use Rattle.eb_base.specs.Document.{Doc, most_tokens, most_bytes}
 use Rattle.eb_base.specs.Setting.{Setting}
 use Rattle.eb_place.specs.Postings.{count_of, distinct, terms_of, with_term}
 use Rattle.eb_place.specs.Room.{text_words, slices, all_slices, holds, fits}
@@ -67,8 +67,8 @@ terms_next docs i d lt e = ap terms_of (take_more docs i d lt ∙ ap (λ x. take
 pub terms_all : (docs : List Doc) (i : ℕ) → i ≤ length docs → length docs ≤ i → terms_of (take i docs) ≡ terms_of docs
 terms_all docs i le ge = let e : i ≡ length docs = omega (arith, le, ge) in ap terms_of (ap (λ n. take n docs) e ∙ take-length docs)
 
-pub limits_push : (ts us : List (List ℕ)) (n : ℕ) → length ts ≤ 256 * n → sum_by length ts ≤ 4096 * n → length us ≤ 256 → sum_by length us ≤ 4096
-    → (length (ts ++ us) ≤ 256 * (n + 1)) × (sum_by length (ts ++ us) ≤ 4096 * (n + 1))
+pub limits_push : (ts us : List (List ℕ)) (n : ℕ) → length ts ≤ most_tokens * n → sum_by length ts ≤ most_bytes * n → length us ≤ most_tokens → sum_by length us ≤ most_bytes
+    → (length (ts ++ us) ≤ most_tokens * (n + 1)) × (sum_by length (ts ++ us) ≤ most_bytes * (n + 1))
 limits_push ts us n few short one small = (omega (arith, few, one, length-append ts us), omega (arith, short, small, sum_by-append length ts us))
 
 -- ---- which document fits

@@ -1,6 +1,6 @@
 -- The grammar over what is written.
 use Rattle.std.proofs.Common.{◌≡◌, ℕ, suc, ◌≤◌, List, [], ◌∷◌, ◌++◌, length, refl, sym, ap, ◌∙◌, arith, subst, append_assoc, append-nil}
-use Rattle.eb_base.specs.Query.{Tree, word, phrase, negation, conjunction, disjunction, Trees, no_trees, trees, trees_of, and_of, or_of, size, IsFormed, AreFormed, AreSeveral}
+use Rattle.eb_base.specs.Query.{Tree, word, phrase, negation, conjunction, disjunction, Trees, no_trees, trees, trees_of, and_of, or_of, size, IsFormed, AreFormed, AreSeveral, most_size}
 use Rattle.eb_query.specs.Grammar.{Lexeme, opening, closing, minus, or_word, leaf, broken, IsUnary, a_leaf, a_minus, a_group, IsAnd, last, beside, IsOr, final, either, Gives}
 use Rattle.eb_query.specs.Lexemes.{Placed}
 use Rattle.eb_query.specs.Nesting.{Open, group, completed, closed, open_after, nesting, IsOpener, NestsWithin}
@@ -107,7 +107,7 @@ opened (or_word ∷ ls) l os i = opened ls l os i
 opened (broken ∷ ls) l os i = opened ls l os i
 
 -- a text that gives a query and doesn't nest too deep has this outcome
-pub reads : (line : List ℕ) (t : Tree) → size t ≤ 64 → (before : List Lexeme) (ps : List Placed) → Gives (before ++ kinds ps) t → NestsWithin (before ++ kinds ps) → IsOutcome line before ps (asks (number_of line) t)
+pub reads : (line : List ℕ) (t : Tree) → size t ≤ most_size → (before : List Lexeme) (ps : List Placed) → Gives (before ++ kinds ps) t → NestsWithin (before ++ kinds ps) → IsOutcome line before ps (asks (number_of line) t)
 reads line t fits before [] g n = complete (subst (λ (ks : List Lexeme). Gives ks t) (append-nil before) g) fits
 reads line t fits before (p ∷ ps) g n =
     let e : before ++ p.lexeme ∷ kinds ps ≡ (before ++ p.lexeme ∷ []) ++ kinds ps = sym (append_assoc before (p.lexeme ∷ []) (kinds ps)) in

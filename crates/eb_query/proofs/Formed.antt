@@ -1,7 +1,7 @@
 -- What is read is formed well.
 use Rattle.std.proofs.Common.{◌≡◌, ℕ, zero, suc, ◌+◌, nat_lt, Bool, true, false, cond, List, [], ◌∷◌, ◌++◌, length, refl, sym, ap, ◌∙◌, arith, subst}
 use Rattle.std.proofs.lemmas.Bool.{ltb-true}
-use Rattle.eb_base.specs.Query.{Tree, trees_of, and_of, or_of, size, IsFormed, AreFormed, IsWellFormed, leaf_of}
+use Rattle.eb_base.specs.Query.{Tree, trees_of, and_of, or_of, size, IsFormed, AreFormed, IsWellFormed, leaf_of, most_size}
 use Rattle.eb_text.specs.Tokens.{tokens_of}
 use Rattle.eb_query.specs.Grammar.{Lexeme, opening, closing, minus, or_word, leaf, broken, IsUnary, a_leaf, a_minus, a_group, IsAnd, last, beside, IsOr, final, either, Gives}
 use Rattle.eb_query.specs.Lexemes.{Placed, is_blank, ends_run, text_lexeme, run_lexeme, of_leaf, quoted, bare, first, lexemes, is_quote}
@@ -135,15 +135,15 @@ pub given_formed : (line : List ℕ) (c : ℕ) (bs : List ℕ) (t : Tree) → ou
 given_formed line c bs t e = outcome_formed (found line [] (lexemes 0 c bs) start refl) t e tt (lexemes_sound 0 c bs)
 
 pub sized_fits : (line : List ℕ) (t : Tree) → IsWellFormed t → sized line t ≡ asks (number_of line) t
-sized_fits line t w = go (nat_lt 64 (size t)) refl
+sized_fits line t w = go (nat_lt most_size (size t)) refl
   where
-    go : (b : Bool) → nat_lt 64 (size t) ≡ b → cond b too_many_nodes (asks (number_of line) t) ≡ asks (number_of line) t
+    go : (b : Bool) → nat_lt most_size (size t) ≡ b → cond b too_many_nodes (asks (number_of line) t) ≡ asks (number_of line) t
     go true h = let k = ltb-true _ _ h in let l = w.within in absurd (omega arith)
     go false h = refl
 
 pub sized_large : (line : List ℕ) (c : ℕ) (bs : List ℕ) (t : Tree) → outcome line (lexemes 0 c bs) start ≡ sized line t → (IsWellFormed t → ⊥) → outcome line (lexemes 0 c bs) start ≡ too_many_nodes
-sized_large line c bs t e n = go (nat_lt 64 (size t)) refl
+sized_large line c bs t e n = go (nat_lt most_size (size t)) refl
   where
-    go : (b : Bool) → nat_lt 64 (size t) ≡ b → outcome line (lexemes 0 c bs) start ≡ too_many_nodes
+    go : (b : Bool) → nat_lt most_size (size t) ≡ b → outcome line (lexemes 0 c bs) start ≡ too_many_nodes
     go true h = e ∙ ap (λ (b : Bool). cond b too_many_nodes (asks (number_of line) t)) h
     go false h = absurd (n (given_formed line c bs t (e ∙ ap (λ (b : Bool). cond b too_many_nodes (asks (number_of line) t)) h)))

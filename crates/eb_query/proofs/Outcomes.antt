@@ -1,10 +1,10 @@
 -- The outcome that the machine finds is the one of the rules.
-use Rattle.std.proofs.Common.{ltb-false, ◌≡◌, ℕ, zero, suc, ◌+◌, ◌<◌, ◌≤◌, nat_lt, Bool, true, false, cond, List, [], ◌∷◌, ◌++◌, length, Option, Some, None, option_and_then, refl, ◌∙◌, ap, arith}
-use Rattle.std.proofs.lemmas.Bool.{ltb-true}
-use Rattle.eb_base.specs.Query.{Tree, size, or_of}
+use Rattle.std.proofs.Common.{ltb-false, leb-false, ◌≡◌, ℕ, zero, suc, ◌+◌, ◌<◌, ◌≤◌, nat_lt, Bool, true, false, cond, List, [], ◌∷◌, ◌++◌, length, Option, Some, None, option_and_then, refl, ◌∙◌, ap, arith}
+use Rattle.std.proofs.lemmas.Bool.{ltb-true, leb-true}
+use Rattle.eb_base.specs.Query.{Tree, size, or_of, most_size}
 use Rattle.eb_query.specs.Grammar.{Lexeme, opening, closing, minus, or_word, leaf, broken}
 use Rattle.eb_query.specs.Lexemes.{Placed}
-use Rattle.eb_query.specs.Nesting.{Open, group, negation, completed, closed, open_after, nesting, IsOpener}
+use Rattle.eb_query.specs.Nesting.{Open, group, negation, completed, closed, open_after, nesting, IsOpener, most_open}
 use Rattle.eb_query.specs.Number.{number_of}
 use Rattle.eb_query.specs.Reading.{asks, too_many_nodes, IsOutcome, stands, cannot_stand, stands_too_deep, incomplete, large, complete}
 use Rattle.eb_query.proofs.Machine as machine
@@ -76,23 +76,23 @@ run_one before l s e = run_append before (l ∷ []) start ∙ ap (option_and_the
 
 ended : (line : List ℕ) (before : List Lexeme) (o : Option Tree) → option_and_then finish (run before start) ≡ o → IsOutcome line before [] (ending line o)
 ended line before None e = incomplete (λ t g. let h = machine.complete g in cc)
-ended line before (Some t) e = go (nat_lt 64 (size t)) refl
+ended line before (Some t) e = go (nat_lt most_size (size t)) refl
   where
-    go : (b : Bool) → nat_lt 64 (size t) ≡ b → IsOutcome line before [] (cond b too_many_nodes (asks (number_of line) t))
+    go : (b : Bool) → nat_lt most_size (size t) ≡ b → IsOutcome line before [] (cond b too_many_nodes (asks (number_of line) t))
     go true h = large (machine.sound before t e) (ltb-true _ _ h)
     go false h = complete (machine.sound before t e) (ltb-false _ _ h)
 
-deep_is : (l : Lexeme) (s : State) → is_deep l s ≡ true → IsOpener l × (16 ≤ nest s)
-deep_is opening s h = (tt, ltb-true _ _ h)
-deep_is minus s h = (tt, ltb-true _ _ h)
+deep_is : (l : Lexeme) (s : State) → is_deep l s ≡ true → IsOpener l × (most_open ≤ nest s)
+deep_is opening s h = (tt, leb-true _ _ h)
+deep_is minus s h = (tt, leb-true _ _ h)
 deep_is closing s h = cc
 deep_is or_word s h = cc
 deep_is (leaf t) s h = cc
 deep_is broken s h = cc
 
-not_deep : (l : Lexeme) (s : State) → is_deep l s ≡ false → IsOpener l → nest s < 16
-not_deep opening s h i = let k = ltb-false _ _ h in omega arith
-not_deep minus s h i = let k = ltb-false _ _ h in omega arith
+not_deep : (l : Lexeme) (s : State) → is_deep l s ≡ false → IsOpener l → nest s < most_open
+not_deep opening s h i = leb-false _ _ h
+not_deep minus s h i = leb-false _ _ h
 not_deep closing s h i = absurd i
 not_deep or_word s h i = absurd i
 not_deep (leaf t) s h i = absurd i

@@ -16,6 +16,7 @@ use Rattle.eb_query.proofs.Cuts.{at_blank}
 use Rattle.eb_query.proofs.WrittenLexemes.{query_lexemes}
 use Rattle.eb_query.proofs.Written.{kinds, written_lexemes}
 use Rattle.eb_query.proofs.Derived.{query_derives, reads}
+use Rattle.eb_base.specs.Match.{most_matches}
 
 or_false : (a b : Bool) → (a || b) ≡ false → (a ≡ false) × (b ≡ false)
 or_false true b h = cc
@@ -39,7 +40,7 @@ digits_test = record { empty = tt; parts = λ c cs h. (in_range c h.0, h.1); mor
 own : IsNumeralModel (λ ds. AllByRecursion (λ d. is_no_digit d ≡ false) ds) (value_after 0)
 own = numerals_by_fold _ digits_test value_after (search rules)
 
-decimal_is : (k : ℕ) → k ≤ 1000 → IsDecimal k (decimal k)
+decimal_is : (k : ℕ) → k ≤ most_matches → IsDecimal k (decimal k)
 decimal_is k h = record {
   digits = digits_decimal own k (omega arith);
   some = decimal_nonempty k (omega arith);
@@ -73,7 +74,7 @@ module _ (k : ℕ) (ds text : List ℕ) (d : IsDecimal k ds) where
       let e : 1 + digits_len (63 ∷ ds ++ 32 ∷ text) ≡ suc (length ds) = omega (arith, line_digits) in
       ap (λ (n : ℕ). drop n (63 ∷ ds ++ 32 ∷ text)) e ∙ drop_all_of ds (32 ∷ text)
 
-  line_has : 1 ≤ k → k ≤ 1000 → HasNumber (63 ∷ ds ++ 32 ∷ text)
+  line_has : 1 ≤ k → k ≤ most_matches → HasNumber (63 ∷ ds ++ 32 ∷ text)
   line_has h i = let e = line_digits in let n = line_number in let s = d.some in let f = d.few in
       record { some = omega arith; few = omega arith; positive = omega arith; within = omega arith; apart = ap is_blank_or_end line_rest }
 
@@ -83,7 +84,7 @@ module _ (k : ℕ) (ds text : List ℕ) (d : IsDecimal k ds) where
       let c = 2 + digits_len (63 ∷ ds ++ 32 ∷ text) in
       (suc c, ap (lexemes 0 c) line_rest ∙ at_blank c 32 text refl)
 
-pub read_back : (k : ℕ) (t : Tree) → 1 ≤ k → k ≤ 1000 → IsWellFormed t → AreNamed t → NestsWithin (kinds_of_line (line_text k t)) → ReadsAs (line_text k t) (asks k t)
+pub read_back : (k : ℕ) (t : Tree) → 1 ≤ k → k ≤ most_matches → IsWellFormed t → AreNamed t → NestsWithin (kinds_of_line (line_text k t)) → ReadsAs (line_text k t) (asks k t)
 read_back k t low high w named nests =
     let ds = decimal k in
     let text = query_text t in

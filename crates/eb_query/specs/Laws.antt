@@ -7,6 +7,7 @@ use Rattle.eb_query.specs.Lexemes.{Placed}
 use Rattle.eb_query.specs.Number.{lexemes_of_line}
 use Rattle.eb_query.specs.Reading.{Outcome, asks, ReadsAs}
 use Rattle.eb_query.specs.Writing.{AreNamed, line_text}
+use Rattle.eb_base.specs.Match.{most_matches}
 
 -- the rules leave no line out: each asks something or is refused
 abbrev pub SomeReading : Type 0
@@ -21,7 +22,7 @@ abbrev pub kinds_of_line : List ℕ → List Lexeme
 kinds_of_line line = map (λ (p : Placed). p.lexeme) (lexemes_of_line line)
 
 -- what is written for a number and a query asks for that number of matches of that query, where
--- the texts of its leaves can be named and the written text doesn't nest deeper than 16
+-- the texts of its leaves can be named and the written text doesn't nest too deep
 abbrev pub ReadsBack : Type 0
-ReadsBack = (k : ℕ) (t : Tree) → 1 ≤ k → k ≤ 1000 → IsWellFormed t → AreNamed t
+ReadsBack = (k : ℕ) (t : Tree) → 1 ≤ k → k ≤ most_matches → IsWellFormed t → AreNamed t
     → NestsWithin (kinds_of_line (line_text k t)) → ReadsAs (line_text k t) (asks k t)

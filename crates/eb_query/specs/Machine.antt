@@ -1,11 +1,12 @@
 -- The machine of the reader, which takes lexemes one by one over a stack of open groups. The
 -- private functions of the reader are told by it; what a line asks is told by Reading alone.
-use Rattle.std.specs.Prelude.{ℕ, zero, suc, ◌+◌, nat_lt, Bool, true, false, cond, List, [], ◌∷◌, ◌++◌, length, Option, Some, None, option_and_then}
-use Rattle.eb_base.specs.Query.{Tree, negation, and_of, or_of, size}
+use Rattle.std.specs.Prelude.{ℕ, zero, suc, ◌+◌, nat_lt, Bool, true, false, cond, List, [], ◌∷◌, ◌++◌, length, Option, Some, None, option_and_then, nat_le}
+use Rattle.eb_base.specs.Query.{Tree, negation, and_of, or_of, size, most_size}
 use Rattle.eb_query.specs.Grammar.{Lexeme, opening, closing, minus, or_word, leaf, broken}
 use Rattle.eb_query.specs.Lexemes.{Placed}
 use Rattle.eb_query.specs.Number.{number_of}
 use Rattle.eb_query.specs.Reading.{Outcome, asks, bad_query, too_deep, too_many_nodes}
+use Rattle.eb_query.specs.Nesting.{most_open}
 
 -- an open group: its parts so far, the parts of the current one, and the minuses before the next
 pub data Level : Type 0 where
@@ -76,13 +77,13 @@ is_opener or_word = false
 is_opener (leaf t) = false
 is_opener broken = false
 
--- the lexeme opens where 16 are open already
+-- the lexeme opens where as many are open as may be
 abbrev pub is_deep : Lexeme → State → Bool
-is_deep l s = cond (is_opener l) (nat_lt 15 (nest s)) false
+is_deep l s = cond (is_opener l) (nat_le most_open (nest s)) false
 
 -- the outcome of a whole query
 abbrev pub sized : List ℕ → Tree → Outcome
-sized line t = cond (nat_lt 64 (size t)) too_many_nodes (asks (number_of line) t)
+sized line t = cond (nat_lt most_size (size t)) too_many_nodes (asks (number_of line) t)
 
 -- the outcome at the end of the line
 abbrev pub ending : List ℕ → Option Tree → Outcome

@@ -29,6 +29,10 @@ open_after (closing ∷ ls) os = open_after ls (closed os)
 open_after (or_word ∷ ls) os = open_after ls os
 open_after (broken ∷ ls) os = open_after ls os
 
+-- the most that may be open at a place
+abbrev pub most_open : ℕ
+most_open = 16
+
 -- how many are open behind these lexemes
 abbrev pub nesting : List Lexeme → ℕ
 nesting ls = length (open_after ls [])
@@ -42,6 +46,6 @@ IsOpener or_word = ⊥
 IsOpener (leaf t) = ⊥
 IsOpener broken = ⊥
 
--- at no place of these lexemes are more than 16 open
+-- at no place of these lexemes are more open than may be
 abbrev pub NestsWithin : List Lexeme → Type 0
-NestsWithin ls = (before after : List Lexeme) → ls ≡ before ++ after → nesting before ≤ 16
+NestsWithin ls = (before after : List Lexeme) → ls ≡ before ++ after → nesting before ≤ most_open

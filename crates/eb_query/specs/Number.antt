@@ -2,6 +2,7 @@
 use Rattle.std.specs.Prelude.{◌≡◌, ℕ, ◌+◌, ◌-◌, ◌*◌, ◌≤◌, nat_lt, ◌||◌, Bool, true, List, [], ◌∷◌, take, drop}
 use Rattle.std.specs.List.{position_or_len}
 use Rattle.eb_query.specs.Lexemes.{Placed, is_blank, lexemes}
+use Rattle.eb_base.specs.Match.{most_matches}
 
 -- the byte is no ASCII digit
 abbrev pub is_no_digit : ℕ → Bool
@@ -25,12 +26,12 @@ abbrev pub is_blank_or_end : List ℕ → Bool
 is_blank_or_end [] = true
 is_blank_or_end (b ∷ bs) = is_blank b
 
--- one to four digits of a value from 1 to 1,000, and after them a blank or the end
+-- one to four digits of a value from 1 to the most matches, and after them a blank or the end
 pub record HasNumber (line : List ℕ) : Type 0 where
   pub some : 1 ≤ digits_len line
   pub few : digits_len line ≤ 4
   pub positive : 1 ≤ number_of line
-  pub within : number_of line ≤ 1000
+  pub within : number_of line ≤ most_matches
   pub apart : is_blank_or_end (drop (1 + digits_len line) line) ≡ true
 
 -- the lexemes of the query text, which is all behind the digits

@@ -1,8 +1,8 @@
 -- What a query line asks, or why it is refused.
 use Rattle.std.specs.Prelude.{ℕ, ◌+◌, ◌<◌, ◌≤◌, List, [], ◌∷◌, ◌++◌, length}
-use Rattle.eb_base.specs.Query.{Tree, size}
+use Rattle.eb_base.specs.Query.{Tree, size, most_size}
 use Rattle.eb_query.specs.Grammar.{Lexeme, Gives, Continues}
-use Rattle.eb_query.specs.Nesting.{nesting, IsOpener}
+use Rattle.eb_query.specs.Nesting.{nesting, IsOpener, most_open}
 use Rattle.eb_query.specs.Lexemes.{Placed}
 use Rattle.eb_query.specs.Number.{number_of, HasNumber, lexemes_of_line}
 
@@ -17,26 +17,26 @@ pub data Outcome : Type 0 where
 -- What comes of the query text of this line, read from left to right: the lexemes before stand,
 -- and those placed follow.
 pub data IsOutcome (line : List ℕ) : List Lexeme → List Placed → Outcome → Type 0 where
-  -- the next lexeme may stand there, at a nesting below 16 if it opens, and the rest decides
+  -- the next lexeme may stand there, below the deepest nesting if it opens, and the rest decides
   stands : {before : List Lexeme} {p : Placed} {ps : List Placed} {o : Outcome}
-      → Continues (before ++ p.lexeme ∷ []) → (IsOpener p.lexeme → nesting before < 16)
+      → Continues (before ++ p.lexeme ∷ []) → (IsOpener p.lexeme → nesting before < most_open)
       → IsOutcome line (before ++ p.lexeme ∷ []) ps o → IsOutcome line before (p ∷ ps) o
   -- no query text begins so
   cannot_stand : {before : List Lexeme} {p : Placed} {ps : List Placed}
       → (Continues (before ++ p.lexeme ∷ []) → ⊥) → IsOutcome line before (p ∷ ps) (bad_query p.column)
-  -- the next lexeme may stand there, and opens at a nesting of 16
+  -- the next lexeme may stand there, and opens at the deepest nesting
   stands_too_deep : {before : List Lexeme} {p : Placed} {ps : List Placed}
-      → Continues (before ++ p.lexeme ∷ []) → IsOpener p.lexeme → 16 ≤ nesting before
+      → Continues (before ++ p.lexeme ∷ []) → IsOpener p.lexeme → most_open ≤ nesting before
       → IsOutcome line before (p ∷ ps) too_deep
   -- the line ends, and the text isn't a query
   incomplete : {before : List Lexeme}
       → ((t : Tree) → Gives before t → ⊥) → IsOutcome line before [] (bad_query (length line + 1))
-  -- the text is a query of a size over 64
+  -- the text is a query that is too large
   large : {before : List Lexeme} {t : Tree}
-      → Gives before t → 64 < size t → IsOutcome line before [] too_many_nodes
-  -- the text is a query of a size of at most 64
+      → Gives before t → most_size < size t → IsOutcome line before [] too_many_nodes
+  -- the text is a query that is not too large
   complete : {before : List Lexeme} {t : Tree}
-      → Gives before t → size t ≤ 64 → IsOutcome line before [] (asks (number_of line) t)
+      → Gives before t → size t ≤ most_size → IsOutcome line before [] (asks (number_of line) t)
 
 -- The line, which begins with a question mark, reads as this outcome.
 pub data ReadsAs (line : List ℕ) : Outcome → Type 0 where

@@ -14,6 +14,7 @@ use Rattle.eb_query.specs.declared.reader.Step.{Step}
 use Rattle.eb_query.specs.declared.reader.Step.TheVariants.{Stood, Misplaced, Deep}
 use Rattle.eb_query.specs.declared.read.QueryFault.{QueryFault}
 use Rattle.eb_query.specs.declared.read.QueryFault.TheVariants as faults
+use Rattle.eb_query.specs.Nesting.{most_open}
 
 -- the lexeme of the grammar
 abbrev pub lexeme_of : found.Lexeme → Lexeme
@@ -32,10 +33,10 @@ level_of g = level (parts_of g.ors) (parts_of g.ands) g.minuses
 abbrev pub state_of : Reader → State
 state_of r = state (level_of r.group) (reverse (map level_of r.outer.items))
 
--- the count of what is open is right, and at most 16
+-- the count of what is open is right, and within the deepest nesting
 pub record IsCounted (r : Reader) : Type 0 where
   pub nesting : r.nesting ≡ nest (state_of r)
-  pub within : r.nesting ≤ 16
+  pub within : r.nesting ≤ most_open
 
 -- what a step from s to t says of the machine
 abbrev pub Steps : Step → Lexeme → State → State → Type 0

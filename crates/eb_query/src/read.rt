@@ -6,6 +6,7 @@ ghost use Rattle.eb_query.specs.Reading.{asks, ReadsAs};
 ghost use Rattle.eb_query.specs.Refusal.{IsRefused};
 ghost use Rattle.eb_query.specs.Machine.{start, outcome};
 ghost use Rattle.eb_query.specs.Views.{Finds};
+ghost use Rattle.eb_base.specs.Match.{most_matches};
 
 use crate::lexeme::{is_blank_byte, lexeme_at};
 use crate::number::number_at;
@@ -104,7 +105,7 @@ pub fn read_query(alloc: Global, line: &str) -> Result<(u32, Query), QueryFault>
     ensures asks { IfOk result (λ asked. ReadsAs line.now (asks asked.0 (tree asked.1))) }
     ensures refused { IfErr result (IsRefused line.now) }
     ensures some { IfOk result (λ asked. 1 ≤ asked.0) }
-    ensures within { IfOk result (λ asked. asked.0 ≤ 1000) }
+    ensures within { IfOk result (λ asked. asked.0 ≤ most_matches) }
     ensures well_formed { IfOk result (λ asked. IsWellFormed (tree asked.1)) }
 {
     let Some(number) = number_at(line.as_bytes()) else {

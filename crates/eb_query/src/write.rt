@@ -2,6 +2,7 @@ ghost use Rattle.std.specs.Prelude.{◌≡◌, ◌≤◌, ◌++◌, IfOk, OnOk, 
 ghost use Rattle.eb_base.specs.Query.{tree, trees_of, parts_of, IsWellFormed};
 ghost use Rattle.eb_query.specs.Writing.{joined, unary_text, part_text, and_text, or_text, line_text};
 ghost use Rattle.eb_query.specs.Gaps.{and_gap, or_gap};
+ghost use Rattle.eb_base.specs.Match.{most_matches};
 
 use eb_base::{NoMemory, Queries, Query, Terms};
 use std::alloc::Global;
@@ -132,7 +133,7 @@ fn put_number(alloc: Global, out: &mut Vec<u8>, number: u32) -> Result<(), NoMem
 pub fn write_query(alloc: Global, k: u32, query: &Query) -> Result<Vec<u8>, NoMemory>
     requires well_formed { IsWellFormed (tree query.now) }
     requires some { 1 ≤ k }
-    requires within { k ≤ 1000 }
+    requires within { k ≤ most_matches }
     ensures { IfOk result (λ line. line.items ≡ line_text k (tree query.now)) }
 {
     let mut line = Vec::new(alloc);

@@ -2,7 +2,7 @@ use Rattle.std.proofs.Common.{subst, sym, ap, ◌∙◌}
 use Rattle.std.specs.Bool.{Decides}
 use Rattle.eb_base.specs.Query.{tree}
 use Rattle.eb_base.specs.Match.{Matches, is_match}
-use Rattle.eb_plain.proofs.Matching.{match_decides}
+use Rattle.eb_base.proofs.Matching.{match_decides}
 use Rattle.eb_plain.proofs.scan.is_match.Goals as goal
 
 pub returns-clause-fact : goal.returns-clause-fact
