@@ -9,10 +9,10 @@ length-lowest_words zero x = refl
 length-lowest_words (suc n) x = ap suc (length-lowest_words n (x / 2 ^ 64))
 
 -- a block has no more words than numbers
-pub block_short : (width : ℕ) (xs : List ℕ) → width ≤ 32 → 1 ≤ length xs → length (block_of width xs) ≤ length xs
+pub block_short : (width : ℕ) (xs : List ℕ) → width ≤ 64 → 1 ≤ length xs → length (block_of width xs) ≤ length xs
 block_short width xs h l =
     let m = length-lowest_words (((length xs - 1) * width + 63) / 64) (fields width (differences xs)) in
-    let p : (length xs - 1) * width ≤ (length xs - 1) * 32 = mul-le (length xs - 1) width (length xs - 1) 32 (omega arith) h in
+    let p : (length xs - 1) * width ≤ (length xs - 1) * 64 = mul-le (length xs - 1) width (length xs - 1) 64 (omega arith) h in
     omega arith
 
 -- a packed list has no more words than postings

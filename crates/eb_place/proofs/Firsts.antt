@@ -79,7 +79,7 @@ pub cut_sum : (σ : Setting) (docs : List Doc) → sum_by length (cut σ docs) �
 unfolding cut
 cut_sum σ = by_push (λ docs. sum_by length (cut σ docs) ≡ length docs) refl (λ docs d h. ap (sum_by length) (cut_push σ docs d) ∙ with_doc_sum σ (cut σ docs) d ∙ omega (arith, length_push docs d))
 
-first_beyond : (segs : List (List Doc)) (n s : ℕ) → length segs ≤ s → first_in n segs s ≡ 0
+pub first_beyond : (segs : List (List Doc)) (n s : ℕ) → length segs ≤ s → first_in n segs s ≡ 0
 first_beyond [] n s h = refl
 first_beyond (x ∷ xs) n zero h = absurd (omega arith)
 first_beyond (x ∷ xs) n (suc s) h = first_beyond xs (n + length x) s (omega arith)

@@ -43,6 +43,14 @@ pub mod Dictionary
 pub mod EnteredTerms
 pub mod StoredOnce
 pub mod Telling
+pub mod Falling
+pub mod TermNumbers
+pub mod Rows
+pub mod Converted
+pub mod Rising
+pub mod Closing
+pub mod Begun
+pub mod NextPuts
 pub mod VectorsHashes
 pub mod VectorsBlocks
 pub mod VectorsSlices

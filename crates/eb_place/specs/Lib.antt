@@ -14,3 +14,6 @@ pub mod Walk
 pub mod Meets
 pub mod Laws
 pub mod StoringLaws
+pub mod Falling
+pub mod PackedLists
+pub mod ConverterLaws

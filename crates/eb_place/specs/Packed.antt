@@ -1,6 +1,6 @@
 -- Packed blocks.
 use Rattle.std.specs.Prelude.{ℕ, zero, suc, ◌+◌, ◌-◌, ◌*◌, ◌/◌, ◌%◌, ◌^◌, List, [], ◌∷◌, ◌++◌, length, take, drop, fold, max, reverse, slice_index}
-use Rattle.std.specs.Int.{leading_zeros, w32}
+use Rattle.std.specs.Int.{leading_zeros, w64}
 use Rattle.eb_base.specs.Term.{Term}
 use Rattle.eb_base.specs.Document.{Doc}
 use Rattle.eb_place.specs.Postings.{postings}
@@ -11,9 +11,9 @@ differences [] = []
 differences (x ∷ []) = []
 differences (x ∷ y ∷ ys) = (x - y) ∷ differences (y ∷ ys)
 
--- the least number of bits that holds a number below 2 ^ 32
+-- the least number of bits that holds a number below 2 ^ 64
 abbrev pub width_of : ℕ → ℕ
-width_of n = 32 - leading_zeros w32 n
+width_of n = 64 - leading_zeros w64 n
 
 -- fields of `width` bits, the first lowest
 abbrev pub fields : ℕ → List ℕ → ℕ

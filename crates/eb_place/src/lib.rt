@@ -4,6 +4,7 @@
 //! store the words. No call takes memory.
 #![tactic(auto)]
 
+mod converter_laws;
 mod laws;
 mod moment;
 mod places;
@@ -14,6 +15,7 @@ mod steps;
 mod storing_laws;
 mod used;
 
+pub use converter_laws::{converted_stays, converted_words, next_put_stays, postings_fall};
 pub use laws::{
     each_document_fits, moments_meet, places_are_apart, put_changes_one_word,
     store_changes_one_word,
