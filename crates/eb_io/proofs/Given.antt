@@ -3,12 +3,12 @@ use Rattle.std.proofs.Common.{◌≡◌, ◌≢◌, ◌⊎◌, inl, inr, ℕ, �
 use Rattle.std.specs.Prelude.{if◌then◌else◌}
 use Rattle.std.specs.List.{Contains}
 use Rattle.std.proofs.lemmas.List.{take-append-drop, length-take-le, drop_at, get_or_append_left}
-use Rattle.std.proofs.lemmas.List.Elements.{All-nil, All-append}
+use Rattle.std.proofs.lemmas.List.Elements.{All-nil, All-append, Contains-append_right}
 use Rattle.std.proofs.Math.Seq.{take-length, drop-length}
 use Rattle.eb_io.specs.declared.lines.Next.{Next}
 use Rattle.eb_io.specs.declared.lines.Next.TheVariants.{Line as ALine, LongLine, End, ReadFault, TooLong}
 use Rattle.eb_io.specs.Source.{after, IsEmpty}
-use Rattle.eb_io.specs.Lines.{Line, line_from, lines_of, whole_lines, are_too_many, IsUncut}
+use Rattle.eb_io.specs.Lines.{Line, line_from, lines_of, whole_lines, are_too_many, IsUncut, IsFirstLf}
 use Rattle.eb_io.specs.Held.{Part, part_of, no_part, Held, IsDone, HasGiven, HasNoLine, HasAllLines, Tells, Gives}
 use Rattle.eb_io.proofs.Bytes.{after-nil, after-after}
 use Rattle.eb_io.proofs.Pieces.{pieces-uncut, lines_of-cut, lines_of-append, whole_lines-open}
@@ -39,6 +39,7 @@ pub record Reads {S : Type 0} (old new : S) (left_old left_new : Option (List �
   pub ended : now.is_ended ≡ true → (first.is_ended ≡ true) ⊎ IsEmpty left_new
   pub quiet : first.is_ended ≡ true → new ≡ old
   pub whole : Contains first.rest 10 → new ≡ old
+  pub full : first.taken ≡ first.limit → new ≡ old
 
 -- one iteration of the call after another
 pub record Progress {S : Type 0} (old new : S) (left_old left_new : Option (List ℕ)) (faults_old faults_new : ℕ) (first now : Held) : Type 0 where
@@ -65,6 +66,7 @@ reads_first s left faults first = record {
   ended = λ e. inl e;
   quiet = λ _. refl;
   whole = λ _. refl;
+  full = λ _. refl;
 }
 
 -- the first bytes of the rest, none of them a LF, went into the part
@@ -222,14 +224,15 @@ comes_all first now joined seen before n c all uncut held part =
 
 pub reads_filled : {S : Type 0} (old mid new : S) (left_old left_mid left_new : Option (List ℕ)) (faults_old faults_mid faults_new : ℕ) (first now filled : Held) (seen more : List ℕ)
     → Reads old mid left_old left_mid faults_old faults_mid first now seen → left_mid ≡ after more left_new → faults_mid ≤ faults_new
-    → (filled.is_ended ≡ true → IsEmpty left_new) → (first.is_ended ≡ true → ⊥) → (Contains first.rest 10 → ⊥)
+    → (filled.is_ended ≡ true → IsEmpty left_new) → (first.is_ended ≡ true → ⊥) → (Contains first.rest 10 → ⊥) → (first.taken ≡ first.limit → ⊥)
     → Reads old new left_old left_new faults_old faults_new first filled (seen ++ more)
-reads_filled old mid new left_old left_mid left_new faults_old faults_mid faults_new first now filled seen more r left later ended open_end uncut = record {
+reads_filled old mid new left_old left_mid left_new faults_old faults_mid faults_new first now filled seen more r left later ended open_end uncut room = record {
   left = r.left ∙ (ap (after seen) left ∙ after-after seen more left_new);
   later = le_trans r.later later;
   ended = λ e. inr (ended e);
   quiet = λ e. absurd (open_end e);
   whole = λ e. absurd (uncut e);
+  full = λ e. absurd (room e);
 }
 
 -- where all that was held went into the part, no LF was held
@@ -263,3 +266,24 @@ tells_last joined new r taken given g rest ended some held gives =
     given_tells r new taken given _ (gives g.begun g.part)
     (last_line joined new taken given g rest some (ap (λ (h : Held). h.part) held) (ap (λ (h : Held). h.rest) held ∙ rest)
     (ap (λ (h : Held). h.is_ended) held ∙ ended) (ap (λ (h : Held). h.taken) held))
+
+-- where as many bytes were taken as may be when the call began, it has taken none
+none_seen : (first now : Held) (seen before : List ℕ) → Comes first now seen before → first.taken ≡ first.limit → now.taken ≤ now.limit → seen ≡ []
+none_seen first now [] before c full within = refl
+none_seen first now (b ∷ bs) before c full within = let t = c.taken in let l = c.limit in absurd (omega (arith, t, l, full, within))
+
+-- and where its place of a LF was held, it is held from the beginning
+pub lf_held : (first now : Held) (seen before : List ℕ) (n : ℕ) → Comes first now seen before → first.taken ≡ first.limit → now.taken ≤ now.limit → n < length now.rest
+    → now.rest ≡ take n now.rest ++ 10 ∷ drop (n + 1) now.rest → Contains first.rest 10
+lf_held first now seen before n c full within lt cut =
+    let none = none_seen first now seen before c full within in
+    let held : first.rest ≡ (before ++ take n now.rest) ++ 10 ∷ drop (n + 1) now.rest =
+    sym (append-nil first.rest) ∙ ap (λ t. first.rest ++ t) (sym none) ∙ c.bytes ∙ ap (λ t. before ++ t) cut ∙ sym (append_assoc before (take n now.rest) (10 ∷ drop (n + 1) now.rest)) in
+    subst (λ xs. Contains xs 10) (sym held) (Contains-append_right (before ++ take n now.rest) (10 ∷ drop (n + 1) now.rest) 10 (0, omega arith, refl))
+
+-- bytes with a first LF have one, and uncut bytes have none
+pub lf_contained : (rest : List ℕ) (n : ℕ) → IsFirstLf rest n → Contains rest 10
+lf_contained rest n lf = subst (λ xs. Contains xs 10) (sym lf.cut) (Contains-append_right (take n rest) (10 ∷ drop (n + 1) rest) 10 (0, omega arith, refl))
+
+pub uncut_contains : (rest : List ℕ) → IsUncut rest → Contains rest 10 → ⊥
+uncut_contains rest uncut (k, within, is) = uncut k 10 within is

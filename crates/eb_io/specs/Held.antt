@@ -64,12 +64,12 @@ pub record HasAllLines (taken : List ℕ) (given : List Line) (held : Held) : Ty
   pub ended : held.is_ended ≡ true
 
 -- what an answer tells, where these bytes are taken by now and these lines were given before it
---   Line, LongLine: one line more is given; End: all are; ReadFault, TooLong: all whole ones are,
---   with fewer bytes taken than may be, or as many
+--   Line, LongLine: one line more is given; End: all are, with fewer bytes taken than may be;
+--   ReadFault, TooLong: all whole ones are, with fewer bytes taken than may be, or as many
 abbrev pub Tells : Next → List ℕ → List Line → Held → Type 0
 Tells ALine taken given held = HasGiven taken (given ++ line held.line ∷ []) held
 Tells LongLine taken given held = HasGiven taken (given ++ long_line ∷ []) held
-Tells End taken given held = HasAllLines taken given held
+Tells End taken given held = HasAllLines taken given held × (length taken < held.limit)
 Tells ReadFault taken given held = HasNoLine taken given held × (length taken < held.limit)
 Tells TooLong taken given held = HasNoLine taken given held × (length taken ≡ held.limit)
 

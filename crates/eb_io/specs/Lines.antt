@@ -1,8 +1,7 @@
 -- The lines of a text.
-use Rattle.std.specs.Prelude.{◌≡◌, ◌≢◌, ℕ, ◌+◌, ◌<◌, Bool, ◌==◌, ◌⊎◌, List, [], ◌∷◌, ◌++◌, length, take, drop, map, nat_lt, if◌then◌else◌}
+use Rattle.std.specs.Prelude.{◌≡◌, ◌≢◌, ℕ, ◌^◌, ◌+◌, ◌<◌, Bool, ◌==◌, ◌⊎◌, List, [], ◌∷◌, ◌++◌, length, take, drop, map, nat_lt, if◌then◌else◌}
 use Rattle.std.specs.List.{All}
 use Rattle.std.specs.Io.BufRead.{strip_last}
-use Rattle.eb_io.specs.declared.lines.TheConstants.{LONGEST_LINE}
 
 -- the byte stands in front of the first piece; where there is no piece, it is one
 abbrev pub begun_by : ℕ → List (List ℕ) → List (List ℕ)
@@ -30,9 +29,17 @@ pub data Line : Type 0 where
   line : List ℕ → Line
   long_line : Line
 
+-- the most bytes of a line, its LF not counted
+abbrev pub longest_line : ℕ
+longest_line = 65536
+
+-- the bytes of an input, which has to end before so many are taken
+abbrev pub longest_input : ℕ
+longest_input = 2 ^ 40
+
 -- these are more bytes than a line may have
 abbrev pub are_too_many : List ℕ → Bool
-are_too_many bytes = nat_lt LONGEST_LINE (length bytes)
+are_too_many bytes = nat_lt longest_line (length bytes)
 
 -- the line without one CR at its end
 abbrev pub without_cr : List ℕ → List ℕ

@@ -2,7 +2,7 @@ ghost use Rattle.std.specs.Prelude.{◌≡◌, ◌≢◌, ℕ, ◌+◌, ◌<◌,
 ghost use Rattle.std.specs.List.{Contains};
 ghost use Rattle.eb_io.specs.Faults.{HasRisen};
 ghost use Rattle.eb_io.specs.Source.{after, got, IsCount, IsEmpty};
-ghost use Rattle.eb_io.specs.Lines.{Line, without_cr, line_from, IsUncut, IsFirstLf};
+ghost use Rattle.eb_io.specs.Lines.{Line, longest_line, without_cr, line_from, IsUncut, IsFirstLf};
 
 use crate::source::{Got, Source};
 use eb_base::NoMemory;
@@ -28,13 +28,14 @@ pub enum Next {
     Line,
     /// A line of more bytes, which was passed over to its LF, or to the end.
     LongLine,
-    /// All lines were given, and the end of the source was met, in this call or an earlier one.
+    /// All lines were given, and the end of the source was met, in this call or an earlier one, before as many
+    /// bytes were taken as may be.
     End,
     /// The source failed, and no whole line is held. What was taken of the line that comes next is
     /// kept, or that it is a long line; the next call goes on with the rest of it.
     ReadFault,
     /// As many bytes as may be taken were taken, no end was met, and no whole line is held. Later
-    /// calls answer it again.
+    /// calls answer it again, and leave the source alone.
     TooLong,
 }
 
@@ -160,9 +161,20 @@ impl Lines {
     // Where the next line ends in what is held.
     fn find(&self) -> Option<usize>
         ensures within { self.now.taken ≤ self.now.limit }
+        ensures short { self.now.is_ended ≡ true → self.now.taken < self.now.limit }
         ensures place { MatchOption result (IsUncut self.now.rest) (IsFirstLf self.now.rest) }
     {
         find_end(&self.piece[self.from..self.to])
+    }
+
+    /// Whether a whole line is held, so that the next call for a line leaves the source alone. Takes no memory.
+    pub fn has_line(&self) -> bool
+        ensures { IsTrue result ↔ Contains self.now.rest 10 }
+    {
+        match self.find() {
+            Some(_) => true,
+            None => false,
+        }
     }
 
     fn rest_len(&self) -> usize
@@ -222,6 +234,7 @@ impl Lines {
     fn fill<S: Source>(&mut self, source: &mut S) -> Got
         requires empty { self.old.rest ≡ [] }
         requires room { self.old.taken < self.old.limit }
+        requires open_end { self.old.is_ended ≡ false }
         ensures held { self.new ≡ record self.old {
           rest = self.new.rest;
           taken = self.old.taken + length self.new.rest;
@@ -265,7 +278,8 @@ impl Lines {
     }
 
     fn is_ended(&self) -> bool
-        ensures { result ≡ self.now.is_ended }
+        ensures ended { result ≡ self.now.is_ended }
+        ensures short { self.now.is_ended ≡ true → self.now.taken < self.now.limit }
     {
         self.is_ended
     }
@@ -288,9 +302,13 @@ impl Lines {
         // the source isn't asked after its end was met, nor where a whole line is held
         ensures ended { self.old.is_ended ≡ true → source.new ≡ source.old }
         ensures whole { Contains self.old.rest 10 → source.new ≡ source.old }
+        // nor where as many bytes were taken as may be; without an end and a whole line held, the answer is TooLong
+        ensures full { self.old.taken ≡ self.old.limit → source.new ≡ source.old }
+        ensures too_long { self.old.taken ≡ self.old.limit → self.old.is_ended ≡ false → (Contains self.old.rest 10 → ⊥) → result ≡ Next.TooLong }
         ensures line { (result ≡ Next.Line → ⊥) → self.new.line ≡ self.old.line }
         ensures limit { self.new.limit ≡ self.old.limit }
         ensures within { self.new.taken ≤ self.new.limit }
+        ensures short { self.new.is_ended ≡ true → self.new.taken < self.new.limit }
     {
         'pieces: loop {
             if let Some(count) = self.find() {
