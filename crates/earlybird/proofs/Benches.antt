@@ -19,7 +19,7 @@ use Rattle.earlybird.specs.Reads.{Reads}
 use Rattle.earlybird.specs.Progress.{documents_in, accepted, queries, refusals, progress_after, with_line, nothing}
 use Rattle.earlybird.specs.Admitted.{admit, admitted}
 use Rattle.earlybird.specs.Session.{HasCome, IsOutcome}
-use Rattle.earlybird.specs.Bench.{usual, answer_in, answers_from, all_answers, ids_in, bench_line, figures, PrintsFigures, WroteBench, HasCounted}
+use Rattle.earlybird.specs.Bench.{usual, answer_in, answers_from, all_answers, ids_in, bench_line, figures, PrintsFigures, WroteBench, MeansBench, HasCounted}
 use Rattle.earlybird.specs.Output.{IsWorkedOff}
 use Rattle.earlybird.specs.Worked.{Closes}
 use Rattle.earlybird.proofs.OneOutput.{some_read}
@@ -174,6 +174,15 @@ figures_told status.NoMemory start count old new before f sink =
 figures_told status.Usage start count old new before f sink = absurd f.2
 figures_told status.ReadFault start count old new before f sink = absurd f.2
 figures_told status.TooLong start count old new before f sink = absurd f.2
+
+pub figures_mean : (ending : Status) (start count : ℕ) (printed_old printed_new : Option (List ℕ)) → PrintsFigures ending (lines_of (made start count)) printed_old printed_new → MeansBench ending start count
+figures_mean status.Done start count old new f = (f.0, f.1, f.2.0)
+figures_mean status.Refused start count old new f = (f.0, f.1, f.2.0)
+figures_mean status.WriteFault start count old new f = tt
+figures_mean status.NoMemory start count old new f = tt
+figures_mean status.Usage start count old new f = absurd f.2
+figures_mean status.ReadFault start count old new f = absurd f.2
+figures_mean status.TooLong start count old new f = absurd f.2
 
 pub figures_end : (ending : Status) (lines : List Line) (printed_old printed_new : Option (List ℕ)) (rose : Type 0) → PrintsFigures ending lines printed_old printed_new
     → (ending ≡ status.WriteFault → rose) → (rose → ⊥) → IsWorkedOff ending

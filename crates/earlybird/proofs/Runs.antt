@@ -5,7 +5,7 @@ use Rattle.std.proofs.lemmas.List.{take-append-drop, length-map}
 use Rattle.std.proofs.lemmas.Bool.{cases_Bool}
 use Rattle.std.proofs.Math.Seq.{take-append_seam}
 use Rattle.eb_base.specs.Setting.{Setting}
-use Rattle.eb_io.specs.Lines.{Line, lines_of, whole_lines, pieces, begun_by, line_from}
+use Rattle.eb_io.specs.Lines.{Line, longest_input, lines_of, whole_lines, pieces, begun_by, line_from}
 use Rattle.eb_io.specs.Held.{Held, HasGiven, HasNoLine, HasAllLines}
 use Rattle.eb_io.specs.Source.{after, IsEmpty}
 use Rattle.eb_io.specs.Sink.{grown}
@@ -13,12 +13,11 @@ use Rattle.eb_io.proofs.Bytes.{grown-grown, grown-nil, after-nil, after-after}
 use Rattle.eb_io.proofs.Pieces.{lines_of-append}
 use Rattle.earlybird.specs.declared.status.Status.{Status}
 use Rattle.earlybird.specs.declared.status.Status.TheVariants.{Done, Refused, Usage, ReadFault, WriteFault, NoMemory, TooLong}
-use Rattle.earlybird.specs.declared.status.TheConstants.{MAX_INPUT}
 use Rattle.earlybird.specs.Reading.{Reading}
 use Rattle.earlybird.specs.Reads.{Reads}
 use Rattle.earlybird.specs.Progress.{Progress, accepted, refusals, told, progress_after, with_line, nothing}
 use Rattle.earlybird.specs.Text.{body, summary, output_of}
-use Rattle.earlybird.specs.Output.{AreRead, IsBodyOf, IsTextOf, HasRefusal, HasNoRefusal, IsPartOfOutput, Wrote, IsWorkedOff}
+use Rattle.earlybird.specs.Output.{AreRead, IsBodyOf, IsTextOf, HasRefusal, HasNoRefusal, IsPartOfOutput, Wrote, Means, IsWorkedOff}
 use Rattle.earlybird.specs.Worked.{IsAt, Prints, Closes, AreFirst, IsPart, EndsAs, Ends}
 use Rattle.earlybird.specs.Admitted.{admit}
 use Rattle.earlybird.proofs.Admissions.{read_none, read_push, read_long}
@@ -73,7 +72,7 @@ first_before given l taken left f = λ rest e. let m = f rest e in (l ∷ m.0, m
 
 -- ---- from line to line
 
-pub at_start : (σ : Setting) (left printed : Option (List ℕ)) (h : Held) (s : Progress) → HasGiven [] [] h → h.limit ≡ MAX_INPUT → h.taken ≡ 0 → h.is_ended ≡ false → s ≡ nothing → IsAt σ left left printed printed h s
+pub at_start : (σ : Setting) (left printed : Option (List ℕ)) (h : Held) (s : Progress) → HasGiven [] [] h → h.limit ≡ longest_input → h.taken ≡ 0 → h.is_ended ≡ false → s ≡ nothing → IsAt σ left left printed printed h s
 at_start σ left printed h s g limit none open_end known = record {
   taken = [];
   given = [];
@@ -88,7 +87,7 @@ at_start σ left printed h s g limit none open_end known = record {
   printed = sym (ap (grown printed) body-nil ∙ grown-nil printed);
 }
 
-pub at_few : (σ : Setting) (l0 l1 p0 p1 : Option (List ℕ)) (h : Held) (s : Progress) → IsAt σ l0 l1 p0 p1 h s → s.lines ≤ MAX_INPUT
+pub at_few : (σ : Setting) (l0 l1 p0 p1 : Option (List ℕ)) (h : Held) (s : Progress) → IsAt σ l0 l1 p0 p1 h s → s.lines ≤ longest_input
 unfolding progress_after
 at_few σ l0 l1 p0 p1 h s a =
     let lines = ap (λ (x : Progress). x.lines) a.known in
@@ -186,16 +185,19 @@ module _ (σ : Setting) (l0 l1 l2 p0 p1 p2 : Option (List ℕ)) (h g : Held) (s 
   ends_unprinted A ReadFault l r lines read prints = absurd prints
   ends_unprinted A TooLong l r lines read prints = absurd prints
 
+  short_of : length (a.taken ++ seen) < g.limit → g.limit ≡ h.limit → length (a.taken ++ seen) < longest_input
+  short_of short limit = let own = a.limit in omega (arith, short, limit, own)
+
   body_of_whole : HasNoLine (a.taken ++ seen) a.given g → IsBodyOf σ (whole_lines (a.taken ++ seen)) (body (told a.readings) a.readings)
   body_of_whole lines = subst (λ ls. IsBodyOf σ ls (body (told a.readings) a.readings)) (sym lines.whole) (body_of σ a.given a.readings a.read)
 
-  pub ends_at_fault : HasNoLine (a.taken ++ seen) a.given g → p2 ≡ p1 → Ends σ ReadFault l0 l2 p0 p2
-  ends_at_fault lines nothing_more = record {
+  pub ends_at_fault : HasNoLine (a.taken ++ seen) a.given g → length (a.taken ++ seen) < g.limit → g.limit ≡ h.limit → p2 ≡ p1 → Ends σ ReadFault l0 l2 p0 p2
+  ends_at_fault lines short limit nothing_more = record {
     taken = a.taken ++ seen;
     printed = body (told a.readings) a.readings;
     left = left_all;
     put = nothing_more ∙ a.printed;
-    ends = body_of_whole lines;
+    ends = (body_of_whole lines, short_of short limit);
   }
 
   pub ends_too_long : HasNoLine (a.taken ++ seen) a.given g → length (a.taken ++ seen) ≡ g.limit → g.limit ≡ h.limit → p2 ≡ p1 → Ends σ TooLong l0 l2 p0 p2
@@ -220,22 +222,22 @@ module _ (σ : Setting) (l0 l1 l2 p0 p1 p2 : Option (List ℕ)) (h g : Held) (s 
   unfolding progress_after
   refused_is = ap (λ (x : Progress). x.refused) a.known
 
-  pub ends_closed : (status : Status) → HasAllLines (a.taken ++ seen) a.given g → Closes status s.refused (summary s) p1 p2 → Ends σ status l0 l2 p0 p2
-  ends_closed Done lines closes = record {
+  pub ends_closed : (status : Status) → HasAllLines (a.taken ++ seen) a.given g → length (a.taken ++ seen) < g.limit → g.limit ≡ h.limit → Closes status s.refused (summary s) p1 p2 → Ends σ status l0 l2 p0 p2
+  ends_closed Done lines short limit closes = record {
     taken = a.taken ++ seen;
     printed = body (told a.readings) a.readings ++ summary s;
     left = left_all;
     put = closes.1 ∙ ap (λ p. grown p (summary s)) a.printed ∙ grown-grown p0 _ _;
-    ends = (is_empty lines.ended, whole_text lines, (a.readings, read_all lines, sym refused_is ∙ closes.0));
+    ends = (is_empty lines.ended, whole_text lines, (a.readings, read_all lines, sym refused_is ∙ closes.0), short_of short limit);
   }
-  ends_closed Refused lines closes = record {
+  ends_closed Refused lines short limit closes = record {
     taken = a.taken ++ seen;
     printed = body (told a.readings) a.readings ++ summary s;
     left = left_all;
     put = closes.1 ∙ ap (λ p. grown p (summary s)) a.printed ∙ grown-grown p0 _ _;
-    ends = (is_empty lines.ended, whole_text lines, (a.readings, read_all lines, subst (λ n. 0 < n) refused_is closes.0));
+    ends = (is_empty lines.ended, whole_text lines, (a.readings, read_all lines, subst (λ n. 0 < n) refused_is closes.0), short_of short limit);
   }
-  ends_closed WriteFault lines closes =
+  ends_closed WriteFault lines short limit closes =
       let own = body (told a.readings) a.readings in
       let n = closes.0 in
       record {
@@ -252,7 +254,7 @@ module _ (σ : Setting) (l0 l1 l2 p0 p1 p2 : Option (List ℕ)) (h g : Held) (s 
           front = ap (λ x. own ++ summary x) (sym a.known) ∙ ap (λ o. own ++ o) (sym (take-append-drop n (summary s))) ∙ sym (append_assoc own (take n (summary s)) (drop n (summary s)));
         };
       }
-  ends_closed NoMemory lines closes = record {
+  ends_closed NoMemory lines short limit closes = record {
     taken = a.taken ++ seen;
     printed = body (told a.readings) a.readings;
     left = left_all;
@@ -266,9 +268,9 @@ module _ (σ : Setting) (l0 l1 l2 p0 p1 p2 : Option (List ℕ)) (h g : Held) (s 
       front = refl;
     };
   }
-  ends_closed Usage lines closes = absurd closes
-  ends_closed ReadFault lines closes = absurd closes
-  ends_closed TooLong lines closes = absurd closes
+  ends_closed Usage lines short limit closes = absurd closes
+  ends_closed ReadFault lines short limit closes = absurd closes
+  ends_closed TooLong lines short limit closes = absurd closes
 
 -- no memory for the first line
 pub ends_at_once : (σ : Setting) (left printed : Option (List ℕ)) → Ends σ NoMemory left left printed printed
@@ -314,11 +316,11 @@ all_told bytes taken rest l1 still all empty =
 wrote : (σ : Setting) (status : Status) (bytes taken rest printed : List ℕ) (l1 : Option (List ℕ)) → l1 ≡ Some rest → taken ++ rest ≡ bytes → EndsAs σ status taken l1 printed → Wrote σ status bytes l1 printed
 wrote σ Done bytes taken rest printed l1 still all e =
     let whole = all_told bytes taken rest l1 still all e.0 in
-    (whole.0, subst (λ b. IsTextOf σ (lines_of b) printed) whole.1 e.1, subst (λ b. HasNoRefusal σ (lines_of b)) whole.1 e.2)
+    (whole.0, subst (λ b. IsTextOf σ (lines_of b) printed) whole.1 e.1, subst (λ b. HasNoRefusal σ (lines_of b)) whole.1 e.2, subst (λ b. length b < longest_input) whole.1 e.3)
 wrote σ Refused bytes taken rest printed l1 still all e =
     let whole = all_told bytes taken rest l1 still all e.0 in
-    (whole.0, subst (λ b. IsTextOf σ (lines_of b) printed) whole.1 e.1, subst (λ b. HasRefusal σ (lines_of b)) whole.1 e.2)
-wrote σ ReadFault bytes taken rest printed l1 still all e = (taken, record { rest = rest; whole = sym all; still = still; body = e })
+    (whole.0, subst (λ b. IsTextOf σ (lines_of b) printed) whole.1 e.1, subst (λ b. HasRefusal σ (lines_of b)) whole.1 e.2, subst (λ b. length b < longest_input) whole.1 e.3)
+wrote σ ReadFault bytes taken rest printed l1 still all e = (taken, record { rest = rest; whole = sym all; still = still; body = e.0 }, e.1)
 wrote σ TooLong bytes taken rest printed l1 still all e = (taken, record { rest = rest; whole = sym all; still = still; body = e.0 }, e.1)
 wrote σ WriteFault bytes taken rest printed l1 still all e = part_told σ bytes taken rest printed l1 still all e
 wrote σ NoMemory bytes taken rest printed l1 still all e = part_told σ bytes taken rest printed l1 still all e
@@ -330,11 +332,31 @@ ends_told σ status l0 l1 p0 p1 bytes before e source sink =
     let d = drop_told bytes e.taken l1 (sym e.left ∙ source) in
     (e.printed, e.put ∙ ap (λ p. grown p e.printed) sink, wrote σ status bytes e.taken d.0 e.printed l1 d.1 d.2 e.ends)
 
+-- ---- what the status says of such an input, over any sink
+
+meant : (σ : Setting) (status : Status) (bytes taken rest printed : List ℕ) (l1 : Option (List ℕ)) → l1 ≡ Some rest → taken ++ rest ≡ bytes → EndsAs σ status taken l1 printed → Means σ status bytes l1
+meant σ Done bytes taken rest printed l1 still all e =
+    let whole = all_told bytes taken rest l1 still all e.0 in
+    (whole.0, subst (λ b. length b < longest_input) whole.1 e.3, subst (λ b. HasNoRefusal σ (lines_of b)) whole.1 e.2)
+meant σ Refused bytes taken rest printed l1 still all e =
+    let whole = all_told bytes taken rest l1 still all e.0 in
+    (whole.0, subst (λ b. length b < longest_input) whole.1 e.3, subst (λ b. HasRefusal σ (lines_of b)) whole.1 e.2)
+meant σ ReadFault bytes taken rest printed l1 still all e = (taken, record { rest = rest; whole = sym all; still = still }, e.1)
+meant σ TooLong bytes taken rest printed l1 still all e = (taken, record { rest = rest; whole = sym all; still = still }, e.1)
+meant σ WriteFault bytes taken rest printed l1 still all e = (taken, record { rest = rest; whole = sym all; still = still })
+meant σ NoMemory bytes taken rest printed l1 still all e = (taken, record { rest = rest; whole = sym all; still = still })
+meant σ Usage bytes taken rest printed l1 still all e = absurd e
+
+pub ends_mean : (σ : Setting) (status : Status) (l0 l1 p0 p1 : Option (List ℕ)) (bytes : List ℕ) → Ends σ status l0 l1 p0 p1 → l0 ≡ Some bytes → Means σ status bytes l1
+ends_mean σ status l0 l1 p0 p1 bytes e source =
+    let d = drop_told bytes e.taken l1 (sym e.left ∙ source) in
+    meant σ status bytes e.taken d.0 e.printed l1 d.1 d.2 e.ends
+
 -- ---- a run ends in time
 
 module _ (σ : Setting) (l0 l1 p0 p1 : Option (List ℕ)) (read_rose write_rose : Type 0) (bytes : List ℕ) where
   pub completes : (status : Status) → Ends σ status l0 l1 p0 p1 → (status ≡ ReadFault → read_rose) → (status ≡ WriteFault → write_rose)
-      → (read_rose → ⊥) → (write_rose → ⊥) → l0 ≡ Some bytes → length bytes < MAX_INPUT → IsWorkedOff status
+      → (read_rose → ⊥) → (write_rose → ⊥) → l0 ≡ Some bytes → length bytes < longest_input → IsWorkedOff status
   completes Done e f g no_read no_write source short = inl refl
   completes Refused e f g no_read no_write source short = inr (inl refl)
   completes NoMemory e f g no_read no_write source short = inr (inr refl)

@@ -15,7 +15,7 @@ use Rattle.earlybird.specs.declared.status.Status.TheVariants as status
 use Rattle.earlybird.specs.Reading.{Reading, blank, document, query, refused}
 use Rattle.earlybird.specs.Progress.{documents_in, accepted, queries, refusals, progress_after}
 use Rattle.earlybird.specs.Session.{HasCome}
-use Rattle.earlybird.specs.Output.{AreRead}
+use Rattle.earlybird.specs.Output.{AreRead, HasRefusal, HasNoRefusal}
 use Rattle.earlybird.specs.Worked.{Closes}
 
 -- the setting that an index has where none is asked for
@@ -69,6 +69,17 @@ WroteBench status.NoMemory start count printed = (more : List ℕ) × (n : ℕ) 
 WroteBench status.Usage start count printed = ⊥
 WroteBench status.ReadFault start count printed = ⊥
 WroteBench status.TooLong start count printed = ⊥
+
+-- what the status of a bench says of its input, whatever became of the output: at Done no line of it is refused, at
+-- Refused some line is
+abbrev pub MeansBench : Status → ℕ → ℕ → Type 0
+MeansBench status.Done start count = HasNoRefusal usual (lines_of (made start count))
+MeansBench status.Refused start count = HasRefusal usual (lines_of (made start count))
+MeansBench status.WriteFault start count = Unit {0}
+MeansBench status.NoMemory start count = Unit {0}
+MeansBench status.Usage start count = ⊥
+MeansBench status.ReadFault start count = ⊥
+MeansBench status.TooLong start count = ⊥
 
 -- what printing the line of figures of these lines leaves
 abbrev pub PrintsFigures : Status → List Line → Option (List ℕ) → Option (List ℕ) → Type 0

@@ -2,8 +2,7 @@
 use Rattle.std.specs.Prelude.{◌≡◌, ℕ, ◌<◌, ◌⊎◌, List, [], ◌++◌, length, take, Option, Some}
 use Rattle.std.specs.List.{AllZip}
 use Rattle.eb_base.specs.Setting.{Setting}
-use Rattle.eb_io.specs.Lines.{Line, lines_of, whole_lines}
-use Rattle.earlybird.specs.declared.status.TheConstants.{MAX_INPUT}
+use Rattle.eb_io.specs.Lines.{Line, longest_input, lines_of, whole_lines}
 use Rattle.earlybird.specs.declared.status.Status.{Status}
 use Rattle.earlybird.specs.declared.status.Status.TheVariants.{Done, Refused, Usage, ReadFault, WriteFault, NoMemory, TooLong}
 use Rattle.earlybird.specs.Reading.{Reading}
@@ -64,13 +63,31 @@ pub record IsStoppedAt (σ : Setting) (bytes : List ℕ) (left : Option (List �
 
 -- what a run over an index of this setting that ends so has printed, of an input of these bytes of which this is left
 abbrev pub Wrote : Setting → Status → List ℕ → Option (List ℕ) → List ℕ → Type 0
-Wrote σ Done bytes left printed = (left ≡ Some []) × IsOutput σ bytes printed × HasNoRefusal σ (lines_of bytes)
-Wrote σ Refused bytes left printed = (left ≡ Some []) × IsOutput σ bytes printed × HasRefusal σ (lines_of bytes)
-Wrote σ ReadFault bytes left printed = (taken : List ℕ) × IsStoppedAt σ bytes left printed taken
-Wrote σ TooLong bytes left printed = (taken : List ℕ) × IsStoppedAt σ bytes left printed taken × (length taken ≡ MAX_INPUT)
+Wrote σ Done bytes left printed = (left ≡ Some []) × IsOutput σ bytes printed × HasNoRefusal σ (lines_of bytes) × (length bytes < longest_input)
+Wrote σ Refused bytes left printed = (left ≡ Some []) × IsOutput σ bytes printed × HasRefusal σ (lines_of bytes) × (length bytes < longest_input)
+Wrote σ ReadFault bytes left printed = (taken : List ℕ) × IsStoppedAt σ bytes left printed taken × (length taken < longest_input)
+Wrote σ TooLong bytes left printed = (taken : List ℕ) × IsStoppedAt σ bytes left printed taken × (length taken ≡ longest_input)
 Wrote σ WriteFault bytes left printed = IsPartOfOutput σ bytes printed
 Wrote σ NoMemory bytes left printed = IsPartOfOutput σ bytes printed
 Wrote σ Usage bytes left printed = ⊥
+
+-- these of the bytes were taken, and the others are left
+pub record AreTaken (bytes : List ℕ) (left : Option (List ℕ)) (taken : List ℕ) : Type 0 where
+  pub rest : List ℕ
+  pub whole : bytes ≡ taken ++ rest
+  pub still : left ≡ Some rest
+
+-- what a status says of an input of these bytes of which this is left, whatever became of the output: at Done and
+-- Refused all was taken, which is less than an input may have, and no line or some line is refused; at ReadFault less
+-- was taken than an input may have, and at TooLong as much
+abbrev pub Means : Setting → Status → List ℕ → Option (List ℕ) → Type 0
+Means σ Done bytes left = (left ≡ Some []) × (length bytes < longest_input) × HasNoRefusal σ (lines_of bytes)
+Means σ Refused bytes left = (left ≡ Some []) × (length bytes < longest_input) × HasRefusal σ (lines_of bytes)
+Means σ ReadFault bytes left = (taken : List ℕ) × AreTaken bytes left taken × (length taken < longest_input)
+Means σ TooLong bytes left = (taken : List ℕ) × AreTaken bytes left taken × (length taken ≡ longest_input)
+Means σ WriteFault bytes left = (taken : List ℕ) × AreTaken bytes left taken
+Means σ NoMemory bytes left = (taken : List ℕ) × AreTaken bytes left taken
+Means σ Usage bytes left = ⊥
 
 -- the whole input is worked off, unless memory ran out
 abbrev pub IsWorkedOff : Status → Type 0

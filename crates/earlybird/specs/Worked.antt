@@ -2,11 +2,10 @@
 -- no bytes.
 use Rattle.std.specs.Prelude.{◌≡◌, ℕ, ◌<◌, ◌≤◌, true, List, [], ◌∷◌, ◌++◌, length, take, Option, Some, Result, Ok, Err}
 use Rattle.eb_base.specs.Setting.{Setting}
-use Rattle.eb_io.specs.Lines.{Line, lines_of, whole_lines}
+use Rattle.eb_io.specs.Lines.{Line, longest_input, lines_of, whole_lines}
 use Rattle.eb_io.specs.Held.{Held, HasGiven, HasNoLine, HasAllLines}
 use Rattle.eb_io.specs.Source.{after, IsEmpty}
 use Rattle.eb_io.specs.Sink.{grown}
-use Rattle.earlybird.specs.declared.status.TheConstants.{MAX_INPUT}
 use Rattle.earlybird.specs.declared.status.Status.{Status}
 use Rattle.earlybird.specs.declared.status.Status.TheVariants.{Done, Refused, Usage, ReadFault, WriteFault, NoMemory, TooLong}
 use Rattle.earlybird.specs.declared.work.Upcoming.{Upcoming}
@@ -21,8 +20,8 @@ use Rattle.earlybird.specs.Output.{AreRead, IsBodyOf, IsTextOf, HasRefusal, HasN
 -- what comes next, where these bytes are taken by now and these lines were given before
 abbrev pub Comes : Upcoming → List ℕ → List Line → Held → Type 0
 Comes (next.Line work) taken given held = (l : Line) × Reads l (reading_of work) × HasGiven taken (given ++ l ∷ []) held
-Comes next.End taken given held = HasAllLines taken given held
-Comes next.ReadFault taken given held = HasNoLine taken given held
+Comes next.End taken given held = HasAllLines taken given held × (length taken < held.limit)
+Comes next.ReadFault taken given held = HasNoLine taken given held × (length taken < held.limit)
 Comes next.TooLong taken given held = HasNoLine taken given held × (length taken ≡ held.limit)
 Comes next.NoMemory taken given held = (l : Line) × HasGiven taken (given ++ l ∷ []) held
 
@@ -33,7 +32,7 @@ pub record IsAt (σ : Setting) (left_old left_new printed_old printed_new : Opti
   pub readings : List Reading
   pub left : left_old ≡ after taken left_new
   pub lines : HasGiven taken given held
-  pub limit : held.limit ≡ MAX_INPUT
+  pub limit : held.limit ≡ longest_input
   pub within : held.taken ≤ held.limit
   pub ended : held.is_ended ≡ true → IsEmpty left_new
   pub read : AreRead σ given readings
@@ -76,10 +75,10 @@ pub record IsPart (σ : Setting) (taken : List ℕ) (left : Option (List ℕ)) (
 
 -- how a run over these taken bytes ends
 abbrev pub EndsAs : Setting → Status → List ℕ → Option (List ℕ) → List ℕ → Type 0
-EndsAs σ Done taken left printed = IsEmpty left × IsTextOf σ (lines_of taken) printed × HasNoRefusal σ (lines_of taken)
-EndsAs σ Refused taken left printed = IsEmpty left × IsTextOf σ (lines_of taken) printed × HasRefusal σ (lines_of taken)
-EndsAs σ ReadFault taken left printed = IsBodyOf σ (whole_lines taken) printed
-EndsAs σ TooLong taken left printed = IsBodyOf σ (whole_lines taken) printed × (length taken ≡ MAX_INPUT)
+EndsAs σ Done taken left printed = IsEmpty left × IsTextOf σ (lines_of taken) printed × HasNoRefusal σ (lines_of taken) × (length taken < longest_input)
+EndsAs σ Refused taken left printed = IsEmpty left × IsTextOf σ (lines_of taken) printed × HasRefusal σ (lines_of taken) × (length taken < longest_input)
+EndsAs σ ReadFault taken left printed = IsBodyOf σ (whole_lines taken) printed × (length taken < longest_input)
+EndsAs σ TooLong taken left printed = IsBodyOf σ (whole_lines taken) printed × (length taken ≡ longest_input)
 EndsAs σ WriteFault taken left printed = IsPart σ taken left printed
 EndsAs σ NoMemory taken left printed = IsPart σ taken left printed
 EndsAs σ Usage taken left printed = ⊥

@@ -2,10 +2,10 @@ ghost use Rattle.std.specs.Prelude.{◌≡◌, ◌⊎◌, ◌<◌, ◌≤◌, �
 ghost use Rattle.eb_io.specs.Faults.{HasRisen};
 ghost use Rattle.eb_base.specs.Setting.{Setting};
 ghost use Rattle.earlybird.specs.Command.{command_of, AsksRun, AsksBench};
-ghost use Rattle.earlybird.specs.Bench.{WroteBench, PrintsFigures};
+ghost use Rattle.earlybird.specs.Bench.{WroteBench, MeansBench, PrintsFigures};
 ghost use Rattle.eb_gen.specs.Made.{made};
-ghost use Rattle.eb_io.specs.Lines.{lines_of};
-ghost use Rattle.earlybird.specs.Output.{Wrote, IsWorkedOff};
+ghost use Rattle.eb_io.specs.Lines.{longest_input, lines_of};
+ghost use Rattle.earlybird.specs.Output.{Wrote, Means, IsWorkedOff};
 ghost use Rattle.earlybird.specs.StatusLine.{status_line};
 ghost use Rattle.earlybird.specs.Worked.{Ends};
 
@@ -46,10 +46,14 @@ where
     // the text of the input as the status says.
     ensures output { (σ : Setting) → AsksRun (map string_bytes words.now.items) σ → (bytes before : List ℕ) → S.left source.old ≡ Some bytes → K.taken out.old ≡ Some before
         → (printed : List ℕ) × (K.taken out.new ≡ Some (before ++ printed)) × Wrote σ result bytes (S.left source.new) printed }
+    // What the status says of the input holds whatever becomes of the output.
+    ensures means { (σ : Setting) → AsksRun (map string_bytes words.now.items) σ → (bytes : List ℕ) → S.left source.old ≡ Some bytes
+        → Means σ result bytes (S.left source.new) }
     // Where they ask to work off a made input, the source isn't read, and the run printed the figures of that input.
     ensures bench_unread { (start count : ℕ) → AsksBench (map string_bytes words.now.items) start count → source.new ≡ source.old }
     ensures bench { (start count : ℕ) → AsksBench (map string_bytes words.now.items) start count → (before : List ℕ) → K.taken out.old ≡ Some before
         → (printed : List ℕ) × (K.taken out.new ≡ Some (before ++ printed)) × WroteBench result start count printed }
+    ensures bench_means { (start count : ℕ) → AsksBench (map string_bytes words.now.items) start count → MeansBench result start count }
     ensures bench_completes { (start count : ℕ) → AsksBench (map string_bytes words.now.items) start count
         → (HasRisen (K.faults out.old) (K.faults out.new) → ⊥) → IsWorkedOff result }
     // Faults come only from outside.
@@ -57,7 +61,7 @@ where
     ensures write_fault { result ≡ Status.WriteFault → HasRisen (K.faults out.old) (K.faults out.new) }
     // Without a fault and with an end in time, the input is worked off.
     ensures completes { (σ : Setting) → AsksRun (map string_bytes words.now.items) σ → (HasRisen (S.faults source.old) (S.faults source.new) → ⊥)
-        → (HasRisen (K.faults out.old) (K.faults out.new) → ⊥) → (bytes : List ℕ) → S.left source.old ≡ Some bytes → length bytes < MAX_INPUT → IsWorkedOff result }
+        → (HasRisen (K.faults out.old) (K.faults out.new) → ⊥) → (bytes : List ℕ) → S.left source.old ≡ Some bytes → length bytes < longest_input → IsWorkedOff result }
     // `err` took the line of the status, unless it failed.
     ensures told { (before : List ℕ) → E.taken err.old ≡ Some before
         → HasRisen (E.faults err.old) (E.faults err.new) ⊎ (E.taken err.new ≡ Some (before ++ status_line result)) }

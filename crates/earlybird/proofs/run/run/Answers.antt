@@ -1,9 +1,12 @@
-use Rattle.earlybird.proofs.Benches.{figures_told, figures_end}
-use Rattle.earlybird.proofs.Runs.{ends_told, completes}
+use Rattle.earlybird.proofs.Benches.{figures_told, figures_mean, figures_end}
+use Rattle.earlybird.proofs.Runs.{ends_told, ends_mean, completes}
 use Rattle.earlybird.proofs.run.run.Goals as goal
 
 pub returns-clause-output : goal.returns-clause-output
 returns-clause-output g c = λ σ is bytes before source sink. ends_told σ c.run_words-status.result _ _ _ _ bytes before (c.run_words-status.ensures.ends σ is) source sink
+
+pub returns-clause-means : goal.returns-clause-means
+returns-clause-means g c = λ σ is bytes source. ends_mean σ c.run_words-status.result _ _ _ _ bytes (c.run_words-status.ensures.ends σ is) source
 
 pub returns-clause-completes : goal.returns-clause-completes
 returns-clause-completes g c = λ σ is no_read no_write bytes source short.
@@ -11,6 +14,9 @@ returns-clause-completes g c = λ σ is no_read no_write bytes source short.
 
 pub returns-clause-bench : goal.returns-clause-bench
 returns-clause-bench g c = λ start count is before sink. figures_told c.run_words-status.result start count _ _ before (c.run_words-status.ensures.bench start count is) sink
+
+pub returns-clause-bench_means : goal.returns-clause-bench_means
+returns-clause-bench_means g c = λ start count is. figures_mean c.run_words-status.result start count _ _ (c.run_words-status.ensures.bench start count is)
 
 pub returns-clause-bench_completes : goal.returns-clause-bench_completes
 returns-clause-bench_completes g c = λ start count is no.

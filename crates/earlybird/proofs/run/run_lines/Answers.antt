@@ -32,14 +32,14 @@ returns-in-End-clause-ends g c =
     let at = c.lines.invariant.at.2 in
     let t = c.in-End.ensures.told at.taken at.given at.lines in
     ends_closed _ _ _ _ _ _ _ c.lines.lines c.next_work.new.lines c.lines.invariant.at.0 c.lines.invariant.at.0 at t.0 t.1 c.in-End.ensures.end
-    (λ e. ap g.S.Source.left (c.in-End.ensures.ended e)) c.close.result t.2 (c.close.ensures.printed _ _ c.lines.invariant.at.1)
+    (λ e. ap g.S.Source.left (c.in-End.ensures.ended e)) c.close.result t.2.0 t.2.1 c.in-End.ensures.limit (c.close.ensures.printed _ _ c.lines.invariant.at.1)
 
 pub returns-in-ReadFault-clause-ends : goal.returns-in-ReadFault-clause-ends
 returns-in-ReadFault-clause-ends g c =
     let at = c.lines.invariant.at.2 in
     let t = c.in-ReadFault.ensures.told at.taken at.given at.lines in
     ends_at_fault _ _ _ _ _ _ _ c.lines.lines c.next_work.new.lines c.lines.invariant.at.0 c.lines.invariant.at.0 at t.0 t.1 c.in-ReadFault.ensures.end
-    (λ e. ap g.S.Source.left (c.in-ReadFault.ensures.ended e)) t.2 refl
+    (λ e. ap g.S.Source.left (c.in-ReadFault.ensures.ended e)) t.2.0 t.2.1 c.in-ReadFault.ensures.limit refl
 
 pub returns-in-TooLong-clause-ends : goal.returns-in-TooLong-clause-ends
 returns-in-TooLong-clause-ends g c =

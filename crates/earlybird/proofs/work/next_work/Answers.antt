@@ -19,8 +19,3 @@ pub returns-in-LongLine-clause-told : goal.returns-in-LongLine-clause-told
 returns-in-LongLine-clause-told g c = λ before given has.
     let t = c.in-LongLine.ensures.told before given has in
     (t.0, t.1, (long_line, refl, t.2))
-
-pub returns-in-ReadFault-clause-told : goal.returns-in-ReadFault-clause-told
-returns-in-ReadFault-clause-told g c = λ before given has.
-    let t = c.in-ReadFault.ensures.told before given has in
-    (t.0, t.1, t.2.0)
