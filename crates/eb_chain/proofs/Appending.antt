@@ -1,14 +1,13 @@
 -- What is known where a placing has come to a posting, and after its stores.
-use Rattle.std.proofs.Common.{◌≡◌, ℕ, zero, suc, ◌+◌, ◌<◌, ◌≤◌, ◌==◌, ◌⊎◌, List, [], ◌∷◌, ◌++◌, length, take, drop, get_or, refl, ap, sym, ◌∙◌, subst, arith, inl, inr, append-nil, append_assoc, lit<, Option, Some, None}
+use Rattle.std.proofs.Common.{◌≡◌, ℕ, zero, suc, ◌+◌, ◌<◌, ◌≤◌, ◌⊎◌, List, [], ◌∷◌, ◌++◌, length, take, drop, get_or, refl, ap, sym, ◌∙◌, subst, arith, inl, inr, append-nil, append_assoc, Option, Some, None}
 use Rattle.std.proofs.lemmas.Bool.{eq-eqb}
 use Rattle.std.proofs.lemmas.List.{length_push, length-append, length-drop, take_at}
 use Rattle.eb_base.specs.Term.{Term}
 use Rattle.eb_base.specs.Document.{Doc}
 use Rattle.eb_base.specs.Setting.{Setting, IsSetting}
 use Rattle.eb_place.specs.declared.moment.Documents.{Documents}
-use Rattle.eb_place.specs.Layout.{size}
 use Rattle.eb_place.specs.Layout.Slot.{published, slot}
-use Rattle.eb_place.specs.Layout.Region.{first_region, cell_region, tail_region, id_region}
+use Rattle.eb_place.specs.Layout.Region.{cell_region, tail_region, id_region}
 use Rattle.eb_place.specs.Postings.{terms_of, distinct, count_of, number_of, posting_of}
 use Rattle.eb_place.specs.Room.{cut, IsLawful}
 use Rattle.eb_place.specs.Placing.{Store, append_stores, token_stores, tokens_stores, stores_in, doc_stores, segment_before}
@@ -16,14 +15,13 @@ use Rattle.eb_place.specs.Moments.{with_current, current_of, current_stores, pla
 use Rattle.eb_place.specs.NextStores.{stores_done, IsCurrent}
 use Rattle.eb_place.proofs.Counts.{one_if, same_term, count_of_push, distinct_push, with_term_cases, once}
 use Rattle.eb_place.proofs.Writer.{tokens_stores-append}
-use Rattle.eb_place.proofs.Fresh.{Each, Each-if, is_pool}
-use Rattle.eb_place.proofs.Fresh.Each.{none, more}
+use Rattle.eb_place.proofs.Fresh.{Each}
 use Rattle.eb_place.proofs.Within.{IsWithin, slices_fit, token_within}
 use Rattle.eb_place.proofs.Numbers.{number_here, number_stays}
-use Rattle.eb_place.proofs.Reached.{Reached, Room, reached_keeps, front_stores, tail_store, token_split, front_apart, Apart, plain_apart, is_tail}
+use Rattle.eb_place.proofs.Reached.{Reached, Room, reached_keeps, front_stores, tail_store, token_split, front_apart}
 use Rattle.eb_place.proofs.Tokens.{Each-front, Agrees, tokens_done, room_before}
 use Rattle.eb_place.proofs.Histories.{posting_numbers, agrees_doc, posting_front, terms_push}
-use Rattle.eb_place.proofs.PlacedDocuments.{first_stores, stores_split}
+use Rattle.eb_place.proofs.PlacedDocuments.{first_stores, first_within, first_plain, stores_split}
 use Rattle.eb_place.proofs.Placed.{placed_all, reached_same, Joins, joins, lawful_front}
 use Rattle.eb_chain.specs.Appends.{tokens_before, IsPostingNext, with_stores}
 use Rattle.eb_chain.proofs.RegionCounts.{count_in, count_in-append, enters, enters_tails, enters_cells, appends_tails, appends_cells, tokens_tails, tokens_cells, distinct_one, distinct_more, firsts_away, Counts, counts_placed}
@@ -144,16 +142,6 @@ around σ docs None d s seg (u ∷ us) later t j cur e w = absurd (
     let g = tokens_tails σ s (length seg) 0 (terms_of seg) (u ∷ us) in
     omega arith
     )
-
--- the first-document word is a word of the index
-pub first_within : (σ : Setting) (s : ℕ) (seg : List Doc) (count : ℕ) → s < σ.segments → Each (IsWithin σ) (first_stores s seg count)
-unfolding first_stores size
-first_within σ s seg count h = Each-if (length seg == 0) (λ z. more (h, lit< tt) none)
-
--- and no posting, link or tail
-pub first_plain : (s : ℕ) (seg : List Doc) (count : ℕ) (ts : List Term) → Each (Apart s ts) (first_stores s seg count)
-unfolding first_stores is_pool is_tail
-first_plain s seg count ts = Each-if (length seg == 0) (λ z. more (plain_apart s ts (slot s first_region 0, count + 1) refl refl) none)
 
 -- with these stores done, the tokens before the posting are stored, and its term is entered
 reached_before : (σ : Setting) (docs : List Doc) (d : Doc) (s : ℕ) (seg : List Doc) (earlier later : List Term) (t : Term) → IsSetting σ → IsLawful σ docs → Joins σ docs d s seg → d.terms ≡ earlier ++ t ∷ later

@@ -37,7 +37,7 @@ use Rattle.eb_chain.specs.declared.next_place.NextPlace.{NextPlace}
 use Rattle.eb_chain.specs.Needs.{IsTailWord}
 use Rattle.eb_chain.specs.Appends.{tokens_before, IsPostingNext, with_stores, HasAppended}
 use Rattle.eb_chain.specs.NextPlaces.{slices_of, with_slice, HasAddress, IsNextPlace, AreNext, link_stores, after_link}
-use Rattle.eb_chain.proofs.Walks.{told}
+use Rattle.eb_place.proofs.WayBack.{told}
 use Rattle.eb_chain.proofs.RegionCounts.{count_in}
 use Rattle.eb_chain.proofs.Appending.{stores_before, Here, here, Done, done_after}
 use Rattle.eb_chain.proofs.Storing.{one_stored}

@@ -1,22 +1,21 @@
 -- What a walk needs: ways stay the same at later moments, and lead to the posting before.
-use Rattle.std.proofs.Common.{◌≡◌, ℕ, zero, suc, ◌+◌, ◌-◌, ◌*◌, ◌/◌, ◌%◌, ◌^◌, ◌<◌, ◌≤◌, inl, inr, true, false, Some, None, List, [], ◌∷◌, length, take, reverse, get_or, refl, ap, sym, ◌∙◌, subst, arith}
+use Rattle.std.proofs.Common.{◌≡◌, ℕ, zero, suc, ◌+◌, ◌-◌, ◌^◌, ◌<◌, ◌≤◌, inl, inr, true, false, Some, None, List, [], ◌∷◌, length, take, reverse, get_or, refl, ap, sym, ◌∙◌, subst, arith}
 use Rattle.std.proofs.lemmas.Bool.{cases_Bool, cases_lt}
 use Rattle.std.proofs.lemmas.Bool.Decides.{nat_tests}
-use Rattle.std.proofs.lemmas.List.{take_more, reverse-append, length-reverse, length-take-le}
+use Rattle.std.proofs.lemmas.List.{length-reverse, length-take-le}
 use Rattle.eb_base.specs.Term.{Term}
 use Rattle.eb_place.specs.declared.moment.Moment.{Moment}
-use Rattle.eb_place.specs.Layout.{slice_bits, address_pool, address_offset}
-use Rattle.eb_place.specs.Address.{pool_at, offset_at, slice_start, begins}
+use Rattle.eb_place.specs.Address.{pool_at, begins}
 use Rattle.eb_place.specs.Postings.{postings, terms_of}
 use Rattle.eb_place.specs.Moments.{IsMoment}
 use Rattle.eb_place.specs.Later.{IsNotBefore}
 use Rattle.eb_place.specs.Seen.{segment, seen, seen_count}
 use Rattle.eb_place.specs.Walk.{IsAddress, IsLink, address_in, tail_value}
-use Rattle.eb_place.proofs.Addresses.{pool_low, offset_in}
 use Rattle.eb_place.proofs.Writer.{address_next}
 use Rattle.eb_place.proofs.Closed.{reached_few, seen_is, Parts, address_parts, address_small}
 use Rattle.eb_place.proofs.Grows.{later_reached, later_postings}
 use Rattle.eb_place.proofs.Stays.{address_later, link_later}
+use Rattle.eb_place.proofs.WayBack.{told, first_at, within_at, second_at, linked_at, reverse_take}
 use Rattle.eb_chain.specs.declared.chain.Way.{Way}
 use Rattle.eb_chain.specs.declared.chain.Way.TheVariants.{End, At, Link}
 use Rattle.eb_chain.specs.declared.chain.Chain.{Chain}
@@ -42,35 +41,6 @@ stands_later m n s t c opened rest is l h = let few = h.seen in let left = h.lef
     }
 
 -- ---- the way back
-
--- an address tells its pool and its offset
-fields : (p o x a : ℕ) → p < 4 → o < 2 ^ slice_bits p → x * 2 ^ slice_bits p + o < 2 ^ 30 → a ≡ p * 2 ^ 30 + x * 2 ^ slice_bits p + o → (a / 2 ^ 30 ≡ p) × (a % 2 ^ slice_bits p ≡ o)
-fields zero o x a h l k e = (omega arith, omega arith)
-fields (suc zero) o x a h l k e = (omega arith, omega arith)
-fields (suc (suc zero)) o x a h l k e = (omega arith, omega arith)
-fields (suc (suc (suc zero))) o x a h l k e = (omega arith, omega arith)
-fields (suc (suc (suc (suc p)))) o x a h l k e = absurd (omega arith)
-
--- the parts of the address of a posting
-pub told : (f a : ℕ) → Parts f a → (address_pool a ≡ pool_at f) × (address_offset a ≡ offset_at f)
-told f a h = let w = fields (pool_at f) (offset_at f) h.slice a (pool_low f) (offset_in f) h.inside h.is in
-    (w.0, ap (λ p. a % 2 ^ slice_bits p) w.0 ∙ w.1)
-
-pub first_at : (pool_at 0 ≡ 0) × (offset_at 0 ≡ 0)
-unfolding pool_at offset_at
-first_at = (refl, refl)
-
-pub within_at : (f : ℕ) → begins (suc f) ≡ false → 1 ≤ pool_at (suc f) → 2 ≤ offset_at (suc f)
-unfolding pool_at offset_at slice_start
-within_at f h l = grind (arith, nat_tests)
-
-pub second_at : (f : ℕ) → begins (suc f) ≡ false → pool_at (suc f) ≡ 0 → 1 ≤ offset_at (suc f)
-unfolding pool_at offset_at slice_start
-second_at f h l = grind (arith, nat_tests)
-
-pub linked_at : (f : ℕ) → begins (suc f) ≡ true → (1 ≤ pool_at (suc f)) × (offset_at (suc f) ≡ 1)
-unfolding pool_at offset_at slice_start
-linked_at f h = (grind (arith, nat_tests), grind (arith, nat_tests))
 
 link_loads : (opened f : ℕ) → suc f < opened → begins (suc f) ≡ true → 1 ≤ pool_at (suc f) → 2 ≡ next_loads opened (suc f)
 unfolding next_loads
@@ -115,10 +85,6 @@ way_back m s t opened (suc f) a w is o h b =
           ] in
           (subst (IsWay m s t (suc f)) (sym e) here, ap way_loads e ∙ plain_loads opened f old)
     ]
-
--- the newest of the first f + 1
-pub reverse_take : (f : ℕ) (ps : List ℕ) → f < length ps → reverse (take (suc f) ps) ≡ get_or ps f 0 ∷ reverse (take f ps)
-reverse_take f ps h = ap (λ (k : ℕ). reverse (take k ps)) (let q : suc f ≡ f + 1 = omega arith in q) ∙ ap reverse (take_more ps f 0 h) ∙ reverse-append (take f ps) (get_or ps f 0 ∷ [])
 
 gives : (n l : Moment) (s c : ℕ) (t : Term) (v w : Way) (opened x : ℕ) (xs : List ℕ) (a value : ℕ) → IsMoment n → IsMoment l → IsNotBefore l n → Stands n s t record { segment = c; way = v } opened (x ∷ xs)
     → IsPosting l s t (length xs) a value → IsWayBefore a w → Given l s t record { segment = c; way = w } opened (x ∷ xs) (Some value)

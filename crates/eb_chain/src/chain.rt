@@ -6,7 +6,7 @@ ghost use Rattle.eb_place.specs.Seen.{seen, seen_count};
 ghost use Rattle.eb_place.specs.Walk.{IsAddress, IsLink, IsTerm};
 ghost use Rattle.eb_chain.specs.Chains.{Stands, Given, next_loads, IsWayBefore, IsPosting, IsWayOf};
 
-use eb_place::{Places, Port, Steps, offset_of, pool_of};
+use eb_place::{Places, Port, Posting, Steps, offset_of, pool_of, posting_in_word};
 use std::sync::ledger::Ledger;
 
 // Where the next posting of a walk is found.
@@ -53,11 +53,15 @@ impl Chain {
         }
     }
 
-    /// The newest posting that wasn't given yet, a number of 32 bits; `None` exactly after the oldest, and
+    /// The newest posting that wasn't given yet; `None` exactly after the oldest, and
     /// from then on. The port's moment isn't before that of the opening. One load a posting, and one more
     /// where the posting given before was the first of a slice that has a link; none where the answer is
     /// `None`. Takes no memory.
-    pub fn next<P: Port, L: Ledger>(&mut self, port: &mut P, steps: &mut Steps<L>) -> Option<u32>
+    pub fn next<P: Port, L: Ledger>(
+        &mut self,
+        port: &mut P,
+        steps: &mut Steps<L>,
+    ) -> Option<Posting>
         requires { (m : Moment) × (s : ℕ) × (t : Term) × (opened : ℕ) × (rest : List ℕ)
             × P.stands port.old m × Stands m s t self.old opened rest }
         ensures told { (m : Moment) (s : ℕ) (t : Term) (opened : ℕ) (rest : List ℕ)
@@ -120,7 +124,7 @@ fn posting_in<P: Port, L: Ledger>(
     segment: u32,
     address: u32,
     steps: &mut Steps<L>,
-) -> u32
+) -> Posting
     requires { (m : Moment) × (t : Term) × (f : ℕ) × P.stands port.old m × IsAddress m segment t f address }
     ensures told { (m : Moment) (t : Term) (f : ℕ) → P.stands port.old m → IsAddress m segment t f address
         → (n : Moment) × P.stands port.new n × IsNotBefore n m × P.keeps port.old m port.new n
@@ -128,5 +132,5 @@ fn posting_in<P: Port, L: Ledger>(
     ensures steps { steps.new ≡ steps.old + 1 }
 {
     let places = Places::new(port.config());
-    port.load(places.posting_at(segment, address), steps) as u32
+    posting_in_word(port.load(places.posting_at(segment, address), steps))
 }

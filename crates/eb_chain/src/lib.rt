@@ -3,13 +3,11 @@
 #![tactic(auto)]
 
 mod chain;
-mod laws;
 mod new_slices;
 mod next_place;
 mod writing;
 
 pub use chain::Chain;
-pub use laws::{reached_words_stay, stored_once};
 pub use new_slices::{NewSlices, needs};
 pub use writing::append;
 

@@ -17,7 +17,7 @@ ghost use Rattle.eb_chain.specs.NextPlaces.{AreNext, link_stores, after_link};
 
 use crate::next_place::next_place;
 use eb_base::Document;
-use eb_place::{Pen, Places, Port, Steps, Used};
+use eb_place::{Pen, Places, Port, Posting, Steps, Used};
 use std::marker::Brand;
 use std::sync::ledger::{Blank, Ledger};
 
@@ -31,7 +31,7 @@ pub fn append<P: Pen>(
     segment: u32,
     used: &mut Used,
     term: u32,
-    posting: u32,
+    posting: Posting,
 )
     requires { (m : Moment) × (t : Term) × P.stands pen.old m × IsTerm m segment t term
         × TellsSegment used.old m segment × IsPostingNext m.setting m.documents document.now segment t posting }
@@ -86,7 +86,7 @@ fn store_posting<P: Pen>(
     segment: u32,
     term: u32,
     address: u32,
-    posting: u32,
+    posting: Posting,
 )
     requires { (m : Moment) × P.stands pen.old m
         × AreNext m.setting m.documents document.now ((pool_slot segment address, posting) ∷ (slot segment tail_region term, address + 1) ∷ []) }

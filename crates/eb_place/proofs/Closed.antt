@@ -9,7 +9,7 @@ use Rattle.eb_place.specs.Layout.{Slot, pool_slot, pool_region, place, slice_bit
 use Rattle.eb_base.specs.Setting.{Setting, words_of}
 use Rattle.eb_place.specs.Layout.Slot.{slot}
 use Rattle.eb_place.specs.Layout.Region.{tail_region}
-use Rattle.eb_place.specs.Postings.{Token, count_of, distinct, number_of, tokens_from, segment_from, tokens, postings, terms_of}
+use Rattle.eb_place.specs.Postings.{Token, count_of, distinct, number_of, tokens_from, segment_from, tokens, postings, terms_of, position_bits, posting_bits, places}
 use Rattle.eb_place.specs.Address.{pool_at, offset_at, slice_start, slices_begun, front_of, address_of}
 use Rattle.eb_place.specs.Moments.{with_current, document_stores, conversion_stores, word, IsMoment}
 use Rattle.eb_place.specs.Seen.{segment, tails_done, seen, seen_count}
@@ -235,15 +235,15 @@ address_small m s t f is h l =
 
 -- ---- postings are small
 
-small_from : (n p : ℕ) (ts : List Term) → n < 2 ^ 24 → p + length ts ≤ 256 → Each (λ (w : Token). w.posting < 2 ^ 32) (tokens_from n p ts)
+small_from : (n p : ℕ) (ts : List Term) → n < 2 ^ (posting_bits - position_bits) → p + length ts ≤ places → Each (λ (w : Token). w.posting < 2 ^ posting_bits) (tokens_from n p ts)
 small_from n p [] h l = none
 small_from n p (t ∷ ts) h l = more (omega arith) (small_from n (p + 1) ts h (omega arith))
 
-small_segment : (n : ℕ) (seg : List Doc) → Each IsDocument seg → n + length seg ≤ 2 ^ 24 → Each (λ (w : Token). w.posting < 2 ^ 32) (segment_from n seg)
+small_segment : (n : ℕ) (seg : List Doc) → Each IsDocument seg → n + length seg ≤ 2 ^ (posting_bits - position_bits) → Each (λ (w : Token). w.posting < 2 ^ posting_bits) (segment_from n seg)
 small_segment n [] h l = none
 small_segment n (d ∷ ds) (more i h) l = let few = i.limits.tokens in Each-append (small_from n 0 d.terms (omega arith) (omega arith)) (small_segment (n + 1) ds h (omega arith))
 
-small_list : (t : Term) (ws : List Token) (f : ℕ) → Each (λ (w : Token). w.posting < 2 ^ 32) ws → get_or (map (λ (w : Token). w.posting) (filter (λ (w : Token). bytes_eq t w.term) ws)) f 0 < 2 ^ 32
+small_list : (t : Term) (ws : List Token) (f : ℕ) → Each (λ (w : Token). w.posting < 2 ^ posting_bits) ws → get_or (map (λ (w : Token). w.posting) (filter (λ (w : Token). bytes_eq t w.term) ws)) f 0 < 2 ^ posting_bits
 small_list t [] zero h = lit< tt
 small_list t [] (suc f) h = lit< tt
 small_list t (w ∷ ws) f (more i h) = elim (cases_Bool (bytes_eq t w.term)) [
@@ -251,12 +251,12 @@ small_list t (w ∷ ws) f (more i h) = elim (cases_Bool (bytes_eq t w.term)) [
   | inr away ↦ rw away (small_list t ws f h)
 ]
   where
-    head : (f : ℕ) → ((k : ℕ) → get_or (map (λ (w : Token). w.posting) (filter (λ (w : Token). bytes_eq t w.term) ws)) k 0 < 2 ^ 32) → get_or (w.posting ∷ map (λ (w : Token). w.posting) (filter (λ (w : Token). bytes_eq t w.term) ws)) f 0 < 2 ^ 32
+    head : (f : ℕ) → ((k : ℕ) → get_or (map (λ (w : Token). w.posting) (filter (λ (w : Token). bytes_eq t w.term) ws)) k 0 < 2 ^ posting_bits) → get_or (w.posting ∷ map (λ (w : Token). w.posting) (filter (λ (w : Token). bytes_eq t w.term) ws)) f 0 < 2 ^ posting_bits
     head zero rest = i
     head (suc f) rest = rest f
 
--- a posting has 32 bits
-pub posting_small : (m : Moment) (s : ℕ) (t : Term) (f : ℕ) → IsMoment m → posting_in m s t f < 2 ^ 32
+-- a posting has so many bits
+pub posting_small : (m : Moment) (s : ℕ) (t : Term) (f : ℕ) → IsMoment m → posting_in m s t f < 2 ^ posting_bits
 unfolding postings tokens
 posting_small m s t f is =
     let p = placed_all m.setting (with_current m.documents) is.setting is.lawful in

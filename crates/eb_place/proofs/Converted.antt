@@ -29,7 +29,7 @@ use Rattle.eb_place.proofs.Placed.{placed_all, joins, lawful_front, lawful_last}
 use Rattle.eb_place.proofs.Tokens.{Each-front}
 use Rattle.eb_place.proofs.Regions.{started_stores}
 use Rattle.eb_place.proofs.Stored.{IsWriters, doc_writers}
-use Rattle.eb_place.proofs.StoredOnce.{packs_fit}
+use Rattle.eb_place.proofs.StoresLie.{packs_fit}
 use Rattle.eb_place.proofs.PackedStores.{is_packed, segment_packs}
 use Rattle.eb_place.proofs.Grows.{later_started}
 use Rattle.eb_place.proofs.Cuts.{closed_stays}

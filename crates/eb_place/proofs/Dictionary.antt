@@ -234,7 +234,7 @@ entered_whole m s is h =
       texts = texts_keep σ s E (entries σ s [] E) d.part room inside d.behind w.texts;
     })
 
-cell_not_packed : (s c : ℕ) → is_packed (slot s cell_region c) ≡ true → ⊥
+pub cell_not_packed : (s c : ℕ) → is_packed (slot s cell_region c) ≡ true → ⊥
 unfolding is_packed
 cell_not_packed s c h = false≢true h
 

@@ -118,7 +118,7 @@ number_at = by_push (λ ts. (k : ℕ) → k < length (distinct ts) → number_of
           ]
         ]
 
-distinct_of : (m : Moment) (s k : ℕ) → k < length (entered m s) → (k < length (distinct (terms_of (segment m s)))) × (get_or (distinct (terms_of (segment m s))) k [] ≡ get_or (entered m s) k [])
+pub distinct_of : (m : Moment) (s k : ℕ) → k < length (entered m s) → (k < length (distinct (terms_of (segment m s)))) × (get_or (distinct (terms_of (segment m s))) k [] ≡ get_or (entered m s) k [])
 distinct_of m s k h = let d = entered_done_is m s in
     (omega (arith, ap length d.all, length-append (entered m s) d.left), ap (λ z. get_or z k []) d.all ∙ get_or_append_left (entered m s) d.left [] k h)
 

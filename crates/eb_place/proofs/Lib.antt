@@ -41,7 +41,14 @@ pub mod Texts
 pub mod CellsOf
 pub mod Dictionary
 pub mod EnteredTerms
-pub mod StoredOnce
+pub mod StoresLie
+pub mod WayBack
+pub mod Reaching
+pub mod Once
+pub mod OnceAll
+pub mod ValuesRise
+pub mod AllRise
+pub mod EnteredCells
 pub mod Telling
 pub mod Falling
 pub mod TermNumbers

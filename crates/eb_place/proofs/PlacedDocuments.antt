@@ -99,11 +99,11 @@ doc_within σ s seg count d room h =
 unfoldable pub first_stores : ℕ → List Doc → ℕ → List Store
 first_stores s seg count = if length seg == 0 then ((slot s first_region 0, count + 1) ∷ []) else []
 
-first_plain : (s : ℕ) (seg : List Doc) (count : ℕ) (ts : List Term) → Each (Apart s ts) (first_stores s seg count)
+pub first_plain : (s : ℕ) (seg : List Doc) (count : ℕ) (ts : List Term) → Each (Apart s ts) (first_stores s seg count)
 unfolding first_stores is_pool is_tail
 first_plain s seg count ts = Each-if (length seg == 0) (λ z. more (plain_apart s ts (slot s first_region 0, count + 1) refl refl) none)
 
-first_within : (σ : Setting) (s : ℕ) (seg : List Doc) (count : ℕ) → s < σ.segments → Each (IsWithin σ) (first_stores s seg count)
+pub first_within : (σ : Setting) (s : ℕ) (seg : List Doc) (count : ℕ) → s < σ.segments → Each (IsWithin σ) (first_stores s seg count)
 unfolding first_stores size
 first_within σ s seg count h = Each-if (length seg == 0) (λ z. more (h, lit< tt) none)
 

@@ -5,8 +5,7 @@ use Rattle.std.proofs.lemmas.List.{length-reverse, get_or-reverse}
 use Rattle.eb_base.specs.Term.{Term}
 use Rattle.eb_base.specs.Document.{Doc, IsDocument}
 use Rattle.eb_place.specs.declared.moment.Moment.{Moment}
-use Rattle.eb_place.specs.declared.posting_numbers.TheConstants.{POSITION_BITS}
-use Rattle.eb_place.specs.Postings.{Token, tokens_from, segment_from, tokens, postings, posting_of}
+use Rattle.eb_place.specs.Postings.{Token, tokens_from, segment_from, tokens, postings, posting_of, posting_bits, places}
 use Rattle.eb_place.specs.Moments.{with_current, IsMoment}
 use Rattle.eb_place.specs.Seen.{segment}
 use Rattle.eb_place.proofs.Fresh.{Each}
@@ -14,7 +13,6 @@ use Rattle.eb_place.proofs.Fresh.Each.{none, more}
 use Rattle.eb_place.proofs.Placed.{placed_all}
 use Rattle.eb_place.proofs.Closed.{posting_small}
 use Rattle.eb_place.specs.Falling.{IsFalling, AllBelow}
-use Rattle.eb_place.specs.PackedLists.{posting_bits}
 use Rattle.eb_place.proofs.Falling.{falls_from, below_from}
 
 -- the list rises from this number on
@@ -30,7 +28,7 @@ rises_lower a b (x ∷ xs) l h = (omega (arith, h.0), h.1)
 of_tokens : List ℕ → List Token → List ℕ
 of_tokens t ws = map (λ (w : Token). w.posting) (filter (λ (w : Token). bytes_eq t w.term) ws)
 
-rises_tokens : (t : List ℕ) (n p : ℕ) (ts : List Term) (ws : List Token) → p + length ts ≤ 2 ^ POSITION_BITS → RisesFrom (posting_of (n + 1) 0) (of_tokens t ws)
+rises_tokens : (t : List ℕ) (n p : ℕ) (ts : List Term) (ws : List Token) → p + length ts ≤ places → RisesFrom (posting_of (n + 1) 0) (of_tokens t ws)
     → RisesFrom (posting_of n p) (of_tokens t (tokens_from n p ts ++ ws))
 unfolding of_tokens
 rises_tokens t n p [] ws l h = rises_lower (posting_of n p) (posting_of (n + 1) 0) (of_tokens t ws) (omega arith) h

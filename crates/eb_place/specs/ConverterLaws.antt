@@ -5,14 +5,14 @@ use Rattle.eb_place.specs.declared.moment.Moment.{Moment}
 use Rattle.eb_place.specs.Layout.{place}
 use Rattle.eb_place.specs.Layout.Slot.{slot}
 use Rattle.eb_place.specs.Layout.Region.{converted_region, directory_region, packed_region}
-use Rattle.eb_place.specs.Postings.{frequency}
+use Rattle.eb_place.specs.Postings.{posting_bits, frequency}
 use Rattle.eb_place.specs.Moments.{word, IsMoment}
 use Rattle.eb_place.specs.Later.{IsNotBefore}
 use Rattle.eb_place.specs.NextStores.{IsNextPut}
 use Rattle.eb_place.specs.Seen.{segment}
 use Rattle.eb_place.specs.Walk.{IsTerm}
 use Rattle.eb_place.specs.Falling.{IsFalling, AllBelow}
-use Rattle.eb_place.specs.PackedLists.{posting_bits, IsConverted, list_start, newest_first, packed_words}
+use Rattle.eb_place.specs.PackedLists.{IsConverted, list_start, newest_first, packed_words}
 
 -- the next store of a conversion stays the next one while documents grow and no conversion store is done
 abbrev pub NextPutStays : Type 0

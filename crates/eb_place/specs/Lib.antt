@@ -13,6 +13,8 @@ pub mod Tells
 pub mod Walk
 pub mod Meets
 pub mod Laws
+pub mod StoredOnce
+pub mod BackwardWalk
 pub mod StoringLaws
 pub mod Falling
 pub mod PackedLists

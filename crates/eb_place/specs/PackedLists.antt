@@ -4,12 +4,9 @@ use Rattle.eb_base.specs.Term.{Term}
 use Rattle.eb_base.specs.Document.{Doc}
 use Rattle.eb_place.specs.declared.moment.Moment.{Moment}
 use Rattle.eb_place.specs.Postings.{terms_of, distinct, postings}
+pub use Rattle.eb_place.specs.Postings.{posting_bits}
 use Rattle.eb_place.specs.Packed.{packed}
 use Rattle.eb_place.specs.Seen.{segment}
-
--- how many bits a posting has
-abbrev pub posting_bits : ℕ
-posting_bits = 32
 
 -- the segment is converted at the moment
 abbrev pub IsConverted : Moment → ℕ → Type 0

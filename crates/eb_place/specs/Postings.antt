@@ -3,19 +3,30 @@ use Rattle.std.specs.Prelude.{ℕ, ◌+◌, ◌*◌, ◌/◌, ◌%◌, ◌^◌, 
 use Rattle.std.specs.List.{list_any, position_or_len}
 use Rattle.eb_base.specs.Term.{Term}
 use Rattle.eb_base.specs.Document.{Doc}
-use Rattle.eb_place.specs.declared.posting_numbers.TheConstants.{POSITION_BITS}
+
+-- the lowest bits of a posting, which hold the position
+abbrev pub position_bits : ℕ
+position_bits = 8
+
+-- all bits of a posting: those above the position hold the document's number in its segment
+abbrev pub posting_bits : ℕ
+posting_bits = 32
+
+-- how many places a document has in the postings
+abbrev pub places : ℕ
+places = 2 ^ position_bits
 
 -- the posting of a position in a document of the segment
 abbrev pub posting_of : ℕ → ℕ → ℕ
-posting_of document position = document * 2 ^ POSITION_BITS + position
+posting_of document position = document * places + position
 
 -- the number of the document that a posting is of
 abbrev pub posting_document : ℕ → ℕ
-posting_document posting = posting / 2 ^ POSITION_BITS
+posting_document posting = posting / places
 
 -- the position in it
 abbrev pub posting_position : ℕ → ℕ
-posting_position posting = posting % 2 ^ POSITION_BITS
+posting_position posting = posting % places
 
 -- a term where it stands
 pub record Token : Type 0 where

@@ -1,23 +1,23 @@
 -- Laws on where stores go, which the public functions of src/storing_laws.rt prove.
-use Rattle.std.specs.Prelude.{◌≡◌, ℕ, ◌*◌, ◌<◌, ◌≤◌, ◌==◌, ◌||◌, ◌⊎◌, Bool, true, not, List, [], ◌∷◌, ◌++◌, length, get_or, sum_by, count_by, Contains}
+use Rattle.std.specs.Prelude.{◌≡◌, ◌↔◌, ℕ, ◌+◌, ◌*◌, ◌<◌, ◌≤◌, ◌==◌, ◌||◌, ◌⊎◌, Bool, true, not, List, [], ◌∷◌, ◌++◌, length, get_or, sum_by, Contains}
+use Rattle.eb_base.specs.Term.{Term}
 use Rattle.eb_base.specs.Document.{Doc}
 use Rattle.eb_base.specs.Setting.{Setting, IsSetting}
+use Rattle.eb_place.specs.declared.moment.Moment.{Moment}
 use Rattle.eb_place.specs.Layout.{Region, rank, size, place}
 use Rattle.eb_place.specs.Layout.Slot.{slot}
-use Rattle.eb_place.specs.Postings.{terms_of, distinct}
+use Rattle.eb_place.specs.Layout.Region.{cell_region}
+use Rattle.eb_place.specs.Postings.{terms_of, distinct, number_of}
 use Rattle.eb_place.specs.Room.{cut, IsLawful}
-use Rattle.eb_place.specs.Placing.{pairs_of, placing}
+use Rattle.eb_place.specs.Placing.{pairs_of, cells_of, placing}
 use Rattle.eb_place.specs.Packed.{block, packed}
 use Rattle.eb_place.specs.Conversion.{conversion}
-use Rattle.eb_place.specs.Moments.{placings, conversions}
+use Rattle.eb_place.specs.Moments.{document_stores, IsMoment}
+use Rattle.eb_place.specs.Seen.{segment, IsEntered}
 
 -- the words of the converter: converted words, directory and packed words
 abbrev pub is_converters : Region → Bool
 is_converters r = (rank r == 1) || (rank r == 11) || (rank r == 12)
-
--- the words of the dictionary: cells, text places and text words
-abbrev pub is_dictionary : Region → Bool
-is_dictionary r = (rank r == 2) || (rank r == 3) || (rank r == 5)
 
 -- the place is that of a word of a segment, in a region that passes the test
 pub record LiesIn (σ : Setting) (test : Region → Bool) (at : ℕ) : Type 0 where
@@ -37,11 +37,14 @@ PlacingsLieInRegions = (σ : Setting) (docs : List Doc) (d : Doc) (at v : ℕ) �
 abbrev pub ConversionsLieInRegions : Type 0
 ConversionsLieInRegions = (σ : Setting) (docs : List Doc) (s at v : ℕ) → IsSetting σ → IsLawful σ docs → s < length (cut σ docs) → Contains (conversion σ docs s) (at, v) → LiesIn σ is_converters at
 
--- each word of a dictionary is the place of at most one store, of all placings of a history and of the
--- conversions of its first segments
-abbrev pub DictionaryIsStoredOnce : Type 0
-DictionaryIsStoredOnce = (σ : Setting) (docs : List Doc) (n s : ℕ) (r : Region) (i : ℕ) → IsSetting σ → IsLawful σ docs → n ≤ length (cut σ docs) → is_dictionary r ≡ true → s < σ.segments → i < size σ r
-    → count_by (λ y. y.0 == place σ (slot s r i)) (pairs_of σ (placings σ docs ++ conversions σ docs n)) ≤ 1
+-- the cell of a term of a segment
+abbrev pub cell_in : Moment → ℕ → Term → ℕ
+cell_in m s t = get_or (cells_of (2 * m.setting.terms) (distinct (terms_of (segment m s)))) (number_of t (terms_of (segment m s))) 0
+
+-- a term is entered exactly where the store of its cell is done, of its number plus 1
+abbrev pub EnteredWithTheCell : Type 0
+EnteredWithTheCell = (m : Moment) (s : ℕ) (t : Term) → IsMoment m → s < m.setting.segments
+    → IsEntered m s t ↔ Contains (pairs_of m.setting (document_stores m.setting m.documents)) (place m.setting (slot s cell_region (cell_in m s t)), number_of t (terms_of (segment m s)) + 1)
 
 -- the packed words of a segment find room
 abbrev pub PackingFits : Type 0

@@ -23,8 +23,12 @@ pub use laws::{
 pub use moment::{Conversions, Documents, Moment};
 pub use places::Places;
 pub use port::{PackPen, Pen, Port};
-pub use posting_numbers::{POSITION_BITS, document_of, position_of, posting};
+pub use posting_numbers::{
+    POSITION_BITS, POSTING_BITS, Posting, document_of, position_of, posting, posting_in_word,
+};
 pub use slice_addresses::{address, offset_of, pool_of, slice_of};
 pub use steps::Steps;
-pub use storing_laws::{dictionary_is_stored_once, packing_fits, stores_lie_in_regions};
+pub use storing_laws::{
+    entered_with_the_cell, packing_fits, reached_words_stay, stored_once, stores_lie_in_regions,
+};
 pub use used::Used;

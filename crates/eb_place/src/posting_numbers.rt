@@ -1,28 +1,49 @@
-ghost use Rattle.std.specs.Prelude.{◌≡◌, ◌^◌, ◌<◌};
-ghost use Rattle.eb_place.specs.Postings.{posting_of, posting_document, posting_position};
+ghost use Rattle.std.specs.Prelude.{◌≡◌, ◌-◌, ◌^◌, ◌<◌};
+ghost use Rattle.eb_place.specs.Postings.{
+  position_bits,
+  posting_bits,
+  places,
+  posting_of,
+  posting_document,
+  posting_position,
+};
+
+/// A posting: where a term stands in a segment, the document's number in the segment above the position in
+/// the document (the Earlybird paper of 2012).
+pub type Posting = u32;
 
 /// The lowest bits of a posting, which hold the position; the bits above hold the document's number.
 pub const POSITION_BITS: u32 = 8;
 
-/// The posting of a position in a document, by the document's number in its segment: 24 bits of document
-/// number and 8 bits of position (the Earlybird paper of 2012).
-pub fn posting(document: u32, position: u32) -> u32
-    requires document { document < 2 ^ 24 }
-    requires position { position < 2 ^ POSITION_BITS }
+/// All bits of a posting: 24 of the document's number and 8 of the position (the Earlybird paper of 2012).
+pub const POSTING_BITS: u32 = 32;
+
+/// The posting of a position in a document, by the document's number in its segment.
+pub fn posting(document: u32, position: u32) -> Posting
+    requires document { document < 2 ^ (posting_bits - position_bits) }
+    requires position { position < places }
     ensures { result ≡ posting_of document position }
 {
     (document << POSITION_BITS) + position
 }
 
+/// The posting that a word of a pool holds.
+pub fn posting_in_word(word: u64) -> Posting
+    requires { word < 2 ^ posting_bits }
+    ensures { result ≡ word }
+{
+    (word % (1 << POSTING_BITS)) as Posting
+}
+
 /// The number in its segment of the document that a posting is of.
-pub fn document_of(posting: u32) -> u32
+pub fn document_of(posting: Posting) -> u32
     ensures { result ≡ posting_document posting }
 {
     posting >> POSITION_BITS
 }
 
 /// The position in its document that a posting is of.
-pub fn position_of(posting: u32) -> u32
+pub fn position_of(posting: Posting) -> u32
     ensures { result ≡ posting_position posting }
 {
     posting % (1 << POSITION_BITS)

@@ -28,7 +28,7 @@ use Rattle.eb_place.proofs.Closed.{Parts, word_of_writer, tail_in_table}
 use Rattle.eb_place.proofs.EnteredTerms.{number_at, number_found, entered_at, entered_is_term}
 use Rattle.eb_terms.specs.Finding.{HasNumber}
 use Rattle.eb_chain.specs.Needs.{IsTailWord}
-use Rattle.eb_chain.proofs.Walks.{told}
+use Rattle.eb_place.proofs.WayBack.{told}
 use Rattle.eb_chain.proofs.RegionCounts.{count_in, counts_placed}
 use Rattle.eb_writer.specs.Counting.{IsIdle, tokens_in, IsUsedBy, IsReady, IsSmall}
 

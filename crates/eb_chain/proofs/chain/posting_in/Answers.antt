@@ -12,8 +12,8 @@ posting_at-requires-clause-address g c =
     let is = g.met.P.Port.lawful c.args.port.now r.0 r.3 in
     subst (λ (σ : Setting). IsInPool σ c.args.address) (sym (c.new-places.ensures ∙ c.config.ensures r.0 r.3)) (address_in_pool r.0 c.args.segment r.1 r.2 c.args.address is r.4)
 
-pub overflow_cast-result : goal.overflow_cast-result
-overflow_cast-result g c =
+pub posting_in_word-requires : goal.posting_in_word-requires
+posting_in_word-requires g c =
     let r = c.requires in
     let m = r.0 in
     let n = c.load.ensures.told m r.3 in
@@ -33,4 +33,4 @@ returns-clause-told g c m t f st l =
     let h = address_later m n.0 c.args.segment t f c.args.address is n.2 l in
     let e : c.posting_at.result ≡ place n.0.setting (pool_slot c.args.segment c.args.address) = c.posting_at.ensures.place ∙ ap (λ (σ : Setting). place σ (pool_slot c.args.segment c.args.address)) (c.new-places.ensures ∙ c.config.ensures m st ∙ n.2.setting) in
     let w = n.4 ∙ ap (word n.0) e ∙ word_posting n.0 c.args.segment t f c.args.address js h in
-    (n.0, n.1, n.2, n.3, record { address = h; is = w })
+    (n.0, n.1, n.2, n.3, record { address = h; is = c.posting_in_word.ensures ∙ w })

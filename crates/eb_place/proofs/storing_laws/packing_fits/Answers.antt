@@ -1,4 +1,4 @@
-use Rattle.eb_place.proofs.StoredOnce.{packs_fit, block_few}
+use Rattle.eb_place.proofs.StoresLie.{packs_fit, block_few}
 use Rattle.eb_place.proofs.storing_laws.packing_fits.Goals as goal
 
 pub returns-clause-segment : goal.returns-clause-segment

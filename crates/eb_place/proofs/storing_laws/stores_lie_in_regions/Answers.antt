@@ -1,4 +1,4 @@
-use Rattle.eb_place.proofs.StoredOnce.{placing_lies, conversion_lies}
+use Rattle.eb_place.proofs.StoresLie.{placing_lies, conversion_lies}
 use Rattle.eb_place.proofs.storing_laws.stores_lie_in_regions.Goals as goal
 
 pub returns-clause-placings : goal.returns-clause-placings

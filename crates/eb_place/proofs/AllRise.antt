@@ -21,14 +21,13 @@ use Rattle.eb_place.proofs.Within.{IsWithin, slices_fit, token_within}
 use Rattle.eb_place.proofs.Reached.{Room, Each-map, front_stores, tail_store, token_split, front_apart, tail_within}
 use Rattle.eb_place.proofs.Tokens.{Each-front, Each-back, room_before}
 use Rattle.eb_place.proofs.Histories.{before_in, terms_push}
-use Rattle.eb_place.proofs.PlacedDocuments.{doc_elsewhere, doc_within, first_stores, stores_split}
+use Rattle.eb_place.proofs.PlacedDocuments.{doc_elsewhere, doc_within, first_stores, first_within, first_plain, stores_split}
 use Rattle.eb_place.proofs.Placed.{placed_all, Joins, joins, placings_push, lawful_front, lawful_last}
 use Rattle.eb_place.proofs.PackedStores.{is_packed, IsPackedStore, conversions_pack}
 use Rattle.eb_place.proofs.Counted.{body, body_split, body_writes, writes_plain}
-use Rattle.eb_chain.specs.StoredOnce.{values_at, StoredOnce}
-use Rattle.eb_chain.proofs.Appending.{first_within, first_plain}
-use Rattle.eb_chain.proofs.OnceAll.{stored_once}
-use Rattle.eb_chain.proofs.Rising.{Rises, rises_push, values_keep, values_push, TailRises, tail_keeps, tail_adds}
+use Rattle.eb_place.specs.StoredOnce.{values_at, StoredOnce}
+use Rattle.eb_place.proofs.OnceAll.{stored_once}
+use Rattle.eb_place.proofs.ValuesRise.{Rises, rises_push, values_keep, values_push, TailRises, tail_keeps, tail_adds}
 
 -- ---- tails
 

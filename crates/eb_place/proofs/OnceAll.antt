@@ -26,9 +26,9 @@ use Rattle.eb_place.proofs.Histories.{before_in, terms_push}
 use Rattle.eb_place.proofs.PlacedDocuments.{Elsewhere, doc_elsewhere, doc_within, first_stores, stores_split}
 use Rattle.eb_place.proofs.Placed.{placed_all, Joins, joins, placings_push, lawful_front, lawful_last}
 use Rattle.eb_place.proofs.PackedStores.{conversions_pack}
-use Rattle.eb_chain.specs.StoredOnce.{all_pairs, values_at}
-use Rattle.eb_chain.proofs.Once.{IsSingle, Single, Named, Grown, Marks, marked, marked_more, words_of_tokens, marks_of, IsStored, grow, grow_id, grow_first, grow_count, tokens_grown}
-use Rattle.eb_chain.proofs.Once.Single.{alone, first}
+use Rattle.eb_place.specs.StoredOnce.{all_pairs, values_at}
+use Rattle.eb_place.proofs.Once.{IsSingle, Single, Named, Grown, Marks, marked, marked_more, words_of_tokens, marks_of, IsStored, grow, grow_id, grow_first, grow_count, tokens_grown}
+use Rattle.eb_place.proofs.Once.Single.{alone, first}
 
 -- ---- documents
 
@@ -203,7 +203,7 @@ all_single σ docs (suc n) h =
 
 -- ---- how often a place is stored
 
-times_once : (σ : Setting) (L : List Store) (x : Slot) → Single L → Each (IsWithin σ) L → InTable σ x → IsSingle x → times σ L x ≤ 1
+pub times_once : (σ : Setting) (L : List Store) (x : Slot) → Single L → Each (IsWithin σ) L → InTable σ x → IsSingle x → times σ L x ≤ 1
 times_once σ [] x alone none i s = omega arith
 times_once σ (y ∷ ys) x (first e t) (more w all) i s = elim (cases_Bool (place σ y.0 == place σ x)) [
   | inl here ↦

@@ -15,9 +15,9 @@ use Rattle.eb_place.specs.Walk.{IsLink, address_in, tail_value}
 use Rattle.eb_place.proofs.Writer.{address_next}
 use Rattle.eb_place.proofs.Closed.{reached_few, seen_is, address_parts, word_posting, word_link, word_tail}
 use Rattle.eb_place.proofs.Stays.{posting_stays, link_stays}
-use Rattle.eb_chain.specs.Walks.{pool_word, is_first_linked, goes_on, reads, IsWalk, ReachedWordsStay}
-use Rattle.eb_chain.specs.Walks.IsWalk.{ends, gives}
-use Rattle.eb_chain.proofs.Walks.{told, first_at, linked_at, within_at, second_at, reverse_take}
+use Rattle.eb_place.specs.BackwardWalk.{pool_word, is_first_linked, goes_on, reads, IsWalk, ReachedWordsStay}
+use Rattle.eb_place.specs.BackwardWalk.IsWalk.{ends, gives}
+use Rattle.eb_place.proofs.WayBack.{told, first_at, linked_at, within_at, second_at, reverse_take}
 
 ending : (words : ℕ → ℕ) (at : ℕ) → address_pool at ≡ 0 → address_offset at ≡ 0 → goes_on words at ≡ 0
 ending words at p o = ap (λ (b : Bool). if b then 0 else if is_first_linked at then (words (at - 1) + 1) else at) (and_from _ _ (eq-eqb _ _ p) (eq-eqb _ _ o))

@@ -23,7 +23,7 @@ use Rattle.eb_place.proofs.Fresh.{Each, address_here}
 use Rattle.eb_place.proofs.Fresh.Each.{none, more}
 use Rattle.eb_place.proofs.Within.{IsWithin}
 use Rattle.eb_place.proofs.Numbers.{number_here, number_keeps, number_low, number_once, number_absent, distinct_grows}
-use Rattle.eb_chain.specs.StoredOnce.{values_at}
+use Rattle.eb_place.specs.StoredOnce.{values_at}
 
 -- ---- rising lists
 
