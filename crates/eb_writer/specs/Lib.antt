@@ -2,3 +2,4 @@ pub mod Recall
 pub mod Counting
 pub mod Storing
 pub mod Progress
+pub mod Laws

@@ -3,10 +3,12 @@
 #![tactic(auto)]
 
 mod counting;
+mod laws;
 mod placer;
 mod recall;
 mod storing;
 
+pub use laws::placer_stands_later;
 pub use placer::{Full, Placer};
 
 #[cfg(test)]

@@ -71,6 +71,13 @@ impl Placer {
         self.segments
     }
 
+    /// The number of documents that it placed.
+    pub fn documents(&self) -> u64
+        ensures { (m : Moment) → Stands self.now m → result ≡ length m.documents.accepted }
+    {
+        self.documents
+    }
+
     /// Adds a document: it does exactly the stores of the document's placing, in order, and gives the new
     /// count of accepted documents. `Full` exactly where there is no room for the document; then no store is
     /// done. What the document needs is counted before the first store: the work is that of one search of

@@ -1,0 +1,21 @@
+use Rattle.std.proofs.Common.{ap, ◌∙◌, subst}
+use Rattle.eb_place.specs.Later.{IsNotBefore}
+use Rattle.eb_table.specs.Known.{Known, Words}
+use Rattle.eb_engine.specs.Tokens.{ConverterToken}
+use Rattle.eb_engine.proofs.Knows.{stays, closed_in}
+use Rattle.eb_engine.proofs.writer.Writer.hear.Goals as goal
+
+pub invariant_of-self : goal.invariant_of-self
+invariant_of-self c =
+    let i = c.self.invariant in
+    stays c.self.inside.placer c.self.inside.seat.moment c.meet.new.self.moment c.meet.ensures.made.moment c.meet.ensures.own c.meet.ensures.documents i.1
+
+pub returns-clause-closed : goal.returns-clause-closed
+returns-clause-closed c =
+    let i = c.self.invariant in
+    let new = c.meet.new.self.moment in
+    let later : IsNotBefore new c.converter.inside.seat.moment = subst (λ (k : Known). IsNotBefore new k.moment) c.split-told.ensures.new c.meet.ensures.other in
+    let stands = stays c.self.inside.placer c.self.inside.seat.moment new c.meet.ensures.made.moment c.meet.ensures.own c.meet.ensures.documents i.1 in
+    let count = ap (λ (t : ConverterToken). t.converted) c.converter.view_is in
+    closed_in c.converter.inside.seat.moment new c.args.index.now.setting c.args.converter.now.converted later c.meet.ensures.made.moment (c.meet.ensures.made.setting
+    ∙ ap (λ (w : Words). w.setting) c.index.view_is) stands.1.idle (c.converter.invariant.1 ∙ (λ i. record { converted = count i; packed = 0 }))

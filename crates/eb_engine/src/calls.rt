@@ -1,0 +1,53 @@
+//! What is done through a seat at the words: searches and adds.
+ghost use Rattle.std.specs.Prelude.{◌≡◌, ◌+◌, length, IfOk, OnErr};
+ghost use Rattle.eb_cursor.specs.Frames.{query_of, k_of, ids_of};
+ghost use Rattle.eb_place.specs.Room.{HasRoom};
+ghost use Rattle.eb_search.specs.Searched.{Searched};
+ghost use Rattle.eb_table.specs.Known.{MadeWith};
+ghost use Rattle.eb_writer.specs.Progress.{Stands, HasNoRoom};
+ghost use Rattle.eb_writer.specs.Storing.{IsAccepted};
+
+use eb_base::{Document, Gate};
+use eb_cursor::Frame;
+use eb_place::Steps;
+use eb_search::search;
+use eb_table::{ReaderPort, ReaderSeat, SharedWords, WriterPort, WriterSeat};
+use eb_writer::{Full, Placer};
+use std::sync::ledger::Ledger;
+
+// A search by a reader's seat.
+pub(crate) fn search_words<G: Gate, L: Ledger>(
+    seat: &mut ReaderSeat,
+    words: &SharedWords,
+    frame: &mut Frame,
+    gate: &G,
+    steps: &mut Steps<L>,
+) -> u64
+    requires made { MadeWith seat.old words.now }
+    ensures made { MadeWith seat.new words.now }
+    ensures query { query_of frame.new ≡ query_of frame.old }
+    ensures k { k_of frame.new ≡ k_of frame.old }
+    ensures answer { Searched seat.old.moment seat.new.moment (query_of frame.old) (k_of frame.old) result (ids_of frame.new) }
+{
+    let mut port = ReaderPort { seat, words };
+    search(&mut port, frame, gate, steps)
+}
+
+// An add by the writer's seat.
+pub(crate) fn add_to_words(
+    placer: &mut Placer,
+    seat: &mut WriterSeat,
+    words: &SharedWords,
+    document: &Document,
+) -> Result<u64, Full>
+    requires made { MadeWith seat.old words.now }
+    requires stands { Stands placer.old seat.old.moment }
+    ensures made { MadeWith seat.new words.now }
+    ensures stands { Stands placer.new seat.new.moment }
+    ensures ok { IfOk result (λ count. HasRoom seat.old.moment.setting seat.old.moment.documents.accepted document.now
+        × IsAccepted seat.old.moment seat.new.moment document.now × (count ≡ length seat.old.moment.documents.accepted + 1)) }
+    ensures full { OnErr result (HasNoRoom seat.old.moment document.now × (seat.new.moment.documents ≡ seat.old.moment.documents)) }
+{
+    let mut pen = WriterPort { seat, words };
+    placer.add(&mut pen, document)
+}

@@ -1,0 +1,61 @@
+ghost use Rattle.std.specs.Prelude.{◌≡◌};
+ghost use mathlib.Core.List.{IsPrefix};
+ghost use Rattle.eb_place.specs.Moments.{IsMoment};
+ghost use Rattle.eb_engine.specs.Tokens.{index_of};
+
+use crate::index::Index;
+use crate::reader::Reader;
+use eb_table::ConverterSeat;
+use std::marker::Model;
+
+/// The one converter of an index: it knows which segments are closed, and how many it converted. It may go to a thread
+/// of its own. Contracts see the documents that it knows, which are the first ones of the writer's history, and the
+/// number of segments that it converted.
+#[derive(Drop)]
+pub struct Converter {
+    pub(crate) seat: ConverterSeat,
+    converted: u32,
+}
+
+impl Model for Converter {
+    ghost use Rattle.std.specs.Prelude.{◌≡◌};
+    ghost use Rattle.eb_place.specs.Moments.{IsMoment};
+    ghost use Rattle.eb_engine.specs.Tokens.{ConverterToken, index_of};
+
+    ghost Value = { ConverterToken };
+
+    ghost view = { λ c. record { index = index_of c.seat; docs = c.seat.moment.documents.accepted; converted = c.converted } };
+
+    ghost invariant = { λ c. IsMoment c.seat.moment × (c.seat.moment.conversions ≡ record { converted = c.converted; packed = 0 }) };
+}
+
+impl Converter {
+    pub(crate) fn new(seat: ConverterSeat) -> Converter
+        requires moment { IsMoment seat.moment }
+        requires none { seat.moment.conversions ≡ record { converted = 0; packed = 0 } }
+        ensures { result ≡ record { index = index_of seat; docs = seat.moment.documents.accepted; converted = 0 } }
+    {
+        Converter { seat, converted: 0 }
+    }
+
+    /// Takes in a reader: the converter then knows at least what the reader knew and what it knew before, which are
+    /// fronts of one history. All must have been made with this index. Takes no memory.
+    pub fn meet(&mut self, index: &Index, reader: Reader)
+        requires this { self.old.index ≡ index.now }
+        requires reader { reader.index ≡ index.now }
+        ensures index { self.new.index ≡ self.old.index }
+        ensures converted { self.new.converted ≡ self.old.converted }
+        ensures this { IsPrefix self.old.docs self.new.docs }
+        ensures reader { IsPrefix reader.docs self.new.docs }
+    {
+        let seat = reader.into_seat();
+        self.seat.meet(&index.words, seat);
+    }
+
+    /// The number of segments that it converted: they are the first ones of the index.
+    pub fn converted(&self) -> u32
+        ensures { result ≡ self.now.converted }
+    {
+        self.converted
+    }
+}

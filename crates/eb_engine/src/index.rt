@@ -1,0 +1,42 @@
+ghost use Rattle.std.specs.Prelude.{◌≡◌, [], IfOk};
+
+use crate::converter::Converter;
+use crate::writer::Writer;
+use eb_base::{Config, NoMemory};
+use eb_table::SharedWords;
+use std::alloc::Global;
+use std::marker::Model;
+
+/// An index of documents, after the Earlybird paper of 2012, which threads share by reference. What is done with it
+/// is done by its writer, its readers and its converter, all of which are made with it. Contracts see which index it
+/// is, and its setting.
+#[derive(Drop)]
+pub struct Index {
+    pub(crate) words: SharedWords,
+}
+
+impl Model for Index {
+    ghost use Rattle.eb_table.specs.Known.{Words};
+
+    ghost Value = { Words };
+
+    ghost view = { λ i. i.words };
+}
+
+impl Index {
+    /// An index without a document, with its one writer and its one converter. Takes all memory that the index will
+    /// ever take, at once (`eb_table::SharedWords::open` says how much). `NoMemory` where it isn't there: nothing is
+    /// kept then.
+    pub fn open(alloc: Global, config: Config) -> Result<(Index, Writer, Converter), NoMemory>
+        ensures setting { IfOk result (λ r. r.0.setting ≡ config) }
+        ensures writer { IfOk result (λ r. r.1 ≡ record { index = r.0; docs = [] }) }
+        ensures converter { IfOk result (λ r. r.2 ≡ record { index = r.0; docs = []; converted = 0 }) }
+    {
+        let (words, writer, converter) = SharedWords::open(alloc, config)?;
+        Ok((
+            Index { words },
+            Writer::new(writer, config),
+            Converter::new(converter),
+        ))
+    }
+}

@@ -1,0 +1,144 @@
+ghost use Rattle.std.specs.Prelude.{◌≡◌, ◌++◌, ◌∷◌, [], false, length, IfOk, OnErr};
+ghost use mathlib.Core.List.{IsPrefix};
+ghost use Rattle.eb_base.specs.Match.{answer};
+ghost use Rattle.eb_cursor.specs.Frames.{query_of, k_of, ids_of};
+ghost use Rattle.eb_place.specs.Moments.{IsMoment, empty_moment};
+ghost use Rattle.eb_place.specs.Room.{cut, HasRoom, has_room};
+ghost use Rattle.eb_engine.specs.Tokens.{index_of, AreClosed};
+
+use crate::calls::add_to_words;
+use crate::converter::Converter;
+use crate::index::Index;
+use crate::reader::Reader;
+use eb_base::{Config, Document, Gate, Point};
+use eb_cursor::Frame;
+use eb_place::Steps;
+use eb_table::WriterSeat;
+use eb_writer::{Full, Placer};
+use std::marker::Model;
+use std::sync::ledger::Ledger;
+
+/// The one writer of an index. It may go to a thread of its own. Contracts see its history: the documents that it
+/// added, in order.
+#[derive(Drop)]
+pub struct Writer {
+    seat: WriterSeat,
+    placer: Placer,
+}
+
+impl Model for Writer {
+    ghost use Rattle.eb_place.specs.Moments.{IsMoment};
+    ghost use Rattle.eb_writer.specs.Progress.{Stands};
+    ghost use Rattle.eb_engine.specs.Tokens.{Token, index_of};
+
+    ghost Value = { Token };
+
+    ghost view = { λ w. record { index = index_of w.seat; docs = w.seat.moment.documents.accepted } };
+
+    ghost invariant = { λ w. IsMoment w.seat.moment × Stands w.placer w.seat.moment };
+}
+
+impl Writer {
+    pub(crate) fn new(seat: WriterSeat, config: Config) -> Writer
+        requires moment { seat.moment ≡ empty_moment config }
+        requires lawful { IsMoment seat.moment }
+        ensures { result ≡ record { index = index_of seat; docs = [] } }
+    {
+        Writer {
+            seat,
+            placer: Placer::new(config),
+        }
+    }
+
+    /// Adds a document behind the history, and gives the length of the history then; the gate is told of it after the
+    /// last store. `Full` exactly where the index has no room for the document: the history is then as before, and no
+    /// store is done. The writer must have been made with this index. Takes no memory.
+    pub fn add<G: Gate>(
+        &mut self,
+        index: &Index,
+        document: &Document,
+        gate: &G,
+    ) -> Result<u64, Full>
+        requires { self.old.index ≡ index.now }
+        ensures ok { IfOk result (λ n. HasRoom index.now.setting self.old.docs document.now
+            × (self.new ≡ record { index = self.old.index; docs = self.old.docs ++ document.now ∷ [] }) × (n ≡ length self.new.docs)) }
+        ensures full { OnErr result ((has_room index.now.setting self.old.docs document.now ≡ false) × (self.new ≡ self.old)) }
+    {
+        let count = add_to_words(&mut self.placer, &mut self.seat, &index.words, document)?;
+        gate.reached(Point::Added(count));
+        Ok(count)
+    }
+
+    /// The length of the history.
+    pub fn accepted(&self) -> u64
+        ensures { result ≡ length self.now.docs }
+    {
+        self.placer.documents()
+    }
+
+    /// The number of segments of the cut of the history.
+    pub fn segments(&self) -> u32
+        ensures { result ≡ length (cut self.now.index.setting self.now.docs) }
+    {
+        self.placer.segments()
+    }
+
+    /// A reader that knows the whole history. The writer must have been made with this index. Takes no memory.
+    pub fn reader(&mut self, index: &Index) -> Reader
+        requires { self.old.index ≡ index.now }
+        ensures this { self.new ≡ self.old }
+        ensures reader { result ≡ self.old }
+    {
+        let seat = self.seat.split(&index.words);
+        Reader::new(seat, self.placer.documents())
+    }
+
+    /// Takes in a reader: what it knew is a front of the history. Both must have been made with this index. Takes no
+    /// memory.
+    pub fn meet(&mut self, index: &Index, reader: Reader)
+        requires this { self.old.index ≡ index.now }
+        requires reader { reader.index ≡ index.now }
+        ensures this { self.new ≡ self.old }
+        ensures reader { IsPrefix reader.docs self.new.docs }
+    {
+        let known = reader.into_seat();
+        self.seat.meet(&index.words, known);
+    }
+
+    /// Searches the whole history, as one who reads his own writes: a reader that knows the history searches, and is
+    /// taken in again. Since no document is added meanwhile, the answer is over exactly the history, and its length is
+    /// the result; else as `Reader::search`. The writer must have been made with this index. Takes no memory.
+    pub fn search<G: Gate, L: Ledger>(
+        &mut self,
+        index: &Index,
+        frame: &mut Frame,
+        gate: &G,
+        steps: &mut Steps<L>,
+    ) -> u64
+        requires { self.old.index ≡ index.now }
+        ensures this { self.new ≡ self.old }
+        ensures count { result ≡ length self.new.docs }
+        ensures query { query_of frame.new ≡ query_of frame.old }
+        ensures k { k_of frame.new ≡ k_of frame.old }
+        ensures ids { ids_of frame.new ≡ answer (query_of frame.old) (k_of frame.old) self.new.docs }
+    {
+        let mut reader = self.reader(index);
+        let count = reader.search(index, frame, gate, steps);
+        self.meet(index, reader);
+        count
+    }
+
+    /// Takes in what the converter knows: it is a front of the history, in which each segment that it converted is
+    /// closed. Both must have been made with this index. Takes no memory.
+    pub fn hear(&mut self, index: &Index, converter: &mut Converter)
+        requires this { self.old.index ≡ index.now }
+        requires converter { converter.old.index ≡ index.now }
+        ensures this { self.new ≡ self.old }
+        ensures converter { converter.new ≡ converter.old }
+        ensures told { IsPrefix converter.old.docs self.new.docs }
+        ensures closed { AreClosed index.now.setting self.new.docs converter.old.converted }
+    {
+        let told = converter.seat.split(&index.words);
+        self.seat.meet(&index.words, told);
+    }
+}

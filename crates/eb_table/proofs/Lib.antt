@@ -1,0 +1,10 @@
+pub mod InLine
+pub mod Views
+pub mod Opening
+pub mod Loading
+pub mod Storing
+pub mod Putting
+pub mod Splitting
+pub mod Joining
+pub mod Meeting
+pub mod Standing

@@ -1,0 +1,19 @@
+use Rattle.eb_table.proofs.Meeting.{converter_meets}
+use Rattle.eb_table.proofs.seats.ConverterSeat.meet.Goals as goal
+
+pub returns-clause-own : goal.returns-clause-own
+returns-clause-own c =
+    (converter_meets _ c.args.self.now c.args.seat c.self.inside.seat.table_id c.seat.inside.seat.table_id c.self.inside.seat.me c.seat.inside.seat.me c.join.new.seat.me
+    c.load_word.new.seat.me c.load_word.result c.self.view_is c.seat.view_is c.requires.this c.requires.other c.join.ensures.met c.load_word.ensures.told
+    c.self.invariant).0.first
+
+pub returns-clause-other : goal.returns-clause-other
+returns-clause-other c =
+    (converter_meets _ c.args.self.now c.args.seat c.self.inside.seat.table_id c.seat.inside.seat.table_id c.self.inside.seat.me c.seat.inside.seat.me c.join.new.seat.me
+    c.load_word.new.seat.me c.load_word.result c.self.view_is c.seat.view_is c.requires.this c.requires.other c.join.ensures.met c.load_word.ensures.told
+    c.self.invariant).0.second
+
+pub returns-clause-conversions : goal.returns-clause-conversions
+returns-clause-conversions c =
+    (converter_meets _ c.args.self.now c.args.seat c.self.inside.seat.table_id c.seat.inside.seat.table_id c.self.inside.seat.me c.seat.inside.seat.me c.join.new.seat.me
+    c.load_word.new.seat.me c.load_word.result c.self.view_is c.seat.view_is c.requires.this c.requires.other c.join.ensures.met c.load_word.ensures.told c.self.invariant).1

@@ -1,0 +1,9 @@
+-- A law over the definitions, which the public function of src/laws.rt proves.
+use Rattle.std.specs.Prelude.{◌≡◌}
+use Rattle.eb_place.specs.declared.moment.Moment.{Moment}
+use Rattle.eb_place.specs.Later.{IsNotBefore}
+use Rattle.eb_writer.specs.Progress.{Progress, Stands}
+
+-- a placer that stands at a moment stands at each later moment of the same documents
+abbrev pub StandsLater : Type 0
+StandsLater = (p : Progress) (m n : Moment) → Stands p m → IsNotBefore n m → n.documents ≡ m.documents → Stands p n
