@@ -6,3 +6,4 @@ pub mod Differences
 pub mod Opening
 pub mod Reading
 pub mod Standing
+pub mod Loads

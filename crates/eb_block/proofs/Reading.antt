@@ -5,7 +5,8 @@ use Rattle.std.proofs.lemmas.List.{append-nil, length-append, length-drop, lengt
 use Rattle.eb_place.specs.Packed.{differences, fields, block, blocks, packed_list}
 use Rattle.eb_place.specs.Falling.{IsFalling, AllBelow}
 use Rattle.eb_block.specs.Fields.{IsHeld, IsField, HoldsFields}
-use Rattle.eb_block.specs.Blocks.{IsPackable}
+use Rattle.std.proofs.lemmas.Nat.{mul-le}
+use Rattle.eb_block.specs.Blocks.{IsPackable, most_words}
 use Rattle.eb_block.specs.Reading.{ReadsWords, loaded, up_to, HasPassed}
 use Rattle.eb_block.specs.declared.packed_list.PackedList.{PackedList}
 use Rattle.eb_place.specs.PackedLists.{posting_bits}
@@ -167,6 +168,7 @@ module _ (W : List ℕ) (start : ℕ) where
           body = r.body;
           index = r.index;
           at = at ∙ r.at;
+          short = r.short;
           words_are = r.words_are;
           next = s.next ∙ r.next;
           holds = subst (λ z. HoldsFields z q.bits r.body (differences (q.last ∷ a.ns))) (sym w) (subst (λ z. HoldsFields p.width q.bits r.body (differences (z ∷ a.ns))) (sym is) k.1);
@@ -223,6 +225,7 @@ module _ (W : List ℕ) (start : ℕ) where
                 body = m.1;
                 index = r.index + 1;
                 at = at ∙ omega (arith, r.at);
+                short = omega (arith, r.short, lb);
                 words_are = more.on;
                 next = s.next ∙ r.next ∙ omega arith;
                 holds = subst (λ z. HoldsFields z q.bits m.1 (differences (q.last ∷ a.ns))) (sym w) (subst (λ z. HoldsFields p.width q.bits m.1 (differences (z ∷ a.ns))) (sym is) k.1);
@@ -281,7 +284,8 @@ module _ (W : List ℕ) (start : ℕ) where
                 body = r.body;
                 index = r.index;
                 at = r.at;
-                words_are = r.words_are;
+                short = r.short;
+          words_are = r.words_are;
                 next = r.next;
                 holds = r.holds;
                 narrow = r.narrow;
@@ -317,6 +321,7 @@ module _ (W : List ℕ) (start : ℕ) where
     pub few : p.header % 2 ^ 8 ≤ p.left
     pub narrow : p.header / 2 ^ 8 % 2 ^ 8 ≤ posting_bits
     pub short : p.header % 2 ^ 8 ≤ 128
+    pub full : p.header % 2 ^ 8 < p.left → p.header % 2 ^ 8 ≡ 128
     pub room : p.next + 1 + ((p.header % 2 ^ 8 - 1) * (p.header / 2 ^ 8 % 2 ^ 8) + 63) / 64 < 2 ^ 32
     pub gives : (q : PackedList) → IsIn p q → (after : List ℕ) × (c : ℕ) × ReadsWords W start q after c × (c ≤ b) × HasPassed p rest after
 
@@ -361,6 +366,8 @@ module _ (W : List ℕ) (start : ℕ) where
           let ins = nx.inside in
           let lpl = ap length pl in
           let bi = r.budget_is in
+          let wide : (length blk - 1) * width_in blk ≤ 127 * posting_bits = mul-le (length blk - 1) (width_in blk) 127 posting_bits (omega arith) ih.narrow in
+          let short_body : length (body_in blk) < most_words = omega (arith, lb, wide) in
           let lone : loaded p.header ≡ 1 = ap (λ (c : Bool). if c then 1 else 0) (lt-ltb 0 p.header h) in
           record {
             small = ih.small;
@@ -368,6 +375,7 @@ module _ (W : List ℕ) (start : ℕ) where
             few = omega (arith, ih.count, r.left);
             narrow = subst (λ z. z ≤ posting_bits) (sym ih.width) ih.narrow;
             short = omega (arith, ih.count);
+            full = λ more. omega (arith, ih.count, r.left);
             room = omega (arith, n_is, r.next);
             gives = λ q s. (
               x ∷ xs,
@@ -379,6 +387,7 @@ module _ (W : List ℕ) (start : ℕ) where
                 body = body_in blk;
                 index = i + 1;
                 at = s.at ∙ omega (arith, r.next);
+                short = short_body;
                 words_are = nx.on;
                 next = s.next ∙ omega (arith, n_is, r.next);
                 holds = subst (λ z. HoldsFields z q.bits (body_in blk) (differences (q.last ∷ take 127 xs))) (sym (s.width ∙ ih.width)) (subst (λ z. HoldsFields (width_in blk) q.bits (body_in blk) (differences (z ∷ take 127 xs))) (sym (s.last ∙ ih.posting)) (body_holds blk q.bits pk s.held_bits s.low s.count));
@@ -414,6 +423,7 @@ module _ (W : List ℕ) (start : ℕ) where
           body = r.body;
           index = r.index;
           at = r.at;
+          short = r.short;
           words_are = r.words_are;
           next = r.next;
           holds = r.holds;

@@ -177,6 +177,7 @@ opens m s t k word' p is c h e o =
         body = [];
         index = 0;
         at = o.at ∙ a ∙ (omega arith);
+        short = omega arith;
         words_are = refl;
         next = o.next ∙ a ∙ (omega arith);
         holds = empty_holds p o.held_bits o.low o.count;

@@ -8,6 +8,7 @@ use Rattle.eb_place.specs.Postings.{postings}
 use Rattle.eb_place.specs.Walk.{IsTerm}
 use Rattle.eb_place.specs.Falling.{IsFalling, AllBelow}
 use Rattle.eb_block.specs.Fields.{HoldsFields}
+use Rattle.eb_block.specs.Blocks.{most_words}
 use Rattle.eb_place.specs.PackedLists.{posting_bits, IsConverted, list_start}
 use Rattle.eb_block.specs.declared.packed_list.PackedList.{PackedList}
 
@@ -35,6 +36,7 @@ pub record ReadsWords (words : List ℕ) (start : ℕ) (p : PackedList) (rest : 
   pub body : List ℕ
   pub index : ℕ
   pub at : p.at ≡ start + index
+  pub short : length body < most_words
   pub words_are : drop index words ≡ body ++ packed_list later
   pub next : p.next ≡ start + (index + length body)
   pub holds : HoldsFields p.width p.bits body (differences (p.last ∷ now))
@@ -47,6 +49,15 @@ pub record ReadsWords (words : List ℕ) (start : ℕ) (p : PackedList) (rest : 
   pub are : rest ≡ (if p.held then (p.last ∷ (now ++ later)) else (now ++ later))
   pub header : (p.header ≡ 0) ⊎ ((1 ≤ length later) × (p.header ≡ get_or (packed_list later) 0 0))
   pub budget_is : budget + loaded p.header ≡ length body + length (packed_list later)
+
+-- how many postings the list has still to give
+abbrev pub remaining : PackedList → ℕ
+remaining p = (if p.held then 1 else 0) + p.inside + p.left
+
+-- what a seek that passes over so many postings loads at most: one header for each whole block among them, and
+-- two headers and the differences of a block where it begins and ends
+abbrev pub seek_loads : ℕ → ℕ
+seek_loads passed = passed / 128 + 1 + most_words
 
 -- of the postings of the term in segment s, which is converted, the list has still to give these, and it
 -- may load as many words as the budget says

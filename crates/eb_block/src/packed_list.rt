@@ -1,11 +1,11 @@
-ghost use Rattle.std.specs.Prelude.{◌≡◌, ◌≢◌, ℕ, List, [], ◌∷◌, ◌+◌, ◌≤◌, ◌<◌, ◌/◌, ◌^◌, length, reverse, true, false};
+ghost use Rattle.std.specs.Prelude.{◌≡◌, ◌≢◌, ℕ, List, [], ◌∷◌, ◌+◌, ◌-◌, ◌*◌, ◌≤◌, ◌<◌, ◌/◌, ◌^◌, length, reverse, true, false};
 ghost use Rattle.std.specs.Bool.{MatchBool};
 ghost use Rattle.eb_base.specs.Term.{Term};
 ghost use Rattle.eb_place.specs.declared.moment.Moment.{Moment};
 ghost use Rattle.eb_place.specs.Later.{IsNotBefore};
 ghost use Rattle.eb_place.specs.Walk.{IsTerm};
 ghost use Rattle.eb_place.specs.PackedLists.{IsConverted, newest_first, packed_words};
-ghost use Rattle.eb_block.specs.Reading.{ListStands, IsPackedAt, ListGives, HasPassed, IsNear, up_to};
+ghost use Rattle.eb_block.specs.Reading.{ListStands, IsPackedAt, ListGives, HasPassed, IsNear, up_to, remaining, seek_loads};
 
 use crate::bits::Bits;
 use crate::Posting;
@@ -66,8 +66,8 @@ impl PackedList {
     }
 
     /// The newest posting that wasn't given yet; `None` exactly after the oldest. The port's moment isn't
-    /// before that of the opening. All calls of `next` and `seek` together load at most as many words as
-    /// the packed list has. Takes no memory.
+    /// before that of the opening. One load at most, and all calls of `next` and `seek` on one list load
+    /// together at most as many words as the packed list has. Takes no memory.
     pub fn next<P: Port, L: Ledger>(&mut self, port: &mut P, steps: &mut Steps<L>) -> Option<Posting>
         requires { (m : Moment) × (s : ℕ) × (t : Term) × (rest : List ℕ) × (budget : ℕ)
             × P.stands port.old m × ListStands m s t self.old rest budget }
@@ -75,6 +75,7 @@ impl PackedList {
             → P.stands port.old m → ListStands m s t self.old rest budget
             → (n : Moment) × (b : ℕ) × P.stands port.new n × IsNotBefore n m × P.keeps port.old m port.new n
             × ListGives n s t self.new rest b result × (steps.new + b ≤ steps.old + budget) }
+        ensures one { steps.new ≤ steps.old + 1 }
     {
         if !self.hold(port, steps) {
             return None;
@@ -83,8 +84,9 @@ impl PackedList {
         Some(self.last)
     }
 
-    /// Passes over exactly the postings above `most` that weren't given yet: whole blocks by their headers.
-    /// The port's moment isn't before that of the opening. Takes no memory.
+    /// Passes over exactly the postings above `most` that weren't given yet: whole blocks by their headers
+    /// alone, so that it loads one word for each 128 postings that it passes over and at most 66 more. The
+    /// port's moment isn't before that of the opening. Takes no memory.
     pub fn seek<P: Port, L: Ledger>(&mut self, port: &mut P, most: Posting, steps: &mut Steps<L>)
         requires { (m : Moment) × (s : ℕ) × (t : Term) × (rest : List ℕ) × (budget : ℕ)
             × P.stands port.old m × ListStands m s t self.old rest budget }
@@ -92,6 +94,9 @@ impl PackedList {
             → P.stands port.old m → ListStands m s t self.old rest budget
             → (n : Moment) × (b : ℕ) × P.stands port.new n × IsNotBefore n m × P.keeps port.old m port.new n
             × ListStands n s t self.new (up_to most rest) b × (steps.new + b ≤ steps.old + budget) }
+        ensures loads { (m : Moment) (s : ℕ) (t : Term) (rest : List ℕ) (budget : ℕ)
+            → P.stands port.old m → ListStands m s t self.old rest budget
+            → steps.new ≤ steps.old + seek_loads (length rest - length (up_to most rest)) }
     {
         self.seek_block(port, most, steps);
         self.seek_posting(port, most, steps);
@@ -102,6 +107,7 @@ impl PackedList {
         requires { (m : Moment) × (s : ℕ) × (t : Term) × (rest : List ℕ) × (budget : ℕ)
             × P.stands port.old m × ListStands m s t self.old rest budget }
         ensures near { IsNear most self.new }
+        ensures loads { 128 * steps.new + remaining self.new ≤ 128 * steps.old + remaining self.old + 256 }
         ensures told { (m : Moment) (s : ℕ) (t : Term) (rest : List ℕ) (budget : ℕ)
             → P.stands port.old m → ListStands m s t self.old rest budget
             → (n : Moment) × (after : List ℕ) × (b : ℕ) × P.stands port.new n × IsNotBefore n m × P.keeps port.old m port.new n
@@ -115,6 +121,9 @@ impl PackedList {
         requires reads { (m : Moment) × (s : ℕ) × (t : Term) × (rest : List ℕ) × (budget : ℕ)
             × P.stands port.old m × ListStands m s t self.old rest budget }
         requires near { IsNear most self.old }
+        ensures next { self.new.next ≡ self.old.next }
+        ensures loads { steps.new + self.old.at ≡ steps.old + self.new.at }
+        ensures fewer { remaining self.new ≤ remaining self.old }
         ensures told { (m : Moment) (s : ℕ) (t : Term) (rest : List ℕ) (budget : ℕ)
             → P.stands port.old m → ListStands m s t self.old rest budget
             → (n : Moment) × (b : ℕ) × P.stands port.new n × IsNotBefore n m × P.keeps port.old m port.new n
@@ -141,6 +150,10 @@ impl PackedList {
             × P.stands port.old m × ListStands m s t self.old rest budget }
         ensures near { result ≡ false → IsNear most self.new }
         ensures less { result ≡ true → self.new.left < self.old.left }
+        ensures one { steps.new ≤ steps.old + 1 }
+        ensures stays { result ≡ false → remaining self.new ≡ remaining self.old }
+        ensures enters { result ≡ true → remaining self.new ≡ self.old.left }
+        ensures full { result ≡ true → 1 ≤ self.new.left → self.new.left + 128 ≡ self.old.left }
         ensures told { (m : Moment) (s : ℕ) (t : Term) (rest : List ℕ) (budget : ℕ)
             → P.stands port.old m → ListStands m s t self.old rest budget
             → (n : Moment) × (after : List ℕ) × (b : ℕ) × P.stands port.new n × IsNotBefore n m × P.keeps port.old m port.new n
@@ -170,6 +183,9 @@ impl PackedList {
         requires { (m : Moment) × (s : ℕ) × (t : Term) × (rest : List ℕ) × (budget : ℕ)
             × P.stands port.old m × ListStands m s t self.old rest budget }
         ensures near { result ≡ true → IsNear most self.old → IsNear most self.new }
+        ensures next { self.new.next ≡ self.old.next }
+        ensures loads { steps.new + self.old.at ≡ steps.old + self.new.at }
+        ensures fewer { remaining self.new ≤ remaining self.old }
         ensures less { result ≡ true → self.new.inside < self.old.inside }
         ensures told { (m : Moment) (s : ℕ) (t : Term) (rest : List ℕ) (budget : ℕ)
             → P.stands port.old m → ListStands m s t self.old rest budget
@@ -192,6 +208,7 @@ impl PackedList {
     fn hold<P: Port, L: Ledger>(&mut self, port: &mut P, steps: &mut Steps<L>) -> bool
         requires { (m : Moment) × (s : ℕ) × (t : Term) × (rest : List ℕ) × (budget : ℕ)
             × P.stands port.old m × ListStands m s t self.old rest budget }
+        ensures one { steps.new ≤ steps.old + 1 }
         ensures told { (m : Moment) (s : ℕ) (t : Term) (rest : List ℕ) (budget : ℕ)
             → P.stands port.old m → ListStands m s t self.old rest budget
             → (n : Moment) × (b : ℕ) × P.stands port.new n × IsNotBefore n m × P.keeps port.old m port.new n
@@ -223,6 +240,9 @@ impl PackedList {
         ensures left { self.new.left ≡ self.old.left }
         ensures header { self.new.header ≡ self.old.header }
         ensures less { self.new.inside + 1 ≡ self.old.inside }
+        ensures next { self.new.next ≡ self.old.next }
+        ensures loads { steps.new + self.old.at ≡ steps.old + self.new.at }
+        ensures one { steps.new ≤ steps.old + 1 }
         ensures told { (m : Moment) (s : ℕ) (t : Term) (rest : List ℕ) (budget : ℕ)
             → P.stands port.old m → ListStands m s t self.old rest budget
             → (n : Moment) × (b : ℕ) × P.stands port.new n × IsNotBefore n m × P.keeps port.old m port.new n
@@ -250,6 +270,7 @@ impl PackedList {
         requires left { 1 ≤ self.old.left }
         ensures loaded { 1 ≤ self.new.header }
         ensures same { self.new ≡ record self.old { header = self.new.header } }
+        ensures one { steps.new ≤ steps.old + 1 }
         ensures told { (m : Moment) (s : ℕ) (t : Term) (rest : List ℕ) (budget : ℕ)
             → P.stands port.old m → ListStands m s t self.old rest budget
             → (n : Moment) × (b : ℕ) × P.stands port.new n × IsNotBefore n m × P.keeps port.old m port.new n
@@ -267,6 +288,8 @@ impl PackedList {
         requires loaded { 1 ≤ self.old.header }
         ensures held { self.new.held ≡ true }
         ensures less { self.new.left < self.old.left }
+        ensures count { self.new.inside + 1 + self.new.left ≡ self.old.left }
+        ensures full { 1 ≤ self.new.left → self.new.inside ≡ 127 }
         ensures told { (m : Moment) (s : ℕ) (t : Term) (rest : List ℕ) (budget : ℕ) → ListStands m s t self.old rest budget
             → (after : List ℕ) × (b : ℕ) × ListStands m s t self.new after b × (b ≤ budget) × HasPassed self.old rest after }
     {

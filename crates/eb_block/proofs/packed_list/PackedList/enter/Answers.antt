@@ -55,3 +55,9 @@ returns-clause-told c m s t rest b h =
 
 pub returns-clause-less : goal.returns-clause-less
 returns-clause-less c = let k = can (goal.at.returns-clause-less c).After-width_in-width in omega (arith, k.some, k.few, c.count_in-count.ensures)
+
+pub returns-clause-count : goal.returns-clause-count
+returns-clause-count c = let k = can (goal.at.returns-clause-count c).After-width_in-width in omega (arith, k.some, k.few, c.count_in-count.ensures)
+
+pub returns-clause-full : goal.returns-clause-full
+returns-clause-full c some = let k = can (goal.at.returns-clause-full c).After-width_in-width in omega (arith, k.full (omega (arith, c.count_in-count.ensures)), c.count_in-count.ensures)

@@ -4,6 +4,7 @@ use Rattle.eb_block.proofs.packed_list.PackedList.hold.Goals as goal
 
 pub returns-then-self-gt0 : goal.returns-then-self-gt0
 returns-then-self-gt0 g c = record {
+  one = c.step.ensures.one;
   told = λ m s t rest b st h.
       (let n = c.step.ensures.told m s t rest b st h in
       (n.0, n.1, n.2, n.3, n.4, n.5, omega (arith, n.6), c.step.ensures.held));
@@ -17,6 +18,7 @@ enter-requires-clause-reads g c =
 
 pub returns : goal.returns
 returns g c = record {
+  one = c.peek.ensures.one;
   told = λ m s t rest b st h.
       (let n = c.peek.ensures.told m s t rest b st h in
       let k = c.enter.ensures.told n.0 s t rest n.1 n.5 in
