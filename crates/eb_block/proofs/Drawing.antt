@@ -12,7 +12,8 @@ powers : (i j k l : ℕ) → i + j ≡ k + l → 2 ^ i * 2 ^ j ≡ 2 ^ k * 2 ^ l
 powers i j k l e = sym (pow-add 2 i j) ∙ ap (λ n. 2 ^ n) e ∙ pow-add 2 k l
 
 -- the field is the first number, and what is left holds the others
-pub hold_first : (w : ℕ) (b c : Bits) (words : List ℕ) (n : ℕ) (ns : List ℕ) (field : ℕ) → HoldsFields w b words (n ∷ ns) → IsHeld c → IsField w b.low field c.low → c.count + w ≡ b.count → (field ≡ n) × HoldsFields w c words ns
+pub hold_first : (w : ℕ) (b c : Bits) (words : List ℕ) (n : ℕ) (ns : List ℕ) (field : ℕ) → HoldsFields w b words (n ∷ ns) → IsHeld c → IsField w b.low field c.low → c.count + w ≡ b.count
+    → (field ≡ n) × HoldsFields w c words ns
 hold_first w b c words n ns field h held f e =
     let F = fields 64 words in
     let G = fields w ns in
@@ -24,14 +25,16 @@ hold_first w b c words n ns field h held f e =
     let m : suc (length ns) * w ≡ length ns * w + w = omega arith in
     (r.0, record { held = held; small = (h.small).1; enough = omega arith; sum = r.1 })
 
-pub hold_over : (w : ℕ) (b c : Bits) (x : ℕ) (words : List ℕ) (n : ℕ) (ns : List ℕ) (field : ℕ) → HoldsFields w b (x ∷ words) (n ∷ ns) → IsHeld c → IsField w (b.low + 2 ^ b.count * x) field c.low → c.count + w ≡ b.count + 64 → (field ≡ n) × HoldsFields w c words ns
+pub hold_over : (w : ℕ) (b c : Bits) (x : ℕ) (words : List ℕ) (n : ℕ) (ns : List ℕ) (field : ℕ) → HoldsFields w b (x ∷ words) (n ∷ ns) → IsHeld c → IsField w (b.low + 2 ^ b.count * x) field c.low
+    → c.count + w ≡ b.count + 64 → (field ≡ n) × HoldsFields w c words ns
 hold_over w b c x words n ns field h held f e =
     let F = fields 64 words in
     let G = fields w ns in
     let p : 2 ^ b.count * 2 ^ 64 ≡ 2 ^ w * 2 ^ c.count = powers b.count 64 w c.count (omega arith) in
     let s : b.low + 2 ^ b.count * (x + 2 ^ 64 * F) ≡ n + 2 ^ w * G = h.sum in
     let d : b.low + 2 ^ b.count * (x + 2 ^ 64 * F) ≡ (b.low + 2 ^ b.count * x) + 2 ^ b.count * 2 ^ 64 * F = omega arith in
-    let a : b.low + 2 ^ b.count * (x + 2 ^ 64 * F) ≡ field + 2 ^ w * (c.low + 2 ^ c.count * F) = d ∙ ap (λ k. (b.low + 2 ^ b.count * x) + k * F) p ∙ ap (λ k. k + 2 ^ w * 2 ^ c.count * F) f.sum ∙ (omega arith) in
+    let a : b.low + 2 ^ b.count * (x + 2 ^ 64 * F) ≡ field + 2 ^ w * (c.low + 2 ^ c.count * F) = d ∙ ap (λ k. (b.low + 2 ^ b.count * x) + k * F) p ∙ ap (λ k. k + 2 ^ w * 2 ^ c.count * F) f.sum
+    ∙ (omega arith) in
     let r = same_parts w field (c.low + 2 ^ c.count * F) n G f.small (h.small).0 (sym a ∙ s) in
     let en = h.enough in
     let m : suc (length ns) * w ≡ length ns * w + w = omega arith in
@@ -54,7 +57,8 @@ next_of words at x ys e =
     let d = sym (drop_more words at 0 l) ∙ e in
     record { inside = l; here = ap (λ zs. get_or zs 0 0) d; on = ap (drop 1) d }
 
-pub draw_first : (w : ℕ) (words : List ℕ) (at : ℕ) (b c : Bits) (n : ℕ) (ns : List ℕ) (field : ℕ) → DrawsFrom w words at b (n ∷ ns) → IsHeld c → IsField w b.low field c.low → c.count + w ≡ b.count → (field ≡ n) × DrawsFrom w words at c ns
+pub draw_first : (w : ℕ) (words : List ℕ) (at : ℕ) (b c : Bits) (n : ℕ) (ns : List ℕ) (field : ℕ) → DrawsFrom w words at b (n ∷ ns) → IsHeld c → IsField w b.low field c.low → c.count + w ≡ b.count
+    → (field ≡ n) × DrawsFrom w words at c ns
 draw_first w words at b c n ns field d held f e =
     let r = hold_first w b c d.left n ns field d.holds held f e in
     (r.0, record { left = d.left; rest = d.rest; are = d.are; holds = r.1 })

@@ -17,7 +17,8 @@ below_push n (y ∷ ys) x h l = (h.0, below_push n ys x h.1 l)
 edge : (w many count whole : ℕ) → many * w ≡ count + 64 * whole → 2 ^ (w * many) ≡ 2 ^ (64 * whole) * 2 ^ count
 edge w many count whole e = ap (λ k. 2 ^ k) (let q : w * many ≡ 64 * whole + count = omega arith in q) ∙ pow-add 2 (64 * whole) count
 
-pub pour_with : (w header : ℕ) (into : List ℕ) (at : ℕ) (b c : Bits) (numbers : List ℕ) (field : ℕ) → Poured w header into at b numbers → IsHeld c → c.low ≡ b.low + 2 ^ b.count * field → c.count ≡ b.count + w → Poured w header into at c (numbers ++ field ∷ [])
+pub pour_with : (w header : ℕ) (into : List ℕ) (at : ℕ) (b c : Bits) (numbers : List ℕ) (field : ℕ) → Poured w header into at b numbers → IsHeld c → c.low ≡ b.low + 2 ^ b.count * field
+    → c.count ≡ b.count + w → Poured w header into at c (numbers ++ field ∷ [])
 pour_with w header into at b c numbers field h held e k =
     let L = 2 ^ (64 * length h.words) in
     let many : length numbers * w ≡ b.count + 64 * length h.words = h.many in
@@ -28,7 +29,8 @@ pour_with w header into at b c numbers field h held e k =
     let m : length (numbers ++ field ∷ []) * w ≡ length numbers * w + w = ap (λ n. n * w) len ∙ (omega arith) in
     record { held = held; words = h.words; small = h.small; inside = h.inside; written = h.written; many = omega arith; sum = omega (arith, fields_push w numbers field) }
 
-pub pour_over : (w header : ℕ) (into : List ℕ) (at : ℕ) (b c : Bits) (numbers : List ℕ) (field x : ℕ) → Poured w header into at b numbers → IsHeld c → x + 2 ^ 64 * c.low ≡ b.low + 2 ^ b.count * field → c.count + 64 ≡ b.count + w
+pub pour_over : (w header : ℕ) (into : List ℕ) (at : ℕ) (b c : Bits) (numbers : List ℕ) (field x : ℕ) → Poured w header into at b numbers → IsHeld c
+    → x + 2 ^ 64 * c.low ≡ b.low + 2 ^ b.count * field → c.count + 64 ≡ b.count + w
     → x < 2 ^ 64 → at < length into → Poured w header (set into at x) (at + 1) c (numbers ++ field ∷ [])
 pour_over w header into at b c numbers field x h held e k small l =
     let words = h.words in
@@ -54,7 +56,8 @@ pour_over w header into at b c numbers field x h held e k small l =
     }
 
 -- without bits the words are whole
-pub close_whole : (w header : ℕ) (into : List ℕ) (at : ℕ) (b : Bits) (numbers : List ℕ) → Poured w header into at b numbers → b.count ≡ 0 → take at into ≡ header ∷ lowest_words ((length numbers * w + 63) / 64) (fields w numbers)
+pub close_whole : (w header : ℕ) (into : List ℕ) (at : ℕ) (b : Bits) (numbers : List ℕ) → Poured w header into at b numbers → b.count ≡ 0
+    → take at into ≡ header ∷ lowest_words ((length numbers * w + 63) / 64) (fields w numbers)
 close_whole w header into at b numbers h z =
     let words = h.words in
     let many : length numbers * w ≡ b.count + 64 * length words = h.many in
@@ -67,7 +70,8 @@ close_whole w header into at b numbers h z =
     h.written ∙ ap (λ zs. header ∷ zs) (sym (words_back words h.small) ∙ ap (λ k. lowest_words (length words) k) (sym e) ∙ ap (λ k. lowest_words k (fields w numbers)) (sym n))
 
 -- the bits are the last word
-pub close_bits : (w header : ℕ) (into : List ℕ) (at : ℕ) (b : Bits) (numbers : List ℕ) → Poured w header into at b numbers → 1 ≤ b.count → b.low < 2 ^ 64 → at < length into → take (at + 1) (set into at b.low) ≡ header ∷ lowest_words ((length numbers * w + 63) / 64) (fields w numbers)
+pub close_bits : (w header : ℕ) (into : List ℕ) (at : ℕ) (b : Bits) (numbers : List ℕ) → Poured w header into at b numbers → 1 ≤ b.count → b.low < 2 ^ 64 → at < length into
+    → take (at + 1) (set into at b.low) ≡ header ∷ lowest_words ((length numbers * w + 63) / 64) (fields w numbers)
 close_bits w header into at b numbers h z l i =
     let words = h.words in
     let all = words ++ b.low ∷ [] in

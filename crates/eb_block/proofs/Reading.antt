@@ -1,5 +1,6 @@
 -- Reading a packed list: the next posting, the next header, the next block.
-use Rattle.std.proofs.Common.{◌≡◌, ℕ, zero, suc, ◌+◌, ◌-◌, ◌*◌, ◌/◌, ◌%◌, ◌^◌, ◌<◌, ◌≤◌, ◌⊎◌, Bool, true, false, List, [], ◌∷◌, ◌++◌, take, drop, length, get_or, refl, ap, sym, ◌∙◌, subst, arith, inl, inr, if◌then◌else◌}
+use Rattle.std.proofs.Common.{◌≡◌, ℕ, zero, suc, ◌+◌, ◌-◌, ◌*◌, ◌/◌, ◌%◌, ◌^◌, ◌<◌, ◌≤◌, ◌⊎◌, Bool, true, false, List, [], ◌∷◌, ◌++◌, take, drop, length, get_or, refl, ap, sym, ◌∙◌, subst, arith, inl}
+use Rattle.std.proofs.Common.{inr, if◌then◌else◌}
 use Rattle.std.proofs.lemmas.Bool.{cases_lt, cases_Bool, lt-ltb, le-ltb, false≢true}
 use Rattle.std.proofs.lemmas.List.{append-nil, length-append, length-drop, length-take, drop_more, drop-drop, take-append-drop, drop_at}
 use Rattle.eb_place.specs.Packed.{differences, fields, block, blocks, packed_list}
@@ -148,7 +149,8 @@ module _ (W : List ℕ) (start : ℕ) where
             rest_is = λ z. r.are ∙ ap (λ (c : Bool). if c then (p.last ∷ (r.now ++ r.later)) else (r.now ++ r.later)) z ∙ ap (λ zs. zs ++ r.later) e;
           }
 
-  pub step_first : (p q : PackedList) (rest : List ℕ) (b field : ℕ) (r : ReadsWords W start p rest b) → (h : 1 ≤ p.inside) → p.held ≡ false → HasStepped p q → q.at ≡ p.at → IsHeld q.bits → IsField p.width p.bits.low field q.bits.low → q.bits.count + p.width ≡ p.bits.count
+  pub step_first : (p q : PackedList) (rest : List ℕ) (b field : ℕ) (r : ReadsWords W start p rest b) → (h : 1 ≤ p.inside) → p.held ≡ false → HasStepped p q → q.at ≡ p.at → IsHeld q.bits
+      → IsField p.width p.bits.low field q.bits.low → q.bits.count + p.width ≡ p.bits.count
       → q.last ≡ p.last - field → (field ≤ p.last) × (field < 2 ^ posting_bits) × ReadsWords W start q rest b
   step_first p q rest b field r h free s at held f e last =
       let a = ahead p rest b r h in
@@ -190,7 +192,8 @@ module _ (W : List ℕ) (start : ℕ) where
     pub inside : index < length W
     pub place : p.at ≡ start + index
     pub some : 1 ≤ b
-    pub gives : (q : PackedList) (field x : ℕ) → x ≡ get_or W index 0 → HasStepped p q → q.at ≡ p.at + 1 → IsHeld q.bits → IsField p.width (p.bits.low + 2 ^ p.bits.count * x) field q.bits.low → q.bits.count + p.width ≡ p.bits.count + 64
+    pub gives : (q : PackedList) (field x : ℕ) → x ≡ get_or W index 0 → HasStepped p q → q.at ≡ p.at + 1 → IsHeld q.bits → IsField p.width (p.bits.low + 2 ^ p.bits.count * x) field q.bits.low
+        → q.bits.count + p.width ≡ p.bits.count + 64
         → q.last ≡ p.last - field → (field ≤ p.last) × (field < 2 ^ posting_bits) × ReadsWords W start q rest (b - 1)
 
   pub step_over : (p : PackedList) (rest : List ℕ) (b : ℕ) (r : ReadsWords W start p rest b) → (h : 1 ≤ p.inside) → p.held ≡ false → p.bits.count < p.width → IsOver p rest b
@@ -209,7 +212,8 @@ module _ (W : List ℕ) (start : ℕ) where
         some = some;
         gives = λ q field x ex s at held f e last.
             (let g = subst (λ z. IsField p.width (p.bits.low + 2 ^ p.bits.count * z) field q.bits.low) (ex ∙ more.here) f in
-            let k = hold_over p.width p.bits q.bits m.0 m.1 (p.last - a.n) (differences (a.n ∷ a.ns)) field (subst (λ zs. HoldsFields p.width p.bits zs ((p.last - a.n) ∷ differences (a.n ∷ a.ns))) m.2 a.holds) held g e in
+            let k = hold_over p.width p.bits q.bits m.0 m.1 (p.last - a.n) (differences (a.n ∷ a.ns)) field
+            (subst (λ zs. HoldsFields p.width p.bits zs ((p.last - a.n) ∷ differences (a.n ∷ a.ns))) m.2 a.holds) held g e in
             let low = a.low in
             let is : q.last ≡ a.n = omega (arith, k.0) in
             let rest_is = a.rest_is free in
@@ -285,7 +289,7 @@ module _ (W : List ℕ) (start : ℕ) where
                 index = r.index;
                 at = r.at;
                 short = r.short;
-          words_are = r.words_are;
+                words_are = r.words_are;
                 next = r.next;
                 holds = r.holds;
                 narrow = r.narrow;
@@ -328,7 +332,11 @@ module _ (W : List ℕ) (start : ℕ) where
   front_of_rest : (p : PackedList) (rest : List ℕ) (b : ℕ) → (r : ReadsWords W start p rest b) → (front : List ℕ) × (rest ≡ front ++ r.later) × (p.held ≡ false → p.inside ≡ 0 → front ≡ [])
   front_of_rest p rest b r = elim (cases_Bool p.held) [
     | inl held ↦ (p.last ∷ r.now, r.are ∙ ap (λ (c : Bool). if c then (p.last ∷ (r.now ++ r.later)) else (r.now ++ r.later)) held, λ f z. absurd (false≢true (sym f ∙ held)))
-    | inr free ↦ (r.now, r.are ∙ ap (λ (c : Bool). if c then (p.last ∷ (r.now ++ r.later)) else (r.now ++ r.later)) free, λ f z. Rattle.std.proofs.lemmas.List.nil_from_length r.now (omega (arith, r.inside)))
+    | inr free ↦ (
+      r.now,
+      r.are ∙ ap (λ (c : Bool). if c then (p.last ∷ (r.now ++ r.later)) else (r.now ++ r.later)) free,
+      λ f z. Rattle.std.proofs.lemmas.List.nil_from_length r.now (omega (arith, r.inside)),
+    )
   ]
 
   pub can_enter : (p : PackedList) (rest : List ℕ) (b : ℕ) → ReadsWords W start p rest b → 1 ≤ p.header → CanEnter p rest b
@@ -350,10 +358,12 @@ module _ (W : List ℕ) (start : ℕ) where
           let hd : p.header ≡ header_in blk = w.1 ∙ ap (λ zs. get_or zs 0 0) pl in
           let ih : IsHeader p.header blk = subst (λ z. IsHeader z blk) (sym hd) (header_read blk pk) in
           let i = r.index + length r.body in
-          let d : drop i W ≡ header_in blk ∷ (body_in blk ++ packed_list back) = sym (drop-drop (length r.body) r.index W) ∙ ap (drop (length r.body)) r.words_are ∙ drop_at r.body PL (length r.body) refl ∙ pl in
+          let d : drop i W ≡ header_in blk ∷ (body_in blk ++ packed_list back) = sym (drop-drop (length r.body) r.index W) ∙ ap (drop (length r.body)) r.words_are
+          ∙ drop_at r.body PL (length r.body) refl ∙ pl in
           let nx = next_of W i (header_in blk) (body_in blk ++ packed_list back) d in
           let lb = length-lowest_words (((length blk - 1) * width_in blk + 63) / 64) (fields (width_in blk) (differences blk)) in
-          let n_is : ((p.header % 2 ^ 8 - 1) * (p.header / 2 ^ 8 % 2 ^ 8) + 63) / 64 ≡ length (body_in blk) = ap (λ z. ((z - 1) * (p.header / 2 ^ 8 % 2 ^ 8) + 63) / 64) ih.count ∙ ap (λ z. ((length blk - 1) * z + 63) / 64) ih.width ∙ sym lb in
+          let n_is : ((p.header % 2 ^ 8 - 1) * (p.header / 2 ^ 8 % 2 ^ 8) + 63) / 64 ≡ length (body_in blk) = ap (λ z. ((z - 1) * (p.header / 2 ^ 8 % 2 ^ 8) + 63) / 64) ih.count
+          ∙ ap (λ z. ((length blk - 1) * z + 63) / 64) ih.width ∙ sym lb in
           let ld = length-drop 127 xs in
           let lt = length-take 127 xs in
           let le = ap length e in
@@ -390,14 +400,17 @@ module _ (W : List ℕ) (start : ℕ) where
                 short = short_body;
                 words_are = nx.on;
                 next = s.next ∙ omega (arith, n_is, r.next);
-                holds = subst (λ z. HoldsFields z q.bits (body_in blk) (differences (q.last ∷ take 127 xs))) (sym (s.width ∙ ih.width)) (subst (λ z. HoldsFields (width_in blk) q.bits (body_in blk) (differences (z ∷ take 127 xs))) (sym (s.last ∙ ih.posting)) (body_holds blk q.bits pk s.held_bits s.low s.count));
+                holds = subst (λ z. HoldsFields z q.bits (body_in blk) (differences (q.last ∷ take 127 xs))) (sym (s.width
+                    ∙ ih.width)) (subst (λ z. HoldsFields (width_in blk) q.bits (body_in blk) (differences (z ∷ take 127 xs))) (sym (s.last
+                    ∙ ih.posting)) (body_holds blk q.bits pk s.held_bits s.low s.count));
                 narrow = subst (λ z. z ≤ posting_bits) (sym (s.width ∙ ih.width)) ih.narrow;
                 inside = s.inside ∙ omega (arith, ih.count);
                 left = s.left ∙ omega (arith, ih.count, r.left);
                 block = subst (λ z. IsFalling (z ∷ take 127 xs)) (sym (s.last ∙ ih.posting)) pk.falls;
                 falls = falls;
                 small = below_drop (2 ^ posting_bits) 127 xs small.1;
-                are = sym (ap (λ zs. x ∷ zs) (take-append-drop 127 xs)) ∙ ap (λ z. z ∷ (take 127 xs ++ back)) (sym (s.last ∙ ih.posting)) ∙ ap (λ (c : Bool). if c then (q.last ∷ (take 127 xs ++ back)) else (take 127 xs ++ back)) (sym s.held);
+                are = sym (ap (λ zs. x ∷ zs) (take-append-drop 127 xs)) ∙ ap (λ z. z ∷ (take 127 xs ++ back)) (sym (s.last ∙ ih.posting))
+                    ∙ ap (λ (c : Bool). if c then (q.last ∷ (take 127 xs ++ back)) else (take 127 xs ++ back)) (sym s.held);
                 header = inl s.header;
                 budget_is = omega (arith, ap loaded s.header);
               },
@@ -446,10 +459,12 @@ module _ (W : List ℕ) (start : ℕ) where
       f.1 ∙ ap (λ zs. zs ++ r.later) (f.2 h i) ∙ Rattle.std.proofs.lemmas.List.nil_from_length r.later (omega (arith, r.left))
 
   -- where the block is read to its end: what comes next
-  pub next_first : (p : PackedList) (rest : List ℕ) (b : ℕ) → ReadsWords W start p rest b → p.held ≡ false → p.inside ≡ 0 → (p.left ≡ 0 → rest ≡ []) × (1 ≤ p.header → (x : ℕ) × (xs : List ℕ) × (rest ≡ x ∷ xs) × (x ≡ p.header / 2 ^ 16))
+  pub next_first : (p : PackedList) (rest : List ℕ) (b : ℕ) → ReadsWords W start p rest b → p.held ≡ false → p.inside ≡ 0
+      → (p.left ≡ 0 → rest ≡ []) × (1 ≤ p.header → (x : ℕ) × (xs : List ℕ) × (rest ≡ x ∷ xs) × (x ≡ p.header / 2 ^ 16))
   next_first p rest b r free none = (nothing p rest b r free none, λ h. at r.later refl r.header h)
     where
-      at : (later : List ℕ) → r.later ≡ later → (p.header ≡ 0) ⊎ ((1 ≤ length r.later) × (p.header ≡ get_or (packed_list r.later) 0 0)) → 1 ≤ p.header → (x : ℕ) × (xs : List ℕ) × (rest ≡ x ∷ xs) × (x ≡ p.header / 2 ^ 16)
+      at : (later : List ℕ) → r.later ≡ later → (p.header ≡ 0) ⊎ ((1 ≤ length r.later) × (p.header ≡ get_or (packed_list r.later) 0 0)) → 1 ≤ p.header
+          → (x : ℕ) × (xs : List ℕ) × (rest ≡ x ∷ xs) × (x ≡ p.header / 2 ^ 16)
       at later e (inl z) h = absurd (omega arith)
       at [] e (inr w) h = absurd (omega (arith, w.0, ap length e))
       at (x ∷ xs) e (inr w) h =

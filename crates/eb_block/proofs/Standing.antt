@@ -1,5 +1,5 @@
 -- A packed list at a moment: what each load of it gives, also where words grew before it.
-use Rattle.std.proofs.Common.{◌≡◌, ℕ, ◌+◌, ◌-◌, ◌*◌, ◌/◌, ◌%◌, ◌^◌, ◌<◌, ◌≤◌, true, false, List, [], ◌∷◌, length, get_or, refl, ap, sym, ◌∙◌, subst, arith, bytes_eq, inl, inr, Some, None, Bool, if◌then◌else◌}
+use Rattle.std.proofs.Common.{◌≡◌, ℕ, ◌+◌, ◌-◌, ◌*◌, ◌/◌, ◌%◌, ◌^◌, ◌<◌, ◌≤◌, true, false, List, [], ◌∷◌, length, get_or, refl, ap, sym, ◌∙◌, subst, arith, inl, inr, Some, None, Bool, if◌then◌else◌}
 use Rattle.std.proofs.lemmas.Bool.{cases_Bool, lt-ltb, le-ltb}
 use Rattle.std.proofs.lemmas.List.{length-reverse}
 use Rattle.eb_base.specs.Term.{Term}
@@ -9,7 +9,7 @@ use Rattle.eb_place.specs.Layout.{place}
 use Rattle.eb_place.specs.Layout.Slot.{slot}
 use Rattle.eb_place.specs.Layout.Region.{directory_region, packed_region}
 use Rattle.eb_place.specs.Packed.{packed, differences}
-use Rattle.eb_place.specs.Postings.{frequency, postings, terms_of, count_of}
+use Rattle.eb_place.specs.Postings.{frequency, postings, terms_of}
 use Rattle.eb_place.specs.Moments.{word, IsMoment}
 use Rattle.eb_place.specs.Later.{IsNotBefore}
 use Rattle.eb_place.specs.Seen.{segment}
@@ -60,11 +60,23 @@ list_stands_later m n s t p rest b is l h =
     }
 
 -- the same place in its list, in another state
-stands_with : (m : Moment) (s : ℕ) (t : Term) (p q : PackedList) (rest after : List ℕ) (b c : ℕ) → (h : ListStands m s t p rest b) → q.segment ≡ p.segment → ReadsWords (packed t (segment m s)) (list_start (segment m s) h.number) q after c → ListStands m s t q after c
+stands_with : (m : Moment) (s : ℕ) (t : Term) (p q : PackedList) (rest after : List ℕ) (b c : ℕ) → (h : ListStands m s t p rest b) → q.segment ≡ p.segment
+    → ReadsWords (packed t (segment m s)) (list_start (segment m s) h.number) q after c → ListStands m s t q after c
 stands_with m s t p q rest after b c h e r = record { of_segment = e ∙ h.of_segment; converted = h.converted; number = h.number; is_term = h.is_term; reads = r }
 
-packed_of : (m : Moment) (s : ℕ) (t : Term) (p : PackedList) (rest : List ℕ) (b at i : ℕ) → (h : ListStands m s t p rest b) → i < length (packed t (segment m s)) → at ≡ list_start (segment m s) h.number + i → IsPackedAt m p.segment at (get_or (packed t (segment m s)) i 0)
-packed_of m s t p rest b at i h l e = subst (λ v. IsPackedAt m v at (get_or (packed t (segment m s)) i 0)) (sym h.of_segment) (record { converted = h.converted; term = t; number = h.number; is_term = h.is_term; index = i; inside = l; place = e; is = refl })
+packed_of : (m : Moment) (s : ℕ) (t : Term) (p : PackedList) (rest : List ℕ) (b at i : ℕ) → (h : ListStands m s t p rest b) → i < length (packed t (segment m s))
+    → at ≡ list_start (segment m s) h.number + i → IsPackedAt m p.segment at (get_or (packed t (segment m s)) i 0)
+packed_of m s t p rest b at i h l e = subst (λ v. IsPackedAt m v at (get_or (packed t (segment m s)) i 0)) (sym h.of_segment) (record {
+  converted = h.converted;
+  term = t;
+  number = h.number;
+  is_term =
+      h.is_term;
+  index = i;
+  inside = l;
+  place = e;
+  is = refl;
+})
 
 -- ---- the next header
 
@@ -82,7 +94,10 @@ next_header m s t p rest b is h z l =
       value = get_or W k.index 0;
       is_packed = packed_of m s t p rest b p.next k.index h k.inside k.place;
       some = k.some;
-      gives = λ n x later e. (let r = k.gives x e in (r.0, list_stands_later m n s t record p { header = x } rest (b - 1) is later (stands_with m s t p record p { header = x } rest rest b (b - 1) h refl r.1)));
+      gives = λ n x later e. (let r = k.gives x e in (
+        r.0,
+        list_stands_later m n s t record p { header = x } rest (b - 1) is later (stands_with m s t p record p { header = x } rest rest b (b - 1) h refl r.1),
+      ));
     }
 
 -- ---- the next word of the block
@@ -93,12 +108,14 @@ pub record IsNextWord (m : Moment) (s : ℕ) (t : Term) (p : PackedList) (rest :
   pub some : 1 ≤ b
   pub room : p.at + 1 < 2 ^ 32
   pub gives : (n : Moment) (q : PackedList) (field x : ℕ) → IsNotBefore n m → x ≡ value → q.segment ≡ p.segment → HasStepped (packed t (segment m s)) 0 p q → q.at ≡ p.at + 1 → IsHeld q.bits
-      → IsField p.width (p.bits.low + 2 ^ p.bits.count * x) field q.bits.low → q.bits.count + p.width ≡ p.bits.count + 64 → q.last ≡ p.last - field → (field ≤ p.last) × (field < 2 ^ posting_bits) × ListStands n s t q rest (b - 1)
+      → IsField p.width (p.bits.low + 2 ^ p.bits.count * x) field q.bits.low → q.bits.count + p.width ≡ p.bits.count + 64 → q.last ≡ p.last - field
+      → (field ≤ p.last) × (field < 2 ^ posting_bits) × ListStands n s t q rest (b - 1)
 
 restep : (W V : List ℕ) (a c : ℕ) (p q : PackedList) → HasStepped W a p q → HasStepped V c p q
 restep W V a c p q h = record { width = h.width; inside = h.inside; held = h.held; next = h.next; header = h.header; left = h.left }
 
-pub next_word : (m : Moment) (s : ℕ) (t : Term) (p : PackedList) (rest : List ℕ) (b : ℕ) → IsMoment m → ListStands m s t p rest b → 1 ≤ p.inside → p.held ≡ false → p.bits.count < p.width → IsNextWord m s t p rest b
+pub next_word : (m : Moment) (s : ℕ) (t : Term) (p : PackedList) (rest : List ℕ) (b : ℕ) → IsMoment m → ListStands m s t p rest b → 1 ≤ p.inside → p.held ≡ false → p.bits.count < p.width
+    → IsNextWord m s t p rest b
 next_word m s t p rest b is h i free few =
     let W = packed t (segment m s) in
     let S = list_start (segment m s) h.number in
@@ -116,7 +133,8 @@ next_word m s t p rest b is h i free few =
     }
 
 -- the difference in the bits
-pub next_bits : (m : Moment) (s : ℕ) (t : Term) (p q : PackedList) (rest : List ℕ) (b field : ℕ) → ListStands m s t p rest b → 1 ≤ p.inside → p.held ≡ false → q.segment ≡ p.segment → HasStepped (packed t (segment m s)) 0 p q → q.at ≡ p.at → IsHeld q.bits
+pub next_bits : (m : Moment) (s : ℕ) (t : Term) (p q : PackedList) (rest : List ℕ) (b field : ℕ) → ListStands m s t p rest b → 1 ≤ p.inside → p.held ≡ false → q.segment ≡ p.segment
+    → HasStepped (packed t (segment m s)) 0 p q → q.at ≡ p.at → IsHeld q.bits
     → IsField p.width p.bits.low field q.bits.low → q.bits.count + p.width ≡ p.bits.count → q.last ≡ p.last - field → (field ≤ p.last) × (field < 2 ^ posting_bits) × ListStands m s t q rest b
 next_bits m s t p q rest b field h i free g st at held f c last =
     let W = packed t (segment m s) in
@@ -145,7 +163,8 @@ pub record IsOpen (p : PackedList) (s word : ℕ) : Type 0 where
   pub header : p.header ≡ 0
   pub left : p.left ≡ word % 2 ^ 32
 
-pub start_small : (m : Moment) (s : ℕ) (t : Term) (k : ℕ) → IsMoment m → IsConverted m s → IsTerm m s t k → (list_start (segment m s) k + length (packed t (segment m s)) < 2 ^ 32) × (frequency t (segment m s) < 2 ^ 32)
+pub start_small : (m : Moment) (s : ℕ) (t : Term) (k : ℕ) → IsMoment m → IsConverted m s → IsTerm m s t k
+    → (list_start (segment m s) k + length (packed t (segment m s)) < 2 ^ 32) × (frequency t (segment m s) < 2 ^ 32)
 start_small m s t k is c h =
     let f = list_fits m s t k is c h in
     let terms = setting_terms m.setting is.setting in
@@ -155,7 +174,8 @@ start_small m s t k is c h =
     let cl = count_at_most t (terms_of (segment m s)) in
     (omega (arith, terms.1), omega (arith, terms.1))
 
-pub opens : (m : Moment) (s : ℕ) (t : Term) (k word' : ℕ) (p : PackedList) → IsMoment m → IsConverted m s → IsTerm m s t k → word' ≡ word m (place m.setting (slot s directory_region k)) → IsOpen p s word' → ListStands m s t p (newest_first m s t) (length (packed_words m s t))
+pub opens : (m : Moment) (s : ℕ) (t : Term) (k word' : ℕ) (p : PackedList) → IsMoment m → IsConverted m s → IsTerm m s t k → word' ≡ word m (place m.setting (slot s directory_region k))
+    → IsOpen p s word' → ListStands m s t p (newest_first m s t) (length (packed_words m s t))
 opens m s t k word' p is c h e o =
     let seg = segment m s in
     let W = packed t seg in
@@ -193,7 +213,8 @@ opens m s t k word' p is c h e o =
       };
     }
 
-pub stepped : (W : List ℕ) (a : ℕ) (p : PackedList) (at last : ℕ) (b : Rattle.eb_block.specs.declared.bits.Bits.Bits) → 1 ≤ p.inside → HasStepped W a p record p { at = at; bits = b; inside = p.inside - 1; last = last; held = true }
+pub stepped : (W : List ℕ) (a : ℕ) (p : PackedList) (at last : ℕ) (b : Rattle.eb_block.specs.declared.bits.Bits.Bits) → 1 ≤ p.inside
+    → HasStepped W a p record p { at = at; bits = b; inside = p.inside - 1; last = last; held = true }
 stepped W a p at last b h = record { width = refl; inside = omega arith; held = refl; next = refl; header = refl; left = refl }
 
 -- ---- what a call of `next` gives
@@ -205,19 +226,30 @@ gives_none m s t p (x ∷ xs) b h e = absurd cc
 pub gives_some : (m : Moment) (s : ℕ) (t : Term) (p : PackedList) (rest : List ℕ) (b : ℕ) → ListStands m s t p rest b → p.held ≡ true → ListGives m s t record p { held = false } rest b (Some p.last)
 gives_some m s t p rest b h held = at rest (given (packed t (segment m s)) (list_start (segment m s) h.number) p rest b h.reads held)
   where
-    at : (rest : List ℕ) → (after : List ℕ) × (rest ≡ p.last ∷ after) × ReadsWords (packed t (segment m s)) (list_start (segment m s) h.number) record p { held = false } after b → ListGives m s t record p { held = false } rest b (Some p.last)
+    at : (rest : List ℕ) → (after : List ℕ) × (rest ≡ p.last ∷ after) × ReadsWords (packed t (segment m s)) (list_start (segment m s) h.number) record p { held = false } after b
+        → ListGives m s t record p { held = false } rest b (Some p.last)
     at [] w = absurd cc
     at (x ∷ xs) w =
         let e : x ≡ p.last = cc in
-        let f : xs ≡ w.0 = cc in
-        (ap Some (sym e), record { of_segment = h.of_segment; converted = h.converted; number = h.number; is_term = h.is_term; reads = subst (λ zs. ReadsWords (packed t (segment m s)) (list_start (segment m s) h.number) record p { held = false } zs b) (sym f) w.2 })
+        let f : xs ≡ w.0 = cc in (
+          ap Some (sym e),
+          record {
+            of_segment = h.of_segment;
+            converted = h.converted;
+            number = h.number;
+            is_term = h.is_term;
+            reads =
+                subst (λ zs. ReadsWords (packed t (segment m s)) (list_start (segment m s) h.number) record p { held = false } zs b) (sym f) w.2;
+          },
+        )
 
 pub stands_nothing : (m : Moment) (s : ℕ) (t : Term) (p : PackedList) (rest : List ℕ) (b : ℕ) → ListStands m s t p rest b → p.held ≡ false → p.inside ≡ 0 → p.left ≡ 0 → rest ≡ []
 stands_nothing m s t p rest b h f i l = nothing (packed t (segment m s)) (list_start (segment m s) h.number) p rest b h.reads f i l
 
 -- ---- the next block
 
-pub stands_in : (m : Moment) (s : ℕ) (t : Term) (p q : PackedList) (rest : List ℕ) (b : ℕ) → (h : ListStands m s t p rest b) → 1 ≤ p.header → q.segment ≡ p.segment → IsIn (packed t (segment m s)) (list_start (segment m s) h.number) p q → (after : List ℕ) × (c : ℕ) × ListStands m s t q after c × (c ≤ b) × HasPassed p rest after
+pub stands_in : (m : Moment) (s : ℕ) (t : Term) (p q : PackedList) (rest : List ℕ) (b : ℕ) → (h : ListStands m s t p rest b) → 1 ≤ p.header → q.segment ≡ p.segment
+    → IsIn (packed t (segment m s)) (list_start (segment m s) h.number) p q → (after : List ℕ) × (c : ℕ) × ListStands m s t q after c × (c ≤ b) × HasPassed p rest after
 stands_in m s t p q rest b h l g i =
     let k = (can_enter (packed t (segment m s)) (list_start (segment m s) h.number) p rest b h.reads l).gives q i in
     (k.0, k.1, record { of_segment = g ∙ h.of_segment; converted = h.converted; number = h.number; is_term = h.is_term; reads = k.2 }, k.3, k.4)
@@ -225,12 +257,16 @@ stands_in m s t p q rest b h l g i =
 -- ---- passing over postings
 
 -- the held posting, if there is one, is above
-pub drop_held : (m : Moment) (s : ℕ) (t : Term) (p : PackedList) (rest : List ℕ) (b most : ℕ) → ListStands m s t p rest b → (p.held ≡ true → most < p.last) → (after : List ℕ) × ListStands m s t record p { held = false } after b × (up_to most after ≡ up_to most rest)
+pub drop_held : (m : Moment) (s : ℕ) (t : Term) (p : PackedList) (rest : List ℕ) (b most : ℕ) → ListStands m s t p rest b → (p.held ≡ true → most < p.last)
+    → (after : List ℕ) × ListStands m s t record p { held = false } after b × (up_to most after ≡ up_to most rest)
 drop_held m s t p rest b most h o = elim (cases_Bool p.held) [
   | inl held ↦
       let g = given (packed t (segment m s)) (list_start (segment m s) h.number) p rest b h.reads held in
-      let above : most < p.last = o held in
-      (g.0, stands_with m s t p record p { held = false } rest g.0 b b h refl g.2, sym (ap (up_to most) g.1 ∙ ap (λ (c : Bool). if c then up_to most g.0 else (p.last ∷ g.0)) (lt-ltb most p.last above)))
+      let above : most < p.last = o held in (
+        g.0,
+        stands_with m s t p record p { held = false } rest g.0 b b h refl g.2,
+        sym (ap (up_to most) g.1 ∙ ap (λ (c : Bool). if c then up_to most g.0 else (p.last ∷ g.0)) (lt-ltb most p.last above)),
+      )
   | inr free ↦ (rest, subst (λ (q : PackedList). ListStands m s t q rest b) (ap (λ (c : Bool). record p { held = c }) free) h, refl)
 ]
 
@@ -241,7 +277,8 @@ at_it m s t p rest b most h held l =
     ap (up_to most) g.1 ∙ ap (λ (c : Bool). if c then up_to most g.0 else (p.last ∷ g.0)) (le-ltb most p.last l) ∙ sym g.1
 
 -- nor where the block is read to its end and the next one begins below
-pub at_end : (m : Moment) (s : ℕ) (t : Term) (p q : PackedList) (rest : List ℕ) (b most : ℕ) → (h : ListStands m s t q rest b) → q.held ≡ false → q.inside ≡ 0 → q.left ≡ p.left → q.header ≡ p.header → (p.held ≡ true → most < p.last) → IsNear most p → up_to most rest ≡ rest
+pub at_end : (m : Moment) (s : ℕ) (t : Term) (p q : PackedList) (rest : List ℕ) (b most : ℕ) → (h : ListStands m s t q rest b) → q.held ≡ false → q.inside ≡ 0 → q.left ≡ p.left
+    → q.header ≡ p.header → (p.held ≡ true → most < p.last) → IsNear most p → up_to most rest ≡ rest
 at_end m s t p q rest b most h free none left header o near =
     let r = next_first (packed t (segment m s)) (list_start (segment m s) h.number) q rest b h.reads free none in
     at near r

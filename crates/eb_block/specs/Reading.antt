@@ -1,10 +1,9 @@
 -- What a packed list stands for, and how many loads are left to it.
-use Rattle.std.specs.Prelude.{◌≡◌, ℕ, ◌+◌, ◌<◌, ◌≤◌, ◌^◌, ◌/◌, ◌⊎◌, true, false, List, [], ◌∷◌, ◌++◌, length, drop, reverse, get_or, Option, Some, None, if◌then◌else◌, nat_lt}
+use Rattle.std.specs.Prelude.{◌≡◌, ℕ, ◌+◌, ◌<◌, ◌≤◌, ◌^◌, ◌/◌, ◌⊎◌, true, false, List, [], ◌∷◌, ◌++◌, length, drop, get_or, Option, Some, None, if◌then◌else◌, nat_lt}
 use Rattle.eb_base.specs.Term.{Term}
 use Rattle.eb_place.specs.declared.moment.Moment.{Moment}
 use Rattle.eb_place.specs.Packed.{differences, packed_list, packed}
 use Rattle.eb_place.specs.Seen.{segment}
-use Rattle.eb_place.specs.Postings.{postings}
 use Rattle.eb_place.specs.Walk.{IsTerm}
 use Rattle.eb_place.specs.Falling.{IsFalling, AllBelow}
 use Rattle.eb_block.specs.Fields.{HoldsFields}

@@ -7,8 +7,8 @@ ghost use Rattle.eb_place.specs.Walk.{IsTerm};
 ghost use Rattle.eb_place.specs.PackedLists.{IsConverted, newest_first, packed_words};
 ghost use Rattle.eb_block.specs.Reading.{ListStands, IsPackedAt, ListGives, HasPassed, IsNear, up_to, remaining, seek_loads};
 
-use crate::bits::Bits;
 use crate::Posting;
+use crate::bits::Bits;
 use crate::blocks::{count_in, posting_in, width_in};
 use eb_place::{Places, Port, Steps};
 use std::sync::ledger::Ledger;
@@ -68,7 +68,11 @@ impl PackedList {
     /// The newest posting that wasn't given yet; `None` exactly after the oldest. The port's moment isn't
     /// before that of the opening. One load at most, and all calls of `next` and `seek` on one list load
     /// together at most as many words as the packed list has. Takes no memory.
-    pub fn next<P: Port, L: Ledger>(&mut self, port: &mut P, steps: &mut Steps<L>) -> Option<Posting>
+    pub fn next<P: Port, L: Ledger>(
+        &mut self,
+        port: &mut P,
+        steps: &mut Steps<L>,
+    ) -> Option<Posting>
         requires { (m : Moment) × (s : ℕ) × (t : Term) × (rest : List ℕ) × (budget : ℕ)
             × P.stands port.old m × ListStands m s t self.old rest budget }
         ensures told { (m : Moment) (s : ℕ) (t : Term) (rest : List ℕ) (budget : ℕ)
@@ -117,7 +121,12 @@ impl PackedList {
     }
 
     // Passes over the postings of the block that are above.
-    fn seek_posting<P: Port, L: Ledger>(&mut self, port: &mut P, most: Posting, steps: &mut Steps<L>)
+    fn seek_posting<P: Port, L: Ledger>(
+        &mut self,
+        port: &mut P,
+        most: Posting,
+        steps: &mut Steps<L>,
+    )
         requires reads { (m : Moment) × (s : ℕ) × (t : Term) × (rest : List ℕ) × (budget : ℕ)
             × P.stands port.old m × ListStands m s t self.old rest budget }
         requires near { IsNear most self.old }

@@ -42,7 +42,8 @@ pour-spot-requires-clause-at c =
     let few = c.requires.few in
     let w = is_width xs c.requires.small in
     let narrow : c.width_of-width.result ≤ posting_bits = subst (λ k. k ≤ posting_bits) (sym c.width_of-width.ensures) w.few in
-    at_below c.width_of-width.result (get_or xs 0 0 * 2 ^ 16 + c.width_of-width.result * 2 ^ 8 + length xs) c.loop-i.into c.loop-i.spot.at c.loop-i.spot.bits (take (i - 1) (differences xs)) c.loop-i.invariant narrow
+    at_below c.width_of-width.result (get_or xs 0 0 * 2 ^ 16 + c.width_of-width.result * 2 ^ 8 + length xs) c.loop-i.into c.loop-i.spot.at c.loop-i.spot.bits (take (i - 1) (differences xs))
+    c.loop-i.invariant narrow
     (omega (arith, length-take (i - 1) (differences xs), c.loop-i-test.true))
 
 pub loop-i-preserved : goal.loop-i-preserved
@@ -65,7 +66,8 @@ close-requires c =
     let a = all_before xs i c.loop-i-test.false in
     let few' : length (take (i - 1) (differences xs)) ≤ 127 = omega (arith, ap length a, length-differences xs) in
     record {
-      at = at_below c.width_of-width.result (get_or xs 0 0 * 2 ^ 16 + c.width_of-width.result * 2 ^ 8 + length xs) c.loop-i.into c.loop-i.spot.at c.loop-i.spot.bits (take (i - 1) (differences xs)) c.loop-i.invariant narrow few';
+      at = at_below c.width_of-width.result (get_or xs 0 0 * 2 ^ 16 + c.width_of-width.result * 2 ^ 8 + length xs) c.loop-i.into c.loop-i.spot.at c.loop-i.spot.bits (take (i - 1) (differences xs))
+          c.loop-i.invariant narrow few';
     }
 
 block_at : (c : After-close) → take c.close.result c.close.new.into ≡ block c.args.postings.now

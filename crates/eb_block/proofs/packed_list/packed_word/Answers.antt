@@ -24,5 +24,6 @@ returns-clause-told g c m v st h =
     let is = g.met.P.Port.lawful c.args.port.now m st in
     let js = g.met.P.Port.lawful c.load.new.self n.0 n.1 in
     let k = packed_later m n.0 c.args.segment c.args.at v is n.2 h in
-    let e : c.packed.result ≡ place n.0.setting (slot c.args.segment packed_region c.args.at) = c.packed.ensures.place ∙ ap (λ (σ : Setting). place σ (slot c.args.segment packed_region c.args.at)) (c.new-places.ensures ∙ c.config.ensures m st ∙ n.2.setting) in
+    let e : c.packed.result ≡ place n.0.setting (slot c.args.segment packed_region c.args.at) = c.packed.ensures.place
+    ∙ ap (λ (σ : Setting). place σ (slot c.args.segment packed_region c.args.at)) (c.new-places.ensures ∙ c.config.ensures m st ∙ n.2.setting) in
     (n.0, n.1, n.2, n.3, n.4 ∙ ap (word n.0) e ∙ packed_value n.0 c.args.segment c.args.at v js k)

@@ -7,7 +7,8 @@ use Rattle.eb_block.proofs.Standing.{stands_in}
 use Rattle.eb_block.proofs.packed_list.PackedList.enter.Goals.{After-width_in-width}
 use Rattle.eb_block.proofs.packed_list.PackedList.enter.Goals as goal
 
-can : (c : After-width_in-width) → CanEnter (packed c.requires.reads.2 (segment c.requires.reads.0 c.requires.reads.1)) (list_start (segment c.requires.reads.0 c.requires.reads.1) c.requires.reads.5.number) c.args.self.now c.requires.reads.3 c.requires.reads.4
+can : (c : After-width_in-width) → CanEnter (packed c.requires.reads.2 (segment c.requires.reads.0 c.requires.reads.1))
+    (list_start (segment c.requires.reads.0 c.requires.reads.1) c.requires.reads.5.number) c.args.self.now c.requires.reads.3 c.requires.reads.4
 can c =
     let r = c.requires.reads in
     can_enter (packed r.2 (segment r.0 r.1)) (list_start (segment r.0 r.1) r.5.number) c.args.self.now r.3 r.4 r.5.reads c.requires.loaded

@@ -23,7 +23,8 @@ returns-clause-told g c m t st k l =
     let n = c.load-word.ensures.told m st in
     let js = g.met.P.Port.lawful c.load-word.new.self n.0 n.1 in
     let h = later_term m n.0 c.args.segment t c.args.term n.2 l in
-    let e : c.directory.result ≡ place n.0.setting (slot c.args.segment directory_region c.args.term) = c.directory.ensures.place ∙ ap (λ (σ : Setting). place σ (slot c.args.segment directory_region c.args.term)) (c.new-places.ensures ∙ c.config.ensures m st ∙ n.2.setting) in (
+    let e : c.directory.result ≡ place n.0.setting (slot c.args.segment directory_region c.args.term) = c.directory.ensures.place
+    ∙ ap (λ (σ : Setting). place σ (slot c.args.segment directory_region c.args.term)) (c.new-places.ensures ∙ c.config.ensures m st ∙ n.2.setting) in (
       n.0,
       n.1,
       n.2,

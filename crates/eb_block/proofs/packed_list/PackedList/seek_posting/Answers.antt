@@ -32,6 +32,13 @@ returns g c = record {
   told = λ m s t rest b st h.
       (let n = c.postings.invariant.4 m s t rest b st h in
       let k = c.pass_one.ensures.told n.0 s t n.1 n.2 n.3 n.6 in
-      let done = k.9 c.postings-test.false c.postings.invariant.0 in
-      (k.0, k.2, k.3, later_on m n.0 k.0 n.4 k.4, g.met.P.Port.keeps_on c.args.port.now c.postings.port c.pass_one.new.port m n.0 k.0 n.5 k.5, subst (λ zs. ListStands k.0 s t c.pass_one.new.self zs k.2) (sym done ∙ k.8 ∙ n.8) k.6, omega (arith, n.7, k.7)));
+      let done = k.9 c.postings-test.false c.postings.invariant.0 in (
+        k.0,
+        k.2,
+        k.3,
+        later_on m n.0 k.0 n.4 k.4,
+        g.met.P.Port.keeps_on c.args.port.now c.postings.port c.pass_one.new.port m n.0 k.0 n.5 k.5,
+        subst (λ zs. ListStands k.0 s t c.pass_one.new.self zs k.2) (sym done ∙ k.8 ∙ n.8) k.6,
+        omega (arith, n.7, k.7),
+      ));
 }

@@ -1,4 +1,4 @@
-use Rattle.std.proofs.Common.{◌≡◌, ◌≤◌, ◌+◌, ◌*◌, ℕ, List}
+use Rattle.std.proofs.Common.{◌≡◌, ◌≤◌, ◌+◌, ℕ, List}
 use Rattle.eb_base.specs.Term.{Term}
 use Rattle.eb_place.specs.declared.moment.Moment.{Moment}
 use Rattle.eb_place.specs.Later.{IsNotBefore}
