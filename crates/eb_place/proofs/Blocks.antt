@@ -4,7 +4,7 @@ use Rattle.std.proofs.lemmas.List.{length-append, length-drop, length-take}
 use Rattle.std.proofs.lemmas.Nat.{pow-add, mul-le, mod-pow-add}
 use Rattle.eb_place.specs.Packed.{differences, width_of, fields, lowest_words, block_of, block, blocks}
 
-length-lowest_words : (n x : ℕ) → length (lowest_words n x) ≡ n
+pub length-lowest_words : (n x : ℕ) → length (lowest_words n x) ≡ n
 length-lowest_words zero x = refl
 length-lowest_words (suc n) x = ap suc (length-lowest_words n (x / 2 ^ 64))
 

@@ -1,0 +1,40 @@
+-- How many words the calls of a packed list load.
+use Rattle.std.proofs.Common.{◌≡◌, ℕ, ◌+◌, ◌-◌, ◌*◌, ◌<◌, ◌≤◌, Bool, true, false, List, ◌∷◌, ◌++◌, length, ap, ◌∙◌, arith, inl, inr, if◌then◌else◌}
+use Rattle.std.proofs.lemmas.Bool.{cases_Bool}
+use Rattle.std.proofs.lemmas.List.{length-append}
+use Rattle.eb_base.specs.Term.{Term}
+use Rattle.eb_place.specs.declared.moment.Moment.{Moment}
+use Rattle.eb_place.specs.Packed.{packed}
+use Rattle.eb_place.specs.PackedLists.{list_start}
+use Rattle.eb_place.specs.Seen.{segment}
+use Rattle.eb_block.specs.Blocks.{most_words}
+use Rattle.eb_block.specs.Reading.{ReadsWords, ListStands, remaining, seek_loads, up_to}
+use Rattle.eb_block.specs.declared.packed_list.PackedList.{PackedList}
+
+-- the list's own numbers count what it has still to give
+pub count_left : (W : List ℕ) (start : ℕ) (p : PackedList) (rest : List ℕ) (b : ℕ) → ReadsWords W start p rest b → length rest ≡ remaining p
+count_left W start p rest b r = elim (cases_Bool p.held) [
+  | inl held ↦ rw held (omega (arith, ap length (at held), length-append r.now r.later, r.inside, r.left))
+  | inr free ↦ rw free (omega (arith, ap length (off free), length-append r.now r.later, r.inside, r.left))
+]
+  where
+    at : p.held ≡ true → rest ≡ p.last ∷ (r.now ++ r.later)
+    at held = r.are ∙ ap (λ (c : Bool). if c then (p.last ∷ (r.now ++ r.later)) else (r.now ++ r.later)) held
+
+    off : p.held ≡ false → rest ≡ r.now ++ r.later
+    off free = r.are ∙ ap (λ (c : Bool). if c then (p.last ∷ (r.now ++ r.later)) else (r.now ++ r.later)) free
+
+-- the words of the block that aren't loaded yet
+pub gap : (W : List ℕ) (start : ℕ) (p : PackedList) (rest : List ℕ) (b : ℕ) → ReadsWords W start p rest b → (p.at ≤ p.next) × (p.next < p.at + most_words)
+gap W start p rest b r = (omega (arith, r.at, r.next), omega (arith, r.at, r.next, r.short))
+
+pub seek_few : (m n k : Moment) (s : ℕ) (t : Term) (p q r : PackedList) (rest after : List ℕ) (most b c d i j e : ℕ)
+    → ListStands m s t p rest b → ListStands n s t q after c → ListStands k s t r (up_to most rest) d
+    → 128 * j + remaining q ≤ 128 * i + remaining p + 256 → r.next ≡ q.next → e + q.at ≡ j + r.at → remaining r ≤ remaining q
+    → e ≤ i + seek_loads (length rest - length (up_to most rest))
+seek_few m n k s t p q r rest after most b c d i j e hp hq hr blocks next words fewer =
+    let cp = count_left (packed t (segment m s)) (list_start (segment m s) hp.number) p rest b hp.reads in
+    let cr = count_left (packed t (segment k s)) (list_start (segment k s) hr.number) r (up_to most rest) d hr.reads in
+    let gq = gap (packed t (segment n s)) (list_start (segment n s) hq.number) q after c hq.reads in
+    let gr = gap (packed t (segment k s)) (list_start (segment k s) hr.number) r (up_to most rest) d hr.reads in
+    omega (arith, cp, cr, gq, gr)

@@ -1,0 +1,43 @@
+use Rattle.std.proofs.Common.{◌≡◌, ◌≤◌, ◌<◌, true, refl, subst, arith, inr}
+use Rattle.std.specs.Bool.{MatchBool}
+use Rattle.eb_place.specs.Packed.{packed}
+use Rattle.eb_place.specs.Seen.{segment}
+use Rattle.eb_place.proofs.Laters.{later_self}
+use Rattle.eb_place.specs.PackedLists.{list_start}
+use Rattle.eb_block.proofs.Reading.{can_enter}
+use Rattle.eb_block.proofs.packed_list.PackedList.pass_block.Goals as goal
+
+pub returns-then-self-eq0-clause-told : goal.returns-then-self-eq0-clause-told
+returns-then-self-eq0-clause-told g c m s t rest b st h = (m, rest, b, st, later_self m, g.met.P.Port.keeps_itself c.args.port.now m st, h, omega arith, refl)
+
+pub returns-then-is_at-clause-near : goal.returns-then-is_at-clause-near
+returns-then-is_at-clause-near g c z =
+    let p = c.args.self.now in
+    inr (inr (subst (λ z. MatchBool z ((p.held ≡ true) × (p.last ≤ c.args.most)) (p.held ≡ true → c.args.most < p.last)) c.if-is_at.true c.is_at.ensures))
+
+pub returns-then-is_at-clause-told : goal.returns-then-is_at-clause-told
+returns-then-is_at-clause-told g c m s t rest b st h = (m, rest, b, st, later_self m, g.met.P.Port.keeps_itself c.args.port.now m st, h, omega arith, refl)
+
+pub posting_in-requires : goal.posting_in-requires
+posting_in-requires g c =
+    let r = c.requires in
+    let n = c.peek.ensures.told r.0 r.1 r.2 r.3 r.4 r.5 r.6 in
+    (can_enter (packed r.2 (segment n.0 r.1)) (list_start (segment n.0 r.1) n.5.number) c.peek.new.self r.3 n.1 n.5.reads c.peek.ensures.loaded).small
+
+pub returns-then-posting_in-most-clause-told : goal.returns-then-posting_in-most-clause-told
+returns-then-posting_in-most-clause-told g c m s t rest b st h =
+    let n = c.peek.ensures.told m s t rest b st h in
+    (n.0, rest, n.1, n.2, n.3, n.4, n.5, omega (arith, n.6), refl)
+
+pub enter-requires-clause-reads : goal.enter-requires-clause-reads
+enter-requires-clause-reads g c =
+    let r = c.requires in
+    let n = c.peek.ensures.told r.0 r.1 r.2 r.3 r.4 r.5 r.6 in
+    (n.0, r.1, r.2, r.3, n.1, n.5)
+
+pub returns-clause-told : goal.returns-clause-told
+returns-clause-told g c m s t rest b st h =
+    let n = c.peek.ensures.told m s t rest b st h in
+    let k = c.enter.ensures.told n.0 s t rest n.1 n.5 in
+    let low : k.1 ≤ n.1 = k.3 in
+    (n.0, k.0, k.1, n.2, n.3, n.4, k.2, omega (arith, n.6, low), k.4.skips c.args.most (omega (arith, c.posting_in.ensures, c.if-posting_in-most.false)))

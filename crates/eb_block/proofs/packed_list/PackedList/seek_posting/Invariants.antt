@@ -1,0 +1,17 @@
+use Rattle.std.proofs.Common.{◌≡◌, ◌≤◌, ◌+◌, ℕ, List}
+use Rattle.eb_base.specs.Term.{Term}
+use Rattle.eb_place.specs.declared.moment.Moment.{Moment}
+use Rattle.eb_place.specs.Later.{IsNotBefore}
+use Rattle.eb_block.specs.Reading.{ListStands, remaining, up_to, IsNear}
+use Rattle.eb_block.proofs.packed_list.PackedList.seek_posting.Given as goal
+
+abbrev pub invariant-postings : goal.invariant-postings
+invariant-postings g l =
+    IsNear l.most l.self
+    × (l.self.next ≡ l.fn.self.next) × (l.steps + l.fn.self.at ≡ l.fn.steps + l.self.at) × (remaining l.self ≤ remaining l.fn.self)
+    × ((m : Moment) (s : ℕ) (t : Term) (rest : List ℕ) (budget : ℕ) → g.P.Port.stands l.fn.port m → ListStands m s t l.fn.self rest budget
+    → (n : Moment) × (after : List ℕ) × (b : ℕ) × g.P.Port.stands l.port n × IsNotBefore n m × g.P.Port.keeps l.fn.port m l.port n
+    × ListStands n s t l.self after b × (l.steps + b ≤ l.fn.steps + budget) × (up_to l.most after ≡ up_to l.most rest))
+
+abbrev pub decreases-postings : goal.decreases-postings
+decreases-postings g l = l.self.inside

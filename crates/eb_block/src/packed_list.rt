@@ -1,0 +1,329 @@
+ghost use Rattle.std.specs.Prelude.{◌≡◌, ◌≢◌, ℕ, List, [], ◌∷◌, ◌+◌, ◌-◌, ◌*◌, ◌≤◌, ◌<◌, ◌/◌, ◌^◌, length, reverse, true, false};
+ghost use Rattle.std.specs.Bool.{MatchBool};
+ghost use Rattle.eb_base.specs.Term.{Term};
+ghost use Rattle.eb_place.specs.declared.moment.Moment.{Moment};
+ghost use Rattle.eb_place.specs.Later.{IsNotBefore};
+ghost use Rattle.eb_place.specs.Walk.{IsTerm};
+ghost use Rattle.eb_place.specs.PackedLists.{IsConverted, newest_first, packed_words};
+ghost use Rattle.eb_block.specs.Reading.{ListStands, IsPackedAt, ListGives, HasPassed, IsNear, up_to, remaining, seek_loads};
+
+use crate::Posting;
+use crate::bits::Bits;
+use crate::blocks::{count_in, posting_in, width_in};
+use eb_place::{Places, Port, Steps};
+use std::sync::ledger::Ledger;
+
+/// The postings of one term of a converted segment, newest first, read from its packed blocks. Each packed
+/// word is loaded once at most.
+#[derive(Clone, Copy, Debug, PartialEq, Eq)]
+pub struct PackedList {
+    segment: u32,
+    // Of the block that is read: the next word to be loaded, the bits and the width of its fields, how many
+    // differences are left, and the last posting that was read; `held` where it is still to be given.
+    at: u32,
+    bits: Bits,
+    width: u32,
+    inside: u32,
+    last: Posting,
+    held: bool,
+    // Of the blocks after it: the word where they begin, the header there if it is loaded, else 0, and how
+    // many postings they have.
+    next: u32,
+    header: u64,
+    left: u32,
+}
+
+impl PackedList {
+    /// Opens the packed list of a term, by the term's number in the segment, which is converted. One load,
+    /// that of the directory word. Takes no memory.
+    pub fn open<P: Port, L: Ledger>(
+        port: &mut P,
+        segment: u32,
+        term: u32,
+        steps: &mut Steps<L>,
+    ) -> PackedList
+        requires { (m : Moment) × (t : Term) × P.stands port.old m × IsConverted m segment × IsTerm m segment t term }
+        ensures told { (m : Moment) (t : Term) → P.stands port.old m → IsConverted m segment → IsTerm m segment t term
+            → (n : Moment) × P.stands port.new n × IsNotBefore n m × P.keeps port.old m port.new n
+            × ListStands n segment t result (newest_first n segment t) (length (packed_words n segment t)) }
+        ensures steps { steps.new ≡ steps.old + 1 }
+    {
+        let places = Places::new(port.config());
+        let word = port.load(places.directory(segment, term), steps);
+        let start = (word >> 32) as u32;
+        PackedList {
+            segment,
+            at: start,
+            bits: Bits::none(),
+            width: 0,
+            inside: 0,
+            last: 0,
+            held: false,
+            next: start,
+            header: 0,
+            left: (word % (1 << 32)) as u32,
+        }
+    }
+
+    /// The newest posting that wasn't given yet; `None` exactly after the oldest. The port's moment isn't
+    /// before that of the opening. One load at most, and all calls of `next` and `seek` on one list load
+    /// together at most as many words as the packed list has. Takes no memory.
+    pub fn next<P: Port, L: Ledger>(
+        &mut self,
+        port: &mut P,
+        steps: &mut Steps<L>,
+    ) -> Option<Posting>
+        requires { (m : Moment) × (s : ℕ) × (t : Term) × (rest : List ℕ) × (budget : ℕ)
+            × P.stands port.old m × ListStands m s t self.old rest budget }
+        ensures told { (m : Moment) (s : ℕ) (t : Term) (rest : List ℕ) (budget : ℕ)
+            → P.stands port.old m → ListStands m s t self.old rest budget
+            → (n : Moment) × (b : ℕ) × P.stands port.new n × IsNotBefore n m × P.keeps port.old m port.new n
+            × ListGives n s t self.new rest b result × (steps.new + b ≤ steps.old + budget) }
+        ensures one { steps.new ≤ steps.old + 1 }
+    {
+        if !self.hold(port, steps) {
+            return None;
+        }
+        self.held = false;
+        Some(self.last)
+    }
+
+    /// Passes over exactly the postings above `most` that weren't given yet: whole blocks by their headers
+    /// alone, so that it loads one word for each 128 postings that it passes over and at most 66 more. The
+    /// port's moment isn't before that of the opening. Takes no memory.
+    pub fn seek<P: Port, L: Ledger>(&mut self, port: &mut P, most: Posting, steps: &mut Steps<L>)
+        requires { (m : Moment) × (s : ℕ) × (t : Term) × (rest : List ℕ) × (budget : ℕ)
+            × P.stands port.old m × ListStands m s t self.old rest budget }
+        ensures told { (m : Moment) (s : ℕ) (t : Term) (rest : List ℕ) (budget : ℕ)
+            → P.stands port.old m → ListStands m s t self.old rest budget
+            → (n : Moment) × (b : ℕ) × P.stands port.new n × IsNotBefore n m × P.keeps port.old m port.new n
+            × ListStands n s t self.new (up_to most rest) b × (steps.new + b ≤ steps.old + budget) }
+        ensures loads { (m : Moment) (s : ℕ) (t : Term) (rest : List ℕ) (budget : ℕ)
+            → P.stands port.old m → ListStands m s t self.old rest budget
+            → steps.new ≤ steps.old + seek_loads (length rest - length (up_to most rest)) }
+    {
+        self.seek_block(port, most, steps);
+        self.seek_posting(port, most, steps);
+    }
+
+    // Passes over the blocks that are all above.
+    fn seek_block<P: Port, L: Ledger>(&mut self, port: &mut P, most: Posting, steps: &mut Steps<L>)
+        requires { (m : Moment) × (s : ℕ) × (t : Term) × (rest : List ℕ) × (budget : ℕ)
+            × P.stands port.old m × ListStands m s t self.old rest budget }
+        ensures near { IsNear most self.new }
+        ensures loads { 128 * steps.new + remaining self.new ≤ 128 * steps.old + remaining self.old + 256 }
+        ensures told { (m : Moment) (s : ℕ) (t : Term) (rest : List ℕ) (budget : ℕ)
+            → P.stands port.old m → ListStands m s t self.old rest budget
+            → (n : Moment) × (after : List ℕ) × (b : ℕ) × P.stands port.new n × IsNotBefore n m × P.keeps port.old m port.new n
+            × ListStands n s t self.new after b × (steps.new + b ≤ steps.old + budget) × (up_to most after ≡ up_to most rest) }
+    {
+        'whole: while self.pass_block(port, most, steps) {}
+    }
+
+    // Passes over the postings of the block that are above.
+    fn seek_posting<P: Port, L: Ledger>(
+        &mut self,
+        port: &mut P,
+        most: Posting,
+        steps: &mut Steps<L>,
+    )
+        requires reads { (m : Moment) × (s : ℕ) × (t : Term) × (rest : List ℕ) × (budget : ℕ)
+            × P.stands port.old m × ListStands m s t self.old rest budget }
+        requires near { IsNear most self.old }
+        ensures next { self.new.next ≡ self.old.next }
+        ensures loads { steps.new + self.old.at ≡ steps.old + self.new.at }
+        ensures fewer { remaining self.new ≤ remaining self.old }
+        ensures told { (m : Moment) (s : ℕ) (t : Term) (rest : List ℕ) (budget : ℕ)
+            → P.stands port.old m → ListStands m s t self.old rest budget
+            → (n : Moment) × (b : ℕ) × P.stands port.new n × IsNotBefore n m × P.keeps port.old m port.new n
+            × ListStands n s t self.new (up_to most rest) b × (steps.new + b ≤ steps.old + budget) }
+    {
+        'postings: while self.pass_one(port, most, steps) {}
+    }
+
+    // Whether a posting is held that isn't above.
+    fn is_at(&self, most: Posting) -> bool
+        ensures { MatchBool result ((self.now.held ≡ true) × (self.now.last ≤ most)) (self.now.held ≡ true → most < self.now.last) }
+    {
+        self.held && self.last <= most
+    }
+
+    // Goes to the next block, where all before it is above.
+    fn pass_block<P: Port, L: Ledger>(
+        &mut self,
+        port: &mut P,
+        most: Posting,
+        steps: &mut Steps<L>,
+    ) -> bool
+        requires { (m : Moment) × (s : ℕ) × (t : Term) × (rest : List ℕ) × (budget : ℕ)
+            × P.stands port.old m × ListStands m s t self.old rest budget }
+        ensures near { result ≡ false → IsNear most self.new }
+        ensures less { result ≡ true → self.new.left < self.old.left }
+        ensures one { steps.new ≤ steps.old + 1 }
+        ensures stays { result ≡ false → remaining self.new ≡ remaining self.old }
+        ensures enters { result ≡ true → remaining self.new ≡ self.old.left }
+        ensures full { result ≡ true → 1 ≤ self.new.left → self.new.left + 128 ≡ self.old.left }
+        ensures told { (m : Moment) (s : ℕ) (t : Term) (rest : List ℕ) (budget : ℕ)
+            → P.stands port.old m → ListStands m s t self.old rest budget
+            → (n : Moment) × (after : List ℕ) × (b : ℕ) × P.stands port.new n × IsNotBefore n m × P.keeps port.old m port.new n
+            × ListStands n s t self.new after b × (steps.new + b ≤ steps.old + budget) × (up_to most after ≡ up_to most rest) }
+    {
+        if self.left == 0 {
+            return false;
+        }
+        if self.is_at(most) {
+            return false;
+        }
+        self.peek(port, steps);
+        if posting_in(self.header) < most {
+            return false;
+        }
+        self.enter();
+        true
+    }
+
+    // Passes over one posting of the block, where it is above.
+    fn pass_one<P: Port, L: Ledger>(
+        &mut self,
+        port: &mut P,
+        most: Posting,
+        steps: &mut Steps<L>,
+    ) -> bool
+        requires { (m : Moment) × (s : ℕ) × (t : Term) × (rest : List ℕ) × (budget : ℕ)
+            × P.stands port.old m × ListStands m s t self.old rest budget }
+        ensures near { result ≡ true → IsNear most self.old → IsNear most self.new }
+        ensures next { self.new.next ≡ self.old.next }
+        ensures loads { steps.new + self.old.at ≡ steps.old + self.new.at }
+        ensures fewer { remaining self.new ≤ remaining self.old }
+        ensures less { result ≡ true → self.new.inside < self.old.inside }
+        ensures told { (m : Moment) (s : ℕ) (t : Term) (rest : List ℕ) (budget : ℕ)
+            → P.stands port.old m → ListStands m s t self.old rest budget
+            → (n : Moment) × (after : List ℕ) × (b : ℕ) × P.stands port.new n × IsNotBefore n m × P.keeps port.old m port.new n
+            × ListStands n s t self.new after b × (steps.new + b ≤ steps.old + budget) × (up_to most after ≡ up_to most rest)
+            × (result ≡ false → IsNear most self.old → up_to most after ≡ after) }
+    {
+        if self.is_at(most) {
+            return false;
+        }
+        self.held = false;
+        if self.inside == 0 {
+            return false;
+        }
+        self.step(port, steps);
+        true
+    }
+
+    // Reads the next posting, where none is held and one is left.
+    fn hold<P: Port, L: Ledger>(&mut self, port: &mut P, steps: &mut Steps<L>) -> bool
+        requires { (m : Moment) × (s : ℕ) × (t : Term) × (rest : List ℕ) × (budget : ℕ)
+            × P.stands port.old m × ListStands m s t self.old rest budget }
+        ensures one { steps.new ≤ steps.old + 1 }
+        ensures told { (m : Moment) (s : ℕ) (t : Term) (rest : List ℕ) (budget : ℕ)
+            → P.stands port.old m → ListStands m s t self.old rest budget
+            → (n : Moment) × (b : ℕ) × P.stands port.new n × IsNotBefore n m × P.keeps port.old m port.new n
+            × ListStands n s t self.new rest b × (steps.new + b ≤ steps.old + budget)
+            × MatchBool result (self.new.held ≡ true) (rest ≡ []) }
+    {
+        if self.held {
+            return true;
+        }
+        if self.inside > 0 {
+            self.step(port, steps);
+            return true;
+        }
+        if self.left == 0 {
+            return false;
+        }
+        self.peek(port, steps);
+        self.enter();
+        true
+    }
+
+    // Reads the next posting of the block, where none is held.
+    fn step<P: Port, L: Ledger>(&mut self, port: &mut P, steps: &mut Steps<L>)
+        requires reads { (m : Moment) × (s : ℕ) × (t : Term) × (rest : List ℕ) × (budget : ℕ)
+            × P.stands port.old m × ListStands m s t self.old rest budget }
+        requires inside { 1 ≤ self.old.inside }
+        requires free { self.old.held ≡ false }
+        ensures held { self.new.held ≡ true }
+        ensures left { self.new.left ≡ self.old.left }
+        ensures header { self.new.header ≡ self.old.header }
+        ensures less { self.new.inside + 1 ≡ self.old.inside }
+        ensures next { self.new.next ≡ self.old.next }
+        ensures loads { steps.new + self.old.at ≡ steps.old + self.new.at }
+        ensures one { steps.new ≤ steps.old + 1 }
+        ensures told { (m : Moment) (s : ℕ) (t : Term) (rest : List ℕ) (budget : ℕ)
+            → P.stands port.old m → ListStands m s t self.old rest budget
+            → (n : Moment) × (b : ℕ) × P.stands port.new n × IsNotBefore n m × P.keeps port.old m port.new n
+            × ListStands n s t self.new rest b × (steps.new + b ≡ steps.old + budget) }
+    {
+        self.inside -= 1;
+        self.held = true;
+        if self.width <= self.bits.count {
+            let (field, bits) = self.bits.first(self.width);
+            self.bits = bits;
+            self.last -= field as Posting;
+            return;
+        }
+        let word = packed_word(port, self.segment, self.at, steps);
+        let (field, bits) = self.bits.first_over(word, self.width);
+        self.at += 1;
+        self.bits = bits;
+        self.last -= field as Posting;
+    }
+
+    // Loads the header of the next block, where it isn't loaded.
+    fn peek<P: Port, L: Ledger>(&mut self, port: &mut P, steps: &mut Steps<L>)
+        requires reads { (m : Moment) × (s : ℕ) × (t : Term) × (rest : List ℕ) × (budget : ℕ)
+            × P.stands port.old m × ListStands m s t self.old rest budget }
+        requires left { 1 ≤ self.old.left }
+        ensures loaded { 1 ≤ self.new.header }
+        ensures same { self.new ≡ record self.old { header = self.new.header } }
+        ensures one { steps.new ≤ steps.old + 1 }
+        ensures told { (m : Moment) (s : ℕ) (t : Term) (rest : List ℕ) (budget : ℕ)
+            → P.stands port.old m → ListStands m s t self.old rest budget
+            → (n : Moment) × (b : ℕ) × P.stands port.new n × IsNotBefore n m × P.keeps port.old m port.new n
+            × ListStands n s t self.new rest b × (steps.new + b ≡ steps.old + budget) }
+    {
+        if self.header > 0 {
+            return;
+        }
+        self.header = packed_word(port, self.segment, self.next, steps);
+    }
+
+    // Goes to the next block, whose header is loaded, and holds its first posting.
+    fn enter(&mut self)
+        requires reads { (m : Moment) × (s : ℕ) × (t : Term) × (rest : List ℕ) × (budget : ℕ) × ListStands m s t self.old rest budget }
+        requires loaded { 1 ≤ self.old.header }
+        ensures held { self.new.held ≡ true }
+        ensures less { self.new.left < self.old.left }
+        ensures count { self.new.inside + 1 + self.new.left ≡ self.old.left }
+        ensures full { 1 ≤ self.new.left → self.new.inside ≡ 127 }
+        ensures told { (m : Moment) (s : ℕ) (t : Term) (rest : List ℕ) (budget : ℕ) → ListStands m s t self.old rest budget
+            → (after : List ℕ) × (b : ℕ) × ListStands m s t self.new after b × (b ≤ budget) × HasPassed self.old rest after }
+    {
+        let header = self.header;
+        let count = count_in(header) as u32;
+        let width = width_in(header);
+        self.at = self.next + 1;
+        self.bits = Bits::none();
+        self.width = width;
+        self.inside = count - 1;
+        self.last = posting_in(header);
+        self.held = true;
+        self.next = self.at + ((count - 1) * width + 63) / 64;
+        self.header = 0;
+        self.left -= count;
+    }
+}
+
+// A packed word. Ticks one load.
+fn packed_word<P: Port, L: Ledger>(port: &mut P, segment: u32, at: u32, steps: &mut Steps<L>) -> u64
+    requires { (m : Moment) × (value : ℕ) × P.stands port.old m × IsPackedAt m segment at value }
+    ensures told { (m : Moment) (value : ℕ) → P.stands port.old m → IsPackedAt m segment at value
+        → (n : Moment) × P.stands port.new n × IsNotBefore n m × P.keeps port.old m port.new n × (result ≡ value) }
+    ensures step { steps.new ≡ steps.old + 1 }
+{
+    let places = Places::new(port.config());
+    port.load(places.packed(segment, at), steps)
+}

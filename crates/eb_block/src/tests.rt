@@ -1,0 +1,173 @@
+ghost use Rattle.std.specs.Prelude.{◌≡◌, true};
+ghost use Rattle.eb_block.specs.Blocks.{IsPackable};
+
+use super::{BLOCK_POSTINGS, BLOCK_WORDS, POSTING_BITS, Posting, pack_block, unpack_block};
+use std::alloc::Global;
+use std::test::Fail;
+
+// Whether these are 1 to 128 postings that fall.
+fn is_packable(postings: &[Posting]) -> bool
+    ensures { result ≡ true → IsPackable postings.now }
+{
+    if postings.is_empty() || postings.len() > BLOCK_POSTINGS {
+        return false;
+    }
+    for i in 1..postings.len() {
+        if postings[i - 1] <= postings[i] {
+            return false;
+        }
+    }
+    true
+}
+
+// Packs the postings of one block and unpacks it: the words go behind `words`, the postings behind `back`.
+fn put_block(
+    postings: &[Posting],
+    words: &mut Vec<u64>,
+    back: &mut Vec<Posting>,
+) -> Result<(), Fail> {
+    if !is_packable(postings) {
+        return Err(Fail::new("no postings of a block"));
+    }
+    let mut into = [u64::MAX; BLOCK_WORDS];
+    let count = pack_block(postings, &mut into);
+    let block = &into[..count];
+    words.extend_from_slice(block)?;
+    let mut unpacked = [7; BLOCK_POSTINGS];
+    let many = unpack_block(block, &mut unpacked);
+    back.extend_from_slice(&unpacked[..many])?;
+    Ok(())
+}
+
+// The words of the blocks of these postings, and the postings that come back from them.
+fn blocks_of(alloc: Global, postings: &[Posting]) -> Result<(Vec<u64>, Vec<Posting>), Fail> {
+    let mut words = Vec::new(alloc);
+    let mut back = Vec::new(alloc);
+    for some in postings.chunks(BLOCK_POSTINGS) {
+        put_block(some, &mut words, &mut back)?;
+    }
+    Ok((words, back))
+}
+
+// So many numbers down to 0.
+fn down_to_0(alloc: Global, from: Posting) -> Result<Vec<Posting>, Fail> {
+    let mut postings = Vec::new(alloc);
+    for i in 0..=from {
+        postings.push(from.saturating_sub(i))?;
+    }
+    Ok(postings)
+}
+
+#[test]
+fn blocks_have_their_words(rt: HostRuntime) -> Result<(), Fail> {
+    let alloc = rt.alloc();
+    for (postings, words) in [
+        (vec![in alloc; 5]?, vec![in alloc; 327681]?),
+        (vec![in alloc; 300, 299]?, vec![in alloc; 19661058, 1]?),
+        (
+            vec![in alloc; 4294967295, 0]?,
+            vec![in alloc; 281474976653314, 4294967295]?,
+        ),
+        (
+            vec![in alloc; 8388612, 8388611, 8388609, 0]?,
+            vec![in alloc; 549756082180, 281475010265089, 128]?,
+        ),
+        (
+            down_to_0(alloc, 127)?,
+            vec![in alloc; 8323456, 18446744073709551615, 9223372036854775807]?,
+        ),
+        (
+            down_to_0(alloc, 128)?,
+            vec![in alloc; 8388992, 18446744073709551615, 9223372036854775807, 1]?,
+        ),
+    ] {
+        let (packed, back) = blocks_of(alloc, postings.as_slice())?;
+        assert_eq!(rt; packed.as_slice(), words.as_slice());
+        assert_eq!(rt; back.as_slice(), postings.as_slice());
+    }
+    Ok(())
+}
+
+// Postings whose greatest difference, in the middle, has so many bits; `power` is 2 to this.
+fn made(alloc: Global, count: usize, power: u64) -> Result<Vec<Posting>, Fail> {
+    let mut postings = Vec::new(alloc);
+    let mut posting = u64::from(Posting::MAX);
+    for i in 0..count {
+        postings.push(Posting::try_from(posting).unwrap_or(0))?;
+        let small = (i as u64).saturating_mul(40503) % power.saturating_sub(1).clamp(1, 1 << 20)
+            + 1;
+        let difference = if i == (count - 1) / 2 {
+            power / 2 + power / 8
+        } else {
+            small
+        };
+        posting = posting.saturating_sub(difference);
+    }
+    Ok(postings)
+}
+
+// The words of a block by its definition, bit by bit.
+fn defined(alloc: Global, postings: &[Posting], width: u64) -> Result<Vec<u64>, Fail> {
+    let mut words = Vec::new(alloc);
+    let first = u64::from(postings.first().copied().unwrap_or(0));
+    let count = postings.len() as u64;
+    words.push(
+        first
+            .saturating_mul(65536)
+            .saturating_add(width.saturating_mul(256))
+            .saturating_add(count),
+    )?;
+    let mut word = 0u64;
+    let mut bit = 1u64;
+    let mut bits = 0u64;
+    for pair in postings.windows(2) {
+        let mut left = pair[0].saturating_sub(pair[1]);
+        for _ in 0..width {
+            if left % 2 == 1 {
+                word = word.saturating_add(bit);
+            }
+            left /= 2;
+            bit = bit.saturating_mul(2);
+            bits = bits.saturating_add(1);
+            if bits == 64 {
+                words.push(word)?;
+                word = 0;
+                bit = 1;
+                bits = 0;
+            }
+        }
+    }
+    if bits > 0 {
+        words.push(word)?;
+    }
+    Ok(words)
+}
+
+#[test]
+fn made_blocks_are_as_defined(rt: HostRuntime) -> Result<(), Fail> {
+    let alloc = rt.alloc();
+    let mut blocks = 0u32;
+    let mut power = 1u64;
+    for width in 1..=POSTING_BITS {
+        power = power.saturating_mul(2);
+        for count in 1..=BLOCK_POSTINGS {
+            let postings = made(alloc, count, power)?;
+            let (words, back) = blocks_of(alloc, postings.as_slice())?;
+            let bits = if count == 1 { 0 } else { u64::from(width) };
+            let want = defined(alloc, postings.as_slice(), bits)?;
+            assert_eq!(rt;
+                words.as_slice(),
+                want.as_slice(),
+                "{count} of {width} bits"
+            );
+            assert_eq!(rt;
+                back.as_slice(),
+                postings.as_slice(),
+                "{count} of {width} bits"
+            );
+            blocks = blocks.saturating_add(1);
+        }
+    }
+    assert_eq!(rt; blocks, 4096);
+    Ok(())
+}

@@ -1,0 +1,4 @@
+pub mod Putting
+pub mod Filling
+pub mod Blocks
+pub mod Terms
