@@ -3,10 +3,8 @@ use Rattle.std.specs.Prelude.{◌≡◌, ℕ, ◌≤◌, Bool, true, false, List
 use Rattle.eb_base.specs.Document.{Doc}
 use Rattle.eb_base.specs.Setting.{Setting}
 use Rattle.eb_base.specs.Match.{answer}
-use Rattle.eb_place.specs.declared.moment.Moment.{Moment}
 use Rattle.eb_place.specs.Room.{has_room}
-use Rattle.eb_flat.specs.Flat.{StandsFor}
-use Rattle.eb_writer.specs.Progress.{Stands}
+use Rattle.eb_table.specs.Known.{Words}
 use Rattle.eb_cursor.specs.Frames.{ids_of}
 use Rattle.earlybird.specs.declared.session.Session.{Session}
 use Rattle.earlybird.specs.declared.session.Outcome.{Outcome}
@@ -14,15 +12,14 @@ use Rattle.earlybird.specs.declared.session.Outcome.TheVariants.{Nothing, Answer
 use Rattle.earlybird.specs.Reading.{Reading, blank, document, query, refused}
 use Rattle.earlybird.specs.Progress.{Progress}
 
--- the session has come so far, in an index of this setting: at some moment that its words and its placer stand for,
--- the accepted documents are those of the run
+-- the session has come so far, in an index of this setting: the history of the index's writer is the documents that the
+-- run accepted
 pub record HasCome (s : Session) (σ : Setting) (p : Progress) : Type 0 where
-  pub moment : Moment
-  pub setting : moment.setting ≡ σ
-  pub words : StandsFor s.words moment
-  pub placer : Stands s.placer moment
-  pub accepted : moment.documents.accepted ≡ p.documents
-  pub documents : s.documents ≡ length p.documents
+  pub words : Words
+  pub index : s.index ≡ words
+  pub setting : words.setting ≡ σ
+  pub writer : s.writer.index ≡ words
+  pub accepted : s.writer.docs ≡ p.documents
   pub lines : s.lines ≡ p.lines
   pub queries : s.queries ≡ p.queries
   pub refused : s.refused ≡ p.refused

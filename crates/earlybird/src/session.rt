@@ -2,8 +2,6 @@ ghost use Rattle.std.specs.Prelude.{◌≡◌, ◌+◌, ◌<◌, ◌^◌, IfOk, 
 ghost use Rattle.eb_base.specs.Document.{Doc};
 ghost use Rattle.eb_base.specs.Setting.{Setting};
 ghost use Rattle.eb_base.specs.Match.{answer};
-ghost use Rattle.eb_place.specs.declared.moment.Moment.{Moment};
-ghost use Rattle.eb_flat.specs.Flat.{StandsFor};
 ghost use Rattle.eb_cursor.specs.Frames.{query_of, k_of, ids_of};
 ghost use Rattle.earlybird.specs.Reading.{blank, document as reads_document, query, refused};
 ghost use Rattle.earlybird.specs.Progress.{Progress, with_line, nothing};
@@ -12,23 +10,22 @@ ghost use Rattle.earlybird.specs.Session.{HasCome, IsOutcome, WithPlaced};
 ghost use Rattle.earlybird.specs.Works.{reading_of};
 
 use crate::refusal::Refusal;
-use crate::searching::search_words;
+use crate::searching::search_all;
 use crate::work::Work;
 use eb_base::{Config, Document, Gate, NoMemory};
 use eb_cursor::Frame;
-use eb_flat::FlatWords;
-use eb_writer::{Full, Placer};
+use eb_engine::{Index, Writer};
+use eb_writer::Full;
 use std::alloc::Global;
 use std::marker::Brand;
 use std::sync::ledger::Blank;
 
-// How far a run has come: the index of the accepted documents, and how many documents were accepted, lines
-// worked off, queries answered and lines refused.
+// How far a run has come: the index of the accepted documents with its writer, and how many lines were worked off,
+// queries answered and lines refused.
 #[derive(Drop)]
 pub(crate) struct Session {
-    words: FlatWords,
-    placer: Placer,
-    documents: u64,
+    index: Index,
+    writer: Writer,
     lines: u64,
     queries: u64,
     refused: u64,
@@ -50,11 +47,10 @@ impl Session {
     pub(crate) fn new(alloc: Global, config: Config) -> Result<Session, NoMemory>
         ensures { IfOk result (λ session. HasCome session config nothing) }
     {
-        let words = FlatWords::new(alloc, config)?;
+        let (index, writer, _converter) = Index::open(alloc, config)?;
         Ok(Session {
-            words,
-            placer: Placer::new(config),
-            documents: 0,
+            index,
+            writer,
             lines: 0,
             queries: 0,
             refused: 0,
@@ -69,7 +65,7 @@ impl Session {
     {
         match work {
             Work::Nothing => self.pass(),
-            Work::Add(document) => self.add(&document),
+            Work::Add(document) => self.add(&document, gate),
             Work::Answer(frame) => self.answer(frame, gate),
             Work::Refuse(refusal) => self.refuse(refusal),
         }
@@ -86,12 +82,12 @@ impl Session {
     }
 
     // Adds a document to the index, where there is room.
-    fn add(&mut self, document: &Document) -> Outcome
+    fn add<G: Gate>(&mut self, document: &Document, gate: &G) -> Outcome
         requires { (σ : Setting) × (p : Progress) × HasCome self.old σ p × (p.lines + 1 < 2 ^ 64) }
         ensures session { (σ : Setting) (p : Progress) → HasCome self.old σ p → HasCome self.new σ (with_line p (admit σ p.documents (reads_document document.now))) }
         ensures outcome { (σ : Setting) (p : Progress) → HasCome self.old σ p → IsOutcome p.documents (admit σ p.documents (reads_document document.now)) result }
     {
-        if self.place(document) {
+        if self.place(document, gate) {
             self.pass()
         } else {
             self.refuse(Refusal::Full)
@@ -99,15 +95,12 @@ impl Session {
     }
 
     // Places a document in the index. False exactly where there is no room for it; the index is then as before.
-    fn place(&mut self, document: &Document) -> bool
+    fn place<G: Gate>(&mut self, document: &Document, gate: &G) -> bool
         requires { (σ : Setting) × (p : Progress) × HasCome self.old σ p }
         ensures { (σ : Setting) (p : Progress) → HasCome self.old σ p → WithPlaced self.new σ p document.now result }
     {
-        match self.placer.add(&mut self.words, document) {
-            Ok(count) => {
-                self.documents = count;
-                true
-            }
+        match self.writer.add(&self.index, document, gate) {
+            Ok(_) => true,
             Err(Full) => false,
         }
     }
@@ -119,7 +112,13 @@ impl Session {
         ensures outcome { (σ : Setting) (p : Progress) → HasCome self.old σ p → IsOutcome p.documents (query (k_of frame) (query_of frame)) result }
     {
         let mut frame = frame;
-        let seen = search_words::<G, Brand>(&mut self.words, &mut frame, gate, Blank::new(1));
+        let seen = search_all::<G, Brand>(
+            &self.index,
+            &mut self.writer,
+            &mut frame,
+            gate,
+            Blank::new(1),
+        );
         self.queries += 1;
         self.lines += 1;
         Outcome::Answered(seen, frame)
@@ -147,7 +146,7 @@ impl Session {
     pub(crate) fn documents(&self) -> u64
         ensures { (σ : Setting) (p : Progress) → HasCome self.now σ p → result ≡ length p.documents }
     {
-        self.documents
+        self.writer.accepted()
     }
 
     // The number of answered queries.
