@@ -116,16 +116,32 @@ fn opened(alloc: Global) -> Result<(Index, Writer, Converter), Fail>
 }
 
 // Adds the documents with ids 1 to 5, and gives what each add answers.
-fn fill(alloc: Global, index: &Index, writer: &mut Writer) -> Result<[Option<u64>; 5], Fail>
+fn fill(alloc: Global, index: &Index, writer: &mut Writer) -> Result<Vec<Option<u64>>, Fail>
     requires { writer.old.index ≡ index.now }
-    ensures { IfOk result (λ _. writer.new.index ≡ writer.old.index) }
+    ensures { writer.new.index ≡ writer.old.index }
 {
-    let first = added(writer, index, &document(alloc, 1)?);
-    let second = added(writer, index, &document(alloc, 2)?);
-    let third = added(writer, index, &document(alloc, 3)?);
-    let fourth = added(writer, index, &document(alloc, 4)?);
-    let fifth = added(writer, index, &document(alloc, 5)?);
-    Ok([first, second, third, fourth, fifth])
+    let mut counts = Vec::new(alloc);
+    for id in 1..6 {
+        let next = document(alloc, id)?;
+        counts.push(added(writer, index, &next))?;
+    }
+    Ok(counts)
+}
+
+// Tells the converter and the writer what readers of the writer know: the length of the history then, the number of its
+// segments, and that of the converted ones.
+fn told(index: &Index, writer: Writer, converter: Converter) -> (u64, u32, u32)
+    requires writer { writer.index ≡ index.now }
+    requires converter { converter.index ≡ index.now }
+{
+    let mut writer = writer;
+    let mut converter = converter;
+    let mut reader = writer.reader(index);
+    let other = reader.split(index);
+    converter.meet(index, reader);
+    writer.meet(index, other);
+    writer.hear(index, &mut converter);
+    (writer.accepted(), writer.segments(), converter.converted())
 }
 
 #[test]
@@ -164,15 +180,10 @@ fn a_search_answers_over_the_documents_of_its_count(rt: HostRuntime) -> Result<(
 #[test]
 fn an_index_fills_up(rt: HostRuntime) -> Result<(), Fail> {
     let alloc = rt.alloc();
-    let (index, mut writer, mut converter) = opened(alloc)?;
+    let (index, mut writer, converter) = opened(alloc)?;
     let counts = fill(alloc, &index, &mut writer)?;
-    assert_eq!(rt; counts, [Some(1), Some(2), Some(3), Some(4), None]);
-    assert_eq!(rt; (writer.accepted(), writer.segments()), (4, 2));
-    let mut reader = writer.reader(&index);
-    let other = reader.split(&index);
-    converter.meet(&index, reader);
-    writer.meet(&index, other);
-    writer.hear(&index, &mut converter);
-    assert_eq!(rt; (writer.accepted(), converter.converted()), (4, 0));
+    let want = [Some(1), Some(2), Some(3), Some(4), None];
+    assert_eq!(rt; counts.as_slice(), want.as_slice());
+    assert_eq!(rt; told(&index, writer, converter), (4, 2, 0));
     Ok(())
 }
