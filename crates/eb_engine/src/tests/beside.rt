@@ -1,0 +1,196 @@
+//! One writer adds documents through rollovers, while three readers search beside it. Each answer is that of the
+//! plain scan over the first documents, as many as the search says, and these never get fewer for a reader.
+ghost use Rattle.std.specs.Prelude.{◌≡◌};
+
+use super::made::{a_without_b, added, document, frame, searched, word};
+use crate::{Index, Reader, Writer};
+use eb_base::{Config, Document, OpenGate, Query};
+use eb_cursor::Frame;
+use eb_plain::newest;
+use std::alloc::Global;
+use std::test::Fail;
+use std::thread;
+use std::thread::Threads;
+
+// What a reader asks: a query, and a frame for it.
+#[derive(Drop)]
+struct Question {
+    query: Query,
+    frame: Frame,
+}
+
+// The query of a number: a rare word, a word of every document, or the documents with `a` and not `b`.
+fn query(alloc: Global, number: u32) -> Result<Query, Fail> {
+    match number {
+        0 => word(alloc, b"c"),
+        1 => word(alloc, b"d"),
+        _ => a_without_b(alloc),
+    }
+}
+
+fn question_of(alloc: Global, number: u32) -> Result<Question, Fail> {
+    Ok(Question {
+        query: query(alloc, number)?,
+        frame: frame(alloc, query(alloc, number)?)?,
+    })
+}
+
+// Whether the ids are those of the plain scan over the first documents.
+fn is_scanned(
+    alloc: Global,
+    query: &Query,
+    documents: &[Document],
+    count: u64,
+    ids: &[u64],
+) -> bool {
+    let Some(first) = documents.get(..count as usize) else {
+        return false;
+    };
+    match newest(alloc, query, 10, first) {
+        Ok(scanned) => scanned.as_slice() == ids,
+        Err(_) => false,
+    }
+}
+
+// Searches until all documents are seen: whether each answer was right, and none over fewer documents than before.
+fn search_beside(
+    alloc: Global,
+    index: &Index,
+    reader: Reader,
+    question: Question,
+    documents: &[Document],
+) -> bool
+    requires { reader.index ≡ index.now }
+{
+    let mut reader = reader;
+    let Question { query, mut frame } = question;
+    let mut last = 0;
+    for _ in 0..u64::MAX {
+        let count = searched(&mut reader, index, &mut frame, &OpenGate);
+        if count < last || !is_scanned(alloc, &query, documents, count, frame.ids()) {
+            return false;
+        }
+        if count == documents.len() as u64 {
+            return true;
+        }
+        last = count;
+    }
+    false
+}
+
+// Adds all documents, and gives the last count.
+fn add_beside(index: &Index, writer: Writer, documents: &[Document]) -> u64
+    requires { writer.index ≡ index.now }
+{
+    let mut writer = writer;
+    let mut last = 0;
+    for document in documents {
+        if let Some(count) = added(&mut writer, index, document) {
+            last = count;
+        }
+        thread::yield_now();
+    }
+    last
+}
+
+// A writer and a reader.
+fn write_and_search<R: Threads + Sync>(
+    rt: &R,
+    alloc: Global,
+    index: &Index,
+    writer: Writer,
+    reader: Reader,
+    question: Question,
+    documents: &[Document],
+) -> (u64, bool)
+    requires writer { writer.index ≡ index.now }
+    requires reader { reader.index ≡ index.now }
+{
+    thread::join(
+        rt,
+        move || -> u64
+            requires { writer.index ≡ index.now }
+        { add_beside(index, writer, documents) },
+        move || -> bool
+            requires { reader.index ≡ index.now }
+        { search_beside(alloc, index, reader, question, documents) },
+    )
+}
+
+// Two readers.
+fn search_twice<R: Threads + Sync>(
+    rt: &R,
+    alloc: Global,
+    index: &Index,
+    readers: (Reader, Reader),
+    questions: (Question, Question),
+    documents: &[Document],
+) -> (bool, bool)
+    requires first { readers.0.index ≡ index.now }
+    requires second { readers.1.index ≡ index.now }
+{
+    let (first, second) = readers;
+    let (rare, other) = questions;
+    thread::join(
+        rt,
+        move || -> bool
+            requires { first.index ≡ index.now }
+        { search_beside(alloc, index, first, rare, documents) },
+        move || -> bool
+            requires { second.index ≡ index.now }
+        { search_beside(alloc, index, second, other, documents) },
+    )
+}
+
+// A writer and three readers, each on a thread of its own.
+fn all_beside<R: Threads + Sync>(
+    rt: &R,
+    alloc: Global,
+    index: &Index,
+    writer: Writer,
+    reader: Reader,
+    readers: (Reader, Reader),
+    documents: &[Document],
+) -> Result<((u64, bool), (bool, bool)), Fail>
+    requires writer { writer.index ≡ index.now }
+    requires reader { reader.index ≡ index.now }
+    requires first { readers.0.index ≡ index.now }
+    requires second { readers.1.index ≡ index.now }
+{
+    let one = question_of(alloc, 0)?;
+    let others = (question_of(alloc, 1)?, question_of(alloc, 2)?);
+    Ok(thread::join(
+        rt,
+        move || -> (u64, bool)
+            requires { (writer.index ≡ index.now) × (reader.index ≡ index.now) }
+        { write_and_search(rt, alloc, index, writer, reader, one, documents) },
+        move || -> (bool, bool)
+            requires { (readers.0.index ≡ index.now) × (readers.1.index ≡ index.now) }
+        { search_twice(rt, alloc, index, readers, others, documents) },
+    ))
+}
+
+#[test]
+fn readers_search_beside_a_writer(rt: HostRuntime) -> Result<(), Fail> {
+    let alloc = rt.alloc();
+    let Ok((index, mut writer, _converter)) = Index::open(alloc, Config::new(4, 100, 256)?) else {
+        return Err(Fail::new("no memory"));
+    };
+    let mut documents = Vec::new(alloc);
+    for id in 0..390 {
+        documents.push(document(alloc, id)?)?;
+    }
+    let mut reader = writer.reader(&index);
+    let readers = (writer.reader(&index), reader.split(&index));
+    let done = all_beside(
+        &rt,
+        alloc,
+        &index,
+        writer,
+        reader,
+        readers,
+        documents.as_slice(),
+    )?;
+    assert_eq!(rt; done, ((390, true), (true, true)));
+    Ok(())
+}

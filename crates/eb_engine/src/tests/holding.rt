@@ -1,0 +1,189 @@
+//! A search that is held after the load of its count, while the writer adds a document on another thread.
+ghost use Rattle.std.specs.Prelude.{◌≡◌, IfOk};
+ghost use mathlib.Core.List.{IsPrefix};
+
+use super::made::{added, document, frame, searched, word};
+use crate::{Converter, Index, Reader, Writer};
+use eb_base::{Config, Document, Gate, OpenGate, Point};
+use eb_cursor::Frame;
+use std::alloc::Global;
+use std::sync::atomic::{AtomicU64, Ordering};
+use std::test::Fail;
+use std::thread;
+use std::thread::Threads;
+
+// Goes on when the flag is up.
+fn wait_for(flag: &AtomicU64) {
+    for _ in 0..u64::MAX {
+        if flag.load(Ordering::SeqCst) > 0 {
+            return;
+        }
+        thread::yield_now();
+    }
+}
+
+// A gate that holds a search after the load of its count.
+#[derive(Drop)]
+struct Hold<'a> {
+    loaded: &'a AtomicU64,
+    go: &'a AtomicU64,
+}
+
+impl<'a> Gate for Hold<'a> {
+    fn reached(&self, point: Point) {
+        if let Point::CountLoaded(count) = point {
+            self.loaded.store(count, Ordering::SeqCst);
+            wait_for(self.go);
+        }
+    }
+}
+
+// A search that is held after the load of its count, until the flag is up.
+fn held_search(
+    index: &Index,
+    reader: Reader,
+    frame: Frame,
+    loaded: &AtomicU64,
+    go: &AtomicU64,
+) -> (Reader, Frame, u64)
+    requires { reader.index ≡ index.now }
+    ensures index { result.0.index ≡ index.now }
+    ensures known { IsPrefix reader.docs result.0.docs }
+{
+    let mut reader = reader;
+    let mut frame = frame;
+    let gate = Hold { loaded, go };
+    let found = searched(&mut reader, index, &mut frame, &gate);
+    (reader, frame, found)
+}
+
+// An add that waits for the first flag, and puts the second up.
+fn late_add(
+    index: &Index,
+    writer: Writer,
+    document: &Document,
+    loaded: &AtomicU64,
+    go: &AtomicU64,
+) -> (Writer, Option<u64>)
+    requires { writer.index ≡ index.now }
+    ensures { result.0.index ≡ index.now }
+{
+    let mut writer = writer;
+    wait_for(loaded);
+    let count = added(&mut writer, index, document);
+    go.store(1, Ordering::SeqCst);
+    (writer, count)
+}
+
+// One thread searches, and is held after the load of its count; the other adds a document meanwhile.
+fn overlapping<R: Threads + Sync>(
+    rt: &R,
+    index: &Index,
+    writer: Writer,
+    reader: Reader,
+    frame: Frame,
+    document: &Document,
+) -> ((Reader, Frame, u64), (Writer, Option<u64>))
+    requires writer { writer.index ≡ index.now }
+    requires reader { reader.index ≡ index.now }
+    ensures reader { result.0.0.index ≡ index.now }
+    ensures known { IsPrefix reader.docs result.0.0.docs }
+    ensures writer { result.1.0.index ≡ index.now }
+{
+    let loaded = &AtomicU64::new(0);
+    let go = &AtomicU64::new(0);
+    thread::join(
+        rt,
+        move || -> (Reader, Frame, u64)
+            requires { reader.index ≡ index.now }
+            ensures { (result.0.index ≡ index.entry.now) × IsPrefix reader.docs result.0.docs }
+        { held_search(index, reader, frame, loaded, go) },
+        move || -> (Writer, Option<u64>)
+            requires { writer.index ≡ index.now }
+            ensures { result.0.index ≡ index.entry.now }
+        { late_add(index, writer, document, loaded, go) },
+    )
+}
+
+// An index of two segments of two documents each.
+fn opened(alloc: Global) -> Result<(Index, Writer, Converter), Fail>
+    ensures { IfOk result (λ r. (r.1.index ≡ r.0) × (r.2.index ≡ r.0)) }
+{
+    let Ok(opened) = Index::open(alloc, Config::new(2, 2, 256)?) else {
+        return Err(Fail::new("no memory"));
+    };
+    Ok(opened)
+}
+
+// Adds the documents with ids 1 to 5, and gives what each add answers.
+fn fill(alloc: Global, index: &Index, writer: &mut Writer) -> Result<Vec<Option<u64>>, Fail>
+    requires { writer.old.index ≡ index.now }
+    ensures { writer.new.index ≡ writer.old.index }
+{
+    let mut counts = Vec::new(alloc);
+    for id in 1..6 {
+        let next = document(alloc, id)?;
+        counts.push(added(writer, index, &next))?;
+    }
+    Ok(counts)
+}
+
+// Tells the converter and the writer what readers of the writer know: the length of the history then, the number of its
+// segments, and that of the converted ones.
+fn told(index: &Index, writer: Writer, converter: Converter) -> (u64, u32, u32)
+    requires writer { writer.index ≡ index.now }
+    requires converter { converter.index ≡ index.now }
+{
+    let mut writer = writer;
+    let mut converter = converter;
+    let mut reader = writer.reader(index);
+    let other = reader.split(index);
+    converter.meet(index, reader);
+    writer.meet(index, other);
+    writer.hear(index, &mut converter);
+    (writer.accepted(), writer.segments(), converter.converted())
+}
+
+#[test]
+fn a_search_answers_over_the_documents_of_its_count(rt: HostRuntime) -> Result<(), Fail> {
+    let alloc = rt.alloc();
+    let (index, mut writer, _converter) = opened(alloc)?;
+    added(&mut writer, &index, &document(alloc, 1)?);
+    added(&mut writer, &index, &document(alloc, 2)?);
+    let third = document(alloc, 3)?;
+    let held = writer.reader(&index);
+    let mut other = writer.reader(&index);
+    let asked = frame(alloc, word(alloc, b"d")?)?;
+    let ((mut held, mut asked, found), (mut writer, added)) = overlapping(
+        &rt, &index, writer, held, asked, &third,
+    );
+    assert_eq!(rt;
+        (added, found, held.seen(), other.seen()),
+        (Some(3), 2, 2, 2)
+    );
+    assert_eq!(rt; asked.ids(), [2, 1].as_slice());
+    assert_eq!(rt; searched(&mut other, &index, &mut asked, &OpenGate), 3);
+    assert_eq!(rt; asked.ids(), [3, 2, 1].as_slice());
+    let told = writer.reader(&index);
+    held.meet(&index, told);
+    assert_eq!(rt;
+        (
+            held.seen(),
+            searched(&mut held, &index, &mut asked, &OpenGate)
+        ),
+        (3, 3)
+    );
+    assert_eq!(rt; asked.ids(), [3, 2, 1].as_slice());
+    Ok(())
+}
+
+#[test]
+fn an_index_fills_up(rt: HostRuntime) -> Result<(), Fail> {
+    let alloc = rt.alloc();
+    let (index, mut writer, converter) = opened(alloc)?;
+    let counts = fill(alloc, &index, &mut writer)?;
+    let want = [Some(1), Some(2), Some(3), Some(4), None];
+    assert_eq!(rt; counts.as_slice(), want.as_slice());
+    assert_eq!(rt; told(&index, writer, converter), (4, 2, 0));
+    Ok(())
+}
