@@ -1,4 +1,5 @@
 ghost use Rattle.std.specs.Prelude.{◌≡◌, ℕ, ◌≤◌, ◌<◌, ◌^◌};
+ghost use Rattle.eb_base.specs.Document.{most_tokens};
 ghost use Rattle.eb_place.specs.Room.{slices};
 ghost use Rattle.eb_chain.specs.Needs.{IsTailWord, TakesSlices, HasLike};
 
@@ -18,11 +19,11 @@ pub struct NewSlices {
 }
 
 /// The new slices that so many further postings of a term take, of which this is the tail word: 0, or one
-/// more than the address of its last posting. There are at most 256 postings in a document. Takes no
-/// memory.
+/// more than the address of its last posting. A document has at most
+/// [`MAX_TOKENS`](eb_base::MAX_TOKENS). Takes no memory.
 pub fn needs(tail: u64, postings: u32) -> NewSlices
     requires tail { (f : ℕ) × IsTailWord f tail }
-    requires few { postings ≤ 256 }
+    requires few { postings ≤ most_tokens }
     ensures { (f : ℕ) → IsTailWord f tail → TakesSlices f postings result }
 {
     let before = least_before(tail);

@@ -17,7 +17,7 @@ use Rattle.eb_cursor.specs.Frames.{query_of, MayAsk}
 use Rattle.eb_cursor.specs.declared.cursor.Cursor.{Cursor}
 use Rattle.eb_cursor.specs.declared.frame.Frame.{Frame}
 use Rattle.eb_cursor.proofs.Documents.{top_reaches}
-use Rattle.eb_cursor.proofs.Matching.{match_decides}
+use Rattle.eb_base.proofs.Matching.{match_decides}
 use Rattle.eb_cursor.proofs.Readies.{ready_lower, ready_later}
 use Rattle.eb_cursor.proofs.Tellings.{gives_later}
 use Rattle.eb_cursor.proofs.Tops.{top_le, top_passes}

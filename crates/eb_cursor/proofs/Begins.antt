@@ -3,6 +3,7 @@ use Rattle.std.proofs.Common.{◌≡◌, ℕ, zero, suc, ◌+◌, ◌-◌, ◌*�
 use Rattle.std.proofs.lemmas.Bool.{cases_Bool, cases_lt, and_left, and_right, and_parts, lt-leb, false≢true}
 use Rattle.eb_base.specs.Document.{Doc}
 use Rattle.eb_base.specs.Query.{Tree, Trees, size, sizes, word, phrase, negation, conjunction, disjunction, no_trees, trees, IsFormed, AreFormed}
+use Rattle.eb_place.specs.Postings.{places}
 use Rattle.eb_place.specs.declared.moment.Moment.{Moment}
 use Rattle.eb_cursor.specs.Tops.{top}
 use Rattle.eb_cursor.specs.Lists.{Gives, gives, Gave}
@@ -22,7 +23,7 @@ use Rattle.eb_cursor.proofs.Steps.{IsFront}
 
 -- ---- one list
 
-pub opened_leaf : (n o : Moment) (docs : List Doc) (t : List ℕ) (list : PostingList) (c : Cursor) → (h : Opened n docs t list) → Gave h.postings c.list c.current o → IsLeaf (gives o) (is_posting docs t) c (256 * length docs)
+pub opened_leaf : (n o : Moment) (docs : List Doc) (t : List ℕ) (list : PostingList) (c : Cursor) → (h : Opened n docs t list) → Gave h.postings c.list c.current o → IsLeaf (gives o) (is_posting docs t) c (places * length docs)
 opened_leaf n o docs t list c h gave = record { left = h.postings; told = gave_left (gives o) c.list h.postings c.current gave; falls = h.falls; rest = h.all }
 
 below_none : (f : ℕ → Bool) (n x : ℕ) → top f n ≡ 0 → x < n → f x ≡ false
@@ -47,10 +48,10 @@ none_in : (t : List ℕ) (k : ℕ) → is_term t (slice_get [] k) ≡ false
 none_in t k = refl
 
 -- a list without a posting is that of a term that stands nowhere
-pub leaf_absent : (g : Gives) (docs : List Doc) (t : List ℕ) (c : Cursor) → c.current ≡ None → IsLeaf g (is_posting docs t) c (256 * length docs) → (x : ℕ) → is_posting docs t x ≡ false
-leaf_absent g docs t c e leaf x = elim (cases_lt x (256 * length docs)) [
-  | inl h ↦ below_none (is_posting docs t) (256 * length docs) x (sym (leaf_none g (is_posting docs t) c (256 * length docs) e leaf)) h
-  | inr h ↦ let far : length docs ≤ x / 256 = omega arith in rw (past_docs docs (x / 256) far) refl
+pub leaf_absent : (g : Gives) (docs : List Doc) (t : List ℕ) (c : Cursor) → c.current ≡ None → IsLeaf g (is_posting docs t) c (places * length docs) → (x : ℕ) → is_posting docs t x ≡ false
+leaf_absent g docs t c e leaf x = elim (cases_lt x (places * length docs)) [
+  | inl h ↦ below_none (is_posting docs t) (places * length docs) x (sym (leaf_none g (is_posting docs t) c (places * length docs) e leaf)) h
+  | inr h ↦ let far : length docs ≤ x / places = omega arith in rw (past_docs docs (x / places) far) refl
 ]
 
 -- ---- the leaves of a phrase
@@ -61,15 +62,15 @@ leaves_end n docs [] (c ∷ cs) e z = absurd (omega arith)
 leaves_end n docs (t ∷ ts) [] e z = absurd (omega arith)
 leaves_end n docs (t ∷ ts) (c ∷ cs) e z = absurd (omega arith)
 
-pub leaves_none : (n : Moment) (docs : List Doc) (ts : List (List ℕ)) (t : List ℕ) (us : List (List ℕ)) (c : Cursor) (cs : List Cursor) → ts ≡ t ∷ us → c.current ≡ None → IsLeaf (gives n) (is_posting docs t) c (256 * length docs) → BegunLeaves docs ts (c ∷ cs) false n
+pub leaves_none : (n : Moment) (docs : List Doc) (ts : List (List ℕ)) (t : List ℕ) (us : List (List ℕ)) (c : Cursor) (cs : List Cursor) → ts ≡ t ∷ us → c.current ≡ None → IsLeaf (gives n) (is_posting docs t) c (places * length docs) → BegunLeaves docs ts (c ∷ cs) false n
 leaves_none n docs ts t us c cs e none leaf = record {
   ready = λ h. absurd (false≢true h);
   none = λ _ x. subst (λ (z : List (List ℕ)). is_run_from docs z x ≡ false) (sym e) (and_left (is_posting docs t x) (is_run_from docs us (suc x)) (leaf_absent (gives n) docs t c none leaf x));
 }
 
-pub leaves_step : (m n : Moment) (docs : List Doc) (ts : List (List ℕ)) (t : List ℕ) (us : List (List ℕ)) (c : Cursor) (cs : List Cursor) (may : Bool) → ts ≡ t ∷ us → IsLater m n → IsLeaf (gives m) (is_posting docs t) c (256 * length docs) → BegunLeaves docs us cs may n → BegunLeaves docs ts (c ∷ cs) may n
+pub leaves_step : (m n : Moment) (docs : List Doc) (ts : List (List ℕ)) (t : List ℕ) (us : List (List ℕ)) (c : Cursor) (cs : List Cursor) (may : Bool) → ts ≡ t ∷ us → IsLater m n → IsLeaf (gives m) (is_posting docs t) c (places * length docs) → BegunLeaves docs us cs may n → BegunLeaves docs ts (c ∷ cs) may n
 leaves_step m n docs ts t us c cs may e w leaf more = record {
-  ready = λ h. subst (λ (z : List (List ℕ)). AllAt (gives n) docs z (c ∷ cs) (256 * length docs)) (sym e) (leaf_later (gives m) (gives n) (gives_later m n w) (is_posting docs t) c (256 * length docs) leaf, more.ready h);
+  ready = λ h. subst (λ (z : List (List ℕ)). AllAt (gives n) docs z (c ∷ cs) (places * length docs)) (sym e) (leaf_later (gives m) (gives n) (gives_later m n w) (is_posting docs t) c (places * length docs) leaf, more.ready h);
   none = λ h x. subst (λ (z : List (List ℕ)). is_run_from docs z x ≡ false) (sym e) (and_right (is_posting docs t x) (is_run_from docs us (suc x)) (more.none h (suc x)));
 }
 
@@ -147,11 +148,11 @@ mutual
 
 -- ---- each kind of query
 
-pub begun_word : (n : Moment) (docs : List Doc) (q : Tree) (t : List ℕ) (cursors : List Cursor) (c : Cursor) (may : Bool) → q ≡ word t → length cursors ≡ 1 → Narrow docs → (may ≡ false → c.current ≡ None) → IsLeaf (gives n) (is_posting docs t) c (256 * length docs)
+pub begun_word : (n : Moment) (docs : List Doc) (q : Tree) (t : List ℕ) (cursors : List Cursor) (c : Cursor) (may : Bool) → q ≡ word t → length cursors ≡ 1 → Narrow docs → (may ≡ false → c.current ≡ None) → IsLeaf (gives n) (is_posting docs t) c (places * length docs)
     → Begun docs q (set cursors 0 c) may n
 begun_word n docs q t cursors c may i one w absent leaf = record {
   ready = subst (λ (x : Tree). Ready (gives n) docs x (set cursors 0 c) (length docs)) (sym i) (only cursors one);
-  none = λ h. ap (λ (x : Tree). top (match_at docs x) (length docs)) i ∙ word_top docs w t (length docs) ∙ ap document_end (sym (leaf_none (gives n) (is_posting docs t) c (256 * length docs) (absent h) leaf));
+  none = λ h. ap (λ (x : Tree). top (match_at docs x) (length docs)) i ∙ word_top docs w t (length docs) ∙ ap document_end (sym (leaf_none (gives n) (is_posting docs t) c (places * length docs) (absent h) leaf));
 }
   where
     only : (cs : List Cursor) → length cs ≡ 1 → IsOnly (gives n) docs t (set cs 0 c) (length docs)
@@ -160,23 +161,23 @@ begun_word n docs q t cursors c may i one w absent leaf = record {
     only (x ∷ (y ∷ ys)) e = absurd (omega arith)
 
 -- no phrase begins so near to the end
-no_start : (docs : List Doc) (ts : List (List ℕ)) (n j : ℕ) → 0 < length ts → length ts ≤ 256 → 0 < n → j < length ts - 1 → is_start docs ts (256 * n + 1 - length ts + j) ≡ false
+no_start : (docs : List Doc) (ts : List (List ℕ)) (n j : ℕ) → 0 < length ts → length ts ≤ places → 0 < n → j < length ts - 1 → is_start docs ts (places * n + 1 - length ts + j) ≡ false
 no_start docs ts n j h i p k =
-    let over : 256 < (256 * n + 1 - length ts + j) % 256 + length ts = omega arith in
-    and_left (has_room (length ts) (256 * n + 1 - length ts + j)) (is_run_from docs ts (256 * n + 1 - length ts + j)) (lt-leb ((256 * n + 1 - length ts + j) % 256 + length ts) 256 over)
+    let over : places < (places * n + 1 - length ts + j) % places + length ts = omega arith in
+    and_left (has_room (length ts) (places * n + 1 - length ts + j)) (is_run_from docs ts (places * n + 1 - length ts + j)) (lt-leb ((places * n + 1 - length ts + j) % places + length ts) places over)
 
-phrase_passed : (docs : List Doc) (ts : List (List ℕ)) (n : ℕ) → 0 < length ts → length ts ≤ 256 → 0 < n → IsPassed (is_start docs ts) (256 * n + 1 - length ts) (256 * n)
+phrase_passed : (docs : List Doc) (ts : List (List ℕ)) (n : ℕ) → 0 < length ts → length ts ≤ places → 0 < n → IsPassed (is_start docs ts) (places * n + 1 - length ts) (places * n)
 phrase_passed docs ts n h i p = record {
   same = λ k.
-      let e : 256 * n + 1 - length ts + (length ts - 1) ≡ 256 * n = omega arith in
-      ap (top (is_start docs ts)) (sym e) ∙ top_stays (is_start docs ts) (256 * n + 1 - length ts) (length ts - 1) (λ j m. no_start docs ts n j h i p m);
+      let e : places * n + 1 - length ts + (length ts - 1) ≡ places * n = omega arith in
+      ap (top (is_start docs ts)) (sym e) ∙ top_stays (is_start docs ts) (places * n + 1 - length ts) (length ts - 1) (λ j m. no_start docs ts n j h i p m);
 }
 
 top_never : (f : ℕ → Bool) → ((n : ℕ) → f n ≡ false) → (n : ℕ) → top f n ≡ 0
 top_never f w zero = refl
 top_never f w (suc n) = rw (w n) (top_never f w n)
 
-phrase_set : (g : Gives) (docs : List Doc) (ts : List (List ℕ)) (cursors : List Cursor) (d : Cursor) (low lead : ℕ) → 0 < length cursors → length cursors ≡ length ts → Narrow docs → IsPassed (is_start docs ts) low (256 * length docs) → (0 < low → AllLeaves g docs ts cursors low)
+phrase_set : (g : Gives) (docs : List Doc) (ts : List (List ℕ)) (cursors : List Cursor) (d : Cursor) (low lead : ℕ) → 0 < length cursors → length cursors ≡ length ts → Narrow docs → IsPassed (is_start docs ts) low (places * length docs) → (0 < low → AllLeaves g docs ts cursors low)
     → Ready g docs (phrase ts) (set cursors 0 (record { upto = low; lead = lead; current = (get_or cursors 0 d).current; list = (get_or cursors 0 d).list })) (length docs)
 phrase_set g docs ts cursors d low lead some len w passed leaves =
     let c : Cursor = record { upto = low; lead = lead; current = (get_or cursors 0 d).current; list = (get_or cursors 0 d).list } in
@@ -184,7 +185,7 @@ phrase_set g docs ts cursors d low lead some len w passed leaves =
     let long = length-set cursors 0 c in (
       omega arith,
       w,
-      subst (λ y. IsPassed (is_start docs ts) y (256 * length docs)) (sym u) passed,
+      subst (λ y. IsPassed (is_start docs ts) y (places * length docs)) (sym u) passed,
       long ∙ len,
       subst (λ y. 0 < y → AllLeaves g docs ts (set cursors 0 c) y) (sym u) (λ h. leaves_upto g docs ts cursors d low lead low (leaves h)),
     )
@@ -192,25 +193,25 @@ phrase_set g docs ts cursors d low lead some len w passed leaves =
 never_starts : (docs : List Doc) (ts : List (List ℕ)) → ((x : ℕ) → is_run_from docs ts x ≡ false) → (n : ℕ) → top (is_start docs ts) n ≡ 0
 never_starts docs ts h n = top_never (is_start docs ts) (λ x. and_right (has_room (length ts) x) (is_run_from docs ts x) (h x)) n
 
-phrase_ready : (n : Moment) (docs : List Doc) (ts : List (List ℕ)) (cursors : List Cursor) (d : Cursor) (low lead end : ℕ) (may : Bool) → 2 ≤ length ts → length ts ≤ 64 → 0 < length docs → end ≡ 256 * length docs + 1 - length ts → low ≡ (if may then end else 0) → length cursors ≡ length ts → Narrow docs → BegunLeaves docs ts cursors may n
+phrase_ready : (n : Moment) (docs : List Doc) (ts : List (List ℕ)) (cursors : List Cursor) (d : Cursor) (low lead end : ℕ) (may : Bool) → 2 ≤ length ts → length ts ≤ 64 → 0 < length docs → end ≡ places * length docs + 1 - length ts → low ≡ (if may then end else 0) → length cursors ≡ length ts → Narrow docs → BegunLeaves docs ts cursors may n
     → Ready (gives n) docs (phrase ts) (set cursors 0 (record { upto = low; lead = lead; current = (get_or cursors 0 d).current; list = (get_or cursors 0 d).list })) (length docs)
 phrase_ready n docs ts cursors d low lead end true few most some at e len w begun =
-    let k : low ≡ 256 * length docs + 1 - length ts = e ∙ at in
+    let k : low ≡ places * length docs + 1 - length ts = e ∙ at in
     phrase_set (gives n) docs ts cursors d low lead (omega arith) len w
-    (subst (λ y. IsPassed (is_start docs ts) y (256 * length docs)) (sym k) (phrase_passed docs ts (length docs) (omega arith) (omega arith) some))
-    (λ _. leaves_from (gives n) docs ts cursors low (256 * length docs) (omega arith) (begun.ready refl))
+    (subst (λ y. IsPassed (is_start docs ts) y (places * length docs)) (sym k) (phrase_passed docs ts (length docs) (omega arith) (omega arith) some))
+    (λ _. leaves_from (gives n) docs ts cursors low (places * length docs) (omega arith) (begun.ready refl))
 phrase_ready n docs ts cursors d low lead end false few most some at e len w begun =
     phrase_set (gives n) docs ts cursors d low lead (omega arith) len w
-    (record { same = λ _. never_starts docs ts (begun.none refl) (256 * length docs) ∙ sym (never_starts docs ts (begun.none refl) low) })
+    (record { same = λ _. never_starts docs ts (begun.none refl) (places * length docs) ∙ sym (never_starts docs ts (begun.none refl) low) })
     (λ h. absurd (omega (arith, e)))
 
-pub begun_phrase : (n : Moment) (docs : List Doc) (q : Tree) (ts : List (List ℕ)) (cursors : List Cursor) (d : Cursor) (low lead end : ℕ) (may : Bool) → q ≡ phrase ts → 2 ≤ length ts → length ts ≤ 64 → 0 < length docs → end ≡ 256 * length docs + 1 - length ts → low ≡ (if may then end else 0) → length cursors ≡ length ts → Narrow docs → BegunLeaves docs ts cursors may n
+pub begun_phrase : (n : Moment) (docs : List Doc) (q : Tree) (ts : List (List ℕ)) (cursors : List Cursor) (d : Cursor) (low lead end : ℕ) (may : Bool) → q ≡ phrase ts → 2 ≤ length ts → length ts ≤ 64 → 0 < length docs → end ≡ places * length docs + 1 - length ts → low ≡ (if may then end else 0) → length cursors ≡ length ts → Narrow docs → BegunLeaves docs ts cursors may n
     → Begun docs q (set cursors 0 (record { upto = low; lead = lead; current = (get_or cursors 0 d).current; list = (get_or cursors 0 d).list })) may n
 begun_phrase n docs q ts cursors d low lead end may i few most some at e len w begun =
     let c : Cursor = record { upto = low; lead = lead; current = (get_or cursors 0 d).current; list = (get_or cursors 0 d).list } in
     record {
       ready = subst (λ (x : Tree). Ready (gives n) docs x (set cursors 0 c) (length docs)) (sym i) (phrase_ready n docs ts cursors d low lead end may few most some at e len w begun);
-      none = λ h. ap (λ (x : Tree). top (match_at docs x) (length docs)) i ∙ phrase_top docs w ts (omega arith) (length docs) ∙ ap document_end (never_starts docs ts (begun.none h) (256 * length docs));
+      none = λ h. ap (λ (x : Tree). top (match_at docs x) (length docs)) i ∙ phrase_top docs w ts (omega arith) (length docs) ∙ ap document_end (never_starts docs ts (begun.none h) (places * length docs));
     }
 
 -- an operator begins with nothing passed

@@ -9,6 +9,5 @@ pub mod Documents
 pub mod Steps
 pub mod Phrases
 pub mod Begins
-pub mod Matching
 pub mod Asking
 pub mod LoadsLeft

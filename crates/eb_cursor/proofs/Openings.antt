@@ -6,7 +6,7 @@ use mathlib.Core.List.{IsPrefix}
 use Rattle.eb_base.specs.Term.{Term}
 use Rattle.eb_base.specs.Document.{Doc}
 use Rattle.eb_place.specs.declared.moment.Moment.{Moment}
-use Rattle.eb_place.specs.Postings.{postings, terms_of, count_of}
+use Rattle.eb_place.specs.Postings.{places, postings, terms_of, count_of}
 use Rattle.eb_place.specs.Room.{cut}
 use Rattle.eb_place.specs.Moments.{IsMoment, with_current}
 use Rattle.eb_place.specs.Later.{IsNotBefore}
@@ -71,7 +71,7 @@ chain_opens m n s docs t c is js l a stands =
       postings = reverse (seen n s t);
       told = (s, t, seen_count n s t, stands);
       falls = subst (λ (z : List ℕ). IsFalling (reverse z)) (sym is_front) w.0;
-      all = ap (λ (z : List ℕ). from_below (256 * length docs) (reverse z)) is_front ∙ w.1;
+      all = ap (λ (z : List ℕ). from_below (places * length docs) (reverse z)) is_front ∙ w.1;
     }
 
 -- the segment is one of a later moment too
@@ -86,7 +86,7 @@ first_on m n s docs l a =
     let e : accepted_in m s ++ q.0 ≡ accepted_in n s = q.1 ∙ ap (λ (z : List Doc). get_or (cut m.setting z) s []) p.1 ∙ ap (λ σ. get_or (cut σ n.documents.accepted) s []) l.setting in
     record { inside = first_later m n s docs l a; narrow = a.narrow; rest = a.rest ++ q.0; are = sym e ∙ ap (λ (z : List Doc). z ++ q.0) a.are ∙ append_assoc docs a.rest q.0 }
 
--- documents that are the first of a segment: the segment is there, and none has more than 256 terms
+-- documents that are the first of a segment: the segment is there, and none has more terms than places
 pub are_first : (m : Moment) (s : ℕ) (docs : List Doc) → IsMoment m → 1 ≤ length docs → IsPrefix docs (accepted_in m s) → AreFirst m s docs
 are_first m s docs is some p =
     let placed = placed_all m.setting m.documents.accepted is.setting (whole_lawful m is) in

@@ -5,6 +5,7 @@ use Rattle.std.proofs.lemmas.Bool.{cases_Bool, cases_lt, and_parts, and_from, an
 use Rattle.eb_base.specs.Document.{Doc}
 use Rattle.eb_base.specs.Query.{phrase}
 use Rattle.eb_base.specs.Match.{has_phrase}
+use Rattle.eb_place.specs.Postings.{places}
 use Rattle.eb_cursor.specs.Tops.{top}
 use Rattle.eb_cursor.specs.Lists.{Gives}
 use Rattle.eb_cursor.specs.Posted.{terms_at, is_term, is_posting, match_at, is_run_from, has_room, is_start, Narrow, document_end}
@@ -42,15 +43,15 @@ top_shift f i (suc x) = let e : suc x + i ≡ suc (x + i) = omega arith in
 
 -- ---- room
 
-pub room_here : (n x : ℕ) → x % 256 + n ≤ 256 → suc x ≡ top (has_room n) (suc x)
-room_here n x h = sym (top_here (has_room n) x (le-leb (x % 256 + n) 256 h))
+pub room_here : (n x : ℕ) → x % places + n ≤ places → suc x ≡ top (has_room n) (suc x)
+room_here n x h = sym (top_here (has_room n) x (le-leb (x % places + n) places h))
 
-pub room_past : (n x k : ℕ) → n ≤ 256 → 0 < n → x % 256 + n ≡ 256 + k → suc x - k ≡ top (has_room n) (suc x)
+pub room_past : (n x k : ℕ) → n ≤ places → 0 < n → x % places + n ≡ places + k → suc x - k ≡ top (has_room n) (suc x)
 room_past n x k h p e =
     let m : suc (x - k) + k ≡ suc x = omega arith in
-    let here : (x - k) % 256 + n ≤ 256 = omega arith in
+    let here : (x - k) % places + n ≤ places = omega arith in
     let stays : top (has_room n) (suc (x - k) + k) ≡ top (has_room n) (suc (x - k)) =
-    top_stays (has_room n) (suc (x - k)) k (λ j i. let over : 256 < (suc (x - k) + j) % 256 + n = omega arith in lt-leb ((suc (x - k) + j) % 256 + n) 256 over) in
+    top_stays (has_room n) (suc (x - k)) k (λ j i. let over : places < (suc (x - k) + j) % places + n = omega arith in lt-leb ((suc (x - k) + j) % places + n) places over) in
     let at : suc (x - k) ≡ top (has_room n) (suc (x - k)) = room_here n (x - k) here in
     let l : suc x - k ≡ suc (x - k) = omega arith in
     l ∙ at ∙ sym stays ∙ ap (top (has_room n)) m
@@ -211,26 +212,26 @@ phrase_none (p ∷ ps) [] e k = refl
 phrase_none ps (u ∷ us) e zero = sym (starts_run (u ∷ us) ps) ∙ (or_parts (starts_with bytes_eq (u ∷ us) ps) (has_phrase ps us) e).0
 phrase_none ps (u ∷ us) e (suc k) = run_shift u us ps k ∙ phrase_none ps us (or_parts (starts_with bytes_eq (u ∷ us) ps) (has_phrase ps us) e).1 k
 
-start_run : (docs : List Doc) (ps : List (List ℕ)) (n k : ℕ) → k + length ps ≤ 256 → is_run_from docs ps (256 * n + k) ≡ is_run (terms_at docs n) ps k
+start_run : (docs : List Doc) (ps : List (List ℕ)) (n k : ℕ) → k + length ps ≤ places → is_run_from docs ps (places * n + k) ≡ is_run (terms_at docs n) ps k
 start_run docs [] n k h = refl
-start_run docs (p ∷ ps) n k h = let e : suc (256 * n + k) ≡ 256 * n + suc k = omega arith in
+start_run docs (p ∷ ps) n k h = let e : suc (places * n + k) ≡ places * n + suc k = omega arith in
     rw (posting_at docs p n k (omega arith), e, start_run docs ps n (suc k) (omega arith)) refl
 
 phrase_block : (docs : List Doc) → Narrow docs → (ps : List (List ℕ)) → 0 < length ps → (n : ℕ) → Block (match_at docs (phrase ps)) (is_start docs ps) n
 phrase_block docs w ps h n = record {
   some = λ e. let a = phrase_some ps (terms_at docs n) e in
-      let in_doc : a.0 + length ps ≤ 256 = omega (arith, w.narrow n, a.1) in
-      let k : a.0 < 256 = omega arith in
-      let room : (256 * n + a.0) % 256 + length ps ≤ 256 = omega arith in
-      (a.0, k, and_from (has_room (length ps) (256 * n + a.0)) (is_run_from docs ps (256 * n + a.0)) (le-leb ((256 * n + a.0) % 256 + length ps) 256 room) (start_run docs ps n a.0 in_doc ∙ a.2));
-  none = λ e k i. elim (cases_lt 256 (k + length ps)) [
-    | inl j ↦ let over : 256 < (256 * n + k) % 256 + length ps = omega arith in
-        and_left (has_room (length ps) (256 * n + k)) (is_run_from docs ps (256 * n + k)) (lt-leb ((256 * n + k) % 256 + length ps) 256 over)
-    | inr j ↦ and_right (has_room (length ps) (256 * n + k)) (is_run_from docs ps (256 * n + k)) (start_run docs ps n k j ∙ phrase_none ps (terms_at docs n) e k)
+      let in_doc : a.0 + length ps ≤ places = omega (arith, w.narrow n, a.1) in
+      let k : a.0 < places = omega arith in
+      let room : (places * n + a.0) % places + length ps ≤ places = omega arith in
+      (a.0, k, and_from (has_room (length ps) (places * n + a.0)) (is_run_from docs ps (places * n + a.0)) (le-leb ((places * n + a.0) % places + length ps) places room) (start_run docs ps n a.0 in_doc ∙ a.2));
+  none = λ e k i. elim (cases_lt places (k + length ps)) [
+    | inl j ↦ let over : places < (places * n + k) % places + length ps = omega arith in
+        and_left (has_room (length ps) (places * n + k)) (is_run_from docs ps (places * n + k)) (lt-leb ((places * n + k) % places + length ps) places over)
+    | inr j ↦ and_right (has_room (length ps) (places * n + k)) (is_run_from docs ps (places * n + k)) (start_run docs ps n k j ∙ phrase_none ps (terms_at docs n) e k)
   ];
 }
 
-pub phrase_top : (docs : List Doc) → Narrow docs → (ps : List (List ℕ)) → 0 < length ps → (end : ℕ) → top (match_at docs (phrase ps)) end ≡ document_end (top (is_start docs ps) (256 * end))
+pub phrase_top : (docs : List Doc) → Narrow docs → (ps : List (List ℕ)) → 0 < length ps → (end : ℕ) → top (match_at docs (phrase ps)) end ≡ document_end (top (is_start docs ps) (places * end))
 phrase_top docs w ps h end = blocks (match_at docs (phrase ps)) (is_start docs ps) (phrase_block docs w ps h) end
 
 -- ---- the whole phrase
@@ -256,27 +257,27 @@ ahead_of : (start a b u : ℕ) → start ≡ min a b → (start ≡ 0 → ⊥) �
 ahead_of zero a b u m some e = absurd (some refl)
 ahead_of (suc s) a b u m some e = omega arith
 
-pub phrase_asks : (g : Gives) (docs : List Doc) (ts : List (List ℕ)) (cursors : List Cursor) (d : Cursor) (start end last : ℕ) → start ≡ min (256 * end) (get_or cursors 0 d).upto → (start ≡ 0 → ⊥) → Ready g docs (phrase ts) cursors last
+pub phrase_asks : (g : Gives) (docs : List Doc) (ts : List (List ℕ)) (cursors : List Cursor) (d : Cursor) (start end last : ℕ) → start ≡ min (places * end) (get_or cursors 0 d).upto → (start ≡ 0 → ⊥) → Ready g docs (phrase ts) cursors last
     → (start ≤ (get_or cursors 0 d).upto) × AllLeaves g docs ts cursors (get_or cursors 0 d).upto
 phrase_asks g docs ts cursors d start end last m some r = let u : upto cursors ≡ (get_or cursors 0 d).upto = upto_at cursors d r.0 in
-    let ahead : 0 < upto cursors = ahead_of start (256 * end) (get_or cursors 0 d).upto (upto cursors) m some u in
+    let ahead : 0 < upto cursors = ahead_of start (places * end) (get_or cursors 0 d).upto (upto cursors) m some u in
     (omega arith, subst (λ y. AllLeaves g docs ts cursors y) u (r.4 ahead))
 
-passed_at : (docs : List Doc) (ts : List (List ℕ)) (cursors : List Cursor) (d : Cursor) (last : ℕ) → 0 < length cursors → IsPassed (is_start docs ts) (upto cursors) (256 * last) → IsPassed (is_start docs ts) (get_or cursors 0 d).upto (256 * last)
-passed_at docs ts cursors d last some p = subst (λ y. IsPassed (is_start docs ts) y (256 * last)) (upto_at cursors d some) p
+passed_at : (docs : List Doc) (ts : List (List ℕ)) (cursors : List Cursor) (d : Cursor) (last : ℕ) → 0 < length cursors → IsPassed (is_start docs ts) (upto cursors) (places * last) → IsPassed (is_start docs ts) (get_or cursors 0 d).upto (places * last)
+passed_at docs ts cursors d last some p = subst (λ y. IsPassed (is_start docs ts) y (places * last)) (upto_at cursors d some) p
 
 -- all places are passed
 pub phrase_past : (g : Gives) (docs : List Doc) (ts : List (List ℕ)) (cursors : List Cursor) (d : Cursor) (start end last : ℕ)
-    → start ≡ min (256 * end) (get_or cursors 0 d).upto → start ≡ 0 → end ≤ last → Ready g docs (phrase ts) cursors last → (0 ≡ top (match_at docs (phrase ts)) end) × Ready g docs (phrase ts) cursors end
+    → start ≡ min (places * end) (get_or cursors 0 d).upto → start ≡ 0 → end ≤ last → Ready g docs (phrase ts) cursors last → (0 ≡ top (match_at docs (phrase ts)) end) × Ready g docs (phrase ts) cursors end
 phrase_past g docs ts cursors d start end last m z h r =
     let f : ℕ → Bool = is_start docs ts in
     let some : 0 < length ts = omega (arith, r.3, r.0) in
-    let none : min (256 * end) (get_or cursors 0 d).upto ≡ 0 = sym m ∙ z in
-    let top_is : 0 ≡ top f (256 * end) = ap (top f) (sym none) ∙ passed_min f (get_or cursors 0 d).upto (256 * end) (256 * last) (omega arith) (passed_at docs ts cursors d last r.0 r.2) in
+    let none : min (places * end) (get_or cursors 0 d).upto ≡ 0 = sym m ∙ z in
+    let top_is : 0 ≡ top f (places * end) = ap (top f) (sym none) ∙ passed_min f (get_or cursors 0 d).upto (places * end) (places * last) (omega arith) (passed_at docs ts cursors d last r.0 r.2) in
     (ap document_end top_is ∙ sym (phrase_top docs r.1 ts some end), ready_lower g docs (phrase ts) cursors end last h r)
 
 pub phrase_told : (g g' : Gives) (docs : List Doc) (ts : List (List ℕ)) (cursors cursors2 : List Cursor) (d d' : Cursor) (start end last found : ℕ)
-    → start ≡ min (256 * end) (get_or cursors 0 d).upto → end ≤ last → length cursors2 ≡ length cursors
+    → start ≡ min (places * end) (get_or cursors 0 d).upto → end ≤ last → length cursors2 ≡ length cursors
     → (found ≡ top (is_start docs ts) start) × AllLeaves g' docs ts cursors2 found
     → Ready g docs (phrase ts) cursors last
     → (document_end found ≡ top (match_at docs (phrase ts)) end) × Ready g' docs (phrase ts) (set cursors2 0 (record { upto = found; lead = (get_or cursors2 0 d').lead; current = (get_or cursors2 0 d').current; list = (get_or cursors2 0 d').list })) end
@@ -284,10 +285,10 @@ phrase_told g g' docs ts cursors cursors2 d d' start end last found m h len w r 
     let f : ℕ → Bool = is_start docs ts in
     let some : 0 < length ts = omega (arith, r.3, r.0) in
     let some2 : 0 < length cursors2 = omega (arith, len, r.0) in
-    let top_is : found ≡ top f (256 * end) = w.0 ∙ ap (top f) m ∙ passed_min f (get_or cursors 0 d).upto (256 * end) (256 * last) (omega arith) (passed_at docs ts cursors d last r.0 r.2) in
+    let top_is : found ≡ top f (places * end) = w.0 ∙ ap (top f) m ∙ passed_min f (get_or cursors 0 d).upto (places * end) (places * last) (omega arith) (passed_at docs ts cursors d last r.0 r.2) in
     let s' : Cursor = record { upto = found; lead = (get_or cursors2 0 d').lead; current = (get_or cursors2 0 d').current; list = (get_or cursors2 0 d').list } in
     let v : upto (set cursors2 0 s') ≡ found = upto_set cursors2 s' some2 in
-    let again : IsPassed f (upto (set cursors2 0 s')) (256 * end) = subst (λ y. IsPassed f y (256 * end)) (sym v) (passed_again f found (256 * end) top_is) in
+    let again : IsPassed f (upto (set cursors2 0 s')) (places * end) = subst (λ y. IsPassed f y (places * end)) (sym v) (passed_again f found (places * end) top_is) in
     let leaves : AllLeaves g' docs ts (set cursors2 0 s') (upto (set cursors2 0 s')) = subst (λ y. AllLeaves g' docs ts (set cursors2 0 s') y) (sym v) (leaves_upto g' docs ts cursors2 d' found _ found w.1) in
     let long : 0 < length (set cursors2 0 s') = omega (arith, length-set cursors2 0 s') in
     (ap document_end top_is ∙ sym (phrase_top docs r.1 ts some end), (long, r.1, again, length-set cursors2 0 s' ∙ len ∙ r.3, λ _. leaves))

@@ -5,7 +5,7 @@ use Rattle.std.proofs.lemmas.List.{reverse-append, length-reverse, length-append
 use Rattle.std.proofs.Math.Seq.{drop-append_seam}
 use Rattle.eb_base.specs.Term.{Term}
 use Rattle.eb_base.specs.Document.{Doc, IsDocument}
-use Rattle.eb_place.specs.Postings.{posting_of, tokens_from, segment_from, tokens, postings}
+use Rattle.eb_place.specs.Postings.{places, posting_of, tokens_from, segment_from, tokens, postings}
 use Rattle.eb_place.proofs.Histories.{postings_in, postings_append}
 use Rattle.eb_place.proofs.Fresh.{Each}
 use Rattle.eb_place.proofs.Fresh.Each.{none, more}
@@ -25,57 +25,57 @@ below_same f h zero e = refl
 below_same f h (suc n) e = rw (e n (omega arith), below_same f h n (λ i l. e i (omega arith))) refl
 
 -- the terms of one document, from a position on
-tokens_below : (f : ℕ → Bool) (t : Term) (n p : ℕ) (us : List Term) → ((i : ℕ) → i < length us → f (256 * n + p + i) ≡ is_term t (slice_get us i))
-    → below f (256 * n + p + length us) ≡ reverse (postings_in t (tokens_from n p us)) ++ below f (256 * n + p)
-tokens_below f t n p [] h = let e : 256 * n + p + 0 ≡ 256 * n + p = omega arith in ap (below f) e
+tokens_below : (f : ℕ → Bool) (t : Term) (n p : ℕ) (us : List Term) → ((i : ℕ) → i < length us → f (places * n + p + i) ≡ is_term t (slice_get us i))
+    → below f (places * n + p + length us) ≡ reverse (postings_in t (tokens_from n p us)) ++ below f (places * n + p)
+tokens_below f t n p [] h = let e : places * n + p + 0 ≡ places * n + p = omega arith in ap (below f) e
 tokens_below f t n p (u ∷ us) h =
     let rest : List ℕ = postings_in t (tokens_from n (p + 1) us) in
-    let ih = tokens_below f t n (p + 1) us (λ i l. let e : 256 * n + (p + 1) + i ≡ 256 * n + p + suc i = omega arith in rw e (h (suc i) (omega arith))) in
-    let all : 256 * n + p + suc (length us) ≡ 256 * n + (p + 1) + length us = omega arith in
-    let step : 256 * n + (p + 1) ≡ suc (256 * n + p) = omega arith in
-    let same : 256 * n + p + 0 ≡ 256 * n + p = omega arith in
-    let here : f (256 * n + p) ≡ bytes_eq t u = ap f (sym same) ∙ h 0 (omega arith) in
-    let number : posting_of n p ≡ 256 * n + p = omega arith in
+    let ih = tokens_below f t n (p + 1) us (λ i l. let e : places * n + (p + 1) + i ≡ places * n + p + suc i = omega arith in rw e (h (suc i) (omega arith))) in
+    let all : places * n + p + suc (length us) ≡ places * n + (p + 1) + length us = omega arith in
+    let step : places * n + (p + 1) ≡ suc (places * n + p) = omega arith in
+    let same : places * n + p + 0 ≡ places * n + p = omega arith in
+    let here : f (places * n + p) ≡ bytes_eq t u = ap f (sym same) ∙ h 0 (omega arith) in
+    let number : posting_of n p ≡ places * n + p = omega arith in
     ap (below f) all ∙ ih ∙ ap (λ (k : ℕ). reverse rest ++ below f k) step ∙ elim (cases_Bool (bytes_eq t u)) [
       | inl e ↦ rw (here ∙ e, e) (
-          ap (λ (k : ℕ). reverse rest ++ (k ∷ below f (256 * n + p))) (sym number) ∙ sym (append_assoc (reverse rest) (posting_of n p ∷ []) (below f (256 * n + p)))
-          ∙ ap (λ (z : List ℕ). z ++ below f (256 * n + p)) (sym (reverse-append (posting_of n p ∷ []) rest)))
+          ap (λ (k : ℕ). reverse rest ++ (k ∷ below f (places * n + p))) (sym number) ∙ sym (append_assoc (reverse rest) (posting_of n p ∷ []) (below f (places * n + p)))
+          ∙ ap (λ (z : List ℕ). z ++ below f (places * n + p)) (sym (reverse-append (posting_of n p ∷ []) rest)))
       | inr e ↦ rw (here ∙ e, e) refl
     ]
 
-pub segment_below : (f : ℕ → Bool) (t : Term) (n : ℕ) (ds : List Doc) → Narrow ds → ((k i : ℕ) → k < length ds → i < 256 → f (256 * (n + k) + i) ≡ is_term t (slice_get (terms_at ds k) i))
-    → below f (256 * (n + length ds)) ≡ reverse (postings_in t (segment_from n ds)) ++ below f (256 * n)
-segment_below f t n [] w h = let e : n + 0 ≡ n = omega arith in ap (λ (k : ℕ). below f (256 * k)) e
+pub segment_below : (f : ℕ → Bool) (t : Term) (n : ℕ) (ds : List Doc) → Narrow ds → ((k i : ℕ) → k < length ds → i < places → f (places * (n + k) + i) ≡ is_term t (slice_get (terms_at ds k) i))
+    → below f (places * (n + length ds)) ≡ reverse (postings_in t (segment_from n ds)) ++ below f (places * n)
+segment_below f t n [] w h = let e : n + 0 ≡ n = omega arith in ap (λ (k : ℕ). below f (places * k)) e
 segment_below f t n (d ∷ ds) w h =
-    let few : length d.terms ≤ 256 = w.narrow 0 in
+    let few : length d.terms ≤ places = w.narrow 0 in
     let ih = segment_below f t (n + 1) ds (record { narrow = λ k. w.narrow (suc k) }) (λ k i l j. let e : n + 1 + k ≡ n + suc k = omega arith in rw e (h (suc k) i (omega arith) j)) in
-    let at : (i : ℕ) → i < 256 → f (256 * n + i) ≡ is_term t (slice_get d.terms i) = λ i j. let e : n + 0 ≡ n = omega arith in ap (λ (k : ℕ). f (256 * k + i)) (sym e) ∙ h 0 i (omega arith) j in
-    let past : (i : ℕ) → i < 256 - length d.terms → f (256 * n + length d.terms + i) ≡ false = λ i j.
-    let e : 256 * n + length d.terms + i ≡ 256 * n + (length d.terms + i) = omega arith in
+    let at : (i : ℕ) → i < places → f (places * n + i) ≡ is_term t (slice_get d.terms i) = λ i j. let e : n + 0 ≡ n = omega arith in ap (λ (k : ℕ). f (places * k + i)) (sym e) ∙ h 0 i (omega arith) j in
+    let past : (i : ℕ) → i < places - length d.terms → f (places * n + length d.terms + i) ≡ false = λ i j.
+    let e : places * n + length d.terms + i ≡ places * n + (length d.terms + i) = omega arith in
     ap f e ∙ at (length d.terms + i) (omega arith) ∙ ap (is_term t) (past_end d.terms i) in
-    let full : 256 * (n + 1) ≡ 256 * n + length d.terms + (256 - length d.terms) = omega arith in
-    let zero_is : 256 * n + 0 + length d.terms ≡ 256 * n + length d.terms = omega arith in
-    let none_is : 256 * n + 0 ≡ 256 * n = omega arith in
-    let one = tokens_below f t n 0 d.terms (λ i l. let e : 256 * n + 0 + i ≡ 256 * n + i = omega arith in ap f e ∙ at i (omega arith)) in
-    let doc : below f (256 * (n + 1)) ≡ reverse (postings_in t (tokens_from n 0 d.terms)) ++ below f (256 * n) =
-    ap (below f) full ∙ below_past f (256 * n + length d.terms) (256 - length d.terms) past ∙ ap (below f) (sym zero_is) ∙ one ∙ ap (λ (k : ℕ). reverse (postings_in t (tokens_from n 0 d.terms)) ++ below f k) none_is in
+    let full : places * (n + 1) ≡ places * n + length d.terms + (places - length d.terms) = omega arith in
+    let zero_is : places * n + 0 + length d.terms ≡ places * n + length d.terms = omega arith in
+    let none_is : places * n + 0 ≡ places * n = omega arith in
+    let one = tokens_below f t n 0 d.terms (λ i l. let e : places * n + 0 + i ≡ places * n + i = omega arith in ap f e ∙ at i (omega arith)) in
+    let doc : below f (places * (n + 1)) ≡ reverse (postings_in t (tokens_from n 0 d.terms)) ++ below f (places * n) =
+    ap (below f) full ∙ below_past f (places * n + length d.terms) (places - length d.terms) past ∙ ap (below f) (sym zero_is) ∙ one ∙ ap (λ (k : ℕ). reverse (postings_in t (tokens_from n 0 d.terms)) ++ below f k) none_is in
     let size : n + suc (length ds) ≡ n + 1 + length ds = omega arith in
-    ap (λ (k : ℕ). below f (256 * k)) size ∙ ih ∙ ap (λ (z : List ℕ). reverse (postings_in t (segment_from (n + 1) ds)) ++ z) doc
-    ∙ sym (append_assoc (reverse (postings_in t (segment_from (n + 1) ds))) (reverse (postings_in t (tokens_from n 0 d.terms))) (below f (256 * n)))
-    ∙ ap (λ (z : List ℕ). z ++ below f (256 * n)) (sym (reverse-append (postings_in t (tokens_from n 0 d.terms)) (postings_in t (segment_from (n + 1) ds))) ∙ ap reverse (sym (postings_append t (tokens_from n 0 d.terms) (segment_from (n + 1) ds))))
+    ap (λ (k : ℕ). below f (places * k)) size ∙ ih ∙ ap (λ (z : List ℕ). reverse (postings_in t (segment_from (n + 1) ds)) ++ z) doc
+    ∙ sym (append_assoc (reverse (postings_in t (segment_from (n + 1) ds))) (reverse (postings_in t (tokens_from n 0 d.terms))) (below f (places * n)))
+    ∙ ap (λ (z : List ℕ). z ++ below f (places * n)) (sym (reverse-append (postings_in t (tokens_from n 0 d.terms)) (postings_in t (segment_from (n + 1) ds))) ∙ ap reverse (sym (postings_append t (tokens_from n 0 d.terms) (segment_from (n + 1) ds))))
   where
     past_end : (ts : List Term) (i : ℕ) → slice_get ts (length ts + i) ≡ None
     past_end [] i = refl
     past_end (t ∷ ts) i = let e : suc (length ts) + i ≡ suc (length ts + i) = omega arith in rw e (past_end ts i)
 
 -- read backwards they are the places below the end of the segment where the term stands
-pub postings_below : (t : Term) (ds : List Doc) → Narrow ds → reverse (postings t ds) ≡ below (is_posting ds t) (256 * length ds)
+pub postings_below : (t : Term) (ds : List Doc) → Narrow ds → reverse (postings t ds) ≡ below (is_posting ds t) (places * length ds)
 unfolding postings tokens
 postings_below t ds w =
     let z : 0 + length ds ≡ length ds = omega arith in
     let all = segment_below (is_posting ds t) t 0 ds w (λ k i l j.
-    let d : (256 * (0 + k) + i) / 256 ≡ k = omega arith in let m : (256 * (0 + k) + i) % 256 ≡ i = omega arith in rw (d, m) refl) in
-    sym (ap (λ (k : ℕ). below (is_posting ds t) (256 * k)) (sym z) ∙ all ∙ append-nil (reverse (postings_in t (segment_from 0 ds))))
+    let d : (places * (0 + k) + i) / places ≡ k = omega arith in let m : (places * (0 + k) + i) % places ≡ i = omega arith in rw (d, m) refl) in
+    sym (ap (λ (k : ℕ). below (is_posting ds t) (places * k)) (sym z) ∙ all ∙ append-nil (reverse (postings_in t (segment_from 0 ds))))
 
 -- ---- they fall
 
@@ -112,18 +112,18 @@ reverse-take k xs h =
 -- a front of the postings of a segment, read backwards, falls; and where it has all postings of the first
 -- documents, it is these below their end
 pub seen_below : (t : Term) (docs rest : List Doc) (k : ℕ) → Narrow (docs ++ rest) → Narrow docs → length (postings t docs) ≤ k → k ≤ length (postings t (docs ++ rest))
-    → IsFalling (reverse (take k (postings t (docs ++ rest)))) × (from_below (256 * length docs) (reverse (take k (postings t (docs ++ rest)))) ≡ below (is_posting docs t) (256 * length docs))
+    → IsFalling (reverse (take k (postings t (docs ++ rest)))) × (from_below (places * length docs) (reverse (take k (postings t (docs ++ rest)))) ≡ below (is_posting docs t) (places * length docs))
 seen_below t docs rest k w v few most =
     let P : List ℕ = postings t (docs ++ rest) in
     let F : ℕ → Bool = is_posting (docs ++ rest) t in
-    let N : ℕ = 256 * length (docs ++ rest) in
-    let M : ℕ = 256 * length docs in
+    let N : ℕ = places * length (docs ++ rest) in
+    let M : ℕ = places * length docs in
     let j : ℕ = length P - k in
     let whole : reverse P ≡ below F N = postings_below t (docs ++ rest) w in
     let back : reverse (take k P) ≡ drop j (below F N) = reverse-take k P most ∙ ap (drop j) whole in
     let under : M ≤ N = omega (arith, length-append docs rest) in
     let low : from_below M (below F N) ≡ below F M = from_below-below F M N under in
-    let same : below F M ≡ below (is_posting docs t) M = below_same F (is_posting docs t) M (λ i l. ap (λ (d : List Term). is_term t (slice_get d (i % 256))) (front_terms docs rest (i / 256) (omega arith))) in
+    let same : below F M ≡ below (is_posting docs t) M = below_same F (is_posting docs t) M (λ i l. ap (λ (d : List Term). is_term t (slice_get d (i % places))) (front_terms docs rest (i / places) (omega arith))) in
     let size : length (below (is_posting docs t) M) ≡ length (postings t docs) = ap length (sym (postings_below t docs v)) ∙ length-reverse (postings t docs) in
     let long : length (below F N) ≡ length P = ap length (sym whole) ∙ length-reverse P in
     let out : from_below M (drop j (below F N)) ≡ from_below M (below F N) = left_out M j (below F N) (omega (arith, ap length low, ap length same, size, long)) in
@@ -134,12 +134,12 @@ seen_below t docs rest k w v few most =
     front_terms (d ∷ ds) rest zero h = refl
     front_terms (d ∷ ds) rest (suc n) h = front_terms ds rest n (omega arith)
 
--- ---- no document has more than 256 terms
+-- ---- no document has more terms than places
 
 pub narrow_each : (ds : List Doc) → Each IsDocument ds → Narrow ds
 narrow_each ds h = record { narrow = go ds h }
   where
-    go : (ds : List Doc) → Each IsDocument ds → (n : ℕ) → length (terms_at ds n) ≤ 256
+    go : (ds : List Doc) → Each IsDocument ds → (n : ℕ) → length (terms_at ds n) ≤ places
     go [] none n = omega arith
     go (d ∷ ds) (more i h) zero = i.limits.tokens
     go (d ∷ ds) (more i h) (suc n) = go ds h n
@@ -147,7 +147,7 @@ narrow_each ds h = record { narrow = go ds h }
 pub narrow_front : (docs rest : List Doc) → Narrow (docs ++ rest) → Narrow docs
 narrow_front docs rest w = record { narrow = λ n. go docs rest n (w.narrow n) }
   where
-    go : (docs rest : List Doc) (n : ℕ) → length (terms_at (docs ++ rest) n) ≤ 256 → length (terms_at docs n) ≤ 256
+    go : (docs rest : List Doc) (n : ℕ) → length (terms_at (docs ++ rest) n) ≤ places → length (terms_at docs n) ≤ places
     go [] rest n h = omega arith
     go (d ∷ ds) rest zero h = h
     go (d ∷ ds) rest (suc n) h = go ds rest n h

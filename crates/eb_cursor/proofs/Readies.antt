@@ -4,6 +4,7 @@ use Rattle.std.proofs.lemmas.List.{take-append-drop}
 use Rattle.std.proofs.Math.Seq.{take-append_seam, drop-append_seam}
 use Rattle.eb_base.specs.Document.{Doc}
 use Rattle.eb_base.specs.Query.{Tree, Trees, size, sizes, word, phrase, negation, conjunction, disjunction, no_trees, trees}
+use Rattle.eb_place.specs.Postings.{places}
 use Rattle.eb_cursor.specs.Tops.{top}
 use Rattle.eb_cursor.specs.Lists.{Gives}
 use Rattle.eb_cursor.specs.Posted.{is_posting, is_start, match_at, each_at}
@@ -21,12 +22,12 @@ passed_lower f low e last h p = record {
 
 pub only_lower : (g : Gives) (docs : List Doc) (t : List ℕ) (cursors : List Cursor) (e last : ℕ) → e ≤ last → IsOnly g docs t cursors last → IsOnly g docs t cursors e
 only_lower g docs t [] e last h r = r
-only_lower g docs t (s ∷ ss) e last h r = (r.0, r.1, leaf_lower g (is_posting docs t) s (256 * e) (256 * last) (omega arith) r.2)
+only_lower g docs t (s ∷ ss) e last h r = (r.0, r.1, leaf_lower g (is_posting docs t) s (places * e) (places * last) (omega arith) r.2)
 
 mutual
   pub ready_lower : (g : Gives) (docs : List Doc) (q : Tree) (cursors : List Cursor) (e last : ℕ) → e ≤ last → Ready g docs q cursors last → Ready g docs q cursors e
   ready_lower g docs (word t) cursors e last h r = only_lower g docs t cursors e last h r
-  ready_lower g docs (phrase ts) cursors e last h r = (r.0, r.1, passed_lower (is_start docs ts) (upto cursors) (256 * e) (256 * last) (omega arith) r.2, r.3, r.4)
+  ready_lower g docs (phrase ts) cursors e last h r = (r.0, r.1, passed_lower (is_start docs ts) (upto cursors) (places * e) (places * last) (omega arith) r.2, r.3, r.4)
   ready_lower g docs (negation q) cursors e last h r = (r.0, passed_lower (λ n. not (match_at docs q n)) (upto cursors) e last h r.1, r.2)
   ready_lower g docs (conjunction qs) cursors e last h r = (r.0, passed_lower (each_at docs qs) (upto cursors) e last h r.1, r.2)
   ready_lower g docs (disjunction qs) cursors e last h r = (r.0, all_lower g docs qs (rest_of cursors) e last h r.1)
@@ -52,7 +53,7 @@ leaves_length g docs (t ∷ ts) (s ∷ ss) end r = omega (arith, leaves_length g
 
 only_later : (g g' : Gives) → ((c : PostingList) (xs : List ℕ) → g c xs → g' c xs) → (docs : List Doc) (t : List ℕ) (cursors : List Cursor) (last : ℕ) → IsOnly g docs t cursors last → IsOnly g' docs t cursors last
 only_later g g' w docs t [] last r = r
-only_later g g' w docs t (s ∷ ss) last r = (r.0, r.1, leaf_later g g' w (is_posting docs t) s (256 * last) r.2)
+only_later g g' w docs t (s ∷ ss) last r = (r.0, r.1, leaf_later g g' w (is_posting docs t) s (places * last) r.2)
 
 mutual
   pub ready_later : (g g' : Gives) → ((c : PostingList) (xs : List ℕ) → g c xs → g' c xs) → (docs : List Doc) (q : Tree) (cursors : List Cursor) (last : ℕ) → Ready g docs q cursors last → Ready g' docs q cursors last

@@ -5,6 +5,7 @@ use Rattle.eb_base.specs.Document.{Doc}
 use Rattle.eb_base.specs.Query.{Tree, Trees, size, word, phrase, negation, conjunction, disjunction, no_trees, trees, tree, queries_of}
 use Rattle.eb_base.specs.declared.query.Query.{Query, And, Or, Not, Word, Phrase, the_lemmas}
 use Rattle.eb_base.specs.declared.query.Queries.{Queries}
+use Rattle.eb_place.specs.Postings.{places}
 use Rattle.eb_cursor.specs.Tops.{top}
 use Rattle.eb_cursor.specs.Lists.{Gives}
 use Rattle.eb_cursor.specs.Posted.{is_posting, match_at, each_at, some_at, document_end}
@@ -39,11 +40,11 @@ ended g docs q cursors (suc end) last e r = absurd (omega arith)
 
 -- ---- words
 
-pub word_asks : (g : Gives) (docs : List Doc) (t : List ℕ) (cursors : List Cursor) (d : Cursor) (end last : ℕ) → end ≤ last → IsOnly g docs t cursors last → IsLeaf g (is_posting docs t) (get_or cursors 0 d) (256 * end)
+pub word_asks : (g : Gives) (docs : List Doc) (t : List ℕ) (cursors : List Cursor) (d : Cursor) (end last : ℕ) → end ≤ last → IsOnly g docs t cursors last → IsLeaf g (is_posting docs t) (get_or cursors 0 d) (places * end)
 word_asks g docs t [] d end last h r = absurd r
-word_asks g docs t (s ∷ ss) d end last h r = leaf_lower g (is_posting docs t) s (256 * end) (256 * last) (omega arith) r.2
+word_asks g docs t (s ∷ ss) d end last h r = leaf_lower g (is_posting docs t) s (places * end) (places * last) (omega arith) r.2
 
-pub word_told : (g g' : Gives) (docs : List Doc) (t : List ℕ) (cursors : List Cursor) (s' : Cursor) (end last found : ℕ) → found ≡ top (is_posting docs t) (256 * end) → IsLeaf g' (is_posting docs t) s' (256 * end) → IsOnly g docs t cursors last → (document_end found ≡ top (match_at docs (word t)) end) × IsOnly g' docs t (set cursors 0 s') end
+pub word_told : (g g' : Gives) (docs : List Doc) (t : List ℕ) (cursors : List Cursor) (s' : Cursor) (end last found : ℕ) → found ≡ top (is_posting docs t) (places * end) → IsLeaf g' (is_posting docs t) s' (places * end) → IsOnly g docs t cursors last → (document_end found ≡ top (match_at docs (word t)) end) × IsOnly g' docs t (set cursors 0 s') end
 word_told g g' docs t [] s' end last found e leaf r = absurd r
 word_told g g' docs t (s ∷ ss) s' end last found e leaf r = (ap document_end e ∙ sym (word_top docs r.1 t end), (r.0, r.1, leaf))
 

@@ -2,6 +2,7 @@
 use Rattle.std.specs.Prelude.{◌≡◌, ℕ, ◌*◌, Bool, true, false, List, length, [], ◌∷◌, None}
 use Rattle.eb_base.specs.Document.{Doc}
 use Rattle.eb_base.specs.Query.{Tree, Trees}
+use Rattle.eb_place.specs.Postings.{places}
 use Rattle.eb_place.specs.declared.moment.Moment.{Moment}
 use Rattle.eb_cursor.specs.Lists.{Gives, gives}
 use Rattle.eb_cursor.specs.Opened.{AreFirst}
@@ -27,7 +28,7 @@ AllAt g docs (t ∷ ts) (c ∷ cs) end = IsLeaf g (is_posting docs t) c end × A
 
 -- the terms of a phrase are begun, or one of them stands in no document
 pub record BegunLeaves (docs : List Doc) (ts : List (List ℕ)) (cursors : List Cursor) (may : Bool) (n : Moment) : Type 0 where
-  pub ready : may ≡ true → AllAt (gives n) docs ts cursors (256 * length docs)
+  pub ready : may ≡ true → AllAt (gives n) docs ts cursors (places * length docs)
   pub none : may ≡ false → (x : ℕ) → is_run_from docs ts x ≡ false
 
 -- the query is begun; where the answer is false no document matches

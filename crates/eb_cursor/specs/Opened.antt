@@ -1,6 +1,7 @@
 -- What opening a list gives.
 use Rattle.std.specs.Prelude.{◌≡◌, ℕ, ◌*◌, ◌<◌, ◌++◌, List, length}
 use Rattle.eb_base.specs.Document.{Doc}
+use Rattle.eb_place.specs.Postings.{places}
 use Rattle.eb_place.specs.declared.moment.Moment.{Moment}
 use Rattle.eb_cursor.specs.Accepted.{accepted_in}
 use Rattle.eb_cursor.specs.Lists.{gives, IsFalling, from_below}
@@ -20,4 +21,4 @@ pub record Opened (m : Moment) (docs : List Doc) (t : List ℕ) (list : PostingL
   pub postings : List ℕ
   pub told : gives m list postings
   pub falls : IsFalling postings
-  pub all : from_below (256 * length docs) postings ≡ below (is_posting docs t) (256 * length docs)
+  pub all : from_below (places * length docs) postings ≡ below (is_posting docs t) (places * length docs)

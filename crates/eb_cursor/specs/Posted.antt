@@ -3,6 +3,7 @@ use Rattle.std.specs.Prelude.{ℕ, zero, suc, ◌+◌, ◌/◌, ◌%◌, ◌≤�
 use Rattle.eb_base.specs.Document.{Doc}
 use Rattle.eb_base.specs.Query.{Tree, Trees}
 use Rattle.eb_base.specs.Match.{is_match, each_matches, some_matches}
+use Rattle.eb_place.specs.Postings.{places}
 
 -- the terms of a document, none where there is none
 abbrev pub terms_in : Option Doc → List (List ℕ)
@@ -20,7 +21,7 @@ is_term t (Some u) = bytes_eq t u
 
 -- whether the term stands at this place of this document, both in one number
 abbrev pub is_posting : List Doc → List ℕ → ℕ → Bool
-is_posting docs t x = is_term t (slice_get (terms_at docs (x / 256)) (x % 256))
+is_posting docs t x = is_term t (slice_get (terms_at docs (x / places)) (x % places))
 
 -- whether the document with this number matches
 abbrev pub match_at : List Doc → Tree → ℕ → Bool
@@ -39,19 +40,19 @@ abbrev pub is_run_from : List Doc → List (List ℕ) → ℕ → Bool
 is_run_from docs [] x = true
 is_run_from docs (t ∷ ts) x = is_posting docs t x && is_run_from docs ts (suc x)
 
--- whether there are this many places from here to the end of the document's 256
+-- whether there are this many places from here to the end of those of the document
 abbrev pub has_room : ℕ → ℕ → Bool
-has_room n x = leb (x % 256 + n) 256
+has_room n x = leb (x % places + n) places
 
 -- whether a phrase begins at this place
 abbrev pub is_start : List Doc → List (List ℕ) → ℕ → Bool
 is_start docs ts x = has_room (length ts) x && is_run_from docs ts x
 
--- no document has more than 256 terms
+-- no document has more terms than places
 pub record Narrow (docs : List Doc) : Type 0 where
-  pub narrow : (n : ℕ) → length (terms_at docs n) ≤ 256
+  pub narrow : (n : ℕ) → length (terms_at docs n) ≤ places
 
 -- one more than the document of the posting before this one
 abbrev pub document_end : ℕ → ℕ
 document_end zero = 0
-document_end (suc x) = suc (x / 256)
+document_end (suc x) = suc (x / places)

@@ -2,6 +2,7 @@
 use Rattle.std.specs.Prelude.{◌≡◌, ℕ, suc, ◌*◌, ◌<◌, ◌≤◌, Bool, not, List, [], ◌∷◌, length, take, drop, Option, None, Some}
 use Rattle.eb_base.specs.Document.{Doc}
 use Rattle.eb_base.specs.Query.{Tree, Trees, size, word, phrase, negation, conjunction, disjunction, no_trees, trees}
+use Rattle.eb_place.specs.Postings.{places}
 use Rattle.eb_cursor.specs.Tops.{top, below}
 use Rattle.eb_cursor.specs.Posted.{is_posting, is_start, match_at, each_at, Narrow}
 use Rattle.eb_cursor.specs.Lists.{Gives, IsFalling, from_below}
@@ -23,7 +24,7 @@ pub record IsLeaf (g : Gives) (f : ℕ → Bool) (cursor : Cursor) (last : ℕ) 
 -- the one cursor of a word is ready
 abbrev pub IsOnly : Gives → List Doc → List ℕ → List Cursor → ℕ → Type 0
 IsOnly g docs t [] last = ⊥
-IsOnly g docs t (s ∷ ss) last = (ss ≡ []) × Narrow docs × IsLeaf g (is_posting docs t) s (256 * last)
+IsOnly g docs t (s ∷ ss) last = (ss ≡ []) × Narrow docs × IsLeaf g (is_posting docs t) s (places * last)
 
 -- the end that the first cursor has come to
 abbrev pub upto : List Cursor → ℕ
@@ -49,7 +50,7 @@ AllLeaves g docs (t ∷ ts) (s ∷ ss) end = IsLeaf g (is_posting docs t) s end 
 abbrev mutual
   pub Ready : Gives → List Doc → Tree → List Cursor → ℕ → Type 0
   Ready g docs (word t) cursors last = IsOnly g docs t cursors last
-  Ready g docs (phrase ts) cursors last = (0 < length cursors) × Narrow docs × IsPassed (is_start docs ts) (upto cursors) (256 * last) × (length cursors ≡ length ts) × (0 < upto cursors → AllLeaves g docs ts cursors (upto cursors))
+  Ready g docs (phrase ts) cursors last = (0 < length cursors) × Narrow docs × IsPassed (is_start docs ts) (upto cursors) (places * last) × (length cursors ≡ length ts) × (0 < upto cursors → AllLeaves g docs ts cursors (upto cursors))
   Ready g docs (negation q) cursors last = (0 < length cursors) × IsPassed (λ n. not (match_at docs q n)) (upto cursors) last × Ready g docs q (rest_of cursors) (upto cursors)
   Ready g docs (conjunction qs) cursors last = (0 < length cursors) × IsPassed (each_at docs qs) (upto cursors) last × AllReady g docs qs (rest_of cursors) (upto cursors)
   Ready g docs (disjunction qs) cursors last = (0 < length cursors) × AllReady g docs qs (rest_of cursors) last

@@ -2,6 +2,7 @@
 ghost use Rattle.std.specs.Prelude.{◌≡◌, ℕ, ◌+◌, ◌*◌, ◌<◌, ◌≤◌, ◌^◌, List, length, if◌then◌else◌};
 ghost use Rattle.eb_base.specs.Document.{Doc};
 ghost use Rattle.eb_base.specs.Query.{tree, size, sizes, IsFormed, AreFormed};
+ghost use Rattle.eb_place.specs.Postings.{places};
 ghost use Rattle.eb_place.specs.declared.moment.Moment.{Moment};
 ghost use Rattle.eb_cursor.specs.Told.{Told};
 ghost use Rattle.eb_cursor.specs.Lists.{gives};
@@ -12,12 +13,11 @@ ghost use Rattle.eb_cursor.specs.Asked.{trees_in};
 ghost use Rattle.eb_cursor.specs.Begun.{AreClear, CanBegin, Begun, BegunLeaves, BegunEach, BegunSome};
 
 use crate::cursor::Cursor;
-use crate::phrase::PLACES;
 use crate::posting_list::PostingList;
 use crate::rarest::{rarest, rarest_leaf};
 use crate::size::size;
 use eb_base::{Query, Term};
-use eb_place::{Port, Steps};
+use eb_place::{PLACES, Port, Steps};
 use std::sync::ledger::Ledger;
 
 /// Lets each cursor have passed everything, and forget its list.
@@ -40,7 +40,7 @@ fn open_leaf<P: Port, L: Ledger>(
 ) -> Cursor
     requires { (m : Moment) × (docs : List Doc) × P.stands port.old m × AreFirst m segment docs }
     ensures { (docs : List Doc) → Told P.stands P.keeps port.old port.new (λ m. AreFirst m segment docs)
-        (λ n. IsLeaf (gives n) (is_posting docs term.now) result (256 * length docs)) }
+        (λ n. IsLeaf (gives n) (is_posting docs term.now) result (places * length docs)) }
 {
     let mut list = PostingList::open(term, segment, port, steps);
     let current = list.next(port, steps);

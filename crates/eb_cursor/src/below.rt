@@ -10,10 +10,10 @@ ghost use Rattle.eb_cursor.specs.Ready.{Ready, AllReady};
 ghost use Rattle.eb_cursor.specs.Asked.{trees_in, CanAsk, CanAskAll, Found, FoundNot, FoundSome, FoundAll, CanAskWord, IsLed, IsRound};
 
 use crate::cursor::{Cursor, leaf_below};
-use crate::phrase::{PLACES, phrase_below, to_document_end};
+use crate::phrase::{phrase_below, to_document_end};
 use crate::size::size;
 use eb_base::Query;
-use eb_place::{Port, Steps};
+use eb_place::{PLACES, Port, Steps};
 use std::sync::ledger::Ledger;
 
 /// One more than the greatest document below `end` that matches, or 0.

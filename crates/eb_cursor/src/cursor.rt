@@ -8,7 +8,7 @@ ghost use Rattle.eb_cursor.specs.Loads.{ahead};
 ghost use Rattle.eb_cursor.specs.Asked.{FoundLeaf};
 
 use crate::posting_list::PostingList;
-use eb_place::{Port, Steps};
+use eb_place::{Port, Posting, Steps};
 use std::sync::ledger::Ledger;
 
 /// What a part of a query remembers between two calls: each word, each term of a phrase and each
@@ -20,7 +20,7 @@ pub struct Cursor {
     /// Of an and or a phrase: the number of the part or term that is asked first, counted from 0.
     pub lead: u32,
     /// Of a word or a term of a phrase: the posting that was given last.
-    pub current: Option<u32>,
+    pub current: Option<Posting>,
     /// The postings below it.
     pub list: PostingList,
 }

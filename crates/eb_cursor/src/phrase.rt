@@ -2,6 +2,7 @@
 ghost use Rattle.std.specs.Prelude.{◌≡◌, ℕ, ◌+◌, ◌*◌, ◌<◌, ◌≤◌, ◌^◌, List, length};
 ghost use Rattle.eb_base.specs.Document.{Doc};
 ghost use Rattle.eb_base.specs.Query.{phrase};
+ghost use Rattle.eb_place.specs.Postings.{places};
 ghost use Rattle.eb_place.specs.declared.moment.Moment.{Moment};
 ghost use Rattle.eb_cursor.specs.Told.{Told};
 ghost use Rattle.eb_cursor.specs.Lists.{gives};
@@ -12,11 +13,8 @@ ghost use Rattle.eb_cursor.specs.Asked.{CanAskPhrase, CanAskLeaves, Found, Found
 ghost use Rattle.eb_cursor.specs.Tops.{top};
 
 use crate::cursor::{Cursor, leaf_below};
-use eb_place::{POSITION_BITS, Port, Steps};
+use eb_place::{PLACES, Port, Steps};
 use std::sync::ledger::Ledger;
-
-/// The places of a document: a posting is the number of its document times this and its position.
-pub const PLACES: u64 = 1 << POSITION_BITS;
 
 /// One more than the document of the posting before this place, or 0.
 pub fn to_document_end(place: u64) -> u64
@@ -30,7 +28,7 @@ pub fn to_document_end(place: u64) -> u64
 
 // The greatest end at or below this one, from before which `count` places lie in one document.
 fn room_below(count: u64, end: u64) -> u64
-    requires { (0 < count) × (count ≤ 256) }
+    requires { (0 < count) × (count ≤ places) }
     ensures { result ≡ top (has_room count) end }
 {
     if end == 0 {

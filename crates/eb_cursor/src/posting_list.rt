@@ -8,7 +8,7 @@ ghost use Rattle.eb_cursor.specs.Opened.{AreFirst, Opened};
 
 use eb_base::Term;
 use eb_chain::Chain;
-use eb_place::{Port, Steps};
+use eb_place::{Port, Posting, Steps};
 use eb_terms::find;
 use std::sync::ledger::Ledger;
 
@@ -39,7 +39,7 @@ impl PostingList {
     }
 
     /// The next posting, until all are given. Takes no memory.
-    pub fn next<P: Port, L: Ledger>(&mut self, port: &mut P, steps: &mut Steps<L>) -> Option<u32>
+    pub fn next<P: Port, L: Ledger>(&mut self, port: &mut P, steps: &mut Steps<L>) -> Option<Posting>
         requires { (m : Moment) × (xs : List ℕ) × P.stands port.old m × gives m self.old xs }
         ensures given { (xs : List ℕ) → Told P.stands P.keeps port.old port.new (λ m. gives m self.old xs) (Gave xs self.new result) }
         ensures loads { steps.new ≤ steps.old + 2 }

@@ -2,6 +2,7 @@ use crate::Frame;
 use crate::cursor::Cursor;
 use crate::rarest::rarest_leaf;
 use eb_base::{Queries, Query, Term, Terms};
+use eb_place::Posting;
 use std::alloc::Global;
 use std::test::Fail;
 
@@ -32,7 +33,7 @@ fn a_frame_takes_ids(rt: HostRuntime) -> Result<(), Fail> {
 }
 
 // A leaf that stands at this posting.
-fn leaf(posting: Option<u32>) -> Cursor {
+fn leaf(posting: Option<Posting>) -> Cursor {
     let mut cursor = Cursor::new();
     cursor.current = posting;
     cursor

@@ -15,6 +15,9 @@ pub type Posting = u32;
 /// The lowest bits of a posting, which hold the position; the bits above hold the document's number.
 pub const POSITION_BITS: u32 = 8;
 
+/// The places of a document: a posting is its document's number times this and its position.
+pub const PLACES: u64 = 1 << POSITION_BITS;
+
 /// All bits of a posting: 24 of the document's number and 8 of the position (the Earlybird paper of 2012).
 pub const POSTING_BITS: u32 = 32;
 

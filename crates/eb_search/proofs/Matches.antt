@@ -9,7 +9,7 @@ use Rattle.eb_base.specs.Query.{Tree}
 use Rattle.eb_base.specs.Match.{is_match, answer}
 use Rattle.eb_base.proofs.Answering.{IsWalk, walk_match, walk_other, walk_full, walk_end, walk_start, answer-append}
 use Rattle.eb_cursor.specs.Greatest.{MatchesAt, IsGreatest, IsGreatestMatch}
-use Rattle.eb_cursor.proofs.Matching.{match_decides}
+use Rattle.eb_base.proofs.Matching.{match_decides}
 
 -- a document that no answer needs
 abbrev pub nobody : Doc

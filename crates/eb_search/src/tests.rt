@@ -7,7 +7,7 @@ use crate::search;
 use eb_base::{Config, Document, Gate, Point, Query, Term, Terms};
 use eb_cursor::Frame;
 use eb_flat::FlatWords;
-use eb_place::Steps;
+use eb_place::{Port, Steps};
 use eb_writer::{Full, Placer};
 use std::alloc::Global;
 use std::cell::Cell;
@@ -15,17 +15,78 @@ use std::marker::Brand;
 use std::sync::ledger::{Blank, Ledger};
 use std::test::Fail;
 
-// A gate that keeps the last count that it was told of, and how often it was told of a point.
+// A port that counts its own loads, in a counter that a gate looks at.
 #[derive(Drop)]
-struct Recorder {
-    count: Cell<u64>,
-    points: Cell<u64>,
+struct CountedWords<'a> {
+    words: FlatWords,
+    loads: &'a Cell<u64>,
 }
 
-impl Gate for Recorder {
+impl Port for CountedWords<'_> {
+    ghost use Rattle.std.proofs.Common.{refl, ◌∙◌};
+    ghost use Rattle.eb_flat.specs.Flat.{StandsFor};
+
+    ghost stands = { λ s m. StandsFor s.words m };
+
+    ghost keeps = { λ s m t n. (t.words ≡ s.words) × (n ≡ m) };
+
+    ghost same = { λ s t. t.words.setting ≡ s.words.setting };
+
+    fn config(&self) -> Config {
+        self.words.config()
+    }
+
+    fn load<L: Ledger>(&mut self, place: u64, steps: &mut Steps<L>) -> u64 {
+        self.loads.set(self.loads.get().wrapping_add(1));
+        self.words.load(place, steps)
+    }
+
+    ghost lawful = { λ s m h. h.moment };
+
+    ghost keeps_itself = { λ s m h. (refl, refl) };
+
+    ghost keeps_on = { λ s t u l m n h k. (k.0 ∙ h.0, k.1 ∙ h.1) };
+
+    ghost keeps_same = { λ s t m n h. λ i. (h.0 i).setting };
+
+    ghost same_on = { λ s t u h k. k ∙ h };
+}
+
+// A gate that keeps the last count that it was told of, how often it was told of a point, and how many loads
+// there were by then.
+#[derive(Drop)]
+struct Recorder<'a> {
+    loads: &'a Cell<u64>,
+    count: Cell<u64>,
+    points: Cell<u64>,
+    loads_at_count: Cell<u64>,
+}
+
+impl<'a> Recorder<'a> {
+    fn new(loads: &'a Cell<u64>) -> Recorder<'a> {
+        Recorder {
+            loads,
+            count: Cell::new(7),
+            points: Cell::new(0),
+            loads_at_count: Cell::new(7),
+        }
+    }
+
+    // All that it keeps.
+    fn told(&self) -> (u64, u64, u64) {
+        (
+            self.count.get(),
+            self.points.get(),
+            self.loads_at_count.get(),
+        )
+    }
+}
+
+impl Gate for Recorder<'_> {
     fn reached(&self, point: Point) {
         if let Point::CountLoaded(count) = point {
             self.count.set(count);
+            self.loads_at_count.set(self.loads.get());
         }
         self.points.set(self.points.get().wrapping_add(1));
     }
@@ -58,27 +119,28 @@ fn frame(alloc: Global, k: u32) -> Result<Frame, Fail>
     Ok(Frame::new(alloc, query, k)?)
 }
 
-// Searches words in a vector, with a counter of its own.
+// Searches words in a vector, with steps of its own; the port and the gate count from 0.
 fn search_alone<L: Ledger>(
-    words: &mut FlatWords,
+    port: &mut CountedWords,
     frame: &mut Frame,
     gate: &Recorder,
     blank: Blank,
 ) -> u64
     requires blank { (blank.name ≡ L.name) × (blank.parts ≡ L.parts) × (0 < blank.parts) }
-    requires words { (m : Moment) × StandsFor words.old m }
-    ensures { words.new ≡ words.old }
+    requires words { (m : Moment) × StandsFor port.old.words m }
+    ensures { port.new.words ≡ port.old.words }
 {
     let mut steps = Steps::<L>::new(blank);
-    search(words, frame, gate, &mut steps)
+    port.loads.set(0);
+    search(port, frame, gate, &mut steps)
 }
 
 // The same: the count that the search loads.
-fn searched(words: &mut FlatWords, frame: &mut Frame, gate: &Recorder) -> u64
-    requires { (m : Moment) × StandsFor words.old m }
-    ensures { words.new ≡ words.old }
+fn searched(port: &mut CountedWords, frame: &mut Frame, gate: &Recorder) -> u64
+    requires { (m : Moment) × StandsFor port.old.words m }
+    ensures { port.new.words ≡ port.old.words }
 {
-    search_alone::<Brand>(words, frame, gate, Blank::new(1))
+    search_alone::<Brand>(port, frame, gate, Blank::new(1))
 }
 
 #[test]
@@ -86,34 +148,37 @@ fn the_newest_come_first(rt: HostRuntime) -> Result<(), Fail> {
     let config = Config::new(2, 2, 256)?;
     let mut words = FlatWords::new(rt.alloc(), config)?;
     let mut placer = Placer::new(config);
-    let gate = Recorder {
-        count: Cell::new(7),
-        points: Cell::new(0),
-    };
     for id in 1..5 {
         added(rt.alloc(), &mut placer, &mut words, id)?;
     }
+    let loads = Cell::new(0);
+    let gate = Recorder::new(&loads);
+    let mut port = CountedWords {
+        words,
+        loads: &loads,
+    };
     let mut few = frame(rt.alloc(), 3)?;
-    assert_eq!(rt; searched(&mut words, &mut few, &gate), 4);
+    assert_eq!(rt; searched(&mut port, &mut few, &gate), 4);
     assert_eq!(rt; few.ids(), [4, 3, 2].as_slice());
     let mut many = frame(rt.alloc(), 9)?;
-    assert_eq!(rt; searched(&mut words, &mut many, &gate), 4);
+    assert_eq!(rt; searched(&mut port, &mut many, &gate), 4);
     assert_eq!(rt; many.ids(), [4, 3, 2, 1].as_slice());
-    assert_eq!(rt; (gate.count.get(), gate.points.get()), (4, 2));
+    assert_eq!(rt; gate.told(), (4, 2, 1));
     Ok(())
 }
 
 #[test]
-fn nothing_is_found_in_an_empty_index(rt: HostRuntime) -> Result<(), Fail> {
+fn the_gate_is_told_directly_after_the_load_of_the_count(rt: HostRuntime) -> Result<(), Fail> {
     let config = Config::new(2, 2, 256)?;
-    let mut words = FlatWords::new(rt.alloc(), config)?;
-    let mut few = frame(rt.alloc(), 3)?;
-    let gate = Recorder {
-        count: Cell::new(7),
-        points: Cell::new(0),
+    let loads = Cell::new(0);
+    let gate = Recorder::new(&loads);
+    let mut port = CountedWords {
+        words: FlatWords::new(rt.alloc(), config)?,
+        loads: &loads,
     };
-    assert_eq!(rt; searched(&mut words, &mut few, &gate), 0);
+    let mut few = frame(rt.alloc(), 3)?;
+    assert_eq!(rt; searched(&mut port, &mut few, &gate), 0);
     assert!(rt; few.ids().is_empty());
-    assert_eq!(rt; (gate.count.get(), gate.points.get()), (0, 1));
+    assert_eq!(rt; gate.told(), (0, 1, 1));
     Ok(())
 }

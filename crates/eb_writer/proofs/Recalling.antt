@@ -4,6 +4,7 @@ use native.Mathlib.Decide.{ℕ_discrete}
 use Rattle.std.proofs.lemmas.Bool.{cases_Bool, cases_lt}
 use Rattle.std.proofs.lemmas.Slice.Eq.{bytes_eq-Decides}
 use Rattle.eb_base.specs.Term.{Term}
+use Rattle.eb_base.specs.Document.{most_tokens}
 use Rattle.eb_place.specs.Postings.{count_of}
 use Rattle.eb_place.proofs.Counts.{one_if, count_of-nil, count_of-cons}
 use Rattle.eb_writer.specs.declared.recall.Recall.{Recall}
@@ -96,7 +97,7 @@ length_set (x ∷ xs) zero v = refl
 length_set (x ∷ xs) (suc i) v = ap suc (length_set xs i v)
 
 -- one more token is remembered
-pub remembers_more : (r : Recall) (ts : List Term) (i b : ℕ) → i < length ts → length ts ≤ 256 → b ≡ bucket (term_at ts i) → Remembers r ts i
+pub remembers_more : (r : Recall) (ts : List Term) (i b : ℕ) → i < length ts → length ts ≤ most_tokens → b ≡ bucket (term_at ts i) → Remembers r ts i
     → Remembers record { latest = slice_set r.latest b (i + 1); before = slice_set r.before i (get_or r.latest b 0) } ts (i + 1)
 remembers_more r ts i b low few e h =
     let bl = bucket_low (term_at ts i) in

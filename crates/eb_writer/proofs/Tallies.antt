@@ -4,6 +4,7 @@ use Rattle.std.proofs.lemmas.Bool.{cases_lt}
 use Rattle.std.proofs.lemmas.List.{length_push}
 use Rattle.std.proofs.lemmas.List.Sums.{sum_by_push, sum_by-cons}
 use Rattle.eb_base.specs.Term.{Term}
+use Rattle.eb_base.specs.Document.{most_bytes}
 use Rattle.eb_place.specs.declared.used.Used.{Used}
 use Rattle.eb_place.specs.Postings.{distinct, count_of, number_of}
 use Rattle.eb_place.specs.Room.{text_words, slices}
@@ -98,7 +99,7 @@ used_old u v t before z h a b p0 p1 p2 p3 =
     }
 
 -- the numbers stay small
-pub small_more : (u v : Used) (t : Term) (before : List Term) (n : ℕ) → length t ≤ 4096 → IsUsedBy u before → IsUsedBy v (before ++ t ∷ []) → IsSmall u n → IsSmall v (n + 1)
+pub small_more : (u v : Used) (t : Term) (before : List Term) (n : ℕ) → length t ≤ most_bytes → IsUsedBy u before → IsUsedBy v (before ++ t ∷ []) → IsSmall u n → IsSmall v (n + 1)
 small_more u v t before n short h k s =
     let c = count_of t before in
     let p0 = one_low (begins_in 0 c) in

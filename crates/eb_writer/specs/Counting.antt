@@ -1,7 +1,7 @@
 -- What a document needs of a segment, and what is found of its tokens.
 use Rattle.std.specs.Prelude.{◌≡◌, ℕ, ◌+◌, ◌*◌, ◌<◌, ◌≤◌, List, [], ◌++◌, length, get_or, take, sum_by, None, Some, slice_get}
 use Rattle.eb_base.specs.Term.{Term}
-use Rattle.eb_base.specs.Document.{Doc, IsDocument}
+use Rattle.eb_base.specs.Document.{Doc, IsDocument, most_tokens}
 use Rattle.eb_place.specs.declared.moment.Moment.{Moment}
 use Rattle.eb_place.specs.declared.used.Used.{Used}
 use Rattle.eb_place.specs.Postings.{terms_of, distinct, count_of, number_of}
@@ -39,7 +39,7 @@ pub record IsFound (before ts : List Term) (i : ℕ) (k : Found) : Type 0 where
 
 -- the first n tokens of a document are found
 pub record AreFound (before ts : List Term) (found : List Found) (n : ℕ) : Type 0 where
-  pub places : length found ≡ 256
+  pub places : length found ≡ most_tokens
   pub each : (i : ℕ) (k : Found) → i < n → slice_get found i ≡ Some k → IsFound before ts i k
 
 -- what a segment and the tails say of a term that doesn't stand earlier in the document; a new term will get

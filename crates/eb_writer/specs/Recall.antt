@@ -1,7 +1,7 @@
 -- What is remembered of the tokens of a document, to find where a term stood last.
 use Rattle.std.specs.Prelude.{◌≡◌, ℕ, suc, ◌<◌, ◌≤◌, List, [], length, get_or, take}
 use Rattle.eb_base.specs.Term.{Term}
-use Rattle.eb_base.specs.declared.document.TheConstants.{MAX_TOKENS}
+use Rattle.eb_base.specs.Document.{most_tokens}
 use Rattle.eb_place.specs.Postings.{count_of}
 use Rattle.eb_place.specs.Placing.{home_cell}
 use Rattle.eb_writer.specs.declared.recall.Recall.{Recall}
@@ -26,7 +26,7 @@ pub record LeadsBack (ts : List Term) (n b last : ℕ) : Type 0 where
 -- before it in its bucket
 pub record Remembers (r : Recall) (ts : List Term) (n : ℕ) : Type 0 where
   pub buckets : length r.latest ≡ BUCKETS
-  pub tokens : length r.before ≡ MAX_TOKENS
+  pub tokens : length r.before ≡ most_tokens
   pub few : n ≤ length ts
   pub latest : (b : ℕ) → b < BUCKETS → LeadsBack ts n b (get_or r.latest b 0)
   pub before : (p : ℕ) → p < n → LeadsBack ts p (bucket (term_at ts p)) (get_or r.before p 0)

@@ -1,5 +1,6 @@
 ghost use Rattle.std.specs.Prelude.{◌≡◌, ◌<◌, ◌≤◌, ◌+◌, ◌++◌, ◌∷◌, [], List, ℕ, length, take};
 ghost use Rattle.eb_base.specs.Term.{Term};
+ghost use Rattle.eb_base.specs.Document.{most_tokens, most_bytes};
 ghost use Rattle.eb_place.specs.declared.moment.Moment.{Moment};
 ghost use Rattle.eb_place.specs.Postings.{count_of, number_of, distinct};
 ghost use Rattle.eb_place.specs.Room.{text_words};
@@ -80,7 +81,7 @@ fn found_at<P: Pen, L: Ledger>(
     next: u32,
     steps: &mut Steps<L>,
 ) -> Found
-    requires place { (at < length terms.now) × (length terms.now ≤ 256) × Remembers recall.now terms.now at }
+    requires place { (at < length terms.now) × (length terms.now ≤ most_tokens) × Remembers recall.now terms.now at }
     requires ready { (m : Moment) × P.stands pen.old m × IsIdle m × (segment < m.setting.segments) × AreFound (tokens_in m segment) terms.now found.now at }
     ensures { (m : Moment) → P.stands pen.old m → IsIdle m → segment < m.setting.segments → AreFound (tokens_in m segment) terms.now found.now at
         → next ≡ length (distinct (tokens_in m segment ++ take at terms.now))
@@ -130,9 +131,9 @@ fn first_found<P: Pen, L: Ledger>(
 // What is used with one more token.
 fn with_token(used: Used, term: &Term, token: Found) -> Used
     requires tail { (f : ℕ) × IsTailWord f token.tail }
-    requires few { token.earlier < 256 }
-    requires short { length term.now ≤ 4096 }
-    requires small { (n : ℕ) × (n ≤ 256) × IsSmall used n }
+    requires few { token.earlier < most_tokens }
+    requires short { length term.now ≤ most_bytes }
+    requires small { (n : ℕ) × (n ≤ most_tokens) × IsSmall used n }
     ensures documents { result.documents ≡ used.documents }
     ensures used { (f : ℕ) (before : List (List ℕ)) → IsTailWord f token.tail → f + token.earlier ≡ count_of term.now before
         → token.number ≡ number_of term.now before → IsUsedBy used before → IsUsedBy result (before ++ term.now ∷ []) }
@@ -152,7 +153,7 @@ fn with_token(used: Used, term: &Term, token: Found) -> Used
 
 // What is used with the slices that one more posting takes.
 fn with_slices(used: Used, before: NewSlices, after: NewSlices) -> Used
-    requires small { (n : ℕ) × (n ≤ 256) × IsSmall used n }
+    requires small { (n : ℕ) × (n ≤ most_tokens) × IsSmall used n }
     requires pool0 { (before.pool0 ≤ after.pool0) × (after.pool0 ≤ before.pool0 + 1) }
     requires pool1 { (before.pool1 ≤ after.pool1) × (after.pool1 ≤ before.pool1 + 1) }
     requires pool2 { (before.pool2 ≤ after.pool2) × (after.pool2 ≤ before.pool2 + 1) }
@@ -174,7 +175,7 @@ fn with_slices(used: Used, before: NewSlices, after: NewSlices) -> Used
 
 // How many text words a term of a document takes: its length, and its bytes by eights.
 fn words_of_text(term: &Term) -> u32
-    requires { length term.now ≤ 4096 }
+    requires { length term.now ≤ most_bytes }
     ensures { result ≡ text_words term.now }
 {
     1 + term.bytes().len().div_ceil(8) as u32

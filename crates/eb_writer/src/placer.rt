@@ -1,6 +1,7 @@
 ghost use Rattle.std.specs.Prelude.{◌≡◌, ◌<◌, ◌≤◌, ◌+◌, ◌++◌, ◌*◌, ◌/◌, ◌&&◌, List, length, nat_le, IfOk, OnErr, MatchOption};
 ghost use Rattle.eb_base.specs.Document.{Doc};
 ghost use Rattle.eb_place.specs.declared.moment.Moment.{Moment};
+ghost use Rattle.eb_place.specs.Layout.{pool_slices};
 ghost use Rattle.eb_place.specs.Postings.{terms_of};
 ghost use Rattle.eb_place.specs.Room.{cut, HasRoom};
 ghost use Rattle.eb_place.specs.Moments.{empty_moment};
@@ -168,10 +169,11 @@ fn store_rest<P: Pen>(
     }
 }
 
-// Whether a segment has room for so much, and for one more document.
+// Whether a segment has room for so much, and for one more document: for its terms, their text words and
+// the slices of each pool.
 fn is_within(used: Used, config: Config) -> bool
     ensures { result ≡ (nat_le (used.documents + 1) config.docs && nat_le used.terms config.terms && nat_le used.text (4 * config.terms)
-        && nat_le used.pool0 config.terms && nat_le used.pool1 (config.terms / 2) && nat_le used.pool2 (config.terms / 16) && nat_le used.pool3 (config.terms / 128)) }
+        && nat_le used.pool0 (pool_slices config 0) && nat_le used.pool1 (pool_slices config 1) && nat_le used.pool2 (pool_slices config 2) && nat_le used.pool3 (pool_slices config 3)) }
 {
     let terms = config.terms();
     used.documents < config.docs()

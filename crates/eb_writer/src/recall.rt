@@ -1,4 +1,5 @@
 ghost use Rattle.std.specs.Prelude.{◌≡◌, ◌<◌, ◌≤◌, ◌+◌, length, take, MatchOption};
+ghost use Rattle.eb_base.specs.Document.{most_tokens};
 ghost use Rattle.eb_place.specs.Postings.{count_of};
 ghost use Rattle.eb_writer.specs.Recall.{Remembers, StoodAt, term_at};
 
@@ -31,7 +32,7 @@ pub(crate) fn recall_nothing(terms: &Terms) -> Recall
 
 // Where the term of the token at a place stood last before it, if it did.
 pub(crate) fn last_place(recall: &Recall, terms: &Terms, at: usize) -> Option<usize>
-    requires { (at < length terms.now) × (length terms.now ≤ 256) × Remembers recall.now terms.now at }
+    requires { (at < length terms.now) × (length terms.now ≤ most_tokens) × Remembers recall.now terms.now at }
     ensures { MatchOption result (count_of (term_at terms.now at) (take at terms.now) ≡ 0) (λ place. StoodAt terms.now at place) }
 {
     let term = terms.get(at);
@@ -48,7 +49,7 @@ pub(crate) fn last_place(recall: &Recall, terms: &Terms, at: usize) -> Option<us
 
 // Puts the token at a place behind those before it.
 pub(crate) fn remember(recall: &mut Recall, terms: &Terms, at: usize)
-    requires { (at < length terms.now) × (length terms.now ≤ 256) × Remembers recall.old terms.now at }
+    requires { (at < length terms.now) × (length terms.now ≤ most_tokens) × Remembers recall.old terms.now at }
     ensures { Remembers recall.new terms.now (at + 1) }
 {
     let bucket = home(terms.get(at), BUCKETS as u32) as usize;

@@ -2,6 +2,7 @@ use Rattle.std.proofs.Common.{◌≡◌, ℕ, ◌+◌, ◌*◌, ◌-◌, ◌≤�
 use Rattle.std.proofs.lemmas.Bool.{false≢true}
 use Rattle.eb_base.specs.Query.{tree, word, phrase, conjunction, size, sizes, IsFormed, AreFormed}
 use Rattle.eb_base.specs.declared.query.Query.{Query}
+use Rattle.eb_place.specs.Postings.{places}
 use Rattle.eb_cursor.specs.Asked.{trees_in}
 use Rattle.eb_cursor.specs.Begun.{BegunLeaves, Begun}
 use Rattle.eb_cursor.proofs.Tellings.{told_itself, told_as, told_on}
@@ -30,7 +31,7 @@ begin-returns-in-Phrase g t c = λ docs same.
     let kept : length c.begin_leaves-all.new.cursors ≡ length c.args.cursors.now = c.begin_leaves-all.auto.cursors in
     let formed : 2 ≤ length ts = subst IsFormed i c.requires.formed in
     told_as g.met.P.Port.lawful (c.begin_leaves-all.ensures docs) (λ m a. a)
-    (λ m n w a begun. begun_phrase n docs (tree c.args.query.now) ts c.begin_leaves-all.new.cursors _ c.end_if-upto.result _ (256 * length docs + 1 - length ts) c.begin_leaves-all.result i formed (omega (arith, few, c.requires.small.1)) (omega (arith, same, c.requires.small.0)) refl
+    (λ m n w a begun. begun_phrase n docs (tree c.args.query.now) ts c.begin_leaves-all.new.cursors _ c.end_if-upto.result _ (places * length docs + 1 - length ts) c.begin_leaves-all.result i formed (omega (arith, few, c.requires.small.1)) (omega (arith, same, c.requires.small.0)) refl
     (c.end_if-upto.ensures ∙ ap (λ (k : ℕ). if c.begin_leaves-all.result then k else 0) (omega (arith, same, c.from-end.ensures, c.len.ensures))) (kept ∙ few) a.narrow
     (subst (λ (z : List (List ℕ)). BegunLeaves docs z c.begin_leaves-all.new.cursors c.begin_leaves-all.result n) slice begun))
 

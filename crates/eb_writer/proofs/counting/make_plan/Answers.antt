@@ -1,6 +1,7 @@
 use Rattle.std.proofs.Common.{◌≡◌, ◌++◌, ◌∷◌, [], ◌∙◌, ap, sym, subst, refl, arith, length, take, append-nil, append_assoc, List, sum_by}
 use Rattle.std.proofs.lemmas.List.{take_all, length-replicate}
 use Rattle.eb_base.specs.Term.{Term}
+use Rattle.eb_base.specs.Document.{most_tokens}
 use Rattle.eb_place.specs.Postings.{distinct, count_of, number_of}
 use Rattle.eb_place.proofs.Laters.{later_self, later_on}
 use Rattle.eb_place.proofs.Counts.{count_of-append}
@@ -22,7 +23,7 @@ loop-at-init g c =
         st,
         later_self m,
         g.met.P.Port.keeps_itself _ m st,
-        record { places = length-replicate {A = Found} 256 record { number = 0; tail = 0; earlier = 0 }; each = λ i k l e. absurd (omega arith) },
+        record { places = length-replicate {A = Found} most_tokens record { number = 0; tail = 0; earlier = 0 }; each = λ i k l e. absurd (omega arith) },
         subst (IsUsedBy c.args.used) (sym (append-nil (tokens_in m c.args.segment))) (ready_used m c.args.segment c.args.used (g.met.P.Port.lawful _ m st) ready),
       ),
       c.recall_nothing-recall.ensures,

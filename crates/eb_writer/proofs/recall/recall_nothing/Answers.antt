@@ -1,5 +1,6 @@
 use Rattle.std.proofs.Common.{ℕ, sym, subst, arith}
 use Rattle.std.proofs.lemmas.List.{get_or-replicate, length-replicate}
+use Rattle.eb_base.specs.Document.{most_tokens}
 use Rattle.eb_writer.specs.Recall.{LeadsBack}
 use Rattle.eb_writer.proofs.Recalling.{leads_nothing}
 use Rattle.eb_writer.proofs.recall.recall_nothing.Goals as goal
@@ -7,7 +8,7 @@ use Rattle.eb_writer.proofs.recall.recall_nothing.Goals as goal
 pub returns : goal.returns
 returns c = record {
   buckets = length-replicate {A = ℕ} 512 0;
-  tokens = length-replicate {A = ℕ} 256 0;
+  tokens = length-replicate {A = ℕ} most_tokens 0;
   few = omega arith;
   latest = λ b l. subst (LeadsBack c.args.terms.now 0 b) (sym (get_or-replicate {A = ℕ} 512 b 0 0 l)) (leads_nothing c.args.terms.now b);
   before = λ p l. absurd (omega arith);
