@@ -2,6 +2,8 @@
 //! the answers on standard output.
 #![tactic(auto)]
 
+ghost use Rattle.std.specs.Prelude.{◌≡◌, ◌↔◌};
+
 mod bench;
 mod command;
 mod laws;
@@ -17,7 +19,7 @@ mod tests;
 mod work;
 
 pub use command::{Command, CommandFault, read_command};
-use eb_base::{NoMemory, OpenGate};
+use eb_base::OpenGate;
 use eb_io::{StdSink, StdSource, write_all};
 pub use laws::{one_text, some_text};
 pub use refusal::Refusal;
@@ -25,15 +27,19 @@ pub use run::run;
 pub use status::Status;
 use std::alloc::Global;
 use std::env;
+use std::io::ErrorKind;
 use std::process::ExitCode;
 use std::rt::Env;
 
 fn main(rt: HostRuntime) -> ExitCode {
     let alloc = rt.alloc();
     let mut err = StdSink::new(rt.stderr());
-    let Ok(words) = read_words(&rt, alloc) else {
-        let _ = write_all(&mut err, Status::NoMemory.line());
-        return ExitCode::from(Status::NoMemory.code());
+    let words = match read_words(&rt, alloc) {
+        Ok(words) => words,
+        Err(status) => {
+            let _ = write_all(&mut err, status.line());
+            return ExitCode::from(status.code());
+        }
     };
     let mut source = StdSource::new(rt.stdin());
     let mut out = StdSink::new(rt.stdout());
@@ -49,10 +55,23 @@ fn main(rt: HostRuntime) -> ExitCode {
     ExitCode::from(status.code())
 }
 
-// The words of the command line, without the program's name.
-fn read_words(rt: &(impl Env + AllocGlobal), alloc: Global) -> Result<Vec<String>, NoMemory> {
-    let Ok(args) = env::args(rt) else {
-        return Err(NoMemory);
-    };
-    Ok(args.skip(1).collect(alloc)?)
+// The words of the command line, without the program's name. Where they can't be read, how the program ends.
+fn read_words(rt: &(impl Env + AllocGlobal), alloc: Global) -> Result<Vec<String>, Status> {
+    match env::args(rt) {
+        Ok(args) => args.skip(1).collect(alloc).map_err(|_| Status::NoMemory),
+        Err(error) => Err(without_words(error.kind())),
+    }
+}
+
+// How the program ends where its words can't be read for this cause: for want of memory, or since a word isn't UTF-8, which
+// asks for no command.
+fn without_words(kind: ErrorKind) -> Status
+    ensures memory { result ≡ Status.NoMemory ↔ kind ≡ ErrorKind.OutOfMemory }
+    ensures usage { (kind ≡ ErrorKind.OutOfMemory → ⊥) → result ≡ Status.Usage }
+{
+    if kind == ErrorKind::OutOfMemory {
+        Status::NoMemory
+    } else {
+        Status::Usage
+    }
 }

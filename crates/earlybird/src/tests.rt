@@ -2,6 +2,7 @@ ghost use Rattle.std.specs.Prelude.{◌≤◌};
 
 mod commands;
 mod index;
+mod turns;
 
 use crate::{Status, run};
 use eb_base::OpenGate;
@@ -177,6 +178,7 @@ fn refuses_each_line(rt: HostRuntime) -> Result<(), Fail> {
             "1 refused: {name}\nend: documents 0, queries 0, refused 1\n"
         )?;
         assert_eq!(rt; left.printed.as_slice(), want.as_bytes(), "{line}");
+        assert_eq!(rt; left.status.code(), 1, "{line}");
     }
     for line in [
         "?5 ((((((((((((((((a))))))))))))))))",
@@ -185,6 +187,7 @@ fn refuses_each_line(rt: HostRuntime) -> Result<(), Fail> {
         let left = run_on(&rt, rt.alloc(), &["run"], line.as_bytes(), 64, &[], &[])?;
         let want = "1 seen 0:\nend: documents 0, queries 1, refused 0\n";
         assert_eq!(rt; left.printed.as_slice(), want.as_bytes(), "{line}");
+        assert_eq!(rt; left.status.code(), 0, "{line}");
     }
     Ok(())
 }
@@ -218,6 +221,7 @@ fn keeps_the_limits(rt: HostRuntime) -> Result<(), Fail> {
     let want =
         "2 refused: too long\n4 refused: too long\n5 seen 2: 1\nend: documents 2, queries 1, refused 2\n";
     assert_eq!(rt; left.printed.as_slice(), want.as_bytes());
+    assert_eq!(rt; left.status.code(), 1);
 
     text.clear();
     for spaces in [65_518, 65_519] {
@@ -229,6 +233,7 @@ fn keeps_the_limits(rt: HostRuntime) -> Result<(), Fail> {
     let left = run_on(&rt, rt.alloc(), &["run"], text.as_bytes(), 4096, &[], &[])?;
     let want = "2 refused: long line\n3 seen 1: 1\nend: documents 1, queries 1, refused 1\n";
     assert_eq!(rt; left.printed.as_slice(), want.as_bytes());
+    assert_eq!(rt; left.status.code(), 1);
     Ok(())
 }
 
@@ -236,32 +241,50 @@ const INPUT: &str = "?5 a\n{\"id\":1,\"text\":\"a\"}\n?5 a\n";
 
 const WANT: &str = "1 seen 0:\n3 seen 1: 1\nend: documents 1, queries 2, refused 0\n";
 
+// How many bytes are printed where the read or the write of each number from 1 on fails. A read takes 5 bytes of the input,
+// which has lines of 5, 20 and 5; a write gives 4 bytes of a line of the text, which has lines of 10, 12 and 39.
+const AFTER_READS: [usize; 8] = [0, 10, 10, 10, 10, 10, 22, 61];
+
+const AFTER_WRITES: [usize; 17] = [
+    0, 4, 8, 10, 14, 18, 22, 26, 30, 34, 38, 42, 46, 50, 54, 58, 61,
+];
+
 #[test]
 fn ends_at_faults(rt: HostRuntime) -> Result<(), Fail> {
-    for call in 1..20 {
+    let mut call = 0u64;
+    for printed in AFTER_READS {
+        call = call.saturating_add(1);
         let left = run_on(&rt, rt.alloc(), &SMALL, INPUT.as_bytes(), 5, &[call], &[])?;
-        assert!(rt;
-            WANT.as_bytes().starts_with(left.printed.as_slice()),
+        assert_eq!(rt;
+            Some(left.printed.as_slice()),
+            WANT.as_bytes().get(..printed),
             "read {call}"
         );
-        let is_done = left.status == Status::Done && left.printed.as_slice() == WANT.as_bytes();
-        let has_failed = left.status == Status::ReadFault
-            && left.said.as_slice() == b"earlybird: read fault\n".as_slice();
-        assert!(rt; is_done || has_failed, "read {call}");
+        let (code, said) = if call < 8 {
+            (3, "earlybird: read fault\n")
+        } else {
+            (0, "")
+        };
+        assert_eq!(rt; left.status.code(), code, "read {call}");
+        assert_eq!(rt; left.said.as_slice(), said.as_bytes(), "read {call}");
+    }
+    let mut call = 0u64;
+    for printed in AFTER_WRITES {
+        call = call.saturating_add(1);
         let left = run_on(&rt, rt.alloc(), &SMALL, INPUT.as_bytes(), 4, &[], &[call])?;
-        assert!(rt;
-            WANT.as_bytes().starts_with(left.printed.as_slice()),
+        assert_eq!(rt;
+            Some(left.printed.as_slice()),
+            WANT.as_bytes().get(..printed),
             "write {call}"
         );
-        let is_done = left.status == Status::Done && left.printed.as_slice() == WANT.as_bytes();
-        let has_failed = left.status == Status::WriteFault
-            && left.said.as_slice() == b"earlybird: write fault\n".as_slice();
-        assert!(rt; is_done || has_failed, "write {call}");
+        let (code, said) = if call < 17 {
+            (4, "earlybird: write fault\n")
+        } else {
+            (0, "")
+        };
+        assert_eq!(rt; left.status.code(), code, "write {call}");
+        assert_eq!(rt; left.said.as_slice(), said.as_bytes(), "write {call}");
     }
-    let left = run_on(&rt, rt.alloc(), &["run"], INPUT.as_bytes(), 5, &[3], &[])?;
-    assert_eq!(rt; left.printed.as_slice(), b"1 seen 0:\n".as_slice());
-    let left = run_on(&rt, rt.alloc(), &["run"], INPUT.as_bytes(), 4, &[], &[2])?;
-    assert_eq!(rt; left.printed.as_slice(), b"1 se".as_slice());
     Ok(())
 }
 

@@ -98,16 +98,18 @@ impl Gate for Counter {
 const PAIR: &str =
     "{\"id\":1,\"text\":\"a b\"}\n{\"id\":2,\"text\":\"c d\"}\n?5 \"b c\"\n?5 b c\n?5 b OR c\n";
 
-fn words_of(alloc: Global) -> Result<Vec<String>, AllocError> {
+// How many searches the gate is told of in a run on these words and this input, and the sum of their counts.
+fn counted<R: Threads + Sync>(
+    rt: &R,
+    alloc: Global,
+    list: &[&str],
+    input: &[u8],
+) -> Result<(u64, u64), AllocError> {
     let mut words = Vec::new(alloc);
-    words.push(String::from_str(alloc, "run")?)?;
-    words.push(String::from_str(alloc, "--terms=256")?)?;
-    Ok(words)
-}
-
-fn counted<R: Threads + Sync>(rt: &R, alloc: Global) -> Result<(u64, u64), AllocError> {
-    let words = words_of(alloc)?;
-    let mut source = MemSource::new(alloc, PAIR.as_bytes(), 7, &[]).map_err(|_| AllocError)?;
+    for word in list {
+        words.push(String::from_str(alloc, word)?)?;
+    }
+    let mut source = MemSource::new(alloc, input, 7, &[]).map_err(|_| AllocError)?;
     let mut out = MemSink::new(alloc, 1000, 7, &[]).map_err(|_| AllocError)?;
     let mut err = MemSink::new(alloc, 10, 7, &[]).map_err(|_| AllocError)?;
     let gate = Counter {
@@ -122,8 +124,12 @@ fn counted<R: Threads + Sync>(rt: &R, alloc: Global) -> Result<(u64, u64), Alloc
 }
 
 #[test]
-fn each_query_is_a_search(rt: HostRuntime) -> Result<(), Fail> {
-    assert_eq!(rt; counted(&rt, rt.alloc())?, (3, 6));
+fn the_gate_of_the_caller_sees_each_query(rt: HostRuntime) -> Result<(), Fail> {
+    let alloc = rt.alloc();
+    let run = counted(&rt, alloc, &["run", "--terms=256"], PAIR.as_bytes())?;
+    assert_eq!(rt; run, (3, 6));
+    let bench = counted(&rt, alloc, &["bench", "0", "1001"], b"")?;
+    assert_eq!(rt; bench, (2, 2001));
     Ok(())
 }
 
