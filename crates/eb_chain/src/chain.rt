@@ -1,6 +1,8 @@
-ghost use Rattle.std.specs.Prelude.{◌≡◌, ℕ, List, ◌+◌, ◌<◌, ◌≤◌, ◌^◌, length, reverse};
+ghost use Rattle.std.specs.Prelude.{◌≡◌, ℕ, List, ◌+◌, ◌-◌, ◌<◌, ◌≤◌, ◌^◌, length, reverse};
 ghost use Rattle.eb_base.specs.Term.{Term};
 ghost use Rattle.eb_place.specs.declared.moment.Moment.{Moment};
+ghost use Rattle.eb_place.specs.Address.{pool_at};
+ghost use Rattle.eb_place.specs.Moments.{IsMoment};
 ghost use Rattle.eb_place.specs.Later.{IsNotBefore};
 ghost use Rattle.eb_place.specs.Seen.{seen, seen_count};
 ghost use Rattle.eb_place.specs.Walk.{IsAddress, IsLink, IsTerm};
@@ -55,6 +57,20 @@ impl Chain {
         }
     }
 
+    /// The pool of the slice that the walk has come to, 0 to 3, and 0 after the oldest posting: that of the
+    /// posting that comes next, or of the one that was given before it. The more postings a term has, the
+    /// greater it is. Loads nothing.
+    pub fn pool(&self) -> u32
+        ensures { (m : Moment) (s : ℕ) (t : Term) (opened : ℕ) (rest : List ℕ) → IsMoment m → Stands m s t self.now opened rest
+            → (pool_at (length rest - 1) ≤ result) × (result ≤ pool_at (length rest)) }
+    {
+        match self.way {
+            Way::End => 0,
+            Way::At(address) => pool_of(address),
+            Way::Link(link) => pool_of(link),
+        }
+    }
+
     /// The newest posting that wasn't given yet; `None` exactly after the oldest, and
     /// from then on. The port's moment isn't before that of the opening. One load a posting, and one more
     /// where the posting given before was the first of a slice that has a link; none where the answer is
@@ -105,6 +121,7 @@ impl Chain {
         ensures short { (m : Moment) (s : ℕ) (t : Term) (opened : ℕ) (rest : List ℕ)
             → P.stands port.old m → Stands m s t self.old opened rest → IsShort opened rest (at_most most rest) steps.old steps.new }
     {
+        // The first posting of the slice that was passed last: it falls.
         let mut above = u64::MAX;
         while let Some(address) = address_of(port, self.segment, self.way, steps) {
             let oldest = oldest_in_slice(address);

@@ -18,7 +18,7 @@ use eb_place::{PLACES, Port, Steps};
 use std::sync::ledger::Ledger;
 
 /// One more than the greatest document below `end` that matches, or 0. A query that is a word reads its
-/// postings one by one, so that no load is in vain.
+/// postings one by one, which bounds its loads.
 pub fn query_below<P: Port, L: Ledger>(
     query: &Query,
     cursors: &mut [Cursor],

@@ -6,7 +6,7 @@ ghost use Rattle.eb_cursor.specs.Lists.{gives};
 ghost use Rattle.eb_cursor.specs.Ready.{IsLeaf};
 ghost use Rattle.eb_cursor.specs.Loads.{ahead};
 ghost use Rattle.eb_cursor.specs.Asked.{FoundLeaf};
-ghost use Rattle.eb_cursor.specs.Costs.{Costs, Spans, LEAP, IsPaid};
+ghost use Rattle.eb_cursor.specs.Costs.{Costs, Spans, leap_loads, look_loads, IsPaid};
 
 use crate::posting_list::PostingList;
 use eb_place::{Port, Posting, Steps};
@@ -40,8 +40,7 @@ impl Cursor {
     }
 }
 
-/// One more than the greatest number of the list below `end`, or 0, posting by posting: no posting is
-/// loaded twice.
+/// One more than the greatest number of the list below `end`, or 0, posting by posting.
 pub fn walk_below<P: Port, L: Ledger>(
     cursor: &mut Cursor,
     port: &mut P,
@@ -78,7 +77,7 @@ pub fn leaf_below<P: Port, L: Ledger>(
     ensures found { (f : ℕ → Bool) → Told P.stands P.keeps port.old port.new (λ m. IsLeaf (gives m) f cursor.old end) (FoundLeaf f cursor.new end result) }
     ensures loads { steps.new + 4 * ahead cursor.new.current ≤ steps.old + 4 * ahead cursor.old.current }
     ensures spans { (s : ℕ) (t : List ℕ) (most : ℕ) → Told P.stands P.keeps port.old port.new (λ m. Spans m s t cursor.old.list most)
-        (λ n. IsPaid (Spans n s t cursor.new.list) steps.old (most + LEAP) steps.new) }
+        (λ n. IsPaid (Spans n s t cursor.new.list) steps.old (most + look_loads) steps.new) }
 {
     let Some(posting) = cursor.current else {
         return 0;
@@ -103,7 +102,7 @@ fn leap_below<P: Port, L: Ledger>(
     ensures found { (f : ℕ → Bool) → Told P.stands P.keeps port.old port.new (λ m. IsLeaf (gives m) f cursor.old end) (FoundLeaf f cursor.new end result) }
     ensures loads { steps.new + 4 * ahead cursor.new.current ≤ steps.old + 4 * ahead cursor.old.current }
     ensures spans { (s : ℕ) (t : List ℕ) (most : ℕ) → Told P.stands P.keeps port.old port.new (λ m. Spans m s t cursor.old.list most)
-        (λ n. IsPaid (Spans n s t cursor.new.list) steps.old (most + 23) steps.new) }
+        (λ n. IsPaid (Spans n s t cursor.new.list) steps.old (most + leap_loads) steps.new) }
 {
     let Some(posting) = cursor.current else {
         return 0;

@@ -3,7 +3,7 @@ ghost use Rattle.std.specs.Prelude.{◌≡◌, ℕ, ◌+◌, ◌-◌, ◌*◌, �
 ghost use Rattle.eb_base.specs.Document.{Doc};
 ghost use Rattle.eb_place.specs.declared.moment.Moment.{Moment};
 ghost use Rattle.eb_cursor.specs.Told.{Told};
-ghost use Rattle.eb_cursor.specs.Costs.{Costs, Spans, IsPaid, word_loads};
+ghost use Rattle.eb_cursor.specs.Costs.{Costs, Spans, leap_loads, IsPaid, word_loads};
 ghost use Rattle.eb_cursor.specs.Lists.{gives, Gave, from_below};
 ghost use Rattle.eb_cursor.specs.Opened.{AreFirst, Opened};
 
@@ -73,11 +73,19 @@ impl PostingList {
         ensures loads { (m : Moment) (xs : List ℕ) → P.stands port.old m → gives m self.old xs
             → steps.new ≤ steps.old + 2 * (length xs - length (from_below (most + 1) xs) + 1) + 2 }
         ensures spans { (s : ℕ) (t : List ℕ) (owed : ℕ) → Told P.stands P.keeps port.old port.new (λ m. Spans m s t self.old owed)
-            (λ n. IsPaid (Spans n s t self.new) steps.old (owed + 23) steps.new) }
+            (λ n. IsPaid (Spans n s t self.new) steps.old (owed + leap_loads) steps.new) }
     {
         match self {
             PostingList::Empty => None,
             PostingList::Live(chain) => chain.next_at_most(port, most, steps),
+        }
+    }
+    /// The pool that the list has come to, 0 where it is empty: the more postings the term has, the greater
+    /// it is. Loads nothing.
+    pub fn pool(&self) -> u32 {
+        match self {
+            PostingList::Empty => 0,
+            PostingList::Live(chain) => chain.pool(),
         }
     }
 }
