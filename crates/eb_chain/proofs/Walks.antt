@@ -59,7 +59,7 @@ unfolding next_loads
 no_loads opened = refl
 
 -- from the address of a posting to the way to the one before it, and its loads
-way_back : (m : Moment) (s : ℕ) (t : Term) (opened f a : ℕ) (w : Way) → IsMoment m → f < opened → IsAddress m s t f a → IsWayBefore a w → IsWay m s t f w × (way_loads w ≡ next_loads opened f)
+pub way_back : (m : Moment) (s : ℕ) (t : Term) (opened f a : ℕ) (w : Way) → IsMoment m → f < opened → IsAddress m s t f a → IsWayBefore a w → IsWay m s t f w × (way_loads w ≡ next_loads opened f)
 way_back m s t opened zero a w is o h b =
     let p = subst (Parts 0) (sym h.is) (address_parts m s t 0 is h.inside h.reached) in
     let k = told 0 a p in
@@ -147,7 +147,7 @@ pub link_of : (m : Moment) (s : ℕ) (t : Term) (f : ℕ) (w : Way) (a : ℕ) �
 link_of m s t zero w a h e = absurd (cc)
 link_of m s t (suc f) w a h e = (f, refl, subst (IsWay m s t (suc f)) e h)
 
-end_of : (m : Moment) (s : ℕ) (t : Term) (f : ℕ) (w : Way) → IsWay m s t f w → w ≡ End → f ≡ 0
+pub end_of : (m : Moment) (s : ℕ) (t : Term) (f : ℕ) (w : Way) → IsWay m s t f w → w ≡ End → f ≡ 0
 end_of m s t zero w h e = refl
 end_of m s t (suc f) w h e = absurd (subst (IsWay m s t (suc f)) e h)
 

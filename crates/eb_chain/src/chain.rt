@@ -1,11 +1,15 @@
-ghost use Rattle.std.specs.Prelude.{◌≡◌, ℕ, List, ◌+◌, ◌<◌, ◌≤◌, ◌^◌, length, reverse};
+ghost use Rattle.std.specs.Prelude.{◌≡◌, ℕ, List, ◌+◌, ◌-◌, ◌<◌, ◌≤◌, ◌^◌, length, reverse};
 ghost use Rattle.eb_base.specs.Term.{Term};
 ghost use Rattle.eb_place.specs.declared.moment.Moment.{Moment};
+ghost use Rattle.eb_place.specs.Address.{pool_at};
+ghost use Rattle.eb_place.specs.Moments.{IsMoment};
 ghost use Rattle.eb_place.specs.Later.{IsNotBefore};
 ghost use Rattle.eb_place.specs.Seen.{seen, seen_count};
 ghost use Rattle.eb_place.specs.Walk.{IsAddress, IsLink, IsTerm};
-ghost use Rattle.eb_chain.specs.Chains.{Stands, Given, next_loads, IsWayBefore, IsPosting, IsWayOf};
+ghost use Rattle.eb_chain.specs.Chains.{Stands, Given, next_loads, IsWay, IsWayBefore, IsPosting, IsWayOf};
+ghost use Rattle.eb_chain.specs.Leaps.{at_most, IsLeap, IsShort, LeadsTo, lead_loads};
 
+use crate::leaps::{Look, look_back, oldest_in_slice};
 use eb_place::{Places, Port, Posting, Steps, offset_of, pool_of, posting_in_word};
 use std::sync::ledger::Ledger;
 
@@ -53,6 +57,20 @@ impl Chain {
         }
     }
 
+    /// The pool of the slice that the walk has come to, 0 to 3, and 0 after the oldest posting: that of the
+    /// posting that comes next, or of the one that was given before it. The more postings a term has, the
+    /// greater it is. Loads nothing.
+    pub fn pool(&self) -> u32
+        ensures { (m : Moment) (s : ℕ) (t : Term) (opened : ℕ) (rest : List ℕ) → IsMoment m → Stands m s t self.now opened rest
+            → (pool_at (length rest - 1) ≤ result) × (result ≤ pool_at (length rest)) }
+    {
+        match self.way {
+            Way::End => 0,
+            Way::At(address) => pool_of(address),
+            Way::Link(link) => pool_of(link),
+        }
+    }
+
     /// The newest posting that wasn't given yet; `None` exactly after the oldest, and
     /// from then on. The port's moment isn't before that of the opening. One load a posting, and one more
     /// where the posting given before was the first of a slice that has a link; none where the answer is
@@ -79,6 +97,66 @@ impl Chain {
         let posting = posting_in(port, self.segment, address, steps);
         self.way = way_before(address);
         Some(posting)
+    }
+
+    /// The newest posting at or below `most` that wasn't given yet: those above it are passed for good, and
+    /// `None` comes exactly where none is left. The port's moment isn't before that of the opening. A slice
+    /// whose first posting is above `most` is passed by that posting and the link; in the slice where one
+    /// isn't, the walk leaps back, each leap twice as long as the one before, and then halves. Takes no
+    /// memory.
+    pub fn next_at_most<P: Port, L: Ledger>(
+        &mut self,
+        port: &mut P,
+        most: Posting,
+        steps: &mut Steps<L>,
+    ) -> Option<Posting>
+        requires { (m : Moment) × (s : ℕ) × (t : Term) × (opened : ℕ) × (rest : List ℕ)
+            × P.stands port.old m × Stands m s t self.old opened rest }
+        ensures told { (m : Moment) (s : ℕ) (t : Term) (opened : ℕ) (rest : List ℕ)
+            → P.stands port.old m → Stands m s t self.old opened rest
+            → (n : Moment) × P.stands port.new n × IsNotBefore n m × P.keeps port.old m port.new n
+            × Given n s t self.new opened (at_most most rest) result }
+        ensures leap { (m : Moment) (s : ℕ) (t : Term) (opened : ℕ) (rest : List ℕ)
+            → P.stands port.old m → Stands m s t self.old opened rest → IsLeap rest (at_most most rest) steps.old steps.new }
+        ensures short { (m : Moment) (s : ℕ) (t : Term) (opened : ℕ) (rest : List ℕ)
+            → P.stands port.old m → Stands m s t self.old opened rest → IsShort opened rest (at_most most rest) steps.old steps.new }
+    {
+        // The first posting of the slice that was passed last: it falls.
+        let mut above = u64::MAX;
+        while let Some(address) = address_of(port, self.segment, self.way, steps) {
+            let oldest = oldest_in_slice(address);
+            match look_back(port, self.segment, oldest, address - oldest, most, steps) {
+                Look::Within(found) => {
+                    self.way = way_before(oldest + found.at);
+                    return Some(found.posting);
+                }
+                Look::Above(first) => {
+                    self.way = way_before(oldest);
+                    above = u64::from(first);
+                }
+            }
+        }
+        None
+    }
+}
+
+// The address that a way leads to. Ticks one load where it is in a link.
+fn address_of<P: Port, L: Ledger>(
+    port: &mut P,
+    segment: u32,
+    way: Way,
+    steps: &mut Steps<L>,
+) -> Option<u32>
+    requires { (m : Moment) × (t : Term) × (f : ℕ) × P.stands port.old m × IsWay m segment t f way }
+    ensures told { (m : Moment) (t : Term) (f : ℕ) → P.stands port.old m → IsWay m segment t f way
+        → (n : Moment) × P.stands port.new n × IsNotBefore n m × P.keeps port.old m port.new n
+        × LeadsTo n segment t f result }
+    ensures steps { steps.new ≡ steps.old + lead_loads way }
+{
+    match way {
+        Way::End => None,
+        Way::At(address) => Some(address),
+        Way::Link(link) => Some(follow(port, segment, link, steps)),
     }
 }
 
@@ -119,7 +197,7 @@ fn follow<P: Port, L: Ledger>(port: &mut P, segment: u32, link: u32, steps: &mut
 }
 
 // The posting at an address. Ticks one load.
-fn posting_in<P: Port, L: Ledger>(
+pub(crate) fn posting_in<P: Port, L: Ledger>(
     port: &mut P,
     segment: u32,
     address: u32,

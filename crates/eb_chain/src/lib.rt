@@ -3,6 +3,7 @@
 #![tactic(auto)]
 
 mod chain;
+mod leaps;
 mod new_slices;
 mod next_place;
 mod writing;

@@ -4,10 +4,13 @@ pub mod Openings
 pub mod Tops
 pub mod PostingsOf
 pub mod Leaves
+pub mod Leaps
 pub mod Readies
 pub mod Documents
 pub mod Steps
 pub mod Phrases
 pub mod Begins
+pub mod Owing
+pub mod Rounds
 pub mod Asking
 pub mod LoadsLeft

@@ -1,6 +1,6 @@
 -- What each kind of query says of its answer.
 use Rattle.std.proofs.Common.{◌≡◌, Box, Global, ℕ, zero, suc, ◌-◌, ◌*◌, ◌<◌, ◌≤◌, Bool, true, false, not, max, min, List, [], ◌∷◌, ◌++◌, take, drop, get_or, set, refl, sym, ap, ◌∙◌, subst, inl, inr, arith, rules}
-use Rattle.std.proofs.lemmas.Bool.{cases_lt, and_parts}
+use Rattle.std.proofs.lemmas.Bool.{cases_lt, cases_Bool, and_parts}
 use Rattle.eb_base.specs.Document.{Doc}
 use Rattle.eb_base.specs.Query.{Tree, Trees, size, word, phrase, negation, conjunction, disjunction, no_trees, trees, tree, queries_of}
 use Rattle.eb_base.specs.declared.query.Query.{Query, And, Or, Not, Word, Phrase, the_lemmas}
@@ -10,7 +10,7 @@ use Rattle.eb_cursor.specs.Tops.{top}
 use Rattle.eb_cursor.specs.Lists.{Gives}
 use Rattle.eb_cursor.specs.Posted.{is_posting, match_at, each_at, some_at, document_end}
 use Rattle.eb_cursor.specs.Ready.{IsLeaf, IsOnly, IsPassed, Ready, AllReady}
-use Rattle.eb_cursor.specs.Asked.{IsLed, IsRound, trees_in}
+use Rattle.eb_cursor.specs.Asked.{IsLed, IsRound, AreUnder, trees_in}
 use Rattle.eb_cursor.specs.declared.cursor.Cursor.{Cursor}
 use Rattle.eb_cursor.proofs.Tellings.{Later}
 use Rattle.eb_cursor.proofs.Tops.{top_le, top_between, top_twice, top_skips, top_implied, top_and, top_or, top_not_here, top_not_past, top_here}
@@ -115,11 +115,26 @@ pub top_all : (f : ℕ → Bool) → ((n : ℕ) → f n ≡ true) → (n : ℕ) 
 top_all f w zero = refl
 top_all f w (suc n) = top_here f n (w n)
 
+top_grows : (f : ℕ → Bool) (n : ℕ) → top f n ≤ top f (suc n)
+top_grows f n = elim (cases_Bool (f n)) [ inl e ↦ rw e (omega (arith, top_le f n)) | inr e ↦ rw e (omega arith) ]
+
+top_up : (f : ℕ → Bool) (a b : ℕ) → a ≤ b → top f a ≤ top f b
+top_up f a zero h = let e : a ≡ 0 = omega (arith, h) in omega (arith, ap (top f) e)
+top_up f a (suc b) h = elim (cases_lt b a) [
+  | inl all ↦ let e : a ≡ suc b = omega (arith, h, all) in omega (arith, ap (top f) e)
+  | inr low ↦ omega (arith, top_up f a b low, top_grows f b)
+]
+
+under_up : (docs : List Doc) (qs : Trees) (a b found : ℕ) → a ≤ b → AreUnder docs qs a found → AreUnder docs qs b found
+under_up docs no_trees a b found h k = tt
+under_up docs (trees q qs) a b found h k = (omega (arith, k.0, top_up (match_at docs q) a b h), under_up docs qs a b found h k.1)
+
 pub round_end : (g : Gives) (docs : List Doc) (qs : Trees) (cursors : List Cursor) (end last : ℕ) → qs ≡ no_trees → end ≤ last → AllReady g docs qs cursors last → IsRound g docs qs cursors end end
 round_end g docs qs cursors end last e h r = record {
   falls = omega arith;
   same = refl;
   all = λ _. ap (λ (x : Trees). top (each_at docs x) end) e ∙ top_all (each_at docs no_trees) (λ n. refl) end;
+  under = subst (λ x. AreUnder docs x end end) (sym e) tt;
   ready = all_lower g docs qs cursors end last h r;
 }
 
@@ -141,6 +156,7 @@ round_step g1 g' docs qs q qs' a b' end found1 found e w told ready more =
           let p1 : top h found1 ≡ found1 = more.all (k ∙ sym k1) ∙ refl in
           let p2 : top h end ≡ end = subst (λ y. top h y ≡ y) k1 p1 in
           subst (λ y. top (each_at docs y) end ≡ end) (sym i) (top_and f h end p p2);
+      under = subst (λ y. AreUnder docs y end found) (sym i) (omega (arith, told, more.falls), under_up docs qs' found1 end found le more.under);
       ready = all_join g' docs x q qs' a b' found i (ready_lower g' docs q a found end (omega (arith, more.falls)) (ready_later g1 g' w docs q a end ready)) more.ready;
     } in
     back qs e

@@ -1,14 +1,15 @@
 //! The first postings of each term of a query.
 ghost use Rattle.std.specs.Prelude.{◌≡◌, ℕ, ◌+◌, ◌*◌, ◌<◌, ◌≤◌, ◌^◌, List, length, if◌then◌else◌};
 ghost use Rattle.eb_base.specs.Document.{Doc};
-ghost use Rattle.eb_base.specs.Query.{tree, size, sizes, IsFormed, AreFormed};
+ghost use Rattle.eb_base.specs.Query.{tree, word, size, sizes, IsFormed, AreFormed};
 ghost use Rattle.eb_place.specs.Postings.{places};
 ghost use Rattle.eb_place.specs.declared.moment.Moment.{Moment};
 ghost use Rattle.eb_cursor.specs.Told.{Told};
 ghost use Rattle.eb_cursor.specs.Lists.{gives};
 ghost use Rattle.eb_cursor.specs.Opened.{AreFirst};
 ghost use Rattle.eb_cursor.specs.Posted.{is_posting};
-ghost use Rattle.eb_cursor.specs.Ready.{IsLeaf};
+ghost use Rattle.eb_cursor.specs.Ready.{IsLeaf, Ready};
+ghost use Rattle.eb_cursor.specs.Costs.{Costs, FirstCosts, IsPaid, word_loads};
 ghost use Rattle.eb_cursor.specs.Asked.{trees_in};
 ghost use Rattle.eb_cursor.specs.Begun.{AreClear, CanBegin, Begun, BegunLeaves, BegunEach, BegunSome};
 
@@ -39,8 +40,10 @@ fn open_leaf<P: Port, L: Ledger>(
     steps: &mut Steps<L>,
 ) -> Cursor
     requires { (m : Moment) × (docs : List Doc) × P.stands port.old m × AreFirst m segment docs }
-    ensures { (docs : List Doc) → Told P.stands P.keeps port.old port.new (λ m. AreFirst m segment docs)
+    ensures leaf { (docs : List Doc) → Told P.stands P.keeps port.old port.new (λ m. AreFirst m segment docs)
         (λ n. IsLeaf (gives n) (is_posting docs term.now) result (places * length docs)) }
+    ensures costs { Told P.stands P.keeps port.old port.new (λ m. segment < m.setting.segments)
+        (λ n. IsPaid (Costs n segment term.now result.list) steps.old (word_loads n segment term.now) steps.new) }
 {
     let mut list = PostingList::open(term, segment, port, steps);
     let current = list.next(port, steps);
@@ -83,6 +86,33 @@ fn end_if(some: bool, end: u64) -> u64
     ensures { result ≡ (if some then end else 0) }
 {
     if some { end } else { 0 }
+}
+
+/// Begins a query, as [`begin`] does, whose loads are bounded where it is a word.
+pub fn begin_query<P: Port, L: Ledger>(
+    query: &Query,
+    cursors: &mut [Cursor],
+    segment: u32,
+    documents: u32,
+    port: &mut P,
+    steps: &mut Steps<L>,
+)
+    requires small { (0 < documents) × (length cursors.old ≤ 64) }
+    requires fits { length cursors.old ≡ size (tree query.now) }
+    requires formed { IsFormed (tree query.now) }
+    requires clear { AreClear cursors.old }
+    requires first { CanBegin P.stands port.old segment documents }
+    ensures ready { (docs : List Doc) → length docs ≡ documents → Told P.stands P.keeps port.old port.new (λ m. AreFirst m segment docs)
+        (λ n. Ready (gives n) docs (tree query.now) cursors.new (length docs)) }
+    ensures costs { (t : List ℕ) → tree query.now ≡ word t → Told P.stands P.keeps port.old port.new (λ m. segment < m.setting.segments)
+        (λ n. IsPaid (FirstCosts n segment t cursors.new) steps.old (word_loads n segment t) steps.new) }
+{
+    match query {
+        Query::Word(term) => cursors[0] = open_leaf(term, segment, port, steps),
+        _ => {
+            begin(query, cursors, segment, documents, port, steps);
+        }
+    }
 }
 
 /// Begins a query at the end of the first `documents` documents of a segment. False only where none of

@@ -6,15 +6,56 @@ ghost use Rattle.eb_place.specs.declared.moment.Moment.{Moment};
 ghost use Rattle.eb_cursor.specs.Told.{Told};
 ghost use Rattle.eb_cursor.specs.Lists.{gives};
 ghost use Rattle.eb_cursor.specs.Loads.{loads_left};
+ghost use Rattle.eb_cursor.specs.Costs.{FirstCosts, IsPaid};
 ghost use Rattle.eb_cursor.specs.Ready.{Ready, AllReady};
 ghost use Rattle.eb_cursor.specs.Asked.{trees_in, CanAsk, CanAskAll, Found, FoundNot, FoundSome, FoundAll, CanAskWord, IsLed, IsRound};
 
-use crate::cursor::{Cursor, leaf_below};
+use crate::cursor::{Cursor, leaf_below, walk_below};
 use crate::phrase::{phrase_below, to_document_end};
 use crate::size::size;
 use eb_base::Query;
 use eb_place::{PLACES, Port, Steps};
 use std::sync::ledger::Ledger;
+
+/// One more than the greatest document below `end` that matches, or 0. A query that is a word reads its
+/// postings one by one, which bounds its loads.
+pub fn query_below<P: Port, L: Ledger>(
+    query: &Query,
+    cursors: &mut [Cursor],
+    port: &mut P,
+    steps: &mut Steps<L>,
+    end: u64,
+) -> u64
+    requires small { (end ≤ 2 ^ 32) × (length cursors.old ≤ 64) }
+    requires ready { CanAsk P.stands port.old (tree query.now) cursors.old end }
+    ensures found { (docs : List Doc) (last : ℕ) → end ≤ last → Told P.stands P.keeps port.old port.new (λ m. Ready (gives m) docs (tree query.now) cursors.old last) (Found (tree query.now) docs cursors.new end result) }
+    ensures loads { steps.new + loads_left cursors.new ≤ steps.old + loads_left cursors.old }
+    ensures costs { (s : ℕ) (t : List ℕ) (most : ℕ) → tree query.now ≡ word t → Told P.stands P.keeps port.old port.new (λ m. FirstCosts m s t cursors.old most)
+        (λ n. IsPaid (FirstCosts n s t cursors.new) steps.old most steps.new) }
+{
+    match query {
+        Query::Word(_) => posting_below(cursors, port, steps, end),
+        _ => below(query, cursors, port, steps, end),
+    }
+}
+
+// One more than the greatest document below `end` that has the term, or 0, posting by posting.
+fn posting_below<P: Port, L: Ledger>(
+    cursors: &mut [Cursor],
+    port: &mut P,
+    steps: &mut Steps<L>,
+    end: u64,
+) -> u64
+    requires small { end ≤ 2 ^ 32 }
+    requires ready { CanAskWord P.stands port.old cursors.old end }
+    ensures found { (docs : List Doc) (t : List ℕ) (last : ℕ) → end ≤ last → Told P.stands P.keeps port.old port.new (λ m. Ready (gives m) docs (word t) cursors.old last) (Found (word t) docs cursors.new end result) }
+    ensures loads { steps.new + loads_left cursors.new ≤ steps.old + loads_left cursors.old }
+    ensures costs { (s : ℕ) (t : List ℕ) (most : ℕ) → Told P.stands P.keeps port.old port.new (λ m. FirstCosts m s t cursors.old most)
+        (λ n. IsPaid (FirstCosts n s t cursors.new) steps.old most steps.new) }
+{
+    let found = walk_below(&mut cursors[0], port, steps, PLACES * end);
+    to_document_end(found)
+}
 
 /// One more than the greatest document below `end` that matches, or 0.
 #[cycle(below)]

@@ -7,6 +7,7 @@ ghost use Rattle.eb_place.specs.declared.moment.Moment.{Moment};
 ghost use Rattle.eb_cursor.specs.Told.{Told};
 ghost use Rattle.eb_cursor.specs.Lists.{gives};
 ghost use Rattle.eb_cursor.specs.Loads.{loads_left};
+ghost use Rattle.eb_cursor.specs.Costs.{AllSpan, look_loads, IsPaid};
 ghost use Rattle.eb_cursor.specs.Posted.{document_end, has_room};
 ghost use Rattle.eb_cursor.specs.Ready.{Ready, AllLeaves};
 ghost use Rattle.eb_cursor.specs.Asked.{CanAskPhrase, CanAskLeaves, Found, FoundStart, IsLedRun, IsRun};
@@ -53,6 +54,8 @@ fn leaves_below<P: Port, L: Ledger>(
     requires ready { CanAskLeaves P.stands port.old cursors.old at end }
     ensures found { (docs : List Doc) (ts : List (List ℕ)) (last : ℕ) → end ≤ last → Told P.stands P.keeps port.old port.new (λ m. AllLeaves (gives m) docs ts cursors.old (last + at)) (λ n. IsRun (gives n) docs ts cursors.new at end result) }
     ensures loads { steps.new + loads_left cursors.new ≤ steps.old + loads_left cursors.old }
+    ensures spans { (s : ℕ) (ts : List (List ℕ)) (most : ℕ) → Told P.stands P.keeps port.old port.new (λ m. AllSpan m s ts cursors.old most)
+        (λ n. IsPaid (AllSpan n s ts cursors.new) steps.old (most + look_loads * length ts) steps.new) }
 {
     if end == 0 {
         return 0;

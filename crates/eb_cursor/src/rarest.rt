@@ -7,89 +7,122 @@ use crate::cursor::Cursor;
 use crate::size::size;
 use eb_base::Query;
 
-/// A part or a term, and how far up its postings begin: the rarer it is, the lower they likely begin.
-#[derive(Drop)]
-pub struct Part {
-    /// Its number, counted from 0.
-    pub number: u32,
+/// How common a part likely is, by what its cursors know without a load.
+#[derive(Clone, Copy, Debug, PartialEq, Eq)]
+pub struct Commonness {
+    /// The pool that its postings have come to, the greatest number where that can't be told: each pool
+    /// holds some nine times the postings of the one before it.
+    pub pool: u32,
     /// One more than its newest posting, 0 where there is none, the greatest number where that can't be
-    /// told.
+    /// told: of two terms in the same pool the rarer one likely begins lower.
     pub newest: u64,
 }
 
-// One more than the posting that was given last, or 0.
-fn newest_posting(cursor: &Cursor) -> u64 {
-    match cursor.current {
-        None => 0,
+// Of nothing rarer than which there is.
+const UNKNOWN: Commonness = Commonness {
+    pool: u32::MAX,
+    newest: u64::MAX,
+};
+
+// Of what matches nothing.
+const NOTHING: Commonness = Commonness { pool: 0, newest: 0 };
+
+/// A part of a query or a term of a phrase.
+#[derive(Clone, Copy, Debug, PartialEq, Eq)]
+pub struct Part {
+    /// Its number, counted from 0.
+    pub number: u32,
+    /// How common it likely is.
+    pub commonness: Commonness,
+}
+
+// Whether the first is likely rarer.
+fn is_rarer(one: Commonness, other: Commonness) -> bool {
+    one.pool < other.pool || (one.pool == other.pool && one.newest < other.newest)
+}
+
+// How common the term of a leaf likely is.
+fn commonness_of_leaf(cursor: &Cursor) -> Commonness {
+    let newest = match cursor.current {
+        None => return NOTHING,
         Some(posting) => u64::from(posting) + 1,
+    };
+    Commonness {
+        pool: cursor.list.pool(),
+        newest,
     }
 }
 
-// The first part, or the one among those behind it where that begins lower.
-fn rarer(newest: u64, behind: Part) -> Part {
-    if behind.newest < newest {
+/// The first part, or the one among those behind it where that is likely rarer.
+pub fn rarer(own: Commonness, behind: Part) -> Part {
+    if is_rarer(behind.commonness, own) {
         return Part {
             number: behind.number.saturating_add(1),
-            newest: behind.newest,
+            commonness: behind.commonness,
         };
     }
-    Part { number: 0, newest }
+    Part {
+        number: 0,
+        commonness: own,
+    }
 }
+
+// No part.
+const NO_PART: Part = Part {
+    number: 0,
+    commonness: UNKNOWN,
+};
 
 /// The term of a phrase that is likely the rarest. Loads nothing.
 pub fn rarest_leaf(cursors: &[Cursor]) -> Part {
     let Some((own, rest)) = cursors.split_first() else {
-        return Part {
-            number: 0,
-            newest: u64::MAX,
-        };
+        return NO_PART;
     };
-    rarer(newest_posting(own), rarest_leaf(rest))
+    rarer(commonness_of_leaf(own), rarest_leaf(rest))
 }
 
 /// The part that is likely the rarest. Loads nothing.
-#[cycle(newest)]
+#[cycle(common)]
 pub fn rarest(parts: &[Query], cursors: &[Cursor]) -> Part
     requires fits { length cursors.now ≡ sizes (trees_in parts.now) }
     requires small { length cursors.now ≤ 64 }
 {
     let Some((part, others)) = parts.split_first() else {
-        return Part {
-            number: 0,
-            newest: u64::MAX,
-        };
+        return NO_PART;
     };
     let (own, rest) = cursors.split_at(size(part));
-    rarer(newest(part, own), rarest(others, rest))
+    rarer(commonness_of_part(part, own), rarest(others, rest))
 }
 
-// The greatest of the parts' newest.
-#[cycle(newest)]
-fn newest_of_some(parts: &[Query], cursors: &[Cursor]) -> u64
+// How common the most common of the parts likely is.
+#[cycle(common)]
+fn commonness_of_some(parts: &[Query], cursors: &[Cursor]) -> Commonness
     requires fits { length cursors.now ≡ sizes (trees_in parts.now) }
     requires small { length cursors.now ≤ 64 }
 {
     let Some((part, others)) = parts.split_first() else {
-        return 0;
+        return NOTHING;
     };
     let (own, rest) = cursors.split_at(size(part));
-    newest(part, own).max(newest_of_some(others, rest))
+    let first = commonness_of_part(part, own);
+    let other = commonness_of_some(others, rest);
+    if is_rarer(first, other) { other } else { first }
 }
 
-// One more than the newest posting that a query can match by, as far as that can be told.
-#[cycle(newest)]
-fn newest(query: &Query, cursors: &[Cursor]) -> u64
+// How common a query likely is.
+#[cycle(common)]
+fn commonness_of_part(query: &Query, cursors: &[Cursor]) -> Commonness
     requires fits { length cursors.now ≡ size (tree query.now) }
     requires small { length cursors.now ≤ 64 }
 {
     let Some((own, rest)) = cursors.split_first() else {
-        return u64::MAX;
+        return UNKNOWN;
     };
     match query {
-        Query::Word(_) => newest_posting(own),
-        Query::Phrase(_) => rarest_leaf(cursors).newest,
-        Query::Not(_) => u64::MAX,
-        Query::And(parts) => rarest(parts.as_slice(), rest).newest,
-        Query::Or(parts) => newest_of_some(parts.as_slice(), rest),
+        Query::Word(_) => commonness_of_leaf(own),
+        Query::Phrase(_) => rarest_leaf(cursors).commonness,
+        Query::Not(_) => UNKNOWN,
+        Query::And(parts) => rarest(parts.as_slice(), rest).commonness,
+        Query::Or(parts) => commonness_of_some(parts.as_slice(), rest),
     }
 }

@@ -1,6 +1,6 @@
 use crate::Frame;
 use crate::cursor::Cursor;
-use crate::rarest::rarest_leaf;
+use crate::rarest::{Commonness, Part, rarer, rarest_leaf};
 use eb_base::{Queries, Query, Term, Terms};
 use eb_place::Posting;
 use std::alloc::Global;
@@ -40,11 +40,26 @@ fn leaf(posting: Option<Posting>) -> Cursor {
 }
 
 #[test]
-fn the_term_with_the_oldest_newest_posting_leads(rt: HostRuntime) {
+fn the_term_in_the_lowest_pool_leads_and_then_that_with_the_oldest_newest_posting(rt: HostRuntime) {
     let leaves = [leaf(Some(900)), leaf(Some(300)), leaf(Some(301))];
     assert_eq!(rt; rarest_leaf(&leaves).number, 1);
     let leaves = [leaf(Some(7)), leaf(Some(7))];
     assert_eq!(rt; rarest_leaf(&leaves).number, 0);
     let leaves = [leaf(Some(7)), leaf(Some(5)), leaf(None)];
     assert_eq!(rt; rarest_leaf(&leaves).number, 2);
+    for (pool, newest, other_pool, other_newest, leads) in [
+        (3, 1, 1, 900, 1),
+        (1, 900, 3, 1, 0),
+        (3, 900, 3, 1, 1),
+        (2, 1, 2, 1, 0),
+    ] {
+        let behind = Part {
+            number: 0,
+            commonness: Commonness {
+                pool: other_pool,
+                newest: other_newest,
+            },
+        };
+        assert_eq!(rt; rarer(Commonness { pool, newest }, behind).number, leads);
+    }
 }

@@ -16,7 +16,7 @@ use Rattle.eb_place.specs.Falling.{IsFalling, AllBelow}
 use Rattle.eb_place.proofs.Falling.{falls_from, below_from}
 
 -- the list rises from this number on
-abbrev RisesFrom : ℕ → List ℕ → Type 0
+abbrev pub RisesFrom : ℕ → List ℕ → Type 0
 RisesFrom low [] = Unit {0}
 RisesFrom low (x ∷ xs) = (low ≤ x) × RisesFrom (suc x) xs
 
@@ -60,6 +60,11 @@ falls_back low xs h = falls_from (reverse xs) (λ k l.
     let r = rises_at low xs j h (omega arith) in
     let r' : get_or xs j 0 < get_or xs (length xs - 1 - k) 0 = subst (λ i. get_or xs j 0 < get_or xs i 0) e r in
     omega arith))
+
+-- the postings of a term in a segment rise
+pub postings_rise : (m : Moment) (s : ℕ) (t : Term) → IsMoment m → RisesFrom 0 (postings t (segment m s))
+unfolding postings tokens of_tokens
+postings_rise m s t is = rises_segment t 0 (segment m s) ((placed_all m.setting (with_current m.documents) is.setting is.lawful).limits s)
 
 pub newest_falls : (m : Moment) (s : ℕ) (t : Term) → IsMoment m → IsFalling (reverse (postings t (segment m s)))
 unfolding postings tokens of_tokens

@@ -160,9 +160,13 @@ fn the_newest_come_first(rt: HostRuntime) -> Result<(), Fail> {
     let mut few = frame(rt.alloc(), 3)?;
     assert_eq!(rt; searched(&mut port, &mut few, &gate), 4);
     assert_eq!(rt; few.ids(), [4, 3, 2].as_slice());
+    // One load for the count, two for each of the two segments, one for each of three ids, and in each
+    // segment ten to find the term, two for its postings, one for its slice and one for its tail.
+    assert!(rt; loads.get() <= 36);
     let mut many = frame(rt.alloc(), 9)?;
     assert_eq!(rt; searched(&mut port, &mut many, &gate), 4);
     assert_eq!(rt; many.ids(), [4, 3, 2, 1].as_slice());
+    assert!(rt; loads.get() <= 37);
     assert_eq!(rt; gate.told(), (4, 2, 1));
     Ok(())
 }

@@ -62,6 +62,13 @@ impl GrowingPort {
         }
     }
 
+    /// How many loads it made.
+    pub fn loads(&self) -> u64
+        ensures { result ≡ self.now.loads }
+    {
+        self.loads
+    }
+
     // How many stores are left.
     fn left(&self) -> usize {
         self.stores.len().saturating_sub(self.done)

@@ -3,6 +3,7 @@ mod asking;
 mod chains;
 mod cursors;
 mod dictionary;
+mod leaps;
 mod made;
 mod placing;
 mod queries;

@@ -20,7 +20,7 @@ use std::sync::ledger::{Blank, Ledger};
 use std::test::Fail;
 
 // A document of so many times the term `a`.
-fn of_a(alloc: Global, times: usize) -> Result<Document, Fail> {
+pub(super) fn of_a(alloc: Global, times: usize) -> Result<Document, Fail> {
     let mut terms = Terms::new(alloc);
     for _ in 0..times {
         terms.push(Term::new(alloc, b"a")?)?;
@@ -81,7 +81,11 @@ fn are_given(given: &[Option<u32>], postings: &[u64]) -> bool {
 }
 
 // Opens the chain of a term in segment 0, if it is there.
-fn open<P: Port, L: Ledger>(port: &mut P, term: &Term, steps: &mut Steps<L>) -> Option<Chain>
+pub(super) fn open<P: Port, L: Ledger>(
+    port: &mut P,
+    term: &Term,
+    steps: &mut Steps<L>,
+) -> Option<Chain>
     requires { (m : Moment) × P.stands port.old m }
     ensures { MatchOption result (Unit {0}) (λ chain. (m : Moment) × (s : ℕ) × (t : List ℕ) × (opened : ℕ) × (rest : List ℕ) × P.stands port.new m × chains.Stands m s t chain opened rest) }
 {
@@ -179,7 +183,11 @@ fn postings_take_slices_of_greater_pools(rt: HostRuntime) -> Result<(), Fail> {
 }
 
 // The postings whose tails are stored, oldest first: a posting is stored right before its tail.
-fn postings_stored(alloc: Global, port: &GrowingPort, tail: u64) -> Result<Vec<u64>, Fail> {
+pub(super) fn postings_stored(
+    alloc: Global,
+    port: &GrowingPort,
+    tail: u64,
+) -> Result<Vec<u64>, Fail> {
     let mut postings = Vec::new(alloc);
     let mut last = 0;
     for store in port.stores_done() {

@@ -18,7 +18,7 @@ none_of (Some x) e = absurd (false≢true (sym e))
 pub begin-returns-in-Word : goal.begin-returns-in-Word
 begin-returns-in-Word g t c = λ docs same.
     let i : tree c.args.query.now ≡ word c.in-Word.term = ap tree c.in-Word.is ∙ tree_Word c.in-Word.term in
-    told_as g.met.P.Port.lawful (c.open_leaf-leaf.ensures docs) (λ m a. a)
+    told_as g.met.P.Port.lawful (c.open_leaf-leaf.ensures.leaf docs) (λ m a. a)
     (λ m n w a leaf. begun_word n docs (tree c.args.query.now) c.in-Word.term c.args.cursors.now c.open_leaf-leaf.result c.is_some-some.result i (c.requires.fits ∙ ap size i) a.narrow
     (λ h. none_of c.open_leaf-leaf.result.current (sym c.is_some-some.ensures ∙ h)) leaf)
 

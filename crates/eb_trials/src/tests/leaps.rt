@@ -1,0 +1,132 @@
+//! Leaps: what a chain gives at or below a number, against the list of what it stands for, while its words
+//! grow between any two loads.
+ghost use Rattle.std.specs.Prelude.{◌≡◌, ◌<◌, ℕ};
+ghost use Rattle.eb_place.specs.declared.moment.Moment.{Moment};
+ghost use Rattle.eb_trials.specs.Grown.{Grows};
+
+use super::chains::{of_a, open, postings_stored};
+use super::made::{grow_by, growing};
+use crate::{GrowingPort, Pace};
+use eb_base::{Config, Document, MAX_TOKENS, Term};
+use eb_place::{Posting, Steps};
+use std::alloc::Global;
+use std::marker::Brand;
+use std::sync::ledger::{Blank, Ledger};
+use std::test::Fail;
+
+// Documents of the term `a` with so many postings in all, full but for the last: so the postings of the term
+// are the numbers from 0 on.
+fn documents_of(alloc: Global, postings: usize) -> Result<Vec<Document>, Fail> {
+    let mut documents = Vec::new(alloc);
+    let mut left = postings;
+    for _ in 0..postings {
+        let times = left.min(MAX_TOKENS);
+        if times > 0 {
+            documents.push(of_a(alloc, times)?)?;
+        }
+        left -= times;
+    }
+    Ok(documents)
+}
+
+// How many of rising numbers are at most `most`.
+fn count_at_most(postings: &[u64], most: u64) -> usize {
+    postings.iter().filter(|posting| **posting <= most).count()
+}
+
+// Whether this is the last of the first `left` postings, none where there are none.
+fn is_last(given: Option<Posting>, postings: &[u64], left: usize) -> bool {
+    match given {
+        None => left == 0,
+        Some(posting) => left > 0 && postings.get(left - 1) == Some(&u64::from(posting)),
+    }
+}
+
+// The slices of all pools that so many postings stand in: of 2, 15, 127, and further ones of 2,047.
+fn slices_of(postings: usize) -> u64 {
+    let firsts = [0, 2, 17, 144, 2191, 4238, 6285];
+    firsts.iter().filter(|first| **first < postings).count() as u64
+}
+
+// Whether a leap to `most`, the next posting then, and a leap to the half of `most` give what the list has;
+// and whether the first leap makes at most two loads for each slice that it leaves behind, and 23.
+fn leaps_as_listed<L: Ledger>(
+    alloc: Global,
+    port: &mut GrowingPort,
+    most: Posting,
+    blank: Blank,
+) -> Result<bool, Fail>
+    requires blank { (blank.name ≡ L.name) × (blank.parts ≡ L.parts) × (0 < blank.parts) }
+    requires port { (m : Moment) × Grows port.old m }
+{
+    let mut steps = Steps::<L>::new(blank);
+    let term = Term::new(alloc, b"a")?;
+    let Some(mut chain) = open(port, &term, &mut steps) else {
+        return Ok(false);
+    };
+    let stored = postings_stored(alloc, port, 1539)?;
+    let postings = stored.as_slice();
+    let before = port.loads();
+    let first = chain.next_at_most(port, most, &mut steps);
+    let loads = port.loads().saturating_sub(before);
+    let second = chain.next(port, &mut steps);
+    let third = chain.next_at_most(port, most / 2, &mut steps);
+    let at_first = count_at_most(postings, u64::from(most));
+    let at_second = at_first.saturating_sub(1);
+    let at_third = count_at_most(postings, u64::from(most / 2)).min(at_second.saturating_sub(1));
+    let passed = slices_of(postings.len()).saturating_sub(slices_of(at_first));
+    let bound = passed.saturating_mul(2).saturating_add(23);
+    Ok(
+        loads <= bound
+            && is_last(first, postings, at_first)
+            && is_last(second, postings, at_second)
+            && is_last(third, postings, at_third),
+    )
+}
+
+// The same for so many postings, with five stores of a further document done before, and one more before
+// each load.
+fn leaps(alloc: Global, postings: usize, most: Posting) -> Result<bool, Fail> {
+    let config = Config::new(1, 4096, 512)?;
+    let documents = documents_of(alloc, postings)?;
+    let last = of_a(alloc, 256)?;
+    let mut port = growing(alloc, config, documents.as_slice(), last, Pace::OneFrom(0))?;
+    grow_by(&mut port, 5);
+    leaps_as_listed::<Brand>(alloc, &mut port, most, Blank::new(1))
+}
+
+#[test]
+fn a_leap_gives_what_the_list_has(rt: HostRuntime) -> Result<(), Fail> {
+    let alloc = rt.alloc();
+    for postings in [2, 17, 144, 2191, 6000] {
+        for most in [
+            0,
+            1,
+            2,
+            3,
+            15,
+            16,
+            17,
+            18,
+            142,
+            143,
+            144,
+            145,
+            2189,
+            2190,
+            2191,
+            2192,
+            4236,
+            4237,
+            4238,
+            4239,
+            5998,
+            5999,
+            6000,
+            u32::MAX,
+        ] {
+            assert!(rt; leaps(alloc, postings, most)?, "{postings} {most}");
+        }
+    }
+    Ok(())
+}
