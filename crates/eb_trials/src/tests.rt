@@ -6,3 +6,4 @@ mod dictionary;
 mod made;
 mod placing;
 mod queries;
+mod sharing;

@@ -81,7 +81,11 @@ fn are_given(given: &[Option<u32>], postings: &[u64]) -> bool {
 }
 
 // Opens the chain of a term in segment 0, if it is there.
-fn open<P: Port, L: Ledger>(port: &mut P, term: &Term, steps: &mut Steps<L>) -> Option<Chain>
+pub(super) fn open<P: Port, L: Ledger>(
+    port: &mut P,
+    term: &Term,
+    steps: &mut Steps<L>,
+) -> Option<Chain>
     requires { (m : Moment) × P.stands port.old m }
     ensures { MatchOption result (Unit {0}) (λ chain. (m : Moment) × (s : ℕ) × (t : List ℕ) × (opened : ℕ) × (rest : List ℕ) × P.stands port.new m × chains.Stands m s t chain opened rest) }
 {
