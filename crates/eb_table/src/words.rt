@@ -40,9 +40,10 @@ impl Model for SharedWords {
 
 impl SharedWords {
     /// The words of an index without a document, all 0, with the seats of its writer and its converter, which
-    /// know the empty moment. The words come after this project's profile, docs/FORMATS.md. Takes all memory of
-    /// the index, and holds the words twice until it returns: the table is made from a list of its words. That
-    /// is OPENUSUAL. `NoMemory` where it isn't there: nothing is kept then.
+    /// know the empty moment. The layout of the words is this project's profile, docs/FORMATS.md. Takes all memory
+    /// of the index, and holds the words twice until it returns, since the table is made from a list of its words:
+    /// 117 MiB at the usual setting, of which 58 MiB stay, and 2 GiB at the greatest, of which 1 GiB stays.
+    /// `NoMemory` where that isn't there: nothing is kept then.
     pub fn open(
         alloc: Global,
         config: Config,

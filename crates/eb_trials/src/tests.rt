@@ -7,3 +7,4 @@ mod leaps;
 mod made;
 mod placing;
 mod queries;
+mod sharing;

@@ -1,0 +1,207 @@
+//! A program that embeds the index: one thread adds messages, and two threads search while it does.
+//!
+//! The index is shared by reference. Its writer and its readers are values: each goes to its thread and comes back.
+//! Each call's contract asks that they were made with this index, and promises what is written beside it here.
+#![tactic(auto)]
+
+ghost use Rattle.std.specs.Prelude.{◌≡◌, ◌<◌, length};
+ghost use mathlib.Core.List.{IsPrefix};
+ghost use Rattle.eb_base.specs.Match.{answer};
+ghost use Rattle.eb_cursor.specs.Frames.{query_of, k_of, ids_of};
+
+use eb_base::{Config, Document, NoMemory, OpenGate, Query, Term};
+use eb_cursor::Frame;
+use eb_engine::{Index, Reader, Writer};
+use eb_place::Steps;
+use eb_text::tokens;
+use std::alloc::Global;
+use std::marker::Brand;
+use std::sync::ledger::{Blank, Ledger};
+use std::thread::Threads;
+use std::{io, thread};
+
+#[derive(Debug, Drop)]
+enum Trouble {
+    NoMemory,
+    BadSetting,
+    LongMessage,
+    NoOutput,
+}
+
+impl From<NoMemory> for Trouble {
+    fn from(_: NoMemory) -> Trouble {
+        Trouble::NoMemory
+    }
+}
+
+impl From<io::Error> for Trouble {
+    fn from(_: io::Error) -> Trouble {
+        Trouble::NoOutput
+    }
+}
+
+// The messages, each with its id.
+fn messages(alloc: Global) -> Result<Vec<Document>, Trouble> {
+    let mut messages = Vec::new(alloc);
+    for (id, text) in [
+        (11, "Rain in Berlin"),
+        (12, "Sun over Rome"),
+        (13, "Rain again, and the trams are late"),
+        (14, "From Rome to Berlin by train"),
+    ] {
+        let Ok(message) = Document::new(id, tokens(alloc, text)?) else {
+            return Err(Trouble::LongMessage);
+        };
+        let Ok(()) = messages.push(message) else {
+            return Err(Trouble::NoMemory);
+        };
+    }
+    Ok(messages)
+}
+
+// A frame takes all memory that the searches of its query need. This one keeps up to ten ids.
+fn frame(alloc: Global, word: &[u8]) -> Result<Frame, NoMemory> {
+    Frame::new(alloc, Query::Word(Term::new(alloc, word)?), 10)
+}
+
+// Adds the messages. `Writer::add` puts each behind the history, or answers that there is no room for it, and takes no
+// memory. The gate is told of each document; this one does nothing.
+fn add_all(index: &Index, writer: Writer, messages: &[Document]) -> Writer
+    requires { writer.index ≡ index.now }
+    ensures { result.index ≡ index.now }
+{
+    let mut writer = writer;
+    for message in messages {
+        let Ok(_count) = writer.add(index, message, &OpenGate) else {
+            return writer;
+        };
+        thread::yield_now();
+    }
+    writer
+}
+
+// One search. Its result is how many documents it saw: the first ones of the history, all that the reader knew among
+// them. The ids are those of exactly the newest of these that match. `steps` counts the loads of words.
+fn search_once<L: Ledger>(
+    index: &Index,
+    reader: &mut Reader,
+    frame: &mut Frame,
+    blank: Blank,
+) -> u64
+    requires blank { (blank.name ≡ L.name) × (blank.parts ≡ L.parts) × (0 < blank.parts) }
+    requires made { reader.old.index ≡ index.now }
+    ensures index { reader.new.index ≡ reader.old.index }
+    ensures known { IsPrefix reader.old.docs reader.new.docs }
+    ensures count { result ≡ length reader.new.docs }
+    ensures query { (query_of frame.new ≡ query_of frame.old) × (k_of frame.new ≡ k_of frame.old) }
+    ensures ids { ids_of frame.new ≡ answer (query_of frame.old) (k_of frame.old) reader.new.docs }
+{
+    let mut steps = Steps::<L>::new(blank);
+    reader.search(index, frame, &OpenGate, &mut steps)
+}
+
+// Searches until it sees so many documents. What the frame holds then is the answer over all that the reader knows.
+fn search_until(index: &Index, reader: Reader, frame: Frame, documents: u64) -> (Reader, Frame)
+    requires { reader.index ≡ index.now }
+    ensures index { result.0.index ≡ index.now }
+    ensures known { IsPrefix reader.docs result.0.docs }
+{
+    let mut reader = reader;
+    let mut frame = frame;
+    for _ in 0..u64::MAX {
+        let seen = search_once::<Brand>(index, &mut reader, &mut frame, Blank::new(1));
+        if seen >= documents {
+            return (reader, frame);
+        }
+        thread::yield_now();
+    }
+    (reader, frame)
+}
+
+// The writer and two readers, each on a thread of its own.
+fn run<R: Threads + Sync>(
+    rt: &R,
+    index: &Index,
+    writer: Writer,
+    readers: (Reader, Reader),
+    frames: (Frame, Frame),
+    messages: &[Document],
+) -> (Writer, ((Reader, Frame), (Reader, Frame)))
+    requires writer { writer.index ≡ index.now }
+    requires readers { (readers.0.index ≡ index.now) × (readers.1.index ≡ index.now) }
+    ensures writer { result.0.index ≡ index.now }
+    ensures readers { (result.1.0.0.index ≡ index.now) × (result.1.1.0.index ≡ index.now) }
+{
+    let all = messages.len() as u64;
+    thread::join(
+        rt,
+        move || -> Writer
+            requires { writer.index ≡ index.now }
+            ensures { result.index ≡ index.entry.now }
+        { add_all(index, writer, messages) },
+        move || -> ((Reader, Frame), (Reader, Frame))
+            requires { (readers.0.index ≡ index.now) × (readers.1.index ≡ index.now) }
+            ensures { (result.0.0.index ≡ index.entry.now) × (result.1.0.index ≡ index.entry.now) }
+        { search_beside(rt, index, readers, frames, all) },
+    )
+}
+
+// The two readers.
+fn search_beside<R: Threads + Sync>(
+    rt: &R,
+    index: &Index,
+    readers: (Reader, Reader),
+    frames: (Frame, Frame),
+    documents: u64,
+) -> ((Reader, Frame), (Reader, Frame))
+    requires { (readers.0.index ≡ index.now) × (readers.1.index ≡ index.now) }
+    ensures { (result.0.0.index ≡ index.now) × (result.1.0.index ≡ index.now) }
+{
+    let (first, second) = readers;
+    let (one, other) = frames;
+    thread::join(
+        rt,
+        move || -> (Reader, Frame)
+            requires { first.index ≡ index.now }
+            ensures { result.0.index ≡ index.entry.now }
+        { search_until(index, first, one, documents) },
+        move || -> (Reader, Frame)
+            requires { second.index ≡ index.now }
+            ensures { result.0.index ≡ index.entry.now }
+        { search_until(index, second, other, documents) },
+    )
+}
+
+fn main(rt: HostRuntime) -> Result<(), Trouble> {
+    let alloc = rt.alloc();
+    // Two segments of at most 100 messages and 256 terms each. `open` takes all memory of the index.
+    let Ok(config) = Config::new(2, 100, 256) else {
+        return Err(Trouble::BadSetting);
+    };
+    let Ok((index, mut writer, _converter)) = Index::open(alloc, config) else {
+        return Err(Trouble::NoMemory);
+    };
+    let messages = messages(alloc)?;
+    // A reader of `Writer::reader` knows the whole history, which has no message yet.
+    let readers = (writer.reader(&index), writer.reader(&index));
+    let frames = (frame(alloc, b"rain")?, frame(alloc, b"berlin")?);
+    let (mut writer, ((first, rain), (second, berlin))) = run(
+        &rt,
+        &index,
+        writer,
+        readers,
+        frames,
+        messages.as_slice(),
+    );
+    // Who takes in a reader learns that what it knew is a front of the history.
+    writer.meet(&index, first);
+    writer.meet(&index, second);
+    println!(rt;
+        "messages {}, segments {}",
+        writer.accepted(),
+        writer.segments()
+    )?;
+    println!(rt; "rain {:?}", rain.ids())?;
+    println!(rt; "berlin {:?}", berlin.ids())?;
+    Ok(())
+}
