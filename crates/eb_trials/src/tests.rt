@@ -4,5 +4,6 @@ mod chains;
 mod cursors;
 mod dictionary;
 mod made;
+mod packing;
 mod placing;
 mod queries;
