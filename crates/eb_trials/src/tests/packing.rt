@@ -7,9 +7,9 @@ ghost use Rattle.eb_trials.specs.Recorded.{IsRecord};
 use super::made::{add_all, document};
 use crate::RecordingPen;
 use eb_base::{Config, Document, Term};
-use eb_block::{PackedList, Posting};
+use eb_block::PackedList;
 use eb_convert::{Converted, convert_next};
-use eb_place::{Port, Steps};
+use eb_place::{Port, Posting, Steps};
 use eb_terms::find;
 use eb_writer::Placer;
 use std::alloc::Global;
@@ -94,17 +94,17 @@ fn what_is_not_closed_is_not_converted(rt: HostRuntime) -> Result<(), Fail> {
         let mut pen = placed(alloc, config, documents.as_slice())?;
         let done = convert_all(alloc, &mut pen, 4)?;
         assert_eq!(rt; pen.converted(), converted, "{count}");
-        assert_eq!(rt; done.as_slice().last(), Some(&Converted::Nothing), "{count}");
+        assert_eq!(rt;
+            done.as_slice().last(),
+            Some(&Converted::Nothing),
+            "{count}"
+        );
     }
     Ok(())
 }
 
 // Opens the packed list of a term in segment 0, if the segment is converted and has the term.
-fn open<L: Ledger>(
-    pen: &mut RecordingPen,
-    term: &Term,
-    steps: &mut Steps<L>,
-) -> Option<PackedList>
+fn open<L: Ledger>(pen: &mut RecordingPen, term: &Term, steps: &mut Steps<L>) -> Option<PackedList>
     requires { (m : Moment) × IsRecord pen.old m }
     ensures list { MatchOption result (Unit {0}) (λ list. (m : Moment) × (s : ℕ) × (t : List ℕ) × (rest : List ℕ) × (budget : ℕ)
         × IsRecord pen.old m × ListStands m s t list rest budget) }
@@ -321,13 +321,7 @@ fn packed_lists_are_walked_and_leapt_over(rt: HostRuntime) -> Result<(), Fail> {
         let postings = postings_of(alloc, closed, word)?;
         assert_eq!(rt; postings.len(), many);
         let term = Term::new(alloc, word)?;
-        let list = is_packed::<Brand>(
-            alloc,
-            &mut pen,
-            &term,
-            postings.as_slice(),
-            Blank::new(1),
-        )?;
+        let list = is_packed::<Brand>(alloc, &mut pen, &term, postings.as_slice(), Blank::new(1))?;
         assert!(rt; list, "{many}");
     }
     Ok(())

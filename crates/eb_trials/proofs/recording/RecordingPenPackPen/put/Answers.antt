@@ -40,30 +40,34 @@ left : (c : After-from) (m : Moment) → (h : IsRecord c.args.self.now m) → (n
     → IsCounted m (eqb c.args.place c.converted.result)
 left c m h n =
     let at : c.converted.result ≡ place m.setting (slot m.conversions.converted converted_region 0) = c.converted.ensures.place
-        ∙ ap (λ (σ : Setting). place σ (slot c.args.self.now.converted converted_region 0)) (c.new.ensures ∙ c.config.ensures m h.words)
-        ∙ ap (λ k. place m.setting (slot k converted_region 0)) (sym h.converted) in
+    ∙ ap (λ (σ : Setting). place σ (slot c.args.self.now.converted converted_region 0)) (c.new.ensures ∙ c.config.ensures m h.words)
+    ∙ ap (λ k. place m.setting (slot k converted_region 0)) (sym h.converted) in
     counted m c.args.place c.args.value (eqb c.args.place c.converted.result) h.words.moment n (ap (eqb c.args.place) at)
 
 pub returns-then-is_err : goal.returns-then-is_err
 returns-then-is_err c m h n =
     let w = c.put.ensures m h.words n in
-    let k = left (goal.at.returns-then-is_err c).After-from m h n in
-    (record {
-      words = w.0;
-      stores = λ e. absurd (false≢true (sym e));
-      converted = k.converted ∙ ap (λ j. j + (if eqb c.args.place c.converted.result then 1 else 0)) h.converted
-          ∙ ap (λ j. c.args.self.now.converted + j) (sym (c.from.ensures ∙ byte (eqb c.args.place c.converted.result)));
-      whole = k.whole;
-    }, w.1)
+    let k = left (goal.at.returns-then-is_err c).After-from m h n in (
+      record {
+        words = w.0;
+        stores = λ e. absurd (false≢true (sym e));
+        converted = k.converted ∙ ap (λ j. j + (if eqb c.args.place c.converted.result then 1 else 0)) h.converted
+            ∙ ap (λ j. c.args.self.now.converted + j) (sym (c.from.ensures ∙ byte (eqb c.args.place c.converted.result)));
+        whole = k.whole;
+      },
+      w.1,
+    )
 
 pub returns-else-is_err : goal.returns-else-is_err
 returns-else-is_err c m h n =
     let w = c.put.ensures m h.words n in
-    let k = left (goal.at.returns-else-is_err c).After-from m h n in
-    (record {
-      words = w.0;
-      stores = λ e. h.stores e ∙ sym (same_stores m);
-      converted = k.converted ∙ ap (λ j. j + (if eqb c.args.place c.converted.result then 1 else 0)) h.converted
-          ∙ ap (λ j. c.args.self.now.converted + j) (sym (c.from.ensures ∙ byte (eqb c.args.place c.converted.result)));
-      whole = k.whole;
-    }, w.1)
+    let k = left (goal.at.returns-else-is_err c).After-from m h n in (
+      record {
+        words = w.0;
+        stores = λ e. h.stores e ∙ sym (same_stores m);
+        converted = k.converted ∙ ap (λ j. j + (if eqb c.args.place c.converted.result then 1 else 0)) h.converted
+            ∙ ap (λ j. c.args.self.now.converted + j) (sym (c.from.ensures ∙ byte (eqb c.args.place c.converted.result)));
+        whole = k.whole;
+      },
+      w.1,
+    )
