@@ -316,7 +316,9 @@ fn packed_lists_are_walked_and_leapt_over(rt: HostRuntime) -> Result<(), Fail> {
     let mut pen = placed(alloc, config, documents.as_slice())?;
     let done = convert_all(alloc, &mut pen, 1)?;
     assert_eq!(rt; done.as_slice(), [Converted::One(0)].as_slice());
-    let closed = &documents.as_slice()[..700];
+    let Some(closed) = documents.as_slice().get(..700) else {
+        return Err(Fail::new("too few documents"));
+    };
     for (word, many) in [(b"a", 1399), (b"b", 140), (b"c", 7), (b"e", 2)] {
         let postings = postings_of(alloc, closed, word)?;
         assert_eq!(rt; postings.len(), many);
