@@ -6,7 +6,7 @@ use Rattle.std.proofs.Math.Pow.{pow_mono}
 use Rattle.eb_place.specs.Packed.{differences, width_of, fields, lowest_words, block}
 use Rattle.eb_place.specs.Falling.{AllBelow}
 use Rattle.eb_block.specs.Fields.{IsHeld, HoldsFields, DrawsFrom, Poured}
-use Rattle.eb_place.specs.PackedLists.{posting_bits}
+use Rattle.eb_place.specs.Postings.{posting_bits}
 use Rattle.eb_block.specs.Blocks.{most_words, IsPackable, BeginsWith}
 use Rattle.eb_block.specs.declared.bits.Bits.{Bits}
 use Rattle.eb_place.proofs.Blocks.{length-lowest_words}

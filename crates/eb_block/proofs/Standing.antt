@@ -9,7 +9,7 @@ use Rattle.eb_place.specs.Layout.{place}
 use Rattle.eb_place.specs.Layout.Slot.{slot}
 use Rattle.eb_place.specs.Layout.Region.{directory_region, packed_region}
 use Rattle.eb_place.specs.Packed.{packed, differences}
-use Rattle.eb_place.specs.Postings.{frequency, postings, terms_of}
+use Rattle.eb_place.specs.Postings.{frequency, postings, terms_of, posting_bits}
 use Rattle.eb_place.specs.Moments.{word, IsMoment}
 use Rattle.eb_place.specs.Later.{IsNotBefore}
 use Rattle.eb_place.specs.Seen.{segment}
@@ -19,7 +19,7 @@ use Rattle.eb_place.proofs.TermNumbers.{count_at_most}
 use Rattle.eb_place.proofs.Enough.{postings_few, length-postings}
 use Rattle.eb_place.proofs.Placed.{setting_terms}
 use Rattle.eb_block.specs.Fields.{IsHeld, IsField}
-use Rattle.eb_place.specs.PackedLists.{posting_bits, IsConverted, list_start, newest_first, packed_words}
+use Rattle.eb_place.specs.PackedLists.{IsConverted, list_start, newest_first, packed_words}
 use Rattle.eb_block.specs.Reading.{IsPackedAt, ReadsWords, ListStands, ListGives, loaded, HasPassed, IsNear, up_to}
 use Rattle.eb_block.specs.declared.packed_list.PackedList.{PackedList}
 use Rattle.eb_place.proofs.Converted.{word_packed_list, word_directory, list_fits, later_converted, converted_segment, closed_room}

@@ -2,7 +2,7 @@
 use Rattle.std.specs.Prelude.{◌≡◌, ℕ, ◌+◌, ◌*◌, ◌/◌, ◌^◌, ◌≤◌, List, ◌++◌, length}
 use Rattle.eb_place.specs.Packed.{block}
 use Rattle.eb_place.specs.Falling.{IsFalling, AllBelow}
-use Rattle.eb_place.specs.PackedLists.{posting_bits}
+use Rattle.eb_place.specs.Postings.{posting_bits}
 
 -- 1 to 128 falling numbers that have the bits of a posting
 pub record IsPackable (xs : List ℕ) : Type 0 where

@@ -8,7 +8,8 @@ use Rattle.eb_place.specs.Walk.{IsTerm}
 use Rattle.eb_place.specs.Falling.{IsFalling, AllBelow}
 use Rattle.eb_block.specs.Fields.{HoldsFields}
 use Rattle.eb_block.specs.Blocks.{most_words}
-use Rattle.eb_place.specs.PackedLists.{posting_bits, IsConverted, list_start}
+use Rattle.eb_place.specs.Postings.{posting_bits}
+use Rattle.eb_place.specs.PackedLists.{IsConverted, list_start}
 use Rattle.eb_block.specs.declared.packed_list.PackedList.{PackedList}
 
 -- this packed word of a converted segment is this word of the packed list of a term

@@ -3,10 +3,12 @@ ghost use Rattle.eb_place.specs.Packed.{block, differences, fields, lowest_words
 ghost use Rattle.eb_place.specs.Falling.{IsFalling};
 ghost use Rattle.eb_block.specs.Blocks.{IsPackable, BeginsWith};
 ghost use Rattle.eb_block.specs.Fields.{IsHeld, Poured, DrawsFrom};
-ghost use Rattle.eb_block.specs.declared.TheConstants.{BLOCK_WORDS, POSTING_BITS};
+ghost use Rattle.eb_place.specs.Postings.{posting_bits};
+ghost use Rattle.eb_block.specs.declared.TheConstants.{BLOCK_WORDS};
 
 use crate::bits::Bits;
-use crate::{BLOCK_POSTINGS, BLOCK_WORDS, POSTING_BITS, Posting};
+use crate::{BLOCK_POSTINGS, BLOCK_WORDS};
+use eb_place::Posting;
 
 // Where fields are written to words, or read from them: the next word, and bits before it.
 #[derive(Clone, Copy)]
@@ -101,7 +103,7 @@ pub(crate) fn width_in(header: u64) -> u32
 // Its first posting.
 #[inline(always)]
 pub(crate) fn posting_in(header: u64) -> Posting
-    requires { header < 2 ^ (16 + POSTING_BITS) }
+    requires { header < 2 ^ (16 + posting_bits) }
     ensures { result ≡ header / 2 ^ 16 }
 {
     (header >> 16) as Posting

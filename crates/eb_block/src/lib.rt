@@ -7,13 +7,8 @@ mod blocks;
 mod packed_list;
 
 pub use blocks::{pack_block, unpack_block};
+use eb_place::POSTING_BITS;
 pub use packed_list::PackedList;
-
-/// A posting, as a number.
-pub type Posting = u32;
-
-/// How many bits a posting has.
-pub const POSTING_BITS: u32 = 32;
 
 /// The most postings of a block.
 pub const BLOCK_POSTINGS: usize = 128;

@@ -7,10 +7,9 @@ ghost use Rattle.eb_place.specs.Walk.{IsTerm};
 ghost use Rattle.eb_place.specs.PackedLists.{IsConverted, newest_first, packed_words};
 ghost use Rattle.eb_block.specs.Reading.{ListStands, IsPackedAt, ListGives, HasPassed, IsNear, up_to, remaining, seek_loads};
 
-use crate::Posting;
 use crate::bits::Bits;
 use crate::blocks::{count_in, posting_in, width_in};
-use eb_place::{Places, Port, Steps};
+use eb_place::{Places, Port, Posting, Steps};
 use std::sync::ledger::Ledger;
 
 /// The postings of one term of a converted segment, newest first, read from its packed blocks. Each packed

@@ -1,7 +1,8 @@
 ghost use Rattle.std.specs.Prelude.{◌≡◌, true};
 ghost use Rattle.eb_block.specs.Blocks.{IsPackable};
 
-use super::{BLOCK_POSTINGS, BLOCK_WORDS, POSTING_BITS, Posting, pack_block, unpack_block};
+use super::{BLOCK_POSTINGS, BLOCK_WORDS, pack_block, unpack_block};
+use eb_place::{POSTING_BITS, Posting};
 use std::alloc::Global;
 use std::test::Fail;
 

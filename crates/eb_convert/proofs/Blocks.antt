@@ -19,7 +19,7 @@ use Rattle.eb_place.proofs.PackedStores.{segment_packs}
 use Rattle.eb_chain.specs.Chains.{Stands}
 use Rattle.eb_chain.specs.declared.chain.Chain.{Chain}
 use Rattle.eb_chain.proofs.Walks.{stands_later}
-use Rattle.eb_place.specs.PackedLists.{posting_bits}
+use Rattle.eb_place.specs.Postings.{posting_bits}
 use Rattle.eb_place.specs.Falling.{IsFalling, AllBelow}
 use Rattle.eb_block.specs.Blocks.{IsPackable}
 use Rattle.eb_block.proofs.Opening.{block_is}
@@ -77,11 +77,13 @@ row_room m s at vs others is h l =
 -- ---- the step
 
 -- the first postings were read, and the words grew
-pub next_later : (m n : Moment) (s : ℕ) (t : Term) (c : Chain) (opened at : ℕ) (rest : List ℕ) (others : List Store) → IsNotBefore n m → n.conversions ≡ m.conversions → IsBlockNext m s t c opened at rest others → IsLeft n s (in_row s packed_region at (packed_list rest) ++ others)
+pub next_later : (m n : Moment) (s : ℕ) (t : Term) (c : Chain) (opened at : ℕ) (rest : List ℕ) (others : List Store) → IsNotBefore n m → n.conversions ≡ m.conversions
+    → IsBlockNext m s t c opened at rest others → IsLeft n s (in_row s packed_region at (packed_list rest) ++ others)
 next_later m n s t c opened at rest others l e h = left_later m n s (in_row s packed_region at (packed_list rest) ++ others) l e h.left
 
 -- nothing was left
-pub none_done : (m n : Moment) (s : ℕ) (t : Term) (c d : Chain) (opened at : ℕ) (rest : List ℕ) (others : List Store) → IsBlockNext m s t c opened at rest others → IsNotBefore n m → n.conversions ≡ m.conversions → Stands n s t d opened (drop 128 rest) → [] ≡ take 128 rest → IsBlockDone n s t d opened at rest others 0 at
+pub none_done : (m n : Moment) (s : ℕ) (t : Term) (c d : Chain) (opened at : ℕ) (rest : List ℕ) (others : List Store) → IsBlockNext m s t c opened at rest others → IsNotBefore n m
+    → n.conversions ≡ m.conversions → Stands n s t d opened (drop 128 rest) → [] ≡ take 128 rest → IsBlockDone n s t d opened at rest others 0 at
 none_done m n s t c d opened at rest others h l e st z =
     let lt = length-take 128 rest in
     let zero' : length rest ≡ 0 = omega (arith, ap length z) in
@@ -105,11 +107,14 @@ pub block_left : (n : Moment) (s at : ℕ) (rest : List ℕ) (others : List Stor
 block_left n s at rest others f h =
     let B = block (take 128 rest) in
     let R = packed_list (drop 128 rest) in
-    subst (IsLeft n s) (ap (λ zs. in_row s packed_region at zs ++ others) f.is ∙ ap (λ zs. zs ++ others) (row-append s at B R) ∙ append_assoc (in_row s packed_region at B) (in_row s packed_region (at + length B) R) others) h
+    subst (IsLeft n s) (ap (λ zs. in_row s packed_region at zs ++ others) f.is ∙ ap (λ zs. zs ++ others) (row-append s at B R)
+    ∙ append_assoc (in_row s packed_region at B) (in_row s packed_region (at + length B) R) others) h
 
 -- the block was put
-pub block_done : (m k n : Moment) (s : ℕ) (t : Term) (c d : Chain) (opened at : ℕ) (rest : List ℕ) (others : List Store) (count words : ℕ) → IsBlockNext m s t c opened at rest others → IsFirstBlock rest → IsMoment k → IsNotBefore n k → Stands k s t d opened (drop 128 rest) → count ≡ length (take 128 rest)
-    → words ≡ length (block (take 128 rest)) → IsLeft n s (in_row s packed_region (at + length (block (take 128 rest))) (packed_list (drop 128 rest)) ++ others) → IsBlockDone n s t d opened at rest others count (at + words)
+pub block_done : (m k n : Moment) (s : ℕ) (t : Term) (c d : Chain) (opened at : ℕ) (rest : List ℕ) (others : List Store) (count words : ℕ) → IsBlockNext m s t c opened at rest others
+    → IsFirstBlock rest → IsMoment k → IsNotBefore n k → Stands k s t d opened (drop 128 rest) → count ≡ length (take 128 rest)
+    → words ≡ length (block (take 128 rest)) → IsLeft n s (in_row s packed_region (at + length (block (take 128 rest))) (packed_list (drop 128 rest)) ++ others) → IsBlockDone n s t d opened at rest
+    others count (at + words)
 block_done m k n s t c d opened at rest others count words h f ks l st many w left = record {
   after = record {
     chain = stands_later k n s t d opened (drop 128 rest) ks l st;
@@ -130,10 +135,13 @@ pub record IsAfter (n : Moment) (s : ℕ) (t : Term) (c : Chain) (opened at i : 
   pub place : next + length (packed_list (drop (128 * i) rest)) ≡ at + length (packed_list rest)
   pub many : total + length (drop (128 * i) rest) ≡ length rest
 
-pub after_none : (m : Moment) (s : ℕ) (t : Term) (c : Chain) (opened at : ℕ) (rest : List ℕ) (others : List Store) → IsBlockNext m s t c opened at rest others → IsAfter m s t c opened at 0 rest others 0 at
+pub after_none : (m : Moment) (s : ℕ) (t : Term) (c : Chain) (opened at : ℕ) (rest : List ℕ) (others : List Store) → IsBlockNext m s t c opened at rest others
+    → IsAfter m s t c opened at 0 rest others 0 at
 after_none m s t c opened at rest others h = record { ahead = h; place = refl; many = omega arith }
 
-pub after_more : (m n : Moment) (s : ℕ) (t : Term) (c d : Chain) (opened at i : ℕ) (rest : List ℕ) (others : List Store) (total next count after : ℕ) → IsAfter m s t c opened at i rest others total next → IsBlockDone n s t d opened next (drop (128 * i) rest) others count after → IsAfter n s t d opened at (i + 1) rest others (total + count) after
+pub after_more : (m n : Moment) (s : ℕ) (t : Term) (c d : Chain) (opened at i : ℕ) (rest : List ℕ) (others : List Store) (total next count after : ℕ)
+    → IsAfter m s t c opened at i rest others total next → IsBlockDone n s t d opened next (drop (128 * i) rest) others count after
+    → IsAfter n s t d opened at (i + 1) rest others (total + count) after
 after_more m n s t c d opened at i rest others total next count after h b =
     let L = drop (128 * i) rest in
     let e : drop 128 L ≡ drop (128 * (i + 1)) rest = drop-drop 128 (128 * i) rest ∙ ap (λ k. drop k rest) (let q : 128 * i + 128 ≡ 128 * (i + 1) = omega arith in q) in
@@ -146,7 +154,8 @@ after_more m n s t c d opened at i rest others total next count after h b =
     }
 
 -- the end: nothing is left
-pub all_done : (m n : Moment) (s : ℕ) (t : Term) (c d : Chain) (opened at i : ℕ) (rest : List ℕ) (others : List Store) (total next after : ℕ) → IsAfter m s t c opened at i rest others total next → IsBlockDone n s t d opened next (drop (128 * i) rest) others 0 after → AreBlocksDone n s at rest others total next
+pub all_done : (m n : Moment) (s : ℕ) (t : Term) (c d : Chain) (opened at i : ℕ) (rest : List ℕ) (others : List Store) (total next after : ℕ) → IsAfter m s t c opened at i rest others total next
+    → IsBlockDone n s t d opened next (drop (128 * i) rest) others 0 after → AreBlocksDone n s at rest others total next
 all_done m n s t c d opened at i rest others total next after h b =
     let L = drop (128 * i) rest in
     let none : L ≡ [] = nil_from_length L (omega (arith, b.many, length-take 128 L)) in
@@ -160,7 +169,8 @@ all_done m n s t c d opened at i rest others total next after h b =
       place = omega arith;
     }
 
-pub all_passed : (m : Moment) (s : ℕ) (t : Term) (c : Chain) (opened at i : ℕ) (rest : List ℕ) (others : List Store) (total next : ℕ) → IsAfter m s t c opened at i rest others total next → length rest ≤ 128 * i → AreBlocksDone m s at rest others total next
+pub all_passed : (m : Moment) (s : ℕ) (t : Term) (c : Chain) (opened at i : ℕ) (rest : List ℕ) (others : List Store) (total next : ℕ) → IsAfter m s t c opened at i rest others total next
+    → length rest ≤ 128 * i → AreBlocksDone m s at rest others total next
 all_passed m s t c opened at i rest others total next h l =
     let none = drop_all (128 * i) rest l in
     let z = ap packed_list none ∙ list_none in

@@ -1,25 +1,20 @@
 -- The stores of a conversion, one put after the other, also where documents grow between them.
-use Rattle.std.proofs.Common.{◌≡◌, ℕ, zero, suc, ◌+◌, ◌*◌, ◌<◌, ◌≤◌, Bool, ltb, List, [], ◌∷◌, ◌++◌, length, drop, get_or, ap, sym, ◌∙◌, subst, arith, Some}
-use Rattle.std.specs.Prelude.{slice_get}
+use Rattle.std.proofs.Common.{◌≡◌, ℕ, suc, ◌+◌, ◌*◌, ◌<◌, ◌≤◌, Bool, ltb, List, [], ◌∷◌, ◌++◌, length, drop, get_or, ap, sym, ◌∙◌, subst, arith}
 use Rattle.std.proofs.lemmas.Bool.{lt-ltb, le-ltb}
 use Rattle.std.proofs.lemmas.List.{length-drop, drop_more, length-append}
-use Rattle.eb_base.specs.Document.{Doc}
 use Rattle.eb_base.specs.Setting.{Setting}
 use Rattle.eb_place.specs.declared.moment.Conversions.{Conversions}
 use Rattle.eb_place.specs.declared.moment.Moment.{Moment}
 use Rattle.eb_place.specs.Layout.{place, size}
 use Rattle.eb_place.specs.Layout.Slot.{slot}
 use Rattle.eb_place.specs.Layout.Region.{converted_region, directory_region, packed_region}
-use Rattle.eb_place.specs.Room.{cut}
-use Rattle.eb_place.specs.Placing.{Store, pairs_of, in_row}
+use Rattle.eb_place.specs.Placing.{Store, in_row}
 use Rattle.eb_place.specs.Conversion.{segment_stores}
 use Rattle.eb_place.specs.Moments.{with_current, IsMoment, IsClosed}
 use Rattle.eb_place.specs.Later.{IsNotBefore}
 use Rattle.eb_place.specs.NextStores.{IsNextPut, conversions_after, after_put}
 use Rattle.eb_place.proofs.Slots.{InTable}
-use Rattle.eb_place.proofs.Stored.{each_at, segment_stays}
-use Rattle.eb_place.proofs.Cuts.{closed_stays}
-use Rattle.eb_place.proofs.Grows.{later_started}
+use Rattle.eb_place.proofs.Stored.{each_at}
 use Rattle.eb_place.proofs.PackedStores.{segment_packs}
 use Rattle.eb_place.proofs.Packing.{later_packed, moment_packed}
 use Rattle.eb_place.proofs.Converted.{closed_room, closed_later}
@@ -59,7 +54,8 @@ one_put m s x rest is h =
       later = later_packed m;
       moment = moment_packed m (place σ x.0) x.1 is next;
       left = λ l. (let long : suc i < length Y = omega arith in
-          let c : conversions_after (ltb (suc i) (length Y)) m.conversions ≡ record { converted = m.conversions.converted; packed = suc i } = ap (λ (b : Bool). conversions_after b m.conversions) (lt-ltb (suc i) (length Y) long) in
+          let c : conversions_after (ltb (suc i) (length Y)) m.conversions ≡ record { converted = m.conversions.converted; packed = suc i } =
+          ap (λ (b : Bool). conversions_after b m.conversions) (lt-ltb (suc i) (length Y) long) in
           record { converted = ap (λ (z : Conversions). z.converted) c ∙ h.converted; closed = h.closed; are = ap (λ (z : Conversions). drop z.packed X) c ∙ ap (drop (suc i)) (sym q) ∙ e });
       last = λ z. (let lr = ap length z in
           let short : length Y ≤ suc i = omega arith in
@@ -102,10 +98,12 @@ unfolding size
 converted_within σ s h = h.0
 
 -- one word of a row
-pub row_one : (s i at : ℕ) (words : List ℕ) (rest : List Store) → i < length words → in_row s packed_region (at + i) (drop i words) ++ rest ≡ (slot s packed_region (at + i), get_or words i 0) ∷ (in_row s packed_region (at + (i + 1)) (drop (i + 1) words) ++ rest)
+pub row_one : (s i at : ℕ) (words : List ℕ) (rest : List Store) → i < length words
+    → in_row s packed_region (at + i) (drop i words) ++ rest ≡ (slot s packed_region (at + i), get_or words i 0) ∷ (in_row s packed_region (at + (i + 1)) (drop (i + 1) words) ++ rest)
 row_one s i at words rest h =
     let e : at + i + 1 ≡ at + (i + 1) = omega arith in
-    ap (λ zs. in_row s packed_region (at + i) zs ++ rest) (drop_more words i 0 h) ∙ ap (λ k. (slot s packed_region (at + i), get_or words i 0) ∷ (in_row s packed_region k (drop (i + 1) words) ++ rest)) e
+    ap (λ zs. in_row s packed_region (at + i) zs ++ rest) (drop_more words i 0 h)
+    ∙ ap (λ k. (slot s packed_region (at + i), get_or words i 0) ∷ (in_row s packed_region k (drop (i + 1) words) ++ rest)) e
 
 -- what is left has more after the word
 pub row_rest : (s at : ℕ) (words : List ℕ) (rest : List Store) → 1 ≤ length rest → 1 ≤ length (in_row s packed_region at words ++ rest)

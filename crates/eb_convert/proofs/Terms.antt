@@ -8,7 +8,7 @@ use Rattle.eb_place.specs.declared.moment.Conversions.{Conversions}
 use Rattle.eb_place.specs.declared.moment.Moment.{Moment}
 use Rattle.eb_place.specs.Layout.Slot.{slot}
 use Rattle.eb_place.specs.Layout.Region.{packed_region, directory_region, converted_region, tail_region}
-use Rattle.eb_place.specs.Postings.{postings, frequency, terms_of, distinct, count_of}
+use Rattle.eb_place.specs.Postings.{postings, frequency, terms_of, distinct}
 use Rattle.eb_place.specs.Packed.{packed}
 use Rattle.eb_place.specs.Placing.{Store, in_row}
 use Rattle.eb_base.specs.Setting.{Setting}
@@ -19,8 +19,6 @@ use Rattle.eb_place.specs.Later.{IsNotBefore}
 use Rattle.eb_place.specs.Seen.{segment, seen, seen_count}
 use Rattle.eb_place.specs.Walk.{IsTerm}
 use Rattle.eb_place.proofs.Enough.{postings_few, length-postings}
-use Rattle.eb_place.proofs.EnteredTerms.{number_at}
-use Rattle.eb_place.proofs.Numbers.{number_absent}
 use Rattle.eb_place.proofs.Grows.{later_term}
 use Rattle.eb_chain.specs.Chains.{Stands}
 use Rattle.eb_chain.specs.declared.chain.Chain.{Chain}
@@ -33,7 +31,8 @@ use Rattle.eb_convert.proofs.Putting.{left_later, left_begin}
 use Rattle.eb_place.proofs.Closing.{closed_seen, tail_none, tail_some}
 
 -- the chain of a term of a closed segment, opened: its blocks come next, then its directory word
-pub term_next : (m n : Moment) (s : ℕ) (t : Term) (k at : ℕ) (others : List Store) (c : Chain) → IsMoment m → IsMoment n → IsNotBefore n m → n.conversions ≡ m.conversions → IsLeft m s (term_stores m s t k at ++ others) → Stands n s t c (seen_count n s t) (reverse (seen n s t))
+pub term_next : (m n : Moment) (s : ℕ) (t : Term) (k at : ℕ) (others : List Store) (c : Chain) → IsMoment m → IsMoment n → IsNotBefore n m → n.conversions ≡ m.conversions
+    → IsLeft m s (term_stores m s t k at ++ others) → Stands n s t c (seen_count n s t) (reverse (seen n s t))
     → IsBlockNext n s t c (seen_count n s t) at (reverse (postings t (segment m s))) ((slot s directory_region k, at * 2 ^ 32 + frequency t (segment m s)) ∷ others)
 term_next m n s t k at others c is js l e left st =
     let d : Store = (slot s directory_region k, at * 2 ^ 32 + frequency t (segment m s)) in
@@ -60,14 +59,16 @@ directory_value at total f h e l = (omega arith, omega arith)
 -- ---- which terms there are
 
 -- a tail that isn't 0 is that of a term
-pub has_term_at : (m n : Moment) (s k v : ℕ) → IsMoment m → IsMoment n → IsNotBefore n m → IsClosed m s → k < m.setting.terms → v ≡ word n (place n.setting (slot s tail_region k)) → 0 < v → HasTerm m s k
+pub has_term_at : (m n : Moment) (s k v : ℕ) → IsMoment m → IsMoment n → IsNotBefore n m → IsClosed m s → k < m.setting.terms → v ≡ word n (place n.setting (slot s tail_region k)) → 0 < v
+    → HasTerm m s k
 unfolding HasTerm
 has_term_at m n s k v is js l c b e h = elim (cases_lt k (length (distinct (terms_of (segment m s))))) [
   | inl low ↦ low
   | inr high ↦
       let g = closed_segment m n s l c in
       let ins = (closed_room m s is c).inside in
-      let z = tail_none n s k js (subst (λ (σ : Setting). s < σ.segments) l.setting ins) (subst (λ (seg : List Doc). length (distinct (terms_of seg)) ≤ k) (sym g) high) (subst (λ (σ : Setting). k < σ.terms) l.setting b) in
+      let z = tail_none n s k js (subst (λ (σ : Setting). s < σ.segments) l.setting ins) (subst (λ (seg : List Doc). length (distinct (terms_of seg)) ≤ k) (sym g) high)
+      (subst (λ (σ : Setting). k < σ.terms) l.setting b) in
       absurd (omega arith)
 ]
 
@@ -87,7 +88,9 @@ has_no_term_at m n s k v is js l c e h = elim (cases_lt k (length (distinct (ter
 -- ---- the stores of the terms
 
 -- the next term's come first
-pub terms_more : (m : Moment) (s at k : ℕ) → HasTerm m s k → terms_left m s at k ≡ term_stores m s (get_or (distinct (terms_of (segment m s))) k []) k at ++ terms_left m s (at + length (packed (get_or (distinct (terms_of (segment m s))) k []) (segment m s))) (k + 1)
+pub terms_more : (m : Moment) (s at k : ℕ) → HasTerm m s k
+    → terms_left m s at k ≡ term_stores m s (get_or (distinct (terms_of (segment m s))) k []) k at ++ terms_left m s
+    (at + length (packed (get_or (distinct (terms_of (segment m s))) k []) (segment m s))) (k + 1)
 unfolding terms_left HasTerm pack_stores
 terms_more m s at k h =
     let D = distinct (terms_of (segment m s)) in
@@ -131,7 +134,8 @@ pub record IsTermAhead (n : Moment) (s at k : ℕ) (m : Moment) : Type 0 where
   pub is_term : IsTerm n s term k
   pub left : IsLeft n s (term_stores n s term k at ++ terms_left m s (at + length (packed term (segment n s))) (k + 1))
 
-pub term_ahead : (m k0 n : Moment) (s at k : ℕ) → IsMoment m → IsMoment k0 → IsClosed m s → IsNotBefore k0 m → IsNotBefore n k0 → n.conversions ≡ k0.conversions → HasTerm k0 s k → IsLeft k0 s (terms_left m s at k) → IsTermAhead n s at k m
+pub term_ahead : (m k0 n : Moment) (s at k : ℕ) → IsMoment m → IsMoment k0 → IsClosed m s → IsNotBefore k0 m → IsNotBefore n k0 → n.conversions ≡ k0.conversions → HasTerm k0 s k
+    → IsLeft k0 s (terms_left m s at k) → IsTermAhead n s at k m
 unfolding HasTerm
 term_ahead m k0 n s at k is ks c l ln e h left =
     let c0 = closed_later m k0 s l c in
@@ -146,10 +150,14 @@ term_ahead m k0 n s at k is ks c l ln e h left =
     record {
       term = t;
       is_term = later_term k0 n s t k ln q;
-      left = subst (λ (seg : List Doc). IsLeft n s ((in_row s packed_region at (packed t seg) ++ (slot s directory_region k, at * 2 ^ 32 + frequency t seg) ∷ []) ++ terms_left m s (at + length (packed t seg)) (k + 1))) (sym g) (subst (λ (zs : List Store). IsLeft n s (term_stores k0 s t k at ++ zs)) later more);
+      left = subst (λ (seg : List Doc). IsLeft n s ((in_row s packed_region at (packed t seg) ++ (
+        slot s directory_region k,
+        at * 2 ^ 32 + frequency t seg,
+      ) ∷ []) ++ terms_left m s (at + length (packed t seg)) (k + 1))) (sym g) (subst (λ (zs : List Store). IsLeft n s (term_stores k0 s t k at ++ zs)) later more);
     }
 
-pub terms_end : (m k0 n : Moment) (s at k : ℕ) → IsClosed m s → IsNotBefore k0 m → IsNotBefore n k0 → n.conversions ≡ k0.conversions → HasNoTerm k0 s k → IsLeft k0 s (terms_left m s at k) → IsLeft n s ((slot s converted_region 0, 1) ∷ [])
+pub terms_end : (m k0 n : Moment) (s at k : ℕ) → IsClosed m s → IsNotBefore k0 m → IsNotBefore n k0 → n.conversions ≡ k0.conversions → HasNoTerm k0 s k → IsLeft k0 s (terms_left m s at k)
+    → IsLeft n s ((slot s converted_region 0, 1) ∷ [])
 terms_end m k0 n s at k c l ln e h left =
     let same = terms_later m k0 s at k l c in
     left_later k0 n s ((slot s converted_region 0, 1) ∷ []) ln e (subst (IsLeft k0 s) (sym same ∙ terms_none k0 s at k h) left)

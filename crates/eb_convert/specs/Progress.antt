@@ -4,7 +4,7 @@ use Rattle.eb_base.specs.Term.{Term}
 use Rattle.eb_place.specs.declared.moment.Moment.{Moment}
 use Rattle.eb_place.specs.Layout.Slot.{slot}
 use Rattle.eb_place.specs.Layout.Region.{converted_region, directory_region, packed_region}
-use Rattle.eb_place.specs.Postings.{frequency, terms_of, distinct}
+use Rattle.eb_place.specs.Postings.{frequency, terms_of, distinct, posting_bits}
 use Rattle.eb_place.specs.Packed.{packed, packed_list}
 use Rattle.eb_place.specs.Room.{cut}
 use Rattle.eb_place.specs.Placing.{Store, in_row}
@@ -13,7 +13,6 @@ use Rattle.eb_place.specs.Moments.{with_current, IsClosed}
 use Rattle.eb_place.specs.Seen.{segment}
 use Rattle.eb_chain.specs.Chains.{Stands}
 use Rattle.eb_chain.specs.declared.chain.Chain.{Chain}
-use Rattle.eb_place.specs.PackedLists.{posting_bits}
 use Rattle.eb_place.specs.Falling.{IsFalling, AllBelow}
 
 -- segment s is closed and the next to be converted, and of the stores of its conversion these are left

@@ -15,9 +15,9 @@ ghost use Rattle.eb_place.specs.Falling.{IsFalling, AllBelow};
 ghost use Rattle.eb_convert.specs.Progress.{IsLeft, IsBlockNext, IsBlockDone, AreBlocksDone, term_stores, packed_of, terms_left, HasTerm, HasNoTerm, IsBegunAt};
 ghost use Rattle.eb_convert.specs.Converting.{first_word, IsConversion};
 
-use eb_block::{BLOCK_POSTINGS, BLOCK_WORDS, Posting, pack_block};
+use eb_block::{BLOCK_POSTINGS, BLOCK_WORDS, pack_block};
 use eb_chain::Chain;
-use eb_place::{PackPen, Places, Port, Steps};
+use eb_place::{PackPen, Places, Port, Posting, Steps};
 use std::marker::Brand;
 use std::sync::ledger::{Blank, Ledger};
 

@@ -52,7 +52,8 @@ pub moment_writers : (m : Moment) → IsMoment m → Each (λ (y : Store). IsWri
 unfolding document_stores
 moment_writers m is =
     let p = started_stores m.setting m.documents.accepted m.documents.current in
-    Each-front (document_stores m.setting m.documents) p.0 (subst (Each (λ (y : Store). IsWriters m.setting y.0)) (sym p.1) (writers_after m.setting [] (with_current m.documents) is.setting is.lawful))
+    Each-front (document_stores m.setting m.documents) p.0 (subst (Each (λ (y : Store). IsWriters m.setting y.0)) (sym p.1)
+    (writers_after m.setting [] (with_current m.documents) is.setting is.lawful))
 
 -- ---- which segments have room, and which are elsewhere
 
@@ -82,7 +83,8 @@ other_segment σ docs v s x h o = Each-map (λ y q e. o (of_one v s y.0 x q h e)
 -- ---- a word of a converted segment is what its conversion stored
 
 converted_in : (m : Moment) (is : IsMoment m) (D : List Store) (n s : ℕ) (x : Slot) → InTable m.setting x → IsOf s x → n ≤ m.conversions.converted → s < n
-    → val m.setting (D ++ conversions m.setting (with_current m.documents) n) x ≡ val m.setting ((D ++ conversions m.setting (with_current m.documents) s) ++ segment_stores m.setting (with_current m.documents) s) x
+    → val m.setting (D ++ conversions m.setting (with_current m.documents) n) x ≡ val m.setting ((D ++ conversions m.setting (with_current m.documents) s) ++ segment_stores m.setting
+    (with_current m.documents) s) x
 unfolding conversions
 converted_in m is D zero s x h o l k = absurd (omega arith)
 converted_in m is D (suc n) s x h o l k =

@@ -111,7 +111,8 @@ split_first L R d M = simp append_assoc
 -- the packed words of term j
 pub pack_value : (σ : Setting) (L : List Store) (s : ℕ) (seg : List Doc) (start k : ℕ) (ts : List Term) (j i : ℕ) → s < σ.segments → Each (IsWithin σ) (pack_stores s seg start k ts) → j < length ts
     → i < length (packed (get_or ts j []) seg)
-    → start + lists_long seg (take j ts) + i < 34 * σ.terms → val σ (L ++ pack_stores s seg start k ts) (slot s packed_region (start + lists_long seg (take j ts) + i)) ≡ get_or (packed (get_or ts j []) seg) i 0
+    → start + lists_long seg (take j ts) + i < 34 * σ.terms → val σ (L ++ pack_stores s seg start k ts) (slot s packed_region (start + lists_long seg (take j ts) + i)) ≡ get_or
+    (packed (get_or ts j []) seg) i 0
 unfolding pack_stores size
 pack_value σ L s seg start k [] j i ins w h l b = absurd (omega arith)
 pack_value σ L s seg start k (t ∷ ts) zero i ins w h l b =

@@ -4,7 +4,6 @@ use Rattle.eb_base.specs.Term.{Term}
 use Rattle.eb_base.specs.Document.{Doc}
 use Rattle.eb_place.specs.declared.moment.Moment.{Moment}
 use Rattle.eb_place.specs.Postings.{terms_of, distinct, postings}
-pub use Rattle.eb_place.specs.Postings.{posting_bits}
 use Rattle.eb_place.specs.Packed.{packed}
 use Rattle.eb_place.specs.Seen.{segment}
 

@@ -24,7 +24,8 @@ pub use moment::{Conversions, Documents, Moment};
 pub use places::Places;
 pub use port::{PackPen, Pen, Port};
 pub use posting_numbers::{
-    PLACES, POSITION_BITS, POSTING_BITS, Posting, document_of, position_of, posting, posting_in_word,
+    PLACES, POSITION_BITS, POSTING_BITS, Posting, document_of, position_of, posting,
+    posting_in_word,
 };
 pub use slice_addresses::{address, offset_of, pool_of, slice_of};
 pub use steps::Steps;

@@ -3,3 +3,4 @@ pub mod StoresLeft
 pub mod Additions
 pub mod OneSegment
 pub mod Givings
+pub mod Packs

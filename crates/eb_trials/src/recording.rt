@@ -4,18 +4,22 @@ ghost use Rattle.eb_trials.specs.Recorded.{IsRecord};
 
 use eb_base::{Config, Document, NoMemory};
 use eb_flat::FlatWords;
-use eb_place::{Pen, Port, Steps};
+use eb_place::{PackPen, Pen, Places, Port, Steps};
 use std::alloc::Global;
 use std::sync::ledger::Ledger;
 
 /// Words in a vector, and all stores that were done to them, in order, as pairs of place and value: a
-/// pen whose stores can be looked at. Where there is no memory for a store it is done and not recorded,
-/// and the record says so.
+/// writer's and a converter's pen whose stores can be looked at, and how many segments are converted.
+/// Where there is no memory for a store it is done and not recorded, and the record says so.
 #[derive(Drop)]
 pub struct RecordingPen {
     words: FlatWords,
     stores: Vec<(u64, u64)>,
+    puts: Vec<(u64, u64)>,
     has_lost: bool,
+    // How many segments are converted; whole: no store is done of the next conversion.
+    converted: u32,
+    is_whole: bool,
 }
 
 impl RecordingPen {
@@ -28,7 +32,10 @@ impl RecordingPen {
         Ok(RecordingPen {
             words,
             stores: Vec::new(alloc),
+            puts: Vec::new(alloc),
             has_lost: false,
+            converted: 0,
+            is_whole: true,
         })
     }
 
@@ -39,23 +46,50 @@ impl RecordingPen {
         self.has_lost
     }
 
-    /// The recorded stores, in order: pairs of place and value.
+    /// The recorded stores of the writer, in order: pairs of place and value.
     pub fn stores(&self) -> &[(u64, u64)]
         ensures { result.now ≡ self.now.stores.items }
     {
         self.stores.as_slice()
     }
 
-    /// The recorded stores for themselves.
+    /// The recorded stores of the converter, in order: pairs of place and value.
+    pub fn puts(&self) -> &[(u64, u64)]
+        ensures { result.now ≡ self.now.puts.items }
+    {
+        self.puts.as_slice()
+    }
+
+    /// How many segments are converted.
+    pub fn converted(&self) -> u32
+        ensures { result ≡ self.now.converted }
+    {
+        self.converted
+    }
+
+    /// Whether no conversion is begun and not ended.
+    pub fn is_whole(&self) -> bool
+        ensures { result ≡ self.now.is_whole }
+    {
+        self.is_whole
+    }
+
+    /// The recorded stores of the writer for themselves.
     pub fn into_stores(self) -> Vec<(u64, u64)>
         ensures { result.items ≡ self.stores.items }
     {
         let RecordingPen {
             words,
             stores,
+            puts,
             has_lost,
+            converted,
+            is_whole,
         } = self;
         let _ = words;
+        let _ = puts;
+        let _ = converted;
+        let _ = is_whole;
         let _ = has_lost;
         stores
     }
@@ -99,4 +133,18 @@ impl Pen for RecordingPen {
     }
 
     ghost pen_keeps = { λ s t m n h. λ i. (h.1 i).documents };
+}
+
+impl PackPen for RecordingPen {
+    fn put(&mut self, place: u64, value: u64) {
+        let is_last = place == Places::new(self.words.config()).converted(self.converted);
+        self.words.put(place, value);
+        self.converted += u32::from(is_last);
+        self.is_whole = is_last;
+        if self.puts.push((place, value)).is_err() {
+            self.has_lost = true;
+        }
+    }
+
+    ghost pack_keeps = { λ s t m n h. λ i. (h.1 i).conversions };
 }

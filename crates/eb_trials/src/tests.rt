@@ -5,6 +5,7 @@ mod cursors;
 mod dictionary;
 mod leaps;
 mod made;
+mod packing;
 mod placing;
 mod queries;
 mod sharing;

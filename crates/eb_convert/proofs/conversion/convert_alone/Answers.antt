@@ -60,7 +60,8 @@ returns g c m st b h =
     let p = c.put_converted.ensures k.0 k.1 k.4 in (
       p.0,
       p.1,
-      g.met.P.Port.same_on c.args.pen.now c.convert_terms.new.pen c.put_converted.new.pen (g.met.P.Port.same_on c.args.pen.now c.is_begun.new.port c.convert_terms.new.pen (g.met.P.Port.keeps_same c.args.pen.now c.is_begun.new.port m n.0 n.3) k.2) p.2,
+      g.met.P.Port.same_on c.args.pen.now c.convert_terms.new.pen c.put_converted.new.pen (g.met.P.Port.same_on c.args.pen.now c.is_begun.new.port c.convert_terms.new.pen
+          (g.met.P.Port.keeps_same c.args.pen.now c.is_begun.new.port m n.0 n.3) k.2) p.2,
       later_on m k.0 p.0 (later_on m n.0 k.0 n.2 k.3) p.3,
       (refl, p.4),
     )

@@ -1,0 +1,330 @@
+//! Conversions store by store, and packed lists: walked, and leapt over.
+ghost use Rattle.std.specs.Prelude.{◌≡◌, ◌<◌, ℕ, List, IfOk, MatchOption};
+ghost use Rattle.eb_place.specs.declared.moment.Moment.{Moment};
+ghost use Rattle.eb_block.specs.Reading.{ListStands};
+ghost use Rattle.eb_trials.specs.Recorded.{IsRecord};
+
+use super::made::{add_all, document};
+use crate::RecordingPen;
+use eb_base::{Config, Document, Term};
+use eb_block::PackedList;
+use eb_convert::{Converted, convert_next};
+use eb_place::{Port, Posting, Steps};
+use eb_terms::find;
+use eb_writer::Placer;
+use std::alloc::Global;
+use std::marker::Brand;
+use std::sync::ledger::{Blank, Ledger};
+use std::test::Fail;
+
+// An index that holds these documents.
+fn placed(alloc: Global, config: Config, documents: &[Document]) -> Result<RecordingPen, Fail>
+    ensures { IfOk result (λ pen. (m : Moment) × IsRecord pen m) }
+{
+    let mut pen = RecordingPen::new(alloc, config)?;
+    let mut placer = Placer::new(config);
+    if !add_all(&mut placer, &mut pen, documents) {
+        return Err(Fail::new("full"));
+    }
+    Ok(pen)
+}
+
+// What the converter does with the next segment, if there is one.
+fn convert(pen: &mut RecordingPen) -> Option<Converted>
+    requires { (m : Moment) × IsRecord pen.old m }
+    ensures { (m : Moment) × IsRecord pen.new m }
+{
+    let segment = pen.converted();
+    if segment >= pen.config().segments() || !pen.is_whole() {
+        return None;
+    }
+    Some(convert_next(pen, segment))
+}
+
+// What so many calls of the converter do.
+fn convert_all(alloc: Global, pen: &mut RecordingPen, times: usize) -> Result<Vec<Converted>, Fail>
+    requires { (m : Moment) × IsRecord pen.old m }
+    ensures { (m : Moment) × IsRecord pen.new m }
+{
+    let mut done = Vec::new(alloc);
+    for _ in 0..times {
+        if let Some(converted) = convert(pen) {
+            done.push(converted)?;
+        }
+    }
+    Ok(done)
+}
+
+#[test]
+fn a_segment_is_converted_word_by_word(rt: HostRuntime) -> Result<(), Fail> {
+    let alloc = rt.alloc();
+    let config = Config::new(2, 1, 256)?;
+    let documents = [document(alloc, 7, b"ab b ab")?, document(alloc, 8, b"b")?];
+    let mut pen = placed(alloc, config, &documents)?;
+    let done = convert_all(alloc, &mut pen, 3)?;
+    assert_eq!(rt;
+        done.as_slice(),
+        [Converted::One(0), Converted::Nothing, Converted::Nothing].as_slice()
+    );
+    assert_eq!(rt;
+        pen.puts(),
+        [
+            (11012, 131586),
+            (11013, 2),
+            (10756, 2),
+            (11014, 65537),
+            (10757, 8589934593),
+            (2, 1),
+        ]
+        .as_slice()
+    );
+    assert!(rt; !pen.has_lost());
+    Ok(())
+}
+
+#[test]
+fn what_is_not_closed_is_not_converted(rt: HostRuntime) -> Result<(), Fail> {
+    let alloc = rt.alloc();
+    let config = Config::new(3, 2, 256)?;
+    for (count, converted) in [(0, 0), (1, 0), (2, 0), (3, 1), (4, 1), (5, 2), (6, 2)] {
+        let mut documents = Vec::new(alloc);
+        for id in 0..count {
+            documents.push(document(alloc, id, b"a")?)?;
+        }
+        let mut pen = placed(alloc, config, documents.as_slice())?;
+        let done = convert_all(alloc, &mut pen, 4)?;
+        assert_eq!(rt; pen.converted(), converted, "{count}");
+        assert_eq!(rt;
+            done.as_slice().last(),
+            Some(&Converted::Nothing),
+            "{count}"
+        );
+    }
+    Ok(())
+}
+
+// Opens the packed list of a term in segment 0, if the segment is converted and has the term.
+fn open<L: Ledger>(pen: &mut RecordingPen, term: &Term, steps: &mut Steps<L>) -> Option<PackedList>
+    requires { (m : Moment) × IsRecord pen.old m }
+    ensures list { MatchOption result (Unit {0}) (λ list. (m : Moment) × (s : ℕ) × (t : List ℕ) × (rest : List ℕ) × (budget : ℕ)
+        × IsRecord pen.old m × ListStands m s t list rest budget) }
+    ensures same { pen.new ≡ pen.old }
+{
+    if pen.converted() == 0 {
+        return None;
+    }
+    if pen.config().segments() == 0 {
+        return None;
+    }
+    let Some(number) = find(pen, 0, term, steps) else {
+        return None;
+    };
+    Some(PackedList::open(pen, 0, number, steps))
+}
+
+// What so many calls of a list's `next` give.
+fn ask<L: Ledger>(
+    alloc: Global,
+    mut list: PackedList,
+    pen: &mut RecordingPen,
+    times: usize,
+    steps: &mut Steps<L>,
+) -> Result<Vec<Option<Posting>>, Fail>
+    requires { (m : Moment) × (s : ℕ) × (t : List ℕ) × (rest : List ℕ) × (budget : ℕ) × IsRecord pen.old m × ListStands m s t list rest budget }
+    ensures { pen.new ≡ pen.old }
+{
+    let mut given = Vec::new(alloc);
+    for _ in 0..times {
+        given.push(list.next(pen, steps))?;
+    }
+    Ok(given)
+}
+
+// What `next` gives after a seek to each of these, each time from the same list.
+fn seek_each<L: Ledger>(
+    alloc: Global,
+    list: PackedList,
+    pen: &mut RecordingPen,
+    mosts: &[Posting],
+    steps: &mut Steps<L>,
+) -> Result<Vec<Option<Posting>>, Fail>
+    requires { (m : Moment) × (s : ℕ) × (t : List ℕ) × (rest : List ℕ) × (budget : ℕ) × IsRecord pen.old m × ListStands m s t list rest budget }
+    ensures { pen.new ≡ pen.old }
+{
+    let mut given = Vec::new(alloc);
+    for most in mosts {
+        let mut from = list;
+        from.seek(pen, *most, steps);
+        given.push(from.next(pen, steps))?;
+    }
+    Ok(given)
+}
+
+// What `next` gives after a seek to each of these, one after the other.
+fn seek_on<L: Ledger>(
+    alloc: Global,
+    mut list: PackedList,
+    pen: &mut RecordingPen,
+    mosts: &[Posting],
+    steps: &mut Steps<L>,
+) -> Result<Vec<Option<Posting>>, Fail>
+    requires { (m : Moment) × (s : ℕ) × (t : List ℕ) × (rest : List ℕ) × (budget : ℕ) × IsRecord pen.old m × ListStands m s t list rest budget }
+    ensures { pen.new ≡ pen.old }
+{
+    let mut given = Vec::new(alloc);
+    for most in mosts {
+        list.seek(pen, *most, steps);
+        given.push(list.next(pen, steps))?;
+    }
+    Ok(given)
+}
+
+// The greatest of the postings, of a rising list, that isn't above this one and is below the end.
+fn greatest(postings: &[Posting], most: Posting, end: u64) -> Option<Posting> {
+    let mut found = None;
+    for posting in postings {
+        if *posting <= most && u64::from(*posting) < end {
+            found = Some(*posting);
+        }
+    }
+    found
+}
+
+// What a seek to each of these and a call of `next` give, each time from the whole list.
+fn greatest_each(
+    alloc: Global,
+    postings: &[Posting],
+    mosts: &[Posting],
+) -> Result<Vec<Option<Posting>>, Fail> {
+    let mut found = Vec::new(alloc);
+    for most in mosts {
+        found.push(greatest(postings, *most, u64::MAX))?;
+    }
+    Ok(found)
+}
+
+// The same where each comes after the one before it.
+fn greatest_on(
+    alloc: Global,
+    postings: &[Posting],
+    mosts: &[Posting],
+) -> Result<Vec<Option<Posting>>, Fail> {
+    let mut found = Vec::new(alloc);
+    let mut end = u64::MAX;
+    for most in mosts {
+        let next = greatest(postings, *most, end);
+        end = next.map_or(0, u64::from);
+        found.push(next)?;
+    }
+    Ok(found)
+}
+
+// Each posting, one below it and one above it, from the greatest on.
+fn around(alloc: Global, postings: &[Posting]) -> Result<Vec<Posting>, Fail> {
+    let mut mosts = Vec::new(alloc);
+    for posting in postings.iter().rev() {
+        mosts.push(posting.saturating_add(1))?;
+        mosts.push(*posting)?;
+        mosts.push(posting.saturating_sub(1))?;
+    }
+    Ok(mosts)
+}
+
+// Whether the packed list of a term in segment 0 gives these postings, rising here, and leaps to each of
+// them, one above and one below it.
+fn is_packed<L: Ledger>(
+    alloc: Global,
+    pen: &mut RecordingPen,
+    term: &Term,
+    postings: &[Posting],
+    blank: Blank,
+) -> Result<bool, Fail>
+    requires blank { (blank.name ≡ L.name) × (blank.parts ≡ L.parts) × (0 < blank.parts) }
+    requires pen { (m : Moment) × IsRecord pen.old m }
+    ensures { (m : Moment) × IsRecord pen.new m }
+{
+    let mut steps = Steps::<L>::new(blank);
+    let Some(list) = open(pen, term, &mut steps) else {
+        return Ok(false);
+    };
+    let mut want = Vec::new(alloc);
+    for posting in postings.iter().rev() {
+        want.push(Some(*posting))?;
+    }
+    want.push(None)?;
+    want.push(None)?;
+    let given = ask(alloc, list, pen, want.len(), &mut steps)?;
+    if given.as_slice() != want.as_slice() {
+        return Ok(false);
+    }
+    let mosts = around(alloc, postings)?;
+    let each = seek_each(alloc, list, pen, mosts.as_slice(), &mut steps)?;
+    let mut some = Vec::new(alloc);
+    for most in mosts.as_slice().iter().step_by(40) {
+        some.push(*most)?;
+    }
+    let on = seek_on(alloc, list, pen, some.as_slice(), &mut steps)?;
+    Ok(
+        each.as_slice() == greatest_each(alloc, postings, mosts.as_slice())?.as_slice()
+            && on.as_slice() == greatest_on(alloc, postings, some.as_slice())?.as_slice(),
+    )
+}
+
+// A made document by its number: `a` once to three times, then `b`, `c` and `e`, ever rarer.
+fn made(alloc: Global, number: u64) -> Result<Document, Fail> {
+    let mut text = Vec::new(alloc);
+    for _ in 0..=number % 3 {
+        text.extend_from_slice(b"a ")?;
+    }
+    if number % 5 == 0 {
+        text.extend_from_slice(b"b ")?;
+    }
+    if number % 101 == 0 {
+        text.extend_from_slice(b"c ")?;
+    }
+    if number == 0 || number == 699 {
+        text.extend_from_slice(b"e ")?;
+    }
+    document(alloc, number, text.as_slice())
+}
+
+// The postings of a word in documents of one segment, rising.
+fn postings_of(alloc: Global, documents: &[Document], word: &[u8]) -> Result<Vec<Posting>, Fail> {
+    let mut postings = Vec::new(alloc);
+    let mut first: Posting = 0;
+    for document in documents {
+        let mut posting = first;
+        for term in document.terms().as_slice() {
+            if term.bytes() == word {
+                postings.push(posting)?;
+            }
+            posting = posting.saturating_add(1);
+        }
+        first = first.saturating_add(256);
+    }
+    Ok(postings)
+}
+
+#[test]
+fn packed_lists_are_walked_and_leapt_over(rt: HostRuntime) -> Result<(), Fail> {
+    let alloc = rt.alloc();
+    let config = Config::new(2, 700, 256)?;
+    let mut documents = Vec::new(alloc);
+    for number in 0..701 {
+        documents.push(made(alloc, number)?)?;
+    }
+    let mut pen = placed(alloc, config, documents.as_slice())?;
+    let done = convert_all(alloc, &mut pen, 1)?;
+    assert_eq!(rt; done.as_slice(), [Converted::One(0)].as_slice());
+    let Some(closed) = documents.as_slice().get(..700) else {
+        return Err(Fail::new("too few documents"));
+    };
+    for (word, many) in [(b"a", 1399), (b"b", 140), (b"c", 7), (b"e", 2)] {
+        let postings = postings_of(alloc, closed, word)?;
+        assert_eq!(rt; postings.len(), many);
+        let term = Term::new(alloc, word)?;
+        let list = is_packed::<Brand>(alloc, &mut pen, &term, postings.as_slice(), Blank::new(1))?;
+        assert!(rt; list, "{many}");
+    }
+    Ok(())
+}
