@@ -2,7 +2,6 @@ use Rattle.std.proofs.Common.{◌<◌, rules, refl, sym, subst, arith}
 use Rattle.eb_base.specs.Setting.{Setting}
 use Rattle.eb_place.specs.declared.moment.Moment.{Moment}
 use Rattle.eb_place.specs.Later.{IsNotBefore}
-use Rattle.eb_convert.specs.Converting.{IsConversion}
 use Rattle.eb_engine.proofs.calls.convert_in_words.Goals as goal
 
 pub returns-clause-made : goal.returns-clause-made
