@@ -1,6 +1,8 @@
-//! What is done through a seat at the words: searches and adds.
-ghost use Rattle.std.specs.Prelude.{◌≡◌, ◌+◌, length, IfOk, OnErr};
+//! What is done through a seat at the words: searches, adds and conversions.
+ghost use Rattle.std.specs.Prelude.{◌≡◌, ◌+◌, ◌<◌, length, IfOk, OnErr};
+ghost use Rattle.eb_convert.specs.Converting.{IsConversion};
 ghost use Rattle.eb_cursor.specs.Frames.{query_of, k_of, ids_of};
+ghost use Rattle.eb_place.specs.Later.{IsNotBefore};
 ghost use Rattle.eb_place.specs.Room.{HasRoom};
 ghost use Rattle.eb_search.specs.Searched.{Searched};
 ghost use Rattle.eb_table.specs.Known.{MadeWith};
@@ -8,10 +10,13 @@ ghost use Rattle.eb_writer.specs.Progress.{Stands, HasNoRoom};
 ghost use Rattle.eb_writer.specs.Storing.{IsAccepted};
 
 use eb_base::{Document, Gate};
+use eb_convert::{Converted, convert_next};
 use eb_cursor::Frame;
 use eb_place::Steps;
 use eb_search::search;
-use eb_table::{ReaderPort, ReaderSeat, SharedWords, WriterPort, WriterSeat};
+use eb_table::{
+    ConverterPort, ConverterSeat, ReaderPort, ReaderSeat, SharedWords, WriterPort, WriterSeat,
+};
 use eb_writer::{Full, Placer};
 use std::sync::ledger::Ledger;
 
@@ -50,4 +55,21 @@ pub(crate) fn add_to_words(
 {
     let mut pen = WriterPort { seat, words };
     placer.add(&mut pen, document)
+}
+
+// The next conversion, by the converter's seat.
+pub(crate) fn convert_in_words(
+    seat: &mut ConverterSeat,
+    words: &SharedWords,
+    segment: u32,
+) -> Converted
+    requires made { MadeWith seat.old words.now }
+    requires segment { segment < words.now.setting.segments }
+    requires next { seat.old.moment.conversions ≡ record { converted = segment; packed = 0 } }
+    ensures made { MadeWith seat.new words.now }
+    ensures later { IsNotBefore seat.new.moment seat.old.moment }
+    ensures conversion { IsConversion seat.old.moment seat.new.moment segment result }
+{
+    let mut port = ConverterPort { seat, words };
+    convert_next(&mut port, segment)
 }

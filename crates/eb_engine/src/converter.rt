@@ -1,10 +1,14 @@
-ghost use Rattle.std.specs.Prelude.{◌≡◌};
+ghost use Rattle.std.specs.Prelude.{◌≡◌, ◌+◌, ◌<◌, length};
 ghost use mathlib.Core.List.{IsPrefix};
+ghost use Rattle.eb_convert.specs.declared.conversion.Converted.TheVariants.{One};
 ghost use Rattle.eb_place.specs.Moments.{IsMoment};
-ghost use Rattle.eb_engine.specs.Tokens.{index_of};
+ghost use Rattle.eb_place.specs.Room.{cut};
+ghost use Rattle.eb_engine.specs.Tokens.{index_of, Converts};
 
+use crate::calls::convert_in_words;
 use crate::index::Index;
 use crate::reader::Reader;
+use eb_convert::Converted;
 use eb_table::ConverterSeat;
 use std::marker::Model;
 
@@ -36,6 +40,25 @@ impl Converter {
         ensures { result ≡ record { index = index_of seat; docs = seat.moment.documents.accepted; converted = 0 } }
     {
         Converter { seat, converted: 0 }
+    }
+
+    /// Converts the next segment, the first one that isn't converted, where it is closed: `One` with its number, which
+    /// counts from 0. A segment is closed where a document of the following one is added, or is being added. `Nothing`
+    /// where it found none, and then nothing is stored; so it never comes where the converter knew a document of the
+    /// following segment before. It loads whether there is one, and knows all that it found from then on. The
+    /// converter must have been made with this index. Takes no memory.
+    pub fn convert(&mut self, index: &Index) -> Converted
+        requires { self.old.index ≡ index.now }
+        ensures index { self.new.index ≡ self.old.index }
+        ensures known { IsPrefix self.old.docs self.new.docs }
+        ensures converts { Converts index.now.setting self.old self.new result }
+        ensures told { self.old.converted + 1 < length (cut index.now.setting self.old.docs) → result ≡ One self.old.converted }
+    {
+        let done = convert_in_words(&mut self.seat, &index.words, self.converted);
+        if let Converted::One(_) = done {
+            self.converted += 1;
+        }
+        done
     }
 
     /// Takes in a reader: the converter then knows at least what the reader knew and what it knew before, which are

@@ -1,10 +1,12 @@
-//! A search that is held after the load of its count, while the writer adds a document on another thread.
+//! A search that is held after the load of its count, while the writer adds a document on a second thread and the
+//! converter converts on a third; and an index that fills up and is converted meanwhile.
 ghost use Rattle.std.specs.Prelude.{◌≡◌, IfOk};
 ghost use mathlib.Core.List.{IsPrefix};
 
 use super::made::{added, document, frame, searched, word};
 use crate::{Converter, Index, Reader, Writer};
 use eb_base::{Config, Document, Gate, OpenGate, Point};
+use eb_convert::Converted;
 use eb_cursor::Frame;
 use std::alloc::Global;
 use std::sync::atomic::{AtomicU64, Ordering};
@@ -63,7 +65,7 @@ fn late_add(
     writer: Writer,
     document: &Document,
     loaded: &AtomicU64,
-    go: &AtomicU64,
+    placed: &AtomicU64,
 ) -> (Writer, Option<u64>)
     requires { writer.index ≡ index.now }
     ensures { result.0.index ≡ index.now }
@@ -71,24 +73,69 @@ fn late_add(
     let mut writer = writer;
     wait_for(loaded);
     let count = added(&mut writer, index, document);
-    go.store(1, Ordering::SeqCst);
+    placed.store(1, Ordering::SeqCst);
     (writer, count)
 }
 
-// One thread searches, and is held after the load of its count; the other adds a document meanwhile.
+// A conversion that waits for the first flag, and puts the second up.
+fn late_convert(
+    index: &Index,
+    converter: Converter,
+    placed: &AtomicU64,
+    go: &AtomicU64,
+) -> Converted
+    requires { converter.index ≡ index.now }
+{
+    let mut converter = converter;
+    wait_for(placed);
+    let converted = converter.convert(index);
+    go.store(1, Ordering::SeqCst);
+    converted
+}
+
+// One thread adds a document when the first flag is up; the other then converts, and puts the second up.
+fn add_and_convert<R: Threads + Sync>(
+    rt: &R,
+    index: &Index,
+    writer: Writer,
+    converter: Converter,
+    document: &Document,
+    loaded: &AtomicU64,
+    go: &AtomicU64,
+) -> ((Writer, Option<u64>), Converted)
+    requires writer { writer.index ≡ index.now }
+    requires converter { converter.index ≡ index.now }
+    ensures { result.0.0.index ≡ index.now }
+{
+    let placed = &AtomicU64::new(0);
+    thread::join(
+        rt,
+        move || -> (Writer, Option<u64>)
+            requires { writer.index ≡ index.now }
+            ensures { result.0.index ≡ index.entry.now }
+        { late_add(index, writer, document, loaded, placed) },
+        move || -> Converted
+            requires { converter.index ≡ index.now }
+        { late_convert(index, converter, placed, go) },
+    )
+}
+
+// One thread searches, and is held after the load of its count; meanwhile another adds a document, and a third converts.
 fn overlapping<R: Threads + Sync>(
     rt: &R,
     index: &Index,
     writer: Writer,
+    converter: Converter,
     reader: Reader,
     frame: Frame,
     document: &Document,
-) -> ((Reader, Frame, u64), (Writer, Option<u64>))
+) -> ((Reader, Frame, u64), ((Writer, Option<u64>), Converted))
     requires writer { writer.index ≡ index.now }
+    requires converter { converter.index ≡ index.now }
     requires reader { reader.index ≡ index.now }
     ensures reader { result.0.0.index ≡ index.now }
     ensures known { IsPrefix reader.docs result.0.0.docs }
-    ensures writer { result.1.0.index ≡ index.now }
+    ensures writer { result.1.0.0.index ≡ index.now }
 {
     let loaded = &AtomicU64::new(0);
     let go = &AtomicU64::new(0);
@@ -98,10 +145,10 @@ fn overlapping<R: Threads + Sync>(
             requires { reader.index ≡ index.now }
             ensures { (result.0.index ≡ index.entry.now) × IsPrefix reader.docs result.0.docs }
         { held_search(index, reader, frame, loaded, go) },
-        move || -> (Writer, Option<u64>)
-            requires { writer.index ≡ index.now }
-            ensures { result.0.index ≡ index.entry.now }
-        { late_add(index, writer, document, loaded, go) },
+        move || -> ((Writer, Option<u64>), Converted)
+            requires { (writer.index ≡ index.now) × (converter.index ≡ index.now) }
+            ensures { result.0.0.index ≡ index.entry.now }
+        { add_and_convert(rt, index, writer, converter, document, loaded, go) },
     )
 }
 
@@ -115,17 +162,29 @@ fn opened(alloc: Global) -> Result<(Index, Writer, Converter), Fail>
     Ok(opened)
 }
 
-// Adds the documents with ids 1 to 5, and gives what each add answers.
-fn fill(alloc: Global, index: &Index, writer: &mut Writer) -> Result<Vec<Option<u64>>, Fail>
-    requires { writer.old.index ≡ index.now }
-    ensures { writer.new.index ≡ writer.old.index }
+// Adds the documents with ids 1 to 5, and converts once after the second and twice after the third: what the adds
+// answer, and what the conversions do.
+fn fill(
+    alloc: Global,
+    index: &Index,
+    writer: &mut Writer,
+    converter: &mut Converter,
+) -> Result<(Vec<Option<u64>>, Vec<Converted>), Fail>
+    requires writer { writer.old.index ≡ index.now }
+    requires converter { converter.old.index ≡ index.now }
+    ensures writer { writer.new.index ≡ writer.old.index }
+    ensures converter { converter.new.index ≡ converter.old.index }
 {
     let mut counts = Vec::new(alloc);
-    for id in 1..6 {
+    let mut conversions = Vec::new(alloc);
+    for (id, calls) in [(1, 0), (2, 1), (3, 2), (4, 0), (5, 0)] {
         let next = document(alloc, id)?;
         counts.push(added(writer, index, &next))?;
+        for _ in 0..calls {
+            conversions.push(converter.convert(index))?;
+        }
     }
-    Ok(counts)
+    Ok((counts, conversions))
 }
 
 // Tells the converter and the writer what readers of the writer know: the length of the history then, the number of its
@@ -147,20 +206,18 @@ fn told(index: &Index, writer: Writer, converter: Converter) -> (u64, u32, u32)
 #[test]
 fn a_search_answers_over_the_documents_of_its_count(rt: HostRuntime) -> Result<(), Fail> {
     let alloc = rt.alloc();
-    let (index, mut writer, _converter) = opened(alloc)?;
+    let (index, mut writer, converter) = opened(alloc)?;
     added(&mut writer, &index, &document(alloc, 1)?);
     added(&mut writer, &index, &document(alloc, 2)?);
     let third = document(alloc, 3)?;
     let held = writer.reader(&index);
     let mut other = writer.reader(&index);
     let asked = frame(alloc, word(alloc, b"d")?)?;
-    let ((mut held, mut asked, found), (mut writer, added)) = overlapping(
-        &rt, &index, writer, held, asked, &third,
+    let ((mut held, mut asked, found), ((mut writer, added), converted)) = overlapping(
+        &rt, &index, writer, converter, held, asked, &third,
     );
-    assert_eq!(rt;
-        (added, found, held.seen(), other.seen()),
-        (Some(3), 2, 2, 2)
-    );
+    assert_eq!(rt; (added, converted), (Some(3), Converted::One(0)));
+    assert_eq!(rt; (found, held.seen(), other.seen()), (2, 2, 2));
     assert_eq!(rt; asked.ids(), [2, 1].as_slice());
     assert_eq!(rt; searched(&mut other, &index, &mut asked, &OpenGate), 3);
     assert_eq!(rt; asked.ids(), [3, 2, 1].as_slice());
@@ -180,10 +237,12 @@ fn a_search_answers_over_the_documents_of_its_count(rt: HostRuntime) -> Result<(
 #[test]
 fn an_index_fills_up(rt: HostRuntime) -> Result<(), Fail> {
     let alloc = rt.alloc();
-    let (index, mut writer, converter) = opened(alloc)?;
-    let counts = fill(alloc, &index, &mut writer)?;
+    let (index, mut writer, mut converter) = opened(alloc)?;
+    let (counts, conversions) = fill(alloc, &index, &mut writer, &mut converter)?;
     let want = [Some(1), Some(2), Some(3), Some(4), None];
     assert_eq!(rt; counts.as_slice(), want.as_slice());
-    assert_eq!(rt; told(&index, writer, converter), (4, 2, 0));
+    let done = [Converted::Nothing, Converted::One(0), Converted::Nothing];
+    assert_eq!(rt; conversions.as_slice(), done.as_slice());
+    assert_eq!(rt; told(&index, writer, converter), (4, 2, 1));
     Ok(())
 }

@@ -1,0 +1,80 @@
+-- What a conversion tells of the history.
+use Rattle.std.proofs.Common.{◌≡◌, ℕ, zero, suc, ◌+◌, ◌<◌, ◌≤◌, ◌⊎◌, List, [], ◌∷◌, ◌++◌, length, Option, Some, None, ap, sym, subst, arith, append-nil, append_assoc, inl, inr}
+use Rattle.std.proofs.lemmas.Bool.{cases_lt}
+use mathlib.Core.List.{IsPrefix}
+use Rattle.eb_base.specs.Document.{Doc}
+use Rattle.eb_base.specs.Setting.{Setting}
+use Rattle.eb_place.specs.declared.moment.Conversions.{Conversions}
+use Rattle.eb_place.specs.declared.moment.Moment.{Moment}
+use Rattle.eb_place.specs.Room.{cut}
+use Rattle.eb_place.specs.Moments.{current_of, with_current, IsMoment}
+use Rattle.eb_place.proofs.Cuts.{cut_push, with_doc_keeps}
+use Rattle.eb_place.proofs.Firsts.{first_in, word_first}
+use Rattle.eb_place.proofs.Placed.{placed_all}
+use Rattle.eb_convert.specs.Converting.{first_word}
+use Rattle.eb_engine.specs.Tokens.{IsClosing}
+
+-- a longer history has no fewer segments
+cut_grows : (σ : Setting) (xs ys : List Doc) → length (cut σ xs) ≤ length (cut σ (xs ++ ys))
+cut_grows σ xs [] = rw append-nil (omega arith)
+cut_grows σ xs (y ∷ ys) =
+    let w = with_doc_keeps σ (cut σ xs) y in
+    let l = ap length (cut_push σ xs y) in
+    let r = cut_grows σ (xs ++ y ∷ []) ys in
+    let e : (xs ++ y ∷ []) ++ ys ≡ xs ++ (y ∷ ys) = append_assoc xs (y ∷ []) ys in
+    let r' = rw e at r in
+    omega (arith, r', w.longer, l)
+
+-- the number of a segment's first document, plus 1, is not 0
+first_some : (segs : List (List Doc)) (n s : ℕ) → s < length segs → 1 ≤ first_in n segs s
+first_some [] n s h = absurd (omega arith)
+first_some (x ∷ xs) n zero h = omega arith
+first_some (x ∷ xs) n (suc s) h = first_some xs (n + length x) s (omega arith)
+
+-- there are no more segments than the index has
+cut_most : (m : Moment) → IsMoment m → length (cut m.setting (with_current m.documents)) ≤ m.setting.segments
+cut_most m is = (placed_all m.setting (with_current m.documents) is.setting is.lawful).short
+
+-- there is a segment behind the converted ones
+pub next_inside : (m : Moment) (σ : Setting) (count : ℕ) → IsMoment m → m.setting ≡ σ → m.conversions ≡ record { converted = count; packed = 0 } → count < σ.segments
+next_inside m σ zero is e c = subst (λ (σ : Setting). 0 < σ.segments) e is.setting.segments.0
+next_inside m σ (suc s) is e c =
+    let q = ap (λ (x : Conversions). x.converted) c in
+    let h = is.closed s (omega (arith, q)) in
+    subst (λ (σ : Setting). suc s < σ.segments) e (omega (arith, h, cut_most m is))
+
+-- a converted segment is closed
+pub closing : (n : Moment) (σ : Setting) (s : ℕ) → IsMoment n → n.setting ≡ σ → n.conversions ≡ record { converted = s + 1; packed = 0 } → IsClosing σ n.documents.accepted s
+closing n σ s is e c =
+    let q = ap (λ (x : Conversions). x.converted) c in
+    subst (λ (σ : Setting). IsClosing σ n.documents.accepted s) e (current_of n.documents.current, one n.documents.current, is.lawful, is.closed s (omega (arith, q)))
+  where
+    one : (c : Option (Doc × ℕ)) → length (current_of c) ≤ 1
+    one None = omega arith
+    one (Some x) = omega arith
+
+-- a segment that isn't begun is behind all segments of the history
+pub none_behind : (n : Moment) (σ : Setting) (s : ℕ) → IsMoment n → n.setting ≡ σ → (s + 1 ≡ σ.segments) ⊎ (first_word n (s + 1) ≡ 0) → length (cut σ n.documents.accepted) ≤ s + 1
+none_behind n σ s is e h = subst (λ (σ : Setting). length (cut σ n.documents.accepted) ≤ s + 1) e
+    (omega (arith, cut_grows n.setting n.documents.accepted (current_of n.documents.current), whole (subst (λ (σ : Setting). (s + 1 ≡ σ.segments) ⊎ (first_word n (s + 1) ≡ 0)) (sym e) h)))
+  where
+    some : s + 1 < length (cut n.setting (with_current n.documents)) → first_word n (s + 1) ≡ 0 → ⊥
+    some low z =
+        let inside : s + 1 < n.setting.segments = omega (arith, low, cut_most n is) in
+        let w = word_first n (s + 1) is inside in
+        let f = first_some (cut n.setting (with_current n.documents)) 0 (s + 1) low in
+        omega (arith, w, f, z)
+
+    whole : (s + 1 ≡ n.setting.segments) ⊎ (first_word n (s + 1) ≡ 0) → length (cut n.setting (with_current n.documents)) ≤ s + 1
+    whole (inl q) = omega (arith, q, cut_most n is)
+    whole (inr z) = elim (cases_lt (s + 1) (length (cut n.setting (with_current n.documents)))) [
+      | inl low ↦ absurd (some low z)
+      | inr high ↦ high
+    ]
+
+-- so its first document is in no front of the history
+pub not_told : (σ : Setting) (old new : List Doc) (s : ℕ) → IsPrefix old new → length (cut σ new) ≤ s + 1 → s + 1 < length (cut σ old) → ⊥
+not_told σ old new s p few low =
+    let g = cut_grows σ old p.0 in
+    let g' = rw p.1 at g in
+    omega (arith, g', few, low)
