@@ -1,9 +1,10 @@
-//! One writer adds documents through rollovers, while three readers search beside it. Each answer is that of the
-//! plain scan over the first documents, as many as the search says, and these never get fewer for a reader.
+//! One writer adds documents through rollovers, while a converter converts the closed segments and two readers search
+//! beside them. Each answer is that of the plain scan over the first documents, as many as the search says, and these
+//! never get fewer for a reader.
 ghost use Rattle.std.specs.Prelude.{◌≡◌};
 
 use super::made::{a_without_b, added, document, frame, searched, word};
-use crate::{Index, Reader, Writer};
+use crate::{Converter, Index, Reader, Writer};
 use eb_base::{Config, Document, OpenGate, Query};
 use eb_cursor::Frame;
 use eb_plain::newest;
@@ -19,11 +20,10 @@ struct Question {
     frame: Frame,
 }
 
-// The query of a number: a rare word, a word of every document, or the documents with `a` and not `b`.
+// The query of a number: a word of every document, or the documents with `a` and not `b`.
 fn query(alloc: Global, number: u32) -> Result<Query, Fail> {
     match number {
-        0 => word(alloc, b"c"),
-        1 => word(alloc, b"d"),
+        0 => word(alloc, b"d"),
         _ => a_without_b(alloc),
     }
 }
@@ -93,6 +93,21 @@ fn add_beside(index: &Index, writer: Writer, documents: &[Document]) -> u64
     last
 }
 
+// Converts until so many segments are converted, and gives their number.
+fn convert_beside(index: &Index, converter: Converter, most: u32) -> u32
+    requires { converter.index ≡ index.now }
+{
+    let mut converter = converter;
+    for _ in 0..u64::MAX {
+        if converter.converted() >= most {
+            return converter.converted();
+        }
+        converter.convert(index);
+        thread::yield_now();
+    }
+    converter.converted()
+}
+
 // A writer and a reader.
 fn write_and_search<R: Threads + Sync>(
     rt: &R,
@@ -117,63 +132,63 @@ fn write_and_search<R: Threads + Sync>(
     )
 }
 
-// Two readers.
-fn search_twice<R: Threads + Sync>(
+// A converter and a reader.
+fn convert_and_search<R: Threads + Sync>(
     rt: &R,
     alloc: Global,
     index: &Index,
-    readers: (Reader, Reader),
-    questions: (Question, Question),
+    converter: Converter,
+    reader: Reader,
+    question: Question,
     documents: &[Document],
-) -> (bool, bool)
-    requires first { readers.0.index ≡ index.now }
-    requires second { readers.1.index ≡ index.now }
+) -> (u32, bool)
+    requires converter { converter.index ≡ index.now }
+    requires reader { reader.index ≡ index.now }
 {
-    let (first, second) = readers;
-    let (rare, other) = questions;
     thread::join(
         rt,
+        move || -> u32
+            requires { converter.index ≡ index.now }
+        { convert_beside(index, converter, 3) },
         move || -> bool
-            requires { first.index ≡ index.now }
-        { search_beside(alloc, index, first, rare, documents) },
-        move || -> bool
-            requires { second.index ≡ index.now }
-        { search_beside(alloc, index, second, other, documents) },
+            requires { reader.index ≡ index.now }
+        { search_beside(alloc, index, reader, question, documents) },
     )
 }
 
-// A writer and three readers, each on a thread of its own.
+// A writer, a converter and two readers, each on a thread of its own.
 fn all_beside<R: Threads + Sync>(
     rt: &R,
     alloc: Global,
     index: &Index,
     writer: Writer,
-    reader: Reader,
+    converter: Converter,
     readers: (Reader, Reader),
     documents: &[Document],
-) -> Result<((u64, bool), (bool, bool)), Fail>
+) -> Result<((u64, bool), (u32, bool)), Fail>
     requires writer { writer.index ≡ index.now }
-    requires reader { reader.index ≡ index.now }
+    requires converter { converter.index ≡ index.now }
     requires first { readers.0.index ≡ index.now }
     requires second { readers.1.index ≡ index.now }
 {
-    let one = question_of(alloc, 0)?;
-    let others = (question_of(alloc, 1)?, question_of(alloc, 2)?);
+    let (first, second) = readers;
+    let all = question_of(alloc, 0)?;
+    let some = question_of(alloc, 1)?;
     Ok(thread::join(
         rt,
         move || -> (u64, bool)
-            requires { (writer.index ≡ index.now) × (reader.index ≡ index.now) }
-        { write_and_search(rt, alloc, index, writer, reader, one, documents) },
-        move || -> (bool, bool)
-            requires { (readers.0.index ≡ index.now) × (readers.1.index ≡ index.now) }
-        { search_twice(rt, alloc, index, readers, others, documents) },
+            requires { (writer.index ≡ index.now) × (first.index ≡ index.now) }
+        { write_and_search(rt, alloc, index, writer, first, all, documents) },
+        move || -> (u32, bool)
+            requires { (converter.index ≡ index.now) × (second.index ≡ index.now) }
+        { convert_and_search(rt, alloc, index, converter, second, some, documents) },
     ))
 }
 
 #[test]
-fn readers_search_beside_a_writer(rt: HostRuntime) -> Result<(), Fail> {
+fn readers_search_beside_a_writer_and_a_converter(rt: HostRuntime) -> Result<(), Fail> {
     let alloc = rt.alloc();
-    let Ok((index, mut writer, _converter)) = Index::open(alloc, Config::new(4, 100, 256)?) else {
+    let Ok((index, mut writer, converter)) = Index::open(alloc, Config::new(4, 100, 256)?) else {
         return Err(Fail::new("no memory"));
     };
     let mut documents = Vec::new(alloc);
@@ -181,16 +196,16 @@ fn readers_search_beside_a_writer(rt: HostRuntime) -> Result<(), Fail> {
         documents.push(document(alloc, id)?)?;
     }
     let mut reader = writer.reader(&index);
-    let readers = (writer.reader(&index), reader.split(&index));
+    let other = reader.split(&index);
     let done = all_beside(
         &rt,
         alloc,
         &index,
         writer,
-        reader,
-        readers,
+        converter,
+        (reader, other),
         documents.as_slice(),
     )?;
-    assert_eq!(rt; done, ((390, true), (true, true)));
+    assert_eq!(rt; done, ((390, true), (3, true)));
     Ok(())
 }
