@@ -1,6 +1,6 @@
 -- What flat words stand for, from the start and from store to store.
-use Rattle.std.proofs.Common.{◌≡◌, ℕ, ◌<◌, List, get_or, set, length, replicate, ap, sym, ◌∙◌, subst, arith}
-use Rattle.std.proofs.lemmas.List.{get_or_default}
+use Rattle.std.proofs.Common.{◌≡◌, ℕ, ◌<◌, ◌≤◌, ◌+◌, List, ◌++◌, take, drop, refl, append_assoc, length-append, length-drop, get_or, set, length, replicate, ap, sym, ◌∙◌, subst, arith}
+use Rattle.std.proofs.lemmas.List.{get_or_default, replicate-append-replicate, length-replicate, take_at, take_all}
 use Rattle.eb_base.specs.Document.{Doc}
 use Rattle.eb_base.specs.Setting.{Setting, IsSetting, words_of}
 use Rattle.eb_place.specs.declared.moment.Moment.{Moment}
@@ -10,7 +10,7 @@ use Rattle.eb_place.proofs.Images.{length-image, get_or-image, image_nothing, im
 use Rattle.eb_place.proofs.Stored.{word_stored, next_in_table, setting_stored}
 use Rattle.eb_place.proofs.Packing.{word_packed, packed_in_table, moment_packed, setting_packed}
 use Rattle.eb_place.proofs.Onward.{moment_nothing, moment_stored}
-use Rattle.eb_flat.specs.Flat.{Flat, StandsFor}
+use Rattle.eb_flat.specs.Flat.{Flat, StandsFor, IsEmptied}
 
 pub stands_first : (f : Flat) (σ : Setting) → IsSetting σ → f ≡ record { setting = σ; words = replicate (words_of σ) 0 } → StandsFor f (empty_moment σ)
 stands_first f σ k e = record { setting = ap (λ (g : Flat). g.setting) (sym e); moment = moment_nothing σ k; image = ap (λ (g : Flat). g.words) e ∙ image_nothing σ }
@@ -45,3 +45,25 @@ next_in_words f m d p v h n = place_in_words f m p h (next_in_table m d p v h.mo
 
 pub put_in_words : (f : Flat) (m : Moment) (p v : ℕ) → StandsFor f m → IsNextPut m p v → p < length f.words
 put_in_words f m p v h n = place_in_words f m p h (packed_in_table m p v h.moment n)
+
+-- an index begins to be emptied, and has no document where all its words are 0
+pub emptied_first : (f : Flat) (m : Moment) → StandsFor f m → IsEmptied f m.setting 0
+emptied_first f m h = record { setting = sym h.setting; allowed = h.moment.setting; number = ap length h.image ∙ length-image m; within = omega arith; zeros = refl }
+
+pub emptied_all : (f : Flat) (σ : Setting) (n : ℕ) → n ≡ words_of σ → IsEmptied f σ n → StandsFor f (empty_moment σ)
+emptied_all f σ n all e =
+    let zeros : f.words ≡ replicate (words_of σ) 0 = sym (take_all n f.words (omega (arith, e.number, all))) ∙ e.zeros ∙ ap (λ n. replicate n 0) all in
+    stands_first f σ e.allowed (λ i. record { setting = e.setting i; words = zeros i })
+
+-- further words are 0
+pub emptied_next : (f g : Flat) (σ : Setting) (n more : ℕ) → n + more ≤ words_of σ → g.setting ≡ f.setting → g.words ≡ take n f.words ++ (replicate more 0 ++ drop (n + more) f.words) → IsEmptied f σ n → IsEmptied g σ (n + more)
+emptied_next f g σ n more le s w e =
+    let zeros : g.words ≡ replicate (n + more) 0 ++ drop (n + more) f.words = w ∙ ap (λ (z : List ℕ). z ++ (replicate more 0 ++ drop (n + more) f.words)) e.zeros ∙ sym (append_assoc (replicate n 0) (replicate more 0) (drop (n + more) f.words))
+    ∙ ap (λ (z : List ℕ). z ++ drop (n + more) f.words) (replicate-append-replicate n more 0) in
+    record {
+      setting = s ∙ e.setting;
+      allowed = e.allowed;
+      number = ap length zeros ∙ length-append (replicate (n + more) 0) (drop (n + more) f.words) ∙ omega (arith, length-replicate {A = ℕ} (n + more) 0, length-drop (n + more) f.words, e.number);
+      within = le;
+      zeros = ap (take (n + more)) zeros ∙ take_at (replicate (n + more) 0) (drop (n + more) f.words) (n + more) (length-replicate {A = ℕ} (n + more) 0);
+    }

@@ -1,7 +1,7 @@
-ghost use Rattle.std.specs.Prelude.{◌≡◌, IfOk, replicate};
-ghost use Rattle.eb_base.specs.Setting.{words_of};
+ghost use Rattle.std.specs.Prelude.{◌≡◌, ◌+◌, ◌-◌, ◌≤◌, ◌++◌, min, length, take, drop, IfOk, replicate};
+ghost use Rattle.eb_base.specs.Setting.{Setting, words_of};
 ghost use Rattle.eb_place.specs.Moments.{empty_moment};
-ghost use Rattle.eb_flat.specs.Flat.{StandsFor};
+ghost use Rattle.eb_flat.specs.Flat.{StandsFor, IsEmptied};
 
 use eb_base::{Config, Document, NoMemory};
 use eb_place::{PackPen, Pen, Port, Steps};
@@ -34,6 +34,21 @@ impl FlatWords {
     {
         let words = vec![in alloc; 0u64; config.words() as usize]?;
         Ok(FlatWords { config, words })
+    }
+
+    /// Goes on to empty the index: behind the first `done` words, which are 0, it sets up to `most` further ones
+    /// to 0, and gives the number of those that are 0 then. Where these are all, the index has no document. Takes no
+    /// memory.
+    pub fn empty_on(&mut self, done: u64, most: u64) -> u64
+        requires { (σ : Setting) × IsEmptied self.old σ done }
+        ensures emptied { (σ : Setting) → IsEmptied self.old σ done → IsEmptied self.new σ result }
+        ensures number { (σ : Setting) → IsEmptied self.old σ done → result ≡ done + min (words_of σ - done) most }
+        ensures all { (σ : Setting) → IsEmptied self.old σ done → result ≡ words_of σ → StandsFor self.new (empty_moment σ) }
+    {
+        let words = self.words.as_mut_slice();
+        let number = (words.len() as u64 - done).min(most);
+        set_to_zero(words, done as usize, number as usize);
+        done + number
     }
 }
 
@@ -82,4 +97,12 @@ impl PackPen for FlatWords {
     }
 
     ghost pack_keeps = { λ s t m n h. λ i. (h.1 i).conversions };
+}
+
+// Sets so many words from a place on to 0.
+fn set_to_zero(words: &mut [u64], from: usize, number: usize)
+    requires { from + number ≤ length words.old }
+    ensures { words.new ≡ take from words.old ++ (replicate number 0 ++ drop (from + number) words.old) }
+{
+    words[from..from + number].fill(0);
 }

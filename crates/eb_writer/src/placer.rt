@@ -1,4 +1,4 @@
-ghost use Rattle.std.specs.Prelude.{◌≡◌, ◌<◌, ◌≤◌, ◌+◌, ◌++◌, ◌*◌, ◌/◌, ◌&&◌, List, length, nat_le, IfOk, OnErr, MatchOption};
+ghost use Rattle.std.specs.Prelude.{◌≡◌, ◌<◌, ◌≤◌, ◌+◌, ◌-◌, ◌++◌, ◌*◌, ◌/◌, ◌&&◌, List, length, nat_le, IfOk, OnErr, MatchOption};
 ghost use Rattle.eb_base.specs.Document.{Doc};
 ghost use Rattle.eb_place.specs.declared.moment.Moment.{Moment};
 ghost use Rattle.eb_place.specs.Layout.{pool_slices};
@@ -65,18 +65,50 @@ impl Placer {
         }
     }
 
+    /// The placer that has begun so many segments and placed so many documents of an index of this setting, and has
+    /// used so much of the last segment: one that was put down, from what `config`, `segments`, `documents` and `used`
+    /// gave of it. No number is tested: it stands at a moment of the words where all four are those of that moment,
+    /// as `Stands` says, and at no other. Takes no memory.
+    pub fn resume(config: Config, segments: u32, documents: u64, used: Used) -> Placer
+        ensures { result ≡ record { setting = config; segments = segments; documents = documents; used = used } }
+    {
+        Placer {
+            config,
+            segments,
+            documents,
+            used,
+        }
+    }
+
+    /// The setting of its index.
+    pub fn config(&self) -> Config
+        ensures { result ≡ self.now.setting }
+    {
+        self.config
+    }
+
     /// The number of segments of the cut of the documents that it placed.
     pub fn segments(&self) -> u32
-        ensures { (m : Moment) → Stands self.now m → result ≡ length (cut m.setting m.documents.accepted) }
+        ensures kept { result ≡ self.now.segments }
+        ensures cut { (m : Moment) → Stands self.now m → result ≡ length (cut m.setting m.documents.accepted) }
     {
         self.segments
     }
 
     /// The number of documents that it placed.
     pub fn documents(&self) -> u64
-        ensures { (m : Moment) → Stands self.now m → result ≡ length m.documents.accepted }
+        ensures kept { result ≡ self.now.documents }
+        ensures accepted { (m : Moment) → Stands self.now m → result ≡ length m.documents.accepted }
     {
         self.documents
+    }
+
+    /// How much of the last segment that is begun is used; all 0 where none is.
+    pub fn used(&self) -> Used
+        ensures kept { result ≡ self.now.used }
+        ensures segment { (m : Moment) → Stands self.now m → TellsSegment result m (length (cut m.setting m.documents.accepted) - 1) }
+    {
+        self.used
     }
 
     /// Adds a document: it does exactly the stores of the document's placing, in order, and gives the new
