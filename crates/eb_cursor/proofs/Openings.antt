@@ -1,14 +1,14 @@
 -- What an opened list gives: the postings of the accepted documents, and above them what came since.
-use Rattle.std.proofs.Common.{◌≡◌, ℕ, zero, suc, ◌*◌, ◌<◌, ◌≤◌, inl, inr, List, [], ◌∷◌, ◌++◌, length, take, reverse, get_or, refl, ap, sym, ◌∙◌, subst, arith, append_assoc}
+use Rattle.std.proofs.Common.{◌≡◌, ◌==◌, ℕ, Bool, true, false, zero, suc, ◌*◌, ◌<◌, ◌≤◌, inl, inr, List, [], ◌∷◌, ◌++◌, length, take, reverse, get_or, refl, ap, sym, ◌∙◌, subst, arith, append_assoc}
 use Rattle.std.proofs.lemmas.Bool.{cases_lt}
-use Rattle.std.proofs.lemmas.List.{length-append}
+use Rattle.std.proofs.lemmas.List.{length-append, take_all}
 use mathlib.Core.List.{IsPrefix}
 use Rattle.eb_base.specs.Term.{Term}
 use Rattle.eb_base.specs.Document.{Doc}
 use Rattle.eb_place.specs.declared.moment.Moment.{Moment}
 use Rattle.eb_place.specs.Postings.{places, postings, terms_of, count_of}
 use Rattle.eb_place.specs.Room.{cut}
-use Rattle.eb_place.specs.Moments.{IsMoment, with_current}
+use Rattle.eb_place.specs.Moments.{IsMoment, with_current, word}
 use Rattle.eb_place.specs.Later.{IsNotBefore}
 use Rattle.eb_place.specs.Seen.{segment, seen, seen_count, IsEntered}
 use Rattle.eb_place.specs.Walk.{IsTerm}
@@ -21,13 +21,22 @@ use Rattle.eb_place.proofs.Histories.{terms_more, postings_more}
 use Rattle.eb_place.proofs.Laters.{later_on}
 use Rattle.eb_place.proofs.Placed.{placed_all}
 use Rattle.eb_terms.specs.Finding.{HasNumber}
+use Rattle.eb_place.specs.PackedLists.{newest_first}
+use Rattle.std.specs.Bool.{MatchBool}
+use Rattle.eb_place.specs.PackedLists.{IsConverted}
+use Rattle.eb_place.specs.Layout.{place}
+use Rattle.eb_place.specs.Layout.Slot.{slot}
+use Rattle.eb_place.specs.Layout.Region.{converted_region}
+use Rattle.eb_place.proofs.Converted.{later_converted, word_converted, word_not_converted}
+use Rattle.eb_block.specs.Reading.{ListStands}
+use Rattle.eb_block.specs.declared.packed_list.PackedList.{PackedList}
 use Rattle.eb_chain.specs.Chains.{Stands}
 use Rattle.eb_chain.specs.declared.chain.Chain.{Chain}
 use Rattle.eb_cursor.specs.Lists.{from_below, IsFalling}
 use Rattle.eb_cursor.specs.Posted.{Narrow}
 use Rattle.eb_cursor.specs.Accepted.{accepted_in}
-use Rattle.eb_cursor.specs.Opened.{AreFirst, Opened}
-use Rattle.eb_cursor.specs.declared.posting_list.PostingList.TheVariants.{Empty, Live}
+use Rattle.eb_cursor.specs.Opened.{AreFirst, CanRead, Opened}
+use Rattle.eb_cursor.specs.declared.posting_list.PostingList.TheVariants.{Empty, Live, Packed}
 use Rattle.eb_cursor.proofs.Accepted.{whole_moment, whole_lawful, whole_segment, whole_before, seen_accepted, entered_accepted}
 use Rattle.eb_cursor.proofs.PostingsOf.{postings_below, seen_below, narrow_each, narrow_front}
 
@@ -74,6 +83,25 @@ chain_opens m n s docs t c is js l a stands =
       all = ap (λ (z : List ℕ). from_below (places * length docs) (reverse z)) is_front ∙ w.1;
     }
 
+-- a packed list gives all postings
+pub packed_opens : (m n : Moment) (s : ℕ) (docs : List Doc) (t : Term) (p : PackedList) (budget : ℕ) → IsMoment n → IsNotBefore n m → AreFirst m s docs → ListStands n s t p (newest_first n s t) budget → Opened n docs t (Packed p)
+packed_opens m n s docs t p budget js l a stands =
+    let q = later_segment (whole_moment m) n s (later_on (whole_moment m) m n (whole_before m) l) in
+    let more : List Doc = a.rest ++ q.0 in
+    let e : segment n s ≡ docs ++ more = sym q.1 ∙ ap (λ (z : List Doc). z ++ q.0) (first_are m s docs a) ∙ append_assoc docs a.rest q.0 in
+    let narrow : Narrow (docs ++ more) = subst Narrow e (narrow_each (segment n s) ((placed_all n.setting (with_current n.documents) js.setting js.lawful).limits s)) in
+    let r = postings_more t docs more in
+    let k : ℕ = length (postings t (docs ++ more)) in
+    let few : length (postings t docs) ≤ k = omega (arith, ap length r.1, length-append (postings t docs) r.0) in
+    let w = seen_below t docs more k narrow a.narrow few (omega arith) in
+    let all : postings t (segment n s) ≡ take k (postings t (docs ++ more)) = ap (postings t) e ∙ sym (take_all k (postings t (docs ++ more)) (omega arith)) in
+    record {
+      postings = newest_first n s t;
+      told = (s, t, budget, stands);
+      falls = subst (λ (z : List ℕ). IsFalling (reverse z)) (sym all) w.0;
+      all = ap (λ (z : List ℕ). from_below (places * length docs) (reverse z)) all ∙ w.1;
+    }
+
 -- the segment is one of a later moment too
 pub first_later : (m n : Moment) (s : ℕ) (docs : List Doc) → IsNotBefore n m → AreFirst m s docs → s < n.setting.segments
 first_later m n s docs l a = subst (λ σ. s < σ.segments) l.setting a.inside
@@ -85,6 +113,10 @@ first_on m n s docs l a =
     let q = segments_grow m.setting m.documents.accepted p.0 s in
     let e : accepted_in m s ++ q.0 ≡ accepted_in n s = q.1 ∙ ap (λ (z : List Doc). get_or (cut m.setting z) s []) p.1 ∙ ap (λ σ. get_or (cut σ n.documents.accepted) s []) l.setting in
     record { inside = first_later m n s docs l a; narrow = a.narrow; rest = a.rest ++ q.0; are = sym e ∙ ap (λ (z : List Doc). z ++ q.0) a.are ∙ append_assoc docs a.rest q.0 }
+
+-- what can be read can be read later
+pub read_on : (m n : Moment) (s : ℕ) (docs : List Doc) (packed : Bool) → IsNotBefore n m → CanRead m s docs packed → CanRead n s docs packed
+read_on m n s docs packed l h = record { first = first_on m n s docs l h.first; converted = λ e. later_converted m n s l (h.converted e) }
 
 -- documents that are the first of a segment: the segment is there, and none has more terms than places
 pub are_first : (m : Moment) (s : ℕ) (docs : List Doc) → IsMoment m → 1 ≤ length docs → IsPrefix docs (accepted_in m s) → AreFirst m s docs
@@ -102,3 +134,19 @@ are_first m s docs is some p =
     in_list [] k h = absurd (omega arith)
     in_list (x ∷ xs) zero h = omega arith
     in_list (x ∷ xs) (suc k) h = omega (arith, in_list xs k h)
+
+-- ---- the converted word
+
+-- whether a word is 1 tells whether the segment is converted
+pub packed_if : (n : Moment) (s w : ℕ) (b : Bool) → IsMoment n → s < n.setting.segments → w ≡ word n (place n.setting (slot s converted_region 0)) → b ≡ (w == 1) → MatchBool b (IsConverted n s) (n.conversions.converted ≤ s)
+packed_if n s w b is inside e i = elim (cases_lt s n.conversions.converted) [
+  | inl low ↦ subst (λ z. MatchBool z (IsConverted n s) (n.conversions.converted ≤ s)) (sym (i ∙ ap (λ k. k == 1) (e ∙ word_converted n s is low))) low
+  | inr high ↦ subst (λ z. MatchBool z (IsConverted n s) (n.conversions.converted ≤ s)) (sym (i ∙ ap (λ k. k == 1) (e ∙ word_not_converted n s is inside high))) high
+]
+
+pub match_true : (b : Bool) (A B : Type 0) → MatchBool b A B → b ≡ true → A
+match_true b A B h e = subst (λ z. MatchBool z A B) e h
+
+pub match_not : (b : Bool) (A B : Type 0) → MatchBool b A B → (B → ⊥) → b ≡ true
+match_not true A B h away = refl
+match_not false A B h away = absurd (away h)

@@ -5,10 +5,11 @@ use Rattle.eb_place.specs.Moments.{IsMoment}
 use Rattle.eb_place.specs.Later.{IsNotBefore}
 use Rattle.eb_place.proofs.Laters.{later_self, later_on}
 use Rattle.eb_chain.proofs.Walks.{stands_later}
+use Rattle.eb_block.proofs.Standing.{list_stands_later}
 use Rattle.eb_cursor.specs.Told.{Told}
 use Rattle.eb_cursor.specs.Lists.{Gives, gives}
 use Rattle.eb_cursor.specs.declared.posting_list.PostingList.{PostingList}
-use Rattle.eb_cursor.specs.declared.posting_list.PostingList.TheVariants.{Empty, Live}
+use Rattle.eb_cursor.specs.declared.posting_list.PostingList.TheVariants.{Empty, Live, Packed}
 
 -- a moment, and one that is not before it
 pub record IsLater (m n : Moment) : Type 0 where
@@ -23,6 +24,7 @@ Later g g' = (list : PostingList) (xs : List ℕ) → g list xs → g' list xs
 pub gives_later : (m n : Moment) → IsLater m n → Later (gives m) (gives n)
 gives_later m n l Empty xs h = h
 gives_later m n l (Live c) xs h = (h.0, h.1, h.2, stands_later m n h.0 h.1 c h.2 xs l.is l.later h.3)
+gives_later m n l (Packed p) xs h = (h.0, h.1, h.2, list_stands_later m n h.0 h.1 p xs h.2 l.is l.later h.3)
 
 -- the laws of a port that are used here
 abbrev pub IsLawfulPort : {S : Type 0} → (S → Moment → Type 0) → Type 0

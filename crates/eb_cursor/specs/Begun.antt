@@ -5,7 +5,7 @@ use Rattle.eb_base.specs.Query.{Tree, Trees}
 use Rattle.eb_place.specs.Postings.{places}
 use Rattle.eb_place.specs.declared.moment.Moment.{Moment}
 use Rattle.eb_cursor.specs.Lists.{Gives, gives}
-use Rattle.eb_cursor.specs.Opened.{AreFirst}
+use Rattle.eb_cursor.specs.Opened.{CanRead}
 use Rattle.eb_cursor.specs.Posted.{is_posting, is_run_from, match_at, each_at, some_at}
 use Rattle.eb_cursor.specs.Ready.{Ready, AllReady, IsLeaf}
 use Rattle.eb_cursor.specs.Tops.{top}
@@ -16,9 +16,9 @@ abbrev pub AreClear : List Cursor → Type 0
 AreClear [] = Unit {0}
 AreClear (c ∷ cs) = (c.current ≡ None) × (c.upto ≡ 0) × AreClear cs
 
--- at some moment that the port stands for, so many documents are accepted in the segment
-abbrev pub CanBegin : {S : Type 0} → (S → Moment → Type 0) → S → ℕ → ℕ → Type 0
-CanBegin stands s segment documents = (m : Moment) × (docs : List Doc) × stands s m × AreFirst m segment docs × (length docs ≡ documents)
+-- at some moment that the port stands for, so many documents are accepted in the segment, and can be read
+abbrev pub CanBegin : {S : Type 0} → (S → Moment → Type 0) → S → ℕ → ℕ → Bool → Type 0
+CanBegin stands s segment documents packed = (m : Moment) × (docs : List Doc) × stands s m × CanRead m segment docs packed × (length docs ≡ documents)
 
 -- each leaf of the terms has passed nothing below the end
 abbrev pub AllAt : Gives → List Doc → List (List ℕ) → List Cursor → ℕ → Type 0

@@ -3,8 +3,9 @@ use Rattle.std.specs.Prelude.{◌≡◌, ℕ, ◌<◌, List, [], ◌∷◌, cond
 use Rattle.eb_base.specs.Term.{Term}
 use Rattle.eb_place.specs.declared.moment.Moment.{Moment}
 use Rattle.eb_chain.specs.Chains.{Stands}
+use Rattle.eb_block.specs.Reading.{ListStands}
 use Rattle.eb_cursor.specs.declared.posting_list.PostingList.{PostingList}
-use Rattle.eb_cursor.specs.declared.posting_list.PostingList.TheVariants.{Empty, Live}
+use Rattle.eb_cursor.specs.declared.posting_list.PostingList.TheVariants.{Empty, Live, Packed}
 
 -- which postings a list still gives
 abbrev pub Gives : Type 1
@@ -14,6 +15,7 @@ Gives = PostingList → List ℕ → Type 0
 abbrev pub gives : Moment → Gives
 gives m Empty xs = xs ≡ []
 gives m (Live c) xs = (s : ℕ) × (t : Term) × (opened : ℕ) × Stands m s t c opened xs
+gives m (Packed p) xs = (s : ℕ) × (t : Term) × (budget : ℕ) × ListStands m s t p xs budget
 
 -- what a call gave: nothing where nothing was left, else the first of what was left
 abbrev pub Gave : List ℕ → PostingList → Option ℕ → Moment → Type 0

@@ -1,8 +1,9 @@
 -- What opening a list gives.
-use Rattle.std.specs.Prelude.{◌≡◌, ℕ, ◌*◌, ◌<◌, ◌++◌, List, length}
+use Rattle.std.specs.Prelude.{◌≡◌, ℕ, ◌*◌, ◌<◌, ◌++◌, Bool, true, List, length}
 use Rattle.eb_base.specs.Document.{Doc}
 use Rattle.eb_place.specs.Postings.{places}
 use Rattle.eb_place.specs.declared.moment.Moment.{Moment}
+use Rattle.eb_place.specs.PackedLists.{IsConverted}
 use Rattle.eb_cursor.specs.Accepted.{accepted_in}
 use Rattle.eb_cursor.specs.Lists.{gives, IsFalling, from_below}
 use Rattle.eb_cursor.specs.Tops.{below}
@@ -15,6 +16,11 @@ pub record AreFirst (m : Moment) (s : ℕ) (docs : List Doc) : Type 0 where
   pub narrow : Narrow docs
   pub rest : List Doc
   pub are : accepted_in m s ≡ docs ++ rest
+
+-- and its postings can be read: where its packed lists are read, it is converted
+pub record CanRead (m : Moment) (s : ℕ) (docs : List Doc) (packed : Bool) : Type 0 where
+  pub first : AreFirst m s docs
+  pub converted : packed ≡ true → IsConverted m s
 
 -- the list gives all postings of the term in these documents, and above them what came since
 pub record Opened (m : Moment) (docs : List Doc) (t : List ℕ) (list : PostingList) : Type 0 where

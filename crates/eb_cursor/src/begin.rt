@@ -6,10 +6,10 @@ ghost use Rattle.eb_place.specs.Postings.{places};
 ghost use Rattle.eb_place.specs.declared.moment.Moment.{Moment};
 ghost use Rattle.eb_cursor.specs.Told.{Told};
 ghost use Rattle.eb_cursor.specs.Lists.{gives};
-ghost use Rattle.eb_cursor.specs.Opened.{AreFirst};
+ghost use Rattle.eb_cursor.specs.Opened.{CanRead};
 ghost use Rattle.eb_cursor.specs.Posted.{is_posting};
 ghost use Rattle.eb_cursor.specs.Ready.{IsLeaf, Ready};
-ghost use Rattle.eb_cursor.specs.Costs.{Costs, FirstCosts, IsPaid, word_loads};
+ghost use Rattle.eb_cursor.specs.Costs.{Costs, FirstCosts, IsPaid, IsReading, word_loads};
 ghost use Rattle.eb_cursor.specs.Asked.{trees_in};
 ghost use Rattle.eb_cursor.specs.Begun.{AreClear, CanBegin, Begun, BegunLeaves, BegunEach, BegunSome};
 
@@ -36,16 +36,17 @@ pub fn clear(cursors: &mut [Cursor])
 fn open_leaf<P: Port, L: Ledger>(
     term: &Term,
     segment: u32,
+    packed: bool,
     port: &mut P,
     steps: &mut Steps<L>,
 ) -> Cursor
-    requires { (m : Moment) × (docs : List Doc) × P.stands port.old m × AreFirst m segment docs }
-    ensures leaf { (docs : List Doc) → Told P.stands P.keeps port.old port.new (λ m. AreFirst m segment docs)
+    requires { (m : Moment) × (docs : List Doc) × P.stands port.old m × CanRead m segment docs packed }
+    ensures leaf { (docs : List Doc) → Told P.stands P.keeps port.old port.new (λ m. CanRead m segment docs packed)
         (λ n. IsLeaf (gives n) (is_posting docs term.now) result (places * length docs)) }
-    ensures costs { Told P.stands P.keeps port.old port.new (λ m. segment < m.setting.segments)
-        (λ n. IsPaid (Costs n segment term.now result.list) steps.old (word_loads n segment term.now) steps.new) }
+    ensures costs { (was : Moment) → Told P.stands P.keeps port.old port.new (λ m. IsReading was m segment packed)
+        (λ n. IsPaid (Costs n segment term.now result.list) steps.old (word_loads was n segment term.now) steps.new) }
 {
-    let mut list = PostingList::open(term, segment, port, steps);
+    let mut list = PostingList::open(term, segment, packed, port, steps);
     let current = list.next(port, steps);
     Cursor {
         upto: 0,
@@ -60,12 +61,13 @@ fn begin_leaves<P: Port, L: Ledger>(
     terms: &[Term],
     cursors: &mut [Cursor],
     segment: u32,
+    packed: bool,
     port: &mut P,
     steps: &mut Steps<L>,
 ) -> bool
     requires fits { length cursors.old ≡ length terms.now }
-    requires first { (m : Moment) × (docs : List Doc) × P.stands port.old m × AreFirst m segment docs }
-    ensures { (docs : List Doc) → Told P.stands P.keeps port.old port.new (λ m. AreFirst m segment docs)
+    requires first { (m : Moment) × (docs : List Doc) × P.stands port.old m × CanRead m segment docs packed }
+    ensures { (docs : List Doc) → Told P.stands P.keeps port.old port.new (λ m. CanRead m segment docs packed)
         (BegunLeaves docs terms.now cursors.new result) }
 {
     let Some((own, rest)) = cursors.split_first_mut() else {
@@ -74,11 +76,11 @@ fn begin_leaves<P: Port, L: Ledger>(
     let Some((term, others)) = terms.split_first() else {
         return true;
     };
-    *own = open_leaf(term, segment, port, steps);
+    *own = open_leaf(term, segment, packed, port, steps);
     if own.current.is_none() {
         return false;
     }
-    begin_leaves(others, rest, segment, port, steps)
+    begin_leaves(others, rest, segment, packed, port, steps)
 }
 
 // The end that an operator begins with: 0 where nothing matches.
@@ -93,6 +95,7 @@ pub fn begin_query<P: Port, L: Ledger>(
     query: &Query,
     cursors: &mut [Cursor],
     segment: u32,
+    packed: bool,
     documents: u32,
     port: &mut P,
     steps: &mut Steps<L>,
@@ -101,16 +104,16 @@ pub fn begin_query<P: Port, L: Ledger>(
     requires fits { length cursors.old ≡ size (tree query.now) }
     requires formed { IsFormed (tree query.now) }
     requires clear { AreClear cursors.old }
-    requires first { CanBegin P.stands port.old segment documents }
-    ensures ready { (docs : List Doc) → length docs ≡ documents → Told P.stands P.keeps port.old port.new (λ m. AreFirst m segment docs)
+    requires first { CanBegin P.stands port.old segment documents packed }
+    ensures ready { (docs : List Doc) → length docs ≡ documents → Told P.stands P.keeps port.old port.new (λ m. CanRead m segment docs packed)
         (λ n. Ready (gives n) docs (tree query.now) cursors.new (length docs)) }
-    ensures costs { (t : List ℕ) → tree query.now ≡ word t → Told P.stands P.keeps port.old port.new (λ m. segment < m.setting.segments)
-        (λ n. IsPaid (FirstCosts n segment t cursors.new) steps.old (word_loads n segment t) steps.new) }
+    ensures costs { (was : Moment) (t : List ℕ) → tree query.now ≡ word t → Told P.stands P.keeps port.old port.new (λ m. IsReading was m segment packed)
+        (λ n. IsPaid (FirstCosts n segment t cursors.new) steps.old (word_loads was n segment t) steps.new) }
 {
     match query {
-        Query::Word(term) => cursors[0] = open_leaf(term, segment, port, steps),
+        Query::Word(term) => cursors[0] = open_leaf(term, segment, packed, port, steps),
         _ => {
-            begin(query, cursors, segment, documents, port, steps);
+            begin(query, cursors, segment, packed, documents, port, steps);
         }
     }
 }
@@ -123,6 +126,7 @@ pub fn begin<P: Port, L: Ledger>(
     query: &Query,
     cursors: &mut [Cursor],
     segment: u32,
+    packed: bool,
     documents: u32,
     port: &mut P,
     steps: &mut Steps<L>,
@@ -131,20 +135,20 @@ pub fn begin<P: Port, L: Ledger>(
     requires fits { length cursors.old ≡ size (tree query.now) }
     requires formed { IsFormed (tree query.now) }
     requires clear { AreClear cursors.old }
-    requires first { CanBegin P.stands port.old segment documents }
-    ensures { (docs : List Doc) → length docs ≡ documents → Told P.stands P.keeps port.old port.new (λ m. AreFirst m segment docs)
+    requires first { CanBegin P.stands port.old segment documents packed }
+    ensures { (docs : List Doc) → length docs ≡ documents → Told P.stands P.keeps port.old port.new (λ m. CanRead m segment docs packed)
         (Begun docs (tree query.now) cursors.new result) }
 {
     let end = u64::from(documents);
     match query {
         Query::Word(term) => {
-            let leaf = open_leaf(term, segment, port, steps);
+            let leaf = open_leaf(term, segment, packed, port, steps);
             let some = leaf.current.is_some();
             cursors[0] = leaf;
             some
         }
         Query::Phrase(terms) => {
-            let all = begin_leaves(terms.as_slice(), cursors, segment, port, steps);
+            let all = begin_leaves(terms.as_slice(), cursors, segment, packed, port, steps);
             let last = PLACES * end + 1 - terms.len() as u64;
             let upto = end_if(all, last);
             let lead = rarest_leaf(cursors).number;
@@ -158,14 +162,22 @@ pub fn begin<P: Port, L: Ledger>(
                 return false;
             };
             own.upto = end;
-            begin(part, rest, segment, documents, port, steps);
+            begin(part, rest, segment, packed, documents, port, steps);
             true
         }
         Query::And(parts) => {
             let Some((own, rest)) = cursors.split_first_mut() else {
                 return false;
             };
-            let all = begin_each(parts.as_slice(), rest, segment, documents, port, steps);
+            let all = begin_each(
+                parts.as_slice(),
+                rest,
+                segment,
+                packed,
+                documents,
+                port,
+                steps,
+            );
             own.upto = end_if(all, end);
             own.lead = rarest(parts.as_slice(), rest).number;
             all
@@ -174,7 +186,15 @@ pub fn begin<P: Port, L: Ledger>(
             let Some((_own, rest)) = cursors.split_first_mut() else {
                 return false;
             };
-            begin_some(parts.as_slice(), rest, segment, documents, port, steps)
+            begin_some(
+                parts.as_slice(),
+                rest,
+                segment,
+                packed,
+                documents,
+                port,
+                steps,
+            )
         }
     }
 }
@@ -185,6 +205,7 @@ fn begin_each<P: Port, L: Ledger>(
     parts: &[Query],
     cursors: &mut [Cursor],
     segment: u32,
+    packed: bool,
     documents: u32,
     port: &mut P,
     steps: &mut Steps<L>,
@@ -193,18 +214,18 @@ fn begin_each<P: Port, L: Ledger>(
     requires fits { length cursors.old ≡ sizes (trees_in parts.now) }
     requires formed { AreFormed (trees_in parts.now) }
     requires clear { AreClear cursors.old }
-    requires first { CanBegin P.stands port.old segment documents }
-    ensures { (docs : List Doc) → length docs ≡ documents → Told P.stands P.keeps port.old port.new (λ m. AreFirst m segment docs)
+    requires first { CanBegin P.stands port.old segment documents packed }
+    ensures { (docs : List Doc) → length docs ≡ documents → Told P.stands P.keeps port.old port.new (λ m. CanRead m segment docs packed)
         (BegunEach docs (trees_in parts.now) cursors.new result) }
 {
     let Some((part, others)) = parts.split_first() else {
         return true;
     };
     let (own, rest) = cursors.split_at_mut(size(part));
-    if !begin(part, own, segment, documents, port, steps) {
+    if !begin(part, own, segment, packed, documents, port, steps) {
         return false;
     }
-    begin_each(others, rest, segment, documents, port, steps)
+    begin_each(others, rest, segment, packed, documents, port, steps)
 }
 
 // Begins the parts of an or.
@@ -213,6 +234,7 @@ fn begin_some<P: Port, L: Ledger>(
     parts: &[Query],
     cursors: &mut [Cursor],
     segment: u32,
+    packed: bool,
     documents: u32,
     port: &mut P,
     steps: &mut Steps<L>,
@@ -221,15 +243,15 @@ fn begin_some<P: Port, L: Ledger>(
     requires fits { length cursors.old ≡ sizes (trees_in parts.now) }
     requires formed { AreFormed (trees_in parts.now) }
     requires clear { AreClear cursors.old }
-    requires first { CanBegin P.stands port.old segment documents }
-    ensures { (docs : List Doc) → length docs ≡ documents → Told P.stands P.keeps port.old port.new (λ m. AreFirst m segment docs)
+    requires first { CanBegin P.stands port.old segment documents packed }
+    ensures { (docs : List Doc) → length docs ≡ documents → Told P.stands P.keeps port.old port.new (λ m. CanRead m segment docs packed)
         (BegunSome docs (trees_in parts.now) cursors.new result) }
 {
     let Some((part, others)) = parts.split_first() else {
         return false;
     };
     let (own, rest) = cursors.split_at_mut(size(part));
-    let some = begin(part, own, segment, documents, port, steps);
-    let other = begin_some(others, rest, segment, documents, port, steps);
+    let some = begin(part, own, segment, packed, documents, port, steps);
+    let other = begin_some(others, rest, segment, packed, documents, port, steps);
     some || other
 }

@@ -1,15 +1,18 @@
 //! Where the postings of a term come from.
-ghost use Rattle.std.specs.Prelude.{◌≡◌, ℕ, ◌+◌, ◌-◌, ◌*◌, ◌<◌, ◌≤◌, List, length};
+ghost use Rattle.std.specs.Prelude.{◌≡◌, ℕ, ◌+◌, ◌-◌, ◌*◌, ◌<◌, ◌≤◌, true, List, length};
+ghost use Rattle.std.specs.Bool.{MatchBool};
 ghost use Rattle.eb_base.specs.Document.{Doc};
 ghost use Rattle.eb_place.specs.declared.moment.Moment.{Moment};
 ghost use Rattle.eb_cursor.specs.Told.{Told};
-ghost use Rattle.eb_cursor.specs.Costs.{Costs, Spans, leap_loads, IsPaid, word_loads};
+ghost use Rattle.eb_cursor.specs.Costs.{Costs, Spans, leap_loads, IsPaid, IsReading, word_loads};
 ghost use Rattle.eb_cursor.specs.Lists.{gives, Gave, from_below};
-ghost use Rattle.eb_cursor.specs.Opened.{AreFirst, Opened};
+ghost use Rattle.eb_cursor.specs.Opened.{CanRead, Opened};
+ghost use Rattle.eb_place.specs.PackedLists.{IsConverted};
 
 use eb_base::Term;
+use eb_block::PackedList;
 use eb_chain::Chain;
-use eb_place::{Port, Posting, Steps};
+use eb_place::{Places, Port, Posting, Steps};
 use eb_terms::find;
 use std::sync::ledger::Ledger;
 
@@ -20,25 +23,45 @@ pub enum PostingList {
     Empty,
     /// Those that the live slices still hold.
     Live(Chain),
+    /// Those that the packed blocks of a converted segment still hold.
+    Packed(PackedList),
+}
+
+/// Whether a segment is converted, so that its packed lists may be read: whether its converted word is 1.
+/// One load.
+pub fn is_packed<P: Port, L: Ledger>(port: &mut P, segment: u32, steps: &mut Steps<L>) -> bool
+    requires { (m : Moment) × P.stands port.old m × (segment < m.setting.segments) }
+    ensures told { Told P.stands P.keeps port.old port.new (λ m. segment < m.setting.segments)
+        (λ n. MatchBool result (IsConverted n segment) (n.conversions.converted ≤ segment)) }
+    ensures step { steps.new ≡ steps.old + 1 }
+{
+    let places = Places::new(port.config());
+    let word = port.load(places.converted(segment), steps);
+    word == 1
 }
 
 impl PostingList {
-    /// The postings of a term in a segment, those of its first documents among them. Takes no memory.
+    /// The postings of a term in a segment, those of its first documents among them: from its packed list
+    /// where `packed`, which says that the segment is converted, else from its live slices. Takes no memory.
     pub fn open<P: Port, L: Ledger>(
         term: &Term,
         segment: u32,
+        packed: bool,
         port: &mut P,
         steps: &mut Steps<L>,
     ) -> PostingList
-        requires { (m : Moment) × (docs : List Doc) × P.stands port.old m × AreFirst m segment docs }
-        ensures opened { (docs : List Doc) → Told P.stands P.keeps port.old port.new (λ m. AreFirst m segment docs) (λ n. Opened n docs term.now result) }
-        ensures costs { Told P.stands P.keeps port.old port.new (λ m. segment < m.setting.segments)
-            (λ n. IsPaid (Costs n segment term.now result) steps.old (word_loads n segment term.now) steps.new) }
+        requires { (m : Moment) × (docs : List Doc) × P.stands port.old m × CanRead m segment docs packed }
+        ensures opened { (docs : List Doc) → Told P.stands P.keeps port.old port.new (λ m. CanRead m segment docs packed) (λ n. Opened n docs term.now result) }
+        ensures costs { (was : Moment) → Told P.stands P.keeps port.old port.new (λ m. IsReading was m segment packed)
+            (λ n. IsPaid (Costs n segment term.now result) steps.old (word_loads was n segment term.now) steps.new) }
     {
-        match find(port, segment, term, steps) {
-            None => PostingList::Empty,
-            Some(number) => PostingList::Live(Chain::open(port, segment, number, steps)),
+        let Some(number) = find(port, segment, term, steps) else {
+            return PostingList::Empty;
+        };
+        if packed {
+            return PostingList::Packed(PackedList::open(port, segment, number, steps));
         }
+        PostingList::Live(Chain::open(port, segment, number, steps))
     }
 
     /// The next posting, until all are given. Takes no memory.
@@ -58,6 +81,7 @@ impl PostingList {
         match self {
             PostingList::Empty => None,
             PostingList::Live(chain) => chain.next(port, steps),
+            PostingList::Packed(list) => list.next(port, steps),
         }
     }
 
@@ -78,14 +102,20 @@ impl PostingList {
         match self {
             PostingList::Empty => None,
             PostingList::Live(chain) => chain.next_at_most(port, most, steps),
+            PostingList::Packed(list) => {
+                list.seek(port, most, steps);
+                list.next(port, steps)
+            }
         }
     }
-    /// The pool that the list has come to, 0 where it is empty: the more postings the term has, the greater
-    /// it is. Loads nothing.
-    pub fn pool(&self) -> u32 {
+
+    /// How common the term is: the pool that the live slices have come to, or how many postings a packed list
+    /// has still to give; 0 where it is empty. All lists of a segment are of one kind. Loads nothing.
+    pub fn frequency(&self) -> u64 {
         match self {
             PostingList::Empty => 0,
-            PostingList::Live(chain) => chain.pool(),
+            PostingList::Live(chain) => u64::from(chain.pool()),
+            PostingList::Packed(list) => list.postings_left(),
         }
     }
 }

@@ -10,22 +10,25 @@ use eb_base::Query;
 /// How common a part likely is, by what its cursors know without a load.
 #[derive(Clone, Copy, Debug, PartialEq, Eq)]
 pub struct Commonness {
-    /// The pool that its postings have come to, the greatest number where that can't be told: each pool
-    /// holds some nine times the postings of the one before it.
-    pub pool: u32,
+    /// The pool that its live postings have come to, each of which holds some nine times the postings of the
+    /// one before it, or the number of its packed postings; the greatest number where that can't be told.
+    pub frequency: u64,
     /// One more than its newest posting, 0 where there is none, the greatest number where that can't be
-    /// told: of two terms in the same pool the rarer one likely begins lower.
+    /// told: of two terms of one frequency the rarer one likely begins lower.
     pub newest: u64,
 }
 
 // Of nothing rarer than which there is.
 const UNKNOWN: Commonness = Commonness {
-    pool: u32::MAX,
+    frequency: u64::MAX,
     newest: u64::MAX,
 };
 
 // Of what matches nothing.
-const NOTHING: Commonness = Commonness { pool: 0, newest: 0 };
+const NOTHING: Commonness = Commonness {
+    frequency: 0,
+    newest: 0,
+};
 
 /// A part of a query or a term of a phrase.
 #[derive(Clone, Copy, Debug, PartialEq, Eq)]
@@ -38,7 +41,8 @@ pub struct Part {
 
 // Whether the first is likely rarer.
 fn is_rarer(one: Commonness, other: Commonness) -> bool {
-    one.pool < other.pool || (one.pool == other.pool && one.newest < other.newest)
+    one.frequency < other.frequency
+        || (one.frequency == other.frequency && one.newest < other.newest)
 }
 
 // How common the term of a leaf likely is.
@@ -48,7 +52,7 @@ fn commonness_of_leaf(cursor: &Cursor) -> Commonness {
         Some(posting) => u64::from(posting) + 1,
     };
     Commonness {
-        pool: cursor.list.pool(),
+        frequency: cursor.list.frequency(),
         newest,
     }
 }

@@ -1,14 +1,14 @@
 use Rattle.std.proofs.Common.{◌≡◌, ℕ, ◌+◌, ◌*◌, ◌-◌, ◌≤◌, List, length, Option, None, Some, ap, sym, subst, ◌∙◌, arith, rules, Bool, false, is_some, if◌then◌else◌, refl, [], ◌∷◌}
 use Rattle.std.proofs.lemmas.Bool.{false≢true}
-use Rattle.eb_base.specs.Query.{tree, word, phrase, conjunction, size, sizes, IsFormed, AreFormed}
+use Rattle.eb_base.specs.Query.{tree, word, phrase, negation, conjunction, size, sizes, IsFormed, AreFormed}
 use Rattle.eb_base.specs.declared.query.Query.{Query}
 use Rattle.eb_place.specs.Postings.{places}
 use Rattle.eb_cursor.specs.Asked.{trees_in}
 use Rattle.eb_cursor.specs.Begun.{BegunLeaves, Begun}
 use Rattle.eb_cursor.proofs.Tellings.{told_itself, told_as, told_on}
-use Rattle.eb_cursor.proofs.Openings.{first_on}
-use Rattle.eb_cursor.proofs.Steps.{tree_Word, tree_Phrase, tree_And, front_of}
-use Rattle.eb_cursor.proofs.Begins.{begun_word, begun_phrase, begun_and, each_ends, each_goes, some_none, some_goes, front_clear, back_clear}
+use Rattle.eb_cursor.proofs.Openings.{read_on}
+use Rattle.eb_cursor.proofs.Steps.{tree_Word, tree_Phrase, tree_Not, tree_And, front_of}
+use Rattle.eb_cursor.proofs.Begins.{begun_word, begun_phrase, begun_not, begun_and, each_ends, each_goes, some_none, some_goes, front_clear, back_clear}
 use Rattle.eb_cursor.proofs.begin.+begin.Goals as goal
 
 none_of : (o : Option ℕ) → is_some o ≡ false → o ≡ None
@@ -19,7 +19,7 @@ pub begin-returns-in-Word : goal.begin-returns-in-Word
 begin-returns-in-Word g t c = λ docs same.
     let i : tree c.args.query.now ≡ word c.in-Word.term = ap tree c.in-Word.is ∙ tree_Word c.in-Word.term in
     told_as g.met.P.Port.lawful (c.open_leaf-leaf.ensures.leaf docs) (λ m a. a)
-    (λ m n w a leaf. begun_word n docs (tree c.args.query.now) c.in-Word.term c.args.cursors.now c.open_leaf-leaf.result c.is_some-some.result i (c.requires.fits ∙ ap size i) a.narrow
+    (λ m n w a leaf. begun_word n docs (tree c.args.query.now) c.in-Word.term c.args.cursors.now c.open_leaf-leaf.result c.is_some-some.result i (c.requires.fits ∙ ap size i) a.first.narrow
     (λ h. none_of c.open_leaf-leaf.result.current (sym c.is_some-some.ensures ∙ h)) leaf)
 
 pub begin-returns-in-Phrase : goal.begin-returns-in-Phrase
@@ -32,7 +32,7 @@ begin-returns-in-Phrase g t c = λ docs same.
     let formed : 2 ≤ length ts = subst IsFormed i c.requires.formed in
     told_as g.met.P.Port.lawful (c.begin_leaves-all.ensures docs) (λ m a. a)
     (λ m n w a begun. begun_phrase n docs (tree c.args.query.now) ts c.begin_leaves-all.new.cursors _ c.end_if-upto.result _ (places * length docs + 1 - length ts) c.begin_leaves-all.result i formed (omega (arith, few, c.requires.small.1)) (omega (arith, same, c.requires.small.0)) refl
-    (c.end_if-upto.ensures ∙ ap (λ (k : ℕ). if c.begin_leaves-all.result then k else 0) (omega (arith, same, c.from-end.ensures, c.len.ensures))) (kept ∙ few) a.narrow
+    (c.end_if-upto.ensures ∙ ap (λ (k : ℕ). if c.begin_leaves-all.result then k else 0) (omega (arith, same, c.from-end.ensures, c.len.ensures))) (kept ∙ few) a.first.narrow
     (subst (λ (z : List (List ℕ)). BegunLeaves docs z c.begin_leaves-all.new.cursors c.begin_leaves-all.result n) slice begun))
 
 pub begin-returns-in-Some-split_first_mut : goal.begin-returns-in-Some-split_first_mut
@@ -40,6 +40,12 @@ begin-returns-in-Some-split_first_mut g t c = λ docs same.
     let i : tree c.args.query.now ≡ conjunction (trees_in c.as_slice-in-And.result.now) = ap tree c.in-And.is ∙ tree_And c.in-And.parts ∙ ap (λ (x : List Query). conjunction (trees_in x)) (sym c.as_slice-in-And.ensures) in
     told_as g.met.P.Port.lawful (c.begin_each-all.ensures docs same) (λ m a. a)
     (λ m n w a begun. begun_and n docs (tree c.args.query.now) (trees_in c.as_slice-in-And.result.now) _ c.begin_each-all.new.cursors c.from-end.result c.begin_each-all.result i (c.from-end.ensures ∙ sym same) c.end_if-own.ensures begun)
+
+pub begin-returns-in-Some : goal.begin-returns-in-Some
+begin-returns-in-Some g t c = λ docs same.
+    let i : tree c.args.query.now ≡ negation (tree c.deref.result.now) = ap tree c.in-Not.is ∙ tree_Not c.in-Not.part ∙ ap (λ (x : Query). negation (tree x)) (sym c.deref.ensures) in
+    told_as g.met.P.Port.lawful (c.begin.ensures docs same) (λ m a. a)
+    (λ m n w a begun. begun_not n docs (tree c.args.query.now) (tree c.deref.result.now) _ c.begin.new.cursors c.begin.result i (c.from-end.ensures ∙ sym same) begun)
 
 -- ---- the parts of an and
 
@@ -66,7 +72,7 @@ begin_each-returns-then-not-begin g t c = λ docs same.
     let formed = subst AreFormed e.parts c.requires.formed in
     let ended : c.begin.result ≡ false = c.if-not-begin.true in
     told_as g.met.P.Port.lawful (c.begin.ensures docs same) (λ m a. a)
-    (λ m n w a begun. each_ends n docs (trees_in c.args.parts.now) (tree c.in-Some.part.now) (trees_in c.in-Some.others.now) c.args.cursors.now c.split_at_mut-own.result.0.now c.split_at_mut-own.result.1.now c.begin.new.cursors e a.narrow formed.1
+    (λ m n w a begun. each_ends n docs (trees_in c.args.parts.now) (tree c.in-Some.part.now) (trees_in c.in-Some.others.now) c.args.cursors.now c.split_at_mut-own.result.0.now c.split_at_mut-own.result.1.now c.begin.new.cursors e a.first.narrow formed.1
     (omega (arith, c.split_at_mut-own.ensures.back_len, c.size.ensures, c.requires.fits, ap sizes e.parts)) (back_clear (trees_in c.args.parts.now) (tree c.in-Some.part.now) (trees_in c.in-Some.others.now) c.args.cursors.now c.split_at_mut-own.result.0.now c.split_at_mut-own.result.1.now e c.requires.clear)
     (subst (λ (b : Bool). Begun docs (tree c.in-Some.part.now) c.begin.new.cursors b n) ended begun))
 
@@ -89,7 +95,7 @@ begin_each-begin_each-requires g t c = λ κs lv.
                 formed.1,
                 (
                   back_clear (trees_in c.args.parts.now) (tree c.in-Some.part.now) (trees_in c.in-Some.others.now) c.args.cursors.now c.split_at_mut-own.result.0.now c.split_at_mut-own.result.1.now e c.requires.clear,
-                  (x.0, r.1, x.1, first_on r.0 x.0 c.args.segment r.1 x.2 r.3, r.4),
+                  (x.0, r.1, x.1, read_on r.0 x.0 c.args.segment r.1 c.args.packed x.2 r.3, r.4),
                 ),
               ),
             ),
@@ -102,7 +108,7 @@ pub begin_each-returns : goal.begin_each-returns
 begin_each-returns g t c = λ docs same.
     let e = front_of c.args.parts.now c.in-Some.part.now c.in-Some.others.now c.args.cursors.now c.split_at_mut-own.result.0.now c.split_at_mut-own.result.1.now c.size.result c.in-Some.ensures.cases.0 c.size.ensures c.split_at_mut-own.ensures.front c.split_at_mut-own.ensures.back in
     told_on g.met.P.Port.lawful g.met.P.Port.keeps_on (c.begin.ensures docs same) (c.begin_each.ensures docs same)
-    (λ l a. a) (λ l m w a begun. first_on l m c.args.segment docs w.later a)
+    (λ l a. a) (λ l m w a begun. read_on l m c.args.segment docs c.args.packed w.later a)
     (λ l m n w1 w2 a begun more. each_goes m n docs (trees_in c.args.parts.now) (tree c.in-Some.part.now) (trees_in c.in-Some.others.now) c.args.cursors.now c.split_at_mut-own.result.0.now c.split_at_mut-own.result.1.now c.begin.new.cursors c.begin_each.new.cursors c.begin.result c.begin_each.result e w2 begun more)
 
 -- ---- the parts of an or
@@ -150,7 +156,7 @@ begin_some-begin_some-other-requires g t c = λ κs lv.
                 formed.1,
                 (
                   back_clear (trees_in c.args.parts.now) (tree c.in-Some.part.now) (trees_in c.in-Some.others.now) c.args.cursors.now c.split_at_mut-own.result.0.now c.split_at_mut-own.result.1.now e c.requires.clear,
-                  (x.0, r.1, x.1, first_on r.0 x.0 c.args.segment r.1 x.2 r.3, r.4),
+                  (x.0, r.1, x.1, read_on r.0 x.0 c.args.segment r.1 c.args.packed x.2 r.3, r.4),
                 ),
               ),
             ),
@@ -163,7 +169,7 @@ pub begin_some-returns-then-some : goal.begin_some-returns-then-some
 begin_some-returns-then-some g t c = λ docs same.
     let e = front_of c.args.parts.now c.in-Some.part.now c.in-Some.others.now c.args.cursors.now c.split_at_mut-own.result.0.now c.split_at_mut-own.result.1.now c.size.result c.in-Some.ensures.cases.0 c.size.ensures c.split_at_mut-own.ensures.front c.split_at_mut-own.ensures.back in
     told_on g.met.P.Port.lawful g.met.P.Port.keeps_on (c.begin-some.ensures docs same) (c.begin_some-other.ensures docs same)
-    (λ l a. a) (λ l m w a begun. first_on l m c.args.segment docs w.later a)
+    (λ l a. a) (λ l m w a begun. read_on l m c.args.segment docs c.args.packed w.later a)
     (λ l m n w1 w2 a begun more. some_goes m n docs (trees_in c.args.parts.now) (tree c.in-Some.part.now) (trees_in c.in-Some.others.now) c.args.cursors.now c.split_at_mut-own.result.0.now c.split_at_mut-own.result.1.now c.begin-some.new.cursors c.begin_some-other.new.cursors c.begin-some.result c.begin_some-other.result c.begin-some.result e
     (λ h. absurd (false≢true (sym h ∙ c.if-some.true))) w2 begun more)
 
@@ -171,6 +177,6 @@ pub begin_some-returns-else-some : goal.begin_some-returns-else-some
 begin_some-returns-else-some g t c = λ docs same.
     let e = front_of c.args.parts.now c.in-Some.part.now c.in-Some.others.now c.args.cursors.now c.split_at_mut-own.result.0.now c.split_at_mut-own.result.1.now c.size.result c.in-Some.ensures.cases.0 c.size.ensures c.split_at_mut-own.ensures.front c.split_at_mut-own.ensures.back in
     told_on g.met.P.Port.lawful g.met.P.Port.keeps_on (c.begin-some.ensures docs same) (c.begin_some-other.ensures docs same)
-    (λ l a. a) (λ l m w a begun. first_on l m c.args.segment docs w.later a)
+    (λ l a. a) (λ l m w a begun. read_on l m c.args.segment docs c.args.packed w.later a)
     (λ l m n w1 w2 a begun more. some_goes m n docs (trees_in c.args.parts.now) (tree c.in-Some.part.now) (trees_in c.in-Some.others.now) c.args.cursors.now c.split_at_mut-own.result.0.now c.split_at_mut-own.result.1.now c.begin-some.new.cursors c.begin_some-other.new.cursors c.begin-some.result c.begin_some-other.result c.begin_some-other.result e
     (λ h. (c.if-some.false, h)) w2 begun more)

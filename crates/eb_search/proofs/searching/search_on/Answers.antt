@@ -49,7 +49,7 @@ returns-clause-loads g c = λ m t st is.
     let same = sym (l.4 ∙ word_count l.0 (g.met.P.Port.lawful _ l.0 l.1)) in
     let y = (c.visible_segments-begun.ensures.words docs same).told l.0 l.1 (prefix_self docs) in
     let few : c.visible_segments-begun.result ≤ y.0.setting.segments = omega (arith, y.4.words.all, cut_short y.0 docs (g.met.P.Port.lawful _ y.0 y.1) y.4.accepted) in
-    let z = (c.walk.ensures.costs t is).told y.0 y.1 few in
+    let z = (c.walk.ensures.costs m t is).told y.0 y.1 (few, later_on m l.0 y.0 l.2 y.2) in
     let zp = later_on l.0 y.0 z.0 y.2 z.2 in
     let now : take c.load-count.result z.0.documents.accepted ≡ docs = ap (λ k. take k z.0.documents.accepted) (sym same) ∙ front_is docs z.0.documents.accepted zp.documents.accepted in
     let segments : c.visible_segments-begun.result ≡ length (cut z.0.setting (take c.load-count.result z.0.documents.accepted)) = y.4.words.all ∙ (λ i. length (cut (z.2.setting i) (sym now i))) in (
@@ -62,7 +62,9 @@ returns-clause-loads g c = λ m t st is.
         c.load-count.ensures.step,
         c.visible_segments-begun.ensures.loads l.0 l.1,
         ap (λ (σ : Setting). σ.segments) zp.setting,
+        ap (λ (σ : Setting). σ.segments) z.2.setting,
+        few,
         z.4,
-        ap (λ k. loads_from z.0 0 k t) segments,
+        ap (λ k. loads_from m z.0 0 k t) segments,
       ),
     )
