@@ -1,8 +1,10 @@
-ghost use Rattle.std.specs.Prelude.{◌≡◌, ◌≤◌, ◌⊎◌, length};
+ghost use Rattle.std.specs.Prelude.{◌≡◌, ℕ, List, ◌≤◌, ◌⊎◌, length};
 ghost use mathlib.Core.List.{IsPrefix};
 ghost use Rattle.eb_base.specs.Match.{answer};
+ghost use Rattle.eb_base.specs.Query.{word};
 ghost use Rattle.eb_cursor.specs.Frames.{query_of, k_of, ids_of};
 ghost use Rattle.eb_place.specs.Moments.{IsMoment};
+ghost use Rattle.eb_engine.specs.Loads.{IsBounded};
 ghost use Rattle.eb_engine.specs.Tokens.{index_of, first_of};
 
 use crate::calls::search_words;
@@ -69,7 +71,10 @@ impl Reader {
     /// holds the ids of the newest `k` of them that its query matches, newest first. They begin with all documents
     /// that this reader knew before, and it knows them from then on. Documents that are added while the search goes
     /// on change nothing of it. The gate is told of the count directly after its load, and the steps count each load
-    /// of a word. The reader must have been made with this index. Takes no memory.
+    /// of a word. A search of a word makes a bounded number of loads (`IsBounded`): one for the count, two for each
+    /// segment of the setting, one for each id, and in each segment that holds one of these documents those that
+    /// find the word and those of its list, which is the packed one where the segment was converted when the search
+    /// began. The reader must have been made with this index. Takes no memory.
     pub fn search<G: Gate, L: Ledger>(
         &mut self,
         index: &Index,
@@ -84,6 +89,8 @@ impl Reader {
         ensures query { query_of frame.new ≡ query_of frame.old }
         ensures k { k_of frame.new ≡ k_of frame.old }
         ensures ids { ids_of frame.new ≡ answer (query_of frame.old) (k_of frame.old) self.new.docs }
+        ensures loads { (t : List ℕ) → query_of frame.old ≡ word t
+            → IsBounded index.now.setting self.old.docs self.new.docs t (length (ids_of frame.new)) steps.old steps.new }
     {
         let count = search_words(&mut self.seat, &index.words, frame, gate, steps);
         self.seen = count;

@@ -1,8 +1,14 @@
-use Rattle.std.proofs.Common.{List, ap, subst}
+use Rattle.std.proofs.Common.{ℕ, ◌≤◌, List, length, ap, sym, ◌∙◌, subst, arith}
+use Rattle.std.proofs.lemmas.List.{length-take-le}
+use Rattle.eb_place.proofs.Laters.{later_on}
+use Rattle.eb_place.proofs.Prefixes.{prefix_length}
+use Rattle.eb_cursor.specs.Frames.{ids_of}
+use Rattle.eb_engine.specs.Loads.{IsWithinBound}
+use Rattle.eb_table.specs.Known.{Words}
 use mathlib.Core.List.{IsPrefix}
 use Rattle.eb_base.specs.Document.{Doc}
 use Rattle.eb_engine.specs.Tokens.{Token, first_of}
-use Rattle.eb_engine.proofs.Knows.{finds_more}
+use Rattle.eb_engine.proofs.Knows.{finds_more, front_of}
 use Rattle.eb_engine.proofs.reader.Reader.search.Goals as goal
 
 pub returns-clause-known : goal.returns-clause-known
@@ -10,3 +16,22 @@ returns-clause-known g c =
     let now = c.search_words-count.new.seat in
     subst (λ (docs : List Doc). IsPrefix docs (first_of c.search_words-count.result now)) (ap (λ (t : Token). t.docs) c.self.view_is)
     (finds_more c.self.inside.seat now c.self.inside.seen c.search_words-count.result _ _ _ c.self.invariant.1 c.search_words-count.ensures.answer)
+
+pub returns-clause-loads : goal.returns-clause-loads
+returns-clause-loads g c = λ t is.
+    let was = c.self.inside.seat.moment in
+    let now = c.search_words-count.new.seat.moment in
+    let e = c.search_words-count.ensures in
+    let all : List Doc = now.documents.accepted in
+    let n : ℕ = c.search_words-count.result in
+    let long : n ≤ length all = omega (arith, e.answer.count, prefix_length _ _ e.answer.before.documents.accepted) in
+    record {
+      was = was;
+      now = now;
+      is = e.made.moment;
+      later = later_on _ _ _ e.answer.after e.answer.before;
+      setting = e.made.setting ∙ ap (λ (w : Words). w.setting) c.index.view_is;
+      knew_then = subst (λ (docs : List Doc). IsPrefix docs was.documents.accepted) (ap (λ (t : Token). t.docs) c.self.view_is) (front_of c.self.inside.seen was.documents.accepted);
+      knows_now = front_of n all;
+      loads = subst (λ k. IsWithinBound was now t k (length (ids_of c.search_words-count.new.frame)) c.args.steps.now c.search_words-count.new.steps) (sym (length-take-le n all long)) (e.loads t is);
+    }

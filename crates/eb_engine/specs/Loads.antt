@@ -1,0 +1,27 @@
+-- How many loads a search of one word makes.
+use Rattle.std.specs.Prelude.{◌≡◌, ℕ, ◌+◌, ◌≤◌, List, length}
+use mathlib.Core.List.{IsPrefix}
+use Rattle.eb_base.specs.Document.{Doc}
+use Rattle.eb_base.specs.Setting.{Setting}
+use Rattle.eb_base.specs.Term.{Term}
+use Rattle.eb_place.specs.declared.moment.Moment.{Moment}
+use Rattle.eb_place.specs.Moments.{IsMoment}
+use Rattle.eb_place.specs.Later.{IsNotBefore}
+use Rattle.eb_search.specs.Bounds.{load_bound}
+
+-- a search of the word from one moment to another, that answered so many ids over so many documents, made no more loads than its
+-- bound
+pub record IsWithinBound (was now : Moment) (t : Term) (counted ids before after : ℕ) : Type 0 where
+  pub few : after ≤ before + load_bound was now counted t ids
+
+-- a search of the word that knew the first documents of the history when it began, knows these when it ends, and answered so many
+-- ids, made no more loads than its bound, from a moment at which what it knew is accepted to one at which what it knows is
+pub record IsBounded (σ : Setting) (knew knows : List Doc) (t : Term) (ids before after : ℕ) : Type 0 where
+  pub was : Moment
+  pub now : Moment
+  pub is : IsMoment now
+  pub later : IsNotBefore now was
+  pub setting : now.setting ≡ σ
+  pub knew_then : IsPrefix knew was.documents.accepted
+  pub knows_now : IsPrefix knows now.documents.accepted
+  pub loads : IsWithinBound was now t (length knows) ids before after
