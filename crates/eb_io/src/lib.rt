@@ -2,6 +2,7 @@
 //! come. `specs/Lines.antt` says what the lines of a text are.
 #![tactic(auto)]
 
+mod count_sink;
 mod front;
 mod lines;
 mod mem_sink;
@@ -14,6 +15,7 @@ mod sure_source;
 mod tests;
 mod write;
 
+pub use count_sink::CountSink;
 pub use lines::{LONGEST_LINE, Lines, Next};
 pub use mem_sink::MemSink;
 pub use mem_source::MemSource;

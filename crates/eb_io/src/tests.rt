@@ -1,6 +1,6 @@
 use crate::{
-    Got, Lines, MemSink, MemSource, Next, Sink, SinkFailed, Source, StdSink, StdSource, SureSource,
-    write_all,
+    CountSink, Got, Lines, MemSink, MemSource, Next, Sink, SinkFailed, Source, StdSink, StdSource,
+    SureSource, write_all,
 };
 use std::io;
 
@@ -84,6 +84,11 @@ fn sinks_take_what_they_have_room_for(rt: HostRuntime) {
     assert_eq!(rt; write_all(&mut sink, b"abcde"), Ok(()));
     assert_eq!(rt; write_all(&mut sink, b"fg"), Err(SinkFailed));
     assert!(rt; sink.bytes() == b"abcdef".as_slice());
+
+    let mut sink = CountSink::new();
+    assert_eq!(rt; write_all(&mut sink, b"abcde"), Ok(()));
+    assert_eq!(rt; sink.put(b"fg"), Ok(2));
+    assert_eq!(rt; sink.count(), 7);
 }
 
 // A reader and writer whose first call works, whose second fails, whose third moves no bytes, and
