@@ -40,14 +40,14 @@ fn leaf(posting: Option<Posting>) -> Cursor {
 }
 
 #[test]
-fn the_term_in_the_lowest_pool_leads_and_then_that_with_the_oldest_newest_posting(rt: HostRuntime) {
+fn the_rarest_term_leads_and_then_that_with_the_oldest_newest_posting(rt: HostRuntime) {
     let leaves = [leaf(Some(900)), leaf(Some(300)), leaf(Some(301))];
     assert_eq!(rt; rarest_leaf(&leaves).number, 1);
     let leaves = [leaf(Some(7)), leaf(Some(7))];
     assert_eq!(rt; rarest_leaf(&leaves).number, 0);
     let leaves = [leaf(Some(7)), leaf(Some(5)), leaf(None)];
     assert_eq!(rt; rarest_leaf(&leaves).number, 2);
-    for (pool, newest, other_pool, other_newest, leads) in [
+    for (frequency, newest, other_frequency, other_newest, leads) in [
         (3, 1, 1, 900, 1),
         (1, 900, 3, 1, 0),
         (3, 900, 3, 1, 1),
@@ -56,10 +56,13 @@ fn the_term_in_the_lowest_pool_leads_and_then_that_with_the_oldest_newest_postin
         let behind = Part {
             number: 0,
             commonness: Commonness {
-                pool: other_pool,
+                frequency: other_frequency,
                 newest: other_newest,
             },
         };
-        assert_eq!(rt; rarer(Commonness { pool, newest }, behind).number, leads);
+        assert_eq!(rt;
+            rarer(Commonness { frequency, newest }, behind).number,
+            leads
+        );
     }
 }
