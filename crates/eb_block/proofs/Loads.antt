@@ -38,3 +38,16 @@ seek_few m n k s t p q r rest after most b c d i j e hp hq hr blocks next words 
     let gq = gap (packed t (segment n s)) (list_start (segment n s) hq.number) q after c hq.reads in
     let gr = gap (packed t (segment k s)) (list_start (segment k s) hr.number) r (up_to most rest) d hr.reads in
     omega (arith, cp, cr, gq, gr)
+
+-- and at most three more than the postings that are passed over
+pub seek_near : (m k : Moment) (s : ℕ) (t : Term) (p q r : PackedList) (rest : List ℕ) (most b d i j e : ℕ)
+    → ListStands m s t p rest b → ListStands k s t r (up_to most rest) d
+    → 128 * j + remaining q ≤ 128 * i + remaining p + 256 → remaining q ≤ remaining p → e + r.inside + r.left ≤ j + q.inside + q.left → remaining r ≤ remaining q
+    → e ≤ i + (length rest - length (up_to most rest)) + 3
+seek_near m k s t p q r rest most b d i j e hp hr blocks less words fewer =
+    let cp = count_left (packed t (segment m s)) (list_start (segment m s) hp.number) p rest b hp.reads in
+    let cr = count_left (packed t (segment k s)) (list_start (segment k s) hr.number) r (up_to most rest) d hr.reads in
+    omega (arith, cp, cr, few p, few q, few r)
+  where
+    few : (p : PackedList) → (p.inside + p.left ≤ remaining p) × (remaining p ≤ p.inside + p.left + 1)
+    few p = elim (cases_Bool p.held) [ inl held ↦ rw held (omega arith, omega arith) | inr free ↦ rw free (omega arith, omega arith) ]

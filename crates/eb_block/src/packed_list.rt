@@ -87,9 +87,18 @@ impl PackedList {
         Some(self.last)
     }
 
+    /// How many postings the list has still to give. Loads nothing.
+    pub fn postings_left(&self) -> u64
+        ensures { (m : Moment) (s : ℕ) (t : Term) (rest : List ℕ) (budget : ℕ)
+            → ListStands m s t self.now rest budget → result ≡ length rest }
+    {
+        u64::from(self.held) + u64::from(self.inside) + u64::from(self.left)
+    }
+
     /// Passes over exactly the postings above `most` that weren't given yet: whole blocks by their headers
-    /// alone, so that it loads one word for each 128 postings that it passes over and at most 66 more. The
-    /// port's moment isn't before that of the opening. Takes no memory.
+    /// alone, so that it loads one word for each 128 postings that it passes over and at most 66 more, and
+    /// never more than three above one for each posting that it passes over. The port's moment isn't before
+    /// that of the opening. Takes no memory.
     pub fn seek<P: Port, L: Ledger>(&mut self, port: &mut P, most: Posting, steps: &mut Steps<L>)
         requires { (m : Moment) × (s : ℕ) × (t : Term) × (rest : List ℕ) × (budget : ℕ)
             × P.stands port.old m × ListStands m s t self.old rest budget }
@@ -100,6 +109,9 @@ impl PackedList {
         ensures loads { (m : Moment) (s : ℕ) (t : Term) (rest : List ℕ) (budget : ℕ)
             → P.stands port.old m → ListStands m s t self.old rest budget
             → steps.new ≤ steps.old + seek_loads (length rest - length (up_to most rest)) }
+        ensures few { (m : Moment) (s : ℕ) (t : Term) (rest : List ℕ) (budget : ℕ)
+            → P.stands port.old m → ListStands m s t self.old rest budget
+            → steps.new ≤ steps.old + (length rest - length (up_to most rest)) + 3 }
     {
         self.seek_block(port, most, steps);
         self.seek_posting(port, most, steps);
@@ -111,6 +123,7 @@ impl PackedList {
             × P.stands port.old m × ListStands m s t self.old rest budget }
         ensures near { IsNear most self.new }
         ensures loads { 128 * steps.new + remaining self.new ≤ 128 * steps.old + remaining self.old + 256 }
+        ensures fewer { remaining self.new ≤ remaining self.old }
         ensures told { (m : Moment) (s : ℕ) (t : Term) (rest : List ℕ) (budget : ℕ)
             → P.stands port.old m → ListStands m s t self.old rest budget
             → (n : Moment) × (after : List ℕ) × (b : ℕ) × P.stands port.new n × IsNotBefore n m × P.keeps port.old m port.new n
@@ -132,6 +145,7 @@ impl PackedList {
         ensures next { self.new.next ≡ self.old.next }
         ensures loads { steps.new + self.old.at ≡ steps.old + self.new.at }
         ensures fewer { remaining self.new ≤ remaining self.old }
+        ensures few { steps.new + self.new.inside + self.new.left ≤ steps.old + self.old.inside + self.old.left }
         ensures told { (m : Moment) (s : ℕ) (t : Term) (rest : List ℕ) (budget : ℕ)
             → P.stands port.old m → ListStands m s t self.old rest budget
             → (n : Moment) × (b : ℕ) × P.stands port.new n × IsNotBefore n m × P.keeps port.old m port.new n
@@ -194,6 +208,7 @@ impl PackedList {
         ensures next { self.new.next ≡ self.old.next }
         ensures loads { steps.new + self.old.at ≡ steps.old + self.new.at }
         ensures fewer { remaining self.new ≤ remaining self.old }
+        ensures few { steps.new + self.new.inside + self.new.left ≤ steps.old + self.old.inside + self.old.left }
         ensures less { result ≡ true → self.new.inside < self.old.inside }
         ensures told { (m : Moment) (s : ℕ) (t : Term) (rest : List ℕ) (budget : ℕ)
             → P.stands port.old m → ListStands m s t self.old rest budget

@@ -97,3 +97,29 @@ answer_nothing q (suc k) = refl
 -- no document is behind the last
 pub answer_first : (q : Tree) (k : ℕ) (docs : List Doc) (end : ℕ) (ids : List ℕ) → end ≡ length docs → ids ≡ [] → ids ≡ answer q k (drop end docs)
 answer_first q k docs end ids e i = i ∙ sym (ap (answer q k) (ap (λ n. drop n docs) e ∙ drop-length docs) ∙ answer_nothing q k)
+
+-- ---- the same behind ids that a frame held before
+
+pub more_next : (q : Tree) (k : ℕ) (before : List ℕ) (docs part : List Doc) (start end : ℕ) (ids ids' : List ℕ) → drop start docs ≡ part ++ drop end docs → ids ≡ before ++ answer q (k - length before) (drop end docs) → ids' ≡ ids ++ answer q (k - length ids) part
+    → ids' ≡ before ++ answer q (k - length before) (drop start docs)
+more_next q k before docs part start end ids ids' e i j =
+    let newer : List ℕ = answer q (k - length before) (drop end docs) in
+    let left : k - length ids ≡ (k - length before) - length newer = omega (arith, ap length i, length-append before newer) in
+    let older : List ℕ = answer q ((k - length before) - length newer) part in
+    j ∙ ap (λ n. ids ++ answer q n part) left ∙ ap (λ (z : List ℕ). z ++ older) i ∙ append_assoc before newer older
+    ∙ ap (λ (z : List ℕ). before ++ z) (answer_next q (k - length before) docs part start end newer (newer ++ older) e refl refl)
+
+pub more_full : (q : Tree) (k : ℕ) (before : List ℕ) (docs : List Doc) (end : ℕ) (ids : List ℕ) → length ids ≡ k → ids ≡ before ++ answer q (k - length before) (drop end docs) → ids ≡ before ++ answer q (k - length before) docs
+more_full q k before docs end ids e i =
+    let newer : List ℕ = answer q (k - length before) (drop end docs) in
+    i ∙ ap (λ (z : List ℕ). before ++ z) (answer_full q (k - length before) docs end newer (omega (arith, ap length i, length-append before newer)) refl)
+
+pub more_first : (q : Tree) (k : ℕ) (before : List ℕ) (docs : List Doc) (end : ℕ) → end ≡ length docs → before ≡ before ++ answer q (k - length before) (drop end docs)
+more_first q k before docs end e =
+    sym (ap (λ (z : List ℕ). before ++ z) (sym (answer_first q (k - length before) docs end [] e refl)) ∙ append-nil before)
+
+-- behind none it is the answer
+pub more_none : (q : Tree) (k : ℕ) (before : List ℕ) (docs : List Doc) (ids : List ℕ) → before ≡ [] → ids ≡ before ++ answer q (k - length before) docs → ids ≡ answer q k docs
+more_none q k before docs ids e i =
+    let all : k - length before ≡ k = omega (arith, ap length e) in
+    i ∙ ap (λ n. before ++ answer q n docs) all ∙ ap (λ (z : List ℕ). z ++ answer q k docs) e

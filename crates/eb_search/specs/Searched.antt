@@ -1,5 +1,5 @@
 -- What a search has found.
-use Rattle.std.specs.Prelude.{◌≡◌, ℕ, List, length}
+use Rattle.std.specs.Prelude.{◌≡◌, ℕ, ◌-◌, List, ◌++◌, length}
 use Rattle.eb_base.specs.Query.{Tree}
 use Rattle.eb_base.specs.Match.{answer}
 use Rattle.eb_place.specs.declared.moment.Moment.{Moment}
@@ -13,3 +13,11 @@ pub record Searched (m n : Moment) (q : Tree) (k counted : ℕ) (found : List �
   pub before : IsNotBefore n loaded
   pub count : counted ≡ length loaded.documents.accepted
   pub ids : found ≡ answer q k loaded.documents.accepted
+
+-- the same where the frame held ids before: those that are found stand behind them, as many as it still took
+pub record SearchedOn (m n : Moment) (q : Tree) (k counted : ℕ) (held found : List ℕ) : Type 0 where
+  pub loaded : Moment
+  pub after : IsNotBefore loaded m
+  pub before : IsNotBefore n loaded
+  pub count : counted ≡ length loaded.documents.accepted
+  pub ids : found ≡ held ++ answer q (k - length held) loaded.documents.accepted

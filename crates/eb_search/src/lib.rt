@@ -7,7 +7,7 @@ mod segment;
 mod visible;
 mod walking;
 
-pub use searching::search;
+pub use searching::{search, search_on};
 
 #[cfg(test)]
 mod tests;

@@ -1,16 +1,29 @@
-ghost use Rattle.std.specs.Prelude.{◌≡◌, ◌≤◌, fold};
+ghost use Rattle.std.specs.Prelude.{◌≡◌, ◌≤◌, ◌%◌, fold};
 ghost use Rattle.eb_place.specs.Placing.{hash, home_cell};
 
 use eb_base::Term;
 
 /// The home cell of a term among this many cells: the cell where the search for the term begins. It is the
-/// rest of the term's hash, of 32 bits, by the number of cells (this project's profile, docs/FORMATS.md).
-/// Takes no memory.
+/// rest of the term's hash, of 32 bits, by the number of cells (this project's profile, docs/FORMATS.md). Where
+/// the cells are a power of two, it is the lowest bits of the hash, and nothing is divided. Takes no memory.
 pub fn home(term: &Term, cells: u32) -> u32
     requires { 1 ≤ cells }
     ensures { result ≡ home_cell cells term.now }
 {
-    hash_of(term) % cells
+    rest(hash_of(term), cells)
+}
+
+// The rest of a number by another one that isn't 0.
+fn rest(number: u32, by: u32) -> u32
+    requires { 1 ≤ by }
+    ensures { result ≡ number % by }
+{
+    let bits = by.trailing_zeros();
+    if bits < 32 && by == 1 << bits {
+        number & ((1 << bits) - 1)
+    } else {
+        number % by
+    }
 }
 
 // The hash of a term: 0, and for each byte 31 times the hash plus the byte, modulo 2^32.

@@ -1,7 +1,7 @@
 use Rattle.std.proofs.Common.{subst, arith}
 use Rattle.eb_place.proofs.Laters.{later_on}
 use Rattle.eb_block.specs.Reading.{ListStands}
-use Rattle.eb_block.proofs.Loads.{seek_few}
+use Rattle.eb_block.proofs.Loads.{seek_few, seek_near}
 use Rattle.eb_block.proofs.packed_list.PackedList.seek.Goals as goal
 
 pub seek_posting-requires-clause-reads : goal.seek_posting-requires-clause-reads
@@ -18,6 +18,12 @@ returns g c = record {
       let end = subst (λ zs. ListStands k.0 s t c.seek_posting.new.self zs k.1) n.8 k.5 in
       seek_few m n.0 k.0 s t c.args.self.now c.seek_block.new.self c.seek_posting.new.self rest n.1 c.args.most b n.2 k.1 c.args.steps.now c.seek_block.new.steps c.seek_posting.new.steps
       h n.6 end c.seek_block.ensures.loads c.seek_posting.ensures.next c.seek_posting.ensures.loads c.seek_posting.ensures.fewer);
+  few = λ m s t rest b st h.
+      (let n = c.seek_block.ensures.told m s t rest b st h in
+      let k = c.seek_posting.ensures.told n.0 s t n.1 n.2 n.3 n.6 in
+      let end = subst (λ zs. ListStands k.0 s t c.seek_posting.new.self zs k.1) n.8 k.5 in
+      seek_near m k.0 s t c.args.self.now c.seek_block.new.self c.seek_posting.new.self rest c.args.most b k.1 c.args.steps.now c.seek_block.new.steps c.seek_posting.new.steps
+      h end c.seek_block.ensures.loads c.seek_block.ensures.fewer c.seek_posting.ensures.few c.seek_posting.ensures.fewer);
   told = λ m s t rest b st h.
       (let n = c.seek_block.ensures.told m s t rest b st h in
       let k = c.seek_posting.ensures.told n.0 s t n.1 n.2 n.3 n.6 in (

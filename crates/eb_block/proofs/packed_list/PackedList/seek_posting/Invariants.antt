@@ -9,6 +9,7 @@ abbrev pub invariant-postings : goal.invariant-postings
 invariant-postings g l =
     IsNear l.most l.self
     × (l.self.next ≡ l.fn.self.next) × (l.steps + l.fn.self.at ≡ l.fn.steps + l.self.at) × (remaining l.self ≤ remaining l.fn.self)
+    × (l.steps + l.self.inside + l.self.left ≤ l.fn.steps + l.fn.self.inside + l.fn.self.left)
     × ((m : Moment) (s : ℕ) (t : Term) (rest : List ℕ) (budget : ℕ) → g.P.Port.stands l.fn.port m → ListStands m s t l.fn.self rest budget
     → (n : Moment) × (after : List ℕ) × (b : ℕ) × g.P.Port.stands l.port n × IsNotBefore n m × g.P.Port.keeps l.fn.port m l.port n
     × ListStands n s t l.self after b × (l.steps + b ≤ l.fn.steps + budget) × (up_to l.most after ≡ up_to l.most rest))
