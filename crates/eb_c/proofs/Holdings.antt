@@ -32,5 +32,7 @@ last_is i words docs h =
 pub last_used : (i : Index) (words : List ℕ) (docs : List Doc) → Holds i words docs → IsUsedBy (used_of i.last) (terms_of (last_of (cut (setting_of i) docs)))
 last_used i words docs h =
     let s = i.begun - 1 in
-    let used : IsUsedBy (used_of i.last) (tokens_in h.moment s) = told_used h.moment s (used_of i.last) (tokens_in h.moment s) (idle_entered h.moment s h.image.moment h.placer.idle) (idle_tokens h.moment s h.image.moment h.placer.idle) h.placer.used in
+    let entered = idle_entered h.moment s h.image.moment h.placer.idle in
+    let tokens = idle_tokens h.moment s h.image.moment h.placer.idle in
+    let used : IsUsedBy (used_of i.last) (tokens_in h.moment s) = told_used h.moment s (used_of i.last) (tokens_in h.moment s) entered tokens h.placer.used in
     subst (λ (seg : List Doc). IsUsedBy (used_of i.last) (terms_of seg)) (last_is i words docs h) used

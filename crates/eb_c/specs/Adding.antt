@@ -59,7 +59,8 @@ docs_after σ docs (Err r) = docs
 
 -- what placing a document behind those of a moment comes to: the words and the placer have it, or there was no room
 abbrev pub WithPlaced : Moment → Flat → Progress → Doc → Bool → Type 0
-WithPlaced m f p d true = (has_room m.setting m.documents.accepted d ≡ true) × (n : Moment) × StandsFor f n × Stands p n × (n.documents.accepted ≡ m.documents.accepted ++ d ∷ [])
+WithPlaced m f p d true =
+    (has_room m.setting m.documents.accepted d ≡ true) × (n : Moment) × StandsFor f n × Stands p n × (n.documents.accepted ≡ m.documents.accepted ++ d ∷ [])
 WithPlaced m f p d false = has_room m.setting m.documents.accepted d ≡ false
 
 -- what adding a document behind these comes to: the index has it, or there was no room and it is as before

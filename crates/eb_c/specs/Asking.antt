@@ -64,10 +64,15 @@ asked_of (question.Refused r column) = refused r column
 abbrev pub written : List ℕ → List ℕ → List ℕ
 written ids room = take (length room) ids ++ drop (length ids) room
 
+-- what is told of a question that is refused
+abbrev pub nothing_told : ℕ → Answer
+nothing_told column = record { seen = 0; count = 0; column = column }
+
 -- what a call answers and tells, and the ids that it writes
 abbrev pub Tells : List Doc → Asked → ℕ → Answer → List ℕ → List ℕ → Type 0
-Tells docs (asks k q) number a old new = (number ≡ 0) × (a ≡ record { seen = length docs; count = length (answer q k docs); column = 0 }) × (new ≡ written (answer q k docs) old)
-Tells docs (refused r column) number a old new = (number ≡ number_of r) × (a ≡ record { seen = 0; count = 0; column = column }) × (new ≡ old)
+Tells docs (asks k q) number a old new =
+    (number ≡ 0) × (a ≡ record { seen = length docs; count = length (answer q k docs); column = 0 }) × (new ≡ written (answer q k docs) old)
+Tells docs (refused r column) number a old new = (number ≡ number_of r) × (a ≡ nothing_told column) × (new ≡ old)
 
 -- so for what is asked, or it is refused since there was no memory for it
 abbrev pub Answers : (Asked → Type 0) → List Doc → ℕ → Answer → List ℕ → List ℕ → Type 0

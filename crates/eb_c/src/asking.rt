@@ -6,7 +6,7 @@ ghost use Rattle.eb_place.specs.declared.moment.Moment.{Moment};
 ghost use Rattle.eb_flat.specs.Flat.{StandsFor};
 ghost use Rattle.eb_cursor.specs.Frames.{query_of, k_of, ids_of};
 ghost use Rattle.eb_c.specs.Holding.{IsBegun, Holds};
-ghost use Rattle.eb_c.specs.Asking.{asked_of, written, Tells};
+ghost use Rattle.eb_c.specs.Asking.{asked_of, written, nothing_told, Tells};
 
 use crate::index::{Answer, Index, begun_setting};
 use crate::reading::Question;
@@ -21,7 +21,7 @@ use std::sync::ledger::{Blank, Ledger};
 
 // What is told of a question that is refused.
 fn refused(column: u64) -> Answer
-    ensures { result ≡ record { seen = 0; count = 0; column = column } }
+    ensures { result ≡ nothing_told column }
 {
     Answer {
         seen: 0,
@@ -60,7 +60,7 @@ pub(crate) fn ask_read(
     answer: &mut Answer,
 ) -> u32
     requires { IsBegun index.now (length words.now) → (docs : List Doc) × Holds index.now words.now docs }
-    ensures not_begun { (IsBegun index.now (length words.now) → ⊥) → (result ≡ 15) × (answer.new ≡ record { seen = 0; count = 0; column = 0 }) × (ids.new ≡ ids.old) }
+    ensures not_begun { (IsBegun index.now (length words.now) → ⊥) → (result ≡ 15) × (answer.new ≡ nothing_told 0) × (ids.new ≡ ids.old) }
     ensures told { (docs : List Doc) → Holds index.now words.now docs → Tells docs (asked_of read) result answer.new ids.old ids.new }
 {
     let Some(config) = begun_setting(index, words.len()) else {

@@ -6,7 +6,7 @@ ghost use Rattle.eb_place.specs.Room.{cut, last_of};
 ghost use Rattle.eb_writer.specs.Counting.{IsUsedBy};
 ghost use Rattle.eb_c.specs.Holding.{setting_of, used_of, IsBegun, Holds};
 ghost use Rattle.eb_c.specs.Adding.{document_in, document_with, Adds};
-ghost use Rattle.eb_c.specs.Asking.{LineAsks, TextAsks, Answers};
+ghost use Rattle.eb_c.specs.Asking.{nothing_told, LineAsks, TextAsks, Answers};
 
 use crate::adding::add_read;
 use crate::asking::ask_read;
@@ -68,7 +68,8 @@ pub extern "C" fn eb_add_line(
 ) -> u32
     requires { IsBegun index.old (length words.old) → (docs : List Doc) × Holds index.old words.old docs }
     ensures not_begun { (IsBegun index.old (length words.old) → ⊥) → result ≡ 15 }
-    ensures added { (docs : List Doc) → Holds index.old words.old docs → Adds (document_in line.now) docs (setting_of index.old) result index.new words.new }
+    ensures added { (docs : List Doc) → Holds index.old words.old docs
+        → Adds (document_in line.now) docs (setting_of index.old) result index.new words.new }
     ensures unchanged { (result ≡ 0 → ⊥) → (words.new ≡ words.old) × (index.new ≡ index.old) }
 {
     add_read(words, index, document_in_line(alloc, line))
@@ -85,7 +86,8 @@ pub extern "C" fn eb_add_text(
 ) -> u32
     requires { IsBegun index.old (length words.old) → (docs : List Doc) × Holds index.old words.old docs }
     ensures not_begun { (IsBegun index.old (length words.old) → ⊥) → result ≡ 15 }
-    ensures added { (docs : List Doc) → Holds index.old words.old docs → Adds (document_with id text.now) docs (setting_of index.old) result index.new words.new }
+    ensures added { (docs : List Doc) → Holds index.old words.old docs
+        → Adds (document_with id text.now) docs (setting_of index.old) result index.new words.new }
     ensures unchanged { (result ≡ 0 → ⊥) → (words.new ≡ words.old) × (index.new ≡ index.old) }
 {
     add_read(words, index, document_with(alloc, id, text))
@@ -105,7 +107,7 @@ pub extern "C" fn eb_ask_line(
     answer: &mut Answer,
 ) -> u32
     requires { IsBegun index.now (length words.now) → (docs : List Doc) × Holds index.now words.now docs }
-    ensures not_begun { (IsBegun index.now (length words.now) → ⊥) → (result ≡ 15) × (ids.new ≡ ids.old) }
+    ensures not_begun { (IsBegun index.now (length words.now) → ⊥) → (result ≡ 15) × (answer.new ≡ nothing_told 0) × (ids.new ≡ ids.old) }
     ensures told { (docs : List Doc) → Holds index.now words.now docs → Answers (LineAsks line.now) docs result answer.new ids.old ids.new }
 {
     ask_read(words, index, question_in_line(alloc, line), ids, answer)
@@ -124,7 +126,7 @@ pub extern "C" fn eb_ask_text(
     answer: &mut Answer,
 ) -> u32
     requires { IsBegun index.now (length words.now) → (docs : List Doc) × Holds index.now words.now docs }
-    ensures not_begun { (IsBegun index.now (length words.now) → ⊥) → (result ≡ 15) × (ids.new ≡ ids.old) }
+    ensures not_begun { (IsBegun index.now (length words.now) → ⊥) → (result ≡ 15) × (answer.new ≡ nothing_told 0) × (ids.new ≡ ids.old) }
     ensures told { (docs : List Doc) → Holds index.now words.now docs → Answers (TextAsks k text.now) docs result answer.new ids.old ids.new }
 {
     ask_read(words, index, question_in_text(alloc, k, text), ids, answer)
@@ -149,8 +151,10 @@ pub extern "C" fn eb_segments(index: &Index) -> u32
 /// How full the last segment is; all 0 where none is begun.
 #[unsafe(no_mangle)]
 pub extern "C" fn eb_last_segment(index: &Index, last: &mut Segment)
-    ensures documents { (words : List ℕ) (docs : List Doc) → Holds index.now words docs → last.new.documents ≡ length (last_of (cut (setting_of index.now) docs)) }
-    ensures used { (words : List ℕ) (docs : List Doc) → Holds index.now words docs → IsUsedBy (used_of last.new) (terms_of (last_of (cut (setting_of index.now) docs))) }
+    ensures documents { (words : List ℕ) (docs : List Doc) → Holds index.now words docs
+        → last.new.documents ≡ length (last_of (cut (setting_of index.now) docs)) }
+    ensures used { (words : List ℕ) (docs : List Doc) → Holds index.now words docs
+        → IsUsedBy (used_of last.new) (terms_of (last_of (cut (setting_of index.now) docs))) }
 {
     *last = index.last;
 }
