@@ -1,0 +1,79 @@
+-- What is asked, and what an answer tells.
+use Rattle.std.specs.Prelude.{◌≡◌, ◌⊎◌, ℕ, ◌-◌, ◌&&◌, Bool, true, false, List, ◌++◌, length, take, drop, codes}
+use Rattle.std.specs.Fmt.{decimal}
+use Rattle.std.specs.Str.{is_utf8}
+use Rattle.eb_base.specs.Document.{Doc}
+use Rattle.eb_base.specs.Query.{Tree}
+use Rattle.eb_base.specs.Match.{answer}
+use Rattle.eb_cursor.specs.Frames.{query_of, k_of}
+use Rattle.eb_query.specs.Reading as reading
+use Rattle.eb_c.specs.declared.index.Answer.{Answer}
+use Rattle.eb_c.specs.declared.refusal.Refusal.{Refusal}
+use Rattle.eb_c.specs.declared.refusal.Refusal.TheVariants as refusal
+use Rattle.eb_c.specs.declared.reading.Question.{Question}
+use Rattle.eb_c.specs.declared.reading.Question.TheVariants as question
+use Rattle.eb_c.specs.Numbers.{number_of}
+use Rattle.eb_c.specs.Adding.{is_long, begins}
+
+-- the newest so many matches are asked for, or the question is refused; a bad query has the column of its fault, others 0
+pub data Asked : Type 0 where
+  asks : ℕ → Tree → Asked
+  refused : Refusal → ℕ → Asked
+
+-- what a query line comes to, with the columns counted from behind so many bytes
+abbrev pub asked_behind : ℕ → reading.Outcome → Asked
+asked_behind n (reading.asks k q) = asks k q
+asked_behind n reading.bad_number = refused refusal.BadNumber 0
+asked_behind n (reading.bad_query column) = refused refusal.BadQuery (column - n)
+asked_behind n reading.too_deep = refused refusal.QueryTooDeep 0
+asked_behind n reading.too_many_nodes = refused refusal.QueryTooLarge 0
+
+-- the line reads so, which begins with a question mark and is UTF-8
+abbrev pub Reads : ℕ → List ℕ → Asked → Type 0
+Reads n line x = (o : reading.Outcome) × reading.ReadsAs line o × (x ≡ asked_behind n o)
+
+-- by whether the line is long, and is a query line
+abbrev pub AsksBy : Bool → Bool → List ℕ → Asked → Type 0
+AsksBy true is_query line x = x ≡ refused refusal.LongLine 0
+AsksBy false true line x = Reads 0 line x
+AsksBy false false line x = x ≡ refused refusal.BadLine 0
+
+-- what a query line asks, which begins with `?` (63)
+abbrev pub LineAsks : List ℕ → Asked → Type 0
+LineAsks line = AsksBy (is_long line) (begins 63 line && is_utf8 line) line
+
+-- what stands before a query text in the line that asks for k matches of it
+abbrev pub line_front : ℕ → List ℕ
+line_front k = codes "?" ++ decimal k ++ codes " "
+
+-- by whether the text is UTF-8
+abbrev pub TextAsksBy : Bool → ℕ → List ℕ → Asked → Type 0
+TextAsksBy true k text x = Reads (length (line_front k)) (line_front k ++ text) x
+TextAsksBy false k text x = x ≡ refused refusal.BadText 0
+
+-- what a query text asks: what the line of `?`, the number, a blank and the text asks, the columns counted in the text
+abbrev pub TextAsks : ℕ → List ℕ → Asked → Type 0
+TextAsks k text = TextAsksBy (is_utf8 text) k text
+
+-- a question stands for what is asked
+abbrev pub asked_of : Question → Asked
+asked_of (question.Asks frame) = asks (k_of frame) (query_of frame)
+asked_of (question.Refused r column) = refused r column
+
+-- the first of these ids, as many as there is room for, in front of the rest of what stood there
+abbrev pub written : List ℕ → List ℕ → List ℕ
+written ids room = take (length room) ids ++ drop (length ids) room
+
+-- what is told of a question that is refused
+abbrev pub nothing_told : ℕ → Answer
+nothing_told column = record { seen = 0; count = 0; column = column }
+
+-- what a call answers and tells, and the ids that it writes
+abbrev pub Tells : List Doc → Asked → ℕ → Answer → List ℕ → List ℕ → Type 0
+Tells docs (asks k q) number a old new =
+    (number ≡ 0) × (a ≡ record { seen = length docs; count = length (answer q k docs); column = 0 }) × (new ≡ written (answer q k docs) old)
+Tells docs (refused r column) number a old new = (number ≡ number_of r) × (a ≡ nothing_told column) × (new ≡ old)
+
+-- so for what is asked, or it is refused since there was no memory for it
+abbrev pub Answers : (Asked → Type 0) → List Doc → ℕ → Answer → List ℕ → List ℕ → Type 0
+Answers IsAsked docs number a old new = (x : Asked) × ((x ≡ refused refusal.NoMemory 0) ⊎ IsAsked x) × Tells docs x number a old new

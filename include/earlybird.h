@@ -1,0 +1,121 @@
+/* Earlybird, an in-memory real-time search index, for C and what calls C.
+ *
+ * The caller keeps all memory of an index: its words, and a struct of numbers. eb_words says how many words a setting
+ * needs, and eb_begin makes an index of them. Then eb_add_line and eb_add_text add documents, and eb_ask_line and
+ * eb_ask_text find the newest that match a query. Link out/libeb_c.a, and liblibc_c.a of the Rattle kit: its calls
+ * take memory from malloc while a line, a text or a query is read, and give it back before they return.
+ *
+ * What is proved of each call is stated beside it: for any documents that the words and the numbers hold, what it
+ * answers and what they hold then. A call tests what it can, and answers EB_NOT_BEGUN where the numbers aren't those of
+ * an index that was begun, or the number of words isn't that of its setting.
+ *
+ * What the caller owes, and no call can test:
+ *  - each pointer leads to as many elements as are named, aligned as C aligns them, and isn't null, even for none;
+ *    what a call writes overlaps nothing else that it is given;
+ *  - words and numbers that pass those tests are as the last call left them, and of one index: copy, move or store them
+ *    only together, between two calls;
+ *  - eb_begin and an add have the index for themselves; asks, and what only reads the numbers, may go on beside one
+ *    another, on any threads;
+ *  - no call from a signal handler, or in the forked child of a process with threads. */
+#ifndef EARLYBIRD_H
+#define EARLYBIRD_H
+
+#include <stddef.h>
+#include <stdint.h>
+
+#ifdef __cplusplus
+extern "C" {
+#endif
+
+/* What a call answers: EB_OK, or why it did nothing. The first ten refusals are those of the program `earlybird`, of the
+ * same names. */
+enum {
+    EB_OK = 0,
+    EB_BAD_LINE = 1,         /* no document line (it begins with '{'), or no query line ('?', UTF-8), as the call wants one */
+    EB_LONG_LINE = 2,        /* a line of more than 65,536 bytes */
+    EB_BAD_JSON = 3,         /* the line isn't one JSON value */
+    EB_BAD_DOCUMENT = 4,     /* no whole number below 2^64 as its "id", or no string as its "text" */
+    EB_TOO_LONG = 5,         /* more than 256 words, or more than 4,096 bytes of them */
+    EB_FULL = 6,             /* no room for the document: the last segment has none, and all segments are begun */
+    EB_BAD_NUMBER = 7,       /* no number of matches from 1 to 1,000 */
+    EB_BAD_QUERY = 8,        /* the query goes wrong at a column, or ends too early there */
+    EB_QUERY_TOO_DEEP = 9,   /* more than 16 parentheses and minuses are open */
+    EB_QUERY_TOO_LARGE = 10, /* the query has more than 64 parts */
+    EB_BAD_TEXT = 11,        /* the text isn't UTF-8 */
+    EB_NO_MEMORY = 12,       /* malloc gave none; it can come for any line and text */
+    EB_BAD_SETTING = 13,     /* the three numbers are no setting */
+    EB_BAD_SIZE = 14,        /* not as many words as the setting needs */
+    EB_NOT_BEGUN = 15        /* the numbers aren't those of an index that was begun, or the number of words isn't that of its setting */
+};
+
+/* How much of a segment is used. It has room for `docs` documents, `terms` distinct terms, 4 * terms text words (1 and the
+ * bytes by eights for each term), and terms, terms / 2, terms / 16 and terms / 128 slices of the four pools, which hold the
+ * postings. */
+struct eb_segment {
+    uint32_t documents, terms, text, pool0, pool1, pool2, pool3;
+};
+
+/* The numbers of an index. Only the calls write them. */
+struct eb_index {
+    uint64_t documents;
+    uint32_t mark, segments, docs, terms, begun;
+    struct eb_segment last;
+};
+
+/* What an ask tells beside the ids; all 0 where it is refused, but the column. */
+struct eb_answer {
+    uint64_t seen;   /* how many documents were accepted: the answer is over all of them */
+    uint64_t count;  /* how many ids the answer has */
+    uint64_t column; /* where EB_BAD_QUERY: the place of the fault, counted in bytes from 1; else 0 */
+};
+
+/* How many words of 64 bits an index of this setting has; 0 where it is none. A setting is 1 to 64 segments with room for
+ * 1 to 16,777,216 documents and for 256 to 1,048,576 distinct terms each, a power of two, of at most 134,217,728 words in
+ * all: 1 + segments * (2 + docs + 77 * terms). */
+uint64_t eb_words(uint32_t segments, uint32_t docs, uint32_t terms);
+
+/* Begins an index of this setting without a document, whatever stood in the words and the numbers before. `words_len` is
+ * exactly eb_words(segments, docs, terms). EB_BAD_SETTING and EB_BAD_SIZE change nothing. */
+uint32_t eb_begin(uint64_t *words, size_t words_len, struct eb_index *index, uint32_t segments, uint32_t docs, uint32_t terms);
+
+/* Adds the document of a line: one JSON object with a number as "id" and a string as "text", without the end of the line.
+ * EB_OK: it is accepted, behind the documents before it, and the next ask finds it. EB_FULL exactly where there is no room
+ * for it. EB_BAD_LINE, EB_LONG_LINE, EB_BAD_JSON, EB_BAD_DOCUMENT, EB_TOO_LONG, EB_NO_MEMORY. Where it isn't EB_OK, nothing
+ * is changed. */
+uint32_t eb_add_line(uint64_t *words, size_t words_len, struct eb_index *index, const unsigned char *line, size_t line_len);
+
+/* Adds the document of an id and a text, as eb_add_line does. EB_BAD_TEXT, EB_TOO_LONG, EB_FULL, EB_NO_MEMORY. */
+uint32_t eb_add_text(uint64_t *words, size_t words_len, struct eb_index *index, uint64_t id, const unsigned char *text, size_t text_len);
+
+/* Answers a query line, as "?10 train", without the end of the line, over all accepted documents. EB_OK: `ids` has the ids of
+ * the newest that match, newest first, as many as there is room for (`ids_len`; 1,000 is always enough), and `answer`
+ * says how many there are. EB_BAD_LINE, EB_LONG_LINE, EB_BAD_NUMBER, EB_BAD_QUERY, EB_QUERY_TOO_DEEP,
+ * EB_QUERY_TOO_LARGE, EB_NO_MEMORY. Where it isn't EB_OK, no id is written. */
+uint32_t eb_ask_line(const uint64_t *words, size_t words_len, const struct eb_index *index, const unsigned char *line, size_t line_len,
+                     uint64_t *ids, size_t ids_len, struct eb_answer *answer);
+
+/* Answers a query text, as "train -late", of which the newest `k` matches are wanted, 1 to 1,000, as eb_ask_line does. The
+ * column is counted in the text. EB_BAD_TEXT, and no EB_BAD_LINE or EB_LONG_LINE. */
+uint32_t eb_ask_text(const uint64_t *words, size_t words_len, const struct eb_index *index, uint32_t k, const unsigned char *text, size_t text_len,
+                     uint64_t *ids, size_t ids_len, struct eb_answer *answer);
+
+/* How many documents are accepted; how many segments are begun; how much of the last of them is used, all 0 where none is
+ * begun. These look at the numbers alone, and take them as they are. */
+uint64_t eb_documents(const struct eb_index *index);
+uint32_t eb_segments(const struct eb_index *index);
+void eb_last_segment(const struct eb_index *index, struct eb_segment *last);
+
+/* The name of what a call answers. */
+static inline const char *eb_name(uint32_t number) {
+    static const char *const names[] = {
+        "ok", "bad line", "long line", "bad json", "bad document", "too long", "full", "bad number", "bad query",
+        "query too deep", "query too large", "bad text", "no memory", "bad setting", "bad size", "not begun",
+    };
+    return number < sizeof names / sizeof *names ? names[number] : "unknown";
+}
+
+#ifdef __cplusplus
+}
+#endif
+
+#endif
