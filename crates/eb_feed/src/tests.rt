@@ -1,0 +1,2 @@
+mod row;
+mod table;
