@@ -1,5 +1,6 @@
 //! The tests, by what they show, and what they make their indexes of.
 mod asking;
+mod bounds;
 mod chains;
 mod cursors;
 mod dictionary;

@@ -1,0 +1,134 @@
+//! How many words a search of a word in a converted segment loads, by a port that counts its own loads.
+ghost use Rattle.std.specs.Prelude.{◌≡◌, ◌<◌, ◌≤◌, IfOk};
+ghost use Rattle.eb_place.specs.declared.moment.Moment.{Moment};
+ghost use Rattle.eb_trials.specs.Recorded.{IsRecord};
+
+use super::made::{add_all, document};
+use crate::RecordingPen;
+use eb_base::{Config, Document, OpenGate, Query, Term};
+use eb_convert::{Converted, convert_next};
+use eb_cursor::Frame;
+use eb_place::{Port, Steps};
+use eb_search::search;
+use eb_writer::Placer;
+use std::alloc::Global;
+use std::marker::Brand;
+use std::sync::ledger::{Blank, Ledger};
+use std::test::Fail;
+
+// A port that counts its own loads.
+#[derive(Drop)]
+struct CountedWords {
+    words: RecordingPen,
+    loads: u64,
+}
+
+impl Port for CountedWords {
+    ghost use Rattle.std.proofs.Common.{refl, ◌∙◌};
+    ghost use Rattle.eb_trials.specs.Recorded.{IsRecord};
+
+    ghost stands = { λ s m. IsRecord s.words m };
+
+    ghost keeps = { λ s m t n. (t.words ≡ s.words) × (n ≡ m) };
+
+    ghost same = { λ s t. t.words.words.setting ≡ s.words.words.setting };
+
+    fn config(&self) -> Config {
+        self.words.config()
+    }
+
+    fn load<L: Ledger>(&mut self, place: u64, steps: &mut Steps<L>) -> u64 {
+        self.loads = self.loads.wrapping_add(1);
+        self.words.load(place, steps)
+    }
+
+    ghost lawful = { λ s m h. h.words.moment };
+
+    ghost keeps_itself = { λ s m h. (refl, refl) };
+
+    ghost keeps_on = { λ s t u l m n h k. (k.0 ∙ h.0, k.1 ∙ h.1) };
+
+    ghost keeps_same = { λ s t m n h. λ i. (h.0 i).words.setting };
+
+    ghost same_on = { λ s t u h k. k ∙ h };
+}
+
+// Converts the next segment, if there is one.
+fn convert(pen: &mut RecordingPen) -> Option<Converted>
+    requires { (m : Moment) × IsRecord pen.old m }
+    ensures { (m : Moment) × IsRecord pen.new m }
+{
+    let segment = pen.converted();
+    if segment >= pen.config().segments() || !pen.is_whole() {
+        return None;
+    }
+    Some(convert_next(pen, segment))
+}
+
+// An index that holds these documents, and whose first segment is converted.
+fn converted(alloc: Global, config: Config, documents: &[Document]) -> Result<RecordingPen, Fail>
+    ensures { IfOk result (λ pen. (m : Moment) × IsRecord pen m) }
+{
+    let mut pen = RecordingPen::new(alloc, config)?;
+    let mut placer = Placer::new(config);
+    if !add_all(&mut placer, &mut pen, documents) {
+        return Err(Fail::new("full"));
+    }
+    if convert(&mut pen) != Some(Converted::One(0)) {
+        return Err(Fail::new("not converted"));
+    }
+    Ok(pen)
+}
+
+// A search, with steps of its own.
+fn search_alone<L: Ledger>(words: &mut CountedWords, frame: &mut Frame, blank: Blank) -> u64
+    requires blank { (blank.name ≡ L.name) × (blank.parts ≡ L.parts) × (0 < blank.parts) }
+    requires words { (m : Moment) × IsRecord words.old.words m }
+{
+    let mut steps = Steps::<L>::new(blank);
+    search(words, frame, &OpenGate, &mut steps)
+}
+
+// A search for a word in an index that holds these documents, and whose first segment is converted: how many
+// documents it saw, the frame with the ids, and how many loads it made.
+fn searched(
+    alloc: Global,
+    config: Config,
+    documents: &[Document],
+    word: &[u8],
+    k: u32,
+) -> Result<(u64, Frame, u64), Fail>
+    requires { (1 ≤ k) × (k ≤ 1000) }
+{
+    let mut frame = Frame::new(alloc, Query::Word(Term::new(alloc, word)?), k)?;
+    let mut words = CountedWords {
+        words: converted(alloc, config, documents)?,
+        loads: 0,
+    };
+    let count = search_alone::<Brand>(&mut words, &mut frame, Blank::new(1));
+    Ok((count, frame, words.loads))
+}
+
+#[test]
+fn a_search_of_a_word_loads_the_packed_words(rt: HostRuntime) -> Result<(), Fail> {
+    let alloc = rt.alloc();
+    let few = [document(alloc, 7, b"ab b ab")?, document(alloc, 8, b"b")?];
+    let (count, frame, loads) = searched(alloc, Config::new(2, 1, 256)?, &few, b"b", 10)?;
+    assert_eq!(rt; count, 2);
+    assert_eq!(rt; frame.ids(), [8, 7].as_slice());
+    assert!(rt; loads <= 32, "{loads}");
+    // The 128 postings of `a` are 19 packed words; over their slices the same search makes 131 loads for them.
+    let mut many = Vec::new(alloc);
+    let mut newest_first = Vec::new(alloc);
+    for id in 1..129 {
+        many.push(document(alloc, id, b"a")?)?;
+        newest_first.push(129 - id)?;
+    }
+    many.push(document(alloc, 129, b"b")?)?;
+    let config = Config::new(2, 128, 256)?;
+    let (count, frame, loads) = searched(alloc, config, many.as_slice(), b"a", 1000)?;
+    assert_eq!(rt; count, 129);
+    assert_eq!(rt; frame.ids(), newest_first.as_slice());
+    assert!(rt; loads <= 169, "{loads}");
+    Ok(())
+}
