@@ -5,9 +5,11 @@
 
 mod growing;
 mod recording;
+mod searching;
 
 pub use growing::{GrowingPort, Pace};
 pub use recording::RecordingPen;
+pub use searching::{Answer, SearchingPen};
 
 #[cfg(test)]
 mod tests;

@@ -10,7 +10,7 @@ use std::sync::ledger::Ledger;
 
 /// Words in a vector, and all stores that were done to them, in order, as pairs of place and value: a
 /// writer's and a converter's pen whose stores can be looked at, and how many segments are converted.
-/// Where there is no memory for a store it is done and not recorded, and the record says so.
+/// Where there is no memory for a store it is done and not recorded, nor is one after it, and the record says so.
 #[derive(Drop)]
 pub struct RecordingPen {
     words: FlatWords,
@@ -37,6 +37,15 @@ impl RecordingPen {
             converted: 0,
             is_whole: true,
         })
+    }
+
+    /// The same, of which no store is recorded: a store takes no memory.
+    pub fn unrecorded(alloc: Global, config: Config) -> Result<RecordingPen, NoMemory>
+        ensures { IfOk result (λ pen. IsRecord pen (empty_moment config)) }
+    {
+        let mut pen = RecordingPen::new(alloc, config)?;
+        pen.has_lost = true;
+        Ok(pen)
     }
 
     /// Whether a store was not recorded.
@@ -127,6 +136,9 @@ impl Port for RecordingPen {
 impl Pen for RecordingPen {
     fn store(&mut self, document: &Document, place: u64, value: u64) {
         self.words.store(document, place, value);
+        if self.has_lost {
+            return;
+        }
         if self.stores.push((place, value)).is_err() {
             self.has_lost = true;
         }
@@ -141,6 +153,9 @@ impl PackPen for RecordingPen {
         self.words.put(place, value);
         self.converted += u32::from(is_last);
         self.is_whole = is_last;
+        if self.has_lost {
+            return;
+        }
         if self.puts.push((place, value)).is_err() {
             self.has_lost = true;
         }

@@ -100,7 +100,7 @@ fn next(number: u64) -> u64 {
 }
 
 // So many documents of none to five of the words `a`, `b` and `c`, made by a rule.
-fn made(alloc: Global, count: usize) -> Result<Vec<Document>, Fail> {
+pub(super) fn made(alloc: Global, count: usize) -> Result<Vec<Document>, Fail> {
     let mut documents = Vec::new(alloc);
     let mut number = 7;
     for id in 0..count {

@@ -3,8 +3,9 @@ ghost use Rattle.std.specs.Prelude.{◌≡◌, ◌<◌, ℕ, List, IfOk, MatchOp
 ghost use Rattle.eb_place.specs.declared.moment.Moment.{Moment};
 ghost use Rattle.eb_block.specs.Reading.{ListStands};
 ghost use Rattle.eb_trials.specs.Recorded.{IsRecord};
+ghost use Rattle.eb_writer.specs.Progress.{Stands};
 
-use super::made::{add_all, document};
+use super::made::{add_all, added, document};
 use crate::RecordingPen;
 use eb_base::{Config, Document, Term};
 use eb_block::PackedList;
@@ -270,61 +271,179 @@ fn is_packed<L: Ledger>(
     )
 }
 
-// A made document by its number: `a` once to three times, then `b`, `c` and `e`, ever rarer.
-fn made(alloc: Global, number: u64) -> Result<Document, Fail> {
+// A list of a term whose greatest difference of two postings has so many bits: it stands in as many documents
+// as it has postings, from the first on but for its last one.
+#[derive(Clone, Copy)]
+struct Wide {
+    bits: u32,
+    postings: u64,
+}
+
+impl Wide {
+    // The number of the last document that it stands in. Where it is the first word of each, 9 bits hold the
+    // difference from one document to the next.
+    fn last(self) -> u64 {
+        let gap = if self.bits < 10 {
+            0
+        } else {
+            1u64.wrapping_shl(self.bits.wrapping_sub(9))
+        };
+        self.postings.wrapping_sub(1).wrapping_add(gap)
+    }
+
+    // Whether it stands in a document.
+    fn has(self, document: u64) -> bool {
+        document < self.postings.wrapping_sub(1) || document == self.last()
+    }
+}
+
+// The lists: the first has eleven blocks, the second one posting, and the others have greatest differences of
+// all numbers of bits from 9 to 32.
+fn wide_lists(alloc: Global) -> Result<Vec<Wide>, Fail> {
+    let mut lists = Vec::new(alloc);
+    lists.push(Wide {
+        bits: 9,
+        postings: 1399,
+    })?;
+    lists.push(Wide {
+        bits: 0,
+        postings: 1,
+    })?;
+    for bits in 9..=32 {
+        for postings in [2, 3, 128] {
+            lists.push(Wide { bits, postings })?;
+        }
+    }
+    Ok(lists)
+}
+
+// The word of a list.
+fn put_word(text: &mut Vec<u8>, list: usize) -> Result<(), Fail> {
+    text.push(b'0' + (list / 10 % 10) as u8)?;
+    text.push(b'0' + (list % 10) as u8)?;
+    Ok(())
+}
+
+// The document of this number: the words of the lists that stand in it, in order.
+fn with_lists(alloc: Global, lists: &[Wide], number: u64) -> Result<Document, Fail> {
     let mut text = Vec::new(alloc);
-    for _ in 0..=number % 3 {
-        text.extend_from_slice(b"a ")?;
-    }
-    if number % 5 == 0 {
-        text.extend_from_slice(b"b ")?;
-    }
-    if number % 101 == 0 {
-        text.extend_from_slice(b"c ")?;
-    }
-    if number == 0 || number == 699 {
-        text.extend_from_slice(b"e ")?;
+    for at in 0..lists.len() {
+        if lists[at].has(number) {
+            put_word(&mut text, at)?;
+            text.push(b' ')?;
+        }
     }
     document(alloc, number, text.as_slice())
 }
 
-// The postings of a word in documents of one segment, rising.
-fn postings_of(alloc: Global, documents: &[Document], word: &[u8]) -> Result<Vec<Posting>, Fail> {
+// A document whose word `n` stands twice, with a difference of so many bits.
+fn narrow(alloc: Global, bits: u32) -> Result<Document, Fail> {
+    let mut text = Vec::new(alloc);
+    text.push(b'n')?;
+    text.push(b'0' + (bits % 10) as u8)?;
+    text.push(b' ')?;
+    for _ in 1..1u32.wrapping_shl(bits.wrapping_sub(1)) {
+        text.extend_from_slice(b"f ")?;
+    }
+    text.push(b'n')?;
+    text.push(b'0' + (bits % 10) as u8)?;
+    document(alloc, 0, text.as_slice())
+}
+
+// The postings of a list, rising: in each document the lists before it stand before it.
+fn postings_of(alloc: Global, lists: &[Wide], list: usize) -> Result<Vec<Posting>, Fail> {
     let mut postings = Vec::new(alloc);
-    let mut first: Posting = 0;
-    for document in documents {
-        let mut posting = first;
-        for term in document.terms().as_slice() {
-            if term.bytes() == word {
-                postings.push(posting)?;
+    if list >= lists.len() {
+        return Ok(postings);
+    }
+    let wide = lists[list];
+    for number in 0..wide.postings {
+        let document = if number == wide.postings.wrapping_sub(1) {
+            wide.last()
+        } else {
+            number
+        };
+        let mut posting = document.wrapping_mul(256);
+        for before in &lists[..list] {
+            if before.has(document) {
+                posting = posting.wrapping_add(1);
             }
-            posting = posting.saturating_add(1);
         }
-        first = first.saturating_add(256);
+        postings.push(Posting::try_from(posting)?)?;
     }
     Ok(postings)
+}
+
+// Adds an empty document until there are so many in all.
+fn fill(placer: &mut Placer, pen: &mut RecordingPen, empty: &Document, from: u64, upto: u64)
+    requires { (m : Moment) × IsRecord pen.old m × Stands placer.old m }
+    ensures { (m : Moment) × IsRecord pen.new m × Stands placer.new m }
+{
+    for _ in from..upto {
+        let _ = added(placer, pen, empty);
+    }
+}
+
+// Puts the numbers of the documents behind the first 2,009 that a list stands in.
+fn put_last(lists: &[Wide], numbers: &mut Vec<u64>) -> Result<(), Fail> {
+    for list in lists {
+        if list.last() >= 2009 {
+            numbers.push(list.last())?;
+        }
+    }
+    Ok(())
+}
+
+// An index of two segments whose first one has the lists, and from its document 2,001 on the eight narrow ones.
+fn with_all_widths(alloc: Global, lists: &[Wide]) -> Result<RecordingPen, Fail>
+    ensures { IfOk result (λ pen. (m : Moment) × IsRecord pen m) }
+{
+    let config = Config::new(2, 8_388_800, 1024)?;
+    let mut pen = RecordingPen::unrecorded(alloc, config)?;
+    let mut placer = Placer::new(config);
+    let empty = document(alloc, 0, b"")?;
+    let mut done = 0u64;
+    for number in 0..2001 {
+        let _ = added(&mut placer, &mut pen, &with_lists(alloc, lists, number)?);
+        done = done.wrapping_add(1);
+    }
+    for bits in 1..=8 {
+        let _ = added(&mut placer, &mut pen, &narrow(alloc, bits)?);
+        done = done.wrapping_add(1);
+    }
+    let mut numbers = Vec::new(alloc);
+    put_last(lists, &mut numbers)?;
+    for number in numbers {
+        fill(&mut placer, &mut pen, &empty, done, number);
+        let _ = added(&mut placer, &mut pen, &with_lists(alloc, lists, number)?);
+        done = number.wrapping_add(1);
+    }
+    fill(&mut placer, &mut pen, &empty, done, 8_388_801);
+    Ok(pen)
 }
 
 #[test]
 fn packed_lists_are_walked_and_leapt_over(rt: HostRuntime) -> Result<(), Fail> {
     let alloc = rt.alloc();
-    let config = Config::new(2, 700, 256)?;
-    let mut documents = Vec::new(alloc);
-    for number in 0..701 {
-        documents.push(made(alloc, number)?)?;
-    }
-    let mut pen = placed(alloc, config, documents.as_slice())?;
+    let lists = wide_lists(alloc)?;
+    let mut pen = with_all_widths(alloc, lists.as_slice())?;
     let done = convert_all(alloc, &mut pen, 1)?;
     assert_eq!(rt; done.as_slice(), [Converted::One(0)].as_slice());
-    let Some(closed) = documents.as_slice().get(..700) else {
-        return Err(Fail::new("too few documents"));
-    };
-    for (word, many) in [(b"a", 1399), (b"b", 140), (b"c", 7), (b"e", 2)] {
-        let postings = postings_of(alloc, closed, word)?;
-        assert_eq!(rt; postings.len(), many);
-        let term = Term::new(alloc, word)?;
-        let list = is_packed::<Brand>(alloc, &mut pen, &term, postings.as_slice(), Blank::new(1))?;
-        assert!(rt; list, "{many}");
+    for list in 0..lists.len() {
+        let postings = postings_of(alloc, lists.as_slice(), list)?;
+        let mut word = Vec::new(alloc);
+        put_word(&mut word, list)?;
+        let term = Term::new(alloc, word.as_slice())?;
+        let is = is_packed::<Brand>(alloc, &mut pen, &term, postings.as_slice(), Blank::new(1))?;
+        assert!(rt; is, "{list}");
+    }
+    for bits in 1..=8u32 {
+        let word = [b'n', b'0' + (bits % 10) as u8];
+        let first = (2000 + bits) * 256;
+        let postings = [first, first + 1u32.wrapping_shl(bits - 1)];
+        let term = Term::new(alloc, &word)?;
+        let is = is_packed::<Brand>(alloc, &mut pen, &term, &postings, Blank::new(1))?;
+        assert!(rt; is, "{bits}");
     }
     Ok(())
 }

@@ -71,3 +71,17 @@ returns-else-is_err c m h n =
       },
       w.1,
     )
+
+pub returns-then-self : goal.returns-then-self
+returns-then-self c m h n =
+    let w = c.put.ensures m h.words n in
+    let k = left (goal.at.returns-then-self c).After-from m h n in (
+      record {
+        words = w.0;
+        stores = λ e. absurd (false≢true (sym e ∙ c.if-self.true));
+        converted = k.converted ∙ ap (λ j. j + (if eqb c.args.place c.converted.result then 1 else 0)) h.converted
+            ∙ ap (λ j. c.args.self.now.converted + j) (sym (c.from.ensures ∙ byte (eqb c.args.place c.converted.result)));
+        whole = k.whole;
+      },
+      w.1,
+    )

@@ -5,5 +5,8 @@ use Rattle.eb_trials.proofs.tests.packing.packed_lists_are_walked_and_leapt_over
 abbrev pub ghosts-is_packed : goal.ghosts-is_packed
 ghosts-is_packed g a = record { name = a.blank.name; parts = a.blank.parts }
 
-abbrev pub invariant-loop-word : goal.invariant-loop-word
-invariant-loop-word g l = (m : Moment) × IsRecord l.pen m
+abbrev pub invariant-loop-list : goal.invariant-loop-list
+invariant-loop-list g l = (m : Moment) × IsRecord l.pen m
+
+abbrev pub invariant-loop-bits : goal.invariant-loop-bits
+invariant-loop-bits g l = (m : Moment) × IsRecord l.pen m

@@ -1,0 +1,4 @@
+use Rattle.eb_trials.proofs.searching.SearchingPenPackPen.put.Given as goal
+
+abbrev pub ghosts-look : goal.ghosts-look
+ghosts-look a = record { name = a.blank.name; parts = a.blank.parts }
