@@ -9,7 +9,7 @@ use Rattle.eb_writer.specs.Progress.{Stands}
 use Rattle.eb_c.specs.declared.index.Index.{Index}
 use Rattle.eb_c.specs.declared.refusal.Refusal.{Refusal}
 use Rattle.eb_c.specs.declared.refusal.Refusal.TheVariants.{NoMemory as out_of_memory}
-use Rattle.eb_c.specs.Holding.{progress_of, Holds}
+use Rattle.eb_c.specs.Holding.{progress_of, Holds, IsIndex}
 use Rattle.eb_c.specs.Adding.{number_after, docs_after, Adds, WithAdded}
 
 pub adds_read : (σ : Setting) (docs : List Doc) (read r : Result Doc Refusal) (number : ℕ) (i : Index) (words : List ℕ) → (read ≡ Err out_of_memory) ⊎ (read ≡ r)
@@ -29,3 +29,8 @@ with_added σ docs d placed i words f n taken room mark image placer accepted sa
       accepted = accepted;
     } in
     subst (λ (b : Bool). WithAdded σ docs d b i words) (sym taken) (room, holds)
+
+-- it is an index still
+pub adds_index : (r : Result Doc Refusal) (docs : List Doc) (σ : Setting) (number : ℕ) (i : Index) (words : List ℕ) → Adds r docs σ number i words → IsIndex i words
+adds_index r docs σ number i words (inl h) = (docs, h.1)
+adds_index r docs σ number i words (inr h) = (docs_after σ docs r, h.1)

@@ -34,3 +34,7 @@ pub record Holds (i : Index) (words : List ℕ) (docs : List Doc) : Type 0 where
   pub image : StandsFor (record { setting = setting_of i; words = words }) moment
   pub placer : Stands (progress_of i) moment
   pub accepted : moment.documents.accepted ≡ docs
+
+-- the words and the numbers are an index
+abbrev pub IsIndex : Index → List ℕ → Type 0
+IsIndex i words = (docs : List Doc) × Holds i words docs

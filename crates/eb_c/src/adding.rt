@@ -4,7 +4,7 @@ ghost use Rattle.eb_base.specs.Document.{Doc};
 ghost use Rattle.eb_place.specs.declared.moment.Moment.{Moment};
 ghost use Rattle.eb_flat.specs.Flat.{StandsFor};
 ghost use Rattle.eb_writer.specs.Progress.{Stands};
-ghost use Rattle.eb_c.specs.Holding.{setting_of, IsBegun, Holds};
+ghost use Rattle.eb_c.specs.Holding.{setting_of, IsBegun, Holds, IsIndex};
 ghost use Rattle.eb_c.specs.Adding.{WithPlaced, WithAdded, number_after, docs_after};
 
 use crate::index::{Index, begun_setting, index_of, placer_of};
@@ -30,7 +30,7 @@ fn place(words: &mut LentWordsMut<'_>, placer: &mut Placer, document: &Document)
 // Adds a document to an index of this setting. False exactly where there is no room for it; all is then as before.
 fn add(words: &mut [u64], index: &mut Index, config: Config, document: &Document) -> bool
     requires setting { config ≡ setting_of index.old }
-    requires kept { (docs : List Doc) × Holds index.old words.old docs }
+    requires kept { IsIndex index.old words.old }
     ensures added { (docs : List Doc) → Holds index.old words.old docs → WithAdded (setting_of index.old) docs document.now result index.new words.new }
     ensures unchanged { result ≡ false → (words.new ≡ words.old) × (index.new ≡ index.old) }
 {
@@ -45,7 +45,7 @@ fn add(words: &mut [u64], index: &mut Index, config: Config, document: &Document
 
 // Adds what was read of a document to an index that was begun: 0, or the number of the refusal.
 pub(crate) fn add_read(words: &mut [u64], index: &mut Index, read: Result<Document, Refusal>) -> u32
-    requires { IsBegun index.old (length words.old) → (docs : List Doc) × Holds index.old words.old docs }
+    requires { IsBegun index.old (length words.old) → IsIndex index.old words.old }
     ensures not_begun { (IsBegun index.old (length words.old) → ⊥) → result ≡ 15 }
     ensures number { (docs : List Doc) → Holds index.old words.old docs → result ≡ number_after (setting_of index.old) docs read }
     ensures index { (docs : List Doc) → Holds index.old words.old docs → Holds index.new words.new (docs_after (setting_of index.old) docs read) }

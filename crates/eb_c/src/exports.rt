@@ -4,7 +4,7 @@ ghost use Rattle.eb_base.specs.Setting.{Setting, IsSetting, words_of};
 ghost use Rattle.eb_place.specs.Postings.{terms_of};
 ghost use Rattle.eb_place.specs.Room.{cut, last_of};
 ghost use Rattle.eb_writer.specs.Counting.{IsUsedBy};
-ghost use Rattle.eb_c.specs.Holding.{setting_of, used_of, IsBegun, Holds};
+ghost use Rattle.eb_c.specs.Holding.{setting_of, used_of, IsBegun, Holds, IsIndex};
 ghost use Rattle.eb_c.specs.Adding.{document_in, document_with, Adds};
 ghost use Rattle.eb_c.specs.Asking.{nothing_told, LineAsks, TextAsks, Answers};
 
@@ -39,7 +39,9 @@ pub extern "C" fn eb_begin(
     terms: u32,
 ) -> u32
     ensures begun { let σ : Setting = record { segments = segments; docs = docs; terms = terms } in
-        IsSetting σ → length words.old ≡ words_of σ → (result ≡ 0) × (setting_of index.new ≡ σ) × Holds index.new words.new [] }
+        IsSetting σ → length words.old ≡ words_of σ → result ≡ 0 }
+    ensures index { let σ : Setting = record { segments = segments; docs = docs; terms = terms } in
+        result ≡ 0 → (setting_of index.new ≡ σ) × Holds index.new words.new [] }
     ensures size { let σ : Setting = record { segments = segments; docs = docs; terms = terms } in
         IsSetting σ → (length words.old ≡ words_of σ → ⊥) → result ≡ 14 }
     ensures setting { let σ : Setting = record { segments = segments; docs = docs; terms = terms } in (IsSetting σ → ⊥) → result ≡ 13 }
@@ -66,7 +68,7 @@ pub extern "C" fn eb_add_line(
     index: &mut Index,
     line: &[u8],
 ) -> u32
-    requires { IsBegun index.old (length words.old) → (docs : List Doc) × Holds index.old words.old docs }
+    requires { IsBegun index.old (length words.old) → IsIndex index.old words.old }
     ensures not_begun { (IsBegun index.old (length words.old) → ⊥) → result ≡ 15 }
     ensures added { (docs : List Doc) → Holds index.old words.old docs
         → Adds (document_in line.now) docs (setting_of index.old) result index.new words.new }
@@ -84,7 +86,7 @@ pub extern "C" fn eb_add_text(
     id: u64,
     text: &[u8],
 ) -> u32
-    requires { IsBegun index.old (length words.old) → (docs : List Doc) × Holds index.old words.old docs }
+    requires { IsBegun index.old (length words.old) → IsIndex index.old words.old }
     ensures not_begun { (IsBegun index.old (length words.old) → ⊥) → result ≡ 15 }
     ensures added { (docs : List Doc) → Holds index.old words.old docs
         → Adds (document_with id text.now) docs (setting_of index.old) result index.new words.new }
@@ -106,7 +108,7 @@ pub extern "C" fn eb_ask_line(
     ids: &mut [u64],
     answer: &mut Answer,
 ) -> u32
-    requires { IsBegun index.now (length words.now) → (docs : List Doc) × Holds index.now words.now docs }
+    requires { IsBegun index.now (length words.now) → IsIndex index.now words.now }
     ensures not_begun { (IsBegun index.now (length words.now) → ⊥) → (result ≡ 15) × (answer.new ≡ nothing_told 0) × (ids.new ≡ ids.old) }
     ensures told { (docs : List Doc) → Holds index.now words.now docs → Answers (LineAsks line.now) docs result answer.new ids.old ids.new }
 {
@@ -125,7 +127,7 @@ pub extern "C" fn eb_ask_text(
     ids: &mut [u64],
     answer: &mut Answer,
 ) -> u32
-    requires { IsBegun index.now (length words.now) → (docs : List Doc) × Holds index.now words.now docs }
+    requires { IsBegun index.now (length words.now) → IsIndex index.now words.now }
     ensures not_begun { (IsBegun index.now (length words.now) → ⊥) → (result ≡ 15) × (answer.new ≡ nothing_told 0) × (ids.new ≡ ids.old) }
     ensures told { (docs : List Doc) → Holds index.now words.now docs → Answers (TextAsks k text.now) docs result answer.new ids.old ids.new }
 {

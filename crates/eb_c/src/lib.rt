@@ -20,3 +20,6 @@ pub use exports::{
 };
 pub use index::{Answer, Index, Segment};
 pub use refusal::Refusal;
+
+#[cfg(test)]
+mod tests;

@@ -6,12 +6,12 @@ use Rattle.eb_writer.specs.Progress.{Progress, Stands}
 use Rattle.eb_c.specs.Holding.{setting_of}
 use Rattle.eb_c.proofs.exports.eb_begin.Goals as goal
 
-pub returns-clause-begun : goal.returns-clause-begun
-returns-clause-begun c k size =
+pub returns-clause-index : goal.returns-clause-index
+returns-clause-index c _ =
     let config = c.in-Some.config in
     let named = c.in-Some.ensures.1 in
     let placer = subst (λ (p : Progress). Stands p (empty_moment config)) (sym c.index_of.ensures.progress) c.new.ensures in
-    let zero : c.fill.new.self ≡ replicate (words_of config) 0 = c.fill.ensures.after (λ y h. h) ∙ ap (λ (n : ℕ). replicate n 0) (size ∙ ap words_of (sym named)) in
+    let zero : c.fill.new.self ≡ replicate (words_of config) 0 = c.fill.ensures.after (λ y h. h) ∙ ap (λ (n : ℕ). replicate n 0) (c.if-words.false ∙ c.words.ensures.words) in
     let same : setting_of c.index_of.result ≡ config = placer.setting in
     let flat = ap₂ (λ (σ : Setting) (ws : List ℕ). record { setting = σ; words = ws }) same zero in
-    (refl, same ∙ named, record { mark = c.index_of.ensures.mark; moment = empty_moment config; image = stands_first _ config c.words.ensures.setting flat; placer = placer; accepted = refl })
+    (same ∙ named, record { mark = c.index_of.ensures.mark; moment = empty_moment config; image = stands_first _ config c.words.ensures.setting flat; placer = placer; accepted = refl })
