@@ -90,7 +90,8 @@ fn end_if(some: bool, end: u64) -> u64
     if some { end } else { 0 }
 }
 
-/// Begins a query, as [`begin`] does, whose loads are bounded where it is a word.
+/// Begins a query, as [`begin`] does, whose loads are bounded where it is a word. Only then are packed lists
+/// read; all parts of another query read live slices.
 pub fn begin_query<P: Port, L: Ledger>(
     query: &Query,
     cursors: &mut [Cursor],
@@ -112,8 +113,10 @@ pub fn begin_query<P: Port, L: Ledger>(
 {
     match query {
         Query::Word(term) => cursors[0] = open_leaf(term, segment, packed, port, steps),
+        // Where parts leap, a seek in a packed list would decode most of a block, while a leap over slices
+        // looks at some twenty words.
         _ => {
-            begin(query, cursors, segment, packed, documents, port, steps);
+            begin(query, cursors, segment, false, documents, port, steps);
         }
     }
 }
