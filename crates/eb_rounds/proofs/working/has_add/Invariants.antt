@@ -1,0 +1,7 @@
+use Rattle.std.proofs.Common.{◌≡◌, drop}
+use Rattle.std.specs.List.{list_any}
+use Rattle.eb_rounds.specs.Works.{is_add}
+use Rattle.eb_rounds.proofs.working.has_add.Given as goal
+
+abbrev pub invariant-loop-task : goal.invariant-loop-task
+invariant-loop-task l = list_any is_add l.tasks ≡ list_any is_add (drop l.task-index l.tasks)

@@ -1,0 +1,69 @@
+-- Held lines, and how they are read.
+use Rattle.std.specs.Prelude.{◌≡◌, ℕ, ◌++◌, List, [], ◌∷◌, flat_map}
+use Rattle.std.specs.Prelude.{Result, Ok, Err}
+use Rattle.eb_base.specs.Document.{Doc}
+use Rattle.eb_base.specs.Setting.{Setting}
+use Rattle.eb_doc.specs.DocumentLine.{document_of}
+use Rattle.eb_doc.specs.declared.LineFault.{LineFault}
+use Rattle.eb_doc.specs.declared.LineFault.TheVariants as fault
+use Rattle.eb_query.specs.Reading.{Outcome, asks, bad_number, bad_query, too_deep, too_many_nodes, ReadsAs}
+use Rattle.eb_rounds.specs.declared.refusal.Refusal.{Refusal}
+use Rattle.eb_rounds.specs.declared.refusal.Refusal.TheVariants.{BadJson, BadDocument, TooLong, BadNumber, BadQuery, TooManyNodes, TooDeep}
+use Rattle.eb_rounds.specs.Reading.{Reading, document, query, refused}
+use Rattle.eb_rounds.specs.Progress.{documents_in}
+use Rattle.eb_rounds.specs.Admitted.{admit}
+
+-- what a held line is
+pub data HeldInput : Type 0 where
+  document_line : List ℕ → HeldInput
+  query_line : List ℕ → HeldInput
+  refused_line : Refusal → HeldInput
+
+-- a held line, with its number
+pub record HeldLine : Type 0 where
+  pub number : ℕ
+  pub input : HeldInput
+
+-- one held line
+abbrev pub held_line : ℕ → HeldInput → List HeldLine
+held_line number input = record { number = number; input = input } ∷ []
+
+-- a line that is read, with its number
+pub record Entry : Type 0 where
+  pub number : ℕ
+  pub reading : Reading
+
+-- a document line is its document, or it is refused
+abbrev pub IsOfDocument : Result Doc LineFault → Reading → Type 0
+IsOfDocument (Ok d) r = r ≡ document d
+IsOfDocument (Err fault.BadJson) r = r ≡ refused BadJson
+IsOfDocument (Err fault.BadDocument) r = r ≡ refused BadDocument
+IsOfDocument (Err fault.TooLong) r = r ≡ refused TooLong
+IsOfDocument (Err fault.NoMemory) r = ⊥
+
+-- a query line asks its query, or it is refused
+abbrev pub of_query : Outcome → Reading
+of_query (asks k q) = query k q
+of_query bad_number = refused BadNumber
+of_query (bad_query column) = refused (BadQuery column)
+of_query too_deep = refused TooDeep
+of_query too_many_nodes = refused TooManyNodes
+
+abbrev pub ReadsInput : HeldInput → Reading → Type 0
+ReadsInput (document_line bytes) r = IsOfDocument (document_of bytes) r
+ReadsInput (query_line bytes) r = (o : Outcome) × ReadsAs bytes o × (r ≡ of_query o)
+ReadsInput (refused_line x) r = r ≡ refused x
+
+-- the line is read as this, under its number
+pub record ReadsLine (h : HeldLine) (e : Entry) : Type 0 where
+  pub number : e.number ≡ h.number
+  pub reading : ReadsInput h.input e.reading
+
+-- what becomes of the lines in order, in an index of this setting that holds these documents
+unfoldable pub admitted_in : Setting → List Doc → List Entry → List Entry
+admitted_in σ docs [] = []
+admitted_in σ docs (e ∷ es) = record { number = e.number; reading = admit σ docs e.reading } ∷ admitted_in σ (docs ++ documents_in (admit σ docs e.reading)) es
+
+-- the documents that the lines add, in order
+unfoldable pub added : List Entry → List Doc
+added es = flat_map (λ (e : Entry). documents_in e.reading) es

@@ -1,0 +1,13 @@
+pub mod Reading
+pub mod Progress
+pub mod Text
+pub mod Admitted
+pub mod Inputs
+pub mod Shown
+pub mod Works
+pub mod Sees
+pub mod Rows
+pub mod Standing
+pub mod Kept
+pub mod Takes
+pub mod Passed

@@ -1,0 +1,29 @@
+-- What a line that is passed to a round is.
+use Rattle.std.specs.Prelude.{◌≡◌, ℕ, List, Some, slice_get}
+use Rattle.eb_rounds.specs.declared.input.Input.{Input}
+use Rattle.eb_rounds.specs.declared.input.Input.TheVariants as passed
+use Rattle.eb_rounds.specs.declared.input.Kind.{Kind}
+use Rattle.eb_rounds.specs.declared.input.Kind.TheVariants.{DocumentLine, QueryLine, RefusedLine}
+use Rattle.eb_rounds.specs.Inputs.{HeldInput, document_line, query_line, refused_line, HeldLine, held_line}
+
+-- what it is held as
+abbrev pub input_of : Input → HeldInput
+input_of (passed.DocumentLine bytes) = document_line bytes.now
+input_of (passed.QueryLine text) = query_line text.now
+input_of (passed.RefusedLine r) = refused_line r
+
+-- its kind
+abbrev pub kind_of : Input → Kind
+kind_of (passed.DocumentLine bytes) = DocumentLine
+kind_of (passed.QueryLine text) = QueryLine
+kind_of (passed.RefusedLine r) = RefusedLine
+
+-- a query line begins with `?` (63)
+abbrev pub HasMark : Input → Type 0
+HasMark (passed.DocumentLine bytes) = Unit {0}
+HasMark (passed.QueryLine text) = slice_get text.now 0 ≡ Some 63
+HasMark (passed.RefusedLine r) = Unit {0}
+
+-- the line alone, under its number
+abbrev pub alone : ℕ → Input → List HeldLine
+alone number line = held_line number (input_of line)

@@ -1,0 +1,50 @@
+-- How the held lines of a run are seen.
+use Rattle.std.specs.Prelude.{ℕ, ◌+◌, Bool, true, false, List, [], ◌∷◌, ◌++◌, count_by}
+use Rattle.eb_rounds.specs.Inputs.{HeldInput, document_line, query_line, refused_line, HeldLine}
+use Rattle.eb_rounds.specs.Shown.{Counted}
+
+-- the held lines in order, the counts of what was worked off, and the greatest number that was put
+pub record Standing : Type 0 where
+  pub held : List HeldLine
+  pub counts : Counted
+  pub greatest : ℕ
+
+abbrev pub is_document_input : HeldInput → Bool
+is_document_input (document_line bytes) = true
+is_document_input (query_line bytes) = false
+is_document_input (refused_line r) = false
+
+abbrev pub is_query_input : HeldInput → Bool
+is_query_input (document_line bytes) = false
+is_query_input (query_line bytes) = true
+is_query_input (refused_line r) = false
+
+abbrev pub is_refused_input : HeldInput → Bool
+is_refused_input (document_line bytes) = false
+is_refused_input (query_line bytes) = false
+is_refused_input (refused_line r) = true
+
+-- how many lines of a kind are held
+unfoldable pub documents_held : List HeldLine → ℕ
+documents_held held = count_by (λ (h : HeldLine). is_document_input h.input) held
+
+unfoldable pub queries_held : List HeldLine → ℕ
+queries_held held = count_by (λ (h : HeldLine). is_query_input h.input) held
+
+unfoldable pub refused_held : List HeldLine → ℕ
+refused_held held = count_by (λ (h : HeldLine). is_refused_input h.input) held
+
+abbrev pub no_counts : Counted
+no_counts = record { documents = 0; queries = 0; refused = 0 }
+
+-- one held line more
+abbrev pub with_held : Standing → ℕ → HeldInput → Standing
+with_held s number input = record { held = s.held ++ record { number = number; input = input } ∷ []; counts = s.counts; greatest = number }
+
+-- one line more is worked off, and counted
+abbrev pub with_counts : Standing → ℕ → ℕ → ℕ → ℕ → Standing
+with_counts s number documents queries refused = record {
+  held = s.held;
+  counts = record { documents = s.counts.documents + documents; queries = s.counts.queries + queries; refused = s.counts.refused + refused };
+  greatest = number;
+}

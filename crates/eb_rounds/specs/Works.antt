@@ -1,0 +1,62 @@
+-- The work of a held line stands for what the line is.
+use Rattle.std.specs.Prelude.{ℕ, Bool, true, false, string_bytes}
+use Rattle.eb_rounds.specs.Shown.{need}
+use Rattle.eb_cursor.specs.Frames.{query_of, k_of}
+use Rattle.eb_rounds.specs.declared.held.FirstInput.{FirstInput}
+use Rattle.eb_rounds.specs.declared.held.FirstInput.TheVariants as first
+use Rattle.eb_rounds.specs.declared.held.ThenInput.{ThenInput}
+use Rattle.eb_rounds.specs.declared.held.ThenInput.TheVariants as then
+use Rattle.eb_rounds.specs.declared.held.FirstLine.{FirstLine}
+use Rattle.eb_rounds.specs.declared.held.ThenLine.{ThenLine}
+use Rattle.eb_rounds.specs.declared.tasks.Asked.{Asked}
+use Rattle.eb_rounds.specs.declared.tasks.Given.{Given}
+use Rattle.eb_rounds.specs.declared.tasks.AskedWork.{AskedWork}
+use Rattle.eb_rounds.specs.declared.tasks.AskedWork.TheVariants as asked
+use Rattle.eb_rounds.specs.declared.tasks.GivenWork.{GivenWork}
+use Rattle.eb_rounds.specs.declared.tasks.GivenWork.TheVariants as given
+use Rattle.eb_rounds.specs.Reading.{Reading, document, query, refused}
+use Rattle.eb_rounds.specs.Progress.{is_query}
+use Rattle.eb_rounds.specs.Inputs.{HeldInput, document_line, query_line, refused_line, HeldLine, Entry}
+
+abbrev pub first_input : FirstInput → HeldInput
+first_input (first.Query line) = query_line (string_bytes line.text)
+first_input (first.Refused r) = refused_line r
+
+abbrev pub then_input : ThenInput → HeldInput
+then_input (then.Document line) = document_line line.items
+then_input (then.Refused r) = refused_line r
+
+abbrev pub first_line : FirstLine → HeldLine
+first_line l = record { number = l.number; input = first_input l.input }
+
+abbrev pub then_line : ThenLine → HeldLine
+then_line l = record { number = l.number; input = then_input l.input }
+
+abbrev pub asked_reading : AskedWork → Reading
+asked_reading (asked.Answer frame) = query (k_of frame) (query_of frame)
+asked_reading (asked.Refuse r) = refused r
+
+abbrev pub given_reading : GivenWork → Reading
+given_reading (given.Add d) = document d
+given_reading (given.Refuse r) = refused r
+
+abbrev pub asked_entry : Asked → Entry
+asked_entry t = record { number = t.number; reading = asked_reading t.work }
+
+abbrev pub given_entry : Given → Entry
+given_entry t = record { number = t.number; reading = given_reading t.work }
+
+-- the most bytes that a line prints
+abbrev pub asked_need : Asked → ℕ
+asked_need t = need (asked_reading t.work)
+
+-- the line is a query that is to be answered; a document that is to be added
+abbrev pub is_answer : Asked → Bool
+is_answer t = is_query (asked_reading t.work)
+
+abbrev pub is_add_work : GivenWork → Bool
+is_add_work (given.Add d) = true
+is_add_work (given.Refuse r) = false
+
+abbrev pub is_add : Given → Bool
+is_add t = is_add_work t.work

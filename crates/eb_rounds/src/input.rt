@@ -1,0 +1,39 @@
+ghost use Rattle.std.specs.Prelude.{◌≡◌};
+ghost use Rattle.eb_rounds.specs.Passed.{kind_of};
+
+use crate::refusal::Refusal;
+
+/// A line that is to be worked off. A blank line is none.
+#[derive(Clone, Copy, Debug, Drop)]
+pub enum Input<'a> {
+    /// A document line, as JSON text of any bytes.
+    DocumentLine(&'a [u8]),
+    /// A query line, which begins with `?`.
+    QueryLine(&'a str),
+    /// A line that is refused before it is read: a bad line or a long line.
+    RefusedLine(Refusal),
+}
+
+/// The kinds of lines that are held.
+#[derive(Clone, Copy, Debug, PartialEq, Eq)]
+pub enum Kind {
+    /// A document line, whatever it is read as.
+    DocumentLine,
+    /// A query line, whatever it is read as.
+    QueryLine,
+    /// A line that is refused before it is read.
+    RefusedLine,
+}
+
+impl<'a> Input<'a> {
+    /// Its kind. Takes no memory.
+    pub fn kind(&self) -> Kind
+        ensures { result ≡ kind_of self.now }
+    {
+        match self {
+            Input::DocumentLine(_) => Kind::DocumentLine,
+            Input::QueryLine(_) => Kind::QueryLine,
+            Input::RefusedLine(_) => Kind::RefusedLine,
+        }
+    }
+}

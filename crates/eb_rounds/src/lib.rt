@@ -1,0 +1,21 @@
+//! Rounds of lines: lines are read side by side, and documents are added while queries are answered.
+//!
+//! [`Rounds`] holds lines until a round is worked off. What a query of a round may see, and what the lines print, is said by
+//! `WorkedOff` (`specs/Shown.antt`); which prefixes the queries of a whole input may see, by `Sees` (`specs/Sees.antt`).
+#![tactic(auto)]
+
+mod adding;
+mod alone;
+mod answering;
+mod held;
+mod input;
+mod reading;
+mod refusal;
+mod rounds;
+mod tasks;
+mod working;
+mod writing;
+
+pub use input::{Input, Kind};
+pub use refusal::Refusal;
+pub use rounds::{Counts, Rounds};

@@ -1,0 +1,124 @@
+ghost use Rattle.std.specs.Prelude.{◌≡◌, List, map, IfOk, Some, slice_get, string_bytes};
+ghost use Rattle.std.specs.List.{AllZip};
+ghost use Rattle.eb_doc.specs.DocumentLine.{document_of};
+ghost use Rattle.eb_rounds.specs.Inputs.{IsOfDocument, ReadsInput, ReadsLine, query_line};
+ghost use Rattle.eb_rounds.specs.Works.{first_input, first_line, then_line, asked_reading, given_reading, asked_entry, given_entry};
+
+use crate::held::{FirstInput, FirstLine, ThenInput, ThenLine};
+use crate::refusal::Refusal;
+use crate::tasks::{Asked, AskedWork, Given, GivenWork};
+use eb_base::NoMemory;
+use eb_cursor::Frame;
+use eb_doc::{LineFault, read_document};
+use eb_query::{QueryFault, read_query};
+use rayon::prelude::*;
+use std::alloc::{AllocError, Global};
+use std::thread::Threads;
+
+pub(crate) fn read_document_line(alloc: Global, bytes: &[u8]) -> Result<GivenWork, NoMemory>
+    ensures { IfOk result (λ work. IsOfDocument (document_of bytes.now) (given_reading work)) }
+{
+    match read_document(alloc, bytes) {
+        Ok(document) => Ok(GivenWork::Add(document)),
+        Err(LineFault::BadJson) => Ok(GivenWork::Refuse(Refusal::BadJson)),
+        Err(LineFault::BadDocument) => Ok(GivenWork::Refuse(Refusal::BadDocument)),
+        Err(LineFault::TooLong) => Ok(GivenWork::Refuse(Refusal::TooLong)),
+        Err(LineFault::NoMemory) => Err(NoMemory),
+    }
+}
+
+pub(crate) fn read_query_text(alloc: Global, text: &str) -> Result<AskedWork, NoMemory>
+    requires { slice_get text.now 0 ≡ Some 63 }
+    ensures { IfOk result (λ work. ReadsInput (query_line text.now) (asked_reading work)) }
+{
+    match read_query(alloc, text) {
+        Ok((k, query)) => Ok(AskedWork::Answer(Frame::new(alloc, query, k)?)),
+        Err(QueryFault::BadNumber) => Ok(AskedWork::Refuse(Refusal::BadNumber)),
+        Err(QueryFault::BadQuery { column }) => Ok(AskedWork::Refuse(Refusal::BadQuery(column))),
+        Err(QueryFault::TooDeep) => Ok(AskedWork::Refuse(Refusal::TooDeep)),
+        Err(QueryFault::TooManyNodes) => Ok(AskedWork::Refuse(Refusal::TooManyNodes)),
+        Err(QueryFault::NoMemory) => Err(NoMemory),
+    }
+}
+
+// Reads a document line, or a line behind it.
+fn read_then(alloc: Global, line: &ThenLine) -> Result<Given, NoMemory>
+    ensures { IfOk result (λ task. ReadsLine (then_line line.now) (given_entry task)) }
+{
+    let work = match &line.input {
+        ThenInput::Document(bytes) => read_document_line(alloc, bytes.as_slice())?,
+        ThenInput::Refused(refusal) => GivenWork::Refuse(*refusal),
+    };
+    Ok(Given {
+        number: line.number,
+        work,
+    })
+}
+
+// Reads a line before the first document line.
+fn read_first(alloc: Global, line: &FirstLine) -> Result<Asked, NoMemory>
+    ensures { IfOk result (λ task. ReadsLine (first_line line.now) (asked_entry task)) }
+{
+    let work = match &line.input {
+        FirstInput::Query(line) => read_query_text(alloc, line.text.as_str())?,
+        FirstInput::Refused(refusal) => AskedWork::Refuse(*refusal),
+    };
+    Ok(Asked {
+        number: line.number,
+        work,
+    })
+}
+
+// Reads the lines in list order, by several threads.
+fn read_all_then<R: Threads + Sync>(
+    rt: &R,
+    alloc: Global,
+    lines: &[ThenLine],
+) -> Result<Result<Vec<Given>, NoMemory>, AllocError>
+    ensures { IfOk result (λ all. IfOk all (λ tasks. AllZip (λ line task. ReadsLine (then_line line) (given_entry task)) lines.now tasks.items)) }
+{
+    lines
+        .par_iter()
+        .map(
+            |line: &ThenLine| -> Result<Given, NoMemory>
+                ensures { IfOk result (λ task. ReadsLine (then_line line.now) (given_entry task)) }
+            { read_then(alloc, line) },
+        )
+        .collect::<Result<Vec<_>, NoMemory>>(rt, alloc)
+}
+
+fn read_all_first<R: Threads + Sync>(
+    rt: &R,
+    alloc: Global,
+    lines: &[FirstLine],
+) -> Result<Result<Vec<Asked>, NoMemory>, AllocError>
+    ensures { IfOk result (λ all. IfOk all (λ tasks. AllZip (λ line task. ReadsLine (first_line line) (asked_entry task)) lines.now tasks.items)) }
+{
+    lines
+        .par_iter()
+        .map(
+            |line: &FirstLine| -> Result<Asked, NoMemory>
+                ensures { IfOk result (λ task. ReadsLine (first_line line.now) (asked_entry task)) }
+            { read_first(alloc, line) },
+        )
+        .collect::<Result<Vec<_>, NoMemory>>(rt, alloc)
+}
+
+// Reads the held lines in list order, by several threads where there are many.
+pub(crate) fn read_round<R: Threads + Sync>(
+    rt: &R,
+    alloc: Global,
+    first: &[FirstLine],
+    then: &[ThenLine],
+) -> Result<(Vec<Asked>, Vec<Given>), NoMemory>
+    ensures first { IfOk result (λ r. AllZip (λ line task. ReadsLine (first_line line) (asked_entry task)) first.now r.0.items) }
+    ensures then { IfOk result (λ r. AllZip (λ line task. ReadsLine (then_line line) (given_entry task)) then.now r.1.items) }
+{
+    let Ok(Ok(asked)) = read_all_first(rt, alloc, first) else {
+        return Err(NoMemory);
+    };
+    let Ok(Ok(given)) = read_all_then(rt, alloc, then) else {
+        return Err(NoMemory);
+    };
+    Ok((asked, given))
+}

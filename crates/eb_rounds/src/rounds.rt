@@ -1,0 +1,379 @@
+ghost use Rattle.std.specs.Prelude.{◌≡◌, ◌+◌, ◌*◌, ◌<◌, ◌≤◌, ◌^◌, ◌++◌, true, Some, slice_get, ℕ, List, [], length, map, sum_by, vec_len, vec_capacity, IfOk, OnErr, OnOk, IsTrue, ◌↔◌};
+ghost use Rattle.std.specs.List.{AllZip};
+ghost use mathlib.Core.List.{IsPrefix};
+ghost use Rattle.eb_rounds.specs.Inputs.{ReadsLine, document_line, query_line, refused_line};
+ghost use Rattle.eb_rounds.specs.Passed.{input_of, kind_of, HasMark, alone};
+ghost use Rattle.eb_rounds.specs.Takes.{takes_kind};
+ghost use Rattle.eb_rounds.specs.Shown.{WorkedOff};
+ghost use Rattle.eb_rounds.specs.Standing.{Standing, documents_held, queries_held, no_counts, with_held, with_counts};
+ghost use Rattle.eb_rounds.specs.Works.{asked_entry, asked_need, given_entry, first_line, then_line};
+
+use crate::alone::work_alone;
+use crate::held::{FirstInput, FirstLine, QueryLine, ThenInput, ThenLine};
+use crate::input::{Input, Kind};
+use crate::reading::read_round;
+use crate::refusal::Refusal;
+use crate::tasks::{Asked, Given};
+use crate::working::{make_room, work_round};
+use eb_base::{Gate, NoMemory};
+use eb_engine::{Converter, Index, Reader, Writer};
+use std::alloc::Global;
+use std::marker::Model;
+use std::thread::Threads;
+
+/// How many documents were accepted, queries answered and lines refused.
+#[derive(Clone, Copy, Debug, PartialEq, Eq)]
+pub struct Counts {
+    /// The accepted documents.
+    pub documents: u64,
+    /// The answered queries.
+    pub queries: u64,
+    /// The refused lines.
+    pub refused: u64,
+}
+
+/// The lines that are held for a round, and the counts of what was worked off. No query line is held behind a document
+/// line, and at most 4,096 document lines, 512 query lines and 4,096 refused lines are held (this project's profile,
+/// docs/FORMATS.md).
+#[derive(Drop)]
+pub struct Rounds {
+    alloc: Global,
+    // query lines, with the refused lines among them
+    first: Vec<FirstLine>,
+    // document lines, with the refused lines behind the first of them
+    last: Vec<ThenLine>,
+    // how many of them are query lines, document lines and refused lines
+    queries: u64,
+    documents: u64,
+    refused: u64,
+    greatest: u64,
+    counts: Counts,
+}
+
+impl Model for Rounds {
+    ghost use Rattle.std.specs.Prelude.{◌≡◌, ◌+◌, ◌≤◌, ◌++◌, [], length, map};
+    ghost use Rattle.eb_rounds.specs.Standing.{Standing};
+    ghost use Rattle.eb_rounds.specs.Works.{first_line, then_line};
+
+    ghost Value = { Standing };
+
+    ghost view = { λ r. record {
+      held = map first_line r.first.items ++ map then_line r.last.items;
+      counts = record { documents = r.counts.documents; queries = r.counts.queries; refused = r.counts.refused };
+      greatest = r.greatest;
+    } };
+
+    ghost use Rattle.eb_rounds.specs.Kept.{IsKept};
+
+    ghost invariant = { λ r. IsKept r.first.items r.last.items r.queries r.documents r.refused r.greatest (r.counts.documents + (r.counts.queries + r.counts.refused)) };
+}
+
+impl Rounds {
+    /// No line is held, nothing is counted, and no number was put. Takes no memory.
+    pub fn new(alloc: Global) -> Rounds
+        ensures { result ≡ record { held = []; counts = no_counts; greatest = 0 } }
+    {
+        Rounds {
+            alloc,
+            first: Vec::new(alloc),
+            last: Vec::new(alloc),
+            queries: 0,
+            documents: 0,
+            refused: 0,
+            greatest: 0,
+            counts: Counts {
+                documents: 0,
+                queries: 0,
+                refused: 0,
+            },
+        }
+    }
+
+    /// What was worked off so far. Takes no memory.
+    pub fn counts(&self) -> Counts
+        ensures { (result.documents ≡ self.now.counts.documents) × (result.queries ≡ self.now.counts.queries) × (result.refused ≡ self.now.counts.refused) }
+    {
+        self.counts
+    }
+
+    /// Whether a line of this kind may be held: a document line where fewer than 4,096 are, a query line where fewer than
+    /// 512 and no document line are, a refused line where fewer than 4,096 are. Takes no memory.
+    pub fn takes(&self, kind: Kind) -> bool
+        ensures { result ≡ takes_kind self.now.held kind }
+    {
+        match kind {
+            Kind::DocumentLine => self.documents < 4096,
+            Kind::QueryLine => self.queries < 512 && self.documents == 0,
+            Kind::RefusedLine => self.refused < 4096,
+        }
+    }
+
+    /// Whether a query line is held. Takes no memory.
+    pub fn has_query(&self) -> bool
+        ensures { IsTrue result ↔ (0 < queries_held self.now.held) }
+    {
+        self.queries > 0
+    }
+
+    // Whether a document line is held.
+    fn has_document(&self) -> bool
+        ensures { IsTrue result ↔ (0 < documents_held self.now.held) }
+    {
+        self.documents > 0
+    }
+
+    /// Holds a line of the input, whose number is above those that were put before. A query line begins with `?`. Where
+    /// memory doesn't suffice, nothing is held more.
+    pub fn put(&mut self, number: u64, line: Input<'_>) -> Result<(), NoMemory>
+        requires takes { takes_kind self.old.held (kind_of line) ≡ true }
+        requires number { self.old.greatest < number }
+        requires question_mark { HasMark line }
+        ensures ok { OnOk result (self.new ≡ with_held self.old number (input_of line.entry)) }
+        ensures err { OnErr result (self.new ≡ self.old) }
+    {
+        match line {
+            Input::DocumentLine(bytes) => self.put_document(number, bytes),
+            Input::QueryLine(text) => self.put_query(number, text),
+            Input::RefusedLine(refusal) => self.put_refused(number, refusal),
+        }
+    }
+
+    // Holds a document line.
+    fn put_document(&mut self, number: u64, line: &[u8]) -> Result<(), NoMemory>
+        requires takes { takes_kind self.old.held Kind.DocumentLine ≡ true }
+        requires number { self.old.greatest < number }
+        ensures ok { OnOk result (self.new ≡ with_held self.old number (document_line line.now)) }
+        ensures err { OnErr result (self.new ≡ self.old) }
+    {
+        let line = Vec::from_slice(self.alloc, line)?;
+        self.last.push(ThenLine {
+            number,
+            input: ThenInput::Document(line),
+        })?;
+        self.documents += 1;
+        self.greatest = number;
+        Ok(())
+    }
+
+    // Holds a query line.
+    fn put_query(&mut self, number: u64, line: &str) -> Result<(), NoMemory>
+        requires takes { takes_kind self.old.held Kind.QueryLine ≡ true }
+        requires number { self.old.greatest < number }
+        requires question_mark { slice_get line.now 0 ≡ Some 63 }
+        ensures ok { OnOk result (self.new ≡ with_held self.old number (query_line line.now)) }
+        ensures err { OnErr result (self.new ≡ self.old) }
+    {
+        let line = QueryLine::new(String::from_str(self.alloc, line)?);
+        self.first.push(FirstLine {
+            number,
+            input: FirstInput::Query(line),
+        })?;
+        self.queries += 1;
+        self.greatest = number;
+        Ok(())
+    }
+
+    // Holds a refused line ahead of all document lines.
+    fn put_first(&mut self, number: u64, refusal: Refusal) -> Result<(), NoMemory>
+        requires takes { takes_kind self.old.held Kind.RefusedLine ≡ true }
+        requires documents { documents_held self.old.held ≡ 0 }
+        requires number { self.old.greatest < number }
+        ensures ok { OnOk result (self.new ≡ with_held self.old number (refused_line refusal)) }
+        ensures err { OnErr result (self.new ≡ self.old) }
+    {
+        self.first.push(FirstLine {
+            number,
+            input: FirstInput::Refused(refusal),
+        })?;
+        self.refused += 1;
+        self.greatest = number;
+        Ok(())
+    }
+
+    // Holds a refused line behind a document line.
+    fn put_last(&mut self, number: u64, refusal: Refusal) -> Result<(), NoMemory>
+        requires takes { takes_kind self.old.held Kind.RefusedLine ≡ true }
+        requires documents { 0 < documents_held self.old.held }
+        requires number { self.old.greatest < number }
+        ensures ok { OnOk result (self.new ≡ with_held self.old number (refused_line refusal)) }
+        ensures err { OnErr result (self.new ≡ self.old) }
+    {
+        self.last.push(ThenLine {
+            number,
+            input: ThenInput::Refused(refusal),
+        })?;
+        self.refused += 1;
+        self.greatest = number;
+        Ok(())
+    }
+
+    // Holds a refused line.
+    fn put_refused(&mut self, number: u64, refusal: Refusal) -> Result<(), NoMemory>
+        requires takes { takes_kind self.old.held Kind.RefusedLine ≡ true }
+        requires number { self.old.greatest < number }
+        ensures ok { OnOk result (self.new ≡ with_held self.old number (refused_line refusal)) }
+        ensures err { OnErr result (self.new ≡ self.old) }
+    {
+        if self.has_document() {
+            self.put_last(number, refusal)
+        } else {
+            self.put_first(number, refusal)
+        }
+    }
+
+    // Reads the held lines, and takes all memory that working them off needs.
+    fn prepare<R: Threads + Sync>(
+        &self,
+        rt: &R,
+        alloc: Global,
+        text: &mut Vec<u8>,
+    ) -> Result<(Vec<Asked>, Vec<Given>, Vec<u8>), NoMemory>
+        ensures few { length self.now.held ≤ 2 ^ 14 }
+        ensures read { IfOk result (λ r. AllZip ReadsLine self.now.held (map asked_entry r.0.items ++ map given_entry r.1.items)) }
+        ensures text { text.new.items ≡ text.old.items }
+        ensures room { IfOk result (λ r. vec_len text.new + (sum_by asked_need r.0.items + 64 * length r.1.items) ≤ vec_capacity text.new) }
+        ensures refusals { IfOk result (λ r. (r.2.items ≡ []) × (vec_len r.2 ≡ 0) × (64 * length r.1.items ≤ vec_capacity r.2)) }
+    {
+        let (asked, given) = read_round(rt, alloc, self.first.as_slice(), self.last.as_slice())?;
+        let refusals = make_room(alloc, asked.as_slice(), given.as_slice(), text)?;
+        Ok((asked, given, refusals))
+    }
+
+    // Counts what was worked off, and holds no line any more.
+    fn close(&mut self, documents: u64, queries: u64, refused: u64)
+        requires { documents + (queries + refused) ≤ length self.old.held }
+        ensures { self.new ≡ record {
+          held = [];
+          counts = record {
+            documents = self.old.counts.documents + documents;
+            queries = self.old.counts.queries + queries;
+            refused = self.old.counts.refused + refused;
+          };
+          greatest = self.old.greatest;
+        } }
+    {
+        self.first.clear();
+        self.last.clear();
+        self.queries = 0;
+        self.documents = 0;
+        self.refused = 0;
+        self.counts.documents += documents;
+        self.counts.queries += queries;
+        self.counts.refused += refused;
+    }
+
+    /// Works off the held lines: they are read by several threads where there are many, and then documents are added beside
+    /// answering the queries, which one reader answers in order. The result is what they print, line for line. Afterwards no
+    /// line is held, and reader and converter know the writer's history. Where memory doesn't suffice, which shows before the
+    /// first document is added, nothing is done. The tokens must have been made with this index.
+    pub fn step<R: Threads + Sync, G: Gate + Sync>(
+        &mut self,
+        rt: &R,
+        alloc: Global,
+        index: &Index,
+        writer: &mut Writer,
+        reader: &mut Reader,
+        converter: &mut Converter,
+        gate: &G,
+    ) -> Result<Vec<u8>, NoMemory>
+        requires writer { writer.old.index ≡ index.now }
+        requires reader { reader.old.index ≡ index.now }
+        requires converter { converter.old.index ≡ index.now }
+        ensures writer { writer.new.index ≡ writer.old.index }
+        ensures reader { reader.new.index ≡ reader.old.index }
+        ensures converter { converter.new.index ≡ converter.old.index }
+        ensures ok { IfOk result (λ text. WorkedOff index.now.setting self.old.held writer.old.docs writer.new.docs self.old.counts self.new.counts text.items) }
+        ensures held { OnOk result ((self.new.held ≡ []) × (self.new.greatest ≡ self.old.greatest)) }
+        ensures told { OnOk result (IsPrefix writer.new.docs converter.new.docs × IsPrefix writer.new.docs reader.new.docs) }
+        ensures err { OnErr result ((self.new ≡ self.old) × (writer.new ≡ writer.old) × (reader.new ≡ reader.old) × (converter.new ≡ converter.old)) }
+    {
+        let mut text = Vec::new(alloc);
+        self.step_behind(rt, alloc, index, writer, converter, gate, &mut text)?;
+        reader.meet(index, writer.reader(index));
+        Ok(text)
+    }
+
+    /// As `step`, with what the lines print behind the text, and over a reader of its own, which the writer then takes in.
+    /// Where memory doesn't suffice, the text is as before, too.
+    pub fn step_behind<R: Threads + Sync, G: Gate + Sync>(
+        &mut self,
+        rt: &R,
+        alloc: Global,
+        index: &Index,
+        writer: &mut Writer,
+        converter: &mut Converter,
+        gate: &G,
+        text: &mut Vec<u8>,
+    ) -> Result<(), NoMemory>
+        requires writer { writer.old.index ≡ index.now }
+        requires converter { converter.old.index ≡ index.now }
+        ensures writer { writer.new.index ≡ writer.old.index }
+        ensures converter { converter.new.index ≡ converter.old.index }
+        ensures ok { OnOk result ((printed : List ℕ)
+            × WorkedOff index.now.setting self.old.held writer.old.docs writer.new.docs self.old.counts self.new.counts printed
+            × (text.new.items ≡ text.old.items ++ printed)) }
+        ensures held { OnOk result ((self.new.held ≡ []) × (self.new.greatest ≡ self.old.greatest)) }
+        ensures told { OnOk result (IsPrefix writer.new.docs converter.new.docs) }
+        ensures err { OnErr result ((self.new ≡ self.old) × (writer.new ≡ writer.old) × (converter.new ≡ converter.old) × (text.new.items ≡ text.old.items)) }
+    {
+        let (mut asked, given, mut refusals) = self.prepare(rt, alloc, text)?;
+        let ((documents, full), (queries, refused)) = work_round(
+            rt,
+            index,
+            writer,
+            asked.as_mut_slice(),
+            given.as_slice(),
+            gate,
+            text,
+            &mut refusals,
+        );
+        converter.meet(index, writer.reader(index));
+        self.close(documents, queries, refused + full);
+        Ok(())
+    }
+
+    // Counts what one line came to.
+    fn count(&mut self, number: u64, counts: Counts)
+        requires number { self.old.greatest < number }
+        requires few { counts.documents + (counts.queries + counts.refused) ≤ 1 }
+        ensures { self.new ≡ with_counts self.old number counts.documents counts.queries counts.refused }
+    {
+        self.counts.documents += counts.documents;
+        self.counts.queries += counts.queries;
+        self.counts.refused += counts.refused;
+        self.greatest = number;
+    }
+
+    /// Works off one line as a round of its own, as `step_behind` would where it alone were held: by this thread, without a
+    /// copy of the line. What is held stays held. The number is above those that were put before; a query line begins with
+    /// `?`. The tokens must have been made with this index.
+    pub fn work_line<G: Gate>(
+        &mut self,
+        alloc: Global,
+        number: u64,
+        line: Input<'_>,
+        index: &Index,
+        writer: &mut Writer,
+        converter: &mut Converter,
+        gate: &G,
+        text: &mut Vec<u8>,
+    ) -> Result<(), NoMemory>
+        requires number { self.old.greatest < number }
+        requires question_mark { HasMark line }
+        requires writer { writer.old.index ≡ index.now }
+        requires converter { converter.old.index ≡ index.now }
+        ensures writer { writer.new.index ≡ writer.old.index }
+        ensures converter { converter.new.index ≡ converter.old.index }
+        ensures ok { OnOk result ((printed : List ℕ)
+            × WorkedOff index.now.setting (alone number line.entry) writer.old.docs writer.new.docs self.old.counts self.new.counts printed
+            × (text.new.items ≡ text.old.items ++ printed)) }
+        ensures held { OnOk result ((self.new.held ≡ self.old.held) × (self.new.greatest ≡ number)) }
+        ensures told { OnOk result (IsPrefix writer.new.docs converter.new.docs) }
+        ensures err { OnErr result ((self.new ≡ self.old) × (writer.new ≡ writer.old) × (converter.new ≡ converter.old) × (text.new.items ≡ text.old.items)) }
+    {
+        let counts = work_alone(alloc, number, line, index, writer, gate, text)?;
+        converter.meet(index, writer.reader(index));
+        self.count(number, counts);
+        Ok(())
+    }
+}

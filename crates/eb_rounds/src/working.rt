@@ -1,0 +1,180 @@
+ghost use Rattle.std.specs.Prelude.{◌≡◌, ◌+◌, ◌*◌, ◌≤◌, ◌^◌, [], length, map, sum_by, vec_len, vec_capacity, IfOk, OnOk};
+ghost use Rattle.std.specs.List.{list_any};
+ghost use Rattle.eb_rounds.specs.Shown.{AreAnswered, AreAdded, IsRound};
+ghost use Rattle.eb_rounds.specs.Works.{asked_entry, asked_need, is_answer, is_add, given_entry};
+
+use crate::adding::add_all;
+use crate::answering::answer_all;
+use crate::tasks::{Asked, AskedWork, Given, GivenWork};
+use eb_base::{Gate, NoMemory};
+use eb_engine::{Index, Reader, Writer};
+use std::alloc::Global;
+use std::thread::{Threads, join_mut};
+
+// The most bytes that a line prints.
+pub(crate) fn need_of(task: &Asked) -> usize
+    ensures need { result ≡ asked_need task.now }
+    ensures small { result ≤ 2 ^ 40 }
+{
+    match &task.work {
+        AskedWork::Answer(frame) => 64 + 21 * frame.k() as usize,
+        AskedWork::Refuse(_) => 64,
+    }
+}
+
+// The most bytes that the lines print.
+fn needs_of(tasks: &[Asked]) -> usize
+    requires { length tasks.now ≤ 2 ^ 16 }
+    ensures needs { result ≡ sum_by asked_need tasks.now }
+    ensures small { result ≤ 2 ^ 40 * length tasks.now }
+{
+    let mut needs = 0;
+    for task in tasks {
+        needs += need_of(task);
+    }
+    needs
+}
+
+// Takes all memory that working the lines off needs: room behind the text for all that they print, and a list for the
+// refusals of document lines, which are made beside the answers.
+pub(crate) fn make_room(
+    alloc: Global,
+    asked: &[Asked],
+    given: &[Given],
+    text: &mut Vec<u8>,
+) -> Result<Vec<u8>, NoMemory>
+    requires asked { length asked.now ≤ 2 ^ 16 }
+    requires given { length given.now ≤ 2 ^ 16 }
+    ensures text { text.new.items ≡ text.old.items }
+    ensures room { OnOk result (vec_len text.new + (sum_by asked_need asked.now + 64 * length given.now) ≤ vec_capacity text.new) }
+    ensures refusals { IfOk result (λ v. (v.items ≡ []) × (vec_len v ≡ 0) × (64 * length given.now ≤ vec_capacity v)) }
+{
+    let most = 64 * given.len();
+    let refusals = Vec::with_capacity(alloc, most)?;
+    text.reserve(needs_of(asked) + most)?;
+    Ok(refusals)
+}
+
+// Whether some line is a query that is to be answered.
+fn has_answer(tasks: &[Asked]) -> bool
+    ensures { result ≡ list_any is_answer tasks.now }
+{
+    for task in tasks {
+        if let AskedWork::Answer(_) = &task.work {
+            return true;
+        }
+    }
+    false
+}
+
+// Whether some line is a document that is to be added.
+fn has_add(tasks: &[Given]) -> bool
+    ensures { result ≡ list_any is_add tasks.now }
+{
+    for task in tasks {
+        if let GivenWork::Add(_) = &task.work {
+            return true;
+        }
+    }
+    false
+}
+
+// Adds the documents beside answering the queries: a thread is started. Takes no memory.
+fn work_beside<R: Threads + Sync, G: Gate + Sync>(
+    rt: &R,
+    index: &Index,
+    writer: &mut Writer,
+    reader: &mut Reader,
+    asked: &mut [Asked],
+    given: &[Given],
+    gate: &G,
+    answers: &mut Vec<u8>,
+    refusals: &mut Vec<u8>,
+) -> ((u64, u64), (u64, u64))
+    requires writer { writer.old.index ≡ index.now }
+    requires reader { reader.old.index ≡ index.now }
+    requires answers { vec_len answers.old + sum_by asked_need asked.old ≤ vec_capacity answers.old }
+    requires refusals { vec_len refusals.old + 64 * length given.now ≤ vec_capacity refusals.old }
+    ensures writer { writer.new.index ≡ writer.old.index }
+    ensures reader { reader.new.index ≡ reader.old.index }
+    ensures answers { vec_len answers.new ≤ vec_len answers.old + sum_by asked_need asked.old }
+    ensures room { vec_capacity answers.old ≤ vec_capacity answers.new }
+    ensures refusals { vec_len refusals.new ≤ vec_len refusals.old + 64 * length given.now }
+    ensures answered { AreAnswered reader.old.docs reader.new.docs (map asked_entry asked.old) answers.old.items answers.new.items result.1.0 result.1.1 }
+    ensures added { AreAdded index.now.setting writer.old.docs writer.new.docs (map given_entry given.now) refusals.old.items refusals.new.items result.0.0 result.0.1 }
+{
+    join_mut(
+        rt,
+        &mut || add_all(index, writer, given, gate, refusals),
+        &mut || answer_all(index, reader, asked, gate, answers),
+    )
+}
+
+// The same, by one thread where there aren't both documents to add and queries to answer.
+fn work_either<R: Threads + Sync, G: Gate + Sync>(
+    rt: &R,
+    index: &Index,
+    writer: &mut Writer,
+    reader: &mut Reader,
+    asked: &mut [Asked],
+    given: &[Given],
+    gate: &G,
+    answers: &mut Vec<u8>,
+    refusals: &mut Vec<u8>,
+) -> ((u64, u64), (u64, u64))
+    requires writer { writer.old.index ≡ index.now }
+    requires reader { reader.old.index ≡ index.now }
+    requires answers { vec_len answers.old + sum_by asked_need asked.old ≤ vec_capacity answers.old }
+    requires refusals { vec_len refusals.old + 64 * length given.now ≤ vec_capacity refusals.old }
+    ensures writer { writer.new.index ≡ writer.old.index }
+    ensures reader { reader.new.index ≡ reader.old.index }
+    ensures answers { vec_len answers.new ≤ vec_len answers.old + sum_by asked_need asked.old }
+    ensures room { vec_capacity answers.old ≤ vec_capacity answers.new }
+    ensures refusals { vec_len refusals.new ≤ vec_len refusals.old + 64 * length given.now }
+    ensures answered { AreAnswered reader.old.docs reader.new.docs (map asked_entry asked.old) answers.old.items answers.new.items result.1.0 result.1.1 }
+    ensures added { AreAdded index.now.setting writer.old.docs writer.new.docs (map given_entry given.now) refusals.old.items refusals.new.items result.0.0 result.0.1 }
+{
+    if has_answer(asked) && has_add(given) {
+        return work_beside(
+            rt, index, writer, reader, asked, given, gate, answers, refusals,
+        );
+    }
+    let answered = answer_all(index, reader, asked, gate, answers);
+    let added = add_all(index, writer, given, gate, refusals);
+    (added, answered)
+}
+
+// Works off the lines of a round. Takes no memory.
+pub(crate) fn work_round<R: Threads + Sync, G: Gate + Sync>(
+    rt: &R,
+    index: &Index,
+    writer: &mut Writer,
+    asked: &mut [Asked],
+    given: &[Given],
+    gate: &G,
+    text: &mut Vec<u8>,
+    refusals: &mut Vec<u8>,
+) -> ((u64, u64), (u64, u64))
+    requires writer { writer.old.index ≡ index.now }
+    requires text { vec_len text.old + (sum_by asked_need asked.old + 64 * length given.now) ≤ vec_capacity text.old }
+    requires refusals { (refusals.old.items ≡ []) × (vec_len refusals.old ≡ 0) × (64 * length given.now ≤ vec_capacity refusals.old) }
+    ensures index { writer.new.index ≡ writer.old.index }
+    ensures round { IsRound index.now.setting writer.old.docs writer.new.docs (map asked_entry asked.old) (map given_entry given.now) text.old.items text.new.items
+        result.1.0 result.0.0 result.1.1 result.0.1 }
+{
+    let mut reader = writer.reader(index);
+    let counts = work_either(
+        rt,
+        index,
+        writer,
+        &mut reader,
+        asked,
+        given,
+        gate,
+        text,
+        refusals,
+    );
+    writer.meet(index, reader);
+    text.extend_from_slice(refusals.as_slice()).unwrap();
+    counts
+}
