@@ -1,6 +1,10 @@
 pub mod LineKinds
-pub mod Texts
+pub mod LineReadings
 pub mod Admissions
+pub mod Waitings
+pub mod Going
+pub mod Waits
+pub mod Runnings
 pub mod Runs
 pub mod OneOutput
 pub mod OptionSteps
@@ -9,6 +13,7 @@ pub mod OptionNames
 pub mod OptionItems
 pub mod OptionValues
 pub mod OptionLaw
+pub mod FlagLaw
 pub mod CommandNumbers
 pub mod Benches
 pub mod MadeLines

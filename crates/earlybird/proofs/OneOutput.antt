@@ -1,5 +1,5 @@
 -- An input has exactly one text.
-use Rattle.std.proofs.Common.{◌≡◌, ℕ, ◌<◌, ◌≤◌, ◌||◌, Bool, true, false, List, [], ◌∷◌, ◌++◌, length, Option, Some, None, refl, sym, ap, ap₂, subst, ◌∙◌, arith, inl, inr}
+use Rattle.std.proofs.Common.{◌≡◌, ℕ, zero, suc, ◌+◌, ◌<◌, ◌≤◌, ◌||◌, Bool, true, false, List, [], ◌∷◌, ◌++◌, length, take, Option, Some, None, refl, sym, ap, ap₂, subst, ◌∙◌, arith, inl, inr}
 use Rattle.std.specs.Prelude.{Result, Ok, Err, nat_lt, if◌then◌else◌}
 use Rattle.std.specs.List.{AllZip}
 use Rattle.std.proofs.lemmas.Bool.{cases_Bool}
@@ -13,15 +13,19 @@ use Rattle.eb_doc.specs.declared.LineFault.TheVariants as fault
 use Rattle.eb_query.specs.Reading.{Outcome, ReadsAs}
 use Rattle.eb_query.proofs.OneOutcome.{one_outcome}
 use Rattle.eb_query.proofs.SomeOutcome.{some_outcome}
-use Rattle.earlybird.specs.declared.refusal.Refusal.TheVariants.{BadLine, LongLine, BadJson, BadDocument, TooLong}
+use Rattle.eb_rounds.specs.declared.refusal.Refusal.TheVariants.{BadLine, LongLine, BadJson, BadDocument, TooLong}
 use Rattle.earlybird.specs.Kinds.{Kind, blank_line, document_line, query_line, bad_line, kind_of}
-use Rattle.earlybird.specs.Reading.{Reading, blank, document, query, refused}
-use Rattle.earlybird.specs.Reads.{Reads, ReadsByKind, IsOfDocument, of_query}
-use Rattle.earlybird.specs.Progress.{accepted, told, progress_after}
-use Rattle.earlybird.specs.Admitted.{admitted}
-use Rattle.earlybird.specs.Text.{body, text, summary}
-use Rattle.earlybird.specs.Output.{AreRead, SeesInOrder, IsTextOf, IsOutput}
-use Rattle.earlybird.proofs.Texts.{body_same}
+use Rattle.eb_rounds.specs.Reading.{Reading, blank, document, query, refused}
+use Rattle.eb_rounds.specs.Inputs.{IsOfDocument, of_query}
+use Rattle.earlybird.specs.Reads.{Reads, ReadsByKind, AreRead}
+use Rattle.eb_rounds.specs.Progress.{accepted, told, progress_after}
+use Rattle.eb_rounds.specs.Admitted.{admitted}
+use Rattle.eb_rounds.specs.Text.{body, text, summary}
+use Rattle.eb_rounds.specs.Rows.{count}
+use Rattle.eb_rounds.specs.Sees.{Sees, SeesInOrder, SeesBetween}
+use Rattle.earlybird.specs.Output.{IsTextOf, IsOutput}
+use Rattle.eb_rounds.proofs.Texts.{body_same}
+use Rattle.eb_rounds.proofs.Seeing.{told-count, count-cons}
 
 -- ---- a line has one reading
 
@@ -57,10 +61,10 @@ all_read σ ls rs ss e f = e.2 ∙ ap (admitted σ) (raw_same ls e.0 f.0 e.1 f.1
 in_order : (n : ℕ → ℕ) (rs : List Reading) → SeesInOrder rs n → text n rs ≡ text (told rs) rs
 in_order n rs order = ap (λ b. b ++ summary (progress_after rs)) (body_same n (told rs) (accepted rs) (accepted rs) 0 rs (λ i low high. (order i, refl)))
 
-pub one_text_of : (σ : Setting) (lines : List Line) (a b : List ℕ) → IsTextOf σ lines a → IsTextOf σ lines b → a ≡ b
+pub one_text_of : (σ : Setting) (lines : List Line) (a b : List ℕ) → IsTextOf σ false lines a → IsTextOf σ false lines b → a ≡ b
 one_text_of σ lines a b p q =
     let same = all_read σ lines p.readings q.readings p.read q.read in
-    p.bytes ∙ in_order p.numbers p.readings p.order ∙ ap (λ rs. text (told rs) rs) same ∙ sym (q.bytes ∙ in_order q.numbers q.readings q.order)
+    p.bytes ∙ in_order p.numbers p.readings p.sees ∙ ap (λ rs. text (told rs) rs) same ∙ sym (q.bytes ∙ in_order q.numbers q.readings q.sees)
 
 -- ---- a line has a reading
 
@@ -85,8 +89,41 @@ pub some_read : (ls : List Line) → (rs : List Reading) × AllZip Reads ls rs
 some_read [] = ([], tt)
 some_read (l ∷ ls) = let r = some_reading l in let rs = some_read ls in (r.0 ∷ rs.0, (r.1, rs.1))
 
-pub some_text_of : (σ : Setting) (lines : List Line) → (printed : List ℕ) × IsTextOf σ lines printed
-some_text_of σ lines =
+-- ---- what lines print in order
+
+told_rises : (rs : List Reading) (i j : ℕ) → i ≤ j → count (take i rs) ≤ count (take j rs)
+unfolding accepted
+told_rises [] zero j le = omega arith
+told_rises [] (suc i) zero le = omega arith
+told_rises [] (suc i) (suc j) le = omega arith
+told_rises (r ∷ rs) zero j le = omega arith
+told_rises (r ∷ rs) (suc i) zero le = absurd (omega (arith, le))
+told_rises (r ∷ rs) (suc i) (suc j) le =
+    let more = told_rises rs i j (omega (arith, le)) in
+    let low = count-cons r (take i rs) in
+    let high = count-cons r (take j rs) in
+    omega (arith, more, low, high)
+
+told_next : (rs : List Reading) (i j : ℕ) → i ≤ j → told rs i ≤ told rs j
+told_next rs i j le = omega (arith, told_rises rs i j le, told-count rs i, told-count rs j)
+
+-- what order mode shows may be shown with overlap, too
+between : (rs : List Reading) (n : ℕ → ℕ) → SeesInOrder rs n → SeesBetween rs n
+between rs n order = record {
+  least = λ j e. omega (arith, order j);
+  most = λ j e. (let more = told_next rs j (j + 1) (omega arith) in omega (arith, more, order j));
+  rises = λ i j le e f. omega (arith, told_next rs i j le, order i, order j);
+}
+
+pub order_text_of : (σ : Setting) (lines : List Line) (printed : List ℕ) → IsTextOf σ false lines printed → IsTextOf σ true lines printed
+order_text_of σ lines printed t = record { readings = t.readings; numbers = t.numbers; read = t.read; sees = between t.readings t.numbers t.sees; bytes = t.bytes }
+
+pub sees_told : (overlap : Bool) (rs : List Reading) → Sees overlap rs (told rs)
+sees_told false rs = λ j. refl
+sees_told true rs = between rs (told rs) (λ j. refl)
+
+pub some_text_of : (σ : Setting) (overlap : Bool) (lines : List Line) → (printed : List ℕ) × IsTextOf σ overlap lines printed
+some_text_of σ overlap lines =
     let raw = some_read lines in
     let rs = admitted σ raw.0 in
-    (text (told rs) rs, record { readings = rs; numbers = told rs; read = (raw.0, raw.1, refl); order = λ j. refl; bytes = refl })
+    (text (told rs) rs, record { readings = rs; numbers = told rs; read = (raw.0, raw.1, refl); sees = sees_told overlap rs; bytes = refl })

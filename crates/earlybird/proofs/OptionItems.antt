@@ -6,7 +6,8 @@ use Rattle.std.specs.Str.{bytes_eq}
 use Rattle.std.specs.List.{list_any, list_all}
 use Rattle.clap.specs.Lexer.{long_of, short_of}
 use Rattle.clap.specs.Walk.{Row, Text, Walk, idle, option, arg_by_long, has_row}
-use Rattle.earlybird.specs.Command.{Item, are_digits, before, is_option, items_of, name_in, value_in}
+use Rattle.earlybird.specs.Command.{Item, are_digits, before, is_option, name_in, value_in}
+use Rattle.earlybird.specs.Flags.{values_of}
 use Rattle.earlybird.proofs.OptionSteps.{IsKey, added, at, attached, named, none_after, row, rows_from, top}
 use Rattle.earlybird.proofs.OptionWalks.{IsNoOption, at_end, no_value, idle_fails, settled_then, value_then, either}
 use Rattle.earlybird.proofs.OptionNames.{IsKeyOf, Names, key_of, keys, names, no_flag, no_option}
@@ -105,22 +106,22 @@ keys_either other = elim (keys other) [
 ]
 
 module _ (rows out : List Row) (word : Text) (rest : List Text) (plain : is_dashes word ≡ false)
-    (later : (more : List Row) (s : Option Text) → IsState s → rows_from (state more s) rest ≡ Some out → Finds more out (items_of (name_of s) rest)) where
+    (later : (more : List Row) (s : Option Text) → IsState s → rows_from (state more s) rest ≡ Some out → Finds more out (values_of (name_of s) rest)) where
   first_item : (value : Option Text) (key : Text) → is_option (name_in word) ≡ true → IsKeyOf (name_in word) key → Names word key → value_in word ≡ value
       → rows_from (at rows None idle) (word ∷ rest) ≡ Some out
-      → Finds rows out (option_map_or (λ v. before (name_in word, v) (items_of None rest)) value (items_of (Some (name_in word)) rest))
+      → Finds rows out (option_map_or (λ v. before (name_in word, v) (values_of None rest)) value (values_of (Some (name_in word)) rest))
   first_item (Some v) key known k n is h =
       let went = accepted rows out key v (λ more. rows_from (at more None idle) rest) (sym (attached rows word key k.is_key plain v rest (n.long ∙ ap (λ (o : Option Text). Some (key, o)) is)) ∙ h) in
       let bare : drop 2 (name_in word) ≡ key = ap (drop 2) k.dashed in
-      with_first rows out (name_in word) v (items_of None rest) known (rw bare went.0)
+      with_first rows out (name_in word) v (values_of None rest) known (rw bare went.0)
       (later (rows ++ row (drop 2 (name_in word)) v ∷ []) None tt (rw bare went.1))
   first_item None key known k n is h =
       let went = sym (named rows word key k.is_key plain rest (n.long ∙ ap (λ (o : Option Text). Some (key, o)) is)) ∙ h in
       let more = later rows (Some key) (k.is_key, ap is_option (sym k.dashed) ∙ known) went in
-      subst (λ (t : Text). Finds rows out (items_of (Some t) rest)) (sym k.dashed) more
+      subst (λ (t : Text). Finds rows out (values_of (Some t) rest)) (sym k.dashed) more
 
-  idle_item : (b : Bool) → is_option (name_in word) ≡ b → rows_from (at rows None idle) (word ∷ rest) ≡ Some out → Finds rows out (items_of None (word ∷ rest))
-  unfolding items_of
+  idle_item : (b : Bool) → is_option (name_in word) ≡ b → rows_from (at rows None idle) (word ∷ rest) ≡ Some out → Finds rows out (values_of None (word ∷ rest))
+  unfolding values_of
   idle_item false e h = absurd (let none : None ≡ Some out = sym (none_after (at rows None idle) word rest (idle_fails rows None word (no_option word plain e))) ∙ h in cc)
   idle_item true e h =
       let k = key_of (name_in word) e in
@@ -129,16 +130,16 @@ module _ (rows out : List Row) (word : Text) (rest : List Text) (plain : is_dash
       rw e (first_item (value_in word) k.0 e k.1 n' refl h)
 
   value_item : (key : Text) → IsKey key → is_option (45 ∷ 45 ∷ key) ≡ true → HasNoDashes rest → rows_from (at rows (Some (key, [])) (option key)) (word ∷ rest) ≡ Some out
-      → Finds rows out (items_of (Some (45 ∷ 45 ∷ key)) (word ∷ rest))
-  unfolding items_of
+      → Finds rows out (values_of (Some (45 ∷ 45 ∷ key)) (word ∷ rest))
+  unfolding values_of
   value_item key k known clean h = elim (either rows key k word plain rest keys_either) [
     | inl none ↦ absurd (let bad : None ≡ Some out = sym none ∙ h in cc)
     | inr same ↦ (let went = accepted rows out key word (λ more. rows_from (at more None idle) rest) (sym (settled_then rows key word k rest (between rest clean)) ∙ sym same ∙ h) in
-        with_first rows out (45 ∷ 45 ∷ key) word (items_of None rest) known went.0 (later (rows ++ row key word ∷ []) None tt went.1))
+        with_first rows out (45 ∷ 45 ∷ key) word (values_of None rest) known went.0 (later (rows ++ row key word ∷ []) None tt went.1))
   ]
 
-pub finds : (words : List Text) (rows out : List Row) (s : Option Text) → IsState s → HasNoDashes words → rows_from (state rows s) words ≡ Some out → Finds rows out (items_of (name_of s) words)
-unfolding items_of
+pub finds : (words : List Text) (rows out : List Row) (s : Option Text) → IsState s → HasNoDashes words → rows_from (state rows s) words ≡ Some out → Finds rows out (values_of (name_of s) words)
+unfolding values_of
 finds [] rows out None is clean h = record { all = []; are = refl; new = refl; options = refl; found = (let same : rows ≡ out = (let both : Some rows ≡ Some out = sym (at_end rows) ∙ h in cc) in sym same ∙ sym (append_none rows)) }
   where
     append_none : (xs : List Row) → xs ++ [] ≡ xs
@@ -201,12 +202,12 @@ new_entry : (rows : List Row) (name value : Text) (next : List Row → Option (L
 new_entry rows name value next e = rw e refl
 
 module _ (rows : List Row) (word : Text) (rest : List Text)
-    (later : (more : List Row) (s : Option Text) (all : List Item) → IsState s → items_of (name_of s) rest ≡ Some all → are_new more all ≡ true → have_numbers all ≡ true → Accepts rest (state more s)) where
+    (later : (more : List Row) (s : Option Text) (all : List Item) → IsState s → values_of (name_of s) rest ≡ Some all → are_new more all ≡ true → have_numbers all ≡ true → Accepts rest (state more s)) where
   item_accepted : (value : Option Text) (key : Text) (all : List Item) → is_option (name_in word) ≡ true → IsKeyOf (name_in word) key → Names word key → value_in word ≡ value
-      → option_map_or (λ v. before (name_in word, v) (items_of None rest)) value (items_of (Some (name_in word)) rest) ≡ Some all
+      → option_map_or (λ v. before (name_in word, v) (values_of None rest)) value (values_of (Some (name_in word)) rest) ≡ Some all
       → are_new rows all ≡ true → have_numbers all ≡ true → Accepts (word ∷ rest) (at rows None idle)
   item_accepted (Some v) key all known k n is h new numbers =
-      let b = begins (name_in word, v) (items_of None rest) all h in
+      let b = begins (name_in word, v) (values_of None rest) all h in
       let fresh = both _ _ (sym (ap (are_new rows) b.first) ∙ new) in
       let counts = both _ _ (sym (ap have_numbers b.first) ∙ numbers) in
       let bare : drop 2 (name_in word) ≡ key = ap (drop 2) k.dashed in
@@ -219,7 +220,7 @@ module _ (rows : List Row) (word : Text) (rest : List Text)
             ∙ new_entry rows key v (λ more. rows_from (at more None idle) rest) none ∙ ap (λ (t : Text). rows_from (at (rows ++ row t v ∷ []) None idle) rest) (sym bare) ∙ a.found;
       }
   item_accepted None key all known k n is h new numbers =
-      let waits : items_of (Some (45 ∷ 45 ∷ key)) rest ≡ Some all = ap (λ (t : Text). items_of (Some t) rest) (sym k.dashed) ∙ h in
+      let waits : values_of (Some (45 ∷ 45 ∷ key)) rest ≡ Some all = ap (λ (t : Text). values_of (Some t) rest) (sym k.dashed) ∙ h in
       let a = later rows (Some key) all (k.is_key, ap is_option (sym k.dashed) ∙ known) waits new numbers in
       record {
         clean = clean_word word rest n.plain a.clean;
@@ -227,22 +228,22 @@ module _ (rows : List Row) (word : Text) (rest : List Text)
         found = named rows word key k.is_key n.plain rest (n.long ∙ ap (λ (o : Option Text). Some (key, o)) is) ∙ a.found;
       }
 
-  idle_accepted : (b : Bool) (all : List Item) → is_option (name_in word) ≡ b → items_of None (word ∷ rest) ≡ Some all → are_new rows all ≡ true → have_numbers all ≡ true
+  idle_accepted : (b : Bool) (all : List Item) → is_option (name_in word) ≡ b → values_of None (word ∷ rest) ≡ Some all → are_new rows all ≡ true → have_numbers all ≡ true
       → Accepts (word ∷ rest) (at rows None idle)
-  unfolding items_of
-  idle_accepted false all e h new numbers = absurd (let none : None ≡ Some all = (let is : items_of None (word ∷ rest) ≡ None = rw e refl in sym is ∙ h) in cc)
+  unfolding values_of
+  idle_accepted false all e h new numbers = absurd (let none : None ≡ Some all = (let is : values_of None (word ∷ rest) ≡ None = rw e refl in sym is ∙ h) in cc)
   idle_accepted true all e h new numbers =
       let k = key_of (name_in word) e in
       let n = names word k.1.first k.1.more (k.1.dashed ∙ ap (λ (t : Text). 45 ∷ 45 ∷ t) k.1.long) in
       let n' : Names word k.0 = subst (Names word) (sym k.1.long) n in
-      let chosen : items_of None (word ∷ rest) ≡ option_map_or (λ v. before (name_in word, v) (items_of None rest)) (value_in word) (items_of (Some (name_in word)) rest) = rw e refl in
+      let chosen : values_of None (word ∷ rest) ≡ option_map_or (λ v. before (name_in word, v) (values_of None rest)) (value_in word) (values_of (Some (name_in word)) rest) = rw e refl in
       item_accepted (value_in word) k.0 all e k.1 n' refl (sym chosen ∙ h) new numbers
 
-  value_accepted : (key : Text) (all : List Item) → IsKey key → items_of (Some (45 ∷ 45 ∷ key)) (word ∷ rest) ≡ Some all → are_new rows all ≡ true → have_numbers all ≡ true
+  value_accepted : (key : Text) (all : List Item) → IsKey key → values_of (Some (45 ∷ 45 ∷ key)) (word ∷ rest) ≡ Some all → are_new rows all ≡ true → have_numbers all ≡ true
       → Accepts (word ∷ rest) (at rows (Some (key, [])) (option key))
-  unfolding items_of
+  unfolding values_of
   value_accepted key all k h new numbers =
-      let b = begins (45 ∷ 45 ∷ key, word) (items_of None rest) all h in
+      let b = begins (45 ∷ 45 ∷ key, word) (values_of None rest) all h in
       let fresh = both _ _ (sym (ap (are_new rows) b.first) ∙ new) in
       let counts = both _ _ (sym (ap have_numbers b.first) ∙ numbers) in
       let plain = digits_plain word counts.0 in
@@ -254,9 +255,9 @@ module _ (rows : List Row) (word : Text) (rest : List Text)
             ∙ new_entry rows key word (λ more. rows_from (at more None idle) rest) (is_not _ fresh.0) ∙ a.found;
       }
 
-pub accepts : (words : List Text) (rows : List Row) (s : Option Text) (all : List Item) → IsState s → items_of (name_of s) words ≡ Some all → are_new rows all ≡ true → have_numbers all ≡ true
+pub accepts : (words : List Text) (rows : List Row) (s : Option Text) (all : List Item) → IsState s → values_of (name_of s) words ≡ Some all → are_new rows all ≡ true → have_numbers all ≡ true
     → Accepts words (state rows s)
-unfolding items_of
+unfolding values_of
 accepts [] rows None all is h new numbers = record { clean = refl; out = rows; found = at_end rows }
 accepts [] rows (Some key) all is h new numbers = absurd (let none : None ≡ Some all = h in cc)
 accepts (word ∷ rest) rows None all is h new numbers = idle_accepted rows word rest (λ more s a st e f g. accepts rest more s a st e f g) (is_option (name_in word)) all refl h new numbers

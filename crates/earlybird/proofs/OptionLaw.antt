@@ -12,7 +12,8 @@ use Rattle.clap.specs.Faults.{fault_of}
 use Rattle.clap.specs.declared.error.kind.ErrorKind.{ErrorKind}
 use Rattle.clap.specs.declared.error.kind.ErrorKind.TheVariants.{OutOfMemory}
 use Rattle.eb_base.specs.Setting.{Setting}
-use Rattle.earlybird.specs.Command.{Item, allowed, before, is_option, items_of, name_in, number_of, one_of, run_of, setting_of, value_in}
+use Rattle.earlybird.specs.Command.{Item, allowed, before, is_option, name_in, number_of, one_of, setting_of, value_in}
+use Rattle.earlybird.specs.Flags.{values_of, values_setting}
 use Rattle.earlybird.specs.declared.command.CommandFault.{CommandFault}
 use Rattle.earlybird.specs.declared.command.CommandFault.TheVariants.{Usage}
 use Rattle.earlybird.specs.Options.{run_app, setting_in}
@@ -25,7 +26,7 @@ use Rattle.earlybird.proofs.OptionValues.{AreGood, good, number_is, of_name}
 rows_found : (first : Text) (rest : List Text) → fault_of run_app (first ∷ rest) ≡ [] → rows_from (at [] None idle) rest ≡ Some (matches_of run_app (first ∷ rest))
 rows_found first rest h = ap (λ (k : Kinds). rows_if k (finished top.rules (end_of (at [] None idle) rest))) (sym (fault_is first rest) ∙ h)
 
-pub run_is : (first : Text) (rest : List Text) → HasNoDashes rest → fault_of run_app (first ∷ rest) ≡ [] → run_of rest ≡ setting_in (matches_of run_app (first ∷ rest))
+pub run_is : (first : Text) (rest : List Text) → HasNoDashes rest → fault_of run_app (first ∷ rest) ≡ [] → values_setting rest ≡ setting_in (matches_of run_app (first ∷ rest))
 run_is first rest clean h =
     let f = finds rest [] (matches_of run_app (first ∷ rest)) None tt clean (rows_found first rest h) in
     ap (option_and_then setting_of) f.are ∙ sym (ap setting_in f.found ∙ same f.all f.new f.options)
@@ -38,22 +39,22 @@ run_is first rest clean h =
 first_known : (item : Item) (items : List Item) → is_option item.0 ≡ true → are_options items ≡ true → are_options (item ∷ items) ≡ true
 first_known item items e f = rw (e, f) refl
 
-known_items : (words : List Text) (name : Option Text) (all : List Item) → option_map_or is_option name true ≡ true → items_of name words ≡ Some all → are_options all ≡ true
-unfolding items_of
+known_items : (words : List Text) (name : Option Text) (all : List Item) → option_map_or is_option name true ≡ true → values_of name words ≡ Some all → are_options all ≡ true
+unfolding values_of
 known_items [] None all is h = (let same : [] ≡ all = (let both : Some [] ≡ Some all = h in cc) in rw (← same) refl)
 known_items [] (Some name) all is h = absurd (let none : None ≡ Some all = h in cc)
 known_items (word ∷ rest) (Some name) all is h =
-    let b = begins (name, word) (items_of None rest) all h in
+    let b = begins (name, word) (values_of None rest) all h in
     let more = known_items rest None b.more refl b.are in
     ap are_options b.first ∙ first_known (name, word) b.more is more
 known_items (word ∷ rest) None all is h = go (λ n a e f. known_items rest n a e f) (is_option (name_in word)) (value_in word) refl refl
   where
-    go : ((n : Option Text) (a : List Item) → option_map_or is_option n true ≡ true → items_of n rest ≡ Some a → are_options a ≡ true)
+    go : ((n : Option Text) (a : List Item) → option_map_or is_option n true ≡ true → values_of n rest ≡ Some a → are_options a ≡ true)
         → (b : Bool) (v : Option Text) → is_option (name_in word) ≡ b → value_in word ≡ v → are_options all ≡ true
-    go more false v e f = absurd (let none : None ≡ Some all = (let is : items_of None (word ∷ rest) ≡ None = rw e refl in sym is ∙ h) in cc)
-    go more true None e f = more (Some (name_in word)) all e (let is : items_of None (word ∷ rest) ≡ items_of (Some (name_in word)) rest = rw (e, f) refl in sym is ∙ h)
+    go more false v e f = absurd (let none : None ≡ Some all = (let is : values_of None (word ∷ rest) ≡ None = rw e refl in sym is ∙ h) in cc)
+    go more true None e f = more (Some (name_in word)) all e (let is : values_of None (word ∷ rest) ≡ values_of (Some (name_in word)) rest = rw (e, f) refl in sym is ∙ h)
     go more true (Some v) e f =
-        let b = begins (name_in word, v) (items_of None rest) all (let is : items_of None (word ∷ rest) ≡ before (name_in word, v) (items_of None rest) = rw (e, f) refl in sym is ∙ h) in
+        let b = begins (name_in word, v) (values_of None rest) all (let is : values_of None (word ∷ rest) ≡ before (name_in word, v) (values_of None rest) = rw (e, f) refl in sym is ∙ h) in
         let others = more None b.more refl b.are in
         ap are_options b.first ∙ first_known (name_in word, v) b.more e others
 
@@ -93,9 +94,9 @@ pub record IsTaken (first : Text) (rest : List Text) : Type 0 where
   pub clean : HasNoDashes rest
   pub fault : fault_of run_app (first ∷ rest) ≡ []
 
-pub taken : (first : Text) (rest : List Text) (σ : Setting) → run_of rest ≡ Some σ → IsTaken first rest
+pub taken : (first : Text) (rest : List Text) (σ : Setting) → values_setting rest ≡ Some σ → IsTaken first rest
 taken first rest σ h =
-    let i = some_of (items_of None rest) setting_of σ h in
+    let i = some_of (values_of None rest) setting_of σ h in
     let known = known_items rest None i.0 refl i.1 in
     let g = good i.0 [] known (all_good i.0 σ i.2) (λ name is there. absurd (true≢false (sym there))) in
     let a = accepts rest [] None i.0 tt i.1 g.new g.numbers in
@@ -105,10 +106,10 @@ taken first rest σ h =
     }
 
 -- where clap faults something or a word is `--`, no setting is asked
-pub none_asked : (first : Text) (rest : List Text) → (IsTaken first rest → ⊥) → run_of rest ≡ None
-none_asked first rest never = go (run_of rest) refl
+pub none_asked : (first : Text) (rest : List Text) → (IsTaken first rest → ⊥) → values_setting rest ≡ None
+none_asked first rest never = go (values_setting rest) refl
   where
-    go : (o : Option Setting) → run_of rest ≡ o → run_of rest ≡ None
+    go : (o : Option Setting) → values_setting rest ≡ o → values_setting rest ≡ None
     go None e = e
     go (Some σ) e = absurd (never (taken first rest σ e))
 
@@ -121,7 +122,7 @@ pub record Splits (ws : List (String Global)) : Type 0 where
   pub after : drop 1 (map string_bytes ws) ≡ rest
   pub further : map string_bytes (take (length ws - 1) (drop 1 ws)) ≡ rest
 
-take_all : (ws : List (String Global)) → take (length ws) ws ≡ ws
+pub take_all : (ws : List (String Global)) → take (length ws) ws ≡ ws
 take_all [] = refl
 take_all (w ∷ ws) = ap (λ (vs : List (String Global)). w ∷ vs) (take_all ws)
 
@@ -136,17 +137,17 @@ splits (w ∷ ws) h = let n : length (w ∷ ws) - 1 ≡ length ws = omega arith 
 }
 
 -- a word is `--`
-pub dashes_none : (ws : List (String Global)) → 0 < length ws → list_any is_dashes (map string_bytes (take (length ws - 1) (drop 1 ws))) ≡ true → run_of (drop 1 (map string_bytes ws)) ≡ None
+pub dashes_none : (ws : List (String Global)) → 0 < length ws → list_any is_dashes (map string_bytes (take (length ws - 1) (drop 1 ws))) ≡ true → values_setting (drop 1 (map string_bytes ws)) ≡ None
 dashes_none ws h some =
     let s = splits ws h in
-    ap run_of s.after ∙ none_asked s.first s.rest (λ t. true≢false (sym some ∙ ap (list_any is_dashes) s.further ∙ t.clean))
+    ap values_setting s.after ∙ none_asked s.first s.rest (λ t. true≢false (sym some ∙ ap (list_any is_dashes) s.further ∙ t.clean))
 
 -- clap faults nothing
 pub run_found : (ws : List (String Global)) → 0 < length ws → list_any is_dashes (map string_bytes (take (length ws - 1) (drop 1 ws))) ≡ false
-    → fault_of run_app (map string_bytes ws) ≡ [] → run_of (drop 1 (map string_bytes ws)) ≡ setting_in (matches_of run_app (map string_bytes ws))
+    → fault_of run_app (map string_bytes ws) ≡ [] → values_setting (drop 1 (map string_bytes ws)) ≡ setting_in (matches_of run_app (map string_bytes ws))
 run_found ws h clean none =
     let s = splits ws h in
-    ap run_of s.after ∙ run_is s.first s.rest (sym (ap (list_any is_dashes) s.further) ∙ clean) (sym (ap (fault_of run_app) s.words) ∙ none)
+    ap values_setting s.after ∙ run_is s.first s.rest (sym (ap (list_any is_dashes) s.further) ∙ clean) (sym (ap (fault_of run_app) s.words) ∙ none)
     ∙ sym (ap (λ (t : List Text). setting_in (matches_of run_app t)) s.words)
 
 -- clap faults something
@@ -155,10 +156,10 @@ among_none k [] h e = h
 among_none k (x ∷ xs) h e = (let bad : x ∷ xs ≡ [] = e in cc)
 
 pub faults_none : (ws : List (String Global)) (k : ErrorKind) → 0 < length ws → (k ≡ OutOfMemory) ⊎ IsAmong k (fault_of run_app (map string_bytes ws)) → (k ≡ OutOfMemory → ⊥)
-    → run_of (drop 1 (map string_bytes ws)) ≡ None
+    → values_setting (drop 1 (map string_bytes ws)) ≡ None
 faults_none ws k h is other =
     let s = splits ws h in
-    ap run_of s.after ∙ none_asked s.first s.rest (λ t. elim is [
+    ap values_setting s.after ∙ none_asked s.first s.rest (λ t. elim is [
       | inl memory ↦ other memory
       | inr among ↦ among_none k _ among (ap (fault_of run_app) s.words ∙ t.fault)
     ])

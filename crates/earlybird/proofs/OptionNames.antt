@@ -63,7 +63,7 @@ keys name = go (bytes_eq name (codes "segments")) (bytes_eq name (codes "docs"))
 
 -- ---- words
 
-name_front : (b : ℕ) (word : Text) → is_equals b ≡ false → name_in (b ∷ word) ≡ b ∷ name_in word
+pub name_front : (b : ℕ) (word : Text) → is_equals b ≡ false → name_in (b ∷ word) ≡ b ∷ name_in word
 name_front b word h =
     let next : 1 + position_or_len is_equals word ≡ suc (position_or_len is_equals word) = omega arith in
     rw h (ap (λ (n : ℕ). take n (b ∷ word)) next)

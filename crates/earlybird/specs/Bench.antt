@@ -12,10 +12,11 @@ use Rattle.earlybird.specs.declared.session.Outcome.{Outcome}
 use Rattle.earlybird.specs.declared.session.Outcome.TheVariants.{Nothing, Answered, Refused}
 use Rattle.earlybird.specs.declared.status.Status.{Status}
 use Rattle.earlybird.specs.declared.status.Status.TheVariants as status
-use Rattle.earlybird.specs.Reading.{Reading, blank, document, query, refused}
-use Rattle.earlybird.specs.Progress.{documents_in, accepted, queries, refusals, progress_after}
+use Rattle.eb_rounds.specs.Reading.{Reading, blank, document, query, refused}
+use Rattle.eb_rounds.specs.Progress.{documents_in, accepted, queries, refusals, progress_after}
 use Rattle.earlybird.specs.Session.{HasCome}
-use Rattle.earlybird.specs.Output.{AreRead, HasRefusal, HasNoRefusal}
+use Rattle.earlybird.specs.Reads.{AreRead}
+use Rattle.earlybird.specs.Output.{HasRefusal, HasNoRefusal}
 use Rattle.earlybird.specs.Worked.{Closes}
 
 -- the setting that an index has where none is asked for

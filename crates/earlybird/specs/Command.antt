@@ -1,5 +1,5 @@
 -- What the words of a command line ask; they are without the program's name.
-use Rattle.std.specs.Prelude.{◌≡◌, ℕ, ◌&&◌, ◌==◌, Bool, List, [], ◌∷◌, ◌^◌, codes, length, nat_le, nat_lt, Option, Some, None, if◌then◌else◌, option_map, option_and_then}
+use Rattle.std.specs.Prelude.{◌≡◌, ℕ, zero, suc, ◌&&◌, ◌==◌, Bool, true, false, List, [], ◌∷◌, ◌^◌, codes, count_by, length, nat_le, nat_lt, Option, Some, None, if◌then◌else◌, option_map, option_and_then}
 use Rattle.std.specs.List.{filter, list_all, list_any, before_first, after_first, range_with_len}
 use Rattle.std.specs.Option.{option_map_or}
 use Rattle.std.specs.Str.{bytes_eq}
@@ -24,11 +24,11 @@ number most word = if are_digits most word && nat_lt (digits_value 10 word) (2 ^
 
 -- ---- the options of `run`
 
--- an option, with its dashes, and the text of its value
+-- an option, with its dashes, and the text of its value; a flag has none
 abbrev pub Item : Type 0
 Item = List ℕ × List ℕ
 
--- their names
+-- the names of those with a value
 abbrev pub options : List (List ℕ)
 options = codes "--segments" ∷ codes "--docs" ∷ codes "--terms" ∷ []
 
@@ -48,17 +48,22 @@ value_in word = if list_any is_equals word then Some (after_first is_equals word
 abbrev pub is_option : List ℕ → Bool
 is_option name = list_any (bytes_eq name) options
 
+-- the flag, an item of its own
+abbrev pub is_flag : List ℕ → Bool
+is_flag word = bytes_eq word (codes "--overlap")
+
 -- an item before further ones
 abbrev pub before : Item → Option (List Item) → Option (List Item)
 before item items = option_map (λ more. item ∷ more) items
 
--- the words as items, each `--x V` or `--x=V`, in any order; the option in front, if any, waits for
--- its value
+-- the words as items, each `--overlap`, `--x V` or `--x=V`, in any order; the option in front, if any, waits
+-- for its value
 unfoldable pub items_of : Option (List ℕ) → List (List ℕ) → Option (List Item)
 items_of None [] = Some []
 items_of None (word ∷ rest) =
-    if is_option (name_in word) then option_map_or (λ value. before (name_in word, value) (items_of None rest)) (value_in word) (items_of (Some (name_in word)) rest)
-    else None
+    if is_flag word then before (word, []) (items_of None rest)
+    else (if is_option (name_in word) then option_map_or (λ value. before (name_in word, value) (items_of None rest)) (value_in word) (items_of (Some (name_in word)) rest)
+    else None)
 items_of (Some name) [] = None
 items_of (Some name) (value ∷ rest) = before (name, value) (items_of None rest)
 
@@ -92,9 +97,23 @@ abbrev pub setting_of : List Item → Option Setting
 setting_of items = option_and_then (λ segments. option_and_then (λ docs. option_and_then (λ terms. allowed segments docs terms)
     (number_of (codes "--terms") 8192 items)) (number_of (codes "--docs") 4096 items)) (number_of (codes "--segments") 12 items)
 
--- the setting that the words behind `run` ask for
-abbrev pub run_of : List (List ℕ) → Option Setting
-run_of words = option_and_then setting_of (items_of None words)
+-- whether so many flags ask for overlap: at most one may stand there
+abbrev pub flagged : ℕ → Option Bool
+flagged zero = Some false
+flagged (suc zero) = Some true
+flagged (suc (suc n)) = None
+
+-- whether the items ask for overlap
+abbrev pub overlap_of : List Item → Option Bool
+overlap_of items = flagged (count_by (λ item. is_flag item.0) items)
+
+-- with or without overlap, and the setting
+abbrev pub asked_with : Option Bool → Option Setting → Option (Bool × Setting)
+asked_with flag setting = option_and_then (λ overlap. option_map (λ σ. (overlap, σ)) setting) flag
+
+-- what the words behind `run` ask for
+abbrev pub run_of : List (List ℕ) → Option (Bool × Setting)
+run_of words = option_and_then (λ items. asked_with (overlap_of items) (setting_of items)) (items_of None words)
 
 -- ---- `bench`
 
@@ -113,12 +132,12 @@ bench_of words = None
 abbrev pub command_of : List (List ℕ) → Option Command
 command_of [] = None
 command_of (name ∷ words) =
-    if bytes_eq name (codes "run") then option_map (λ config. Run config) (run_of words)
+    if bytes_eq name (codes "run") then option_map (λ asked. Run asked.0 asked.1) (run_of words)
     else (if bytes_eq name (codes "bench") then bench_of words else None)
 
--- the words ask to run with an index of this setting
-abbrev pub AsksRun : List (List ℕ) → Setting → Type 0
-AsksRun words σ = command_of words ≡ Some (Run σ)
+-- the words ask to run with an index of this setting, with or without overlap
+abbrev pub AsksRun : List (List ℕ) → Bool → Setting → Type 0
+AsksRun words overlap σ = command_of words ≡ Some (Run overlap σ)
 
 -- the words ask to work off a made input
 abbrev pub AsksBench : List (List ℕ) → ℕ → ℕ → Type 0

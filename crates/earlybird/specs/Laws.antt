@@ -1,12 +1,16 @@
 -- What holds of the text of an input, over the definitions alone.
-use Rattle.std.specs.Prelude.{◌≡◌, ℕ, List}
+use Rattle.std.specs.Prelude.{◌≡◌, ℕ, Bool, true, false, List}
 use Rattle.eb_base.specs.Setting.{Setting}
 use Rattle.earlybird.specs.Output.{IsOutput}
 
--- each input has a text in each setting
+-- each input has a text in each setting, with and without overlap
 abbrev pub SomeText : Type 0
-SomeText = (σ : Setting) (bytes : List ℕ) → (printed : List ℕ) × IsOutput σ bytes printed
+SomeText = (σ : Setting) (overlap : Bool) (bytes : List ℕ) → (printed : List ℕ) × IsOutput σ overlap bytes printed
 
--- and no other
+-- and no other without overlap
 abbrev pub OneText : Type 0
-OneText = (σ : Setting) (bytes a b : List ℕ) → IsOutput σ bytes a → IsOutput σ bytes b → a ≡ b
+OneText = (σ : Setting) (bytes a b : List ℕ) → IsOutput σ false bytes a → IsOutput σ false bytes b → a ≡ b
+
+-- which is one of those with overlap
+abbrev pub OrderText : Type 0
+OrderText = (σ : Setting) (bytes printed : List ℕ) → IsOutput σ false bytes printed → IsOutput σ true bytes printed

@@ -1,30 +1,15 @@
 -- How each line of an input is read.
-use Rattle.std.specs.Prelude.{◌≡◌, ℕ, List, Result, Ok, Err}
-use Rattle.eb_base.specs.Document.{Doc}
+use Rattle.std.specs.Prelude.{◌≡◌, ℕ, List}
+use Rattle.std.specs.List.{AllZip}
+use Rattle.eb_base.specs.Setting.{Setting}
 use Rattle.eb_io.specs.Lines.{Line, line, long_line}
 use Rattle.eb_doc.specs.DocumentLine.{document_of}
-use Rattle.eb_doc.specs.declared.LineFault.{LineFault}
-use Rattle.eb_doc.specs.declared.LineFault.TheVariants as fault
-use Rattle.eb_query.specs.Reading.{Outcome, asks, bad_number, bad_query, too_deep, too_many_nodes, ReadsAs}
-use Rattle.earlybird.specs.declared.refusal.Refusal.TheVariants.{BadLine, LongLine, BadJson, BadDocument, TooLong, BadNumber, BadQuery, TooManyNodes, TooDeep}
+use Rattle.eb_query.specs.Reading.{Outcome, ReadsAs}
+use Rattle.eb_rounds.specs.declared.refusal.Refusal.TheVariants.{BadLine, LongLine}
+use Rattle.eb_rounds.specs.Reading.{Reading, blank, refused}
+use Rattle.eb_rounds.specs.Inputs.{IsOfDocument, of_query}
+use Rattle.eb_rounds.specs.Admitted.{admitted}
 use Rattle.earlybird.specs.Kinds.{Kind, blank_line, document_line, query_line, bad_line, kind_of}
-use Rattle.earlybird.specs.Reading.{Reading, blank, document, query, refused}
-
--- a document line is its document, or it is refused
-abbrev pub IsOfDocument : Result Doc LineFault → Reading → Type 0
-IsOfDocument (Ok d) r = r ≡ document d
-IsOfDocument (Err fault.BadJson) r = r ≡ refused BadJson
-IsOfDocument (Err fault.BadDocument) r = r ≡ refused BadDocument
-IsOfDocument (Err fault.TooLong) r = r ≡ refused TooLong
-IsOfDocument (Err fault.NoMemory) r = ⊥
-
--- a query line asks its query, or it is refused
-abbrev pub of_query : Outcome → Reading
-of_query (asks k q) = query k q
-of_query bad_number = refused BadNumber
-of_query (bad_query column) = refused (BadQuery column)
-of_query too_deep = refused TooDeep
-of_query too_many_nodes = refused TooManyNodes
 
 abbrev pub ReadsByKind : Kind → List ℕ → Reading → Type 0
 ReadsByKind blank_line bytes r = r ≡ blank
@@ -36,3 +21,7 @@ ReadsByKind bad_line bytes r = r ≡ refused BadLine
 abbrev pub Reads : Line → Reading → Type 0
 Reads (line bytes) r = ReadsByKind (kind_of bytes) bytes r
 Reads long_line r = r ≡ refused LongLine
+
+-- the lines are read one by one, and come to these in an index of this setting
+abbrev pub AreRead : Setting → List Line → List Reading → Type 0
+AreRead σ lines rs = (raw : List Reading) × AllZip Reads lines raw × (rs ≡ admitted σ raw)

@@ -1,6 +1,6 @@
 -- How far a run has come between two lines, and how it ends, also over a source or a sink that tells
 -- no bytes.
-use Rattle.std.specs.Prelude.{◌≡◌, ℕ, ◌<◌, ◌≤◌, true, List, [], ◌∷◌, ◌++◌, length, take, Option, Some, Result, Ok, Err}
+use Rattle.std.specs.Prelude.{◌≡◌, ℕ, ◌<◌, ◌≤◌, Bool, true, List, [], ◌∷◌, ◌++◌, length, take, Option, Some, Result, Ok, Err}
 use Rattle.eb_base.specs.Setting.{Setting}
 use Rattle.eb_io.specs.Lines.{Line, longest_input, lines_of, whole_lines}
 use Rattle.eb_io.specs.Held.{Held, HasGiven, HasNoLine, HasAllLines}
@@ -8,47 +8,57 @@ use Rattle.eb_io.specs.Source.{after, IsEmpty}
 use Rattle.eb_io.specs.Sink.{grown}
 use Rattle.earlybird.specs.declared.status.Status.{Status}
 use Rattle.earlybird.specs.declared.status.Status.TheVariants.{Done, Refused, Usage, ReadFault, WriteFault, NoMemory, TooLong}
-use Rattle.earlybird.specs.declared.work.Upcoming.{Upcoming}
-use Rattle.earlybird.specs.declared.work.Upcoming.TheVariants as next
-use Rattle.earlybird.specs.Reading.{Reading}
-use Rattle.earlybird.specs.Reads.{Reads}
-use Rattle.earlybird.specs.Works.{reading_of}
-use Rattle.earlybird.specs.Progress.{Progress, progress_after, told}
-use Rattle.earlybird.specs.Text.{body}
-use Rattle.earlybird.specs.Output.{AreRead, IsBodyOf, IsTextOf, HasRefusal, HasNoRefusal}
+use Rattle.earlybird.specs.declared.running.Running.{Running}
+use Rattle.earlybird.specs.declared.run.Upcoming.{Upcoming}
+use Rattle.earlybird.specs.declared.run.Upcoming.TheVariants as next
+use Rattle.earlybird.specs.Running.{HasRun}
+use Rattle.earlybird.specs.Output.{IsBodyOf, IsTextOf, HasRefusal, HasNoRefusal}
 
--- what comes next, where these bytes are taken by now and these lines were given before
-abbrev pub Comes : Upcoming → List ℕ → List Line → Held → Type 0
-Comes (next.Line work) taken given held = (l : Line) × Reads l (reading_of work) × HasGiven taken (given ++ l ∷ []) held
-Comes next.End taken given held = HasAllLines taken given held × (length taken < held.limit)
-Comes next.ReadFault taken given held = HasNoLine taken given held × (length taken < held.limit)
-Comes next.TooLong taken given held = HasNoLine taken given held × (length taken ≡ held.limit)
-Comes next.NoMemory taken given held = (l : Line) × HasGiven taken (given ++ l ∷ []) held
+-- these are the first lines of the bytes taken and what is left, where that is told
+abbrev pub AreFirst : List Line → List ℕ → Option (List ℕ) → Type 0
+AreFirst lines taken left = (rest : List ℕ) → left ≡ Some rest → (more : List Line) × (lines_of (taken ++ rest) ≡ lines ++ more)
 
--- between two lines: the lines given are those of the bytes taken, and what they print is printed
-pub record IsAt (σ : Setting) (left_old left_new printed_old printed_new : Option (List ℕ)) (held : Held) (session : Progress) : Type 0 where
+-- between two lines: the lines given are those of the bytes taken, and what those that are worked off print is written or
+-- gathered
+pub record IsAt (σ : Setting) (overlap : Bool) (left_old left_new printed_old printed_new : Option (List ℕ)) (held : Held) (run : Running) (gathered : List ℕ) : Type 0 where
   pub taken : List ℕ
   pub given : List Line
-  pub readings : List Reading
+  pub so_far : List ℕ
+  pub written : List ℕ
   pub left : left_old ≡ after taken left_new
   pub lines : HasGiven taken given held
   pub limit : held.limit ≡ longest_input
   pub within : held.taken ≤ held.limit
   pub ended : held.is_ended ≡ true → IsEmpty left_new
-  pub read : AreRead σ given readings
-  pub known : session ≡ progress_after readings
-  pub printed : printed_new ≡ grown printed_old (body (told readings) readings)
+  pub works : HasRun run σ overlap given so_far
+  pub wrote : printed_new ≡ grown printed_old written
+  pub parts : so_far ≡ written ++ gathered
 
--- what printing one line leaves: all of it, a front of it, or nothing
-abbrev pub Prints : {A : Type 0} → Result A Status → List ℕ → Option (List ℕ) → Option (List ℕ) → Type 0
-Prints (Ok u) output printed_old printed_new = printed_new ≡ grown printed_old output
-Prints (Err WriteFault) output printed_old printed_new = (n : ℕ) × (printed_new ≡ grown printed_old (take n output))
-Prints (Err NoMemory) output printed_old printed_new = printed_new ≡ printed_old
-Prints (Err Done) output printed_old printed_new = ⊥
-Prints (Err Refused) output printed_old printed_new = ⊥
-Prints (Err Usage) output printed_old printed_new = ⊥
-Prints (Err ReadFault) output printed_old printed_new = ⊥
-Prints (Err TooLong) output printed_old printed_new = ⊥
+-- and all lines of the input were given
+abbrev pub IsAtEnd : Setting → Bool → Option (List ℕ) → Option (List ℕ) → Option (List ℕ) → Option (List ℕ) → Held → Running → List ℕ → Type 0
+IsAtEnd σ overlap l0 l1 p0 p1 held run gathered = (a : IsAt σ overlap l0 l1 p0 p1 held run gathered) × HasAllLines a.taken a.given held × (length a.taken < held.limit)
+
+-- or all whole lines of the bytes taken, at a fault or where they are as many as may be
+abbrev pub IsStopped : Status → Setting → Bool → Option (List ℕ) → Option (List ℕ) → Option (List ℕ) → Option (List ℕ) → Held → Running → List ℕ → Type 0
+IsStopped ReadFault σ overlap l0 l1 p0 p1 held run gathered = (a : IsAt σ overlap l0 l1 p0 p1 held run gathered) × HasNoLine a.taken a.given held × (length a.taken < held.limit)
+IsStopped TooLong σ overlap l0 l1 p0 p1 held run gathered = (a : IsAt σ overlap l0 l1 p0 p1 held run gathered) × HasNoLine a.taken a.given held × (length a.taken ≡ held.limit)
+IsStopped Done σ overlap l0 l1 p0 p1 held run gathered = ⊥
+IsStopped Refused σ overlap l0 l1 p0 p1 held run gathered = ⊥
+IsStopped Usage σ overlap l0 l1 p0 p1 held run gathered = ⊥
+IsStopped WriteFault σ overlap l0 l1 p0 p1 held run gathered = ⊥
+IsStopped NoMemory σ overlap l0 l1 p0 p1 held run gathered = ⊥
+
+-- the run may stop here: what some first lines of the input print is written or gathered
+pub record MayStop (σ : Setting) (overlap : Bool) (left_old left_new printed_old printed_new : Option (List ℕ)) (gathered : List ℕ) : Type 0 where
+  pub taken : List ℕ
+  pub done : List Line
+  pub so_far : List ℕ
+  pub written : List ℕ
+  pub left : left_old ≡ after taken left_new
+  pub first : AreFirst done taken left_new
+  pub body : IsBodyOf σ overlap done so_far
+  pub wrote : printed_new ≡ grown printed_old written
+  pub parts : so_far ≡ written ++ gathered
 
 -- what printing the last line leaves, where so many lines are refused
 abbrev pub Closes : Status → ℕ → List ℕ → Option (List ℕ) → Option (List ℕ) → Type 0
@@ -60,33 +70,46 @@ Closes Usage refused last printed_old printed_new = ⊥
 Closes ReadFault refused last printed_old printed_new = ⊥
 Closes TooLong refused last printed_old printed_new = ⊥
 
--- these are the first lines of the bytes taken and what is left, where that is told
-abbrev pub AreFirst : List Line → List ℕ → Option (List ℕ) → Type 0
-AreFirst lines taken left = (rest : List ℕ) → left ≡ Some rest → (more : List Line) × (lines_of (taken ++ rest) ≡ lines ++ more)
-
 -- a front of the text of some first lines
-pub record IsPart (σ : Setting) (taken : List ℕ) (left : Option (List ℕ)) (printed : List ℕ) : Type 0 where
+pub record IsPart (σ : Setting) (overlap : Bool) (taken : List ℕ) (left : Option (List ℕ)) (printed : List ℕ) : Type 0 where
   pub lines : List Line
   pub whole : List ℕ
   pub more : List ℕ
   pub first : AreFirst lines taken left
-  pub text : IsTextOf σ lines whole
+  pub text : IsTextOf σ overlap lines whole
   pub front : whole ≡ printed ++ more
 
 -- how a run over these taken bytes ends
-abbrev pub EndsAs : Setting → Status → List ℕ → Option (List ℕ) → List ℕ → Type 0
-EndsAs σ Done taken left printed = IsEmpty left × IsTextOf σ (lines_of taken) printed × HasNoRefusal σ (lines_of taken) × (length taken < longest_input)
-EndsAs σ Refused taken left printed = IsEmpty left × IsTextOf σ (lines_of taken) printed × HasRefusal σ (lines_of taken) × (length taken < longest_input)
-EndsAs σ ReadFault taken left printed = IsBodyOf σ (whole_lines taken) printed × (length taken < longest_input)
-EndsAs σ TooLong taken left printed = IsBodyOf σ (whole_lines taken) printed × (length taken ≡ longest_input)
-EndsAs σ WriteFault taken left printed = IsPart σ taken left printed
-EndsAs σ NoMemory taken left printed = IsPart σ taken left printed
-EndsAs σ Usage taken left printed = ⊥
+abbrev pub EndsAs : Setting → Bool → Status → List ℕ → Option (List ℕ) → List ℕ → Type 0
+EndsAs σ overlap Done taken left printed = IsEmpty left × IsTextOf σ overlap (lines_of taken) printed × HasNoRefusal σ (lines_of taken) × (length taken < longest_input)
+EndsAs σ overlap Refused taken left printed = IsEmpty left × IsTextOf σ overlap (lines_of taken) printed × HasRefusal σ (lines_of taken) × (length taken < longest_input)
+EndsAs σ overlap ReadFault taken left printed = IsBodyOf σ overlap (whole_lines taken) printed × (length taken < longest_input)
+EndsAs σ overlap TooLong taken left printed = IsBodyOf σ overlap (whole_lines taken) printed × (length taken ≡ longest_input)
+EndsAs σ overlap WriteFault taken left printed = IsPart σ overlap taken left printed
+EndsAs σ overlap NoMemory taken left printed = IsPart σ overlap taken left printed
+EndsAs σ overlap Usage taken left printed = ⊥
 
 -- some bytes were taken and some printed, as the status says
-pub record Ends (σ : Setting) (status : Status) (left_old left_new printed_old printed_new : Option (List ℕ)) : Type 0 where
+pub record Ends (σ : Setting) (overlap : Bool) (status : Status) (left_old left_new printed_old printed_new : Option (List ℕ)) : Type 0 where
   pub taken : List ℕ
   pub printed : List ℕ
   pub left : left_old ≡ after taken left_new
   pub put : printed_new ≡ grown printed_old printed
-  pub ends : EndsAs σ status taken left_new printed
+  pub ends : EndsAs σ overlap status taken left_new printed
+
+-- a run that stands somewhere between two lines
+abbrev pub IsSomewhere : Option (List ℕ) → Option (List ℕ) → Held → Running → List ℕ → Type 0
+IsSomewhere l1 p1 held run gathered = (σ : Setting) × (overlap : Bool) × (l0 : Option (List ℕ)) × (p0 : Option (List ℕ)) × IsAt σ overlap l0 l1 p0 p1 held run gathered
+
+-- where the run stands after the next line was asked for
+abbrev pub Comes : Upcoming → Setting → Bool → Option (List ℕ) → Option (List ℕ) → Option (List ℕ) → Option (List ℕ) → Held → Running → List ℕ → Type 0
+Comes next.Line σ overlap l0 l1 p0 p1 held run gathered = IsAt σ overlap l0 l1 p0 p1 held run gathered
+Comes next.End σ overlap l0 l1 p0 p1 held run gathered = IsAtEnd σ overlap l0 l1 p0 p1 held run gathered
+Comes next.ReadFault σ overlap l0 l1 p0 p1 held run gathered = IsStopped ReadFault σ overlap l0 l1 p0 p1 held run gathered
+Comes next.TooLong σ overlap l0 l1 p0 p1 held run gathered = IsStopped TooLong σ overlap l0 l1 p0 p1 held run gathered
+Comes next.NoMemory σ overlap l0 l1 p0 p1 held run gathered = MayStop σ overlap l0 l1 p0 p1 gathered
+
+-- a line came, and was taken or not
+abbrev pub upcoming_of : {T E : Type 0} → Result T E → Upcoming
+upcoming_of (Ok x) = next.Line
+upcoming_of (Err e) = next.NoMemory

@@ -2,7 +2,7 @@
 use Rattle.eb_cursor.specs.Frames.{query_of, k_of}
 use Rattle.earlybird.specs.declared.work.Work.{Work}
 use Rattle.earlybird.specs.declared.work.Work.TheVariants.{Nothing, Add, Answer, Refuse}
-use Rattle.earlybird.specs.Reading.{Reading, blank, document, query, refused}
+use Rattle.eb_rounds.specs.Reading.{Reading, blank, document, query, refused}
 
 abbrev pub reading_of : Work → Reading
 reading_of Nothing = blank

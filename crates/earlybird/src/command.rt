@@ -2,13 +2,14 @@ ghost use Rattle.std.specs.Prelude.{◌≡◌, Some, None, IfOk, IsErrOf, map, s
 ghost use Rattle.earlybird.specs.Command.{command_of};
 
 mod bench;
+mod flag;
 mod number;
 mod options;
 mod setting;
 
 use bench::read_bench;
 use eb_base::Config;
-use setting::read_setting;
+use flag::read_run;
 use std::alloc::Global;
 
 /// What the words of a command line ask for.
@@ -16,6 +17,8 @@ use std::alloc::Global;
 pub enum Command {
     /// `run`: read lines, with an index of this setting.
     Run {
+        /// Whether documents are added while queries are answered (`--overlap`).
+        overlap: bool,
         /// The setting that the options give; what they don't name is as in `Config::usual`.
         config: Config,
     },
@@ -39,7 +42,7 @@ pub enum CommandFault {
 
 /// The command that the words ask for; they are without the program's name.
 ///
-/// - `run`, and then items in any order, each option at most once: for x of `segments`, `docs` and
+/// - `run`, and then items in any order, each option at most once: `--overlap`, and for x of `segments`, `docs` and
 ///   `terms` the two words `--x V` or the one word `--x=V`. V is one to nine digits, leading zeros
 ///   allowed; what isn't named is as in `Config::usual`. `Config::new` has to allow the setting.
 /// - `bench START DOCS`: one to twenty digits of value at most 18446744073709551615, and one to nine
@@ -55,8 +58,8 @@ pub fn read_command(alloc: Global, words: &Vec<String>) -> Result<Command, Comma
     }
     let name = words[0].as_str();
     if name == "run" {
-        let config = read_setting(alloc, words.as_slice())?;
-        return Ok(Command::Run { config });
+        let (overlap, config) = read_run(alloc, words.as_slice())?;
+        return Ok(Command::Run { overlap, config });
     }
     if name == "bench" {
         return read_bench(words.as_slice()).ok_or(CommandFault::Usage);

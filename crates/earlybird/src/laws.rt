@@ -1,12 +1,18 @@
-ghost use Rattle.earlybird.specs.Laws.{SomeText, OneText};
+ghost use Rattle.earlybird.specs.Laws.{SomeText, OneText, OrderText};
 
-/// The rules leave no input out: each has a text. The call does nothing.
+/// The rules leave no input out: each has a text, with and without `--overlap`. The call does nothing.
 pub fn some_text()
     ensures { SomeText }
 {}
 
-/// The rules give an input one text and no other. So what a run prints up to the end of its input is
+/// Without `--overlap` the rules give an input one text and no other. So what a run prints up to the end of its input is
 /// settled by the input's bytes. The call does nothing.
 pub fn one_text()
     ensures { OneText }
+{}
+
+/// This text is one of those that the rules allow with `--overlap`: to see just the documents before it is allowed to each
+/// query. The call does nothing.
+pub fn order_text()
+    ensures { OrderText }
 {}

@@ -1,5 +1,7 @@
-ghost use Rattle.std.specs.Prelude.{◌≡◌, ◌⊎◌, ◌<◌, ◌≤◌, ◌++◌, List, ℕ, None, Some, length, map, string_bytes};
+ghost use Rattle.std.specs.Prelude.{◌≡◌, ◌⊎◌, ◌+◌, ◌<◌, ◌≤◌, ◌++◌, Bool, List, [], ℕ, Option, None, Some, length, map, string_bytes, take, ⊤, MatchResult, OnErr, OnOk};
 ghost use Rattle.eb_io.specs.Faults.{HasRisen};
+ghost use Rattle.eb_io.specs.Held.{Held};
+ghost use Rattle.eb_io.specs.Sink.{grown};
 ghost use Rattle.eb_base.specs.Setting.{Setting};
 ghost use Rattle.earlybird.specs.Command.{command_of, AsksRun, AsksBench};
 ghost use Rattle.earlybird.specs.Bench.{WroteBench, MeansBench, PrintsFigures};
@@ -7,24 +9,27 @@ ghost use Rattle.eb_gen.specs.Made.{made};
 ghost use Rattle.eb_io.specs.Lines.{longest_input, lines_of};
 ghost use Rattle.earlybird.specs.Output.{Wrote, Means, IsWorkedOff};
 ghost use Rattle.earlybird.specs.StatusLine.{status_line};
-ghost use Rattle.earlybird.specs.Worked.{Ends};
+ghost use Rattle.earlybird.specs.Worked.{IsAt, IsAtEnd, IsStopped, IsSomewhere, MayStop, Comes, Ends, upcoming_of};
 
 use crate::bench::run_bench;
 use crate::command::{Command, CommandFault, read_command};
-use crate::printed::{close, print_line};
-use crate::session::Session;
+use crate::printing::put_summary;
+use crate::running::Running;
 use crate::status::{MAX_INPUT, Status};
-use crate::work::{Upcoming, next_work};
-use eb_base::{Config, Gate};
-use eb_io::{Lines, Sink, Source, write_all};
+use eb_base::{Config, Gate, NoMemory};
+use eb_io::{Lines, Next, Sink, SinkFailed, Source, write_all};
 use std::alloc::Global;
 use std::thread::Threads;
 
+// How many bytes are gathered before they are written, where the source isn't asked before.
+const GATHERED: usize = 65_536;
+
 /// Runs the command that the words ask for: `run` reads document lines and query lines from the
-/// source and prints answers and refusals on `out`, each before the next line is read. What the
-/// status has to say goes to `err`; a fault there changes no status.
+/// source and prints answers and refusals on `out`. With `--overlap` documents are added while queries
+/// are answered, by two threads, and lines are read by several. What is printed goes out in one write before the source
+/// is asked again, or once 64 KiB are gathered. What the status has to say goes to `err`; a fault there changes no status.
 pub fn run<R, S, K, E, G>(
-    _rt: &R,
+    rt: &R,
     alloc: Global,
     words: &Vec<String>,
     source: &mut S,
@@ -42,12 +47,13 @@ where
     ensures usage { result ≡ Status.Usage → command_of (map string_bytes words.now.items) ≡ None }
     ensures no_command { command_of (map string_bytes words.now.items) ≡ None → (result ≡ Status.Usage) ⊎ (result ≡ Status.NoMemory) }
     ensures unread { command_of (map string_bytes words.now.items) ≡ None → (source.new ≡ source.old) × (out.new ≡ out.old) }
-    // Where the words ask to run with an index of a setting, and source and `out` tell their bytes, the run printed
-    // the text of the input as the status says.
-    ensures output { (σ : Setting) → AsksRun (map string_bytes words.now.items) σ → (bytes before : List ℕ) → S.left source.old ≡ Some bytes → K.taken out.old ≡ Some before
-        → (printed : List ℕ) × (K.taken out.new ≡ Some (before ++ printed)) × Wrote σ result bytes (S.left source.new) printed }
+    // Where the words ask to run with an index of a setting, with or without overlap, and source and `out` tell their bytes,
+    // the run printed a text of the input as the status says.
+    ensures output { (overlap : Bool) (σ : Setting) → AsksRun (map string_bytes words.now.items) overlap σ
+        → (bytes before : List ℕ) → S.left source.old ≡ Some bytes → K.taken out.old ≡ Some before
+        → (printed : List ℕ) × (K.taken out.new ≡ Some (before ++ printed)) × Wrote σ overlap result bytes (S.left source.new) printed }
     // What the status says of the input holds whatever becomes of the output.
-    ensures means { (σ : Setting) → AsksRun (map string_bytes words.now.items) σ → (bytes : List ℕ) → S.left source.old ≡ Some bytes
+    ensures means { (overlap : Bool) (σ : Setting) → AsksRun (map string_bytes words.now.items) overlap σ → (bytes : List ℕ) → S.left source.old ≡ Some bytes
         → Means σ result bytes (S.left source.new) }
     // Where they ask to work off a made input, the source isn't read, and the run printed the figures of that input.
     ensures bench_unread { (start count : ℕ) → AsksBench (map string_bytes words.now.items) start count → source.new ≡ source.old }
@@ -60,18 +66,20 @@ where
     ensures read_fault { result ≡ Status.ReadFault → HasRisen (S.faults source.old) (S.faults source.new) }
     ensures write_fault { result ≡ Status.WriteFault → HasRisen (K.faults out.old) (K.faults out.new) }
     // Without a fault and with an end in time, the input is worked off.
-    ensures completes { (σ : Setting) → AsksRun (map string_bytes words.now.items) σ → (HasRisen (S.faults source.old) (S.faults source.new) → ⊥)
-        → (HasRisen (K.faults out.old) (K.faults out.new) → ⊥) → (bytes : List ℕ) → S.left source.old ≡ Some bytes → length bytes < longest_input → IsWorkedOff result }
+    ensures completes { (overlap : Bool) (σ : Setting) → AsksRun (map string_bytes words.now.items) overlap σ
+        → (HasRisen (S.faults source.old) (S.faults source.new) → ⊥) → (HasRisen (K.faults out.old) (K.faults out.new) → ⊥)
+        → (bytes : List ℕ) → S.left source.old ≡ Some bytes → length bytes < longest_input → IsWorkedOff result }
     // `err` took the line of the status, unless it failed.
     ensures told { (before : List ℕ) → E.taken err.old ≡ Some before
         → HasRisen (E.faults err.old) (E.faults err.new) ⊎ (E.taken err.new ≡ Some (before ++ status_line result)) }
 {
-    let status = run_words(alloc, words, source, out, gate);
+    let status = run_words(rt, alloc, words, source, out, gate);
     let _ = write_all(err, status.line());
     status
 }
 
-fn run_words<S: Source, K: Sink, G: Gate>(
+fn run_words<R: Threads + Sync, S: Source, K: Sink, G: Gate + Sync>(
+    rt: &R,
     alloc: Global,
     words: &Vec<String>,
     source: &mut S,
@@ -81,7 +89,8 @@ fn run_words<S: Source, K: Sink, G: Gate>(
     ensures usage { result ≡ Status.Usage → command_of (map string_bytes words.now.items) ≡ None }
     ensures no_command { command_of (map string_bytes words.now.items) ≡ None → (result ≡ Status.Usage) ⊎ (result ≡ Status.NoMemory) }
     ensures unread { command_of (map string_bytes words.now.items) ≡ None → (source.new ≡ source.old) × (out.new ≡ out.old) }
-    ensures ends { (σ : Setting) → AsksRun (map string_bytes words.now.items) σ → Ends σ result (S.left source.old) (S.left source.new) (K.taken out.old) (K.taken out.new) }
+    ensures ends { (overlap : Bool) (σ : Setting) → AsksRun (map string_bytes words.now.items) overlap σ
+        → Ends σ overlap result (S.left source.old) (S.left source.new) (K.taken out.old) (K.taken out.new) }
     ensures bench_unread { (start count : ℕ) → AsksBench (map string_bytes words.now.items) start count → source.new ≡ source.old }
     ensures bench { (start count : ℕ) → AsksBench (map string_bytes words.now.items) start count
         → PrintsFigures result (lines_of (made start count)) (K.taken out.old) (K.taken out.new) }
@@ -94,39 +103,261 @@ fn run_words<S: Source, K: Sink, G: Gate>(
         Err(CommandFault::NoMemory) => return Status::NoMemory,
     };
     match command {
-        Command::Run { config } => run_lines(alloc, config, source, out, gate),
+        Command::Run { overlap, config } => run_lines(
+            rt, alloc, overlap, config, source, out, gate,
+        ),
         Command::Bench { start, docs } => run_bench(alloc, start, docs, out, gate),
     }
 }
 
-fn run_lines<S: Source, K: Sink, G: Gate>(
+// Writes what is gathered.
+fn write_gathered<K: Sink>(text: &mut Vec<u8>, out: &mut K) -> Result<(), SinkFailed>
+    ensures ok { OnOk result ((K.taken out.new ≡ grown (K.taken out.old) text.old.items) × (text.new.items ≡ [])) }
+    ensures err { OnErr result ((n : ℕ) × (K.taken out.new ≡ grown (K.taken out.old) (take n text.old.items))) }
+    ensures later { K.faults out.old ≤ K.faults out.new }
+    ensures failed { OnErr result (HasRisen (K.faults out.old) (K.faults out.new)) }
+{
+    write_all(out, text.as_slice())?;
+    text.clear();
+    Ok(())
+}
+
+// The same, where much is gathered.
+fn write_much<K: Sink>(text: &mut Vec<u8>, out: &mut K) -> Result<(), SinkFailed>
+    ensures ok { OnOk result ((front : List ℕ) × (K.taken out.new ≡ grown (K.taken out.old) front) × (text.old.items ≡ front ++ text.new.items)) }
+    ensures err { OnErr result ((n : ℕ) × (K.taken out.new ≡ grown (K.taken out.old) (take n text.old.items))) }
+    ensures later { K.faults out.old ≤ K.faults out.new }
+    ensures failed { OnErr result (HasRisen (K.faults out.old) (K.faults out.new)) }
+{
+    if text.len() < GATHERED {
+        return Ok(());
+    }
+    write_gathered(text, out)
+}
+
+// How a run ends for want of memory: what is gathered is written before.
+fn give_up<K: Sink>(text: &mut Vec<u8>, out: &mut K) -> Status
+    ensures ends { (σ : Setting) (overlap : Bool) (l0 l1 p0 : Option (List ℕ)) → MayStop σ overlap l0 l1 p0 (K.taken out.old) text.old.items
+        → Ends σ overlap result l0 l1 p0 (K.taken out.new) }
+    ensures read { result ≡ Status.ReadFault → ⊥ }
+    ensures write_fault { result ≡ Status.WriteFault → HasRisen (K.faults out.old) (K.faults out.new) }
+    ensures later { K.faults out.old ≤ K.faults out.new }
+{
+    match write_gathered(text, out) {
+        Ok(()) => Status::NoMemory,
+        Err(SinkFailed) => Status::WriteFault,
+    }
+}
+
+// Before the next line: where the source is asked for it, no answer waits. A held query is answered, and what is gathered is
+// written.
+fn settle<R: Threads + Sync, K: Sink, G: Gate + Sync>(
+    rt: &R,
     alloc: Global,
+    running: &mut Running,
+    lines: &Lines,
+    gate: &G,
+    text: &mut Vec<u8>,
+    out: &mut K,
+) -> Result<(), Status>
+    requires { (l1 : Option (List ℕ)) × IsSomewhere l1 (K.taken out.old) lines.now running.old text.old.items }
+    ensures next { (σ : Setting) (overlap : Bool) (l0 l1 p0 : Option (List ℕ))
+        → IsAt σ overlap l0 l1 p0 (K.taken out.old) lines.now running.old text.old.items
+        → MatchResult result (λ _. IsAt σ overlap l0 l1 p0 (K.taken out.new) lines.now running.new text.new.items)
+        (λ status. Ends σ overlap status l0 l1 p0 (K.taken out.new)) }
+    ensures number { running.new.number ≡ running.old.number }
+    ensures read { MatchResult result (λ _. ⊤) (λ status. status ≡ Status.ReadFault → ⊥) }
+    ensures write_fault { MatchResult result (λ _. ⊤) (λ status. status ≡ Status.WriteFault → HasRisen (K.faults out.old) (K.faults out.new)) }
+    ensures later { K.faults out.old ≤ K.faults out.new }
+{
+    if lines.has_line() {
+        return Ok(());
+    }
+    let Ok(()) = running.answer_held(rt, alloc, gate, text) else {
+        return Err(give_up(text, out));
+    };
+    match write_gathered(text, out) {
+        Ok(()) => Ok(()),
+        Err(SinkFailed) => Err(Status::WriteFault),
+    }
+}
+
+// What comes next in an input.
+#[derive(Clone, Copy, Debug, PartialEq, Eq)]
+pub(crate) enum Upcoming {
+    // A line, which was taken.
+    Line,
+    End,
+    ReadFault,
+    TooLong,
+    // A line, for which there was no memory.
+    NoMemory,
+}
+
+// A line came, and was taken or not.
+fn say_taken(taken: Result<(), NoMemory>) -> Upcoming
+    ensures { result ≡ upcoming_of taken }
+{
+    match taken {
+        Ok(()) => Upcoming::Line,
+        Err(NoMemory) => Upcoming::NoMemory,
+    }
+}
+
+// Asks for the next line, and takes it.
+fn take_next<R: Threads + Sync, S: Source, G: Gate + Sync>(
+    rt: &R,
+    alloc: Global,
+    running: &mut Running,
+    lines: &mut Lines,
+    source: &mut S,
+    gate: &G,
+    text: &mut Vec<u8>,
+) -> Upcoming
+    requires { (p1 : Option (List ℕ)) × IsSomewhere (S.left source.old) p1 lines.old running.old text.old.items }
+    ensures next { (σ : Setting) (overlap : Bool) (l0 p0 p1 : Option (List ℕ))
+        → IsAt σ overlap l0 (S.left source.old) p0 p1 lines.old running.old text.old.items
+        → Comes result σ overlap l0 (S.left source.new) p0 p1 lines.new running.new text.new.items }
+    ensures number { result ≡ Upcoming.Line → running.new.number ≡ running.old.number + 1 }
+    ensures fault { result ≡ Upcoming.ReadFault → HasRisen (S.faults source.old) (S.faults source.new) }
+    ensures later { S.faults source.old ≤ S.faults source.new }
+{
+    match lines.next_line(source) {
+        Next::Line => say_taken(running.take_line(rt, alloc, lines.line(), gate, text)),
+        Next::LongLine => say_taken(running.take_long(rt, alloc, gate, text)),
+        Next::End => Upcoming::End,
+        Next::ReadFault => Upcoming::ReadFault,
+        Next::TooLong => Upcoming::TooLong,
+    }
+}
+
+// How a run ends where reading does, by this status: the lines that are held are worked off before, and what is gathered is
+// written.
+fn stop<R: Threads + Sync, K: Sink, G: Gate + Sync>(
+    rt: &R,
+    alloc: Global,
+    running: &mut Running,
+    gate: &G,
+    text: &mut Vec<u8>,
+    out: &mut K,
+    status: Status,
+) -> Status
+    requires { (held : Held) × (l1 : Option (List ℕ)) × IsSomewhere l1 (K.taken out.old) held running.old text.old.items }
+    ensures ends { (σ : Setting) (overlap : Bool) (l0 l1 p0 : Option (List ℕ)) (held : Held)
+        → IsStopped status σ overlap l0 l1 p0 (K.taken out.old) held running.old text.old.items
+        → Ends σ overlap result l0 l1 p0 (K.taken out.new) }
+    ensures read { (status ≡ Status.ReadFault → ⊥) → result ≡ Status.ReadFault → ⊥ }
+    ensures write_fault { (status ≡ Status.WriteFault → ⊥) → result ≡ Status.WriteFault → HasRisen (K.faults out.old) (K.faults out.new) }
+{
+    let Ok(()) = running.work_held(rt, alloc, gate, text) else {
+        return give_up(text, out);
+    };
+    match write_gathered(text, out) {
+        Ok(()) => status,
+        Err(SinkFailed) => Status::WriteFault,
+    }
+}
+
+// The status at the end of an input of which so many lines are refused.
+fn status_of(refused: u64) -> Status
+    ensures some { 0 < refused → result ≡ Status.Refused }
+    ensures none { refused ≡ 0 → result ≡ Status.Done }
+{
+    if refused > 0 {
+        Status::Refused
+    } else {
+        Status::Done
+    }
+}
+
+// How a run ends where its input does: the lines that are held are worked off before, and the summary is printed.
+fn close<R: Threads + Sync, K: Sink, G: Gate + Sync>(
+    rt: &R,
+    alloc: Global,
+    running: &mut Running,
+    gate: &G,
+    text: &mut Vec<u8>,
+    out: &mut K,
+) -> Status
+    requires { (held : Held) × (l1 : Option (List ℕ)) × IsSomewhere l1 (K.taken out.old) held running.old text.old.items }
+    ensures ends { (σ : Setting) (overlap : Bool) (l0 l1 p0 : Option (List ℕ)) (held : Held)
+        → IsAtEnd σ overlap l0 l1 p0 (K.taken out.old) held running.old text.old.items
+        → Ends σ overlap result l0 l1 p0 (K.taken out.new) }
+    ensures read { result ≡ Status.ReadFault → ⊥ }
+    ensures write_fault { result ≡ Status.WriteFault → HasRisen (K.faults out.old) (K.faults out.new) }
+{
+    let Ok(()) = running.work_held(rt, alloc, gate, text) else {
+        return give_up(text, out);
+    };
+    let counts = running.counts();
+    let Ok(()) = put_summary(
+        alloc,
+        text,
+        counts.documents,
+        counts.queries,
+        counts.refused,
+    ) else {
+        return give_up(text, out);
+    };
+    let Ok(()) = write_gathered(text, out) else {
+        return Status::WriteFault;
+    };
+    status_of(counts.refused)
+}
+
+fn run_lines<R: Threads + Sync, S: Source, K: Sink, G: Gate + Sync>(
+    rt: &R,
+    alloc: Global,
+    overlap: bool,
     config: Config,
     source: &mut S,
     out: &mut K,
     gate: &G,
 ) -> Status
-    ensures ends { Ends config result (S.left source.old) (S.left source.new) (K.taken out.old) (K.taken out.new) }
+    ensures ends { Ends config overlap result (S.left source.old) (S.left source.new) (K.taken out.old) (K.taken out.new) }
     ensures read_fault { result ≡ Status.ReadFault → HasRisen (S.faults source.old) (S.faults source.new) }
     ensures write_fault { result ≡ Status.WriteFault → HasRisen (K.faults out.old) (K.faults out.new) }
 {
     let Ok(mut lines) = Lines::new(alloc, MAX_INPUT) else {
         return Status::NoMemory;
     };
-    let Ok(mut session) = Session::new(alloc, config) else {
+    let Ok(mut running) = Running::new(alloc, overlap, config) else {
         return Status::NoMemory;
     };
-    let mut text = String::new(alloc);
+    let mut text = Vec::new(alloc);
     'lines: loop {
-        let work = match next_work(alloc, &mut lines, source) {
-            Upcoming::Line(work) => work,
-            Upcoming::End => return close(&session, &mut text, out),
-            Upcoming::ReadFault => return Status::ReadFault,
-            Upcoming::TooLong => return Status::TooLong,
-            Upcoming::NoMemory => return Status::NoMemory,
-        };
-        if let Err(status) = print_line(&mut session, work, gate, &mut text, out) {
+        if let Err(status) = settle(rt, alloc, &mut running, &lines, gate, &mut text, out) {
             return status;
         }
+        match take_next(rt, alloc, &mut running, &mut lines, source, gate, &mut text) {
+            Upcoming::Line => {}
+            Upcoming::End => return close(rt, alloc, &mut running, gate, &mut text, out),
+            Upcoming::ReadFault => {
+                return stop(
+                    rt,
+                    alloc,
+                    &mut running,
+                    gate,
+                    &mut text,
+                    out,
+                    Status::ReadFault,
+                );
+            }
+            Upcoming::TooLong => {
+                return stop(
+                    rt,
+                    alloc,
+                    &mut running,
+                    gate,
+                    &mut text,
+                    out,
+                    Status::TooLong,
+                );
+            }
+            Upcoming::NoMemory => return give_up(&mut text, out),
+        }
+        let Ok(()) = write_much(&mut text, out) else {
+            return Status::WriteFault;
+        };
     }
 }

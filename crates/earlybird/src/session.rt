@@ -3,18 +3,18 @@ ghost use Rattle.eb_base.specs.Document.{Doc};
 ghost use Rattle.eb_base.specs.Setting.{Setting};
 ghost use Rattle.eb_base.specs.Match.{answer};
 ghost use Rattle.eb_cursor.specs.Frames.{query_of, k_of, ids_of};
-ghost use Rattle.earlybird.specs.Reading.{blank, document as reads_document, query, refused};
-ghost use Rattle.earlybird.specs.Progress.{Progress, with_line, nothing};
-ghost use Rattle.earlybird.specs.Admitted.{admit};
+ghost use Rattle.eb_rounds.specs.Reading.{blank, document as reads_document, query, refused};
+ghost use Rattle.eb_rounds.specs.Progress.{Progress, with_line, nothing};
+ghost use Rattle.eb_rounds.specs.Admitted.{admit};
 ghost use Rattle.earlybird.specs.Session.{HasCome, IsOutcome, WithPlaced};
 ghost use Rattle.earlybird.specs.Works.{reading_of};
 
-use crate::refusal::Refusal;
 use crate::searching::search_all;
 use crate::work::Work;
 use eb_base::{Config, Document, Gate, NoMemory};
 use eb_cursor::Frame;
 use eb_engine::{Index, Writer};
+use eb_rounds::Refusal;
 use eb_writer::Full;
 use std::alloc::Global;
 use std::marker::Brand;
@@ -133,13 +133,6 @@ impl Session {
         self.refused += 1;
         self.lines += 1;
         Outcome::Refused(refusal)
-    }
-
-    // The number of lines that are worked off.
-    pub(crate) fn lines(&self) -> u64
-        ensures { (σ : Setting) (p : Progress) → HasCome self.now σ p → result ≡ p.lines }
-    {
-        self.lines
     }
 
     // The number of accepted documents.

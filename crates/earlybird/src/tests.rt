@@ -2,6 +2,7 @@ ghost use Rattle.std.specs.Prelude.{◌≤◌};
 
 mod commands;
 mod index;
+mod overlap;
 mod turns;
 
 use crate::{Status, run};

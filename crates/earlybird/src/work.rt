@@ -1,20 +1,16 @@
-ghost use Rattle.std.specs.Prelude.{◌≡◌, ◌≤◌, ◌⊎◌, ℕ, List, ◌++◌, true, Some, IfOk, slice_get};
-ghost use Rattle.eb_io.specs.Faults.{HasRisen};
-ghost use Rattle.eb_io.specs.Held.{HasGiven};
-ghost use Rattle.eb_io.specs.Lines.{Line, line};
-ghost use Rattle.eb_io.specs.Source.{after, IsEmpty};
-ghost use Rattle.earlybird.specs.Worked.{Comes};
-ghost use Rattle.earlybird.specs.Kinds.{kind_of, document_line, query_line, bad_line};
-ghost use Rattle.earlybird.specs.Reads.{Reads, ReadsByKind, IsOfDocument};
+ghost use Rattle.std.specs.Prelude.{◌≡◌, Some, IfOk, slice_get};
+ghost use Rattle.eb_io.specs.Lines.{line};
+ghost use Rattle.eb_rounds.specs.Inputs.{IsOfDocument};
+ghost use Rattle.earlybird.specs.Kinds.{kind_of, query_line};
+ghost use Rattle.earlybird.specs.Reads.{Reads, ReadsByKind};
 ghost use Rattle.earlybird.specs.Works.{reading_of};
 ghost use Rattle.eb_doc.specs.DocumentLine.{document_of};
 
-use crate::refusal::Refusal;
 use eb_base::{Document, NoMemory};
 use eb_cursor::Frame;
 use eb_doc::{LineFault, read_document};
-use eb_io::{Lines, Next, Source};
 use eb_query::{QueryFault, read_query};
+use eb_rounds::Refusal;
 use std::alloc::Global;
 use std::str;
 
@@ -72,38 +68,5 @@ fn read_query_text(alloc: Global, text: &str) -> Result<Work, NoMemory>
         Err(QueryFault::TooDeep) => Ok(Work::Refuse(Refusal::TooDeep)),
         Err(QueryFault::TooManyNodes) => Ok(Work::Refuse(Refusal::TooManyNodes)),
         Err(QueryFault::NoMemory) => Err(NoMemory),
-    }
-}
-
-// What comes next in an input.
-#[derive(Drop)]
-pub(crate) enum Upcoming {
-    Line(Work),
-    End,
-    ReadFault,
-    TooLong,
-    NoMemory,
-}
-
-// The work of the line that comes next.
-pub(crate) fn next_work<S: Source>(alloc: Global, lines: &mut Lines, source: &mut S) -> Upcoming
-    ensures told { (before : List ℕ) (given : List Line) → HasGiven before given lines.old
-        → (seen : List ℕ) × (S.left source.old ≡ after seen (S.left source.new)) × Comes result (before ++ seen) given lines.new }
-    ensures fault { result ≡ Upcoming.ReadFault → HasRisen (S.faults source.old) (S.faults source.new) }
-    ensures later { S.faults source.old ≤ S.faults source.new }
-    ensures end { lines.new.is_ended ≡ true → (lines.old.is_ended ≡ true) ⊎ IsEmpty (S.left source.new) }
-    ensures ended { lines.old.is_ended ≡ true → source.new ≡ source.old }
-    ensures limit { lines.new.limit ≡ lines.old.limit }
-    ensures within { lines.new.taken ≤ lines.new.limit }
-{
-    match lines.next_line(source) {
-        Next::Line => match read_line(alloc, lines.line()) {
-            Ok(work) => Upcoming::Line(work),
-            Err(NoMemory) => Upcoming::NoMemory,
-        },
-        Next::LongLine => Upcoming::Line(Work::Refuse(Refusal::LongLine)),
-        Next::End => Upcoming::End,
-        Next::ReadFault => Upcoming::ReadFault,
-        Next::TooLong => Upcoming::TooLong,
     }
 }

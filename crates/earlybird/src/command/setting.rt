@@ -2,7 +2,7 @@ ghost use Rattle.std.specs.Prelude.{◌≡◌, ◌≢◌, ◌<◌, Some, None, I
 ghost use Rattle.std.specs.List.{list_any};
 ghost use Rattle.std.specs.Str.{bytes_eq};
 ghost use Rattle.clap.specs.Words.{kind_of};
-ghost use Rattle.earlybird.specs.Command.{run_of};
+ghost use Rattle.earlybird.specs.Flags.{values_setting};
 
 use crate::command::CommandFault;
 use crate::command::options::{run_matches, setting_of};
@@ -23,11 +23,11 @@ fn has_dashes(words: &[String]) -> bool
     false
 }
 
-// The setting that the words ask for, of which the first is `run`.
+// The setting that the words ask for, of which the first is `run`; none of them is a flag.
 pub(super) fn read_setting(alloc: Global, words: &[String]) -> Result<Config, CommandFault>
     requires { 0 < length words.now }
-    ensures setting { IfOk result (λ config. run_of (drop 1 (map string_bytes words.now)) ≡ Some config) }
-    ensures usage { IsErrOf result CommandFault.Usage → run_of (drop 1 (map string_bytes words.now)) ≡ None }
+    ensures setting { IfOk result (λ config. values_setting (drop 1 (map string_bytes words.now)) ≡ Some config) }
+    ensures usage { IsErrOf result CommandFault.Usage → values_setting (drop 1 (map string_bytes words.now)) ≡ None }
 {
     if has_dashes(&words[1..]) {
         return Err(CommandFault::Usage);

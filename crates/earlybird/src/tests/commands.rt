@@ -26,6 +26,11 @@ fn refuses_words_outside_the_grammar(rt: HostRuntime) -> Result<(), Fail> {
         "run|--terms|300",
         "run|--segments|64|--docs|16777216",
         "run|--overlap|--overlap",
+        "run|--overlap|--docs=1|--overlap",
+        "run|--overlap=1",
+        "run|--docs|--overlap",
+        "run|--docs|--overlap|1",
+        "run|--stats",
         "run|--",
         "run|--docs|1|--",
         "run|",
@@ -67,26 +72,35 @@ fn refuses_words_outside_the_grammar(rt: HostRuntime) -> Result<(), Fail> {
 fn reads_commands(rt: HostRuntime) -> Result<(), Fail> {
     let alloc = rt.alloc();
     let config = Config::usual();
-    let usual = read_line(alloc, "run")?;
-    assert!(rt;
-        usual == Ok(Command::Run { config }),
-        "run is read otherwise"
-    );
+    for (line, overlap) in [("run", false), ("run|--overlap", true)] {
+        let usual = read_line(alloc, line)?;
+        assert!(rt;
+            usual == Ok(Command::Run { overlap, config }),
+            "{line} is read otherwise"
+        );
+    }
     let lines = [
-        ("run", 12, 4096, 8192),
-        ("run|--docs=1", 12, 1, 8192),
-        ("run|--docs|1|--segments=1", 1, 1, 8192),
-        ("run|--terms|256", 12, 4096, 256),
-        ("run|--docs=000000005", 12, 5, 8192),
-        ("run|--terms=1048576|--segments|1", 1, 4096, 1_048_576),
+        ("run", false, 12, 4096, 8192),
+        ("run|--docs=1", false, 12, 1, 8192),
+        ("run|--docs|1|--segments=1", false, 1, 1, 8192),
+        ("run|--docs|1|--overlap|--segments=1", true, 1, 1, 8192),
+        ("run|--terms|256|--overlap", true, 12, 4096, 256),
+        ("run|--docs=000000005", false, 12, 5, 8192),
+        (
+            "run|--terms=1048576|--segments|1",
+            false,
+            1,
+            4096,
+            1_048_576,
+        ),
     ];
-    for (line, segments, docs, terms) in lines {
+    for (line, overlap, segments, docs, terms) in lines {
         let Ok(config) = Config::new(segments, docs, terms) else {
             return Err(Fail::new("a setting of the table"));
         };
         let read = read_line(alloc, line)?;
         assert!(rt;
-            read == Ok(Command::Run { config }),
+            read == Ok(Command::Run { overlap, config }),
             "{line} is read otherwise"
         );
     }

@@ -1,15 +1,13 @@
 use Rattle.std.proofs.Common.{◌-◌, ◌≤◌}
-use Rattle.earlybird.specs.Progress.{Progress}
-use Rattle.earlybird.specs.Session.{HasCome}
 use Rattle.earlybird.specs.Worked.{IsAt}
 use Rattle.earlybird.proofs.run.run_lines.Given as goal
 
 abbrev pub invariant-lines : goal.invariant-lines
 invariant-lines g l = record {
-  at : (p : Progress) × HasCome l.session l.fn.config p × IsAt l.fn.config (g.S.Source.left l.initial.source) (g.S.Source.left l.source) (g.K.Sink.taken l.initial.out) (g.K.Sink.taken l.out) l.lines p;
+  at : IsAt l.fn.config l.fn.overlap (g.S.Source.left l.initial.source) (g.S.Source.left l.source) (g.K.Sink.taken l.initial.out) (g.K.Sink.taken l.out) l.lines l.running l.text.items;
   source : g.S.Source.faults l.initial.source ≤ g.S.Source.faults l.source;
   sink : g.K.Sink.faults l.initial.out ≤ g.K.Sink.faults l.out;
 }
 
 abbrev pub decreases-lines : goal.decreases-lines
-decreases-lines g l = 1099511627776 - l.session.lines
+decreases-lines g l = 1099511627776 - l.running.number

@@ -1,8 +1,8 @@
 use Rattle.std.proofs.Common.{ℕ, List, refl, subst, sym}
 use Rattle.std.specs.Prelude.{IfOk}
-use Rattle.earlybird.specs.declared.refusal.Refusal.TheVariants.{BadLine}
+use Rattle.eb_rounds.specs.declared.refusal.Refusal.TheVariants.{BadLine}
 use Rattle.earlybird.specs.Kinds.{Kind, query_line}
-use Rattle.earlybird.specs.Reading.{refused}
+use Rattle.eb_rounds.specs.Reading.{refused}
 use Rattle.earlybird.specs.Reads.{ReadsByKind}
 use Rattle.earlybird.specs.Works.{reading_of}
 use Rattle.earlybird.proofs.LineKinds.{kind_query, kind_bad}

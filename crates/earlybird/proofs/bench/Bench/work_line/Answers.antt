@@ -1,8 +1,8 @@
 use Rattle.std.proofs.Common.{◌≤◌, sym, subst, arith}
 use Rattle.eb_io.specs.Lines.{line}
 use Rattle.earlybird.specs.Bench.{usual}
-use Rattle.earlybird.specs.Progress.{progress_after, with_line}
-use Rattle.earlybird.specs.Admitted.{admit}
+use Rattle.eb_rounds.specs.Progress.{progress_after, with_line}
+use Rattle.eb_rounds.specs.Admitted.{admit}
 use Rattle.earlybird.specs.Session.{HasCome}
 use Rattle.earlybird.specs.declared.session.Session.{Session}
 use Rattle.earlybird.specs.Works.{reading_of}

@@ -1,6 +1,6 @@
 use Rattle.std.proofs.Common.{subst, sym}
 use Rattle.earlybird.specs.declared.work.Work.{Work}
-use Rattle.earlybird.specs.Admitted.{admit}
+use Rattle.eb_rounds.specs.Admitted.{admit}
 use Rattle.earlybird.specs.Session.{IsOutcome}
 use Rattle.earlybird.specs.Works.{reading_of}
 use Rattle.earlybird.proofs.session.Session.work_off.Goals as goal

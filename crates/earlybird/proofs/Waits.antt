@@ -1,0 +1,127 @@
+-- Lines are held, one after another, and worked off.
+use Rattle.std.proofs.Common.{◌≡◌, ℕ, suc, ◌+◌, ◌≤◌, Bool, true, false, List, [], ◌∷◌, ◌++◌, length, Option, Some, None, refl, sym, ap, ap₂, subst, ◌∙◌, arith, append_assoc, append-nil, length-append}
+use Rattle.std.specs.List.{AllZip, AllByRecursion}
+use Rattle.eb_base.specs.Document.{Doc}
+use Rattle.eb_base.specs.Setting.{Setting}
+use Rattle.eb_io.specs.Lines.{Line}
+use Rattle.eb_rounds.specs.Reading.{Reading}
+use Rattle.eb_rounds.specs.Inputs.{HeldInput, HeldLine, admitted_in, added}
+use Rattle.eb_rounds.specs.Shown.{Counted, shown_text, WorkedOff}
+use Rattle.eb_rounds.specs.Rows.{NoQueryLine, QueriesFirst}
+use Rattle.eb_rounds.specs.Sees.{is_document_line, is_query_line}
+use Rattle.eb_rounds.specs.Standing.{Standing}
+use Rattle.earlybird.specs.Reads.{Reads}
+use Rattle.earlybird.specs.Holding.{held_as, before_held, held_from}
+use Rattle.earlybird.specs.Waiting.{HasWorked, HasSettled, AreRound}
+use Rattle.earlybird.proofs.Going.{overlapped, in_order}
+
+-- ---- nothing is held
+
+off_none : (σ : Setting) (docs : List Doc) (counts : Counted) → WorkedOff σ [] docs docs counts counts []
+unfolding shown_text admitted_in added
+off_none σ docs counts = record {
+  raw = [];
+  shown = [];
+  read = tt;
+  lines = refl;
+  docs = sym (append-nil docs);
+  numbers = omega arith;
+  text = refl;
+  documents = omega arith;
+  queries = omega arith;
+  refused = omega arith;
+}
+
+none_round : AreRound []
+none_round [] h = tt
+none_round (r ∷ rs) h = absurd h
+
+pub of_settled : (σ : Setting) (overlap : Bool) (given : List Line) (docs : List Doc) (held : Standing) (so_far : List ℕ) → HasSettled σ overlap given docs held.counts so_far → held.held ≡ [] → held.greatest ≤ length given
+    → HasWorked σ overlap given docs held so_far
+of_settled σ overlap given docs held so_far s none le = record {
+  done = given;
+  waiting = [];
+  readings = s.readings;
+  numbers = s.numbers;
+  parts = sym (append-nil given);
+  read = s.read;
+  sees = s.sees;
+  adds = s.adds;
+  lines = none;
+  round = none_round;
+  counts = s.counted;
+  greatest = le;
+  printed = s.printed;
+}
+
+-- the held lines are worked off; in order one at most is held
+pub off : (σ : Setting) (overlap : Bool) (given : List Line) (docs docs_new : List Doc) (held : Standing) (counts_new : Counted) (so_far printed : List ℕ) → HasWorked σ overlap given docs held so_far
+    → WorkedOff σ held.held docs docs_new held.counts counts_new printed → (overlap ≡ false → length held.held ≤ 1) → HasSettled σ overlap given docs_new counts_new (so_far ++ printed)
+off σ true given docs docs_new held counts_new so_far printed a w few = overlapped σ given docs docs_new held counts_new so_far printed a w
+off σ false given docs docs_new held counts_new so_far printed a w few = in_order σ given docs docs_new held counts_new so_far printed a w (few refl)
+
+-- where no line is held, all are done: those that wait are blank
+pub settled : (σ : Setting) (overlap : Bool) (given : List Line) (docs : List Doc) (held : Standing) (so_far : List ℕ) → HasWorked σ overlap given docs held so_far → held.held ≡ []
+    → HasSettled σ overlap given docs held.counts so_far
+settled σ overlap given docs held so_far a none =
+    let w : WorkedOff σ held.held docs docs held.counts held.counts [] = subst (λ hs. WorkedOff σ hs docs docs held.counts held.counts []) (sym none) (off_none σ docs held.counts) in
+    subst (HasSettled σ overlap given docs held.counts) (append-nil so_far) (off σ overlap given docs docs held held.counts so_far [] a w (λ e. omega (arith, ap length none)))
+
+-- ---- a line more
+
+held_push : (k : ℕ) (ls : List Line) (l : Line) → held_from k (ls ++ l ∷ []) ≡ held_from k ls ++ before_held (k + length ls + 1) (held_as l) []
+held_push k [] l = ap (λ n. before_held (n + 1) (held_as l) []) (let same : k ≡ k + 0 = omega arith in same)
+held_push k (x ∷ ls) l = one _ (held_from (k + 1) ls) (before_held (k + suc (length ls) + 1) (held_as l) []) (held_as x) (held_push (k + 1) ls l ∙ ap (λ n. held_from (k + 1) ls ++ before_held (n + 1) (held_as l) []) (let same : k + 1 + length ls ≡ k + suc (length ls) = omega arith in same)) where
+  one : (hs gs more : List HeldLine) (o : Option HeldInput) → hs ≡ gs ++ more → before_held (k + 1) o hs ≡ before_held (k + 1) o gs ++ more
+  one hs gs more None e = e
+  one hs gs more (Some i) e = ap (λ l. record { number = k + 1; input = i } ∷ l) e
+
+zip_split : {A B : Type 0} (R : A → B → Type 0) (xs : List A) (x : A) (ys : List B) → AllZip R (xs ++ x ∷ []) ys → (zs : List B) × (y : B) × (ys ≡ zs ++ y ∷ []) × AllZip R xs zs × R x y
+zip_split R [] x [] h = absurd h
+zip_split R [] x (y ∷ []) h = ([], y, refl, tt, h.0)
+zip_split R [] x (y ∷ z ∷ ys) h = absurd (h.1)
+zip_split R (w ∷ xs) x [] h = absurd h
+zip_split R (w ∷ xs) x (y ∷ ys) h = let m = zip_split R xs x ys h.1 in (y ∷ m.0, m.1, ap (λ l. y ∷ l) m.2, (h.0, m.3), m.4)
+
+no_query_push : (rs : List Reading) (r : Reading) → NoQueryLine rs → is_query_line r ≡ false → NoQueryLine (rs ++ r ∷ [])
+no_query_push [] r h e = (e, tt)
+no_query_push (x ∷ rs) r h e = (h.0, no_query_push rs r h.1 e)
+
+-- a line that is no query line goes behind all
+first_push : (rs : List Reading) (r : Reading) → QueriesFirst rs → is_query_line r ≡ false → QueriesFirst (rs ++ r ∷ [])
+first_push [] r h e = (λ d. tt, tt)
+first_push (x ∷ rs) r h e = (λ d. no_query_push rs r (h.0 d) e, first_push rs r h.1 e)
+
+-- any line goes behind lines of which none is a document line
+first_free : (rs : List Reading) (r : Reading) → AllByRecursion (λ x. is_document_line x ≡ false) rs → QueriesFirst (rs ++ r ∷ [])
+first_free [] r h = (λ d. tt, tt)
+first_free (x ∷ rs) r h = (λ d. absurd (cc (d, h.0)), first_free rs r h.1)
+
+pub round_quiet : (ls : List Line) (l : Line) → AreRound ls → ((r : Reading) → Reads l r → is_query_line r ≡ false) → AreRound (ls ++ l ∷ [])
+round_quiet ls l a quiet rs h =
+    let m = zip_split Reads ls l rs h in subst QueriesFirst (sym m.2) (first_push m.0 m.1 (a m.0 m.3) (quiet m.1 m.4))
+
+pub round_free : (ls : List Line) (l : Line) → ((rs : List Reading) → AllZip Reads ls rs → AllByRecursion (λ x. is_document_line x ≡ false) rs) → AreRound (ls ++ l ∷ [])
+round_free ls l free rs h = let m = zip_split Reads ls l rs h in subst QueriesFirst (sym m.2) (first_free m.0 m.1 (free m.0 m.3))
+
+-- a line is given, and held if it isn't blank; the round stays one
+pub one_more : (σ : Setting) (overlap : Bool) (given : List Line) (l : Line) (docs : List Doc) (held held_new : Standing) (so_far : List ℕ) (a : HasWorked σ overlap given docs held so_far)
+    → AreRound (a.waiting ++ l ∷ []) → held_new.held ≡ held.held ++ before_held (length given + 1) (held_as l) [] → held_new.counts ≡ held.counts → held_new.greatest ≤ length given + 1
+    → HasWorked σ overlap (given ++ l ∷ []) docs held_new so_far
+one_more σ overlap given l docs held held_new so_far a round lines counts greatest = record {
+  done = a.done;
+  waiting = a.waiting ++ l ∷ [];
+  readings = a.readings;
+  numbers = a.numbers;
+  parts = ap (λ ls. ls ++ l ∷ []) a.parts ∙ append_assoc a.done a.waiting (l ∷ []);
+  read = a.read;
+  sees = a.sees;
+  adds = a.adds;
+  lines =
+      let all : length given ≡ length a.done + length a.waiting = ap length a.parts ∙ length-append a.done a.waiting in
+      lines ∙ ap₂ (λ x n. x ++ before_held (n + 1) (held_as l) []) a.lines all ∙ sym (held_push (length a.done) a.waiting l);
+  round = round;
+  counts = counts ∙ a.counts;
+  greatest = omega (arith, greatest, length-append given (l ∷ []));
+  printed = a.printed;
+}

@@ -1,0 +1,6 @@
+use Rattle.eb_io.specs.Lines.{lines_of}
+use Rattle.earlybird.proofs.OneOutput.{order_text_of}
+use Rattle.earlybird.proofs.laws.order_text.Goals as goal
+
+pub returns : goal.returns
+returns c = λ σ bytes. order_text_of σ (lines_of bytes)

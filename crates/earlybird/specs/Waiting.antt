@@ -1,0 +1,48 @@
+-- How far a run has come between two lines, where some lines are held.
+use Rattle.std.specs.Prelude.{◌≡◌, ℕ, ◌≤◌, Bool, List, ◌++◌, length}
+use Rattle.std.specs.List.{AllZip}
+use Rattle.eb_base.specs.Document.{Doc}
+use Rattle.eb_base.specs.Setting.{Setting}
+use Rattle.eb_io.specs.Lines.{Line}
+use Rattle.eb_rounds.specs.Reading.{Reading}
+use Rattle.eb_rounds.specs.Progress.{accepted, queries, refusals}
+use Rattle.eb_rounds.specs.Text.{body}
+use Rattle.eb_rounds.specs.Sees.{Sees}
+use Rattle.eb_rounds.specs.Rows.{QueriesFirst}
+use Rattle.eb_rounds.specs.Shown.{Counted}
+use Rattle.eb_rounds.specs.Standing.{Standing}
+use Rattle.earlybird.specs.Reads.{Reads, AreRead}
+use Rattle.earlybird.specs.Holding.{held_from}
+
+-- whatever the lines are read as, no query line among them follows a document line
+abbrev pub AreRound : List Line → Type 0
+AreRound lines = (rs : List Reading) → AllZip Reads lines rs → QueriesFirst rs
+
+abbrev pub counts_of : List Reading → Counted
+counts_of rs = record { documents = length (accepted rs); queries = queries rs; refused = refusals rs }
+
+-- of the lines given these are done, and these wait; those done printed this text
+pub record HasWorked (σ : Setting) (overlap : Bool) (given : List Line) (docs : List Doc) (held : Standing) (so_far : List ℕ) : Type 0 where
+  pub done : List Line
+  pub waiting : List Line
+  pub readings : List Reading
+  pub numbers : ℕ → ℕ
+  pub parts : given ≡ done ++ waiting
+  pub read : AreRead σ done readings
+  pub sees : Sees overlap readings numbers
+  pub adds : docs ≡ accepted readings
+  pub lines : held.held ≡ held_from (length done) waiting
+  pub round : AreRound waiting
+  pub counts : held.counts ≡ counts_of readings
+  pub greatest : held.greatest ≤ length given
+  pub printed : so_far ≡ body numbers readings
+
+-- all lines given are done, and printed this text
+pub record HasSettled (σ : Setting) (overlap : Bool) (given : List Line) (docs : List Doc) (counts : Counted) (so_far : List ℕ) : Type 0 where
+  pub readings : List Reading
+  pub numbers : ℕ → ℕ
+  pub read : AreRead σ given readings
+  pub sees : Sees overlap readings numbers
+  pub adds : docs ≡ accepted readings
+  pub counted : counts ≡ counts_of readings
+  pub printed : so_far ≡ body numbers readings

@@ -1,0 +1,284 @@
+ghost use Rattle.std.specs.Prelude.{◌≡◌, ◌+◌, ◌<◌, ◌^◌, true, false, Some, None, ℕ, List, [], IfOk, OnErr, OnOk, IsTrue, ◌↔◌, slice_get};
+ghost use Rattle.eb_io.specs.Lines.{Line, line, long_line};
+ghost use Rattle.eb_rounds.specs.Passed.{HasMark, input_of, kind_of};
+ghost use Rattle.eb_rounds.specs.Standing.{queries_held};
+ghost use Rattle.eb_rounds.specs.Takes.{takes_kind};
+ghost use Rattle.earlybird.specs.Holding.{held_as};
+ghost use Rattle.earlybird.specs.Running.{HasRun, IsRunning, WorksOn, GoesOn};
+
+use eb_base::{Config, Gate, NoMemory};
+use eb_engine::{Converter, Index, Writer};
+use eb_rounds::{Counts, Input, Kind, Refusal, Rounds};
+use std::alloc::Global;
+use std::str;
+use std::thread::Threads;
+
+// A run between two lines: the index of the accepted documents, the lines that are held, and the number of the last line
+// given.
+#[derive(Drop)]
+pub(crate) struct Running {
+    overlap: bool,
+    index: Index,
+    writer: Writer,
+    converter: Converter,
+    rounds: Rounds,
+    number: u64,
+}
+
+impl Running {
+    // A run with an empty index. Takes all the memory of the index.
+    pub(crate) fn new(alloc: Global, overlap: bool, config: Config) -> Result<Running, NoMemory>
+        ensures { IfOk result (λ running. HasRun running config overlap [] []) }
+    {
+        let (index, writer, converter) = Index::open(alloc, config)?;
+        Ok(Running {
+            overlap,
+            index,
+            writer,
+            converter,
+            rounds: Rounds::new(alloc),
+            number: 0,
+        })
+    }
+
+    // The number of the last line given.
+    pub(crate) fn number(&self) -> u64
+        ensures { result ≡ self.now.number }
+    {
+        self.number
+    }
+
+    // What was worked off so far.
+    pub(crate) fn counts(&self) -> Counts
+        ensures { (result.documents ≡ self.now.rounds.counts.documents) × (result.queries ≡ self.now.rounds.counts.queries)
+            × (result.refused ≡ self.now.rounds.counts.refused) }
+    {
+        self.rounds.counts()
+    }
+
+    // Works off the held lines, with what they print behind the text. Where memory doesn't suffice, nothing is done.
+    pub(crate) fn work_held<R: Threads + Sync, G: Gate + Sync>(
+        &mut self,
+        rt: &R,
+        alloc: Global,
+        gate: &G,
+        text: &mut Vec<u8>,
+    ) -> Result<(), NoMemory>
+        requires { IsRunning self.old }
+        ensures on { WorksOn self.old self.new text.old.items text.new.items }
+        ensures none { OnOk result (self.new.rounds.held ≡ []) }
+        ensures mode { self.new.overlap ≡ self.old.overlap }
+        ensures number { self.new.number ≡ self.old.number }
+    {
+        self.rounds.step_behind(
+            rt,
+            alloc,
+            &self.index,
+            &mut self.writer,
+            &mut self.converter,
+            gate,
+            text,
+        )
+    }
+
+    // Works off the held lines where a query waits among them.
+    pub(crate) fn answer_held<R: Threads + Sync, G: Gate + Sync>(
+        &mut self,
+        rt: &R,
+        alloc: Global,
+        gate: &G,
+        text: &mut Vec<u8>,
+    ) -> Result<(), NoMemory>
+        requires { IsRunning self.old }
+        ensures on { WorksOn self.old self.new text.old.items text.new.items }
+        ensures answered { OnOk result (queries_held self.new.rounds.held ≡ 0) }
+        ensures number { self.new.number ≡ self.old.number }
+    {
+        if self.rounds.has_query() {
+            self.work_held(rt, alloc, gate, text)
+        } else {
+            Ok(())
+        }
+    }
+
+    // Works off the held lines where no line of this kind goes behind them.
+    fn make_way<R: Threads + Sync, G: Gate + Sync>(
+        &mut self,
+        rt: &R,
+        alloc: Global,
+        kind: Kind,
+        gate: &G,
+        text: &mut Vec<u8>,
+    ) -> Result<(), NoMemory>
+        requires { IsRunning self.old }
+        ensures on { WorksOn self.old self.new text.old.items text.new.items }
+        ensures takes { OnOk result (takes_kind self.new.rounds.held kind ≡ true) }
+        ensures mode { self.new.overlap ≡ self.old.overlap }
+        ensures number { self.new.number ≡ self.old.number }
+    {
+        if self.rounds.takes(kind) {
+            Ok(())
+        } else {
+            self.work_held(rt, alloc, gate, text)
+        }
+    }
+
+    // Holds the next line, where one of its kind goes behind those that are held.
+    fn put(&mut self, input: Input<'_>) -> Result<(), NoMemory>
+        requires state { IsRunning self.old }
+        requires overlap { self.old.overlap ≡ true }
+        requires number { self.old.number + 1 < 2 ^ 64 }
+        requires takes { takes_kind self.old.rounds.held (kind_of input) ≡ true }
+        requires question_mark { HasMark input }
+        ensures ok { OnOk result ((l : Line) → held_as l ≡ Some (input_of input.entry) → (text : List ℕ) → GoesOn self.old self.new text text l) }
+        ensures err { OnErr result (self.new ≡ self.old) }
+    {
+        let number = self.number + 1;
+        self.rounds.put(number, input)?;
+        self.number = number;
+        Ok(())
+    }
+
+    // Holds the next line, and works off the held lines before where it doesn't go behind them.
+    fn hold<R: Threads + Sync, G: Gate + Sync>(
+        &mut self,
+        rt: &R,
+        alloc: Global,
+        input: Input<'_>,
+        gate: &G,
+        text: &mut Vec<u8>,
+    ) -> Result<(), NoMemory>
+        requires state { IsRunning self.old }
+        requires overlap { self.old.overlap ≡ true }
+        requires number { self.old.number + 1 < 2 ^ 64 }
+        requires question_mark { HasMark input }
+        ensures ok { OnOk result ((l : Line) → held_as l ≡ Some (input_of input.entry) → GoesOn self.old self.new text.old.items text.new.items l) }
+        ensures err { OnErr result (WorksOn self.old self.new text.old.items text.new.items) }
+    {
+        self.make_way(rt, alloc, input.kind(), gate, text)?;
+        self.put(input)
+    }
+
+    // Works off the next line as a round of its own.
+    fn work<G: Gate>(
+        &mut self,
+        alloc: Global,
+        input: Input<'_>,
+        gate: &G,
+        text: &mut Vec<u8>,
+    ) -> Result<(), NoMemory>
+        requires state { IsRunning self.old }
+        requires order { self.old.overlap ≡ false }
+        requires number { self.old.number + 1 < 2 ^ 64 }
+        requires question_mark { HasMark input }
+        ensures ok { OnOk result ((l : Line) → held_as l ≡ Some (input_of input.entry) → GoesOn self.old self.new text.old.items text.new.items l) }
+        ensures err { OnErr result (WorksOn self.old self.new text.old.items text.new.items) }
+    {
+        let number = self.number + 1;
+        self.rounds.work_line(
+            alloc,
+            number,
+            input,
+            &self.index,
+            &mut self.writer,
+            &mut self.converter,
+            gate,
+            text,
+        )?;
+        self.number = number;
+        Ok(())
+    }
+
+    // Takes the next line: holds it with overlap, and works it off else.
+    fn take<R: Threads + Sync, G: Gate + Sync>(
+        &mut self,
+        rt: &R,
+        alloc: Global,
+        input: Input<'_>,
+        gate: &G,
+        text: &mut Vec<u8>,
+    ) -> Result<(), NoMemory>
+        requires state { IsRunning self.old }
+        requires number { self.old.number + 1 < 2 ^ 64 }
+        requires question_mark { HasMark input }
+        ensures ok { OnOk result ((l : Line) → held_as l ≡ Some (input_of input.entry) → GoesOn self.old self.new text.old.items text.new.items l) }
+        ensures err { OnErr result (WorksOn self.old self.new text.old.items text.new.items) }
+    {
+        if self.overlap {
+            self.hold(rt, alloc, input, gate, text)
+        } else {
+            self.work(alloc, input, gate, text)
+        }
+    }
+
+    // Passes over a blank line.
+    fn pass(&mut self)
+        requires state { IsRunning self.old }
+        requires number { self.old.number + 1 < 2 ^ 64 }
+        ensures { (l : Line) → held_as l ≡ None → (text : List ℕ) → GoesOn self.old self.new text text l }
+    {
+        self.number += 1;
+    }
+
+    // Takes the next line, which is a long one.
+    pub(crate) fn take_long<R: Threads + Sync, G: Gate + Sync>(
+        &mut self,
+        rt: &R,
+        alloc: Global,
+        gate: &G,
+        text: &mut Vec<u8>,
+    ) -> Result<(), NoMemory>
+        requires state { IsRunning self.old }
+        requires number { self.old.number + 1 < 2 ^ 64 }
+        ensures ok { OnOk result (GoesOn self.old self.new text.old.items text.new.items long_line) }
+        ensures err { OnErr result (WorksOn self.old self.new text.old.items text.new.items) }
+    {
+        self.take(rt, alloc, Input::RefusedLine(Refusal::LongLine), gate, text)
+    }
+
+    // Takes the next line, which begins with a question mark.
+    fn take_query<R: Threads + Sync, G: Gate + Sync>(
+        &mut self,
+        rt: &R,
+        alloc: Global,
+        bytes: &[u8],
+        gate: &G,
+        text: &mut Vec<u8>,
+    ) -> Result<(), NoMemory>
+        requires state { IsRunning self.old }
+        requires number { self.old.number + 1 < 2 ^ 64 }
+        requires question_mark { slice_get bytes.now 0 ≡ Some 63 }
+        ensures ok { OnOk result (GoesOn self.old self.new text.old.items text.new.items (line bytes.now)) }
+        ensures err { OnErr result (WorksOn self.old self.new text.old.items text.new.items) }
+    {
+        match str::from_utf8(bytes) {
+            Ok(query) => self.take(rt, alloc, Input::QueryLine(query), gate, text),
+            Err(_) => self.take(rt, alloc, Input::RefusedLine(Refusal::BadLine), gate, text),
+        }
+    }
+
+    // Takes the next line, which isn't a long one.
+    pub(crate) fn take_line<R: Threads + Sync, G: Gate + Sync>(
+        &mut self,
+        rt: &R,
+        alloc: Global,
+        bytes: &[u8],
+        gate: &G,
+        text: &mut Vec<u8>,
+    ) -> Result<(), NoMemory>
+        requires state { IsRunning self.old }
+        requires number { self.old.number + 1 < 2 ^ 64 }
+        ensures ok { OnOk result (GoesOn self.old self.new text.old.items text.new.items (line bytes.now)) }
+        ensures err { OnErr result (WorksOn self.old self.new text.old.items text.new.items) }
+    {
+        match bytes.first() {
+            None => {
+                self.pass();
+                Ok(())
+            }
+            Some(b'{') => self.take(rt, alloc, Input::DocumentLine(bytes), gate, text),
+            Some(b'?') => self.take_query(rt, alloc, bytes, gate, text),
+            Some(_) => self.take(rt, alloc, Input::RefusedLine(Refusal::BadLine), gate, text),
+        }
+    }
+}
