@@ -70,6 +70,31 @@ fn settings_say_where_it_is_full(rt: HostRuntime) -> Result<(), Fail> {
     Ok(())
 }
 
+// Puts the word of a number of eight bits: `po` for each 0 and `r1` for each 1, from the highest on.
+fn put_word(text: &mut String, number: u32) -> Result<(), AllocError> {
+    for bit in 0..8u32 {
+        let is_set = number.wrapping_shr(7 - bit) % 2 == 1;
+        text.push_str(if is_set { "r1" } else { "po" })?;
+    }
+    text.push_str(" ")
+}
+
+#[test]
+fn words_of_one_home_cell_are_found(rt: HostRuntime) -> Result<(), Fail> {
+    let alloc = rt.alloc();
+    let mut text = String::new(alloc);
+    text.push_str("{\"id\":5,\"text\":\"")?;
+    for number in 0..256 {
+        put_word(&mut text, number)?;
+    }
+    text.push_str("\"}\n?1 popopopopopopopo\n?1 r1r1r1r1r1r1r1r1\n?1 popo\n")?;
+    let words = ["run", "--terms", "256"];
+    let left = run_on(&rt, alloc, &words, text.as_bytes(), 1000, &[], &[])?;
+    let want = "2 seen 1: 5\n3 seen 1: 5\n4 seen 1:\nend: documents 1, queries 3, refused 0\n";
+    assert_eq!(rt; left.printed.as_slice(), want.as_bytes());
+    Ok(())
+}
+
 #[test]
 fn the_usual_index_answers(rt: HostRuntime) -> Result<(), Fail> {
     let left = run_on(&rt, rt.alloc(), &["run"], MESSAGES.as_bytes(), 64, &[], &[])?;
