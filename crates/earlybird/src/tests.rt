@@ -241,6 +241,55 @@ fn keeps_the_limits(rt: HostRuntime) -> Result<(), Fail> {
 
 const INPUT: &str = "?5 a\n{\"id\":1,\"text\":\"a\"}\n?5 a\n";
 
+const WANT: &str = "1 seen 0:\n3 seen 1: 1\nend: documents 1, queries 2, refused 0\n";
+
+// How many bytes are printed where the read or the write of each number from 1 on fails. A read takes 5 bytes of the input,
+// which has lines of 5, 20 and 5; a write gives 4 bytes of a line of the text, which has lines of 10, 12 and 39.
+const AFTER_READS: [usize; 8] = [0, 10, 10, 10, 10, 10, 22, 61];
+
+const AFTER_WRITES: [usize; 17] = [
+    0, 4, 8, 10, 14, 18, 22, 26, 30, 34, 38, 42, 46, 50, 54, 58, 61,
+];
+
+#[test]
+fn ends_at_faults(rt: HostRuntime) -> Result<(), Fail> {
+    let mut call = 0u64;
+    for printed in AFTER_READS {
+        call = call.saturating_add(1);
+        let left = run_on(&rt, rt.alloc(), &SMALL, INPUT.as_bytes(), 5, &[call], &[])?;
+        assert_eq!(rt;
+            Some(left.printed.as_slice()),
+            WANT.as_bytes().get(..printed),
+            "read {call}"
+        );
+        let (code, said) = if call < 8 {
+            (3, "earlybird: read fault\n")
+        } else {
+            (0, "")
+        };
+        assert_eq!(rt; left.status.code(), code, "read {call}");
+        assert_eq!(rt; left.said.as_slice(), said.as_bytes(), "read {call}");
+    }
+    let mut call = 0u64;
+    for printed in AFTER_WRITES {
+        call = call.saturating_add(1);
+        let left = run_on(&rt, rt.alloc(), &SMALL, INPUT.as_bytes(), 4, &[], &[call])?;
+        assert_eq!(rt;
+            Some(left.printed.as_slice()),
+            WANT.as_bytes().get(..printed),
+            "write {call}"
+        );
+        let (code, said) = if call < 17 {
+            (4, "earlybird: write fault\n")
+        } else {
+            (0, "")
+        };
+        assert_eq!(rt; left.status.code(), code, "write {call}");
+        assert_eq!(rt; left.said.as_slice(), said.as_bytes(), "write {call}");
+    }
+    Ok(())
+}
+
 #[test]
 fn refuses_other_words(rt: HostRuntime) -> Result<(), Fail> {
     let lists: [&[&str]; 13] = [
