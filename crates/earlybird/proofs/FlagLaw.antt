@@ -7,7 +7,7 @@ use Rattle.std.specs.List.{filter, list_any}
 use Rattle.std.proofs.lemmas.Slice.Eq.{bytes_eq-Decides}
 use Rattle.clap.specs.Walk.{Text}
 use Rattle.eb_base.specs.Setting.{Setting}
-use Rattle.eb_rounds.specs.Progress.{one_if}
+use Rattle.eb_lines.specs.Progress.{one_if}
 use Rattle.eb_rounds.proofs.Rounding.{sum_by-cons}
 use Rattle.earlybird.specs.Command.{Item, before, is_equals, is_flag, is_option, items_of, name_in, value_in, number_of, one_of, setting_of, flagged, overlap_of, asked_with, run_of}
 use Rattle.earlybird.specs.Flags.{lacks, is_bare, without_flags, flags, values_of, values_setting}

@@ -1,4 +1,3 @@
-pub mod LineKinds
 pub mod LineReadings
 pub mod Admissions
 pub mod Waitings

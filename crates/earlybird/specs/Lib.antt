@@ -1,8 +1,6 @@
-pub mod Kinds
 pub mod Reads
 pub mod Holding
 pub mod Waiting
-pub mod Works
 pub mod Session
 pub mod Output
 pub mod Worked

@@ -10,12 +10,9 @@ mod answering;
 mod held;
 mod input;
 mod reading;
-mod refusal;
 mod rounds;
 mod tasks;
 mod working;
-mod writing;
 
 pub use input::{Input, Kind};
-pub use refusal::Refusal;
 pub use rounds::{Counts, Rounds};

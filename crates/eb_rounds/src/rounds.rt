@@ -12,7 +12,7 @@ use crate::alone::work_alone;
 use crate::held::{FirstInput, FirstLine, QueryLine, ThenInput, ThenLine};
 use crate::input::{Input, Kind};
 use crate::reading::read_round;
-use crate::refusal::Refusal;
+use eb_lines::Refusal;
 use crate::tasks::{Asked, Given};
 use crate::working::{make_room, work_round};
 use eb_base::{Gate, NoMemory};

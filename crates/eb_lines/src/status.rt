@@ -1,5 +1,6 @@
 ghost use Rattle.std.specs.Prelude.{◌≡◌};
-ghost use Rattle.earlybird.specs.StatusLine.{code_of, status_line};
+ghost use Rattle.eb_lines.specs.StatusLine.{code_of, line_of};
+
 
 /// The most bytes that a run takes from its input, 2^40.
 pub const MAX_INPUT: u64 = 1_099_511_627_776;
@@ -39,15 +40,15 @@ impl Status {
         }
     }
 
-    // The line of the status on the error output, which may be empty.
-    pub(crate) fn line(self) -> &'static [u8]
-        ensures { result.now ≡ status_line self }
+    /// The line of the status on the error output, which may be empty; `usage` is the line that says how the program is
+    /// called.
+    pub fn line(self, usage: &'static [u8]) -> &'static [u8]
+        ensures { result.now ≡ line_of usage.now self }
     {
         match self {
             Status::Done => b"",
             Status::Refused => b"",
-            Status::Usage =>
-                b"earlybird: usage: run [--overlap] [--stats] [--segments N] [--docs N] [--terms N] | bench START DOCS\n",
+            Status::Usage => usage,
             Status::ReadFault => b"earlybird: read fault\n",
             Status::WriteFault => b"earlybird: write fault\n",
             Status::NoMemory => b"earlybird: no memory\n",

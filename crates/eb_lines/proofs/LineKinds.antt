@@ -4,7 +4,7 @@ use Rattle.std.specs.Prelude.{slice_get, IsUtf8, if◌then◌else◌}
 use Rattle.std.specs.Str.{is_utf8}
 use Rattle.std.proofs.lemmas.Bool.{false_from_ne_true}
 use Rattle.std.proofs.lemmas.Str.{IsUtf8-from_is_utf8, is_utf8-from_IsUtf8}
-use Rattle.earlybird.specs.Kinds.{query_line, bad_line, kind_of}
+use Rattle.eb_lines.specs.Kinds.{query_line, bad_line, kind_of}
 
 by_test : (b : ℕ) (bs : List ℕ) → b ≡ 63 → kind_of (b ∷ bs) ≡ (if is_utf8 (b ∷ bs) then query_line else bad_line)
 by_test b bs e = rw e refl
