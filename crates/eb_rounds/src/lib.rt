@@ -7,6 +7,7 @@
 mod adding;
 mod alone;
 mod answering;
+mod converting;
 mod held;
 mod input;
 mod reading;
@@ -16,6 +17,7 @@ mod tasks;
 mod working;
 mod writing;
 
+pub use converting::{SegmentCounts, close};
 pub use input::{Input, Kind};
 pub use refusal::Refusal;
 pub use rounds::{Counts, Rounds};
