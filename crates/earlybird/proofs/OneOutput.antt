@@ -29,7 +29,7 @@ use Rattle.earlybird.specs.Output.{IsTextOf, IsOutput}
 use Rattle.eb_rounds.proofs.Texts.{body_same}
 use Rattle.eb_rounds.proofs.Seeing.{told-count, count-cons}
 
--- ---- a line has one reading
+-- ---- lines have one reading
 
 all_read : (σ : Setting) (ls : List Line) (rs ss : List Reading) → AreRead σ ls rs → AreRead σ ls ss → rs ≡ ss
 all_read σ ls rs ss e f = e.2 ∙ ap (admitted σ) (raw_same ls e.0 f.0 e.1 f.1) ∙ sym f.2
@@ -43,7 +43,6 @@ one_text_of σ lines a b p q =
     let same = all_read σ lines p.readings q.readings p.read q.read in
     p.bytes ∙ in_order p.numbers p.readings p.sees ∙ ap (λ rs. text (told rs) rs) same ∙ sym (q.bytes ∙ in_order q.numbers q.readings q.sees)
 
--- ---- a line has a reading
 
 -- ---- what lines print in order
 
