@@ -9,7 +9,5 @@ pub mod Worked
 pub mod Running
 pub mod Command
 pub mod Bench
-pub mod Flags
-pub mod Options
 pub mod StatusLine
 pub mod Laws
