@@ -5,9 +5,10 @@ use Rattle.std.proofs.lemmas.Slice.Zip.{AllZip-long}
 use Rattle.eb_base.specs.Document.{Doc}
 use Rattle.eb_base.specs.Setting.{Setting}
 use Rattle.eb_io.specs.Lines.{Line}
-use Rattle.eb_rounds.specs.Reading.{Reading}
-use Rattle.earlybird.specs.Reads.{Reads, AreRead}
-use Rattle.eb_rounds.specs.Progress.{documents_in, accepted}
+use Rattle.eb_lines.specs.Reading.{Reading}
+use Rattle.earlybird.specs.Reads.{AreRead}
+use Rattle.eb_lines.specs.Reads.{Reads}
+use Rattle.eb_lines.specs.Progress.{documents_in, accepted}
 use Rattle.eb_rounds.specs.Admitted.{admit, admitted_from, admitted}
 
 push_from : (σ : Setting) (docs : List Doc) (rs : List Reading) (r : Reading)

@@ -12,18 +12,18 @@ use Rattle.eb_io.specs.Sink.{grown}
 use Rattle.earlybird.specs.declared.bench.Bench.{Bench}
 use Rattle.earlybird.specs.declared.session.Outcome.{Outcome}
 use Rattle.earlybird.specs.declared.session.Outcome.TheVariants.{Nothing, Answered, Refused}
-use Rattle.earlybird.specs.declared.status.Status.{Status}
-use Rattle.earlybird.specs.declared.status.Status.TheVariants as status
-use Rattle.eb_rounds.specs.Reading.{Reading, blank, document, query, refused}
-use Rattle.earlybird.specs.Reads.{Reads}
-use Rattle.eb_rounds.specs.Progress.{documents_in, accepted, queries, refusals, progress_after, with_line, nothing}
+use Rattle.eb_lines.specs.declared.status.Status.{Status}
+use Rattle.eb_lines.specs.declared.status.Status.TheVariants as status
+use Rattle.eb_lines.specs.Reading.{Reading, blank, document, query, refused}
+use Rattle.eb_lines.specs.Reads.{Reads}
+use Rattle.eb_lines.specs.Progress.{documents_in, accepted, queries, refusals, progress_after, with_line, nothing}
 use Rattle.eb_rounds.specs.Admitted.{admit, admitted}
 use Rattle.earlybird.specs.Session.{HasCome, IsOutcome}
 use Rattle.earlybird.specs.Bench.{usual, answer_in, answers_from, all_answers, ids_in, bench_line, figures, PrintsFigures, WroteBench, MeansBench, HasCounted}
 use Rattle.earlybird.specs.Output.{IsWorkedOff}
 use Rattle.earlybird.specs.Worked.{Closes}
-use Rattle.earlybird.proofs.OneOutput.{some_read}
-use Rattle.eb_rounds.proofs.Texts.{progress_after-push, progress_after-nil}
+use Rattle.eb_lines.proofs.OneReading.{some_read}
+use Rattle.eb_lines.proofs.Advancing.{progress_after-push, progress_after-nil}
 use Rattle.earlybird.proofs.Admissions.{read_none, read_push, read_long}
 
 -- ---- the answers of the lines

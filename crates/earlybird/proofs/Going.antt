@@ -8,10 +8,11 @@ use Rattle.eb_base.specs.Document.{Doc}
 use Rattle.eb_base.specs.Setting.{Setting}
 use Rattle.eb_place.specs.Room.{has_room}
 use Rattle.eb_io.specs.Lines.{Line}
-use Rattle.eb_rounds.specs.Reading.{Reading, blank, document, query, refused}
-use Rattle.eb_rounds.specs.Progress.{documents_in, is_query, is_refused, one_if, accepted, queries, refusals, told}
+use Rattle.eb_lines.specs.Reading.{Reading, blank, document, query, refused}
+use Rattle.eb_lines.specs.Progress.{documents_in, is_query, is_refused, one_if, accepted, queries, refusals, told}
 use Rattle.eb_rounds.specs.Admitted.{admit, admitted_from}
-use Rattle.eb_rounds.specs.Text.{output_of, body_from, answer_line}
+use Rattle.eb_rounds.specs.Text.{output_of, body_from}
+use Rattle.eb_lines.specs.Text.{answer_line}
 use Rattle.eb_base.specs.Match.{answer}
 use Rattle.eb_rounds.specs.Inputs.{ReadsLine, admitted_in, added}
 use Rattle.eb_rounds.specs.Shown.{line_of, shown_text, Counted, asks, fails, WorkedOff}
@@ -20,7 +21,8 @@ use Rattle.eb_rounds.specs.Rows.{count, NoQueryLine, QueriesFirst, joined, SeesW
 use Rattle.eb_rounds.specs.Standing.{Standing}
 use Rattle.eb_rounds.proofs.Seeing.{accepted-append, sees_on, front_is, back_is, next_within, told_front, told_back, told_none, told-rest}
 use Rattle.eb_rounds.proofs.Rounded.{long_in}
-use Rattle.earlybird.specs.Reads.{Reads, AreRead}
+use Rattle.earlybird.specs.Reads.{AreRead}
+use Rattle.eb_lines.specs.Reads.{Reads}
 use Rattle.earlybird.specs.Holding.{entries_from}
 use Rattle.earlybird.specs.Waiting.{HasWorked, HasSettled, counts_of}
 use Rattle.earlybird.proofs.Waitings.{read_back, admitted_entries, added_entries, seen_in, round_text, round_sees}

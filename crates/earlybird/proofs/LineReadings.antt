@@ -9,14 +9,15 @@ use Rattle.eb_doc.specs.DocumentLine.{document_of}
 use Rattle.eb_doc.specs.declared.LineFault.{LineFault}
 use Rattle.eb_doc.specs.declared.LineFault.TheVariants as fault
 use Rattle.eb_query.specs.Reading.{Outcome, asks, bad_number, bad_query, too_deep, too_many_nodes}
-use Rattle.eb_rounds.specs.Reading.{Reading}
-use Rattle.eb_rounds.specs.Progress.{one_if}
-use Rattle.eb_rounds.specs.Inputs.{HeldInput, HeldLine, IsOfDocument, of_query}
+use Rattle.eb_lines.specs.Reading.{Reading}
+use Rattle.eb_lines.specs.Progress.{one_if}
+use Rattle.eb_rounds.specs.Inputs.{HeldInput, HeldLine}
+use Rattle.eb_lines.specs.Reads.{IsOfDocument, of_query}
 use Rattle.eb_rounds.specs.Sees.{is_document_line, is_query_line}
 use Rattle.eb_rounds.specs.Standing.{documents_held, is_document_input, is_query_input}
-use Rattle.earlybird.specs.Kinds.{Kind, blank_line, bad_line, kind_of}
-use Rattle.earlybird.specs.Kinds as kind
-use Rattle.earlybird.specs.Reads.{ReadsByKind, Reads}
+use Rattle.eb_lines.specs.Kinds.{Kind, blank_line, bad_line, kind_of}
+use Rattle.eb_lines.specs.Kinds as kind
+use Rattle.eb_lines.specs.Reads.{ReadsByKind, Reads}
 use Rattle.earlybird.specs.Holding.{input_by, held_as, before_held, held_from}
 
 abbrev pub asks_query : Option HeldInput → Bool

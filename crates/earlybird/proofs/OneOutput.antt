@@ -13,12 +13,14 @@ use Rattle.eb_doc.specs.declared.LineFault.TheVariants as fault
 use Rattle.eb_query.specs.Reading.{Outcome, ReadsAs}
 use Rattle.eb_query.proofs.OneOutcome.{one_outcome}
 use Rattle.eb_query.proofs.SomeOutcome.{some_outcome}
-use Rattle.eb_rounds.specs.declared.refusal.Refusal.TheVariants.{BadLine, LongLine, BadJson, BadDocument, TooLong}
-use Rattle.earlybird.specs.Kinds.{Kind, blank_line, document_line, query_line, bad_line, kind_of}
-use Rattle.eb_rounds.specs.Reading.{Reading, blank, document, query, refused}
-use Rattle.eb_rounds.specs.Inputs.{IsOfDocument, of_query}
-use Rattle.earlybird.specs.Reads.{Reads, ReadsByKind, AreRead}
-use Rattle.eb_rounds.specs.Progress.{accepted, told, progress_after}
+use Rattle.eb_lines.specs.declared.refusal.Refusal.TheVariants.{BadLine, LongLine, BadJson, BadDocument, TooLong}
+use Rattle.eb_lines.specs.Kinds.{Kind, blank_line, document_line, query_line, bad_line, kind_of}
+use Rattle.eb_lines.specs.Reading.{Reading, blank, document, query, refused}
+use Rattle.eb_lines.proofs.OneReading.{raw_same, some_read}
+use Rattle.eb_lines.specs.Reads.{IsOfDocument, of_query}
+use Rattle.earlybird.specs.Reads.{AreRead}
+use Rattle.eb_lines.specs.Reads.{Reads, ReadsByKind}
+use Rattle.eb_lines.specs.Progress.{accepted, told, progress_after}
 use Rattle.eb_rounds.specs.Admitted.{admitted}
 use Rattle.eb_rounds.specs.Text.{body, text, summary}
 use Rattle.eb_rounds.specs.Rows.{count}
@@ -27,32 +29,7 @@ use Rattle.earlybird.specs.Output.{IsTextOf, IsOutput}
 use Rattle.eb_rounds.proofs.Texts.{body_same}
 use Rattle.eb_rounds.proofs.Seeing.{told-count, count-cons}
 
--- ---- a line has one reading
-
-one_document : (d : Result Doc LineFault) (a b : Reading) → IsOfDocument d a → IsOfDocument d b → a ≡ b
-one_document (Ok d) a b e f = e ∙ sym f
-one_document (Err fault.BadJson) a b e f = e ∙ sym f
-one_document (Err fault.BadDocument) a b e f = e ∙ sym f
-one_document (Err fault.TooLong) a b e f = e ∙ sym f
-one_document (Err fault.NoMemory) a b e f = absurd e
-
-one_by_kind : (k : Kind) (bytes : List ℕ) (a b : Reading) → ReadsByKind k bytes a → ReadsByKind k bytes b → a ≡ b
-one_by_kind blank_line bytes a b e f = e ∙ sym f
-one_by_kind document_line bytes a b e f = one_document (document_of bytes) a b e f
-one_by_kind query_line bytes a b e f = e.2 ∙ ap of_query (one_outcome bytes e.0 f.0 e.1 f.1) ∙ sym f.2
-one_by_kind bad_line bytes a b e f = e ∙ sym f
-
-one_reading : (l : Line) (a b : Reading) → Reads l a → Reads l b → a ≡ b
-one_reading (line bytes) a b e f = one_by_kind (kind_of bytes) bytes a b e f
-one_reading long_line a b e f = e ∙ sym f
-
-raw_same : (ls : List Line) (rs ss : List Reading) → AllZip Reads ls rs → AllZip Reads ls ss → rs ≡ ss
-raw_same [] [] [] e f = refl
-raw_same [] [] (s ∷ ss) e f = absurd f
-raw_same [] (r ∷ rs) ss e f = absurd e
-raw_same (l ∷ ls) [] ss e f = absurd e
-raw_same (l ∷ ls) (r ∷ rs) [] e f = absurd f
-raw_same (l ∷ ls) (r ∷ rs) (s ∷ ss) e f = ap₂ (λ x xs. x ∷ xs) (one_reading l r s e.0 f.0) (raw_same ls rs ss e.1 f.1)
+-- ---- lines have one reading
 
 all_read : (σ : Setting) (ls : List Line) (rs ss : List Reading) → AreRead σ ls rs → AreRead σ ls ss → rs ≡ ss
 all_read σ ls rs ss e f = e.2 ∙ ap (admitted σ) (raw_same ls e.0 f.0 e.1 f.1) ∙ sym f.2
@@ -66,28 +43,6 @@ one_text_of σ lines a b p q =
     let same = all_read σ lines p.readings q.readings p.read q.read in
     p.bytes ∙ in_order p.numbers p.readings p.sees ∙ ap (λ rs. text (told rs) rs) same ∙ sym (q.bytes ∙ in_order q.numbers q.readings q.sees)
 
--- ---- a line has a reading
-
-some_document : (d : Result Doc LineFault) → (d ≡ Err fault.NoMemory → ⊥) → (r : Reading) × IsOfDocument d r
-some_document (Ok d) h = (document d, refl)
-some_document (Err fault.BadJson) h = (refused BadJson, refl)
-some_document (Err fault.BadDocument) h = (refused BadDocument, refl)
-some_document (Err fault.TooLong) h = (refused TooLong, refl)
-some_document (Err fault.NoMemory) h = absurd (h refl)
-
-some_by_kind : (k : Kind) (bytes : List ℕ) → (r : Reading) × ReadsByKind k bytes r
-some_by_kind blank_line bytes = (blank, refl)
-some_by_kind document_line bytes = some_document (document_of bytes) (document_of-no_memory bytes)
-some_by_kind query_line bytes = let o = some_outcome bytes in (of_query o.0, (o.0, o.1, refl))
-some_by_kind bad_line bytes = (refused BadLine, refl)
-
-some_reading : (l : Line) → (r : Reading) × Reads l r
-some_reading (line bytes) = some_by_kind (kind_of bytes) bytes
-some_reading long_line = (refused LongLine, refl)
-
-pub some_read : (ls : List Line) → (rs : List Reading) × AllZip Reads ls rs
-some_read [] = ([], tt)
-some_read (l ∷ ls) = let r = some_reading l in let rs = some_read ls in (r.0 ∷ rs.0, (r.1, rs.1))
 
 -- ---- what lines print in order
 

@@ -12,14 +12,15 @@ use Rattle.eb_io.specs.Source.{after, IsEmpty}
 use Rattle.eb_io.specs.Sink.{grown}
 use Rattle.eb_io.proofs.Bytes.{grown-grown, grown-nil, after-nil, after-after}
 use Rattle.eb_io.proofs.Pieces.{lines_of-append}
-use Rattle.eb_rounds.specs.Progress.{accepted, queries, refusals, told, progress_after}
-use Rattle.eb_rounds.specs.Text.{body, body_from, summary, summary_of}
-use Rattle.eb_rounds.specs.Reading.{Reading}
+use Rattle.eb_lines.specs.Progress.{accepted, queries, refusals, told, progress_after}
+use Rattle.eb_rounds.specs.Text.{body, body_from, summary}
+use Rattle.eb_lines.specs.Text.{summary_of}
+use Rattle.eb_lines.specs.Reading.{Reading}
 use Rattle.eb_rounds.specs.Sees.{Sees}
 use Rattle.eb_rounds.specs.Shown.{Counted}
 use Rattle.eb_rounds.specs.Standing.{Standing, no_counts}
-use Rattle.earlybird.specs.declared.status.Status.{Status}
-use Rattle.earlybird.specs.declared.status.Status.TheVariants.{Done, Refused, Usage, ReadFault, WriteFault, NoMemory, TooLong}
+use Rattle.eb_lines.specs.declared.status.Status.{Status}
+use Rattle.eb_lines.specs.declared.status.Status.TheVariants.{Done, Refused, Usage, ReadFault, WriteFault, NoMemory, TooLong}
 use Rattle.earlybird.specs.declared.running.Running.{Running}
 use Rattle.earlybird.specs.Reads.{AreRead}
 use Rattle.earlybird.specs.Waiting.{HasWorked, HasSettled, counts_of}

@@ -10,17 +10,18 @@ use Rattle.eb_doc.specs.DocumentLine.{document_of}
 use Rattle.eb_doc.specs.declared.LineFault.{LineFault}
 use Rattle.eb_doc.specs.declared.LineFault.TheVariants as fault
 use Rattle.eb_query.specs.Reading.{Outcome, asks, bad_number, bad_query, too_deep, too_many_nodes}
-use Rattle.eb_rounds.specs.Reading.{Reading, blank, document, query, refused}
-use Rattle.eb_rounds.specs.Progress.{documents_in, is_query, accepted}
+use Rattle.eb_lines.specs.Reading.{Reading, blank, document, query, refused}
+use Rattle.eb_lines.specs.Progress.{documents_in, is_query, accepted}
 use Rattle.eb_rounds.specs.Admitted.{admit, admitted_from}
 use Rattle.eb_rounds.specs.Text.{output_of, body_from}
-use Rattle.eb_rounds.specs.Inputs.{HeldInput, document_line, query_line, refused_line, Entry, ReadsInput, ReadsLine, IsOfDocument, of_query, admitted_in, added}
+use Rattle.eb_rounds.specs.Inputs.{HeldInput, document_line, query_line, refused_line, Entry, ReadsInput, ReadsLine, admitted_in, added}
+use Rattle.eb_lines.specs.Reads.{IsOfDocument, of_query}
 use Rattle.eb_rounds.specs.Shown.{Shown, line_of, output_in, shown_text, least_after, Rises}
 use Rattle.eb_rounds.specs.Sees.{IsAsked}
 use Rattle.eb_rounds.specs.Rows.{SeesWithin}
-use Rattle.earlybird.specs.Kinds.{Kind, blank_line, bad_line, kind_of}
-use Rattle.earlybird.specs.Kinds as kind
-use Rattle.earlybird.specs.Reads.{ReadsByKind, Reads}
+use Rattle.eb_lines.specs.Kinds.{Kind, blank_line, bad_line, kind_of}
+use Rattle.eb_lines.specs.Kinds as kind
+use Rattle.eb_lines.specs.Reads.{ReadsByKind, Reads}
 use Rattle.earlybird.specs.Holding.{input_by, held_as, before_held, held_from, before_entries, entries_from}
 
 -- ---- what held lines are read as, the blank ones among them

@@ -4,13 +4,13 @@ use Rattle.std.specs.List.{AllZip, AllByRecursion}
 use Rattle.eb_base.specs.Document.{Doc}
 use Rattle.eb_base.specs.Setting.{Setting}
 use Rattle.eb_io.specs.Lines.{Line}
-use Rattle.eb_rounds.specs.Reading.{Reading}
+use Rattle.eb_lines.specs.Reading.{Reading}
 use Rattle.eb_rounds.specs.Inputs.{HeldInput, HeldLine, admitted_in, added}
 use Rattle.eb_rounds.specs.Shown.{Counted, shown_text, WorkedOff}
 use Rattle.eb_rounds.specs.Rows.{NoQueryLine, QueriesFirst}
 use Rattle.eb_rounds.specs.Sees.{is_document_line, is_query_line}
 use Rattle.eb_rounds.specs.Standing.{Standing}
-use Rattle.earlybird.specs.Reads.{Reads}
+use Rattle.eb_lines.specs.Reads.{Reads}
 use Rattle.earlybird.specs.Holding.{held_as, before_held, held_from}
 use Rattle.earlybird.specs.Waiting.{HasWorked, HasSettled, AreRound}
 use Rattle.earlybird.proofs.Going.{overlapped, in_order}

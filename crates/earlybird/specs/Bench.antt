@@ -10,10 +10,10 @@ use Rattle.eb_io.specs.Lines.{Line, line, lines_of}
 use Rattle.earlybird.specs.declared.bench.Bench.{Bench}
 use Rattle.earlybird.specs.declared.session.Outcome.{Outcome}
 use Rattle.earlybird.specs.declared.session.Outcome.TheVariants.{Nothing, Answered, Refused}
-use Rattle.earlybird.specs.declared.status.Status.{Status}
-use Rattle.earlybird.specs.declared.status.Status.TheVariants as status
-use Rattle.eb_rounds.specs.Reading.{Reading, blank, document, query, refused}
-use Rattle.eb_rounds.specs.Progress.{documents_in, accepted, queries, refusals, progress_after}
+use Rattle.eb_lines.specs.declared.status.Status.{Status}
+use Rattle.eb_lines.specs.declared.status.Status.TheVariants as status
+use Rattle.eb_lines.specs.Reading.{Reading, blank, document, query, refused}
+use Rattle.eb_lines.specs.Progress.{documents_in, accepted, queries, refusals, progress_after}
 use Rattle.earlybird.specs.Session.{HasCome}
 use Rattle.earlybird.specs.Reads.{AreRead}
 use Rattle.earlybird.specs.Output.{HasRefusal, HasNoRefusal}

@@ -1,11 +1,11 @@
 -- What the lines of an input are held as until they are worked off.
 use Rattle.std.specs.Prelude.{ℕ, ◌+◌, List, [], ◌∷◌, Option, Some, None}
 use Rattle.eb_io.specs.Lines.{Line, line, long_line}
-use Rattle.eb_rounds.specs.declared.refusal.Refusal.TheVariants.{BadLine, LongLine}
-use Rattle.eb_rounds.specs.Reading.{Reading, blank, document, query, refused}
+use Rattle.eb_lines.specs.declared.refusal.Refusal.TheVariants.{BadLine, LongLine}
+use Rattle.eb_lines.specs.Reading.{Reading, blank, document, query, refused}
 use Rattle.eb_rounds.specs.Inputs.{HeldInput, HeldLine, Entry}
 use Rattle.eb_rounds.specs.Inputs as input
-use Rattle.earlybird.specs.Kinds.{Kind, blank_line, document_line, query_line, bad_line, kind_of}
+use Rattle.eb_lines.specs.Kinds.{Kind, blank_line, document_line, query_line, bad_line, kind_of}
 
 -- what a line is held as; a blank one isn't held
 abbrev pub input_by : Kind → List ℕ → Option HeldInput

@@ -1,15 +1,11 @@
-pub mod Kinds
 pub mod Reads
 pub mod Holding
 pub mod Waiting
-pub mod Works
 pub mod Session
 pub mod Output
 pub mod Worked
 pub mod Running
 pub mod Command
 pub mod Bench
-pub mod Flags
-pub mod Options
 pub mod StatusLine
 pub mod Laws

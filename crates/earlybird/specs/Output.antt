@@ -2,10 +2,10 @@
 use Rattle.std.specs.Prelude.{◌≡◌, ℕ, ◌<◌, ◌⊎◌, Bool, List, [], ◌++◌, length, take, Option, Some}
 use Rattle.eb_base.specs.Setting.{Setting}
 use Rattle.eb_io.specs.Lines.{Line, longest_input, lines_of, whole_lines}
-use Rattle.earlybird.specs.declared.status.Status.{Status}
-use Rattle.earlybird.specs.declared.status.Status.TheVariants.{Done, Refused, Usage, ReadFault, WriteFault, NoMemory, TooLong}
-use Rattle.eb_rounds.specs.Reading.{Reading}
-use Rattle.eb_rounds.specs.Progress.{refusals}
+use Rattle.eb_lines.specs.declared.status.Status.{Status}
+use Rattle.eb_lines.specs.declared.status.Status.TheVariants.{Done, Refused, Usage, ReadFault, WriteFault, NoMemory, TooLong}
+use Rattle.eb_lines.specs.Reading.{Reading}
+use Rattle.eb_lines.specs.Progress.{refusals}
 use Rattle.eb_rounds.specs.Sees.{Sees}
 use Rattle.eb_rounds.specs.Text.{body, text}
 use Rattle.earlybird.specs.Reads.{AreRead}

@@ -9,8 +9,8 @@ use Rattle.eb_cursor.specs.Frames.{ids_of}
 use Rattle.earlybird.specs.declared.session.Session.{Session}
 use Rattle.earlybird.specs.declared.session.Outcome.{Outcome}
 use Rattle.earlybird.specs.declared.session.Outcome.TheVariants.{Nothing, Answered, Refused}
-use Rattle.eb_rounds.specs.Reading.{Reading, blank, document, query, refused}
-use Rattle.eb_rounds.specs.Progress.{Progress}
+use Rattle.eb_lines.specs.Reading.{Reading, blank, document, query, refused}
+use Rattle.eb_lines.specs.Progress.{Progress}
 
 -- the session has come so far, in an index of this setting: the history of the index's writer is the documents that the
 -- run accepted

@@ -4,14 +4,15 @@ use Rattle.std.specs.List.{AllZip}
 use Rattle.eb_base.specs.Document.{Doc}
 use Rattle.eb_base.specs.Setting.{Setting}
 use Rattle.eb_io.specs.Lines.{Line}
-use Rattle.eb_rounds.specs.Reading.{Reading}
-use Rattle.eb_rounds.specs.Progress.{accepted, queries, refusals}
+use Rattle.eb_lines.specs.Reading.{Reading}
+use Rattle.eb_lines.specs.Progress.{accepted, queries, refusals}
 use Rattle.eb_rounds.specs.Text.{body}
 use Rattle.eb_rounds.specs.Sees.{Sees}
 use Rattle.eb_rounds.specs.Rows.{QueriesFirst}
 use Rattle.eb_rounds.specs.Shown.{Counted}
 use Rattle.eb_rounds.specs.Standing.{Standing}
-use Rattle.earlybird.specs.Reads.{Reads, AreRead}
+use Rattle.earlybird.specs.Reads.{AreRead}
+use Rattle.eb_lines.specs.Reads.{Reads}
 use Rattle.earlybird.specs.Holding.{held_from}
 
 -- whatever the lines are read as, no query line among them follows a document line

@@ -9,8 +9,8 @@ ghost use Rattle.earlybird.specs.Bench.{HasCounted, lines_until, ids_in, bench_l
 use crate::printed::print_last;
 use crate::printing::put_figures;
 use crate::session::{Outcome, Session};
-use crate::status::Status;
-use crate::work::read_line;
+use eb_lines::Status;
+use eb_lines::read_line;
 use eb_base::{Config, Gate, NoMemory};
 use eb_gen::{line_of, query_of};
 use eb_io::Sink;

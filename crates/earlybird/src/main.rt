@@ -13,22 +13,22 @@ mod run;
 mod running;
 mod searching;
 mod session;
-mod status;
+mod usage;
 #[cfg(test)]
 mod tests;
-mod work;
 
 pub use command::{Command, CommandFault, read_command};
 use eb_base::OpenGate;
 use eb_io::{StdSink, StdSource, write_all};
 pub use laws::{one_text, order_text, some_text};
 pub use run::run;
-pub use status::Status;
+pub use eb_lines::Status;
 use std::alloc::Global;
 use std::env;
 use std::io::ErrorKind;
 use std::process::ExitCode;
 use std::rt::Env;
+use usage::USAGE;
 
 fn main(rt: HostRuntime) -> ExitCode {
     let alloc = rt.alloc();
@@ -36,7 +36,7 @@ fn main(rt: HostRuntime) -> ExitCode {
     let words = match read_words(&rt, alloc) {
         Ok(words) => words,
         Err(status) => {
-            let _ = write_all(&mut err, status.line());
+            let _ = write_all(&mut err, status.line(USAGE));
             return ExitCode::from(status.code());
         }
     };

@@ -2,7 +2,7 @@ ghost use Rattle.std.specs.Prelude.{◌≡◌, ◌≤◌, string_bytes};
 ghost use Rattle.eb_io.specs.Faults.{HasRisen};
 ghost use Rattle.earlybird.specs.Worked.{Closes};
 
-use crate::status::Status;
+use eb_lines::Status;
 use eb_io::{Sink, write_all};
 
 // Prints the last line, where so many lines are refused.

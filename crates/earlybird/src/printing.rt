@@ -1,31 +1,11 @@
 ghost use Rattle.std.specs.Prelude.{◌≡◌, ◌++◌, OnErr, OnOk};
 ghost use Rattle.std.specs.String.{string_bytes};
 ghost use Rattle.earlybird.specs.Bench.{bench_line, counts_text, sums_text};
-ghost use Rattle.eb_rounds.specs.Text.{summary_of};
+ghost use Rattle.eb_lines.specs.Text.{summary_of};
 
 use eb_base::NoMemory;
 use std::alloc::Global;
 use std::fmt::Write;
-
-// The summary, behind the text. Where memory doesn't suffice, the text is as before.
-pub(crate) fn put_summary(
-    alloc: Global,
-    text: &mut Vec<u8>,
-    documents: u64,
-    queries: u64,
-    refused: u64,
-) -> Result<(), NoMemory>
-    ensures ok { OnOk result (text.new.items ≡ text.old.items ++ summary_of documents queries refused) }
-    ensures err { OnErr result (text.new.items ≡ text.old.items) }
-{
-    let mut line = String::new(alloc);
-    writeln!(
-        line,
-        "end: documents {documents}, queries {queries}, refused {refused}"
-    )?;
-    text.extend_from_slice(line.as_bytes())?;
-    Ok(())
-}
 
 // The line of figures of a made input, behind the text.
 pub(crate) fn put_figures(

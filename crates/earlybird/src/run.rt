@@ -13,16 +13,13 @@ ghost use Rattle.earlybird.specs.Worked.{IsAt, IsAtEnd, IsStopped, IsSomewhere, 
 
 use crate::bench::run_bench;
 use crate::command::{Command, CommandFault, read_command};
-use crate::printing::put_summary;
 use crate::running::Running;
-use crate::status::{MAX_INPUT, Status};
+use crate::usage::USAGE;
+use eb_lines::{MAX_INPUT, Status, put_summary, write_gathered, write_much};
 use eb_base::{Config, Gate, NoMemory};
 use eb_io::{Lines, Next, Sink, SinkFailed, Source, write_all};
 use std::alloc::Global;
 use std::thread::Threads;
-
-// How many bytes are gathered before they are written, where the source isn't asked before.
-const GATHERED: usize = 65_536;
 
 /// Runs the command that the words ask for: `run` reads document lines and query lines from the
 /// source and prints answers and refusals on `out`. With `--overlap` documents are added while queries
@@ -74,7 +71,7 @@ where
         → HasRisen (E.faults err.old) (E.faults err.new) ⊎ (E.taken err.new ≡ Some (before ++ status_line result)) }
 {
     let status = run_words(rt, alloc, words, source, out, gate);
-    let _ = write_all(err, status.line());
+    let _ = write_all(err, status.line(USAGE));
     status
 }
 
@@ -108,31 +105,6 @@ fn run_words<R: Threads + Sync, S: Source, K: Sink, G: Gate + Sync>(
         ),
         Command::Bench { start, docs } => run_bench(alloc, start, docs, out, gate),
     }
-}
-
-// Writes what is gathered.
-fn write_gathered<K: Sink>(text: &mut Vec<u8>, out: &mut K) -> Result<(), SinkFailed>
-    ensures ok { OnOk result ((K.taken out.new ≡ grown (K.taken out.old) text.old.items) × (text.new.items ≡ [])) }
-    ensures err { OnErr result ((n : ℕ) × (K.taken out.new ≡ grown (K.taken out.old) (take n text.old.items))) }
-    ensures later { K.faults out.old ≤ K.faults out.new }
-    ensures failed { OnErr result (HasRisen (K.faults out.old) (K.faults out.new)) }
-{
-    write_all(out, text.as_slice())?;
-    text.clear();
-    Ok(())
-}
-
-// The same, where much is gathered.
-fn write_much<K: Sink>(text: &mut Vec<u8>, out: &mut K) -> Result<(), SinkFailed>
-    ensures ok { OnOk result ((front : List ℕ) × (K.taken out.new ≡ grown (K.taken out.old) front) × (text.old.items ≡ front ++ text.new.items)) }
-    ensures err { OnErr result ((n : ℕ) × (K.taken out.new ≡ grown (K.taken out.old) (take n text.old.items))) }
-    ensures later { K.faults out.old ≤ K.faults out.new }
-    ensures failed { OnErr result (HasRisen (K.faults out.old) (K.faults out.new)) }
-{
-    if text.len() < GATHERED {
-        return Ok(());
-    }
-    write_gathered(text, out)
 }
 
 // How a run ends for want of memory: what is gathered is written before.
@@ -296,6 +268,7 @@ fn close<R: Threads + Sync, K: Sink, G: Gate + Sync>(
         counts.documents,
         counts.queries,
         counts.refused,
+        "",
     ) else {
         return give_up(text, out);
     };

@@ -8,7 +8,8 @@ ghost use Rattle.earlybird.specs.Running.{HasRun, IsRunning, WorksOn, GoesOn};
 
 use eb_base::{Config, Gate, NoMemory};
 use eb_engine::{Converter, Index, Writer};
-use eb_rounds::{Counts, Input, Kind, Refusal, Rounds};
+use eb_lines::Refusal;
+use eb_rounds::{Counts, Input, Kind, Rounds};
 use std::alloc::Global;
 use std::str;
 use std::thread::Threads;

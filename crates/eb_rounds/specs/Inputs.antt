@@ -1,16 +1,13 @@
 -- Held lines, and how they are read.
 use Rattle.std.specs.Prelude.{◌≡◌, ℕ, ◌++◌, List, [], ◌∷◌, flat_map}
-use Rattle.std.specs.Prelude.{Result, Ok, Err}
 use Rattle.eb_base.specs.Document.{Doc}
 use Rattle.eb_base.specs.Setting.{Setting}
 use Rattle.eb_doc.specs.DocumentLine.{document_of}
-use Rattle.eb_doc.specs.declared.LineFault.{LineFault}
-use Rattle.eb_doc.specs.declared.LineFault.TheVariants as fault
-use Rattle.eb_query.specs.Reading.{Outcome, asks, bad_number, bad_query, too_deep, too_many_nodes, ReadsAs}
-use Rattle.eb_rounds.specs.declared.refusal.Refusal.{Refusal}
-use Rattle.eb_rounds.specs.declared.refusal.Refusal.TheVariants.{BadJson, BadDocument, TooLong, BadNumber, BadQuery, TooManyNodes, TooDeep}
-use Rattle.eb_rounds.specs.Reading.{Reading, document, query, refused}
-use Rattle.eb_rounds.specs.Progress.{documents_in}
+use Rattle.eb_query.specs.Reading.{Outcome, ReadsAs}
+use Rattle.eb_lines.specs.Reads.{IsOfDocument, of_query}
+use Rattle.eb_lines.specs.declared.refusal.Refusal.{Refusal}
+use Rattle.eb_lines.specs.Reading.{Reading, refused}
+use Rattle.eb_lines.specs.Progress.{documents_in}
 use Rattle.eb_rounds.specs.Admitted.{admit}
 
 -- what a held line is
@@ -32,22 +29,6 @@ held_line number input = record { number = number; input = input } ∷ []
 pub record Entry : Type 0 where
   pub number : ℕ
   pub reading : Reading
-
--- a document line is its document, or it is refused
-abbrev pub IsOfDocument : Result Doc LineFault → Reading → Type 0
-IsOfDocument (Ok d) r = r ≡ document d
-IsOfDocument (Err fault.BadJson) r = r ≡ refused BadJson
-IsOfDocument (Err fault.BadDocument) r = r ≡ refused BadDocument
-IsOfDocument (Err fault.TooLong) r = r ≡ refused TooLong
-IsOfDocument (Err fault.NoMemory) r = ⊥
-
--- a query line asks its query, or it is refused
-abbrev pub of_query : Outcome → Reading
-of_query (asks k q) = query k q
-of_query bad_number = refused BadNumber
-of_query (bad_query column) = refused (BadQuery column)
-of_query too_deep = refused TooDeep
-of_query too_many_nodes = refused TooManyNodes
 
 abbrev pub ReadsInput : HeldInput → Reading → Type 0
 ReadsInput (document_line bytes) r = IsOfDocument (document_of bytes) r

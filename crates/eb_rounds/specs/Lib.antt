@@ -1,5 +1,3 @@
-pub mod Reading
-pub mod Progress
 pub mod Text
 pub mod Admitted
 pub mod Inputs

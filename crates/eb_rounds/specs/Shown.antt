@@ -4,8 +4,8 @@ use Rattle.std.specs.List.{AllZip}
 use mathlib.Core.List.{IsPrefix}
 use Rattle.eb_base.specs.Document.{Doc}
 use Rattle.eb_base.specs.Setting.{Setting}
-use Rattle.eb_rounds.specs.Reading.{Reading, blank, document, query, refused}
-use Rattle.eb_rounds.specs.Progress.{is_query, is_refused}
+use Rattle.eb_lines.specs.Reading.{Reading, blank, document, query, refused}
+use Rattle.eb_lines.specs.Progress.{is_query, is_refused}
 use Rattle.eb_rounds.specs.Text.{output_of}
 use Rattle.eb_rounds.specs.Inputs.{HeldLine, Entry, ReadsLine, admitted_in, added}
 

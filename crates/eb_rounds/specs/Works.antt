@@ -14,8 +14,8 @@ use Rattle.eb_rounds.specs.declared.tasks.AskedWork.{AskedWork}
 use Rattle.eb_rounds.specs.declared.tasks.AskedWork.TheVariants as asked
 use Rattle.eb_rounds.specs.declared.tasks.GivenWork.{GivenWork}
 use Rattle.eb_rounds.specs.declared.tasks.GivenWork.TheVariants as given
-use Rattle.eb_rounds.specs.Reading.{Reading, document, query, refused}
-use Rattle.eb_rounds.specs.Progress.{is_query}
+use Rattle.eb_lines.specs.Reading.{Reading, document, query, refused}
+use Rattle.eb_lines.specs.Progress.{is_query}
 use Rattle.eb_rounds.specs.Inputs.{HeldInput, document_line, query_line, refused_line, HeldLine, Entry}
 
 abbrev pub first_input : FirstInput → HeldInput

@@ -8,8 +8,8 @@ ghost use Rattle.eb_rounds.specs.Works.{asked_entry, asked_need, given_entry};
 use crate::adding::add_all;
 use crate::answering::answer_all;
 use crate::input::Input;
-use crate::reading::{read_document_line, read_query_text};
-use crate::refusal::Refusal;
+use crate::reading::{document_work, query_work};
+use eb_lines::Refusal;
 use crate::rounds::Counts;
 use crate::tasks::{Asked, Given, GivenWork};
 use crate::working::need_of;
@@ -77,7 +77,7 @@ fn work_document_line<G: Gate>(
     ensures few { IfOk result (λ c. c.documents + (c.queries + c.refused) ≤ 1) }
     ensures err { OnErr result ((writer.new ≡ writer.old) × (text.new.items ≡ text.old.items)) }
 {
-    let work = read_document_line(alloc, bytes)?;
+    let work = document_work(alloc, bytes)?;
     text.reserve(64)?;
     let (documents, refused) = work_given(index, writer, Given { number, work }, gate, text);
     Ok(Counts {
@@ -105,7 +105,7 @@ fn work_query_line<G: Gate>(
     ensures few { IfOk result (λ c. c.documents + (c.queries + c.refused) ≤ 1) }
     ensures err { OnErr result ((writer.new ≡ writer.old) × (text.new.items ≡ text.old.items)) }
 {
-    let work = read_query_text(alloc, line)?;
+    let work = query_work(alloc, line)?;
     let task = Asked { number, work };
     text.reserve(need_of(&task))?;
     let (queries, refused) = work_asked(index, writer, task, gate, text);

@@ -1,7 +1,7 @@
 ghost use Rattle.std.specs.Prelude.{◌≡◌};
 ghost use Rattle.eb_rounds.specs.Passed.{kind_of};
 
-use crate::refusal::Refusal;
+use eb_lines::Refusal;
 
 /// A line that is to be worked off. A blank line is none.
 #[derive(Clone, Copy, Debug, Drop)]

@@ -11,13 +11,10 @@ mod converting;
 mod held;
 mod input;
 mod reading;
-mod refusal;
 mod rounds;
 mod tasks;
 mod working;
-mod writing;
 
 pub use converting::{SegmentCounts, close};
 pub use input::{Input, Kind};
-pub use refusal::Refusal;
 pub use rounds::{Counts, Rounds};

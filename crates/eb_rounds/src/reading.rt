@@ -1,43 +1,36 @@
 ghost use Rattle.std.specs.Prelude.{◌≡◌, List, map, IfOk, Some, slice_get, string_bytes};
 ghost use Rattle.std.specs.List.{AllZip};
 ghost use Rattle.eb_doc.specs.DocumentLine.{document_of};
-ghost use Rattle.eb_rounds.specs.Inputs.{IsOfDocument, ReadsInput, ReadsLine, query_line};
+ghost use Rattle.eb_rounds.specs.Inputs.{ReadsInput, ReadsLine, query_line};
+ghost use Rattle.eb_lines.specs.Reads.{IsOfDocument};
 ghost use Rattle.eb_rounds.specs.Works.{first_input, first_line, then_line, asked_reading, given_reading, asked_entry, given_entry};
 
 use crate::held::{FirstInput, FirstLine, ThenInput, ThenLine};
-use crate::refusal::Refusal;
 use crate::tasks::{Asked, AskedWork, Given, GivenWork};
 use eb_base::NoMemory;
-use eb_cursor::Frame;
-use eb_doc::{LineFault, read_document};
-use eb_query::{QueryFault, read_query};
+use eb_lines::{read_document_line, read_query_text};
 use rayon::prelude::*;
 use std::alloc::{AllocError, Global};
 use std::thread::Threads;
 
-pub(crate) fn read_document_line(alloc: Global, bytes: &[u8]) -> Result<GivenWork, NoMemory>
+// What is to be done for a document line.
+pub(crate) fn document_work(alloc: Global, bytes: &[u8]) -> Result<GivenWork, NoMemory>
     ensures { IfOk result (λ work. IsOfDocument (document_of bytes.now) (given_reading work)) }
 {
-    match read_document(alloc, bytes) {
+    match read_document_line(alloc, bytes)? {
         Ok(document) => Ok(GivenWork::Add(document)),
-        Err(LineFault::BadJson) => Ok(GivenWork::Refuse(Refusal::BadJson)),
-        Err(LineFault::BadDocument) => Ok(GivenWork::Refuse(Refusal::BadDocument)),
-        Err(LineFault::TooLong) => Ok(GivenWork::Refuse(Refusal::TooLong)),
-        Err(LineFault::NoMemory) => Err(NoMemory),
+        Err(refusal) => Ok(GivenWork::Refuse(refusal)),
     }
 }
 
-pub(crate) fn read_query_text(alloc: Global, text: &str) -> Result<AskedWork, NoMemory>
+// What is to be done for a query line.
+pub(crate) fn query_work(alloc: Global, text: &str) -> Result<AskedWork, NoMemory>
     requires { slice_get text.now 0 ≡ Some 63 }
     ensures { IfOk result (λ work. ReadsInput (query_line text.now) (asked_reading work)) }
 {
-    match read_query(alloc, text) {
-        Ok((k, query)) => Ok(AskedWork::Answer(Frame::new(alloc, query, k)?)),
-        Err(QueryFault::BadNumber) => Ok(AskedWork::Refuse(Refusal::BadNumber)),
-        Err(QueryFault::BadQuery { column }) => Ok(AskedWork::Refuse(Refusal::BadQuery(column))),
-        Err(QueryFault::TooDeep) => Ok(AskedWork::Refuse(Refusal::TooDeep)),
-        Err(QueryFault::TooManyNodes) => Ok(AskedWork::Refuse(Refusal::TooManyNodes)),
-        Err(QueryFault::NoMemory) => Err(NoMemory),
+    match read_query_text(alloc, text)? {
+        Ok(frame) => Ok(AskedWork::Answer(frame)),
+        Err(refusal) => Ok(AskedWork::Refuse(refusal)),
     }
 }
 
@@ -46,7 +39,7 @@ fn read_then(alloc: Global, line: &ThenLine) -> Result<Given, NoMemory>
     ensures { IfOk result (λ task. ReadsLine (then_line line.now) (given_entry task)) }
 {
     let work = match &line.input {
-        ThenInput::Document(bytes) => read_document_line(alloc, bytes.as_slice())?,
+        ThenInput::Document(bytes) => document_work(alloc, bytes.as_slice())?,
         ThenInput::Refused(refusal) => GivenWork::Refuse(*refusal),
     };
     Ok(Given {
@@ -60,7 +53,7 @@ fn read_first(alloc: Global, line: &FirstLine) -> Result<Asked, NoMemory>
     ensures { IfOk result (λ task. ReadsLine (first_line line.now) (asked_entry task)) }
 {
     let work = match &line.input {
-        FirstInput::Query(line) => read_query_text(alloc, line.text.as_str())?,
+        FirstInput::Query(line) => query_work(alloc, line.text.as_str())?,
         FirstInput::Refused(refusal) => AskedWork::Refuse(*refusal),
     };
     Ok(Asked {

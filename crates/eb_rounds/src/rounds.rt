@@ -14,7 +14,7 @@ use crate::converting::catch_up;
 use crate::held::{FirstInput, FirstLine, QueryLine, ThenInput, ThenLine};
 use crate::input::{Input, Kind};
 use crate::reading::read_round;
-use crate::refusal::Refusal;
+use eb_lines::Refusal;
 use crate::tasks::{Asked, Given};
 use crate::working::{make_room, work_and_convert};
 use eb_base::{Gate, NoMemory};

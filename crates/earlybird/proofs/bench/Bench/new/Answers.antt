@@ -1,6 +1,6 @@
 use Rattle.std.proofs.Common.{refl, subst}
 use Rattle.eb_base.specs.Setting.{Setting}
-use Rattle.eb_rounds.specs.Progress.{nothing}
+use Rattle.eb_lines.specs.Progress.{nothing}
 use Rattle.earlybird.specs.Session.{HasCome}
 use Rattle.earlybird.proofs.Benches.{counted_none}
 use Rattle.earlybird.proofs.bench.Bench.new.Goals as goal

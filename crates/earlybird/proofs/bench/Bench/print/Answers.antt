@@ -1,5 +1,5 @@
 use Rattle.earlybird.specs.Bench.{usual}
-use Rattle.eb_rounds.specs.Progress.{progress_after}
+use Rattle.eb_lines.specs.Progress.{progress_after}
 use Rattle.earlybird.proofs.Benches.{figures_are}
 use Rattle.earlybird.proofs.bench.Bench.print.Goals as goal
 

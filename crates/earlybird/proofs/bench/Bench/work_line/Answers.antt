@@ -1,11 +1,11 @@
 use Rattle.std.proofs.Common.{◌≤◌, sym, subst, arith}
 use Rattle.eb_io.specs.Lines.{line}
 use Rattle.earlybird.specs.Bench.{usual}
-use Rattle.eb_rounds.specs.Progress.{progress_after, with_line}
+use Rattle.eb_lines.specs.Progress.{progress_after, with_line}
 use Rattle.eb_rounds.specs.Admitted.{admit}
 use Rattle.earlybird.specs.Session.{HasCome}
 use Rattle.earlybird.specs.declared.session.Session.{Session}
-use Rattle.earlybird.specs.Works.{reading_of}
+use Rattle.eb_lines.specs.Works.{reading_of}
 use Rattle.earlybird.proofs.Benches.{lines_small, outcome_few, counted_push}
 use Rattle.earlybird.proofs.bench.Bench.work_line.Goals as goal
 

@@ -1,8 +1,8 @@
 use Rattle.std.proofs.Common.{subst, sym}
-use Rattle.earlybird.specs.declared.work.Work.{Work}
+use Rattle.eb_lines.specs.declared.work.Work.{Work}
 use Rattle.eb_rounds.specs.Admitted.{admit}
 use Rattle.earlybird.specs.Session.{IsOutcome}
-use Rattle.earlybird.specs.Works.{reading_of}
+use Rattle.eb_lines.specs.Works.{reading_of}
 use Rattle.earlybird.proofs.session.Session.work_off.Goals as goal
 
 pub returns-in-Answer-clause-outcome : goal.returns-in-Answer-clause-outcome

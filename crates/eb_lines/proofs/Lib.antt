@@ -1,0 +1,3 @@
+pub mod LineKinds
+pub mod Advancing
+pub mod OneReading

@@ -1,0 +1,15 @@
+//! One line in, one line out: what a line of the input is read as, how far some lines come, what a line prints, and how a
+//! program over lines ends. The forms are those of this project's profile, docs/FORMATS.md.
+#![tactic(auto)]
+
+mod gathered;
+mod refusal;
+mod status;
+mod work;
+mod writing;
+
+pub use gathered::{write_gathered, write_much};
+pub use refusal::Refusal;
+pub use status::{MAX_INPUT, Status};
+pub use work::{Work, read_document_line, read_line, read_query_text};
+pub use writing::{put_answer, put_refusal, put_summary};

@@ -1,0 +1,103 @@
+ghost use Rattle.std.specs.Prelude.{◌≡◌, Some, IfOk, slice_get};
+ghost use Rattle.eb_doc.specs.DocumentLine.{document_of};
+ghost use Rattle.eb_io.specs.Lines.{line};
+ghost use Rattle.eb_lines.specs.Kinds.{kind_of, query_line};
+ghost use Rattle.eb_lines.specs.Reads.{IsOfDocument, Reads, ReadsByKind};
+ghost use Rattle.eb_lines.specs.Works.{document_reading, query_reading, reading_of};
+
+use crate::refusal::Refusal;
+use eb_base::{Document, NoMemory};
+use eb_cursor::Frame;
+use eb_doc::{LineFault, read_document};
+use eb_query::{QueryFault, read_query};
+use std::alloc::Global;
+use std::str;
+
+/// What is to be done for a line.
+#[derive(Drop)]
+pub enum Work {
+    /// The line is blank.
+    Nothing,
+    /// A document is to be added.
+    Add(Document),
+    /// A query is to be answered: the frame has room for all its ids.
+    Answer(Frame),
+    /// The line is refused.
+    Refuse(Refusal),
+}
+
+/// The document of a document line, or why the line is refused. Takes the memory of its terms.
+pub fn read_document_line(
+    alloc: Global,
+    bytes: &[u8],
+) -> Result<Result<Document, Refusal>, NoMemory>
+    ensures { IfOk result (λ read. IsOfDocument (document_of bytes.now) (document_reading read)) }
+{
+    match read_document(alloc, bytes) {
+        Ok(document) => Ok(Ok(document)),
+        Err(LineFault::BadJson) => Ok(Err(Refusal::BadJson)),
+        Err(LineFault::BadDocument) => Ok(Err(Refusal::BadDocument)),
+        Err(LineFault::TooLong) => Ok(Err(Refusal::TooLong)),
+        Err(LineFault::NoMemory) => Err(NoMemory),
+    }
+}
+
+/// A frame for the query of a query line, which begins with `?`, or why the line is refused. Takes the memory of a
+/// search, so that the search takes none.
+pub fn read_query_text(alloc: Global, text: &str) -> Result<Result<Frame, Refusal>, NoMemory>
+    requires { slice_get text.now 0 ≡ Some 63 }
+    ensures { IfOk result (λ read. ReadsByKind query_line text.now (query_reading read)) }
+{
+    match read_query(alloc, text) {
+        Ok((k, query)) => Ok(Ok(Frame::new(alloc, query, k)?)),
+        Err(QueryFault::BadNumber) => Ok(Err(Refusal::BadNumber)),
+        Err(QueryFault::BadQuery { column }) => Ok(Err(Refusal::BadQuery(column))),
+        Err(QueryFault::TooDeep) => Ok(Err(Refusal::TooDeep)),
+        Err(QueryFault::TooManyNodes) => Ok(Err(Refusal::TooManyNodes)),
+        Err(QueryFault::NoMemory) => Err(NoMemory),
+    }
+}
+
+// The work of a document line.
+fn document_work(alloc: Global, bytes: &[u8]) -> Result<Work, NoMemory>
+    ensures { IfOk result (λ work. IsOfDocument (document_of bytes.now) (reading_of work)) }
+{
+    match read_document_line(alloc, bytes)? {
+        Ok(document) => Ok(Work::Add(document)),
+        Err(refusal) => Ok(Work::Refuse(refusal)),
+    }
+}
+
+// The work of a query line that is UTF-8.
+fn text_work(alloc: Global, text: &str) -> Result<Work, NoMemory>
+    requires { slice_get text.now 0 ≡ Some 63 }
+    ensures { IfOk result (λ work. ReadsByKind query_line text.now (reading_of work)) }
+{
+    match read_query_text(alloc, text)? {
+        Ok(frame) => Ok(Work::Answer(frame)),
+        Err(refusal) => Ok(Work::Refuse(refusal)),
+    }
+}
+
+// The work of a line that begins with `?`.
+fn query_work(alloc: Global, bytes: &[u8]) -> Result<Work, NoMemory>
+    requires { slice_get bytes.now 0 ≡ Some 63 }
+    ensures { IfOk result (λ work. ReadsByKind (kind_of bytes.now) bytes.now (reading_of work)) }
+{
+    let Ok(text) = str::from_utf8(bytes) else {
+        return Ok(Work::Refuse(Refusal::BadLine));
+    };
+    text_work(alloc, text)
+}
+
+/// The work of a line that isn't long: its first byte says what kind of line it is. Takes the memory that the work needs.
+pub fn read_line(alloc: Global, bytes: &[u8]) -> Result<Work, NoMemory>
+    ensures { IfOk result (λ work. Reads (line bytes.now) (reading_of work)) }
+{
+    match bytes.first() {
+        None => Ok(Work::Nothing),
+        Some(b'{') => document_work(alloc, bytes),
+        Some(b'?') => query_work(alloc, bytes),
+        Some(_) => Ok(Work::Refuse(Refusal::BadLine)),
+    }
+}
