@@ -16,7 +16,7 @@ run_flags = codes "overlap" ∷ []
 
 -- what the items behind `run` ask for
 abbrev pub run_with : Items → Option Command
-run_with items = option_map (λ σ. Run (has (codes "overlap") items) σ) (setting_of items)
+run_with items = option_map (λ σ. Run (has (codes "overlap") items) (has (codes "stats") items) σ) (setting_of items)
 
 -- what the words behind `run` ask for: its flags and the options of a setting, in any order, each at most once
 abbrev pub run_of : List (List ℕ) → Option Command
@@ -42,9 +42,9 @@ command_of (name ∷ words) =
     if bytes_eq name (codes "run") then run_of words
     else (if bytes_eq name (codes "bench") then bench_of words else None)
 
--- the words ask to run with an index of this setting, with or without overlap
-abbrev pub AsksRun : List (List ℕ) → Bool → Setting → Type 0
-AsksRun words overlap σ = command_of words ≡ Some (Run overlap σ)
+-- the words ask to run with an index of this setting, with or without overlap, and with or without figures
+abbrev pub AsksRun : List (List ℕ) → Bool → Bool → Setting → Type 0
+AsksRun words overlap stats σ = command_of words ≡ Some (Run overlap stats σ)
 
 -- the words ask to work off a made input
 abbrev pub AsksBench : List (List ℕ) → ℕ → ℕ → Type 0

@@ -16,6 +16,8 @@ pub enum Command {
     Run {
         /// Whether documents are added while queries are answered (`--overlap`).
         overlap: bool,
+        /// Whether figures of the run are asked for (`--stats`); no word asks for them yet.
+        stats: bool,
         /// The setting that the options give; what they don't name is as in `Config::usual`.
         config: Config,
     },

@@ -21,6 +21,7 @@ pub(super) fn read_run(alloc: Global, words: &[String]) -> Result<Command, Comma
     match read_setting(&items) {
         Some(config) => Ok(Command::Run {
             overlap: items.has("overlap"),
+            stats: items.has("stats"),
             config,
         }),
         None => Err(CommandFault::Usage),
