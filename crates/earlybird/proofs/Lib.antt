@@ -6,13 +6,5 @@ pub mod Waits
 pub mod Runnings
 pub mod Runs
 pub mod OneOutput
-pub mod OptionSteps
-pub mod OptionWalks
-pub mod OptionNames
-pub mod OptionItems
-pub mod OptionValues
-pub mod OptionLaw
-pub mod FlagLaw
-pub mod CommandNumbers
 pub mod Benches
 pub mod MadeLines

@@ -7,7 +7,5 @@ pub mod Worked
 pub mod Running
 pub mod Command
 pub mod Bench
-pub mod Flags
-pub mod Options
 pub mod StatusLine
 pub mod Laws

@@ -2,14 +2,11 @@ ghost use Rattle.std.specs.Prelude.{◌≡◌, Some, None, IfOk, IsErrOf, map, s
 ghost use Rattle.earlybird.specs.Command.{command_of};
 
 mod bench;
-mod flag;
-mod number;
-mod options;
-mod setting;
+mod lines;
 
 use bench::read_bench;
 use eb_base::Config;
-use flag::read_run;
+use lines::read_run;
 use std::alloc::Global;
 
 /// What the words of a command line ask for.
@@ -19,6 +16,8 @@ pub enum Command {
     Run {
         /// Whether documents are added while queries are answered (`--overlap`).
         overlap: bool,
+        /// Whether figures of the run are asked for (`--stats`); no word asks for them yet.
+        stats: bool,
         /// The setting that the options give; what they don't name is as in `Config::usual`.
         config: Config,
     },
@@ -53,16 +52,14 @@ pub fn read_command(alloc: Global, words: &Vec<String>) -> Result<Command, Comma
     ensures command { IfOk result (λ command. command_of (map string_bytes words.now.items) ≡ Some command) }
     ensures usage { IsErrOf result CommandFault.Usage → command_of (map string_bytes words.now.items) ≡ None }
 {
-    if words.is_empty() {
+    let Some((name, rest)) = words.split_first() else {
         return Err(CommandFault::Usage);
+    };
+    if name.as_str() == "run" {
+        return read_run(alloc, rest);
     }
-    let name = words[0].as_str();
-    if name == "run" {
-        let (overlap, config) = read_run(alloc, words.as_slice())?;
-        return Ok(Command::Run { overlap, config });
-    }
-    if name == "bench" {
-        return read_bench(words.as_slice()).ok_or(CommandFault::Usage);
+    if name.as_str() == "bench" {
+        return read_bench(rest).ok_or(CommandFault::Usage);
     }
     Err(CommandFault::Usage)
 }

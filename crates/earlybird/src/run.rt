@@ -1,4 +1,4 @@
-ghost use Rattle.std.specs.Prelude.{◌≡◌, ◌⊎◌, ◌+◌, ◌<◌, ◌≤◌, ◌++◌, Bool, List, [], ℕ, Option, None, Some, length, map, string_bytes, take, ⊤, MatchResult, OnErr, OnOk};
+ghost use Rattle.std.specs.Prelude.{◌≡◌, ◌⊎◌, ◌+◌, ◌<◌, ◌≤◌, ◌++◌, Bool, List, [], ℕ, Option, false, None, Some, length, map, string_bytes, take, ⊤, MatchResult, OnErr, OnOk};
 ghost use Rattle.eb_io.specs.Faults.{HasRisen};
 ghost use Rattle.eb_io.specs.Held.{Held};
 ghost use Rattle.eb_io.specs.Sink.{grown};
@@ -46,11 +46,11 @@ where
     ensures unread { command_of (map string_bytes words.now.items) ≡ None → (source.new ≡ source.old) × (out.new ≡ out.old) }
     // Where the words ask to run with an index of a setting, with or without overlap, and source and `out` tell their bytes,
     // the run printed a text of the input as the status says.
-    ensures output { (overlap : Bool) (σ : Setting) → AsksRun (map string_bytes words.now.items) overlap σ
+    ensures output { (overlap : Bool) (σ : Setting) → AsksRun (map string_bytes words.now.items) overlap false σ
         → (bytes before : List ℕ) → S.left source.old ≡ Some bytes → K.taken out.old ≡ Some before
         → (printed : List ℕ) × (K.taken out.new ≡ Some (before ++ printed)) × Wrote σ overlap result bytes (S.left source.new) printed }
     // What the status says of the input holds whatever becomes of the output.
-    ensures means { (overlap : Bool) (σ : Setting) → AsksRun (map string_bytes words.now.items) overlap σ → (bytes : List ℕ) → S.left source.old ≡ Some bytes
+    ensures means { (overlap : Bool) (σ : Setting) → AsksRun (map string_bytes words.now.items) overlap false σ → (bytes : List ℕ) → S.left source.old ≡ Some bytes
         → Means σ result bytes (S.left source.new) }
     // Where they ask to work off a made input, the source isn't read, and the run printed the figures of that input.
     ensures bench_unread { (start count : ℕ) → AsksBench (map string_bytes words.now.items) start count → source.new ≡ source.old }
@@ -63,7 +63,7 @@ where
     ensures read_fault { result ≡ Status.ReadFault → HasRisen (S.faults source.old) (S.faults source.new) }
     ensures write_fault { result ≡ Status.WriteFault → HasRisen (K.faults out.old) (K.faults out.new) }
     // Without a fault and with an end in time, the input is worked off.
-    ensures completes { (overlap : Bool) (σ : Setting) → AsksRun (map string_bytes words.now.items) overlap σ
+    ensures completes { (overlap : Bool) (σ : Setting) → AsksRun (map string_bytes words.now.items) overlap false σ
         → (HasRisen (S.faults source.old) (S.faults source.new) → ⊥) → (HasRisen (K.faults out.old) (K.faults out.new) → ⊥)
         → (bytes : List ℕ) → S.left source.old ≡ Some bytes → length bytes < longest_input → IsWorkedOff result }
     // `err` took the line of the status, unless it failed.
@@ -86,7 +86,7 @@ fn run_words<R: Threads + Sync, S: Source, K: Sink, G: Gate + Sync>(
     ensures usage { result ≡ Status.Usage → command_of (map string_bytes words.now.items) ≡ None }
     ensures no_command { command_of (map string_bytes words.now.items) ≡ None → (result ≡ Status.Usage) ⊎ (result ≡ Status.NoMemory) }
     ensures unread { command_of (map string_bytes words.now.items) ≡ None → (source.new ≡ source.old) × (out.new ≡ out.old) }
-    ensures ends { (overlap : Bool) (σ : Setting) → AsksRun (map string_bytes words.now.items) overlap σ
+    ensures ends { (overlap : Bool) (σ : Setting) → AsksRun (map string_bytes words.now.items) overlap false σ
         → Ends σ overlap result (S.left source.old) (S.left source.new) (K.taken out.old) (K.taken out.new) }
     ensures bench_unread { (start count : ℕ) → AsksBench (map string_bytes words.now.items) start count → source.new ≡ source.old }
     ensures bench { (start count : ℕ) → AsksBench (map string_bytes words.now.items) start count
@@ -100,9 +100,11 @@ fn run_words<R: Threads + Sync, S: Source, K: Sink, G: Gate + Sync>(
         Err(CommandFault::NoMemory) => return Status::NoMemory,
     };
     match command {
-        Command::Run { overlap, config } => run_lines(
-            rt, alloc, overlap, config, source, out, gate,
-        ),
+        Command::Run {
+            overlap,
+            config,
+            ..
+        } => run_lines(rt, alloc, overlap, config, source, out, gate),
         Command::Bench { start, docs } => run_bench(alloc, start, docs, out, gate),
     }
 }

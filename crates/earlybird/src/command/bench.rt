@@ -1,8 +1,8 @@
-ghost use Rattle.std.specs.Prelude.{◌≡◌, ◌<◌, length, drop, map, string_bytes};
+ghost use Rattle.std.specs.Prelude.{◌≡◌, map, string_bytes};
 ghost use Rattle.earlybird.specs.Command.{bench_of, bench_docs};
 
 use crate::command::Command;
-use crate::command::number::{read_nine, read_number};
+use eb_options::{read_nine, read_number};
 
 // The most documents of made input.
 const MAX_BENCH_DOCS: u32 = 40_000;
@@ -18,15 +18,14 @@ fn read_docs(word: &str) -> Option<u32>
     Some(docs)
 }
 
-// The command `bench` of these words, of which the first is its name.
+// What the words behind `bench` ask for.
 pub(super) fn read_bench(words: &[String]) -> Option<Command>
-    requires { 0 < length words.now }
-    ensures { result ≡ bench_of (drop 1 (map string_bytes words.now)) }
+    ensures { result ≡ bench_of (map string_bytes words.now) }
 {
-    if words.len() != 3 {
+    if words.len() != 2 {
         return None;
     }
-    let start = read_number(words[1].as_str(), 20)?;
-    let docs = read_docs(words[2].as_str())?;
+    let start = read_number(words[0].as_str(), 20)?;
+    let docs = read_docs(words[1].as_str())?;
     Some(Command::Bench { start, docs })
 }

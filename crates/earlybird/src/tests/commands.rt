@@ -75,7 +75,12 @@ fn reads_commands(rt: HostRuntime) -> Result<(), Fail> {
     for (line, overlap) in [("run", false), ("run|--overlap", true)] {
         let usual = read_line(alloc, line)?;
         assert!(rt;
-            usual == Ok(Command::Run { overlap, config }),
+            usual
+                == Ok(Command::Run {
+                    overlap,
+                    stats: false,
+                    config
+                }),
             "{line} is read otherwise"
         );
     }
@@ -100,7 +105,11 @@ fn reads_commands(rt: HostRuntime) -> Result<(), Fail> {
         };
         let read = read_line(alloc, line)?;
         assert!(rt;
-            read == Ok(Command::Run { overlap, config }),
+            read == Ok(Command::Run {
+                overlap,
+                stats: false,
+                config
+            }),
             "{line} is read otherwise"
         );
     }

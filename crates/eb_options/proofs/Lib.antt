@@ -1,0 +1,4 @@
+pub mod SettingNumbers
+pub mod Walking
+pub mod Aparts
+pub mod Eachs
