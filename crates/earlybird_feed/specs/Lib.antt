@@ -1,0 +1,7 @@
+pub mod Command
+pub mod StatusLine
+pub mod Text
+pub mod Output
+pub mod Feeding
+pub mod Worked
+pub mod Laws

@@ -1,0 +1,12 @@
+-- What the program says on its error output, by its status.
+use Rattle.std.specs.Prelude.{ℕ, List, codes}
+use Rattle.eb_lines.specs.declared.status.Status.{Status}
+use Rattle.eb_lines.specs.StatusLine.{line_of}
+
+-- how the program is called
+abbrev pub usage : List ℕ
+usage = codes "earlybird: usage: feed [--keep N] [--segments N] [--docs N] [--terms N]\n"
+
+-- the line of a status, with its LF; Done and Refused say nothing
+abbrev pub status_line : Status → List ℕ
+status_line status = line_of usage status

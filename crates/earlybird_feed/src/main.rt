@@ -1,0 +1,64 @@
+//! The program of a feed that doesn't end: reads document lines and query lines from standard input, keeps the newest
+//! documents, and prints the answers on standard output.
+#![tactic(auto)]
+
+ghost use Rattle.std.specs.Prelude.{◌≡◌, ◌↔◌};
+
+mod command;
+mod feeding;
+mod laws;
+mod printing;
+mod run;
+#[cfg(test)]
+mod tests;
+mod usage;
+
+pub use command::{Asked, CommandFault, read_command};
+use eb_base::OpenGate;
+use eb_io::{StdSink, StdSource, write_all};
+use eb_lines::Status;
+pub use laws::{never_full, one_text, some_text};
+pub use run::run_feed;
+use std::alloc::Global;
+use std::env;
+use std::io::ErrorKind;
+use std::process::ExitCode;
+use std::rt::Env;
+use usage::USAGE;
+
+fn main(rt: HostRuntime) -> ExitCode {
+    let alloc = rt.alloc();
+    let mut err = StdSink::new(rt.stderr());
+    let words = match read_words(&rt, alloc) {
+        Ok(words) => words,
+        Err(status) => {
+            let _ = write_all(&mut err, status.line(USAGE));
+            return ExitCode::from(status.code());
+        }
+    };
+    let mut source = StdSource::new(rt.stdin());
+    let mut out = StdSink::new(rt.stdout());
+    let status = run_feed(alloc, &words, &mut source, &mut out, &mut err, &OpenGate);
+    ExitCode::from(status.code())
+}
+
+// The words of the command line, without the program's name. Where they can't be read, how the program ends.
+fn read_words(rt: &(impl Env + AllocGlobal), alloc: Global) -> Result<Vec<String>, Status> {
+    match env::args(rt) {
+        Ok(args) => args.skip(1).collect(alloc).map_err(|_| Status::NoMemory),
+        Err(error) => Err(without_words(error.kind())),
+    }
+}
+
+// How the program ends where its words can't be read for this cause: for want of memory, or since a word isn't UTF-8, which
+// asks for no feed.
+fn without_words(kind: ErrorKind) -> Status
+    ensures memory { result ≡ Status.NoMemory ↔ kind ≡ ErrorKind.OutOfMemory }
+    ensures usage { (kind ≡ ErrorKind.OutOfMemory → ⊥) → result ≡ Status.Usage }
+{
+    if kind == ErrorKind::OutOfMemory {
+        Status::NoMemory
+    } else {
+        Status::Usage
+    }
+}

@@ -1,0 +1,103 @@
+//! Each answer is out before the next line is read.
+ghost use Rattle.std.specs.Prelude.{◌≤◌, length};
+
+use super::sink_of;
+use crate::run_feed;
+use eb_base::OpenGate;
+use eb_io::{StdSink, StdSource};
+use eb_lines::Status;
+use std::alloc::Global;
+use std::io;
+use std::sync::atomic::{AtomicU64, Ordering};
+use std::test::Fail;
+
+const FIRST: &[u8] = b"{\"id\":1,\"text\":\"a\"}\n?5 a\n";
+
+const SECOND: &[u8] = b"?5 b\n";
+
+const ANSWER: &str = "2 seen 1: 1\n";
+
+const WHOLE: &str = "2 seen 1: 1\n3 seen 1:\nend: documents 1, queries 2, refused 0, kept 1\n";
+
+// A reader that gives its second lines only once the answer to the first is out, and fails before.
+#[derive(Drop)]
+struct Asker<'a> {
+    taken: &'a AtomicU64,
+    calls: u8,
+}
+
+// Copies the bytes into the front of the buffer, as many as there is room for.
+fn give(bytes: &[u8], into: &mut [u8]) -> usize
+    ensures { result ≤ length into.old }
+{
+    let count = bytes.len().min(into.len());
+    into[..count].copy_from_slice(&bytes[..count]);
+    count
+}
+
+impl<'a> io::Read for Asker<'a> {
+    fn read(&mut self, buf: &mut [u8]) -> io::Result<usize> {
+        self.calls = self.calls.saturating_add(1);
+        match self.calls {
+            1 => Ok(give(FIRST, buf)),
+            2 => {
+                if self.taken.load(Ordering::SeqCst) < ANSWER.len() as u64 {
+                    return Err(io::Error::other("not answered"));
+                }
+                Ok(give(SECOND, buf))
+            }
+            _ => Ok(0),
+        }
+    }
+}
+
+// A writer that counts the bytes and the calls that it takes.
+#[derive(Drop)]
+struct Taker<'a> {
+    taken: &'a AtomicU64,
+    calls: &'a AtomicU64,
+}
+
+impl<'a> io::Write for Taker<'a> {
+    fn write(&mut self, buf: &[u8]) -> io::Result<usize> {
+        self.taken.fetch_add(buf.len() as u64, Ordering::SeqCst);
+        self.calls.fetch_add(1, Ordering::SeqCst);
+        Ok(buf.len())
+    }
+
+    fn flush(&mut self) -> io::Result<()> {
+        Ok(())
+    }
+}
+
+// Runs between the two, and gives how it ended, and how many bytes and calls were taken.
+fn run_in_turns(alloc: Global) -> Result<(Status, u64, u64), Fail> {
+    let mut words = Vec::new(alloc);
+    words.push(String::from_str(alloc, "--terms=256")?)?;
+    let taken = AtomicU64::new(0);
+    let calls = AtomicU64::new(0);
+    let mut source = StdSource::new(Asker {
+        taken: &taken,
+        calls: 0,
+    });
+    let mut out = StdSink::new(Taker {
+        taken: &taken,
+        calls: &calls,
+    });
+    let mut err = sink_of(alloc, 7, &[])?;
+    let status = run_feed(alloc, &words, &mut source, &mut out, &mut err, &OpenGate);
+    Ok((
+        status,
+        taken.load(Ordering::SeqCst),
+        calls.load(Ordering::SeqCst),
+    ))
+}
+
+#[test]
+fn each_answer_is_out_before_the_next_line_is_read(rt: HostRuntime) -> Result<(), Fail> {
+    assert_eq!(rt;
+        run_in_turns(rt.alloc())?,
+        (Status::Done, WHOLE.len() as u64, 3)
+    );
+    Ok(())
+}
