@@ -106,11 +106,13 @@ fn work_beside<R: Threads + Sync, G: Gate + Sync>(
     ensures answered { AreAnswered reader.old.docs reader.new.docs (map asked_entry asked.old) answers.old.items answers.new.items result.1.0 result.1.1 }
     ensures added { AreAdded index.now.setting writer.old.docs writer.new.docs (map given_entry given.now) refusals.old.items refusals.new.items result.0.0 result.0.1 }
 {
-    join_mut(
+    // The first call goes to the new thread. Adding stays on this one, whose caches know the index.
+    let (answered, added) = join_mut(
         rt,
-        &mut || add_all(index, writer, given, gate, refusals),
         &mut || answer_all(index, reader, asked, gate, answers),
-    )
+        &mut || add_all(index, writer, given, gate, refusals),
+    );
+    (added, answered)
 }
 
 // The same, by one thread where there aren't both documents to add and queries to answer.
