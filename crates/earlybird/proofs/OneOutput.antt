@@ -25,11 +25,11 @@ use Rattle.eb_rounds.specs.Admitted.{admitted}
 use Rattle.eb_rounds.specs.Text.{body, text, summary}
 use Rattle.eb_rounds.specs.Rows.{count}
 use Rattle.eb_rounds.specs.Sees.{Sees, SeesInOrder, SeesBetween}
-use Rattle.earlybird.specs.Output.{IsTextOf, IsOutput}
+use Rattle.earlybird.specs.Output.{IsTextOf, stats_of}
 use Rattle.eb_rounds.proofs.Texts.{body_same}
 use Rattle.eb_rounds.proofs.Seeing.{told-count, count-cons}
 
--- ---- a line has one reading
+-- ---- lines have one reading
 
 all_read : (σ : Setting) (ls : List Line) (rs ss : List Reading) → AreRead σ ls rs → AreRead σ ls ss → rs ≡ ss
 all_read σ ls rs ss e f = e.2 ∙ ap (admitted σ) (raw_same ls e.0 f.0 e.1 f.1) ∙ sym f.2
@@ -38,12 +38,12 @@ all_read σ ls rs ss e f = e.2 ∙ ap (admitted σ) (raw_same ls e.0 f.0 e.1 f.1
 in_order : (n : ℕ → ℕ) (rs : List Reading) → SeesInOrder rs n → text n rs ≡ text (told rs) rs
 in_order n rs order = ap (λ b. b ++ summary (progress_after rs)) (body_same n (told rs) (accepted rs) (accepted rs) 0 rs (λ i low high. (order i, refl)))
 
-pub one_text_of : (σ : Setting) (lines : List Line) (a b : List ℕ) → IsTextOf σ false lines a → IsTextOf σ false lines b → a ≡ b
-one_text_of σ lines a b p q =
+pub one_text_of : (σ : Setting) (stats : Bool) (lines : List Line) (a b : List ℕ) → IsTextOf σ false stats lines a → IsTextOf σ false stats lines b → a ≡ b
+one_text_of σ stats lines a b p q =
     let same = all_read σ lines p.readings q.readings p.read q.read in
-    p.bytes ∙ in_order p.numbers p.readings p.sees ∙ ap (λ rs. text (told rs) rs) same ∙ sym (q.bytes ∙ in_order q.numbers q.readings q.sees)
-
--- ---- a line has a reading
+    let of_p = p.bytes ∙ ap (λ t. t ++ stats_of stats σ (accepted p.readings)) (in_order p.numbers p.readings p.sees) in
+    let of_q = q.bytes ∙ ap (λ t. t ++ stats_of stats σ (accepted q.readings)) (in_order q.numbers q.readings q.sees) in
+    of_p ∙ ap (λ rs. text (told rs) rs ++ stats_of stats σ (accepted rs)) same ∙ sym of_q
 
 -- ---- what lines print in order
 
@@ -71,15 +71,15 @@ between rs n order = record {
   rises = λ i j le e f. omega (arith, told_next rs i j le, order i, order j);
 }
 
-pub order_text_of : (σ : Setting) (lines : List Line) (printed : List ℕ) → IsTextOf σ false lines printed → IsTextOf σ true lines printed
-order_text_of σ lines printed t = record { readings = t.readings; numbers = t.numbers; read = t.read; sees = between t.readings t.numbers t.sees; bytes = t.bytes }
+pub order_text_of : (σ : Setting) (stats : Bool) (lines : List Line) (printed : List ℕ) → IsTextOf σ false stats lines printed → IsTextOf σ true stats lines printed
+order_text_of σ stats lines printed t = record { readings = t.readings; numbers = t.numbers; read = t.read; sees = between t.readings t.numbers t.sees; bytes = t.bytes }
 
 pub sees_told : (overlap : Bool) (rs : List Reading) → Sees overlap rs (told rs)
 sees_told false rs = λ j. refl
 sees_told true rs = between rs (told rs) (λ j. refl)
 
-pub some_text_of : (σ : Setting) (overlap : Bool) (lines : List Line) → (printed : List ℕ) × IsTextOf σ overlap lines printed
-some_text_of σ overlap lines =
+pub some_text_of : (σ : Setting) (overlap stats : Bool) (lines : List Line) → (printed : List ℕ) × IsTextOf σ overlap stats lines printed
+some_text_of σ overlap stats lines =
     let raw = some_read lines in
     let rs = admitted σ raw.0 in
-    (text (told rs) rs, record { readings = rs; numbers = told rs; read = (raw.0, raw.1, refl); sees = sees_told overlap rs; bytes = refl })
+    (text (told rs) rs ++ stats_of stats σ (accepted rs), record { readings = rs; numbers = told rs; read = (raw.0, raw.1, refl); sees = sees_told overlap rs; bytes = refl })

@@ -26,7 +26,10 @@ use Rattle.earlybird.specs.Reads.{AreRead}
 use Rattle.earlybird.specs.Waiting.{HasWorked, HasSettled, counts_of}
 use Rattle.earlybird.specs.declared.run.Upcoming.TheVariants as next
 use Rattle.earlybird.specs.Running.{HasRun, IsRunning, WorksOn, GoesOn}
-use Rattle.earlybird.specs.Output.{IsBodyOf, IsTextOf, HasRefusal, HasNoRefusal, IsPartOfOutput, Wrote, Means, IsWorkedOff}
+use Rattle.eb_place.specs.Room.{cut}
+use Rattle.eb_rounds.specs.Conversions.{converted_of}
+use Rattle.eb_table.specs.Known.{Words}
+use Rattle.earlybird.specs.Output.{stats_line, stats_of, IsBodyOf, IsTextOf, HasRefusal, HasNoRefusal, IsPartOfOutput, Wrote, Means, IsWorkedOff}
 use Rattle.earlybird.specs.Worked.{IsAt, IsAtEnd, IsStopped, MayStop, AreFirst, IsPart, EndsAs, Ends, Comes, upcoming_of}
 use Rattle.earlybird.proofs.Admissions.{read_none}
 use Rattle.earlybird.proofs.Waits.{of_settled, settled}
@@ -113,20 +116,22 @@ body_done σ overlap given docs held so_far a = record { readings = a.readings; 
 grown_by : (p0 p1 p2 : Option (List ℕ)) (written front : List ℕ) → p1 ≡ grown p0 written → p2 ≡ grown p1 front → p2 ≡ grown p0 (written ++ front)
 grown_by p0 p1 p2 written front e f = f ∙ ap (λ p. grown p front) e ∙ grown-grown p0 written front
 
-module _ (σ : Setting) (overlap : Bool) (l0 l1 p0 p1 : Option (List ℕ)) where
-  part : (p2 : Option (List ℕ)) (text front rest : List ℕ) (m : MayStop σ overlap l0 l1 p0 p1 text) → text ≡ front ++ rest → IsPart σ overlap m.taken l1 (m.written ++ front)
+module _ (σ : Setting) (overlap stats : Bool) (l0 l1 p0 p1 : Option (List ℕ)) where
+  part : (p2 : Option (List ℕ)) (text front rest : List ℕ) (m : MayStop σ overlap l0 l1 p0 p1 text) → text ≡ front ++ rest → IsPart σ overlap stats m.taken l1 (m.written ++ front)
   part p2 text front rest m split =
       let sum = summary (progress_after m.body.readings) in
+      let last = stats_of stats σ (accepted m.body.readings) in
       record {
         lines = m.done;
-        whole = m.so_far ++ sum;
-        more = rest ++ sum;
+        whole = (m.so_far ++ sum) ++ last;
+        more = (rest ++ sum) ++ last;
         first = m.first;
-        text = record { readings = m.body.readings; numbers = m.body.numbers; read = m.body.read; sees = m.body.sees; bytes = ap (λ b. b ++ sum) m.body.bytes };
-        front = ap (λ b. b ++ sum) (m.parts ∙ ap (λ t. m.written ++ t) split ∙ sym (append_assoc m.written front rest)) ∙ append_assoc (m.written ++ front) rest sum;
+        text = record { readings = m.body.readings; numbers = m.body.numbers; read = m.body.read; sees = m.body.sees; bytes = ap (λ b. (b ++ sum) ++ last) m.body.bytes };
+        front = ap (λ b. (b ++ sum) ++ last) (m.parts ∙ ap (λ t. m.written ++ t) split ∙ sym (append_assoc m.written front rest))
+            ∙ ap (λ b. b ++ last) (append_assoc (m.written ++ front) rest sum) ∙ append_assoc (m.written ++ front) (rest ++ sum) last;
       }
 
-  pub ends_unwritten : (p2 : Option (List ℕ)) (text : List ℕ) (n : ℕ) → MayStop σ overlap l0 l1 p0 p1 text → p2 ≡ grown p1 (take n text) → Ends σ overlap WriteFault l0 l1 p0 p2
+  pub ends_unwritten : (p2 : Option (List ℕ)) (text : List ℕ) (n : ℕ) → MayStop σ overlap l0 l1 p0 p1 text → p2 ≡ grown p1 (take n text) → Ends σ overlap stats WriteFault l0 l1 p0 p2
   ends_unwritten p2 text n m e = record {
     taken = m.taken;
     printed = m.written ++ take n text;
@@ -135,7 +140,7 @@ module _ (σ : Setting) (overlap : Bool) (l0 l1 p0 p1 : Option (List ℕ)) where
     ends = part p2 text (take n text) (drop n text) m (sym (take-append-drop n text));
   }
 
-  pub ends_no_memory : (p2 : Option (List ℕ)) (text : List ℕ) → MayStop σ overlap l0 l1 p0 p1 text → p2 ≡ grown p1 text → Ends σ overlap NoMemory l0 l1 p0 p2
+  pub ends_no_memory : (p2 : Option (List ℕ)) (text : List ℕ) → MayStop σ overlap l0 l1 p0 p1 text → p2 ≡ grown p1 text → Ends σ overlap stats NoMemory l0 l1 p0 p2
   ends_no_memory p2 text m e = record {
     taken = m.taken;
     printed = m.written ++ text;
@@ -145,9 +150,9 @@ module _ (σ : Setting) (overlap : Bool) (l0 l1 p0 p1 : Option (List ℕ)) where
   }
 
 -- no memory for the first line
-pub ends_at_once : (σ : Setting) (overlap : Bool) (left printed : Option (List ℕ)) → Ends σ overlap NoMemory left left printed printed
+pub ends_at_once : (σ : Setting) (overlap stats : Bool) (left printed : Option (List ℕ)) → Ends σ overlap stats NoMemory left left printed printed
 unfolding body_from
-ends_at_once σ overlap left printed =
+ends_at_once σ overlap stats left printed =
     let m : MayStop σ overlap left left printed printed [] = record {
       taken = [];
       done = [];
@@ -158,7 +163,7 @@ ends_at_once σ overlap left printed =
       body = record { readings = []; numbers = told []; read = read_none σ; sees = sees_none overlap; bytes = refl };
       wrote = sym (grown-nil printed);
       parts = refl;
-    } in ends_no_memory σ overlap left left printed printed printed [] m (sym (grown-nil printed))
+    } in ends_no_memory σ overlap stats left left printed printed printed [] m (sym (grown-nil printed))
 
 -- ---- between two lines
 
@@ -332,31 +337,32 @@ module _ (σ : Setting) (overlap : Bool) (l0 l1 p0 p1 p2 : Option (List ℕ)) (h
     body_whole lines = subst (λ ls. IsBodyOf σ overlap ls (a.written ++ t)) (sym lines.whole)
         (record { readings = last.readings; numbers = last.numbers; read = last.read; sees = last.sees; bytes = sym all_is ∙ last.printed })
 
-  pub ends_stopped : (status : Status) → IsStopped status σ overlap l0 l1 p0 p1 h run text → p2 ≡ grown p1 t → Ends σ overlap status l0 l1 p0 p2
-  ends_stopped ReadFault s e = record {
+  pub ends_stopped : (stats : Bool) (status : Status) → IsStopped status σ overlap l0 l1 p0 p1 h run text → p2 ≡ grown p1 t → Ends σ overlap stats status l0 l1 p0 p2
+  ends_stopped stats ReadFault s e = record {
     taken = s.0.taken;
     printed = s.0.written ++ t;
     left = s.0.left;
     put = grown_by p0 p1 p2 s.0.written t s.0.wrote e;
     ends = (body_whole s.0 s.1, (let own = s.0.limit in omega (arith, s.2, own)));
   }
-  ends_stopped TooLong s e = record {
+  ends_stopped stats TooLong s e = record {
     taken = s.0.taken;
     printed = s.0.written ++ t;
     left = s.0.left;
     put = grown_by p0 p1 p2 s.0.written t s.0.wrote e;
     ends = (body_whole s.0 s.1, s.2 ∙ s.0.limit);
   }
-  ends_stopped Done s e = absurd s
-  ends_stopped Refused s e = absurd s
-  ends_stopped Usage s e = absurd s
-  ends_stopped WriteFault s e = absurd s
-  ends_stopped NoMemory s e = absurd s
+  ends_stopped stats Done s e = absurd s
+  ends_stopped stats Refused s e = absurd s
+  ends_stopped stats Usage s e = absurd s
+  ends_stopped stats WriteFault s e = absurd s
+  ends_stopped stats NoMemory s e = absurd s
 
   -- ---- the end of the input
 
   module _ (s : IsAtEnd σ overlap l0 l1 p0 p1 h run text) (documents answers refused : ℕ) (d : documents ≡ new.rounds.counts.documents) (q : answers ≡ new.rounds.counts.queries) (r : refused ≡ new.rounds.counts.refused)
-      (whole : List ℕ) (summed : whole ≡ t ++ summary_of documents answers refused) where
+      (stats : Bool) (begun converted : ℕ) (b : begun ≡ length (cut new.index.setting new.writer.docs)) (k : converted ≡ converted_of (length (cut new.index.setting new.writer.docs)))
+      (whole : List ℕ) (summed : whole ≡ t ++ (summary_of documents answers refused ++ stats_line stats begun converted)) where
     abbrev rs : List Reading
     rs = (last s.0).readings
 
@@ -373,21 +379,31 @@ module _ (σ : Setting) (overlap : Bool) (l0 l1 p0 p1 p2 : Option (List ℕ)) (h
         let qe : answers ≡ queries rs = q ∙ ap (λ (c : Counted). c.queries) counted in
         ap₂ (λ x y. summary_of x y refused) de qe ∙ ap (λ z. summary_of (length (accepted rs)) (queries rs) z) refused_is
 
-    text_is : s.0.written ++ whole ≡ (s.0.so_far ++ (goes s.0).0) ++ summary (progress_after rs)
-    text_is = ap (λ w. s.0.written ++ w) (summed ∙ ap (λ x. t ++ x) summary_is) ∙ sym (append_assoc s.0.written t (summary (progress_after rs)))
-        ∙ ap (λ b. b ++ summary (progress_after rs)) (sym (all_is s.0))
+    stats_is : stats_line stats begun converted ≡ stats_of stats σ (accepted rs)
+    stats_is =
+        let g = (goes s.0).1 in
+        let setting : new.index.setting ≡ σ = ap (λ (w : Words). w.setting) g.index ∙ g.setting in
+        let same : length (cut new.index.setting new.writer.docs) ≡ length (cut σ (accepted rs)) = ap₂ (λ x ds. length (cut x ds)) setting (last s.0).adds in
+        ap₂ (λ x y. stats_line stats x y) (b ∙ same) (k ∙ ap converted_of same)
 
-    text_of : IsTextOf σ overlap s.0.given (s.0.written ++ whole)
+    text_is : s.0.written ++ whole ≡ ((s.0.so_far ++ (goes s.0).0) ++ summary (progress_after rs)) ++ stats_of stats σ (accepted rs)
+    text_is =
+        let sum = summary (progress_after rs) in
+        let more = stats_of stats σ (accepted rs) in
+        ap (λ w. s.0.written ++ w) (summed ∙ ap₂ (λ x y. t ++ (x ++ y)) summary_is stats_is) ∙ sym (append_assoc s.0.written t (sum ++ more))
+        ∙ sym (append_assoc (s.0.written ++ t) sum more) ∙ ap (λ w. (w ++ sum) ++ more) (sym (all_is s.0))
+
+    text_of : IsTextOf σ overlap stats s.0.given (s.0.written ++ whole)
     text_of = record {
       readings = rs;
       numbers = (last s.0).numbers;
       read = (last s.0).read;
       sees = (last s.0).sees;
-      bytes = text_is ∙ ap (λ b. b ++ summary (progress_after rs)) (last s.0).printed;
+      bytes = text_is ∙ ap (λ w. (w ++ summary (progress_after rs)) ++ stats_of stats σ (accepted rs)) (last s.0).printed;
     }
 
-    text_all : IsTextOf σ overlap (lines_of s.0.taken) (s.0.written ++ whole)
-    text_all = subst (λ ls. IsTextOf σ overlap ls (s.0.written ++ whole)) (sym s.1.all) text_of
+    text_all : IsTextOf σ overlap stats (lines_of s.0.taken) (s.0.written ++ whole)
+    text_all = subst (λ ls. IsTextOf σ overlap stats ls (s.0.written ++ whole)) (sym s.1.all) text_of
 
     short : length s.0.taken < longest_input
     short = let own = s.0.limit in omega (arith, s.2, own)
@@ -395,7 +411,7 @@ module _ (σ : Setting) (overlap : Bool) (l0 l1 p0 p1 p2 : Option (List ℕ)) (h
     empty : IsEmpty l1
     empty = s.0.ended s.1.ended
 
-    pub ends_done : refused ≡ 0 → p2 ≡ grown p1 whole → Ends σ overlap Done l0 l1 p0 p2
+    pub ends_done : refused ≡ 0 → p2 ≡ grown p1 whole → Ends σ overlap stats Done l0 l1 p0 p2
     ends_done nought e = record {
       taken = s.0.taken;
       printed = s.0.written ++ whole;
@@ -404,7 +420,7 @@ module _ (σ : Setting) (overlap : Bool) (l0 l1 p0 p1 p2 : Option (List ℕ)) (h
       ends = (empty, text_all, (rs, subst (λ ls. AreRead σ ls rs) (sym s.1.all) (last s.0).read, sym refused_is ∙ nought), short);
     }
 
-    pub ends_refused : 0 < refused → p2 ≡ grown p1 whole → Ends σ overlap Refused l0 l1 p0 p2
+    pub ends_refused : 0 < refused → p2 ≡ grown p1 whole → Ends σ overlap stats Refused l0 l1 p0 p2
     ends_refused some e = record {
       taken = s.0.taken;
       printed = s.0.written ++ whole;
@@ -413,16 +429,16 @@ module _ (σ : Setting) (overlap : Bool) (l0 l1 p0 p1 p2 : Option (List ℕ)) (h
       ends = (empty, text_all, (rs, subst (λ ls. AreRead σ ls rs) (sym s.1.all) (last s.0).read, subst (λ n. 0 < n) refused_is some), short);
     }
 
-    pub ends_closed : (status : Status) → (0 < refused → status ≡ Refused) → (refused ≡ 0 → status ≡ Done) → p2 ≡ grown p1 whole → Ends σ overlap status l0 l1 p0 p2
+    pub ends_closed : (status : Status) → (0 < refused → status ≡ Refused) → (refused ≡ 0 → status ≡ Done) → p2 ≡ grown p1 whole → Ends σ overlap stats status l0 l1 p0 p2
     ends_closed status some none e = step refused refl
       where
-        step : (n : ℕ) → refused ≡ n → Ends σ overlap status l0 l1 p0 p2
-        step zero is = subst (λ (x : Status). Ends σ overlap x l0 l1 p0 p2) (sym (none is)) (ends_done is e)
+        step : (n : ℕ) → refused ≡ n → Ends σ overlap stats status l0 l1 p0 p2
+        step zero is = subst (λ (x : Status). Ends σ overlap stats x l0 l1 p0 p2) (sym (none is)) (ends_done is e)
         step (suc n) is =
             let low : 0 < refused = omega (arith, is) in
-            subst (λ (x : Status). Ends σ overlap x l0 l1 p0 p2) (sym (some low)) (ends_refused low e)
+            subst (λ (x : Status). Ends σ overlap stats x l0 l1 p0 p2) (sym (some low)) (ends_refused low e)
 
-    pub ends_unclosed : (n : ℕ) → p2 ≡ grown p1 (take n whole) → Ends σ overlap WriteFault l0 l1 p0 p2
+    pub ends_unclosed : (n : ℕ) → p2 ≡ grown p1 (take n whole) → Ends σ overlap stats WriteFault l0 l1 p0 p2
     ends_unclosed n e = record {
       taken = s.0.taken;
       printed = s.0.written ++ take n whole;
@@ -444,16 +460,16 @@ drop_told : (bytes taken : List ℕ) (l1 : Option (List ℕ)) → after taken l1
 drop_told bytes taken None e = let no : ⊥ = cc in absurd no
 drop_told bytes taken (Some rest) e = (rest, refl, (let same : taken ++ rest ≡ bytes = cc in same))
 
-part_told : (σ : Setting) (overlap : Bool) (bytes taken rest printed : List ℕ) (l1 : Option (List ℕ)) → l1 ≡ Some rest → taken ++ rest ≡ bytes → IsPart σ overlap taken l1 printed
-    → IsPartOfOutput σ overlap bytes printed
-part_told σ overlap bytes taken rest printed l1 still all p =
+part_told : (σ : Setting) (overlap stats : Bool) (bytes taken rest printed : List ℕ) (l1 : Option (List ℕ)) → l1 ≡ Some rest → taken ++ rest ≡ bytes → IsPart σ overlap stats taken l1 printed
+    → IsPartOfOutput σ overlap stats bytes printed
+part_told σ overlap stats bytes taken rest printed l1 still all p =
     let first = p.first rest still in
     let front : take (length p.lines) (lines_of bytes) ≡ p.lines = ap (λ b. take (length p.lines) (lines_of b)) (sym all) ∙ ap (take (length p.lines)) first.1 ∙ take-append_seam p.lines first.0 in
     record {
       count = length p.lines;
       whole = p.whole;
       more = p.more;
-      text = subst (λ ls. IsTextOf σ overlap ls p.whole) (sym front) p.text;
+      text = subst (λ ls. IsTextOf σ overlap stats ls p.whole) (sym front) p.text;
       front = p.front;
     }
 
@@ -463,51 +479,51 @@ all_told bytes taken rest l1 still all empty =
     let none : rest ≡ [] = subst E still empty in
     (still ∙ ap Some none, sym (append-nil taken) ∙ ap (λ r. taken ++ r) (sym none) ∙ all)
 
-wrote : (σ : Setting) (overlap : Bool) (status : Status) (bytes taken rest printed : List ℕ) (l1 : Option (List ℕ)) → l1 ≡ Some rest → taken ++ rest ≡ bytes → EndsAs σ overlap status taken l1 printed
-    → Wrote σ overlap status bytes l1 printed
-wrote σ overlap Done bytes taken rest printed l1 still all e =
+wrote : (σ : Setting) (overlap stats : Bool) (status : Status) (bytes taken rest printed : List ℕ) (l1 : Option (List ℕ)) → l1 ≡ Some rest → taken ++ rest ≡ bytes → EndsAs σ overlap stats status taken l1 printed
+    → Wrote σ overlap stats status bytes l1 printed
+wrote σ overlap stats Done bytes taken rest printed l1 still all e =
     let whole = all_told bytes taken rest l1 still all e.0 in
-    (whole.0, subst (λ b. IsTextOf σ overlap (lines_of b) printed) whole.1 e.1, subst (λ b. HasNoRefusal σ (lines_of b)) whole.1 e.2, subst (λ b. length b < longest_input) whole.1 e.3)
-wrote σ overlap Refused bytes taken rest printed l1 still all e =
+    (whole.0, subst (λ b. IsTextOf σ overlap stats (lines_of b) printed) whole.1 e.1, subst (λ b. HasNoRefusal σ (lines_of b)) whole.1 e.2, subst (λ b. length b < longest_input) whole.1 e.3)
+wrote σ overlap stats Refused bytes taken rest printed l1 still all e =
     let whole = all_told bytes taken rest l1 still all e.0 in
-    (whole.0, subst (λ b. IsTextOf σ overlap (lines_of b) printed) whole.1 e.1, subst (λ b. HasRefusal σ (lines_of b)) whole.1 e.2, subst (λ b. length b < longest_input) whole.1 e.3)
-wrote σ overlap ReadFault bytes taken rest printed l1 still all e = (taken, record { rest = rest; whole = sym all; still = still; body = e.0 }, e.1)
-wrote σ overlap TooLong bytes taken rest printed l1 still all e = (taken, record { rest = rest; whole = sym all; still = still; body = e.0 }, e.1)
-wrote σ overlap WriteFault bytes taken rest printed l1 still all e = part_told σ overlap bytes taken rest printed l1 still all e
-wrote σ overlap NoMemory bytes taken rest printed l1 still all e = part_told σ overlap bytes taken rest printed l1 still all e
-wrote σ overlap Usage bytes taken rest printed l1 still all e = absurd e
+    (whole.0, subst (λ b. IsTextOf σ overlap stats (lines_of b) printed) whole.1 e.1, subst (λ b. HasRefusal σ (lines_of b)) whole.1 e.2, subst (λ b. length b < longest_input) whole.1 e.3)
+wrote σ overlap stats ReadFault bytes taken rest printed l1 still all e = (taken, record { rest = rest; whole = sym all; still = still; body = e.0 }, e.1)
+wrote σ overlap stats TooLong bytes taken rest printed l1 still all e = (taken, record { rest = rest; whole = sym all; still = still; body = e.0 }, e.1)
+wrote σ overlap stats WriteFault bytes taken rest printed l1 still all e = part_told σ overlap stats bytes taken rest printed l1 still all e
+wrote σ overlap stats NoMemory bytes taken rest printed l1 still all e = part_told σ overlap stats bytes taken rest printed l1 still all e
+wrote σ overlap stats Usage bytes taken rest printed l1 still all e = absurd e
 
-pub ends_told : (σ : Setting) (overlap : Bool) (status : Status) (l0 l1 p0 p1 : Option (List ℕ)) (bytes before : List ℕ) → Ends σ overlap status l0 l1 p0 p1 → l0 ≡ Some bytes → p0 ≡ Some before
-    → (printed : List ℕ) × (p1 ≡ Some (before ++ printed)) × Wrote σ overlap status bytes l1 printed
-ends_told σ overlap status l0 l1 p0 p1 bytes before e source sink =
+pub ends_told : (σ : Setting) (overlap stats : Bool) (status : Status) (l0 l1 p0 p1 : Option (List ℕ)) (bytes before : List ℕ) → Ends σ overlap stats status l0 l1 p0 p1 → l0 ≡ Some bytes → p0 ≡ Some before
+    → (printed : List ℕ) × (p1 ≡ Some (before ++ printed)) × Wrote σ overlap stats status bytes l1 printed
+ends_told σ overlap stats status l0 l1 p0 p1 bytes before e source sink =
     let d = drop_told bytes e.taken l1 (sym e.left ∙ source) in
-    (e.printed, e.put ∙ ap (λ p. grown p e.printed) sink, wrote σ overlap status bytes e.taken d.0 e.printed l1 d.1 d.2 e.ends)
+    (e.printed, e.put ∙ ap (λ p. grown p e.printed) sink, wrote σ overlap stats status bytes e.taken d.0 e.printed l1 d.1 d.2 e.ends)
 
 -- ---- what the status says of such an input, over any sink
 
-meant : (σ : Setting) (overlap : Bool) (status : Status) (bytes taken rest printed : List ℕ) (l1 : Option (List ℕ)) → l1 ≡ Some rest → taken ++ rest ≡ bytes
-    → EndsAs σ overlap status taken l1 printed → Means σ status bytes l1
-meant σ overlap Done bytes taken rest printed l1 still all e =
+meant : (σ : Setting) (overlap stats : Bool) (status : Status) (bytes taken rest printed : List ℕ) (l1 : Option (List ℕ)) → l1 ≡ Some rest → taken ++ rest ≡ bytes
+    → EndsAs σ overlap stats status taken l1 printed → Means σ status bytes l1
+meant σ overlap stats Done bytes taken rest printed l1 still all e =
     let whole = all_told bytes taken rest l1 still all e.0 in
     (whole.0, subst (λ b. length b < longest_input) whole.1 e.3, subst (λ b. HasNoRefusal σ (lines_of b)) whole.1 e.2)
-meant σ overlap Refused bytes taken rest printed l1 still all e =
+meant σ overlap stats Refused bytes taken rest printed l1 still all e =
     let whole = all_told bytes taken rest l1 still all e.0 in
     (whole.0, subst (λ b. length b < longest_input) whole.1 e.3, subst (λ b. HasRefusal σ (lines_of b)) whole.1 e.2)
-meant σ overlap ReadFault bytes taken rest printed l1 still all e = (taken, record { rest = rest; whole = sym all; still = still }, e.1)
-meant σ overlap TooLong bytes taken rest printed l1 still all e = (taken, record { rest = rest; whole = sym all; still = still }, e.1)
-meant σ overlap WriteFault bytes taken rest printed l1 still all e = (taken, record { rest = rest; whole = sym all; still = still })
-meant σ overlap NoMemory bytes taken rest printed l1 still all e = (taken, record { rest = rest; whole = sym all; still = still })
-meant σ overlap Usage bytes taken rest printed l1 still all e = absurd e
+meant σ overlap stats ReadFault bytes taken rest printed l1 still all e = (taken, record { rest = rest; whole = sym all; still = still }, e.1)
+meant σ overlap stats TooLong bytes taken rest printed l1 still all e = (taken, record { rest = rest; whole = sym all; still = still }, e.1)
+meant σ overlap stats WriteFault bytes taken rest printed l1 still all e = (taken, record { rest = rest; whole = sym all; still = still })
+meant σ overlap stats NoMemory bytes taken rest printed l1 still all e = (taken, record { rest = rest; whole = sym all; still = still })
+meant σ overlap stats Usage bytes taken rest printed l1 still all e = absurd e
 
-pub ends_mean : (σ : Setting) (overlap : Bool) (status : Status) (l0 l1 p0 p1 : Option (List ℕ)) (bytes : List ℕ) → Ends σ overlap status l0 l1 p0 p1 → l0 ≡ Some bytes → Means σ status bytes l1
-ends_mean σ overlap status l0 l1 p0 p1 bytes e source =
+pub ends_mean : (σ : Setting) (overlap stats : Bool) (status : Status) (l0 l1 p0 p1 : Option (List ℕ)) (bytes : List ℕ) → Ends σ overlap stats status l0 l1 p0 p1 → l0 ≡ Some bytes → Means σ status bytes l1
+ends_mean σ overlap stats status l0 l1 p0 p1 bytes e source =
     let d = drop_told bytes e.taken l1 (sym e.left ∙ source) in
-    meant σ overlap status bytes e.taken d.0 e.printed l1 d.1 d.2 e.ends
+    meant σ overlap stats status bytes e.taken d.0 e.printed l1 d.1 d.2 e.ends
 
 -- ---- a run ends in time
 
-module _ (σ : Setting) (overlap : Bool) (l0 l1 p0 p1 : Option (List ℕ)) (read_rose write_rose : Type 0) (bytes : List ℕ) where
-  pub completes : (status : Status) → Ends σ overlap status l0 l1 p0 p1 → (status ≡ ReadFault → read_rose) → (status ≡ WriteFault → write_rose)
+module _ (σ : Setting) (overlap stats : Bool) (l0 l1 p0 p1 : Option (List ℕ)) (read_rose write_rose : Type 0) (bytes : List ℕ) where
+  pub completes : (status : Status) → Ends σ overlap stats status l0 l1 p0 p1 → (status ≡ ReadFault → read_rose) → (status ≡ WriteFault → write_rose)
       → (read_rose → ⊥) → (write_rose → ⊥) → l0 ≡ Some bytes → length bytes < longest_input → IsWorkedOff status
   completes Done e f g no_read no_write source short = inl refl
   completes Refused e f g no_read no_write source short = inr (inl refl)

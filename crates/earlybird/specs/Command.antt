@@ -12,7 +12,7 @@ use Rattle.earlybird.specs.declared.command.Command.TheVariants.{Run, Bench}
 
 -- its flags
 abbrev pub run_flags : List (List ℕ)
-run_flags = codes "overlap" ∷ []
+run_flags = codes "overlap" ∷ codes "stats" ∷ []
 
 -- what the items behind `run` ask for
 abbrev pub run_with : Items → Option Command

@@ -71,31 +71,31 @@ Closes ReadFault refused last printed_old printed_new = ⊥
 Closes TooLong refused last printed_old printed_new = ⊥
 
 -- a front of the text of some first lines
-pub record IsPart (σ : Setting) (overlap : Bool) (taken : List ℕ) (left : Option (List ℕ)) (printed : List ℕ) : Type 0 where
+pub record IsPart (σ : Setting) (overlap stats : Bool) (taken : List ℕ) (left : Option (List ℕ)) (printed : List ℕ) : Type 0 where
   pub lines : List Line
   pub whole : List ℕ
   pub more : List ℕ
   pub first : AreFirst lines taken left
-  pub text : IsTextOf σ overlap lines whole
+  pub text : IsTextOf σ overlap stats lines whole
   pub front : whole ≡ printed ++ more
 
 -- how a run over these taken bytes ends
-abbrev pub EndsAs : Setting → Bool → Status → List ℕ → Option (List ℕ) → List ℕ → Type 0
-EndsAs σ overlap Done taken left printed = IsEmpty left × IsTextOf σ overlap (lines_of taken) printed × HasNoRefusal σ (lines_of taken) × (length taken < longest_input)
-EndsAs σ overlap Refused taken left printed = IsEmpty left × IsTextOf σ overlap (lines_of taken) printed × HasRefusal σ (lines_of taken) × (length taken < longest_input)
-EndsAs σ overlap ReadFault taken left printed = IsBodyOf σ overlap (whole_lines taken) printed × (length taken < longest_input)
-EndsAs σ overlap TooLong taken left printed = IsBodyOf σ overlap (whole_lines taken) printed × (length taken ≡ longest_input)
-EndsAs σ overlap WriteFault taken left printed = IsPart σ overlap taken left printed
-EndsAs σ overlap NoMemory taken left printed = IsPart σ overlap taken left printed
-EndsAs σ overlap Usage taken left printed = ⊥
+abbrev pub EndsAs : Setting → Bool → Bool → Status → List ℕ → Option (List ℕ) → List ℕ → Type 0
+EndsAs σ overlap stats Done taken left printed = IsEmpty left × IsTextOf σ overlap stats (lines_of taken) printed × HasNoRefusal σ (lines_of taken) × (length taken < longest_input)
+EndsAs σ overlap stats Refused taken left printed = IsEmpty left × IsTextOf σ overlap stats (lines_of taken) printed × HasRefusal σ (lines_of taken) × (length taken < longest_input)
+EndsAs σ overlap stats ReadFault taken left printed = IsBodyOf σ overlap (whole_lines taken) printed × (length taken < longest_input)
+EndsAs σ overlap stats TooLong taken left printed = IsBodyOf σ overlap (whole_lines taken) printed × (length taken ≡ longest_input)
+EndsAs σ overlap stats WriteFault taken left printed = IsPart σ overlap stats taken left printed
+EndsAs σ overlap stats NoMemory taken left printed = IsPart σ overlap stats taken left printed
+EndsAs σ overlap stats Usage taken left printed = ⊥
 
 -- some bytes were taken and some printed, as the status says
-pub record Ends (σ : Setting) (overlap : Bool) (status : Status) (left_old left_new printed_old printed_new : Option (List ℕ)) : Type 0 where
+pub record Ends (σ : Setting) (overlap stats : Bool) (status : Status) (left_old left_new printed_old printed_new : Option (List ℕ)) : Type 0 where
   pub taken : List ℕ
   pub printed : List ℕ
   pub left : left_old ≡ after taken left_new
   pub put : printed_new ≡ grown printed_old printed
-  pub ends : EndsAs σ overlap status taken left_new printed
+  pub ends : EndsAs σ overlap stats status taken left_new printed
 
 -- a run that stands somewhere between two lines
 abbrev pub IsSomewhere : Option (List ℕ) → Option (List ℕ) → Held → Running → List ℕ → Type 0

@@ -9,11 +9,10 @@ ghost use Rattle.earlybird.specs.Bench.{HasCounted, lines_until, ids_in, bench_l
 use crate::printed::print_last;
 use crate::printing::put_figures;
 use crate::session::{Outcome, Session};
-use eb_lines::Status;
-use eb_lines::read_line;
 use eb_base::{Config, Gate, NoMemory};
 use eb_gen::{line_of, query_of};
 use eb_io::Sink;
+use eb_lines::{Status, read_line};
 use std::alloc::Global;
 
 // A session over a made input, with the number of ids in all answers and their sum.

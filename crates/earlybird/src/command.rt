@@ -16,7 +16,7 @@ pub enum Command {
     Run {
         /// Whether documents are added while queries are answered (`--overlap`).
         overlap: bool,
-        /// Whether figures of the run are asked for (`--stats`); no word asks for them yet.
+        /// Whether the segments are told behind the summary (`--stats`).
         stats: bool,
         /// The setting that the options give; what they don't name is as in `Config::usual`.
         config: Config,
@@ -41,7 +41,7 @@ pub enum CommandFault {
 
 /// The command that the words ask for; they are without the program's name.
 ///
-/// - `run`, and then items in any order, each option at most once: `--overlap`, and for x of `segments`, `docs` and
+/// - `run`, and then items in any order, each option at most once: `--overlap`, `--stats`, and for x of `segments`, `docs` and
 ///   `terms` the two words `--x V` or the one word `--x=V`. V is one to nine digits, leading zeros
 ///   allowed; what isn't named is as in `Config::usual`. `Config::new` has to allow the setting.
 /// - `bench START DOCS`: one to twenty digits of value at most 18446744073709551615, and one to nine

@@ -13,16 +13,16 @@ mod run;
 mod running;
 mod searching;
 mod session;
-mod usage;
 #[cfg(test)]
 mod tests;
+mod usage;
 
 pub use command::{Command, CommandFault, read_command};
 use eb_base::OpenGate;
 use eb_io::{StdSink, StdSource, write_all};
+pub use eb_lines::Status;
 pub use laws::{one_text, order_text, some_text};
 pub use run::run;
-pub use eb_lines::Status;
 use std::alloc::Global;
 use std::env;
 use std::io::ErrorKind;

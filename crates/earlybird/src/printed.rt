@@ -2,8 +2,8 @@ ghost use Rattle.std.specs.Prelude.{◌≡◌, ◌≤◌, string_bytes};
 ghost use Rattle.eb_io.specs.Faults.{HasRisen};
 ghost use Rattle.earlybird.specs.Worked.{Closes};
 
-use eb_lines::Status;
 use eb_io::{Sink, write_all};
+use eb_lines::Status;
 
 // Prints the last line, where so many lines are refused.
 pub(crate) fn print_last<K: Sink>(refused: u64, text: &String, out: &mut K) -> Status

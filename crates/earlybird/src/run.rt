@@ -1,4 +1,4 @@
-ghost use Rattle.std.specs.Prelude.{◌≡◌, ◌⊎◌, ◌+◌, ◌<◌, ◌≤◌, ◌++◌, Bool, List, [], ℕ, Option, false, None, Some, length, map, string_bytes, take, ⊤, MatchResult, OnErr, OnOk};
+ghost use Rattle.std.specs.Prelude.{◌≡◌, ◌⊎◌, ◌+◌, ◌<◌, ◌≤◌, ◌++◌, Bool, List, [], ℕ, Option, None, Some, length, map, string_bytes, take, ⊤, MatchResult, OnErr, OnOk};
 ghost use Rattle.eb_io.specs.Faults.{HasRisen};
 ghost use Rattle.eb_io.specs.Held.{Held};
 ghost use Rattle.eb_io.specs.Sink.{grown};
@@ -13,11 +13,12 @@ ghost use Rattle.earlybird.specs.Worked.{IsAt, IsAtEnd, IsStopped, IsSomewhere, 
 
 use crate::bench::run_bench;
 use crate::command::{Command, CommandFault, read_command};
+use crate::printing::put_end;
 use crate::running::Running;
 use crate::usage::USAGE;
-use eb_lines::{MAX_INPUT, Status, put_summary, write_gathered, write_much};
 use eb_base::{Config, Gate, NoMemory};
 use eb_io::{Lines, Next, Sink, SinkFailed, Source, write_all};
+use eb_lines::{MAX_INPUT, Status, write_gathered, write_much};
 use std::alloc::Global;
 use std::thread::Threads;
 
@@ -44,13 +45,13 @@ where
     ensures usage { result ≡ Status.Usage → command_of (map string_bytes words.now.items) ≡ None }
     ensures no_command { command_of (map string_bytes words.now.items) ≡ None → (result ≡ Status.Usage) ⊎ (result ≡ Status.NoMemory) }
     ensures unread { command_of (map string_bytes words.now.items) ≡ None → (source.new ≡ source.old) × (out.new ≡ out.old) }
-    // Where the words ask to run with an index of a setting, with or without overlap, and source and `out` tell their bytes,
-    // the run printed a text of the input as the status says.
-    ensures output { (overlap : Bool) (σ : Setting) → AsksRun (map string_bytes words.now.items) overlap false σ
+    // Where the words ask to run with an index of a setting, with or without overlap and statistics, and source and `out`
+    // tell their bytes, the run printed a text of the input as the status says.
+    ensures output { (overlap stats : Bool) (σ : Setting) → AsksRun (map string_bytes words.now.items) overlap stats σ
         → (bytes before : List ℕ) → S.left source.old ≡ Some bytes → K.taken out.old ≡ Some before
-        → (printed : List ℕ) × (K.taken out.new ≡ Some (before ++ printed)) × Wrote σ overlap result bytes (S.left source.new) printed }
+        → (printed : List ℕ) × (K.taken out.new ≡ Some (before ++ printed)) × Wrote σ overlap stats result bytes (S.left source.new) printed }
     // What the status says of the input holds whatever becomes of the output.
-    ensures means { (overlap : Bool) (σ : Setting) → AsksRun (map string_bytes words.now.items) overlap false σ → (bytes : List ℕ) → S.left source.old ≡ Some bytes
+    ensures means { (overlap stats : Bool) (σ : Setting) → AsksRun (map string_bytes words.now.items) overlap stats σ → (bytes : List ℕ) → S.left source.old ≡ Some bytes
         → Means σ result bytes (S.left source.new) }
     // Where they ask to work off a made input, the source isn't read, and the run printed the figures of that input.
     ensures bench_unread { (start count : ℕ) → AsksBench (map string_bytes words.now.items) start count → source.new ≡ source.old }
@@ -63,7 +64,7 @@ where
     ensures read_fault { result ≡ Status.ReadFault → HasRisen (S.faults source.old) (S.faults source.new) }
     ensures write_fault { result ≡ Status.WriteFault → HasRisen (K.faults out.old) (K.faults out.new) }
     // Without a fault and with an end in time, the input is worked off.
-    ensures completes { (overlap : Bool) (σ : Setting) → AsksRun (map string_bytes words.now.items) overlap false σ
+    ensures completes { (overlap stats : Bool) (σ : Setting) → AsksRun (map string_bytes words.now.items) overlap stats σ
         → (HasRisen (S.faults source.old) (S.faults source.new) → ⊥) → (HasRisen (K.faults out.old) (K.faults out.new) → ⊥)
         → (bytes : List ℕ) → S.left source.old ≡ Some bytes → length bytes < longest_input → IsWorkedOff result }
     // `err` took the line of the status, unless it failed.
@@ -86,8 +87,8 @@ fn run_words<R: Threads + Sync, S: Source, K: Sink, G: Gate + Sync>(
     ensures usage { result ≡ Status.Usage → command_of (map string_bytes words.now.items) ≡ None }
     ensures no_command { command_of (map string_bytes words.now.items) ≡ None → (result ≡ Status.Usage) ⊎ (result ≡ Status.NoMemory) }
     ensures unread { command_of (map string_bytes words.now.items) ≡ None → (source.new ≡ source.old) × (out.new ≡ out.old) }
-    ensures ends { (overlap : Bool) (σ : Setting) → AsksRun (map string_bytes words.now.items) overlap false σ
-        → Ends σ overlap result (S.left source.old) (S.left source.new) (K.taken out.old) (K.taken out.new) }
+    ensures ends { (overlap stats : Bool) (σ : Setting) → AsksRun (map string_bytes words.now.items) overlap stats σ
+        → Ends σ overlap stats result (S.left source.old) (S.left source.new) (K.taken out.old) (K.taken out.new) }
     ensures bench_unread { (start count : ℕ) → AsksBench (map string_bytes words.now.items) start count → source.new ≡ source.old }
     ensures bench { (start count : ℕ) → AsksBench (map string_bytes words.now.items) start count
         → PrintsFigures result (lines_of (made start count)) (K.taken out.old) (K.taken out.new) }
@@ -102,17 +103,17 @@ fn run_words<R: Threads + Sync, S: Source, K: Sink, G: Gate + Sync>(
     match command {
         Command::Run {
             overlap,
+            stats,
             config,
-            ..
-        } => run_lines(rt, alloc, overlap, config, source, out, gate),
+        } => run_lines(rt, alloc, overlap, stats, config, source, out, gate),
         Command::Bench { start, docs } => run_bench(alloc, start, docs, out, gate),
     }
 }
 
 // How a run ends for want of memory: what is gathered is written before.
 fn give_up<K: Sink>(text: &mut Vec<u8>, out: &mut K) -> Status
-    ensures ends { (σ : Setting) (overlap : Bool) (l0 l1 p0 : Option (List ℕ)) → MayStop σ overlap l0 l1 p0 (K.taken out.old) text.old.items
-        → Ends σ overlap result l0 l1 p0 (K.taken out.new) }
+    ensures ends { (σ : Setting) (overlap stats : Bool) (l0 l1 p0 : Option (List ℕ)) → MayStop σ overlap l0 l1 p0 (K.taken out.old) text.old.items
+        → Ends σ overlap stats result l0 l1 p0 (K.taken out.new) }
     ensures read { result ≡ Status.ReadFault → ⊥ }
     ensures write_fault { result ≡ Status.WriteFault → HasRisen (K.faults out.old) (K.faults out.new) }
     ensures later { K.faults out.old ≤ K.faults out.new }
@@ -135,10 +136,10 @@ fn settle<R: Threads + Sync, K: Sink, G: Gate + Sync>(
     out: &mut K,
 ) -> Result<(), Status>
     requires { (l1 : Option (List ℕ)) × IsSomewhere l1 (K.taken out.old) lines.now running.old text.old.items }
-    ensures next { (σ : Setting) (overlap : Bool) (l0 l1 p0 : Option (List ℕ))
+    ensures next { (σ : Setting) (overlap stats : Bool) (l0 l1 p0 : Option (List ℕ))
         → IsAt σ overlap l0 l1 p0 (K.taken out.old) lines.now running.old text.old.items
         → MatchResult result (λ _. IsAt σ overlap l0 l1 p0 (K.taken out.new) lines.now running.new text.new.items)
-        (λ status. Ends σ overlap status l0 l1 p0 (K.taken out.new)) }
+        (λ status. Ends σ overlap stats status l0 l1 p0 (K.taken out.new)) }
     ensures number { running.new.number ≡ running.old.number }
     ensures read { MatchResult result (λ _. ⊤) (λ status. status ≡ Status.ReadFault → ⊥) }
     ensures write_fault { MatchResult result (λ _. ⊤) (λ status. status ≡ Status.WriteFault → HasRisen (K.faults out.old) (K.faults out.new)) }
@@ -217,9 +218,9 @@ fn stop<R: Threads + Sync, K: Sink, G: Gate + Sync>(
     status: Status,
 ) -> Status
     requires { (held : Held) × (l1 : Option (List ℕ)) × IsSomewhere l1 (K.taken out.old) held running.old text.old.items }
-    ensures ends { (σ : Setting) (overlap : Bool) (l0 l1 p0 : Option (List ℕ)) (held : Held)
+    ensures ends { (σ : Setting) (overlap stats : Bool) (l0 l1 p0 : Option (List ℕ)) (held : Held)
         → IsStopped status σ overlap l0 l1 p0 (K.taken out.old) held running.old text.old.items
-        → Ends σ overlap result l0 l1 p0 (K.taken out.new) }
+        → Ends σ overlap stats result l0 l1 p0 (K.taken out.new) }
     ensures read { (status ≡ Status.ReadFault → ⊥) → result ≡ Status.ReadFault → ⊥ }
     ensures write_fault { (status ≡ Status.WriteFault → ⊥) → result ≡ Status.WriteFault → HasRisen (K.faults out.old) (K.faults out.new) }
 {
@@ -244,10 +245,12 @@ fn status_of(refused: u64) -> Status
     }
 }
 
-// How a run ends where its input does: the lines that are held are worked off before, and the summary is printed.
+// How a run ends where its input does: the lines that are held are worked off before, what can be is converted, and the
+// summary is printed, with the segments where they are asked for.
 fn close<R: Threads + Sync, K: Sink, G: Gate + Sync>(
     rt: &R,
     alloc: Global,
+    stats: bool,
     running: &mut Running,
     gate: &G,
     text: &mut Vec<u8>,
@@ -256,7 +259,7 @@ fn close<R: Threads + Sync, K: Sink, G: Gate + Sync>(
     requires { (held : Held) × (l1 : Option (List ℕ)) × IsSomewhere l1 (K.taken out.old) held running.old text.old.items }
     ensures ends { (σ : Setting) (overlap : Bool) (l0 l1 p0 : Option (List ℕ)) (held : Held)
         → IsAtEnd σ overlap l0 l1 p0 (K.taken out.old) held running.old text.old.items
-        → Ends σ overlap result l0 l1 p0 (K.taken out.new) }
+        → Ends σ overlap stats result l0 l1 p0 (K.taken out.new) }
     ensures read { result ≡ Status.ReadFault → ⊥ }
     ensures write_fault { result ≡ Status.WriteFault → HasRisen (K.faults out.old) (K.faults out.new) }
 {
@@ -264,14 +267,8 @@ fn close<R: Threads + Sync, K: Sink, G: Gate + Sync>(
         return give_up(text, out);
     };
     let counts = running.counts();
-    let Ok(()) = put_summary(
-        alloc,
-        text,
-        counts.documents,
-        counts.queries,
-        counts.refused,
-        "",
-    ) else {
+    let segments = running.finish();
+    let Ok(()) = put_end(alloc, text, counts, stats, segments) else {
         return give_up(text, out);
     };
     let Ok(()) = write_gathered(text, out) else {
@@ -284,12 +281,13 @@ fn run_lines<R: Threads + Sync, S: Source, K: Sink, G: Gate + Sync>(
     rt: &R,
     alloc: Global,
     overlap: bool,
+    stats: bool,
     config: Config,
     source: &mut S,
     out: &mut K,
     gate: &G,
 ) -> Status
-    ensures ends { Ends config overlap result (S.left source.old) (S.left source.new) (K.taken out.old) (K.taken out.new) }
+    ensures ends { Ends config overlap stats result (S.left source.old) (S.left source.new) (K.taken out.old) (K.taken out.new) }
     ensures read_fault { result ≡ Status.ReadFault → HasRisen (S.faults source.old) (S.faults source.new) }
     ensures write_fault { result ≡ Status.WriteFault → HasRisen (K.faults out.old) (K.faults out.new) }
 {
@@ -306,7 +304,7 @@ fn run_lines<R: Threads + Sync, S: Source, K: Sink, G: Gate + Sync>(
         }
         match take_next(rt, alloc, &mut running, &mut lines, source, gate, &mut text) {
             Upcoming::Line => {}
-            Upcoming::End => return close(rt, alloc, &mut running, gate, &mut text, out),
+            Upcoming::End => return close(rt, alloc, stats, &mut running, gate, &mut text, out),
             Upcoming::ReadFault => {
                 return stop(
                     rt,

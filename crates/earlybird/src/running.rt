@@ -1,15 +1,17 @@
-ghost use Rattle.std.specs.Prelude.{◌≡◌, ◌+◌, ◌<◌, ◌^◌, true, false, Some, None, ℕ, List, [], IfOk, OnErr, OnOk, IsTrue, ◌↔◌, slice_get};
+ghost use Rattle.std.specs.Prelude.{◌≡◌, ◌+◌, ◌<◌, ◌^◌, true, false, Some, None, ℕ, List, [], length, IfOk, OnErr, OnOk, IsTrue, ◌↔◌, slice_get};
 ghost use Rattle.eb_io.specs.Lines.{Line, line, long_line};
 ghost use Rattle.eb_rounds.specs.Passed.{HasMark, input_of, kind_of};
 ghost use Rattle.eb_rounds.specs.Standing.{queries_held};
 ghost use Rattle.eb_rounds.specs.Takes.{takes_kind};
+ghost use Rattle.eb_place.specs.Room.{cut};
+ghost use Rattle.eb_rounds.specs.Conversions.{converted_of};
 ghost use Rattle.earlybird.specs.Holding.{held_as};
 ghost use Rattle.earlybird.specs.Running.{HasRun, IsRunning, WorksOn, GoesOn};
 
 use eb_base::{Config, Gate, NoMemory};
 use eb_engine::{Converter, Index, Writer};
 use eb_lines::Refusal;
-use eb_rounds::{Counts, Input, Kind, Rounds};
+use eb_rounds::{Counts, Input, Kind, Rounds, SegmentCounts, close};
 use std::alloc::Global;
 use std::str;
 use std::thread::Threads;
@@ -55,6 +57,15 @@ impl Running {
             × (result.refused ≡ self.now.rounds.counts.refused) }
     {
         self.rounds.counts()
+    }
+
+    // Converts what can be of an input that is over, and gives how many segments are begun, and how many converted.
+    pub(crate) fn finish(&mut self) -> SegmentCounts
+        requires { IsRunning self.old }
+        ensures segments { result.segments ≡ length (cut self.old.index.setting self.old.writer.docs) }
+        ensures converted { result.converted ≡ converted_of (length (cut self.old.index.setting self.old.writer.docs)) }
+    {
+        close(&self.index, &mut self.writer, &mut self.converter)
     }
 
     // Works off the held lines, with what they print behind the text. Where memory doesn't suffice, nothing is done.

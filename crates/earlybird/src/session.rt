@@ -10,11 +10,10 @@ ghost use Rattle.earlybird.specs.Session.{HasCome, IsOutcome, WithPlaced};
 ghost use Rattle.eb_lines.specs.Works.{reading_of};
 
 use crate::searching::search_all;
-use eb_lines::Work;
 use eb_base::{Config, Document, Gate, NoMemory};
 use eb_cursor::Frame;
 use eb_engine::{Index, Writer};
-use eb_lines::Refusal;
+use eb_lines::{Refusal, Work};
 use eb_writer::Full;
 use std::alloc::Global;
 use std::marker::Brand;

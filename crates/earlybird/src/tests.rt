@@ -4,6 +4,7 @@ mod commands;
 mod faults;
 mod index;
 mod overlap;
+mod stats;
 mod turns;
 
 use crate::{Status, run};

@@ -1,9 +1,9 @@
 -- The words of a command ask the same with their flags and with these apart.
 use Rattle.std.proofs.Common.{◌≡◌, ℕ, ◌++◌, Bool, true, false, true≢false, not, List, [], ◌∷◌, append_assoc, Option, Some, None, refl, sym, ap, ap₂, ◌∙◌, subst}
-use Rattle.std.specs.Prelude.{⊤, option_map, option_and_then, Err, IsErrOf}
+use Rattle.std.specs.Prelude.{option_map, option_and_then, Err, IsErrOf}
 use Rattle.std.specs.List.{list_any, after_first}
 use Rattle.clap.specs.Walk.{Text}
-use Rattle.eb_options.specs.Items.{AreNames, Items, Parts, Value, flag_in, items_of, number_in, with_each, is_equals, is_name, is_one_of, name_in, parts_of, value_in, with_flag, with_value}
+use Rattle.eb_options.specs.Items.{AreNames, Items, Parts, Value, flag_in, items_of, number_in, with_each, is_equals, is_one_of, name_in, parts_of, value_in, with_flag, with_value}
 use Rattle.eb_options.specs.Apart.{before, flags_alone, values_in, without_flags}
 use Rattle.eb_options.proofs.Walking.{among, both, name_front}
 
@@ -94,7 +94,8 @@ module _ (flags options a b : List Text) (word : Text) (rest : List Text) (o w :
   unfolding without_flags
   took_flag f g = rw (g, f) refl
 
-  pub took_other : b ≡ a ++ word ∷ [] → w ≡ is_one_of options word → is_one_of flags word ≡ false → o ≡ false → b ++ without_flags flags options w rest ≡ a ++ without_flags flags options o (word ∷ rest)
+  pub took_other : b ≡ a ++ word ∷ [] → w ≡ is_one_of options word → is_one_of flags word ≡ false → o ≡ false
+      → b ++ without_flags flags options w rest ≡ a ++ without_flags flags options o (word ∷ rest)
   unfolding without_flags
   took_other e f h g = rw (e, f, g, h) (append_assoc a (word ∷ []) (without_flags flags options (is_one_of options word) rest))
 
@@ -119,7 +120,8 @@ none_joined : (there : Option (List (Text × Bool))) → joined there None ≡ N
 none_joined None = refl
 none_joined (Some there) = refl
 
-module _ (flags options : List Text) (ok : AreNames options) (words alone others : List Text) (e : alone ≡ flags_alone flags options false words) (f : others ≡ without_flags flags options false words) where
+module _ (flags options : List Text) (ok : AreNames options) (words alone others : List Text) (e : alone ≡ flags_alone flags options false words)
+    (f : others ≡ without_flags flags options false words) where
   abbrev numbers : Option (List (Text × Option ℕ))
   numbers = option_and_then (λ values. with_each (number_in values) options) (values_in options None others)
 
@@ -134,7 +136,8 @@ module _ (flags options : List Text) (ok : AreNames options) (words alone others
       go None = sym (none_joined (with_each (flag_in alone) flags))
       go (Some values) = refl
 
-  pub items_are : (there : List (Text × Bool)) (found : List (Text × Option ℕ)) → with_each (flag_in alone) flags ≡ Some there → numbers ≡ Some found → items_of flags options words ≡ Some (record { flags = there; numbers = found })
+  pub items_are : (there : List (Text × Bool)) (found : List (Text × Option ℕ)) → with_each (flag_in alone) flags ≡ Some there → numbers ≡ Some found
+      → items_of flags options words ≡ Some (record { flags = there; numbers = found })
   items_are there found g h = asked ∙ ap₂ joined g h
 
   pub none_flags : with_each (flag_in alone) flags ≡ None → items_of flags options words ≡ None

@@ -1,5 +1,6 @@
 -- Each of some names in turn.
-use Rattle.std.proofs.Common.{◌≡◌, ℕ, suc, ◌+◌, ◌<◌, ◌≤◌, ◌++◌, Bool, true, false, true≢false, List, [], ◌∷◌, map, take, drop, length, get_or, append_assoc, append-nil, Option, Some, None, is_some, refl, sym, ap, ◌∙◌, arith, String, Global}
+use Rattle.std.proofs.Common.{◌≡◌, ℕ, suc, ◌+◌, ◌<◌, ◌≤◌, ◌++◌, Bool, true, false, true≢false, List, [], ◌∷◌, map, take, drop, length, get_or, append_assoc, append-nil}
+use Rattle.std.proofs.Common.{Option, Some, None, is_some, refl, sym, ap, ◌∙◌, arith, String, Global}
 use Rattle.std.specs.Prelude.{option_map, option_and_then, string_bytes}
 use Rattle.std.specs.Borrow.{Bor}
 use Rattle.std.specs.Str.{bytes_eq}
@@ -17,7 +18,8 @@ use Rattle.eb_options.specs.Matches.{app, option}
 module _ (names : List (Bor Text)) (i : ℕ) (d : Bor Text) (h : i < length names) where
   pub app_more : with_rule (app (texts (take i names))) (option (get_or names i d).now) ≡ app (texts (take (i + 1) names))
   app_more =
-      let one : texts (take (i + 1) names) ≡ texts (take i names) ++ (get_or names i d).now ∷ [] = ap texts (take_more names i d h) ∙ map-append (λ (n : Bor Text). n.now) (take i names) (get_or names i d ∷ []) in
+      let one : texts (take (i + 1) names) ≡ texts (take i names) ++ (get_or names i d).now ∷ [] = ap texts (take_more names i d h)
+      ∙ map-append (λ (n : Bor Text). n.now) (take i names) (get_or names i d ∷ []) in
       ap (λ rules. record (app []) { top = record (app []).top { rules = rules } }) (sym (map-append option (texts (take i names)) ((get_or names i d).now ∷ []))) ∙ sym (ap app one)
 
 pub app_all : (names : List (Bor Text)) (i : ℕ) → length names ≤ i → app (texts (take i names)) ≡ app (texts names)
@@ -58,7 +60,8 @@ unfolding with_each
 each_ends f names i all done h e = e ∙ ap (λ (ns : List (Bor Text)). option_map (λ more. done ++ more) (with_each f (texts ns))) (drop_all i names h) ∙ ap (λ xs. Some xs) (append-nil done)
 
 -- where there is something for each, there is for one of them
-pub each_has : {A : Type 0} (f : Text → Option A) (names : List Text) (all : List (Text × A)) (key : Text) → with_each f names ≡ Some all → is_one_of names (45 ∷ 45 ∷ key) ≡ true → is_some (f key) ≡ true
+pub each_has : {A : Type 0} (f : Text → Option A) (names : List Text) (all : List (Text × A)) (key : Text) → with_each f names ≡ Some all
+    → is_one_of names (45 ∷ 45 ∷ key) ≡ true → is_some (f key) ≡ true
 unfolding with_each
 each_has f [] all key h there = absurd (true≢false (sym there))
 each_has {A = A} f (name ∷ names) all key h there = go (f name) (with_each f names) (bytes_eq key name) refl refl refl (λ all e g. each_has f names all key e g)

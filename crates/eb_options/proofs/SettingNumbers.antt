@@ -1,5 +1,6 @@
 -- The numbers of a command line, and the settings that are allowed.
-use Rattle.std.proofs.Common.{◌≡◌, inl, inr, ℕ, suc, zero, ◌+◌, ◌≤◌, ◌<◌, ◌&&◌, ◌||◌, ◌==◌, ◌≢◌, ◌^◌, Bool, true, false, true≢false, List, [], ◌∷◌, length, Some, None, Result, Ok, Err, refl, sym, ap, ◌∙◌, arith, eqb-true, leb-true, le-leb, ltb-true, lt-ltb}
+use Rattle.std.proofs.Common.{◌≡◌, inl, inr, ℕ, suc, zero, ◌+◌, ◌≤◌, ◌<◌, ◌&&◌, ◌||◌, ◌==◌, ◌≢◌, ◌^◌, Bool, true, false, true≢false, List, [], ◌∷◌, length, Some, None}
+use Rattle.std.proofs.Common.{Result, Ok, Err, refl, sym, ap, ◌∙◌, arith, eqb-true, leb-true, le-leb, ltb-true, lt-ltb}
 use Rattle.std.specs.Prelude.{nat_le, nat_lt}
 use Rattle.std.specs.Int.{IsInRange}
 use Rattle.std.specs.List.{list_all, list_any, range_with_len}
@@ -158,11 +159,13 @@ nothing_refused σ a b c d =
 
 -- a setting of which something is refused
 pub something_refused : (σ : Setting) (f : ConfigFault) → (f ≡ Segments → AreSegments σ.segments → ⊥) → (f ≡ Docs → AreSegments σ.segments × (AreDocs σ.docs → ⊥))
-    → (f ≡ Terms → AreSegments σ.segments × AreDocs σ.docs × (AreTerms σ.terms → ⊥)) → (f ≡ Words → AreSegments σ.segments × AreDocs σ.docs × AreTerms σ.terms × (2 ^ 27 < words_of σ)) → is_setting σ ≡ false
+    → (f ≡ Terms → AreSegments σ.segments × AreDocs σ.docs × (AreTerms σ.terms → ⊥)) → (f ≡ Words
+    → AreSegments σ.segments × AreDocs σ.docs × AreTerms σ.terms × (2 ^ 27 < words_of σ)) → is_setting σ ≡ false
 something_refused σ f a b c d = go (is_setting σ) refl
   where
     never : (f : ConfigFault) → (f ≡ Segments → AreSegments σ.segments → ⊥) → (f ≡ Docs → AreSegments σ.segments × (AreDocs σ.docs → ⊥))
-        → (f ≡ Terms → AreSegments σ.segments × AreDocs σ.docs × (AreTerms σ.terms → ⊥)) → (f ≡ Words → AreSegments σ.segments × AreDocs σ.docs × AreTerms σ.terms × (2 ^ 27 < words_of σ)) → IsSetting σ → ⊥
+        → (f ≡ Terms → AreSegments σ.segments × AreDocs σ.docs × (AreTerms σ.terms → ⊥)) → (f ≡ Words
+        → AreSegments σ.segments × AreDocs σ.docs × AreTerms σ.terms × (2 ^ 27 < words_of σ)) → IsSetting σ → ⊥
     never Segments a b c d s = a refl s.segments
     never Docs a b c d s = (b refl).1 s.docs
     never Terms a b c d s = (c refl).2 s.terms

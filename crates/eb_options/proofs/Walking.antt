@@ -1,13 +1,15 @@
 -- What clap makes of the words of a command with options that take one value each, and the values that the grammar reads in them.
-use Rattle.std.proofs.Common.{◌≡◌, ◌⊎◌, inl, inr, ℕ, suc, ◌+◌, ◌&&◌, Bool, true, false, true≢false, not, List, [], ◌∷◌, ◌++◌, map, codes, take, drop, Option, Some, None, refl, sym, ap, ◌∙◌, cond, fold, arith, subst, ◌||◌, is_some, ◌==◌, eqb-true, length}
-use Rattle.std.specs.Prelude.{if◌then◌else◌, slice_get, ⊤, option_and_then, nat_le, nat_lt}
+use Rattle.std.proofs.Common.{◌≡◌, ◌⊎◌, inl, inr, ℕ, suc, ◌+◌, ◌&&◌, Bool, true, false, true≢false, not, List, [], ◌∷◌, ◌++◌, map, codes, take, drop, Option, Some, None}
+use Rattle.std.proofs.Common.{refl, sym, ap, ◌∙◌, cond, fold, arith, subst, ◌||◌, is_some, ◌==◌, eqb-true}
+use Rattle.std.specs.Prelude.{if◌then◌else◌, slice_get, ⊤, option_and_then, nat_le}
 use Rattle.std.specs.Option.{option_map_or}
 use Rattle.std.specs.Str.{bytes_eq, chars}
 use Rattle.std.proofs.lemmas.List.Folds.{list_any-append}
 use Rattle.std.specs.List.{filter, list_any, list_all, position_or_len}
 use Rattle.std.proofs.lemmas.Slice.Eq.{bytes_eq-Decides}
 use Rattle.clap.specs.Lexer.{long_of, short_of}
-use Rattle.clap.specs.Walk.{Held, Row, Rule, Text, Walk, Waiting, idle, option, nothing_held, walked, arg_by_id, arg_by_long, arg_by_short, arg_by_index, is_early_multiple, has_row, at_row, more_values, with_values, without, used, settled, finished, reading_by, bundle_met, with_default}
+use Rattle.clap.specs.Walk.{Held, Row, Rule, Text, Walk, Waiting, idle, option, nothing_held, walked, arg_by_id, arg_by_long, arg_by_short, arg_by_index}
+use Rattle.clap.specs.Walk.{is_early_multiple, has_row, at_row, more_values, with_values, without, used, settled, finished, reading_by, bundle_met, with_default}
 use Rattle.clap.specs.Simple.{matches_of, Shape, built, filled, filled_from, is_simple}
 use Rattle.clap.specs.Kinds.{IsAmong, Kinds, or_else}
 use Rattle.clap.specs.Faults.{fault_of, is_simple_and_free, turn_fault, walk_fault, settle_fault, use_fault, defaults_fault, check_fault, flags_fault, default_fault}
@@ -16,7 +18,7 @@ use Rattle.clap.specs.declared.error.kind.ErrorKind.TheVariants.{ArgumentConflic
 use Rattle.clap.specs.declared.parser.matches.ValueSource.TheVariants.{CommandLine}
 use Rattle.clap.specs.Takes.{is_given}
 use Rattle.clap.proofs.FaultLemmas.{leaf_fault}
-use Rattle.eb_options.specs.Numbers.{are_digits, number}
+use Rattle.eb_options.specs.Numbers.{are_digits}
 use Rattle.eb_options.specs.Items.{AreNames, Value, is_equals, is_name, is_one_of, name_in, number_in, one_number, with_each, value_in}
 use Rattle.eb_options.specs.Apart.{before, values_in}
 use Rattle.eb_options.specs.Matches as options
@@ -47,7 +49,8 @@ long_is (n ∷ names) name = go (bytes_eq name n) refl (long_is names name)
   where
     go : (b : Bool) → bytes_eq name n ≡ b → arg_by_long (rules names) name ≡ cond (is_one_of names (45 ∷ 45 ∷ name)) (Some (rule name)) None
         → arg_by_long (rules (n ∷ names)) name ≡ cond (is_one_of (n ∷ names) (45 ∷ 45 ∷ name)) (Some (rule name)) None
-    go true e more = subst (λ (m : Text). arg_by_long (rules (n ∷ names)) m ≡ cond (is_one_of (n ∷ names) (45 ∷ 45 ∷ m)) (Some (rule m)) None) (sym ((bytes_eq-Decides name n).0 e)) (rw (bytes_same n) refl)
+    go true e more = subst (λ (m : Text). arg_by_long (rules (n ∷ names)) m ≡ cond (is_one_of (n ∷ names) (45 ∷ 45 ∷ m)) (Some (rule m)) None) (sym
+        ((bytes_eq-Decides name n).0 e)) (rw (bytes_same n) refl)
     go false e more = rw (differ name n e, e) more
 
 id_is : (names : List Text) (name : Text) → arg_by_id (rules names) name ≡ cond (is_one_of names (45 ∷ 45 ∷ name)) (Some (rule name)) None
@@ -56,7 +59,8 @@ id_is (n ∷ names) name = go (bytes_eq name n) refl (id_is names name)
   where
     go : (b : Bool) → bytes_eq name n ≡ b → arg_by_id (rules names) name ≡ cond (is_one_of names (45 ∷ 45 ∷ name)) (Some (rule name)) None
         → arg_by_id (rules (n ∷ names)) name ≡ cond (is_one_of (n ∷ names) (45 ∷ 45 ∷ name)) (Some (rule name)) None
-    go true e more = subst (λ (m : Text). arg_by_id (rules (n ∷ names)) m ≡ cond (is_one_of (n ∷ names) (45 ∷ 45 ∷ m)) (Some (rule m)) None) (sym ((bytes_eq-Decides name n).0 e)) (rw (bytes_same n) refl)
+    go true e more = subst (λ (m : Text). arg_by_id (rules (n ∷ names)) m ≡ cond (is_one_of (n ∷ names) (45 ∷ 45 ∷ m)) (Some (rule m)) None) (sym ((bytes_eq-Decides name n).0 e))
+        (rw (bytes_same n) refl)
     go false e more = rw (differ name n e, e) more
 
 short_none : (names : List Text) (x : ℕ) → arg_by_short (rules names) x ≡ None
@@ -385,8 +389,10 @@ module _ (names : List Text) (ok : AreNames names) where
       later_walk (other, Some v) long k = rw (plain, long, k.long, key.id) refl
       later_walk (other, None) long k = rw (plain, long, k.long, key.id) refl
 
-      later : (p : Text × Option Text) (rest : List Text) → long_of word ≡ Some p → IsKey p.0 → rows_from waits (word ∷ rest) ≡ unless (use_fault false (rule name) (value ∷ []) rows) (rows_from entered (word ∷ rest))
-      later p rest long k = step waits word rest ∙ (λ i. unless (later_turn p long k i) (rows_from (later_walk p long k i) rest)) ∙ twice (use_fault false (rule name) (value ∷ []) rows) (turn_fault top [] entered word) _
+      later : (p : Text × Option Text) (rest : List Text) → long_of word ≡ Some p → IsKey p.0
+          → rows_from waits (word ∷ rest) ≡ unless (use_fault false (rule name) (value ∷ []) rows) (rows_from entered (word ∷ rest))
+      later p rest long k = step waits word rest ∙ (λ i. unless (later_turn p long k i) (rows_from (later_walk p long k i) rest))
+          ∙ twice (use_fault false (rule name) (value ∷ []) rows) (turn_fault top [] entered word) _
           ∙ ap (λ r. unless (use_fault false (rule name) (value ∷ []) rows) r) (sym (step entered word rest))
         where
           twice : (a b : Kinds) (r : Option (List Row)) → unless (or_else a b) r ≡ unless a (unless b r)
@@ -650,7 +656,8 @@ module _ (names : List Text) (ok : AreNames names) where
         → rows_from (at rows None idle) (word ∷ rest) ≡ Some out
         → Finds rows out (option_map_or (λ v. before (name_in word, v) (values_in names None rest)) value (values_in names (Some (name_in word)) rest))
     first_item (Some v) key known k n is h =
-        let went = accepted rows out key v (λ more. rows_from (at more None idle) rest) (sym (attached rows word key k.is_key plain v rest (n.long ∙ ap (λ (o : Option Text). Some (key, o)) is)) ∙ h) in
+        let went = accepted rows out key v (λ more. rows_from (at more None idle) rest) (sym (attached rows word key k.is_key plain v rest (n.long
+        ∙ ap (λ (o : Option Text). Some (key, o)) is)) ∙ h) in
         let bare : drop 2 (name_in word) ≡ key = ap (drop 2) k.dashed in
         with_first rows out (name_in word) v (values_in names None rest) known (rw bare went.0)
         (later (rows ++ row (drop 2 (name_in word)) v ∷ []) None tt (rw bare went.1))
@@ -677,9 +684,17 @@ module _ (names : List Text) (ok : AreNames names) where
           with_first rows out (45 ∷ 45 ∷ key) word (values_in names None rest) known went.0 (later (rows ++ row key word ∷ []) None tt went.1))
     ]
 
-  pub finds : (words : List Text) (rows out : List Row) (s : Option Text) → IsState s → HasNoDashes words → rows_from (state rows s) words ≡ Some out → Finds rows out (values_in names (name_of s) words)
+  pub finds : (words : List Text) (rows out : List Row) (s : Option Text) → IsState s → HasNoDashes words → rows_from (state rows s) words ≡ Some out
+      → Finds rows out (values_in names (name_of s) words)
   unfolding values_in
-  finds [] rows out None is clean h = record { all = []; are = refl; new = refl; options = refl; found = (let same : rows ≡ out = (let both : Some rows ≡ Some out = sym (at_end rows) ∙ h in cc) in sym same ∙ sym (append_none rows)) }
+  finds [] rows out None is clean h = record {
+    all = [];
+    are = refl;
+    new = refl;
+    options = refl;
+    found = (let same : rows ≡ out = (let both : Some rows ≡ Some out = sym
+        (at_end rows) ∙ h in cc) in sym same ∙ sym (append_none rows));
+  }
     where
       append_none : (xs : List Row) → xs ++ [] ≡ xs
       append_none [] = refl
@@ -737,7 +752,8 @@ module _ (names : List Text) (ok : AreNames names) where
   new_entry rows name value next e = rw e refl
 
   module _ (rows : List Row) (word : Text) (rest : List Text)
-      (later : (more : List Row) (s : Option Text) (all : List Value) → IsState s → values_in names (name_of s) rest ≡ Some all → are_new more all ≡ true → have_numbers all ≡ true → Accepts rest (state more s)) where
+      (later : (more : List Row) (s : Option Text) (all : List Value) → IsState s → values_in names (name_of s) rest ≡ Some all → are_new more all ≡ true
+      → have_numbers all ≡ true → Accepts rest (state more s)) where
     item_accepted : (value : Option Text) (key : Text) (all : List Value) → is_option (name_in word) ≡ true → IsKeyOf (name_in word) key → Names word key → value_in word ≡ value
         → option_map_or (λ v. before (name_in word, v) (values_in names None rest)) value (values_in names (Some (name_in word)) rest) ≡ Some all
         → are_new rows all ≡ true → have_numbers all ≡ true → Accepts (word ∷ rest) (at rows None idle)
@@ -771,7 +787,8 @@ module _ (names : List Text) (ok : AreNames names) where
         let k = key_of (name_in word) e in
         let n = long_names word k.1.first k.1.more (k.1.dashed ∙ ap (λ (t : Text). 45 ∷ 45 ∷ t) k.1.long) in
         let n' : Names word k.0 = subst (Names word) (sym k.1.long) n in
-        let chosen : values_in names None (word ∷ rest) ≡ option_map_or (λ v. before (name_in word, v) (values_in names None rest)) (value_in word) (values_in names (Some (name_in word)) rest) = rw e refl in
+        let chosen : values_in names None (word ∷ rest) ≡ option_map_or (λ v. before (name_in word, v) (values_in names None rest)) (value_in word) (values_in names (Some
+        (name_in word)) rest) = rw e refl in
         item_accepted (value_in word) k.0 all e k.1 n' refl (sym chosen ∙ h) new numbers
 
     value_accepted : (key : Text) (all : List Value) → IsKey key → values_in names (Some (45 ∷ 45 ∷ key)) (word ∷ rest) ≡ Some all → are_new rows all ≡ true → have_numbers all ≡ true
@@ -790,7 +807,8 @@ module _ (names : List Text) (ok : AreNames names) where
               ∙ new_entry rows key word (λ more. rows_from (at more None idle) rest) (is_not _ fresh.0) ∙ a.found;
         }
 
-  pub accepts : (words : List Text) (rows : List Row) (s : Option Text) (all : List Value) → IsState s → values_in names (name_of s) words ≡ Some all → are_new rows all ≡ true → have_numbers all ≡ true
+  pub accepts : (words : List Text) (rows : List Row) (s : Option Text) (all : List Value) → IsState s → values_in names (name_of s) words ≡ Some all → are_new rows all ≡ true
+      → have_numbers all ≡ true
       → Accepts words (state rows s)
   unfolding values_in
   accepts [] rows None all is h new numbers = record { clean = refl; out = rows; found = at_end rows }
@@ -822,7 +840,8 @@ module _ (names : List Text) (ok : AreNames names) where
   -- a name that has a row has no item
   used_up : (values : List Value) (rows : List Row) (key : Text) → has_row key rows ≡ true → are_new rows values ≡ true → are_options values ≡ true → of_name (45 ∷ 45 ∷ key) values ≡ []
   used_up [] rows key there new known = refl
-  used_up (item ∷ values) rows key there new known = go (λ e. used_up values (rows ++ row_of item ∷ []) key (row_kept key rows (row_of item) there) (both _ _ new).1 (both _ _ known).1) (bytes_eq item.0 (45 ∷ 45 ∷ key)) refl
+  used_up (item ∷ values) rows key there new known = go (λ e. used_up values (rows ++ row_of item ∷ []) key (row_kept key rows (row_of item) there) (both _ _ new).1
+      (both _ _ known).1) (bytes_eq item.0 (45 ∷ 45 ∷ key)) refl
     where
       go : (⊤ → of_name (45 ∷ 45 ∷ key) values ≡ []) → (b : Bool) → bytes_eq item.0 (45 ∷ 45 ∷ key) ≡ b → of_name (45 ∷ 45 ∷ key) (item ∷ values) ≡ []
       go more false e = rw e (more tt)
@@ -950,7 +969,8 @@ module _ (names : List Text) (ok : AreNames names) where
       go more false v e f = absurd (let none : None ≡ Some all = (let is : values_in names None (word ∷ rest) ≡ None = rw e refl in sym is ∙ h) in cc)
       go more true None e f = more (Some (name_in word)) all e (let is : values_in names None (word ∷ rest) ≡ values_in names (Some (name_in word)) rest = rw (e, f) refl in sym is ∙ h)
       go more true (Some v) e f =
-          let b = begins (name_in word, v) (values_in names None rest) all (let is : values_in names None (word ∷ rest) ≡ before (name_in word, v) (values_in names None rest) = rw (e, f) refl in sym is ∙ h) in
+          let b = begins (name_in word, v) (values_in names None rest) all (let is : values_in names None (word ∷ rest) ≡ before (name_in word, v)
+          (values_in names None rest) = rw (e, f) refl in sym is ∙ h) in
           let others = more None b.more refl b.are in
           ap are_options b.first ∙ first_known (name_in word, v) b.more e others
 

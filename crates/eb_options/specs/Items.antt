@@ -1,5 +1,6 @@
 -- What words say in which flags and options with numbers stand, in any order. Names are without their dashes.
-use Rattle.std.specs.Prelude.{◌≡◌, ℕ, ◌&&◌, ◌==◌, Bool, true, false, not, List, [], ◌∷◌, map, find, length, nat_lt, Option, Some, None, if◌then◌else◌, option_map, option_and_then}
+use Rattle.std.specs.Prelude.{◌≡◌, ℕ, ◌&&◌, ◌==◌, Bool, true, false, not, List, [], ◌∷◌, map, find, length, nat_lt, Option, Some, None}
+use Rattle.std.specs.Prelude.{if◌then◌else◌, option_map, option_and_then}
 use Rattle.std.specs.Borrow.{Bor}
 use Rattle.std.specs.List.{filter, list_all, list_any, before_first, after_first}
 use Rattle.std.specs.Option.{option_map_or}
@@ -63,7 +64,8 @@ parts_of flags options None [] = Some (record { flags = []; values = [] })
 parts_of flags options None (word ∷ rest) =
     if is_one_of flags word then option_map (with_flag word) (parts_of flags options None rest)
     else (if is_one_of options (name_in word)
-    then option_map_or (λ value. option_map (with_value (name_in word, value)) (parts_of flags options None rest)) (value_in word) (parts_of flags options (Some (name_in word)) rest)
+    then option_map_or (λ value. option_map (with_value (name_in word, value)) (parts_of flags options None rest)) (value_in word)
+    (parts_of flags options (Some (name_in word)) rest)
     else None)
 parts_of flags options (Some name) [] = None
 parts_of flags options (Some name) (value ∷ rest) = option_map (with_value (name, value)) (parts_of flags options None rest)

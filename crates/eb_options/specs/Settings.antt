@@ -23,4 +23,5 @@ allowed segments docs terms = let σ : Setting = record { segments = segments; d
 
 -- the setting that the items ask for; 12 segments of 4,096 documents and 8,192 terms where they don't say otherwise
 abbrev pub setting_of : Items → Option Setting
-setting_of items = allowed (unwrap_or (number_of (codes "segments") items) 12) (unwrap_or (number_of (codes "docs") items) 4096) (unwrap_or (number_of (codes "terms") items) 8192)
+setting_of items =
+    allowed (unwrap_or (number_of (codes "segments") items) 12) (unwrap_or (number_of (codes "docs") items) 4096) (unwrap_or (number_of (codes "terms") items) 8192)

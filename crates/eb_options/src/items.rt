@@ -45,7 +45,10 @@ impl Model for Items {
 
     ghost Value = { specs.Items };
 
-    ghost view = { λ i. record { flags = map (λ f. (string_bytes f.name, f.is_there)) i.flags.items; numbers = map (λ n. (string_bytes n.name, n.number)) i.numbers.items } };
+    ghost view = { λ i. record {
+      flags = map (λ f. (string_bytes f.name, f.is_there)) i.flags.items;
+      numbers = map (λ n. (string_bytes n.name, n.number)) i.numbers.items;
+    } };
 }
 
 /// Why no items are read from the words.

@@ -52,9 +52,11 @@ impl Split {
         flags: &[&str],
         options: &[&str],
     ) -> Result<(), NoMemory>
-        ensures others { OnOk result ((rest : List (List ℕ)) → map string_bytes self.new.others.items ++ without_flags (texts flags.now) (texts options.now) self.new.waits rest
+        ensures others { OnOk result ((rest : List (List ℕ)) →
+            map string_bytes self.new.others.items ++ without_flags (texts flags.now) (texts options.now) self.new.waits rest
             ≡ map string_bytes self.old.others.items ++ without_flags (texts flags.now) (texts options.now) self.old.waits (word.now ∷ rest)) }
-        ensures flags { OnOk result ((rest : List (List ℕ)) → map string_bytes self.new.flags.items ++ flags_alone (texts flags.now) (texts options.now) self.new.waits rest
+        ensures flags { OnOk result ((rest : List (List ℕ)) →
+            map string_bytes self.new.flags.items ++ flags_alone (texts flags.now) (texts options.now) self.new.waits rest
             ≡ map string_bytes self.old.flags.items ++ flags_alone (texts flags.now) (texts options.now) self.old.waits (word.now ∷ rest)) }
     {
         if self.waits {
@@ -79,8 +81,10 @@ pub(crate) fn split_words(
     flags: &[&str],
     options: &[&str],
 ) -> Result<Split, NoMemory>
-    ensures others { IfOk result (λ split. map string_bytes split.others.items ≡ without_flags (texts flags.now) (texts options.now) false (map string_bytes words.now)) }
-    ensures flags { IfOk result (λ split. map string_bytes split.flags.items ≡ flags_alone (texts flags.now) (texts options.now) false (map string_bytes words.now)) }
+    ensures others { IfOk result (λ split. map string_bytes split.others.items
+        ≡ without_flags (texts flags.now) (texts options.now) false (map string_bytes words.now)) }
+    ensures flags { IfOk result (λ split. map string_bytes split.flags.items
+        ≡ flags_alone (texts flags.now) (texts options.now) false (map string_bytes words.now)) }
 {
     let mut split = Split {
         flags: Vec::new(alloc),

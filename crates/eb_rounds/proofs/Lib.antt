@@ -5,3 +5,4 @@ pub mod Rounded
 pub mod Keeping
 pub mod Seeing
 pub mod OneLine
+pub mod Conversions

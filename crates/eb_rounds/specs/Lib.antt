@@ -9,3 +9,4 @@ pub mod Standing
 pub mod Kept
 pub mod Takes
 pub mod Passed
+pub mod Conversions

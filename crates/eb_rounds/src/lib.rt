@@ -7,6 +7,7 @@
 mod adding;
 mod alone;
 mod answering;
+mod converting;
 mod held;
 mod input;
 mod reading;
@@ -14,5 +15,6 @@ mod rounds;
 mod tasks;
 mod working;
 
+pub use converting::{SegmentCounts, close};
 pub use input::{Input, Kind};
 pub use rounds::{Counts, Rounds};

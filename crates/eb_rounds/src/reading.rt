@@ -62,6 +62,9 @@ fn read_first(alloc: Global, line: &FirstLine) -> Result<Asked, NoMemory>
     })
 }
 
+// How few document lines are worth a thread of their own.
+const LEAST_LINES: usize = 128;
+
 // Reads the lines in list order, by several threads.
 fn read_all_then<R: Threads + Sync>(
     rt: &R,
@@ -72,6 +75,7 @@ fn read_all_then<R: Threads + Sync>(
 {
     lines
         .par_iter()
+        .with_min_len(LEAST_LINES)
         .map(
             |line: &ThenLine| -> Result<Given, NoMemory>
                 ensures { IfOk result (λ task. ReadsLine (then_line line.now) (given_entry task)) }

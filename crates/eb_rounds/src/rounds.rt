@@ -1,6 +1,7 @@
 ghost use Rattle.std.specs.Prelude.{◌≡◌, ◌+◌, ◌*◌, ◌<◌, ◌≤◌, ◌^◌, ◌++◌, true, Some, slice_get, ℕ, List, [], length, map, sum_by, vec_len, vec_capacity, IfOk, OnErr, OnOk, IsTrue, ◌↔◌};
 ghost use Rattle.std.specs.List.{AllZip};
 ghost use mathlib.Core.List.{IsPrefix};
+ghost use Rattle.eb_rounds.specs.Conversions.{AreConverted};
 ghost use Rattle.eb_rounds.specs.Inputs.{ReadsLine, document_line, query_line, refused_line};
 ghost use Rattle.eb_rounds.specs.Passed.{input_of, kind_of, HasMark, alone};
 ghost use Rattle.eb_rounds.specs.Takes.{takes_kind};
@@ -9,12 +10,13 @@ ghost use Rattle.eb_rounds.specs.Standing.{Standing, documents_held, queries_hel
 ghost use Rattle.eb_rounds.specs.Works.{asked_entry, asked_need, given_entry, first_line, then_line};
 
 use crate::alone::work_alone;
+use crate::converting::catch_up;
 use crate::held::{FirstInput, FirstLine, QueryLine, ThenInput, ThenLine};
 use crate::input::{Input, Kind};
 use crate::reading::read_round;
 use eb_lines::Refusal;
 use crate::tasks::{Asked, Given};
-use crate::working::{make_room, work_round};
+use crate::working::{make_room, work_and_convert};
 use eb_base::{Gate, NoMemory};
 use eb_engine::{Converter, Index, Reader, Writer};
 use std::alloc::Global;
@@ -263,9 +265,10 @@ impl Rounds {
     }
 
     /// Works off the held lines: they are read by several threads where there are many, and then documents are added beside
-    /// answering the queries, which one reader answers in order. The result is what they print, line for line. Afterwards no
-    /// line is held, and reader and converter know the writer's history. Where memory doesn't suffice, which shows before the
-    /// first document is added, nothing is done. The tokens must have been made with this index.
+    /// answering the queries, which one reader answers in order, and beside converting each segment that was closed before.
+    /// The result is what they print, line for line. Afterwards no line is held, and reader and converter know the writer's
+    /// history. Where memory doesn't suffice, which shows before the first document is added, nothing is done. The tokens
+    /// must have been made with this index.
     pub fn step<R: Threads + Sync, G: Gate + Sync>(
         &mut self,
         rt: &R,
@@ -285,6 +288,8 @@ impl Rounds {
         ensures ok { IfOk result (λ text. WorkedOff index.now.setting self.old.held writer.old.docs writer.new.docs self.old.counts self.new.counts text.items) }
         ensures held { OnOk result ((self.new.held ≡ []) × (self.new.greatest ≡ self.old.greatest)) }
         ensures told { OnOk result (IsPrefix writer.new.docs converter.new.docs × IsPrefix writer.new.docs reader.new.docs) }
+        ensures converted { OnOk result (AreConverted index.now.setting writer.old.docs converter.new.converted) }
+        ensures grown { converter.old.converted ≤ converter.new.converted }
         ensures err { OnErr result ((self.new ≡ self.old) × (writer.new ≡ writer.old) × (reader.new ≡ reader.old) × (converter.new ≡ converter.old)) }
     {
         let mut text = Vec::new(alloc);
@@ -314,13 +319,17 @@ impl Rounds {
             × (text.new.items ≡ text.old.items ++ printed)) }
         ensures held { OnOk result ((self.new.held ≡ []) × (self.new.greatest ≡ self.old.greatest)) }
         ensures told { OnOk result (IsPrefix writer.new.docs converter.new.docs) }
+        ensures converted { OnOk result (AreConverted index.now.setting writer.old.docs converter.new.converted) }
+        ensures grown { converter.old.converted ≤ converter.new.converted }
         ensures err { OnErr result ((self.new ≡ self.old) × (writer.new ≡ writer.old) × (converter.new ≡ converter.old) × (text.new.items ≡ text.old.items)) }
     {
         let (mut asked, given, mut refusals) = self.prepare(rt, alloc, text)?;
-        let ((documents, full), (queries, refused)) = work_round(
+        converter.meet(index, writer.reader(index));
+        let ((documents, full), (queries, refused)) = work_and_convert(
             rt,
             index,
             writer,
+            converter,
             asked.as_mut_slice(),
             given.as_slice(),
             gate,
@@ -345,8 +354,9 @@ impl Rounds {
     }
 
     /// Works off one line as a round of its own, as `step_behind` would where it alone were held: by this thread, without a
-    /// copy of the line. What is held stays held. The number is above those that were put before; a query line begins with
-    /// `?`. The tokens must have been made with this index.
+    /// copy of the line. What is held stays held. Behind the line each segment is converted that is closed by then. The
+    /// number is above those that were put before; a query line begins with `?`. The tokens must have been made with this
+    /// index.
     pub fn work_line<G: Gate>(
         &mut self,
         alloc: Global,
@@ -369,10 +379,12 @@ impl Rounds {
             × (text.new.items ≡ text.old.items ++ printed)) }
         ensures held { OnOk result ((self.new.held ≡ self.old.held) × (self.new.greatest ≡ number)) }
         ensures told { OnOk result (IsPrefix writer.new.docs converter.new.docs) }
+        ensures converted { OnOk result (AreConverted index.now.setting writer.new.docs converter.new.converted) }
+        ensures grown { converter.old.converted ≤ converter.new.converted }
         ensures err { OnErr result ((self.new ≡ self.old) × (writer.new ≡ writer.old) × (converter.new ≡ converter.old) × (text.new.items ≡ text.old.items)) }
     {
         let counts = work_alone(alloc, number, line, index, writer, gate, text)?;
-        converter.meet(index, writer.reader(index));
+        catch_up(index, writer, converter);
         self.count(number, counts);
         Ok(())
     }

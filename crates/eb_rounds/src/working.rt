@@ -1,13 +1,16 @@
 ghost use Rattle.std.specs.Prelude.{◌≡◌, ◌+◌, ◌*◌, ◌≤◌, ◌^◌, [], length, map, sum_by, vec_len, vec_capacity, IfOk, OnOk};
 ghost use Rattle.std.specs.List.{list_any};
+ghost use mathlib.Core.List.{IsPrefix};
+ghost use Rattle.eb_rounds.specs.Conversions.{AreConverted};
 ghost use Rattle.eb_rounds.specs.Shown.{AreAnswered, AreAdded, IsRound};
 ghost use Rattle.eb_rounds.specs.Works.{asked_entry, asked_need, is_answer, is_add, given_entry};
 
 use crate::adding::add_all;
 use crate::answering::answer_all;
+use crate::converting::{convert_all, has_waiting};
 use crate::tasks::{Asked, AskedWork, Given, GivenWork};
 use eb_base::{Gate, NoMemory};
-use eb_engine::{Index, Reader, Writer};
+use eb_engine::{Converter, Index, Reader, Writer};
 use std::alloc::Global;
 use std::thread::{Threads, join_mut};
 
@@ -144,8 +147,8 @@ fn work_either<R: Threads + Sync, G: Gate + Sync>(
     (added, answered)
 }
 
-// Works off the lines of a round. Takes no memory.
-pub(crate) fn work_round<R: Threads + Sync, G: Gate + Sync>(
+// Adds the documents and answers the queries of a round. Takes no memory.
+fn work_round<R: Threads + Sync, G: Gate + Sync>(
     rt: &R,
     index: &Index,
     writer: &mut Writer,
@@ -177,4 +180,76 @@ pub(crate) fn work_round<R: Threads + Sync, G: Gate + Sync>(
     writer.meet(index, reader);
     text.extend_from_slice(refusals.as_slice()).unwrap();
     counts
+}
+
+// Converts beside working off the lines of a round: a thread is started. Takes no memory.
+fn convert_beside<R: Threads + Sync, G: Gate + Sync>(
+    rt: &R,
+    index: &Index,
+    writer: &mut Writer,
+    converter: &mut Converter,
+    asked: &mut [Asked],
+    given: &[Given],
+    gate: &G,
+    text: &mut Vec<u8>,
+    refusals: &mut Vec<u8>,
+) -> ((u64, u64), (u64, u64))
+    requires writer { writer.old.index ≡ index.now }
+    requires converter { converter.old.index ≡ index.now }
+    requires text { vec_len text.old + (sum_by asked_need asked.old + 64 * length given.now) ≤ vec_capacity text.old }
+    requires refusals { (refusals.old.items ≡ []) × (vec_len refusals.old ≡ 0) × (64 * length given.now ≤ vec_capacity refusals.old) }
+    ensures index { writer.new.index ≡ writer.old.index }
+    ensures converter { converter.new.index ≡ converter.old.index }
+    ensures grown { converter.old.converted ≤ converter.new.converted }
+    ensures converted { AreConverted index.now.setting converter.old.docs converter.new.converted }
+    ensures round { IsRound index.now.setting writer.old.docs writer.new.docs (map asked_entry asked.old) (map given_entry given.now) text.old.items text.new.items
+        result.1.0 result.0.0 result.1.1 result.0.1 }
+{
+    let ((), counts) = join_mut(
+        rt,
+        &mut || convert_all(index, converter),
+        &mut ||
+            requires writer { writer.now.index ≡ index.now }
+            requires text { vec_len text.now + (sum_by asked_need asked.now + 64 * length given.now) ≤ vec_capacity text.now }
+            requires refusals { (refusals.now.items ≡ []) × (vec_len refusals.now ≡ 0) × (64 * length given.now ≤ vec_capacity refusals.now) }
+        { work_round(rt, index, writer, asked, given, gate, text, refusals) },
+    );
+    counts
+}
+
+// Works off the lines of a round, and converts all segments that are closed before it: beside the lines where both is to be
+// done. The converter knows the history. Takes no memory.
+pub(crate) fn work_and_convert<R: Threads + Sync, G: Gate + Sync>(
+    rt: &R,
+    index: &Index,
+    writer: &mut Writer,
+    converter: &mut Converter,
+    asked: &mut [Asked],
+    given: &[Given],
+    gate: &G,
+    text: &mut Vec<u8>,
+    refusals: &mut Vec<u8>,
+) -> ((u64, u64), (u64, u64))
+    requires writer { writer.old.index ≡ index.now }
+    requires converter { converter.old.index ≡ index.now }
+    requires told { IsPrefix writer.old.docs converter.old.docs }
+    requires text { vec_len text.old + (sum_by asked_need asked.old + 64 * length given.now) ≤ vec_capacity text.old }
+    requires refusals { (refusals.old.items ≡ []) × (vec_len refusals.old ≡ 0) × (64 * length given.now ≤ vec_capacity refusals.old) }
+    ensures index { writer.new.index ≡ writer.old.index }
+    ensures converter { converter.new.index ≡ converter.old.index }
+    ensures grown { converter.old.converted ≤ converter.new.converted }
+    ensures converted { AreConverted index.now.setting writer.old.docs converter.new.converted }
+    ensures round { IsRound index.now.setting writer.old.docs writer.new.docs (map asked_entry asked.old) (map given_entry given.now) text.old.items text.new.items
+        result.1.0 result.0.0 result.1.1 result.0.1 }
+{
+    if !has_waiting(writer, converter) {
+        return work_round(rt, index, writer, asked, given, gate, text, refusals);
+    }
+    if has_answer(asked) || has_add(given) {
+        return convert_beside(
+            rt, index, writer, converter, asked, given, gate, text, refusals,
+        );
+    }
+    convert_all(index, converter);
+    work_round(rt, index, writer, asked, given, gate, text, refusals)
 }

@@ -6,7 +6,7 @@ use eb_options::{OptionFault, SETTING_OPTIONS, read_options, read_setting};
 use std::alloc::Global;
 
 // The flags of `run`.
-const RUN_FLAGS: [&str; 1] = ["overlap"];
+const RUN_FLAGS: [&str; 2] = ["overlap", "stats"];
 
 // What the words behind `run` ask for.
 pub(super) fn read_run(alloc: Global, words: &[String]) -> Result<Command, CommandFault>

@@ -30,7 +30,8 @@ fn refuses_words_outside_the_grammar(rt: HostRuntime) -> Result<(), Fail> {
         "run|--overlap=1",
         "run|--docs|--overlap",
         "run|--docs|--overlap|1",
-        "run|--stats",
+        "run|--stats|--overlap|--stats",
+        "run|--stats=1",
         "run|--",
         "run|--docs|1|--",
         "run|",
@@ -85,21 +86,36 @@ fn reads_commands(rt: HostRuntime) -> Result<(), Fail> {
         );
     }
     let lines = [
-        ("run", false, 12, 4096, 8192),
-        ("run|--docs=1", false, 12, 1, 8192),
-        ("run|--docs|1|--segments=1", false, 1, 1, 8192),
-        ("run|--docs|1|--overlap|--segments=1", true, 1, 1, 8192),
-        ("run|--terms|256|--overlap", true, 12, 4096, 256),
-        ("run|--docs=000000005", false, 12, 5, 8192),
+        ("run", false, false, 12, 4096, 8192),
+        ("run|--docs=1", false, false, 12, 1, 8192),
+        ("run|--docs|1|--segments=1", false, false, 1, 1, 8192),
+        (
+            "run|--docs|1|--overlap|--segments=1",
+            true,
+            false,
+            1,
+            1,
+            8192,
+        ),
+        (
+            "run|--stats|--terms|256|--overlap",
+            true,
+            true,
+            12,
+            4096,
+            256,
+        ),
+        ("run|--docs=000000005|--stats", false, true, 12, 5, 8192),
         (
             "run|--terms=1048576|--segments|1",
+            false,
             false,
             1,
             4096,
             1_048_576,
         ),
     ];
-    for (line, overlap, segments, docs, terms) in lines {
+    for (line, overlap, stats, segments, docs, terms) in lines {
         let Ok(config) = Config::new(segments, docs, terms) else {
             return Err(Fail::new("a setting of the table"));
         };
@@ -107,7 +123,7 @@ fn reads_commands(rt: HostRuntime) -> Result<(), Fail> {
         assert!(rt;
             read == Ok(Command::Run {
                 overlap,
-                stats: false,
+                stats,
                 config
             }),
             "{line} is read otherwise"

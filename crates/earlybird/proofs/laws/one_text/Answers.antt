@@ -3,4 +3,4 @@ use Rattle.earlybird.proofs.OneOutput.{one_text_of}
 use Rattle.earlybird.proofs.laws.one_text.Goals as goal
 
 pub returns : goal.returns
-returns c = λ σ bytes. one_text_of σ (lines_of bytes)
+returns c = λ σ stats bytes. one_text_of σ stats (lines_of bytes)

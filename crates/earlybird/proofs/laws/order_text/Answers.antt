@@ -3,4 +3,4 @@ use Rattle.earlybird.proofs.OneOutput.{order_text_of}
 use Rattle.earlybird.proofs.laws.order_text.Goals as goal
 
 pub returns : goal.returns
-returns c = λ σ bytes. order_text_of σ (lines_of bytes)
+returns c = λ σ stats bytes. order_text_of σ stats (lines_of bytes)

@@ -3,4 +3,4 @@ use Rattle.earlybird.proofs.OneOutput.{some_text_of}
 use Rattle.earlybird.proofs.laws.some_text.Goals as goal
 
 pub returns : goal.returns
-returns c = λ σ overlap bytes. some_text_of σ overlap (lines_of bytes)
+returns c = λ σ overlap stats bytes. some_text_of σ overlap stats (lines_of bytes)

@@ -4,10 +4,10 @@ use Rattle.earlybird.proofs.Runs.{at_start, at_few, at_of, at_written, may_stop,
 use Rattle.earlybird.proofs.run.run_lines.Goals as goal
 
 pub returns-in_default-clause-ends : goal.returns-in_default-clause-ends
-returns-in_default-clause-ends g c = ends_at_once _ _ _ _
+returns-in_default-clause-ends g c = ends_at_once _ _ _ _ _
 
 pub returns-in_default-new-clause-ends : goal.returns-in_default-new-clause-ends
-returns-in_default-new-clause-ends g c = ends_at_once _ _ _ _
+returns-in_default-new-clause-ends g c = ends_at_once _ _ _ _ _
 
 pub lines-init : goal.lines-init
 lines-init g c =
@@ -23,48 +23,48 @@ pub settle-requires-after_bounds : goal.settle-requires-after_bounds
 settle-requires-after_bounds g c = λ κs bounds. (g.S.Source.left c.lines.source, (c.args.config, c.args.overlap, g.S.Source.left c.args.source.now, g.K.Sink.taken c.args.out.now, c.lines.invariant.at))
 
 pub returns-in-Err-clause-ends : goal.returns-in-Err-clause-ends
-returns-in-Err-clause-ends g c = c.in-Err.ensures.next c.args.config c.args.overlap (g.S.Source.left c.args.source.now) (g.S.Source.left c.lines.source) (g.K.Sink.taken c.args.out.now) c.lines.invariant.at
+returns-in-Err-clause-ends g c = c.in-Err.ensures.next c.args.config c.args.overlap c.args.stats (g.S.Source.left c.args.source.now) (g.S.Source.left c.lines.source) (g.K.Sink.taken c.args.out.now) c.lines.invariant.at
 
 pub take_next-requires-after_bounds : goal.take_next-requires-after_bounds
 take_next-requires-after_bounds g c = λ κs bounds.
     let l0 = g.S.Source.left c.args.source.now in
     let p0 = g.K.Sink.taken c.args.out.now in
-    let at = c.in_default-settle.ensures.next c.args.config c.args.overlap l0 (g.S.Source.left c.lines.source) p0 c.lines.invariant.at in
+    let at = c.in_default-settle.ensures.next c.args.config c.args.overlap c.args.stats l0 (g.S.Source.left c.lines.source) p0 c.lines.invariant.at in
     (g.K.Sink.taken c.settle.new.out, (c.args.config, c.args.overlap, l0, p0, at))
 
 pub returns-in-End-clause-ends : goal.returns-in-End-clause-ends
 returns-in-End-clause-ends g c =
     let l0 = g.S.Source.left c.args.source.now in
     let p0 = g.K.Sink.taken c.args.out.now in
-    let at = c.in_default-settle.ensures.next c.args.config c.args.overlap l0 (g.S.Source.left c.lines.source) p0 c.lines.invariant.at in
+    let at = c.in_default-settle.ensures.next c.args.config c.args.overlap c.args.stats l0 (g.S.Source.left c.lines.source) p0 c.lines.invariant.at in
     c.close.ensures.ends c.args.config c.args.overlap l0 _ p0 c.take_next.new.lines (c.in-End.ensures.next c.args.config c.args.overlap l0 p0 _ at)
 
 pub returns-in-ReadFault-clause-ends : goal.returns-in-ReadFault-clause-ends
 returns-in-ReadFault-clause-ends g c =
     let l0 = g.S.Source.left c.args.source.now in
     let p0 = g.K.Sink.taken c.args.out.now in
-    let at = c.in_default-settle.ensures.next c.args.config c.args.overlap l0 (g.S.Source.left c.lines.source) p0 c.lines.invariant.at in
-    c.stop.ensures.ends c.args.config c.args.overlap l0 _ p0 c.take_next.new.lines (c.in-ReadFault.ensures.next c.args.config c.args.overlap l0 p0 _ at)
+    let at = c.in_default-settle.ensures.next c.args.config c.args.overlap c.args.stats l0 (g.S.Source.left c.lines.source) p0 c.lines.invariant.at in
+    c.stop.ensures.ends c.args.config c.args.overlap c.args.stats l0 _ p0 c.take_next.new.lines (c.in-ReadFault.ensures.next c.args.config c.args.overlap l0 p0 _ at)
 
 pub returns-in-TooLong-clause-ends : goal.returns-in-TooLong-clause-ends
 returns-in-TooLong-clause-ends g c =
     let l0 = g.S.Source.left c.args.source.now in
     let p0 = g.K.Sink.taken c.args.out.now in
-    let at = c.in_default-settle.ensures.next c.args.config c.args.overlap l0 (g.S.Source.left c.lines.source) p0 c.lines.invariant.at in
-    c.stop-in-TooLong.ensures.ends c.args.config c.args.overlap l0 _ p0 c.take_next.new.lines (c.in-TooLong.ensures.next c.args.config c.args.overlap l0 p0 _ at)
+    let at = c.in_default-settle.ensures.next c.args.config c.args.overlap c.args.stats l0 (g.S.Source.left c.lines.source) p0 c.lines.invariant.at in
+    c.stop-in-TooLong.ensures.ends c.args.config c.args.overlap c.args.stats l0 _ p0 c.take_next.new.lines (c.in-TooLong.ensures.next c.args.config c.args.overlap l0 p0 _ at)
 
 pub returns-in-NoMemory-clause-ends : goal.returns-in-NoMemory-clause-ends
 returns-in-NoMemory-clause-ends g c =
     let l0 = g.S.Source.left c.args.source.now in
     let p0 = g.K.Sink.taken c.args.out.now in
-    let at = c.in_default-settle.ensures.next c.args.config c.args.overlap l0 (g.S.Source.left c.lines.source) p0 c.lines.invariant.at in
-    c.give_up.ensures.ends c.args.config c.args.overlap l0 _ p0 (c.in-NoMemory.ensures.next c.args.config c.args.overlap l0 p0 _ at)
+    let at = c.in_default-settle.ensures.next c.args.config c.args.overlap c.args.stats l0 (g.S.Source.left c.lines.source) p0 c.lines.invariant.at in
+    c.give_up.ensures.ends c.args.config c.args.overlap c.args.stats l0 _ p0 (c.in-NoMemory.ensures.next c.args.config c.args.overlap l0 p0 _ at)
 
 pub close-requires-after_bounds : goal.close-requires-after_bounds
 close-requires-after_bounds g c = λ κs bounds.
     let l0 = g.S.Source.left c.args.source.now in
     let p0 = g.K.Sink.taken c.args.out.now in
-    let at = c.in_default-settle.ensures.next c.args.config c.args.overlap l0 (g.S.Source.left c.lines.source) p0 c.lines.invariant.at in
+    let at = c.in_default-settle.ensures.next c.args.config c.args.overlap c.args.stats l0 (g.S.Source.left c.lines.source) p0 c.lines.invariant.at in
     let a = c.in-End.ensures.next c.args.config c.args.overlap l0 p0 _ at in
     (c.take_next.new.lines, g.S.Source.left c.take_next.new.source, (c.args.config, c.args.overlap, l0, p0, a.0))
 
@@ -72,7 +72,7 @@ pub stop-requires-after_bounds : goal.stop-requires-after_bounds
 stop-requires-after_bounds g c = λ κs bounds.
     let l0 = g.S.Source.left c.args.source.now in
     let p0 = g.K.Sink.taken c.args.out.now in
-    let at = c.in_default-settle.ensures.next c.args.config c.args.overlap l0 (g.S.Source.left c.lines.source) p0 c.lines.invariant.at in
+    let at = c.in_default-settle.ensures.next c.args.config c.args.overlap c.args.stats l0 (g.S.Source.left c.lines.source) p0 c.lines.invariant.at in
     let a = c.in-ReadFault.ensures.next c.args.config c.args.overlap l0 p0 _ at in
     (c.take_next.new.lines, g.S.Source.left c.take_next.new.source, (c.args.config, c.args.overlap, l0, p0, a.0))
 
@@ -80,7 +80,7 @@ pub stop-requires-in-TooLong-after_bounds : goal.stop-requires-in-TooLong-after_
 stop-requires-in-TooLong-after_bounds g c = λ κs bounds.
     let l0 = g.S.Source.left c.args.source.now in
     let p0 = g.K.Sink.taken c.args.out.now in
-    let at = c.in_default-settle.ensures.next c.args.config c.args.overlap l0 (g.S.Source.left c.lines.source) p0 c.lines.invariant.at in
+    let at = c.in_default-settle.ensures.next c.args.config c.args.overlap c.args.stats l0 (g.S.Source.left c.lines.source) p0 c.lines.invariant.at in
     let a = c.in-TooLong.ensures.next c.args.config c.args.overlap l0 p0 _ at in
     (c.take_next.new.lines, g.S.Source.left c.take_next.new.source, (c.args.config, c.args.overlap, l0, p0, a.0))
 
@@ -88,16 +88,16 @@ pub returns-in_default-write_much-clause-ends : goal.returns-in_default-write_mu
 returns-in_default-write_much-clause-ends g c =
     let l0 = g.S.Source.left c.args.source.now in
     let p0 = g.K.Sink.taken c.args.out.now in
-    let at = c.in_default-settle.ensures.next c.args.config c.args.overlap l0 (g.S.Source.left c.lines.source) p0 c.lines.invariant.at in
+    let at = c.in_default-settle.ensures.next c.args.config c.args.overlap c.args.stats l0 (g.S.Source.left c.lines.source) p0 c.lines.invariant.at in
     let x = c.in_default-write_much.ensures.err in
     let now = c.in-Line.ensures.next c.args.config c.args.overlap l0 p0 _ at in
-    ends_unwritten c.args.config c.args.overlap l0 _ p0 _ _ c.take_next.new.text.items x.0 (may_stop c.args.config c.args.overlap l0 _ p0 _ c.take_next.new.lines c.take_next.new.running c.take_next.new.text.items now) x.1
+    ends_unwritten c.args.config c.args.overlap c.args.stats l0 _ p0 _ _ c.take_next.new.text.items x.0 (may_stop c.args.config c.args.overlap l0 _ p0 _ c.take_next.new.lines c.take_next.new.running c.take_next.new.text.items now) x.1
 
 pub lines-preserved : goal.lines-preserved
 lines-preserved g c =
     let l0 = g.S.Source.left c.args.source.now in
     let p0 = g.K.Sink.taken c.args.out.now in
-    let at = c.in_default-settle.ensures.next c.args.config c.args.overlap l0 (g.S.Source.left c.lines.source) p0 c.lines.invariant.at in
+    let at = c.in_default-settle.ensures.next c.args.config c.args.overlap c.args.stats l0 (g.S.Source.left c.lines.source) p0 c.lines.invariant.at in
     let x = c.in-Ok-write_much.ensures.ok in
     let now = c.in-Line.ensures.next c.args.config c.args.overlap l0 p0 _ at in
     record {
@@ -110,7 +110,7 @@ pub lines-smaller : goal.lines-smaller
 lines-smaller g c =
     let l0 = g.S.Source.left c.args.source.now in
     let p0 = g.K.Sink.taken c.args.out.now in
-    let at = c.in_default-settle.ensures.next c.args.config c.args.overlap l0 (g.S.Source.left c.lines.source) p0 c.lines.invariant.at in
+    let at = c.in_default-settle.ensures.next c.args.config c.args.overlap c.args.stats l0 (g.S.Source.left c.lines.source) p0 c.lines.invariant.at in
     let now = c.in-Line.ensures.next c.args.config c.args.overlap l0 p0 _ at in
     let few = at_few c.args.config c.args.overlap l0 _ p0 _ c.take_next.new.lines c.take_next.new.running c.take_next.new.text.items now in
     let more = c.in-Line.ensures.number refl in

@@ -1,4 +1,4 @@
-use Rattle.std.proofs.Common.{◌≡◌, List, [], ◌∷◌, ℕ, cond, drop, map, string_bytes}
+use Rattle.std.proofs.Common.{◌≡◌, List, ◌∷◌, ℕ, cond, drop, map, string_bytes}
 use Rattle.std.specs.List.{filter}
 use Rattle.std.specs.Str.{bytes_eq}
 use Rattle.eb_options.specs.Items.{at_most_once, dashed, flag_in}

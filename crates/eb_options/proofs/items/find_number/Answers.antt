@@ -1,4 +1,4 @@
-use Rattle.std.proofs.Common.{◌≡◌, ◌∙◌, sym, ap, Option, Some, ℕ, List, option_map}
+use Rattle.std.proofs.Common.{◌∙◌, sym, ap, Some, ℕ, option_map}
 use Rattle.clap.proofs.WalkLemmas.{first_value-rows}
 use Rattle.clap.specs.Words.{found_of}
 use Rattle.eb_options.specs.Matches.{read_first}

@@ -14,10 +14,12 @@ pub returns-in-Err-read_values-clause-usage : goal.returns-in-Err-read_values-cl
 returns-in-Err-read_values-clause-usage c = λ e.
     let split = c.in-Ok.split in
     none_numbers (texts c.args.flags.now) (texts c.args.options.now) c.requires.names (map string_bytes c.args.words.now) (map string_bytes c.as_slice.result.now) (map string_bytes split.others.items)
-    (ap (λ (ws : List (String Global)). map string_bytes ws) c.as_slice.ensures.value ∙ c.in-Ok.ensures.flags) c.in-Ok.ensures.others (c.in-Err-read_values.ensures.usage (err_same c.in-Err-read_values.fault Usage e))
+    (ap (λ (ws : List (String Global)). map string_bytes ws) c.as_slice.ensures.value
+    ∙ c.in-Ok.ensures.flags) c.in-Ok.ensures.others (c.in-Err-read_values.ensures.usage (err_same c.in-Err-read_values.fault Usage e))
 
 pub returns-clause-items : goal.returns-clause-items
 returns-clause-items c =
     let split = c.in-Ok.split in
     items_are (texts c.args.flags.now) (texts c.args.options.now) c.requires.names (map string_bytes c.args.words.now) (map string_bytes c.as_slice.result.now) (map string_bytes split.others.items)
-    (ap (λ (ws : List (String Global)). map string_bytes ws) c.as_slice.ensures.value ∙ c.in-Ok.ensures.flags) c.in-Ok.ensures.others _ _ c.in-Ok-read_flags.ensures.flags c.in-Ok-read_values.ensures.numbers
+    (ap (λ (ws : List (String Global)). map string_bytes ws) c.as_slice.ensures.value
+    ∙ c.in-Ok.ensures.flags) c.in-Ok.ensures.others _ _ c.in-Ok-read_flags.ensures.flags c.in-Ok-read_values.ensures.numbers

@@ -2,8 +2,7 @@ use Rattle.std.proofs.Common.{◌≡◌, ◌∙◌, List, String, Global, codes,
 use Rattle.std.specs.List.{list_any}
 use Rattle.std.specs.Str.{bytes_eq}
 use Rattle.std.proofs.lemmas.Result.{IfOk-weaker}
-use Rattle.clap.specs.Walk.{Row, rows_of}
-use Rattle.clap.specs.Words.{found_of}
+use Rattle.clap.specs.Walk.{Row}
 use Rattle.eb_options.specs.Items.{texts, with_each}
 use Rattle.eb_options.specs.Matches.{number_at}
 use Rattle.eb_options.specs.declared.items.OptionFault.TheVariants.{Usage}
@@ -18,15 +17,19 @@ returns-then-has_dashes-clause-usage c = λ e.
 pub returns-in-Ok-clause-numbers : goal.returns-in-Ok-clause-numbers
 returns-in-Ok-clause-numbers c =
     let names = texts c.args.names.now in
-    let clean = ap (λ (ws : List (String Global)). list_any (λ word. bytes_eq word (codes "--")) (map string_bytes ws)) (c.as_slice-2.ensures.value ∙ sym c.as_slice.ensures.value) ∙ sym c.has_dashes.ensures ∙ c.if-has_dashes.false in
-    let asked = ap (λ (ws : List (String Global)). numbers_in names c.requires (map string_bytes ws)) (sym c.as_slice-2.ensures.value) ∙ found_are names c.requires (map string_bytes c.as_slice-2.result.now) clean c.in-Ok.ensures.kinds in
+    let clean = ap (λ (ws : List (String Global)). list_any (λ word. bytes_eq word (codes "--")) (map string_bytes ws)) (c.as_slice-2.ensures.value
+    ∙ sym c.as_slice.ensures.value) ∙ sym c.has_dashes.ensures ∙ c.if-has_dashes.false in
+    let asked = ap (λ (ws : List (String Global)). numbers_in names c.requires (map string_bytes ws)) (sym c.as_slice-2.ensures.value)
+    ∙ found_are names c.requires (map string_bytes c.as_slice-2.result.now) clean c.in-Ok.ensures.kinds in
     IfOk-weaker c.read_numbers.result _ _ (λ n h. asked ∙ ap (λ (rows : List Row). with_each (number_at rows) names) (sym c.in-Ok.ensures.matches) ∙ h) c.read_numbers.ensures.numbers
 
 pub returns-in-Ok-clause-usage : goal.returns-in-Ok-clause-usage
 returns-in-Ok-clause-usage c = λ e.
     let names = texts c.args.names.now in
-    let clean = ap (λ (ws : List (String Global)). list_any (λ word. bytes_eq word (codes "--")) (map string_bytes ws)) (c.as_slice-2.ensures.value ∙ sym c.as_slice.ensures.value) ∙ sym c.has_dashes.ensures ∙ c.if-has_dashes.false in
-    let asked = ap (λ (ws : List (String Global)). numbers_in names c.requires (map string_bytes ws)) (sym c.as_slice-2.ensures.value) ∙ found_are names c.requires (map string_bytes c.as_slice-2.result.now) clean c.in-Ok.ensures.kinds in
+    let clean = ap (λ (ws : List (String Global)). list_any (λ word. bytes_eq word (codes "--")) (map string_bytes ws)) (c.as_slice-2.ensures.value
+    ∙ sym c.as_slice.ensures.value) ∙ sym c.has_dashes.ensures ∙ c.if-has_dashes.false in
+    let asked = ap (λ (ws : List (String Global)). numbers_in names c.requires (map string_bytes ws)) (sym c.as_slice-2.ensures.value)
+    ∙ found_are names c.requires (map string_bytes c.as_slice-2.result.now) clean c.in-Ok.ensures.kinds in
     asked ∙ ap (λ (rows : List Row). with_each (number_at rows) names) (sym c.in-Ok.ensures.matches) ∙ c.read_numbers.ensures.usage e
 
 pub returns-in-Err-clause-usage : goal.returns-in-Err-clause-usage

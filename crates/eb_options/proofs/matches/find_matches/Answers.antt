@@ -1,4 +1,4 @@
-use Rattle.std.proofs.Common.{ap, refl, true, map, ◌≡◌, ◌∙◌, string_bytes}
+use Rattle.std.proofs.Common.{ap, map, ◌∙◌, string_bytes}
 use Rattle.std.proofs.lemmas.Result.{IfOk-weaker}
 use Rattle.clap.specs.Faults.{is_simple_and_free, fault_of}
 use Rattle.clap.specs.Simple.{is_simple, matches_of}
