@@ -1,7 +1,6 @@
 ghost use Rattle.std.specs.Prelude.{◌≡◌};
 ghost use Rattle.eb_lines.specs.StatusLine.{code_of, line_of};
 
-
 /// The most bytes that a run takes from its input, 2^40.
 pub const MAX_INPUT: u64 = 1_099_511_627_776;
 

@@ -9,12 +9,12 @@ use crate::adding::add_all;
 use crate::answering::answer_all;
 use crate::input::Input;
 use crate::reading::{document_work, query_work};
-use eb_lines::Refusal;
 use crate::rounds::Counts;
 use crate::tasks::{Asked, Given, GivenWork};
 use crate::working::need_of;
 use eb_base::{Gate, NoMemory};
 use eb_engine::{Index, Writer};
+use eb_lines::Refusal;
 use std::alloc::Global;
 
 // Works off one line that adds nothing, as a round of its own, and gives how many queries are answered and how many lines
