@@ -27,38 +27,43 @@ def default_folder():
 
 def read_words():
     """The command line."""
-    top = argparse.ArgumentParser(prog="earlybird-cluster", description="Many indexes as one: partitions over a log in Redis.")
-    top.add_argument("--redis", metavar="URL", default=os.environ.get("EARLYBIRD_REDIS"),
-                     help="redis://, rediss:// or unix://; else the variable EARLYBIRD_REDIS (better, where it holds a password), else the Redis of --folder")
-    top.add_argument("--name", default="earlybird", help="of the cluster; its keys in Redis begin with it (earlybird)")
-    top.add_argument("--folder", default=default_folder(), help="of what `up` starts on this machine (%(default)s)")
-    top.add_argument("--patience", type=float, default=5.0, metavar="SECONDS", help="how long a partition that lives is waited for (5)")
+    where = argparse.ArgumentParser(add_help=False, argument_default=argparse.SUPPRESS)
+    where.add_argument("--redis", metavar="URL",
+                       help="redis://, rediss:// or unix://; else the variable EARLYBIRD_REDIS (better, where it holds a password), else the Redis of --folder")
+    where.add_argument("--name", help="of the cluster; its keys in Redis begin with it (earlybird)")
+    where.add_argument("--folder", help="of what `up` starts on this machine (%s)" % default_folder())
+    where.add_argument("--patience", type=float, metavar="SECONDS", help="how long a partition that lives is waited for (5)")
+    top = argparse.ArgumentParser(prog="earlybird-cluster", description="Many indexes as one: partitions over a log in Redis.", parents=[where])
     commands = top.add_subparsers(dest="command", required=True, metavar="COMMAND")
 
-    add = commands.add_parser("add", help="document lines from standard input into the log; refused ones are printed")
-    add.add_argument("--no-wait", action="store_true", help="don't wait for the partitions to say what became of each line")
-    commands.add_parser("ask", help="query lines from standard input; prints their answers in order")
-    commands.add_parser("status", help="each partition, its worker and its log")
+    def command(name, says):
+        return commands.add_parser(name, help=says, description=says, parents=[where])
 
-    up = commands.add_parser("up", help="start N workers on this machine, and Redis where no URL is given")
+    add = command("add", "document lines from standard input into the log; refused ones are printed")
+    add.add_argument("--no-wait", action="store_true", help="don't wait for the partitions to say what became of each line")
+    command("ask", "query lines from standard input; prints their answers in order")
+    command("status", "each partition, its worker and its log")
+
+    up = command("up", "start N workers on this machine, and Redis where no URL is given")
     up.add_argument("parts", type=int, metavar="N")
     up.add_argument("--fsync", choices=("everysec", "always"), default="everysec", help="when the log of a Redis that is started is on disk")
     up.add_argument("--program", default=os.path.join(ROOT, "earlybird"), help="the index program (%(default)s)")
-    up.add_argument("--retain", type=int, default=0, metavar="DOCUMENTS", help="cut each log to this many documents, at least; with a feed to what it keeps")
-    up.epilog = "What stands behind -- are the program's words: up 4 -- feed --keep 8; without them it is: run."
-    commands.add_parser("down", help="end all that `up` started in the folder")
+    up.add_argument("--retain", type=int, metavar="DOCUMENTS", help="cut each log to this many documents, at least; with a feed to what it keeps")
+    up.epilog = "What stands behind -- are the program's words: up 4 -- feed --keep 8; without them those of before, at first: run."
+    command("down", "end all that `up` started in the folder")
 
-    worker = commands.add_parser("worker", help="serve one partition until it is ended")
+    worker = command("worker", "serve one partition until it is ended")
     worker.add_argument("--partition", type=int, required=True, metavar="P")
     worker.add_argument("--program", default=os.path.join(ROOT, "earlybird"), help="the index program (%(default)s)")
 
-    grow = commands.add_parser("grow", help="read the log of a cluster again, into one with another number of partitions")
+    grow = command("grow", "read the log of a cluster again, into one with another number of partitions")
     grow.add_argument("--into", required=True, metavar="NAME", help="the name of the new cluster, which `up` has set up")
     own, program = sys.argv[1:], []
     if "--" in own:
         place = own.index("--")
         own, program = own[:place], own[place + 1:]
-    words = top.parse_args(own)
+    usual = {"redis": os.environ.get("EARLYBIRD_REDIS"), "name": "earlybird", "folder": default_folder(), "patience": 5.0}
+    words = argparse.Namespace(**{**usual, **vars(top.parse_args(own))})
     if program and words.command != "up":
         top.error("words of the program stand behind `up N` alone")
     words.words = program
@@ -205,7 +210,7 @@ def do_up(words):
     if not words.redis:
         machine.start_redis(words.folder, words.fsync)
     redis = machine.connect(url_of(words))
-    names.write_config(redis, words.name, words.parts, words.words or ["run"], words.retain)
+    names.write_config(redis, words.name, words.parts, words.words, words.retain)
     started = [part for part in range(words.parts) if machine.start_worker(words.folder, url_of(words), words.name, part, words.program)]
     router = Router(redis, words.name)
     for _ in range(100):

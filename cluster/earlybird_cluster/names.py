@@ -1,8 +1,6 @@
 """The keys in Redis. All of one cluster begin with its name, so that one Redis can serve several."""
 import json
 
-CONFIG_FIELDS = ("parts", "words", "retain")
-
 
 def config(name):
     """A hash: the number of partitions, the words of the index program, and the documents that a trimmed log keeps at least."""
@@ -47,9 +45,15 @@ def read_config(redis, name):
 
 
 def write_config(redis, name, parts, words, retain):
-    """Sets a cluster up. One that stands keeps its partitions: their number decides where a document lies."""
+    """Sets a cluster up. One that stands keeps its partitions, since their number decides where a document lies; and its words
+    and what it retains where none are given here."""
     found = redis.hgetall(config(name))
     if found and int(found[b"parts"]) != parts:
         raise NotSetUp("the cluster '%s' has %d partitions: 'earlybird-cluster grow' makes one with %d from its log"
                        % (name, int(found[b"parts"]), parts))
-    redis.hset(config(name), mapping={"parts": parts, "words": json.dumps(words), "retain": retain})
+    own = {b"words": json.dumps(["run"]).encode(), b"retain": b"0", **found}
+    if words:
+        own[b"words"] = json.dumps(words).encode()
+    if retain is not None:
+        own[b"retain"] = str(retain).encode()
+    redis.hset(config(name), mapping={"parts": parts, "words": own[b"words"], "retain": own[b"retain"]})
