@@ -88,20 +88,29 @@ def ask_all(folder, queries, name="earlybird"):
     return [line.split(b" ", 1)[1] for line in printed.splitlines()]
 
 
-def kill_soon(folder, what, seconds, then=None):
-    """Kills a process of the folder after so many seconds, beside what goes on, and then does something."""
-    def work():
-        time.sleep(seconds)
-        number = machine.running(folder, what)
-        if number is not None:
-            os.kill(number, signal.SIGKILL)
-        if then:
-            time.sleep(0.5)
-            then()
+def kill(folder, what):
+    """Kills a process of the folder, without a word to it."""
+    number = machine.running(folder, what)
+    if number is not None:
+        os.kill(number, signal.SIGKILL)
 
-    thread = threading.Thread(target=work)
-    thread.start()
-    return thread
+
+def interrupted(lines, place, act):
+    """The lines, and something that is done when so many of them are taken."""
+    for number, line in enumerate(lines):
+        if number == place:
+            act()
+        yield line
+
+
+def ask_one_by_one(router, queries, place, act):
+    """The answers to the queries, and something that is done when so many of them are answered."""
+    answers = []
+    for number, line in enumerate(queries):
+        if number == place:
+            act()
+        answers.append(router.ask(line))
+    return answers
 
 
 def main():
@@ -113,20 +122,21 @@ def main():
         queries = make_queries(200, rng)
         check("up", 0, up(folder))
 
-        killer = kill_soon(folder, "worker-earlybird-1", 0.5, lambda: up(folder))
-        check("add, a worker killed meanwhile", (b"", 0), command(folder, "add", text=b"".join(line + b"\n" for line in documents)))
-        killer.join()
+        router = Router(machine.connect("unix://" + machine.socket_of(folder)))
+        again = threading.Thread(target=lambda: (time.sleep(0.5), up(folder)))
+        killed = interrupted(documents, DOCUMENTS // 2, lambda: (kill(folder, "worker-earlybird-1"), again.start()))
+        check("add, a worker killed in the middle", [], list(router.add(killed)))
+        again.join()
         want = run_alone(["run"], documents, queries)
         check("200 queries", want, ask_all(folder, queries))
 
-        killer = kill_soon(folder, "worker-earlybird-2", 0.4)
-        many = queries * 10
-        got = ask_all(folder, many)
-        killer.join()
-        check("each query has an answer", len(many), len(got))
-        whole = [each for each in zip(want * 10, got) if b" missing 2:" not in each[1]]
-        check("answers without the killed worker name it", True, len(whole) < len(many))
-        check("all others are whole", [each[0] for each in whole], [each[1] for each in whole])
+        got = ask_one_by_one(router, queries, 80, lambda: kill(folder, "worker-earlybird-2"))
+        check("80 queries before the death of a worker", (want[:80], True), ([each.text for each in got[:80]], all(not each.missing for each in got[:80])))
+        whole = [each for each in zip(want, got) if not each[1].missing]
+        check("answers without it name it", True, len(whole) < 200 and all(each.missing in ([], [2]) for each in got))
+        check("those that don't are whole", [each[0] for each in whole], [each[1].text for each in whole])
+        printed = ask_all(folder, [b"?1 w0"])
+        check("the command names it", True, b" missing 2:" in printed[0])
         check("status names the killed worker", (True, 1), (b"partition 2: no worker" in command(folder, "status")[0], command(folder, "status")[1]))
         check("up again", 0, up(folder))
         check("the same queries behind its return", want, ask_all(folder, queries))
@@ -136,14 +146,11 @@ def main():
         printed, status = command(folder, "add", text=b"".join(line + b"\n" for line in refused))
         check("refused lines, as the program refuses them", (alone, 1), ([line.split(b" ", 1)[1] for line in printed.splitlines()], status))
 
-        router = Router(machine.connect("unix://" + machine.socket_of(folder)))
         more, last = make_documents(20000, last, rng)
-        killer = kill_soon(folder, "redis", 1.0)
         try:
-            told = list(router.add(more))
+            told = list(router.add(interrupted(more, 12000, lambda: kill(folder, "redis"))))
         except LOST:
             told = []
-        killer.join()
         acknowledged = more[:router.settled]
         check("nothing was refused", [], told)
         check("up behind the death of Redis", 0, up(folder))
