@@ -138,6 +138,19 @@ fn reads_exactly_an_image(rt: HostRuntime) -> Result<(), Fail> {
         reading(rt.alloc(), &IMAGE, 1, &[48])?,
         (Read::All(1), true)
     );
+    // where it gives many, 7 calls do: the head, the byte 1, 10 bytes to the number of terms, 4, 5 and 5 that must follow
+    // what was taken, and the byte 0; the 8th call finds the end
+    for call in 1..8 {
+        assert_eq!(rt;
+            reading(rt.alloc(), &IMAGE, 100, &[call])?,
+            (Read::ReadFault, true),
+            "{call}"
+        );
+    }
+    assert_eq!(rt;
+        reading(rt.alloc(), &IMAGE, 100, &[9])?,
+        (Read::All(1), true)
+    );
     Ok(())
 }
 

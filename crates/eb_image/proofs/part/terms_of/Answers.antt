@@ -18,7 +18,8 @@ pub slice_bounds-new-end : goal.slice_bounds-new-end
 slice_bounds-new-end c =
     let p = c.requires.part in
     let d = p.document in
-    let s = step c.args.bytes.now c.terms.at c.terms.counter d.terms (omega (arith, c.requires.count d p.within p.is)) (omega (arith, p.within.limits.bytes)) c.terms.invariant.within (c.terms.invariant.rest d p.within p.is) in
+    let s = step c.args.bytes.now c.terms.at c.terms.counter d.terms (omega (arith, c.requires.count d p.within p.is)) (omega (arith, p.within.limits.bytes))
+    c.terms.invariant.within (c.terms.invariant.rest d p.within p.is) in
     omega (arith, s.within, s.number, c.two_bytes_at.ensures.value)
 
 pub terms-preserved : goal.terms-preserved
@@ -37,6 +38,7 @@ terms-preserved c =
           let s = step c.args.bytes.now c.terms.at c.terms.counter d.terms (omega (arith, c.requires.count d fd e)) (omega (arith, fd.limits.bytes)) inv.within (inv.rest d fd e) in
           ap (λ n. drop (c.terms.at + 2 + n) c.args.bytes.now) (num ∙ s.number) ∙ s.rest;
       within = let d = p.document in
-          let s = step c.args.bytes.now c.terms.at c.terms.counter d.terms (omega (arith, c.requires.count d p.within p.is)) (omega (arith, p.within.limits.bytes)) inv.within (inv.rest d p.within p.is) in
+          let s = step c.args.bytes.now c.terms.at c.terms.counter d.terms (omega (arith, c.requires.count d p.within p.is)) (omega (arith, p.within.limits.bytes))
+          inv.within (inv.rest d p.within p.is) in
           omega (arith, s.within, s.number, num);
     }
