@@ -1,0 +1,22 @@
+use Rattle.std.proofs.Common.{◌+◌, ◌-◌, sym, ◌∙◌, arith}
+use Rattle.eb_image.proofs.Scans.{scan_on, scan_off, scan_ended}
+use Rattle.eb_image.proofs.scan.end_of_terms.Goals as goal
+
+pub returns-then-len-room-clause-value : goal.returns-then-len-room-clause-value
+returns-then-len-room-clause-value c =
+    let n = c.args.count - (c.terms.counter + 1) in
+    sym (scan_off (c.args.count - c.terms.counter) n c.terms.at c.terms.room c.two_bytes_at-len.result c.args.bytes.now (omega arith) c.two_bytes_at-len.ensures.value c.if-len-room.true)
+    ∙ c.terms.invariant.scan
+
+pub terms-preserved : goal.terms-preserved
+terms-preserved c =
+    let n = c.args.count - (c.terms.counter + 1) in
+    record {
+      scan = sym (scan_on (c.args.count - c.terms.counter) n c.terms.at c.terms.room c.two_bytes_at-len.result c.args.bytes.now (omega arith) c.two_bytes_at-len.ensures.value c.if-len-room.false)
+          ∙ c.terms.invariant.scan;
+      sum = omega arith;
+    }
+
+pub returns-clause-value : goal.returns-clause-value
+returns-clause-value c =
+    sym (scan_ended (c.args.count - c.terms.counter) c.terms.at c.terms.room c.args.bytes.now (omega arith)) ∙ c.terms.invariant.scan
