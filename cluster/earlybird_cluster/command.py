@@ -4,6 +4,7 @@ import json
 import os
 import queue
 import signal
+import subprocess
 import sys
 import threading
 import time
@@ -210,7 +211,13 @@ def do_up(words):
     if not words.redis:
         machine.start_redis(words.folder, words.fsync)
     redis = machine.connect(url_of(words))
-    names.write_config(redis, words.name, words.parts, words.words, words.retain)
+    program = words.words or names.words_of(redis, words.name)
+    # once without input: it is built where it isn't, and its words are tried before workers start with them
+    tried = subprocess.run([words.program, *program], stdin=subprocess.DEVNULL, stdout=subprocess.DEVNULL, check=False)
+    if tried.returncode != 0:
+        say("'%s %s' ends with %d on no input, so no worker is started" % (words.program, " ".join(program), tried.returncode))
+        return 2
+    names.write_config(redis, words.name, words.parts, program, words.retain)
     started = [part for part in range(words.parts) if machine.start_worker(words.folder, url_of(words), words.name, part, words.program)]
     router = Router(redis, words.name)
     for _ in range(100):

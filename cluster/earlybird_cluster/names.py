@@ -44,16 +44,19 @@ def read_config(redis, name):
     return int(found[b"parts"]), json.loads(found[b"words"]), int(found[b"retain"])
 
 
+def words_of(redis, name):
+    """The words of the program: those of the cluster that stands, else `run`."""
+    found = redis.hget(config(name), "words")
+    return ["run"] if found is None else json.loads(found)
+
+
 def write_config(redis, name, parts, words, retain):
-    """Sets a cluster up. One that stands keeps its partitions, since their number decides where a document lies; and its words
-    and what it retains where none are given here."""
+    """Sets a cluster up. One that stands keeps its partitions, since their number decides where a document lies, and what it
+    retains where nothing is given here."""
     found = redis.hgetall(config(name))
     if found and int(found[b"parts"]) != parts:
         raise NotSetUp("the cluster '%s' has %d partitions: 'earlybird-cluster grow' makes one with %d from its log"
                        % (name, int(found[b"parts"]), parts))
-    own = {b"words": json.dumps(["run"]).encode(), b"retain": b"0", **found}
-    if words:
-        own[b"words"] = json.dumps(words).encode()
-    if retain is not None:
-        own[b"retain"] = str(retain).encode()
-    redis.hset(config(name), mapping={"parts": parts, "words": own[b"words"], "retain": own[b"retain"]})
+    if retain is None:
+        retain = int(found.get(b"retain", 0))
+    redis.hset(config(name), mapping={"parts": parts, "words": json.dumps(words), "retain": retain})
