@@ -1,0 +1,5 @@
+pub mod Sorting
+pub mod Each
+pub mod Blends
+pub mod Copies
+pub mod Law
