@@ -1,5 +1,6 @@
 -- Lists of tokens, place by place.
-use Rattle.std.proofs.Common.{◌≡◌, ℕ, zero, suc, ◌+◌, ◌<◌, ◌≤◌, inl, inr, List, [], ◌∷◌, ◌++◌, length, get_or, set, map, take, min, Option, Some, None, append-nil, append_assoc, ◌*◌, ◌%◌, replicate, ◌-◌, ◌^◌, refl, ap, sym, ◌∙◌, subst, arith, length-append}
+use Rattle.std.proofs.Common.{◌≡◌, ℕ, zero, suc, ◌+◌, ◌<◌, ◌≤◌, inl, inr, List, [], ◌∷◌, ◌++◌, length, get_or, set, map, take}
+use Rattle.std.proofs.Common.{min, Option, Some, None, append-nil, append_assoc, ◌*◌, ◌%◌, replicate, ◌-◌, ◌^◌, refl, ap, sym, ◌∙◌, subst, arith, length-append}
 use Rattle.std.proofs.lemmas.Bool.{cases_eq, cases_lt}
 use Rattle.std.proofs.lemmas.List.{get_or-map, map-set, get_or-set_same, get_or-set_other}
 use Rattle.std.proofs.Math.Seq.{map-set_same}
@@ -21,7 +22,8 @@ use Rattle.eb_blend.specs.Parts.{indexes_of, histories_of, converter_indexes_of,
 pub made_at : (ts : List Token) (ws : List Words) (n : ℕ) (t : Token) (w : Words) → indexes_of ts ≡ ws → n < length ts → t ≡ get_or ts n t → w ≡ get_or ws n w → t.index ≡ w
 made_at ts ws n t w e lt a b = ap (λ (x : Token). x.index) a ∙ sym (get_or-map (λ (x : Token). x.index) ts n t w lt) ∙ ap (λ (z : List Words). get_or z n w) e ∙ sym b
 
-pub converter_made_at : (ts : List ConverterToken) (ws : List Words) (n : ℕ) (t : ConverterToken) (w : Words) → converter_indexes_of ts ≡ ws → n < length ts → t ≡ get_or ts n t → w ≡ get_or ws n w → t.index ≡ w
+pub converter_made_at : (ts : List ConverterToken) (ws : List Words) (n : ℕ) (t : ConverterToken) (w : Words) → converter_indexes_of ts ≡ ws → n < length ts → t ≡ get_or ts n t
+    → w ≡ get_or ws n w → t.index ≡ w
 converter_made_at ts ws n t w e lt a b = ap (λ (x : ConverterToken). x.index) a ∙ sym (get_or-map (λ (x : ConverterToken). x.index) ts n t w lt) ∙ ap (λ (z : List Words). get_or z n w) e ∙ sym b
 
 -- there are as many indexes as tokens
@@ -119,10 +121,12 @@ found_more fs ts n f t q k l m h e =
     left ∙ (λ i. h i ++ e i ∷ []) ∙ sym right
 
 -- one part more is looked at
-pub lengths_more : (ns : List ℕ) (ts : List Token) (n : ℕ) (x : ℕ) (t : Token) → n < length ns → n < length ts → t ≡ get_or ts n t → take n ns ≡ take n (lengths_of (histories_of ts)) → x ≡ length t.docs
+pub lengths_more : (ns : List ℕ) (ts : List Token) (n : ℕ) (x : ℕ) (t : Token) → n < length ns → n < length ts → t ≡ get_or ts n t
+    → take n ns ≡ take n (lengths_of (histories_of ts)) → x ≡ length t.docs
     → take (n + 1) (set ns n x) ≡ take (n + 1) (lengths_of (histories_of ts))
 lengths_more ns ts n x t l m a h e =
-    take_set ns n x l ∙ (λ i. h i ++ e i ∷ []) ∙ sym (take_next (lengths_of (histories_of ts)) n (length t.docs) (omega (arith, m, length_map length (histories_of ts), length_histories ts)) (own ts n t m a))
+    let inside : n < length (lengths_of (histories_of ts)) = omega (arith, m, length_map length (histories_of ts), length_histories ts) in
+    take_set ns n x l ∙ (λ i. h i ++ e i ∷ []) ∙ sym (take_next (lengths_of (histories_of ts)) n (length t.docs) inside (own ts n t m a))
   where
     take_next : (xs : List ℕ) (n y : ℕ) → n < length xs → get_or xs n y ≡ y → take (n + 1) xs ≡ take n xs ++ y ∷ []
     take_next [] n y lt e = absurd (omega (arith, lt))

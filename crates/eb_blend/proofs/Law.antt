@@ -1,5 +1,6 @@
 -- The law of a blend.
-use Rattle.std.proofs.Common.{◌≡◌, ◌≢◌, ℕ, zero, suc, ◌+◌, ◌-◌, ◌%◌, ◌<◌, ◌≤◌, ◌==◌, inl, inr, Bool, cond, true, false, List, [], ◌∷◌, ◌++◌, length, take, map, refl, ap, sym, ◌∙◌, subst, arith, append-nil, append_assoc}
+use Rattle.std.proofs.Common.{◌≡◌, ◌≢◌, ℕ, zero, suc, ◌+◌, ◌-◌, ◌%◌, ◌<◌, ◌≤◌, ◌==◌, inl, inr, Bool, cond, true}
+use Rattle.std.proofs.Common.{false, List, [], ◌∷◌, ◌++◌, length, take, map, refl, ap, sym, ◌∙◌, subst, arith, append-nil, append_assoc}
 use Rattle.std.proofs.lemmas.Bool.{cases_Bool, cases_eq, eq-eqb}
 use Rattle.std.proofs.lemmas.Bool.Decides.{eqb_tells}
 use Rattle.std.proofs.Math.Nat.{mod-lt}
@@ -36,7 +37,8 @@ answers_are q k hs (p ∷ ps) = λ i. answer q k (take-length (hs p) i) ++ answe
 
 each-append : (q : Tree) (ks : ℕ → ℕ) (hs : ℕ → List Doc) (ps rs : List ℕ) → each_answer q ks hs (ps ++ rs) ≡ each_answer q ks hs ps ++ each_answer q ks hs rs
 each-append q ks hs [] rs = refl
-each-append q ks hs (p ∷ ps) rs = ap (λ (z : List ℕ). answer q (ks p) (hs p) ++ z) (each-append q ks hs ps rs) ∙ sym (append_assoc (answer q (ks p) (hs p)) (each_answer q ks hs ps) (each_answer q ks hs rs))
+each-append q ks hs (p ∷ ps) rs = ap (λ (z : List ℕ). answer q (ks p) (hs p) ++ z) (each-append q ks hs ps rs)
+    ∙ sym (append_assoc (answer q (ks p) (hs p)) (each_answer q ks hs ps) (each_answer q ks hs rs))
 
 -- the part isn't one of these
 abbrev IsAbsent : ℕ → List ℕ → Type 0
@@ -44,7 +46,8 @@ IsAbsent m [] = Unit {0}
 IsAbsent m (p ∷ ps) = (p ≢ m) × IsAbsent m ps
 
 -- what is the same at all other parts
-each_same : (q : Tree) (ks ls : ℕ → ℕ) (hs gs : ℕ → List Doc) (m : ℕ) (ps : List ℕ) → IsAbsent m ps → ((p : ℕ) → p ≢ m → ks p ≡ ls p) → ((p : ℕ) → p ≢ m → hs p ≡ gs p) → each_answer q ks hs ps ≡ each_answer q ls gs ps
+each_same : (q : Tree) (ks ls : ℕ → ℕ) (hs gs : ℕ → List Doc) (m : ℕ) (ps : List ℕ) → IsAbsent m ps → ((p : ℕ) → p ≢ m → ks p ≡ ls p) → ((p : ℕ) → p ≢ m → hs p ≡ gs p)
+    → each_answer q ks hs ps ≡ each_answer q ls gs ps
 each_same q ks ls hs gs m [] a k h = refl
 each_same q ks ls hs gs m (p ∷ ps) a k h = λ i. answer q (k p a.0 i) (h p a.0 i) ++ each_same q ks ls hs gs m ps a.1 k h i
 
@@ -199,7 +202,8 @@ law : (q : Tree) (parts : ℕ) → 1 ≤ parts → (docs : List Doc) → HasRisi
 law q parts some = by_push (λ docs. HasRisingIds docs → (k : ℕ) (ks : ℕ → ℕ) → ((p : ℕ) → k ≤ ks p) → take k (falling (each_answer q ks (part parts docs) (range_with_len 0 parts))) ≡ answer q k docs)
     (λ r k ks le. ap (λ (z : List ℕ). take k (falling z)) (each_none q ks parts (range_with_len 0 parts)) ∙ take_nothing k ∙ sym (nothing_found q k)) more
   where
-    more : (docs : List Doc) (d : Doc) → (HasRisingIds docs → (k : ℕ) (ks : ℕ → ℕ) → ((p : ℕ) → k ≤ ks p) → take k (falling (each_answer q ks (part parts docs) (range_with_len 0 parts))) ≡ answer q k docs)
+    more : (docs : List Doc) (d : Doc)
+        → (HasRisingIds docs → (k : ℕ) (ks : ℕ → ℕ) → ((p : ℕ) → k ≤ ks p) → take k (falling (each_answer q ks (part parts docs) (range_with_len 0 parts))) ≡ answer q k docs)
         → HasRisingIds (docs ++ d ∷ []) → (k : ℕ) (ks : ℕ → ℕ) → ((p : ℕ) → k ≤ ks p)
         → take k (falling (each_answer q ks (part parts (docs ++ d ∷ [])) (range_with_len 0 parts))) ≡ answer q k (docs ++ d ∷ [])
     more docs d ih r zero ks le = sym (answer_none q (docs ++ d ∷ []))
@@ -219,7 +223,8 @@ law q parts some = by_push (λ docs. HasRisingIds docs → (k : ℕ) (ks : ℕ �
               let front : List ℕ = each_answer q ls hs o.before in
               let back : List ℕ = answer q n (hs m) ++ each_answer q ls hs o.after in
               let own : answer q (ks m) (gs m) ≡ d.id ∷ answer q n (hs m) = (λ i. answer q (full i) (own_part parts docs d i)) ∙ push_match q n (hs m) d e in
-              let all : each_answer q ks gs ps ≡ front ++ d.id ∷ back = changed_at q ks ls gs hs m ps o (lowered_other m ks) other ∙ ap (λ (z : List ℕ). front ++ (z ++ each_answer q ls hs o.after)) own in
+              let all : each_answer q ks gs ps ≡ front ++ d.id ∷ back = changed_at q ks ls gs hs m ps o (lowered_other m ks) other
+              ∙ ap (λ (z : List ℕ). front ++ (z ++ each_answer q ls hs o.after)) own in
               let less : each_answer q ls hs ps ≡ front ++ back = each_at q ls hs m ps o ∙ ap (λ x. front ++ (answer q x (hs m) ++ each_answer q ls hs o.after)) (lowered_own m ks) in
               let low : (p : ℕ) → AllBelow d.id (part parts docs p) = λ p. filter_below d.id (λ (x : Doc). x.id % parts == p) docs f.1 in
               let top = falling_greatest front back d.id (each_below d.id q ls hs o.before low)

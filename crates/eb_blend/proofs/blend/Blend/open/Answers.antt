@@ -23,7 +23,10 @@ loop-part-preserved c =
       number = ap length is ∙ length-append c.loop-part.indexes.items (index ∷ []) ∙ ap (λ m. m + 1) inv.number;
       writers = ap indexes_of ws ∙ map_push (λ (x : Token). x.index) c.loop-part.writers.items c.in_ok-index.writer ∙ (λ i. inv.writers i ++ (w i).index ∷ []) ∙ sym is;
       empty = ap histories_of ws ∙ map_push (λ (x : Token). x.docs) c.loop-part.writers.items c.in_ok-index.writer ∙ (λ i. inv.empty i ++ (w i).docs ∷ []) ∙ replicate_push n [];
-      converters = ap converter_indexes_of vs ∙ map_push (λ (x : ConverterToken). x.index) c.loop-part.converters.items c.in_ok-index.converter ∙ (λ i. inv.converters i ++ (v i).index ∷ []) ∙ sym is;
-      unknown = ap converter_histories_of vs ∙ map_push (λ (x : ConverterToken). x.docs) c.loop-part.converters.items c.in_ok-index.converter ∙ (λ i. inv.unknown i ++ (v i).docs ∷ []) ∙ replicate_push n [];
-      none = ap converted_of vs ∙ map_push (λ (x : ConverterToken). x.converted) c.loop-part.converters.items c.in_ok-index.converter ∙ (λ i. inv.none i ++ (v i).converted ∷ []) ∙ replicate_push n 0;
+      converters = ap converter_indexes_of vs ∙ map_push (λ (x : ConverterToken). x.index) c.loop-part.converters.items c.in_ok-index.converter
+          ∙ (λ i. inv.converters i ++ (v i).index ∷ []) ∙ sym is;
+      unknown = ap converter_histories_of vs ∙ map_push (λ (x : ConverterToken). x.docs) c.loop-part.converters.items c.in_ok-index.converter
+          ∙ (λ i. inv.unknown i ++ (v i).docs ∷ []) ∙ replicate_push n [];
+      none = ap converted_of vs ∙ map_push (λ (x : ConverterToken). x.converted) c.loop-part.converters.items c.in_ok-index.converter ∙ (λ i. inv.none i ++ (v i).converted ∷ [])
+          ∙ replicate_push n 0;
     }

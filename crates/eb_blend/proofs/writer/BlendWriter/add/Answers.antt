@@ -52,7 +52,8 @@ returns-clause-ok g c =
     let ix = ap (λ (x : WriterTokens). x.indexes) c.self.view_is in
     let la = ap (λ (x : WriterTokens). x.last) c.self.view_is in
     let setting : c.index.result.now.setting ≡ c.args.blend.now.setting =
-    ap (λ (x : Words). x.setting) c.index.ensures ∙ All-get_or (λ (x : Words). x.setting ≡ c.blend.inside.config) ws n c.index.result.now lw c.blend.invariant.0 ∙ ap (λ (x : Parts). x.setting) c.blend.view_is in
+    ap (λ (x : Words). x.setting) c.index.ensures ∙ All-get_or (λ (x : Words). x.setting ≡ c.blend.inside.config) ws n c.index.result.now lw c.blend.invariant.0
+    ∙ ap (λ (x : Parts). x.setting) c.blend.view_is in
     let here : history (histories_of ts) n ≡ t.docs = history_at ts n t lt c.index_mut.ensures.value in
     let part : n ≡ part_of c.args.self.now.histories d = at ∙ (λ i. d.id % (sym (length_histories ts) ∙ ap length hs) i) in
     let none = c.not_below.ensures.none in
