@@ -1,9 +1,9 @@
 -- Lists of tokens, place by place.
 use Rattle.std.proofs.Common.{◌≡◌, ℕ, zero, suc, ◌+◌, ◌<◌, ◌≤◌, inl, inr, List, [], ◌∷◌, ◌++◌, length, get_or, set, map, take}
-use Rattle.std.proofs.Common.{min, Option, Some, None, append-nil, append_assoc, ◌*◌, ◌%◌, replicate, ◌-◌, ◌^◌, refl, ap, sym, ◌∙◌, subst, arith, length-append}
+use Rattle.std.proofs.Common.{◌≢◌, min, Option, Some, None, append-nil, append_assoc, ◌*◌, ◌%◌, replicate, ◌-◌, ◌^◌, refl, ap, sym, ◌∙◌, subst, arith, length-append}
 use Rattle.std.proofs.lemmas.Bool.{cases_eq, cases_lt}
 use Rattle.std.proofs.lemmas.List.{get_or-map, map-set, get_or-set_same, get_or-set_other}
-use Rattle.std.proofs.Math.Seq.{map-set_same}
+use Rattle.std.proofs.Math.Seq.{map-set_same, get_or-append_seam}
 use Rattle.std.specs.List.{sum}
 use Rattle.std.proofs.lemmas.List.Sums.{sum_by_push, sum_by-cons}
 use Rattle.std.proofs.Math.Nat.{mod-lt}
@@ -14,9 +14,10 @@ use Rattle.eb_cursor.specs.Frames.{ids_of}
 use mathlib.Core.List.{IsPrefix}
 use Rattle.eb_base.specs.Document.{Doc}
 use Rattle.eb_place.proofs.Prefixes.{prefix_self, prefix_trans}
+use Rattle.eb_place.specs.Room.{cut}
 use Rattle.eb_table.specs.Known.{Words}
 use Rattle.eb_engine.specs.Tokens.{Token, ConverterToken}
-use Rattle.eb_blend.specs.Parts.{indexes_of, histories_of, converter_indexes_of, converter_histories_of, history, lengths_of, counted, joined, part_of, with_document, AreFronts}
+use Rattle.eb_blend.specs.Parts.{indexes_of, histories_of, converter_indexes_of, converter_histories_of, history, lengths_of, counted, joined, part_of, with_document, AreFronts, converted_of, few_counted, segments_of}
 
 -- the token of a part was made with the index of the part
 pub made_at : (ts : List Token) (ws : List Words) (n : ℕ) (t : Token) (w : Words) → indexes_of ts ≡ ws → n < length ts → t ≡ get_or ts n t → w ≡ get_or ws n w → t.index ≡ w
@@ -120,6 +121,12 @@ found_more fs ts n f t q k l m h e =
     ∙ take_set (map (answer q k) (histories_of ts)) n (answer q k t.docs) (omega (arith, m, length_map (answer q k) (histories_of ts), length_histories ts)) in
     left ∙ (λ i. h i ++ e i ∷ []) ∙ sym right
 
+-- one number more
+take_next : (xs : List ℕ) (n y : ℕ) → n < length xs → get_or xs n y ≡ y → take (n + 1) xs ≡ take n xs ++ y ∷ []
+take_next [] n y lt e = absurd (omega (arith, lt))
+take_next (x ∷ xs) zero y lt e = ap (λ z. z ∷ []) e
+take_next (x ∷ xs) (suc n) y lt e = let s : suc n + 1 ≡ suc (n + 1) = omega arith in rw s (ap (λ z. x ∷ z) (take_next xs n y (omega (arith, lt)) e))
+
 -- one part more is looked at
 pub lengths_more : (ns : List ℕ) (ts : List Token) (n : ℕ) (x : ℕ) (t : Token) → n < length ns → n < length ts → t ≡ get_or ts n t
     → take n ns ≡ take n (lengths_of (histories_of ts)) → x ≡ length t.docs
@@ -128,11 +135,6 @@ lengths_more ns ts n x t l m a h e =
     let inside : n < length (lengths_of (histories_of ts)) = omega (arith, m, length_map length (histories_of ts), length_histories ts) in
     take_set ns n x l ∙ (λ i. h i ++ e i ∷ []) ∙ sym (take_next (lengths_of (histories_of ts)) n (length t.docs) inside (own ts n t m a))
   where
-    take_next : (xs : List ℕ) (n y : ℕ) → n < length xs → get_or xs n y ≡ y → take (n + 1) xs ≡ take n xs ++ y ∷ []
-    take_next [] n y lt e = absurd (omega (arith, lt))
-    take_next (x ∷ xs) zero y lt e = ap (λ z. z ∷ []) e
-    take_next (x ∷ xs) (suc n) y lt e = let s : suc n + 1 ≡ suc (n + 1) = omega arith in rw s (ap (λ z. x ∷ z) (take_next xs n y (omega (arith, lt)) e))
-
     own : (ts : List Token) (n : ℕ) (t : Token) → n < length ts → t ≡ get_or ts n t → get_or (lengths_of (histories_of ts)) n (length t.docs) ≡ length t.docs
     own [] n t lt a = absurd (omega (arith, lt))
     own (u ∷ ts) zero t lt a = ap (λ (z : Token). length z.docs) (sym a)
@@ -225,3 +227,105 @@ counted_more hs d count some e =
 pub none_is : (o : Option ℕ) → ((x : ℕ) → o ≡ Some x → ⊥) → o ≡ None
 none_is None h = refl
 none_is (Some x) h = absurd (h x refl)
+
+-- ---- readers are taken in from the last to the first
+
+-- a front without its last element
+whole_is : {A : Type 0} (new l all : List A) (r : A) → l ≡ new ++ r ∷ [] → (p : IsPrefix l all) → new ++ r ∷ p.0 ≡ all
+whole_is new l all r e p = sym (append_assoc new (r ∷ []) p.0) ∙ ap (λ z. z ++ p.0) (sym e) ∙ p.1
+
+pub front_less : {A : Type 0} (new l all : List A) (r : A) → l ≡ new ++ r ∷ [] → IsPrefix l all → IsPrefix new all
+front_less new l all r e p = (r ∷ p.0, whole_is new l all r e p)
+
+pub last_of_front : {A : Type 0} (new l all : List A) (r : A) → l ≡ new ++ r ∷ [] → IsPrefix l all → r ≡ get_or all (length new) r
+last_of_front new l all r e p = sym (get_or-append_seam new r p.0 r) ∙ ap (λ z. get_or z (length new) r) (whole_is new l all r e p)
+
+pub inside_front : {A : Type 0} (new l all : List A) (r : A) → l ≡ new ++ r ∷ [] → IsPrefix l all → length new < length all
+inside_front new l all r e p = omega (arith, ap length (whole_is new l all r e p), length-append new (r ∷ p.0))
+
+-- one part more has taken in its reader
+pub met_more : (ts rs : List Token) (n : ℕ) (t new r : Token) → n < length ts → n < length rs → t ≡ get_or ts n t → r ≡ get_or rs n r → new ≡ t → IsPrefix r.docs new.docs
+    → ((p : ℕ) → n + 1 ≤ p → IsPrefix (history (histories_of rs) p) (history (histories_of ts) p)) → (p : ℕ) → n ≤ p → IsPrefix (history (histories_of rs) p) (history (histories_of ts) p)
+met_more ts rs n t new r l m a b e pre f p le =
+    let here = sym (history_at rs n r m b) in
+    let there = sym (history_at ts n t l a ∙ ap (λ (x : Token). x.docs) (sym e)) in
+    elim (cases_eq p n) [
+      | inl s ↦ subst (λ k. IsPrefix (history (histories_of rs) k) (history (histories_of ts) k)) (sym s) (subst (λ (z : List Doc × List Doc). IsPrefix z.0 z.1) (λ i. (here i, there i)) pre)
+      | inr ne ↦ f p (omega (arith, le, ne))
+    ]
+
+-- where there is none left, all are taken in
+pub none_before : (hs : List (List Doc)) (p : ℕ) (h : List Doc) → length hs ≤ p → IsPrefix (history hs p) h
+none_before hs p h le = subst (λ (z : List Doc). IsPrefix z h) (sym (beyond hs p le)) (h, refl)
+
+pub no_token : (o : Option Token) → ((x : Token) → o ≡ Some x → ⊥) → o ≡ None
+no_token None h = refl
+no_token (Some x) h = absurd (h x refl)
+
+-- ---- a converter's token is changed
+
+pub converted_set : (cs : List ConverterToken) (n : ℕ) (v new : ConverterToken) → v ≡ get_or cs n v → new.converted ≡ v.converted → converted_of (set cs n new) ≡ converted_of cs
+converted_set cs n v new a e = map-set_same (λ (x : ConverterToken). x.converted) cs n new v (e ∙ ap (λ (x : ConverterToken). x.converted) a)
+
+new_history : (cs : List ConverterToken) (n : ℕ) (new : ConverterToken) → n < length cs → history (converter_histories_of (set cs n new)) n ≡ new.docs
+new_history cs n new lt = ap (λ (z : List (List Doc)). history z n) (map-set (λ (x : ConverterToken). x.docs) cs n new)
+    ∙ get_or-set_same (converter_histories_of cs) n new.docs [] (omega (arith, lt, length_converter_histories cs))
+
+pub other_history : (cs : List ConverterToken) (n : ℕ) (new : ConverterToken) (p : ℕ) → p ≢ n → history (converter_histories_of (set cs n new)) p ≡ history (converter_histories_of cs) p
+other_history cs n new p ne = ap (λ (z : List (List Doc)). history z p) (map-set (λ (x : ConverterToken). x.docs) cs n new) ∙ get_or-set_other (converter_histories_of cs) n p new.docs [] ne
+
+pub new_converted : (cs : List ConverterToken) (n : ℕ) (new : ConverterToken) → n < length cs → get_or (converted_of (set cs n new)) n 0 ≡ new.converted
+new_converted cs n new lt = ap (λ (z : List ℕ). get_or z n 0) (map-set (λ (x : ConverterToken). x.converted) cs n new)
+    ∙ get_or-set_same (converted_of cs) n new.converted 0 (omega (arith, lt, length_map (λ (x : ConverterToken). x.converted) cs))
+
+pub other_converted : (cs : List ConverterToken) (n : ℕ) (new : ConverterToken) (p : ℕ) → p ≢ n → get_or (converted_of (set cs n new)) p 0 ≡ get_or (converted_of cs) p 0
+other_converted cs n new p ne = ap (λ (z : List ℕ). get_or z p 0) (map-set (λ (x : ConverterToken). x.converted) cs n new) ∙ get_or-set_other (converted_of cs) n p new.converted 0 ne
+
+-- one converter more has taken in its reader
+pub converter_met_more : (cs : List ConverterToken) (rs : List Token) (n : ℕ) (new : ConverterToken) (r : Token) → n < length cs → n < length rs → r ≡ get_or rs n r → IsPrefix r.docs new.docs
+    → ((p : ℕ) → n + 1 ≤ p → IsPrefix (history (histories_of rs) p) (history (converter_histories_of cs) p))
+    → (p : ℕ) → n ≤ p → IsPrefix (history (histories_of rs) p) (history (converter_histories_of (set cs n new)) p)
+converter_met_more cs rs n new r l m b pre f p le =
+    let here = sym (history_at rs n r m b) in
+    let there = sym (new_history cs n new l) in
+    elim (cases_eq p n) [
+      | inl s ↦ subst (λ k. IsPrefix (history (histories_of rs) k) (history (converter_histories_of (set cs n new)) k)) (sym s)
+          (subst (λ (z : List Doc × List Doc). IsPrefix z.0 z.1) (λ i. (here i, there i)) pre)
+      | inr ne ↦ subst (λ (z : List Doc). IsPrefix (history (histories_of rs) p) z) (sym (other_history cs n new p ne)) (f p (omega (arith, le, ne)))
+    ]
+
+-- ---- a sum over the parts
+
+pub few_push : (xs : List ℕ) (n x count : ℕ) → n < length xs → get_or xs n x ≡ x → count ≡ few_counted (take n xs) → min (count + x) (2 ^ 32 - 1) ≡ few_counted (take (n + 1) xs)
+few_push xs n x count lt e c =
+    let s : sum (take (n + 1) xs) ≡ sum (take n xs) + x = ap sum (take_next xs n x lt e) ∙ sum_by_push (λ (z : ℕ). z) (take n xs) x in
+    omega (arith, c, s)
+
+pub few_whole : (xs : List ℕ) (n count : ℕ) → length xs ≤ n → count ≡ few_counted (take n xs) → count ≡ few_counted xs
+few_whole xs n count le e = e ∙ ap few_counted (take_all xs n le)
+  where
+    take_all : (xs : List ℕ) (n : ℕ) → length xs ≤ n → take n xs ≡ xs
+    take_all [] zero le = refl
+    take_all [] (suc n) le = refl
+    take_all (x ∷ xs) zero le = absurd (omega (arith, le))
+    take_all (x ∷ xs) (suc n) le = ap (λ z. x ∷ z) (take_all xs n (omega (arith, le)))
+
+pub converted_got : (cs : List ConverterToken) (n : ℕ) (c : ConverterToken) (x : ℕ) → n < length cs → c ≡ get_or cs n c → x ≡ c.converted → get_or (converted_of cs) n x ≡ x
+converted_got cs n c x lt a e = get_or-map (λ (z : ConverterToken). z.converted) cs n c x lt ∙ ap (λ (z : ConverterToken). z.converted) (sym a) ∙ sym e
+
+pub length_converted : (cs : List ConverterToken) → length (converted_of cs) ≡ length cs
+length_converted cs = length_map (λ (z : ConverterToken). z.converted) cs
+
+-- the number of segments of a part
+abbrev pub segments_in : Token → ℕ
+segments_in t = length (cut t.index.setting t.docs)
+
+pub segments_are : (ts : List Token) → segments_of (indexes_of ts) (histories_of ts) ≡ map segments_in ts
+segments_are [] = refl
+segments_are (t ∷ ts) = ap (λ z. segments_in t ∷ z) (segments_are ts)
+
+pub segments_got : (ts : List Token) (n : ℕ) (t : Token) (x : ℕ) → n < length ts → t ≡ get_or ts n t → x ≡ segments_in t → get_or (map segments_in ts) n x ≡ x
+segments_got ts n t x lt a e = get_or-map segments_in ts n t x lt ∙ ap segments_in (sym a) ∙ sym e
+
+pub length_segments : (ts : List Token) → length (map segments_in ts) ≡ length ts
+length_segments ts = length_map segments_in ts

@@ -2,4 +2,5 @@ pub mod Sorting
 pub mod Each
 pub mod Blends
 pub mod Copies
+pub mod Closings
 pub mod Law

@@ -1,10 +1,11 @@
 -- What a blend, its tokens and its frames are to a contract.
-use Rattle.std.specs.Prelude.{◌≡◌, ℕ, ◌-◌, ◌<◌, ◌%◌, ◌^◌, List, [], ◌∷◌, ◌++◌, map, length, get_or, set, min, sum, Option, Some, None}
+use Rattle.std.specs.Prelude.{◌≡◌, ℕ, ◌+◌, ◌-◌, ◌<◌, ◌%◌, ◌^◌, List, [], ◌∷◌, ◌++◌, map, length, get_or, set, min, sum, Option, Some, None}
 use mathlib.Core.List.{IsPrefix}
 use Rattle.eb_base.specs.Document.{Doc}
 use Rattle.eb_base.specs.Setting.{Setting}
+use Rattle.eb_place.specs.Room.{cut}
 use Rattle.eb_table.specs.Known.{Words}
-use Rattle.eb_engine.specs.Tokens.{Token, ConverterToken}
+use Rattle.eb_engine.specs.Tokens.{Token, ConverterToken, AreClosed}
 
 -- the setting of each part, and the index of each part
 pub record Parts : Type 0 where
@@ -52,6 +53,16 @@ lengths_of hs = map length hs
 abbrev pub counted : List ℕ → ℕ
 counted ns = min (sum ns) (2 ^ 64 - 1)
 
+-- the same at 32 bits
+abbrev pub few_counted : List ℕ → ℕ
+few_counted ns = min (sum ns) (2 ^ 32 - 1)
+
+-- the number of segments of each part
+abbrev pub segments_of : List Words → List (List Doc) → List ℕ
+segments_of [] hs = []
+segments_of (w ∷ ws) [] = []
+segments_of (w ∷ ws) (h ∷ hs) = length (cut w.setting h) ∷ segments_of ws hs
+
 -- what a part holds of the histories
 abbrev pub history : List (List Doc) → ℕ → List Doc
 history hs p = get_or hs p []
@@ -73,6 +84,14 @@ IsAbove (Some last) id = last < id
 pub record AreFronts (hs all : List (List Doc)) : Type 0 where
   pub parts : length hs ≡ length all
   pub each : (p : ℕ) → IsPrefix (history hs p) (history all p)
+
+-- in each part the segments that are converted are closed in the history
+pub record AllClosed (σ : Setting) (hs : List (List Doc)) (converted : List ℕ) : Type 0 where
+  pub each : (p : ℕ) → p < length hs → AreClosed σ (history hs p) (get_or converted p 0)
+
+-- in each part each segment whose following segment has a document is converted
+pub record AllConverted (σ : Setting) (hs : List (List Doc)) (converted : List ℕ) : Type 0 where
+  pub each : (p s : ℕ) → p < length hs → s + 1 < length (cut σ (history hs p)) → s < get_or converted p 0
 
 -- the lists one behind the other
 abbrev pub joined : List (List ℕ) → List ℕ

@@ -19,3 +19,6 @@ pub use laws::blend_is_answer;
 pub use reader::BlendReader;
 pub use refusal::BlendRefusal;
 pub use writer::BlendWriter;
+
+#[cfg(test)]
+mod tests;

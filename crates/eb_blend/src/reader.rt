@@ -38,6 +38,13 @@ impl BlendReader {
         BlendReader { readers }
     }
 
+    pub(crate) fn into_readers(self) -> Vec<Reader>
+        ensures indexes { indexes_of result.items ≡ self.indexes }
+        ensures histories { histories_of result.items ≡ self.histories }
+    {
+        self.readers
+    }
+
     /// Searches the parts one after the other. Of each part it searches the documents that are accepted when it loads
     /// the part's count: they begin with all documents of the part that this reader knew before, and it knows them
     /// from then on. Afterwards the frame holds the ids of the newest `k` of them all that its query matches, from the

@@ -1,13 +1,17 @@
 ghost use Rattle.std.specs.Prelude.{◌≡◌, ◌≤◌, ◌<◌, [], replicate, None, Some, IfOk, IfErr, IfSome, OnErr, ℕ, sum};
 ghost use Rattle.eb_place.specs.Room.{HasRoom};
-ghost use Rattle.eb_blend.specs.Parts.{WriterTokens, indexes_of, histories_of, lengths_of, counted, history, part_of, with_document, IsAbove};
+ghost use Rattle.eb_blend.specs.Parts.{WriterTokens, indexes_of, histories_of, converter_indexes_of, converter_histories_of, converted_of, lengths_of, counted};
+ghost use Rattle.eb_blend.specs.Parts.{few_counted, segments_of, history, part_of, with_document, IsAbove, AreFronts, AllClosed};
+ghost use Rattle.eb_base.specs.Setting.{Setting};
+ghost use Rattle.std.specs.List.{All};
 ghost use Rattle.eb_blend.specs.Refused.{Refuses};
 
 use crate::blend::Blend;
+use crate::converter::BlendConverter;
 use crate::reader::BlendReader;
 use crate::refusal::BlendRefusal;
 use eb_base::{Document, Gate, NoMemory};
-use eb_engine::{Index, Reader, Writer};
+use eb_engine::{Converter, Index, Reader, Writer};
 use eb_writer::Full;
 use std::alloc::Global;
 use std::marker::Model;
@@ -83,6 +87,17 @@ impl BlendWriter {
         self.accepted
     }
 
+    /// The sum of the parts' numbers of segments.
+    pub fn segments(&self) -> u32
+        ensures { result ≡ few_counted (segments_of self.now.indexes self.now.histories) }
+    {
+        let mut segments = 0u32;
+        for writer in &self.writers {
+            segments = segments.saturating_add(writer.segments());
+        }
+        segments
+    }
+
     /// A reader that knows all histories. The writer must have been made with this blend. Takes memory for the list
     /// of the parts' readers.
     pub fn reader(&mut self, alloc: Global, blend: &Blend) -> Result<BlendReader, NoMemory>
@@ -92,6 +107,38 @@ impl BlendWriter {
     {
         let readers = readers_of(alloc, self.writers.as_mut_slice(), blend.parts.as_slice())?;
         Ok(BlendReader::new(readers))
+    }
+
+    /// Takes in a reader: what it knew of each part is a front of that part's history. Both must have been made with
+    /// this blend. Takes no memory.
+    pub fn meet(&mut self, blend: &Blend, reader: BlendReader)
+        requires this { self.old.indexes ≡ blend.now.indexes }
+        requires reader { reader.indexes ≡ blend.now.indexes }
+        ensures this { self.new ≡ self.old }
+        ensures reader { AreFronts reader.histories self.new.histories }
+    {
+        meet_each(
+            self.writers.as_mut_slice(),
+            blend.parts.as_slice(),
+            reader.into_readers(),
+        );
+    }
+
+    /// Takes in what the converter knows: of each part it is a front of that part's history, in which each segment
+    /// that it converted is closed. Both must have been made with this blend. Takes no memory.
+    pub fn hear(&mut self, blend: &Blend, converter: &mut BlendConverter)
+        requires this { self.old.indexes ≡ blend.now.indexes }
+        requires converter { converter.old.indexes ≡ blend.now.indexes }
+        ensures this { self.new ≡ self.old }
+        ensures converter { converter.new ≡ converter.old }
+        ensures told { AreFronts converter.old.histories self.new.histories }
+        ensures closed { AllClosed blend.now.setting self.new.histories converter.old.converted }
+    {
+        hear_each(
+            self.writers.as_mut_slice(),
+            blend.parts.as_slice(),
+            converter.converters.as_mut_slice(),
+        );
     }
 }
 
@@ -122,4 +169,31 @@ fn readers_of(
         readers.push(reader)?;
     }
     Ok(readers)
+}
+
+// Each writer takes in the reader of its part.
+fn meet_each(writers: &mut [Writer], indexes: &[Index], mut readers: Vec<Reader>)
+    requires made { indexes_of writers.old ≡ indexes.now }
+    requires readers { indexes_of readers.items ≡ indexes.now }
+    ensures same { writers.new ≡ writers.old }
+    ensures fronts { AreFronts (histories_of readers.items) (histories_of writers.new) }
+{
+    while let Some(reader) = readers.pop() {
+        let at = readers.len();
+        writers[at].meet(&indexes[at], reader);
+    }
+}
+
+// Each writer takes in what the converter of its part knows.
+fn hear_each(writers: &mut [Writer], indexes: &[Index], converters: &mut [Converter])
+    requires made { indexes_of writers.old ≡ indexes.now }
+    requires converters { converter_indexes_of converters.old ≡ indexes.now }
+    ensures same { writers.new ≡ writers.old }
+    ensures converters { converters.new ≡ converters.old }
+    ensures fronts { AreFronts (converter_histories_of converters.old) (histories_of writers.new) }
+    ensures closed { (σ : Setting) → All (λ w. w.setting ≡ σ) indexes.now → AllClosed σ (histories_of writers.new) (converted_of converters.old) }
+{
+    for at in 0..writers.len() {
+        writers[at].hear(&indexes[at], &mut converters[at]);
+    }
 }
