@@ -35,20 +35,36 @@ fn ask(
     Ok(())
 }
 
+// Adds so many made documents, and asks after each.
+fn fill(
+    rt: &impl Abort,
+    alloc: Global,
+    blend: &Blend,
+    writer: &mut BlendWriter,
+    history: &mut Vec<Document>,
+) -> Result<(), Fail>
+    requires made { writer.old.indexes ≡ blend.now.indexes }
+    requires parts { length blend.now.indexes ≡ 4 }
+    ensures { writer.new.indexes ≡ writer.old.indexes }
+{
+    for number in 0..300u64 {
+        let document = document(alloc, number + number / 7)?;
+        if writer.add(blend, &document, &OpenGate).is_err() {
+            return Err(Fail::new("refused"));
+        }
+        history.push(document)?;
+        ask(rt, alloc, blend, writer, history.as_slice())?;
+    }
+    Ok(())
+}
+
 #[test]
 fn four_parts_answer_as_one_history(rt: HostRuntime) -> Result<(), Fail> {
     let alloc = rt.alloc();
     let config = Config::new(10, 10, 256)?;
     let (blend, mut writer, mut converter) = Blend::open(alloc, 4, config)?;
     let mut history = Vec::new(alloc);
-    for number in 0..300u64 {
-        let document = document(alloc, number + number / 7)?;
-        if writer.add(&blend, &document, &OpenGate).is_err() {
-            return Err(Fail::new("refused"));
-        }
-        history.push(document)?;
-        ask(&rt, alloc, &blend, &mut writer, history.as_slice())?;
-    }
+    fill(&rt, alloc, &blend, &mut writer, &mut history)?;
     let reader = writer.reader(alloc, &blend)?;
     converter.meet(&blend, reader);
     let grown = converter.convert_all(&blend);

@@ -1,5 +1,5 @@
 use Rattle.std.proofs.Common.{◌≡◌}
-use Rattle.eb_blend.proofs.tests.table.four_parts_answer_as_one_history.Given as goal
+use Rattle.eb_blend.proofs.tests.table.fill.Given as goal
 
 abbrev pub invariant-loop-number : goal.invariant-loop-number
 invariant-loop-number g l = l.writer.indexes ≡ l.blend.indexes
