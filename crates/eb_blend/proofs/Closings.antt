@@ -1,0 +1,51 @@
+-- Which segments are converted, and which are closed.
+use Rattle.std.proofs.Common.{◌≡◌, ℕ, ◌+◌, ◌<◌, ◌≤◌, inl, inr, List, length, get_or, set, refl, ap, sym, ◌∙◌, subst, arith}
+use Rattle.std.proofs.lemmas.Bool.{cases_eq}
+use Rattle.std.proofs.lemmas.List.{get_or-map}
+use mathlib.Core.List.{IsPrefix}
+use Rattle.eb_base.specs.Document.{Doc}
+use Rattle.eb_base.specs.Setting.{Setting}
+use Rattle.eb_place.specs.Room.{cut}
+use Rattle.eb_place.proofs.Cuts.{closed_stays}
+use Rattle.eb_convert.specs.declared.conversion.Converted.{Converted}
+use Rattle.eb_convert.specs.declared.conversion.Converted.TheVariants.{One, Nothing}
+use Rattle.eb_engine.specs.Tokens.{Token, ConverterToken, Converts, AreClosed}
+use Rattle.eb_blend.specs.Parts.{histories_of, converter_histories_of, converted_of, history}
+use Rattle.eb_blend.proofs.Each.{history_at, converter_history_at, new_converted, other_converted}
+
+-- where all but one of the segments are among the first n
+pub few_left : (σ : Setting) (xs ys : List Doc) (n : ℕ) → IsPrefix xs ys → length (cut σ ys) ≤ n + 1 → (s : ℕ) → s + 1 < length (cut σ xs) → s < n
+few_left σ xs ys n p few s h = let g = (closed_stays σ xs p.0 s h).0 in let g' = rw p.1 at g in omega (arith, g', few, h)
+
+-- where a call converted nothing, it found no document behind the next segment
+pub nothing_left : (σ : Setting) (old new : ConverterToken) (r : Converted) → Converts σ old new r → ((s : ℕ) → r ≡ One s → ⊥) → length (cut σ new.docs) ≤ new.converted + 1
+nothing_left σ old new (One s) did none = absurd (none s refl)
+nothing_left σ old new Nothing did none = omega (arith, did.0, did.1)
+
+converted_at : (cs : List ConverterToken) (n : ℕ) (c : ConverterToken) → n < length cs → c ≡ get_or cs n c → get_or (converted_of cs) n 0 ≡ c.converted
+converted_at cs n c lt a = get_or-map (λ (x : ConverterToken). x.converted) cs n c 0 lt ∙ ap (λ (x : ConverterToken). x.converted) (sym a)
+
+-- one part more is heard
+pub closed_more : (σ : Setting) (ts : List Token) (cs : List ConverterToken) (n : ℕ) (t new : Token) (c : ConverterToken) → n < length ts → n < length cs → t ≡ get_or ts n t → c ≡ get_or cs n c → new ≡ t
+    → AreClosed σ new.docs c.converted → ((p : ℕ) → p < n → AreClosed σ (history (histories_of ts) p) (get_or (converted_of cs) p 0))
+    → (p : ℕ) → p < n + 1 → AreClosed σ (history (histories_of ts) p) (get_or (converted_of cs) p 0)
+closed_more σ ts cs n t new c l m a b e now f p lt =
+    let here = sym (history_at ts n t l a ∙ ap (λ (x : Token). x.docs) (sym e)) in
+    let there = sym (converted_at cs n c m b) in
+    elim (cases_eq p n) [
+      | inl s ↦ subst (λ r. AreClosed σ (history (histories_of ts) r) (get_or (converted_of cs) r 0)) (sym s) (subst (λ (z : List Doc × ℕ). AreClosed σ z.0 z.1) (λ i. (here i, there i)) now)
+      | inr ne ↦ f p (omega (arith, lt, ne))
+    ]
+
+-- one part more has converted
+pub converts_more : (σ : Setting) (old cs : List ConverterToken) (n : ℕ) (v new : ConverterToken) → n < length cs → v ≡ get_or cs n v
+    → history (converter_histories_of cs) n ≡ history (converter_histories_of old) n → ((s : ℕ) → s + 1 < length (cut σ v.docs) → s < new.converted)
+    → ((p s : ℕ) → p < n → s + 1 < length (cut σ (history (converter_histories_of old) p)) → s < get_or (converted_of cs) p 0)
+    → (p s : ℕ) → p < n + 1 → s + 1 < length (cut σ (history (converter_histories_of old) p)) → s < get_or (converted_of (set cs n new)) p 0
+converts_more σ old cs n v new lt a same now f p s less low =
+    let docs : history (converter_histories_of old) n ≡ v.docs = sym same ∙ converter_history_at cs n v lt a in
+    elim (cases_eq p n) [
+      | inl e ↦ subst (λ r. s < get_or (converted_of (set cs n new)) r 0) (sym e)
+          (subst (λ r. s < r) (sym (new_converted cs n new lt)) (now s (subst (λ (z : List Doc). s + 1 < length (cut σ z)) (ap (history (converter_histories_of old)) e ∙ docs) low)))
+      | inr ne ↦ subst (λ r. s < r) (sym (other_converted cs n new p ne)) (f p s (omega (arith, less, ne)) low)
+    ]

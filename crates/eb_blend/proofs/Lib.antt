@@ -1,0 +1,6 @@
+pub mod Sorting
+pub mod Each
+pub mod Blends
+pub mod Copies
+pub mod Closings
+pub mod Law

@@ -1,0 +1,5 @@
+pub mod Blended
+pub mod Parts
+pub mod Refused
+pub mod Frames
+pub mod Laws

@@ -1,0 +1,199 @@
+ghost use Rattle.std.specs.Prelude.{◌≡◌, ◌≤◌, ◌<◌, [], replicate, None, Some, IfOk, IfErr, IfSome, OnErr, ℕ, sum};
+ghost use Rattle.eb_place.specs.Room.{HasRoom};
+ghost use Rattle.eb_blend.specs.Parts.{WriterTokens, indexes_of, histories_of, converter_indexes_of, converter_histories_of, converted_of, lengths_of, counted};
+ghost use Rattle.eb_blend.specs.Parts.{few_counted, segments_of, history, part_of, with_document, IsAbove, AreFronts, AllClosed};
+ghost use Rattle.eb_base.specs.Setting.{Setting};
+ghost use Rattle.std.specs.List.{All};
+ghost use Rattle.eb_blend.specs.Refused.{Refuses};
+
+use crate::blend::Blend;
+use crate::converter::BlendConverter;
+use crate::reader::BlendReader;
+use crate::refusal::BlendRefusal;
+use eb_base::{Document, Gate, NoMemory};
+use eb_engine::{Converter, Index, Reader, Writer};
+use eb_writer::Full;
+use std::alloc::Global;
+use std::marker::Model;
+
+/// The one writer of a blend. It may go to a thread of its own. Contracts see the history of each part, and the id of
+/// the document that it added last.
+#[derive(Drop)]
+pub struct BlendWriter {
+    writers: Vec<Writer>,
+    last: Option<u64>,
+    accepted: u64,
+}
+
+impl Model for BlendWriter {
+    ghost use Rattle.std.specs.Prelude.{◌≡◌};
+    ghost use Rattle.eb_blend.specs.Parts.{WriterTokens, indexes_of, histories_of, lengths_of, counted};
+
+    ghost Value = { WriterTokens };
+
+    ghost view = { λ w. record { indexes = indexes_of w.writers.items; histories = histories_of w.writers.items; last = w.last } };
+
+    ghost invariant = { λ w. w.accepted ≡ counted (lengths_of (histories_of w.writers.items)) };
+}
+
+impl BlendWriter {
+    pub(crate) fn new(writers: Vec<Writer>) -> BlendWriter
+        requires { (n : ℕ) × (histories_of writers.items ≡ replicate n []) }
+        ensures { result ≡ record { indexes = indexes_of writers.items; histories = histories_of writers.items; last = None } }
+    {
+        BlendWriter {
+            writers,
+            last: None,
+            accepted: 0,
+        }
+    }
+
+    /// Adds a document behind the history of its part, which is the rest of its id by the number of parts, and gives
+    /// the sum of all lengths then. `NotRising` exactly where a document was accepted and its id isn't below this
+    /// one's; else `Full` exactly where the part has no room for it. After a refusal nothing is stored, and all
+    /// histories and the last id are as before. The writer must have been made with this blend. Takes no memory.
+    pub fn add<G: Gate>(
+        &mut self,
+        blend: &Blend,
+        document: &Document,
+        gate: &G,
+    ) -> Result<u64, BlendRefusal>
+        requires { self.old.indexes ≡ blend.now.indexes }
+        ensures ok { IfOk result (λ n. IsAbove self.old.last document.now.id
+            × HasRoom blend.now.setting (history self.old.histories (part_of self.old.histories document.now)) document.now
+            × (self.new ≡ record { indexes = self.old.indexes; histories = with_document self.old.histories document.now; last = Some document.now.id })
+            × (n ≡ counted (lengths_of self.new.histories))) }
+        ensures refused { IfErr result (Refuses blend.now.setting self.old document.now) }
+        ensures unchanged { OnErr result (self.new ≡ self.old) }
+    {
+        let id = document.id();
+        if let Some(last) = not_below(self.last, id) {
+            return Err(BlendRefusal::NotRising { last });
+        }
+        let part = (id % blend.parts.len() as u64) as usize;
+        match self.writers[part].add(&blend.parts[part], document, gate) {
+            Ok(_count) => {}
+            Err(Full) => return Err(BlendRefusal::Full { part: part as u32 }),
+        }
+        self.last = Some(id);
+        self.accepted = self.accepted.saturating_add(1);
+        Ok(self.accepted)
+    }
+
+    /// The sum of the lengths of the histories.
+    pub fn accepted(&self) -> u64
+        ensures { result ≡ counted (lengths_of self.now.histories) }
+    {
+        self.accepted
+    }
+
+    /// The sum of the parts' numbers of segments.
+    pub fn segments(&self) -> u32
+        ensures { result ≡ few_counted (segments_of self.now.indexes self.now.histories) }
+    {
+        let mut segments = 0u32;
+        for writer in &self.writers {
+            segments = segments.saturating_add(writer.segments());
+        }
+        segments
+    }
+
+    /// A reader that knows all histories. The writer must have been made with this blend. Takes memory for the list
+    /// of the parts' readers.
+    pub fn reader(&mut self, alloc: Global, blend: &Blend) -> Result<BlendReader, NoMemory>
+        requires { self.old.indexes ≡ blend.now.indexes }
+        ensures this { self.new ≡ self.old }
+        ensures reader { IfOk result (λ r. r ≡ record { indexes = self.old.indexes; histories = self.old.histories }) }
+    {
+        let readers = readers_of(alloc, self.writers.as_mut_slice(), blend.parts.as_slice())?;
+        Ok(BlendReader::new(readers))
+    }
+
+    /// Takes in a reader: what it knew of each part is a front of that part's history. Both must have been made with
+    /// this blend. Takes no memory.
+    pub fn meet(&mut self, blend: &Blend, reader: BlendReader)
+        requires this { self.old.indexes ≡ blend.now.indexes }
+        requires reader { reader.indexes ≡ blend.now.indexes }
+        ensures this { self.new ≡ self.old }
+        ensures reader { AreFronts reader.histories self.new.histories }
+    {
+        meet_each(
+            self.writers.as_mut_slice(),
+            blend.parts.as_slice(),
+            reader.into_readers(),
+        );
+    }
+
+    /// Takes in what the converter knows: of each part it is a front of that part's history, in which each segment
+    /// that it converted is closed. Both must have been made with this blend. Takes no memory.
+    pub fn hear(&mut self, blend: &Blend, converter: &mut BlendConverter)
+        requires this { self.old.indexes ≡ blend.now.indexes }
+        requires converter { converter.old.indexes ≡ blend.now.indexes }
+        ensures this { self.new ≡ self.old }
+        ensures converter { converter.new ≡ converter.old }
+        ensures told { AreFronts converter.old.histories self.new.histories }
+        ensures closed { AllClosed blend.now.setting self.new.histories converter.old.converted }
+    {
+        hear_each(
+            self.writers.as_mut_slice(),
+            blend.parts.as_slice(),
+            converter.converters.as_mut_slice(),
+        );
+    }
+}
+
+// The last id, where it isn't below this one.
+fn not_below(last: Option<u64>, id: u64) -> Option<u64>
+    ensures some { IfSome result (λ found. (last ≡ Some found) × (id ≤ found)) }
+    ensures none { result ≡ None → IsAbove last id }
+{
+    match last {
+        Some(found) if id <= found => Some(found),
+        _ => None,
+    }
+}
+
+// A reader of each part, each of which knows the whole history of its part.
+fn readers_of(
+    alloc: Global,
+    writers: &mut [Writer],
+    indexes: &[Index],
+) -> Result<Vec<Reader>, NoMemory>
+    requires made { indexes_of writers.old ≡ indexes.now }
+    ensures same { writers.new ≡ writers.old }
+    ensures readers { IfOk result (λ readers. readers.items ≡ writers.old) }
+{
+    let mut readers = Vec::with_capacity(alloc, writers.len())?;
+    for at in 0..writers.len() {
+        let reader = writers[at].reader(&indexes[at]);
+        readers.push(reader)?;
+    }
+    Ok(readers)
+}
+
+// Each writer takes in the reader of its part.
+fn meet_each(writers: &mut [Writer], indexes: &[Index], mut readers: Vec<Reader>)
+    requires made { indexes_of writers.old ≡ indexes.now }
+    requires readers { indexes_of readers.items ≡ indexes.now }
+    ensures same { writers.new ≡ writers.old }
+    ensures fronts { AreFronts (histories_of readers.items) (histories_of writers.new) }
+{
+    while let Some(reader) = readers.pop() {
+        let at = readers.len();
+        writers[at].meet(&indexes[at], reader);
+    }
+}
+
+// Each writer takes in what the converter of its part knows.
+fn hear_each(writers: &mut [Writer], indexes: &[Index], converters: &mut [Converter])
+    requires made { indexes_of writers.old ≡ indexes.now }
+    requires converters { converter_indexes_of converters.old ≡ indexes.now }
+    ensures same { writers.new ≡ writers.old }
+    ensures converters { converters.new ≡ converters.old }
+    ensures fronts { AreFronts (converter_histories_of converters.old) (histories_of writers.new) }
+    ensures closed { (σ : Setting) → All (λ w. w.setting ≡ σ) indexes.now → AllClosed σ (histories_of writers.new) (converted_of converters.old) }
+{
+    for at in 0..writers.len() {
+        writers[at].hear(&indexes[at], &mut converters[at]);
+    }
+}
