@@ -26,7 +26,8 @@ converted_at : (cs : List ConverterToken) (n : ℕ) (c : ConverterToken) → n <
 converted_at cs n c lt a = get_or-map (λ (x : ConverterToken). x.converted) cs n c 0 lt ∙ ap (λ (x : ConverterToken). x.converted) (sym a)
 
 -- one part more is heard
-pub closed_more : (σ : Setting) (ts : List Token) (cs : List ConverterToken) (n : ℕ) (t new : Token) (c : ConverterToken) → n < length ts → n < length cs → t ≡ get_or ts n t → c ≡ get_or cs n c → new ≡ t
+pub closed_more : (σ : Setting) (ts : List Token) (cs : List ConverterToken) (n : ℕ) (t new : Token) (c : ConverterToken) → n < length ts → n < length cs
+    → t ≡ get_or ts n t → c ≡ get_or cs n c → new ≡ t
     → AreClosed σ new.docs c.converted → ((p : ℕ) → p < n → AreClosed σ (history (histories_of ts) p) (get_or (converted_of cs) p 0))
     → (p : ℕ) → p < n + 1 → AreClosed σ (history (histories_of ts) p) (get_or (converted_of cs) p 0)
 closed_more σ ts cs n t new c l m a b e now f p lt =

@@ -17,7 +17,8 @@ use Rattle.eb_place.proofs.Prefixes.{prefix_self, prefix_trans}
 use Rattle.eb_place.specs.Room.{cut}
 use Rattle.eb_table.specs.Known.{Words}
 use Rattle.eb_engine.specs.Tokens.{Token, ConverterToken}
-use Rattle.eb_blend.specs.Parts.{indexes_of, histories_of, converter_indexes_of, converter_histories_of, history, lengths_of, counted, joined, part_of, with_document, AreFronts, converted_of, few_counted, segments_of}
+use Rattle.eb_blend.specs.Parts.{indexes_of, histories_of, converter_indexes_of, converter_histories_of, history, lengths_of, counted}
+use Rattle.eb_blend.specs.Parts.{joined, part_of, with_document, AreFronts, converted_of, few_counted, segments_of}
 
 -- the token of a part was made with the index of the part
 pub made_at : (ts : List Token) (ws : List Words) (n : ℕ) (t : Token) (w : Words) → indexes_of ts ≡ ws → n < length ts → t ≡ get_or ts n t → w ≡ get_or ws n w → t.index ≡ w

@@ -1,9 +1,9 @@
-ghost use Rattle.std.specs.Prelude.{◌≡◌, ◌+◌, ◌-◌, ◌<◌, ◌≤◌, ℕ, List, [], map, length, sum, min, All, get_or};
+ghost use Rattle.std.specs.Prelude.{◌≡◌, ◌+◌, ◌-◌, ◌<◌, ◌≤◌, ℕ, length, All};
 ghost use Rattle.eb_base.specs.Setting.{Setting};
 ghost use Rattle.eb_place.specs.Room.{cut};
-ghost use Rattle.eb_engine.specs.Tokens.{Token, ConverterToken};
 ghost use mathlib.Core.List.{IsPrefix};
-ghost use Rattle.eb_blend.specs.Parts.{indexes_of, histories_of, converter_indexes_of, converter_histories_of, converted_of, few_counted, AreFronts, AllConverted};
+ghost use Rattle.eb_blend.specs.Parts.{indexes_of, histories_of, converter_indexes_of, converter_histories_of};
+ghost use Rattle.eb_blend.specs.Parts.{converted_of, few_counted, AreFronts, AllConverted};
 
 use crate::blend::Blend;
 use crate::reader::BlendReader;
@@ -105,7 +105,8 @@ fn convert_each(converters: &mut [Converter], indexes: &[Index])
     requires made { converter_indexes_of converters.old ≡ indexes.now }
     ensures indexes { converter_indexes_of converters.new ≡ indexes.now }
     ensures known { AreFronts (converter_histories_of converters.old) (converter_histories_of converters.new) }
-    ensures converted { (σ : Setting) → All (λ w. w.setting ≡ σ) indexes.now → AllConverted σ (converter_histories_of converters.old) (converted_of converters.new) }
+    ensures converted { (σ : Setting) → All (λ w. w.setting ≡ σ) indexes.now
+        → AllConverted σ (converter_histories_of converters.old) (converted_of converters.new) }
 {
     for at in 0..converters.len() {
         convert_part(&mut converters[at], &indexes[at]);

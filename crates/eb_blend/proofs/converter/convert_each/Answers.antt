@@ -1,11 +1,10 @@
-use Rattle.std.proofs.Common.{◌≡◌, ◌<◌, ◌≤◌, ◌+◌, ℕ, List, length, get_or, ap, sym, subst, ◌∙◌, arith}
+use Rattle.std.proofs.Common.{◌≡◌, ◌<◌, ◌+◌, ℕ, length, ap, sym, subst, ◌∙◌, arith}
 use Rattle.std.proofs.lemmas.List.Elements.{All-get_or}
 use mathlib.Core.List.{IsPrefix}
 use Rattle.eb_base.specs.Setting.{Setting}
 use Rattle.eb_place.specs.Room.{cut}
 use Rattle.eb_table.specs.Known.{Words}
-use Rattle.eb_engine.specs.Tokens.{Token, ConverterToken}
-use Rattle.eb_blend.specs.Parts.{converter_indexes_of}
+use Rattle.eb_engine.specs.Tokens.{ConverterToken}
 use Rattle.eb_blend.proofs.Closings.{converts_more}
 use Rattle.eb_blend.proofs.Each.{as_many_converters, fronts_trans, converter_indexes_set, converter_fronts_set, other_history, length_converter_histories}
 use Rattle.eb_blend.proofs.converter.convert_each.Goals as goal

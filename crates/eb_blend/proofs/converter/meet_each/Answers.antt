@@ -1,7 +1,6 @@
-use Rattle.std.proofs.Common.{◌≡◌, ◌<◌, ◌≤◌, ◌+◌, ◌++◌, ◌∷◌, [], ℕ, List, length, length-append, get_or, ap, sym, subst, ◌∙◌, arith}
+use Rattle.std.proofs.Common.{◌≡◌, ◌<◌, ◌++◌, ◌∷◌, [], length, length-append, get_or, ap, sym, subst, ◌∙◌, arith}
 use mathlib.Core.List.{IsPrefix}
-use Rattle.eb_engine.specs.Tokens.{Token, ConverterToken}
-use Rattle.eb_blend.specs.Parts.{converter_indexes_of}
+use Rattle.eb_engine.specs.Tokens.{ConverterToken}
 use Rattle.eb_blend.proofs.Each.{as_many, as_many_converters, fronts_trans, converter_indexes_set, converter_fronts_set, converted_set, converter_met_more, front_less, last_of_front, inside_front}
 use Rattle.eb_blend.proofs.converter.meet_each.Goals as goal
 

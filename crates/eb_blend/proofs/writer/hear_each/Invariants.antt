@@ -1,4 +1,4 @@
-use Rattle.std.proofs.Common.{◌≡◌, ℕ, ◌<◌, ◌+◌, get_or, length}
+use Rattle.std.proofs.Common.{◌≡◌, ℕ, ◌<◌, get_or}
 use mathlib.Core.List.{IsPrefix}
 use Rattle.eb_base.specs.Setting.{Setting}
 use Rattle.std.specs.List.{All}

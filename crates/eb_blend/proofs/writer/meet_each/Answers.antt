@@ -1,5 +1,4 @@
-use Rattle.std.proofs.Common.{◌≡◌, ◌<◌, ◌≤◌, ◌+◌, ◌++◌, ◌∷◌, [], Option, None, ℕ, List, length, length-append, get_or, ap, sym, subst, ◌∙◌, arith}
-use mathlib.Core.List.{IsPrefix}
+use Rattle.std.proofs.Common.{◌≡◌, ◌<◌, ◌++◌, ◌∷◌, [], None, List, length, length-append, get_or, ap, sym, subst, ◌∙◌, arith}
 use Rattle.eb_engine.specs.Tokens.{Token}
 use Rattle.eb_blend.specs.Parts.{histories_of, AreFronts}
 use Rattle.eb_blend.proofs.Each.{as_many, set_same, met_more, front_less, last_of_front, inside_front, length_histories, no_token}

@@ -1,4 +1,4 @@
-use Rattle.std.proofs.Common.{◌≡◌, ◌<◌, ◌+◌, ℕ, List, take, length, arith}
+use Rattle.std.proofs.Common.{◌≡◌, ◌<◌, ◌+◌, List, take, length, arith}
 use Rattle.eb_engine.specs.Tokens.{ConverterToken}
 use Rattle.eb_blend.specs.Parts.{converted_of, few_counted}
 use Rattle.eb_blend.proofs.Each.{few_push, converted_got, length_converted}

@@ -1,7 +1,5 @@
-use Rattle.std.proofs.Common.{◌≡◌, ◌<◌, ◌+◌, ◌∙◌, ap, sym, ℕ, List, map, take, length, arith}
-use Rattle.eb_base.specs.Document.{Doc}
+use Rattle.std.proofs.Common.{◌≡◌, ◌<◌, ◌+◌, ◌∙◌, ap, sym, List, map, take, length, arith}
 use Rattle.eb_engine.specs.Tokens.{Token}
-use Rattle.eb_table.specs.Known.{Words}
 use Rattle.eb_blend.specs.Parts.{WriterTokens, few_counted, segments_of}
 use Rattle.eb_blend.proofs.Each.{few_push, few_whole, segments_in, segments_got, segments_are, length_segments}
 use Rattle.eb_blend.proofs.writer.BlendWriter.segments.Goals as goal
@@ -23,4 +21,5 @@ returns c =
     let ts : List Token = c.deref-writer-items.result.now in
     let items = c.deref-writer-items.ensures.value in
     let whole = few_whole (map segments_in ts) c.loop-writer.writer-index c.loop-writer.segments (omega (arith, c.loop-writer-test.false, length_segments ts)) c.loop-writer.invariant in
-    whole ∙ ap few_counted (ap (λ (z : List Token). map segments_in z) items ∙ sym (segments_are c.self.inside.writers.items) ∙ (λ i. segments_of (ap (λ (z : WriterTokens). z.indexes) c.self.view_is i) (ap (λ (z : WriterTokens). z.histories) c.self.view_is i)))
+    whole ∙ ap few_counted (ap (λ (z : List Token). map segments_in z) items ∙ sym (segments_are c.self.inside.writers.items)
+    ∙ (λ i. segments_of (ap (λ (z : WriterTokens). z.indexes) c.self.view_is i) (ap (λ (z : WriterTokens). z.histories) c.self.view_is i)))
