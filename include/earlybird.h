@@ -35,7 +35,7 @@ enum {
     EB_LONG_LINE = 2,        /* a line of more than 65,536 bytes */
     EB_BAD_JSON = 3,         /* the line isn't one JSON value */
     EB_BAD_DOCUMENT = 4,     /* no whole number below 2^64 as its "id", or no string as its "text" */
-    EB_TOO_LONG = 5,         /* more than 256 words, or more than 4,096 bytes of them */
+    EB_TOO_LONG = 5,         /* more than 1,024 words, or more than 16,384 bytes of them */
     EB_FULL = 6,             /* no room for the document: the last segment has none, and all segments are begun */
     EB_BAD_NUMBER = 7,       /* no number of matches from 1 to 1,000 */
     EB_BAD_QUERY = 8,        /* the query goes wrong at a column, or ends too early there */
@@ -70,7 +70,7 @@ struct eb_answer {
 };
 
 /* How many words of 64 bits an index of this setting has; 0 where it is none. A setting is 1 to 64 segments with room for
- * 1 to 16,777,216 documents and for 256 to 1,048,576 distinct terms each, a power of two, of at most 134,217,728 words in
+ * 1 to 16,777,216 documents and for 1,024 to 1,048,576 distinct terms each, a power of two, of at most 134,217,728 words in
  * all: 1 + segments * (2 + docs + 77 * terms). */
 uint64_t eb_words(uint32_t segments, uint32_t docs, uint32_t terms);
 

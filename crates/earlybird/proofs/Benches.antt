@@ -64,9 +64,9 @@ answer_short k q docs =
     let all = matches q docs in
     let mapped : length (map (λ (d : Doc). d.id) (take k all)) ≡ length (take k all) = length-map (take k all) (λ (d : Doc). d.id) in
     let short = length-take k all in
-    let reversed = length-reverse (filter (λ (d : Doc). is_match q d.terms) docs) in
-    let counted = length-filter (λ (d : Doc). is_match q d.terms) docs in
-    let few = count_by-le-length (λ (d : Doc). is_match q d.terms) docs in
+    let reversed = length-reverse (filter (λ (d : Doc). is_match q d) docs) in
+    let counted = length-filter (λ (d : Doc). is_match q d) docs in
+    let few = count_by-le-length (λ (d : Doc). is_match q d) docs in
     omega (arith, mapped, short, reversed, counted, few)
 
 answer_few : (docs : List Doc) (r : Reading) → length (answer_in docs r) ≤ length docs
@@ -174,6 +174,7 @@ figures_told status.NoMemory start count old new before f sink =
 figures_told status.Usage start count old new before f sink = absurd f.2
 figures_told status.ReadFault start count old new before f sink = absurd f.2
 figures_told status.TooLong start count old new before f sink = absurd f.2
+figures_told status.BadImage start count old new before f sink = absurd f.2
 
 pub figures_mean : (ending : Status) (start count : ℕ) (printed_old printed_new : Option (List ℕ)) → PrintsFigures ending (lines_of (made start count)) printed_old printed_new → MeansBench ending start count
 figures_mean status.Done start count old new f = (f.0, f.1, f.2.0)
@@ -183,6 +184,7 @@ figures_mean status.NoMemory start count old new f = tt
 figures_mean status.Usage start count old new f = absurd f.2
 figures_mean status.ReadFault start count old new f = absurd f.2
 figures_mean status.TooLong start count old new f = absurd f.2
+figures_mean status.BadImage start count old new f = absurd f.2
 
 pub figures_end : (ending : Status) (lines : List Line) (printed_old printed_new : Option (List ℕ)) (rose : Type 0) → PrintsFigures ending lines printed_old printed_new
     → (ending ≡ status.WriteFault → rose) → (rose → ⊥) → IsWorkedOff ending
@@ -193,6 +195,7 @@ figures_end status.WriteFault lines old new rose f fault sound = absurd (sound (
 figures_end status.Usage lines old new rose f fault sound = absurd f.2
 figures_end status.ReadFault lines old new rose f fault sound = absurd f.2
 figures_end status.TooLong lines old new rose f fault sound = absurd f.2
+figures_end status.BadImage lines old new rose f fault sound = absurd f.2
 
 -- memory ran out before the end
 pub figures_none : (lines : List Line) (printed : Option (List ℕ)) → PrintsFigures status.NoMemory lines printed printed

@@ -5,6 +5,8 @@ pub mod Going
 pub mod Waits
 pub mod Runnings
 pub mod Runs
+pub mod Loads
 pub mod OneOutput
 pub mod Benches
+pub mod Commands
 pub mod MadeLines

@@ -20,7 +20,7 @@ use Rattle.eb_rounds.specs.Sees.{Sees}
 use Rattle.eb_rounds.specs.Shown.{Counted}
 use Rattle.eb_rounds.specs.Standing.{Standing, no_counts}
 use Rattle.eb_lines.specs.declared.status.Status.{Status}
-use Rattle.eb_lines.specs.declared.status.Status.TheVariants.{Done, Refused, Usage, ReadFault, WriteFault, NoMemory, TooLong}
+use Rattle.eb_lines.specs.declared.status.Status.TheVariants.{Done, Refused, Usage, ReadFault, WriteFault, NoMemory, TooLong, BadImage}
 use Rattle.earlybird.specs.declared.running.Running.{Running}
 use Rattle.earlybird.specs.Reads.{AreRead}
 use Rattle.earlybird.specs.Waiting.{HasWorked, HasSettled, counts_of}
@@ -319,6 +319,7 @@ at_of TooLong σ overlap l0 l1 p0 p1 h run text s = s.0
 at_of Done σ overlap l0 l1 p0 p1 h run text s = absurd s
 at_of Refused σ overlap l0 l1 p0 p1 h run text s = absurd s
 at_of Usage σ overlap l0 l1 p0 p1 h run text s = absurd s
+at_of BadImage σ overlap l0 l1 p0 p1 h run text s = absurd s
 at_of WriteFault σ overlap l0 l1 p0 p1 h run text s = absurd s
 at_of NoMemory σ overlap l0 l1 p0 p1 h run text s = absurd s
 
@@ -355,6 +356,7 @@ module _ (σ : Setting) (overlap : Bool) (l0 l1 p0 p1 p2 : Option (List ℕ)) (h
   ends_stopped stats Done s e = absurd s
   ends_stopped stats Refused s e = absurd s
   ends_stopped stats Usage s e = absurd s
+  ends_stopped stats BadImage s e = absurd s
   ends_stopped stats WriteFault s e = absurd s
   ends_stopped stats NoMemory s e = absurd s
 
@@ -492,6 +494,7 @@ wrote σ overlap stats TooLong bytes taken rest printed l1 still all e = (taken,
 wrote σ overlap stats WriteFault bytes taken rest printed l1 still all e = part_told σ overlap stats bytes taken rest printed l1 still all e
 wrote σ overlap stats NoMemory bytes taken rest printed l1 still all e = part_told σ overlap stats bytes taken rest printed l1 still all e
 wrote σ overlap stats Usage bytes taken rest printed l1 still all e = absurd e
+wrote σ overlap stats BadImage bytes taken rest printed l1 still all e = absurd e
 
 pub ends_told : (σ : Setting) (overlap stats : Bool) (status : Status) (l0 l1 p0 p1 : Option (List ℕ)) (bytes before : List ℕ) → Ends σ overlap stats status l0 l1 p0 p1 → l0 ≡ Some bytes → p0 ≡ Some before
     → (printed : List ℕ) × (p1 ≡ Some (before ++ printed)) × Wrote σ overlap stats status bytes l1 printed
@@ -514,6 +517,7 @@ meant σ overlap stats TooLong bytes taken rest printed l1 still all e = (taken,
 meant σ overlap stats WriteFault bytes taken rest printed l1 still all e = (taken, record { rest = rest; whole = sym all; still = still })
 meant σ overlap stats NoMemory bytes taken rest printed l1 still all e = (taken, record { rest = rest; whole = sym all; still = still })
 meant σ overlap stats Usage bytes taken rest printed l1 still all e = absurd e
+meant σ overlap stats BadImage bytes taken rest printed l1 still all e = absurd e
 
 pub ends_mean : (σ : Setting) (overlap stats : Bool) (status : Status) (l0 l1 p0 p1 : Option (List ℕ)) (bytes : List ℕ) → Ends σ overlap stats status l0 l1 p0 p1 → l0 ≡ Some bytes → Means σ status bytes l1
 ends_mean σ overlap stats status l0 l1 p0 p1 bytes e source =
@@ -534,3 +538,4 @@ module _ (σ : Setting) (overlap stats : Bool) (l0 l1 p0 p1 : Option (List ℕ))
       let d = drop_told bytes e.taken l1 (sym e.left ∙ source) in
       absurd (omega (arith, ap length d.2, length-append e.taken d.0, e.ends.1, short))
   completes Usage e f g no_read no_write source short = absurd e.ends
+  completes BadImage e f g no_read no_write source short = absurd e.ends

@@ -70,6 +70,7 @@ WroteBench status.NoMemory start count printed = (more : List ℕ) × (n : ℕ) 
 WroteBench status.Usage start count printed = ⊥
 WroteBench status.ReadFault start count printed = ⊥
 WroteBench status.TooLong start count printed = ⊥
+WroteBench status.BadImage start count printed = ⊥
 
 -- what the status of a bench says of its input, whatever became of the output: at Done no line of it is refused, at
 -- Refused some line is
@@ -81,6 +82,7 @@ MeansBench status.NoMemory start count = Unit {0}
 MeansBench status.Usage start count = ⊥
 MeansBench status.ReadFault start count = ⊥
 MeansBench status.TooLong start count = ⊥
+MeansBench status.BadImage start count = ⊥
 
 -- what printing the line of figures of these lines leaves
 abbrev pub PrintsFigures : Status → List Line → Option (List ℕ) → Option (List ℕ) → Type 0

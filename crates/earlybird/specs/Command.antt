@@ -6,7 +6,7 @@ use Rattle.eb_options.specs.Numbers.{number}
 use Rattle.eb_options.specs.Items.{Items, has, items_of}
 use Rattle.eb_options.specs.Settings.{setting_of, setting_options}
 use Rattle.earlybird.specs.declared.command.Command.{Command}
-use Rattle.earlybird.specs.declared.command.Command.TheVariants.{Run, Bench}
+use Rattle.earlybird.specs.declared.command.Command.TheVariants.{Run, Bench, Save, Load}
 
 -- ---- `run`
 
@@ -33,6 +33,24 @@ abbrev pub bench_of : List (List ℕ) → Option Command
 bench_of (start ∷ docs ∷ []) = option_and_then (λ first. option_map (λ count. Bench first count) (bench_docs docs)) (number 20 start)
 bench_of words = None
 
+-- ---- `save` and `load`
+
+-- what the items behind `save` ask for
+abbrev pub save_with : Items → Option Command
+save_with items = option_map (λ σ. Save σ) (setting_of items)
+
+-- what the words behind `save` ask for: the options of a setting
+abbrev pub save_of : List (List ℕ) → Option Command
+save_of words = option_and_then save_with (items_of [] setting_options words)
+
+-- what the items behind `load` ask for
+abbrev pub load_with : Items → Command
+load_with items = Load (has (codes "stats") items)
+
+-- what the words behind `load` ask for: one flag, or none
+abbrev pub load_of : List (List ℕ) → Option Command
+load_of words = option_map load_with (items_of (codes "stats" ∷ []) [] words)
+
 -- ---- the command
 
 -- the command that the words ask for, if they are in the grammar
@@ -40,7 +58,9 @@ abbrev pub command_of : List (List ℕ) → Option Command
 command_of [] = None
 command_of (name ∷ words) =
     if bytes_eq name (codes "run") then run_of words
-    else (if bytes_eq name (codes "bench") then bench_of words else None)
+    else (if bytes_eq name (codes "bench") then bench_of words
+    else (if bytes_eq name (codes "save") then save_of words
+    else (if bytes_eq name (codes "load") then load_of words else None)))
 
 -- the words ask to run with an index of this setting, with or without overlap, and with or without figures
 abbrev pub AsksRun : List (List ℕ) → Bool → Bool → Setting → Type 0
@@ -49,3 +69,11 @@ AsksRun words overlap stats σ = command_of words ≡ Some (Run overlap stats σ
 -- the words ask to work off a made input
 abbrev pub AsksBench : List (List ℕ) → ℕ → ℕ → Type 0
 AsksBench words start count = command_of words ≡ Some (Bench start count)
+
+-- the words ask to save the documents of lines, for an index of this setting
+abbrev pub AsksSave : List (List ℕ) → Setting → Type 0
+AsksSave words σ = command_of words ≡ Some (Save σ)
+
+-- the words ask to load an image and go on with lines, with or without figures
+abbrev pub AsksLoad : List (List ℕ) → Bool → Type 0
+AsksLoad words stats = command_of words ≡ Some (Load stats)

@@ -5,7 +5,7 @@ use Rattle.eb_base.specs.Setting.{Setting}
 use Rattle.eb_place.specs.Room.{cut}
 use Rattle.eb_io.specs.Lines.{Line, longest_input, lines_of, whole_lines}
 use Rattle.eb_lines.specs.declared.status.Status.{Status}
-use Rattle.eb_lines.specs.declared.status.Status.TheVariants.{Done, Refused, Usage, ReadFault, WriteFault, NoMemory, TooLong}
+use Rattle.eb_lines.specs.declared.status.Status.TheVariants.{Done, Refused, Usage, ReadFault, WriteFault, NoMemory, TooLong, BadImage}
 use Rattle.eb_lines.specs.Reading.{Reading}
 use Rattle.eb_lines.specs.Progress.{accepted, refusals}
 use Rattle.eb_rounds.specs.Sees.{Sees}
@@ -74,6 +74,7 @@ Wrote σ overlap stats TooLong bytes left printed = (taken : List ℕ) × IsStop
 Wrote σ overlap stats WriteFault bytes left printed = IsPartOfOutput σ overlap stats bytes printed
 Wrote σ overlap stats NoMemory bytes left printed = IsPartOfOutput σ overlap stats bytes printed
 Wrote σ overlap stats Usage bytes left printed = ⊥
+Wrote σ overlap stats BadImage bytes left printed = ⊥
 
 -- these of the bytes were taken, and the others are left
 pub record AreTaken (bytes : List ℕ) (left : Option (List ℕ)) (taken : List ℕ) : Type 0 where
@@ -92,6 +93,7 @@ Means σ TooLong bytes left = (taken : List ℕ) × AreTaken bytes left taken ×
 Means σ WriteFault bytes left = (taken : List ℕ) × AreTaken bytes left taken
 Means σ NoMemory bytes left = (taken : List ℕ) × AreTaken bytes left taken
 Means σ Usage bytes left = ⊥
+Means σ BadImage bytes left = ⊥
 
 -- the whole input is worked off, unless memory ran out
 abbrev pub IsWorkedOff : Status → Type 0

@@ -7,7 +7,7 @@ use Rattle.eb_io.specs.Held.{Held, HasGiven, HasNoLine, HasAllLines}
 use Rattle.eb_io.specs.Source.{after, IsEmpty}
 use Rattle.eb_io.specs.Sink.{grown}
 use Rattle.eb_lines.specs.declared.status.Status.{Status}
-use Rattle.eb_lines.specs.declared.status.Status.TheVariants.{Done, Refused, Usage, ReadFault, WriteFault, NoMemory, TooLong}
+use Rattle.eb_lines.specs.declared.status.Status.TheVariants.{Done, Refused, Usage, ReadFault, WriteFault, NoMemory, TooLong, BadImage}
 use Rattle.earlybird.specs.declared.running.Running.{Running}
 use Rattle.earlybird.specs.declared.run.Upcoming.{Upcoming}
 use Rattle.earlybird.specs.declared.run.Upcoming.TheVariants as next
@@ -45,6 +45,7 @@ IsStopped TooLong σ overlap l0 l1 p0 p1 held run gathered = (a : IsAt σ overla
 IsStopped Done σ overlap l0 l1 p0 p1 held run gathered = ⊥
 IsStopped Refused σ overlap l0 l1 p0 p1 held run gathered = ⊥
 IsStopped Usage σ overlap l0 l1 p0 p1 held run gathered = ⊥
+IsStopped BadImage σ overlap l0 l1 p0 p1 held run gathered = ⊥
 IsStopped WriteFault σ overlap l0 l1 p0 p1 held run gathered = ⊥
 IsStopped NoMemory σ overlap l0 l1 p0 p1 held run gathered = ⊥
 
@@ -67,6 +68,7 @@ Closes Refused refused last printed_old printed_new = (0 < refused) × (printed_
 Closes WriteFault refused last printed_old printed_new = (n : ℕ) × (printed_new ≡ grown printed_old (take n last))
 Closes NoMemory refused last printed_old printed_new = printed_new ≡ printed_old
 Closes Usage refused last printed_old printed_new = ⊥
+Closes BadImage refused last printed_old printed_new = ⊥
 Closes ReadFault refused last printed_old printed_new = ⊥
 Closes TooLong refused last printed_old printed_new = ⊥
 
@@ -88,6 +90,7 @@ EndsAs σ overlap stats TooLong taken left printed = IsBodyOf σ overlap (whole_
 EndsAs σ overlap stats WriteFault taken left printed = IsPart σ overlap stats taken left printed
 EndsAs σ overlap stats NoMemory taken left printed = IsPart σ overlap stats taken left printed
 EndsAs σ overlap stats Usage taken left printed = ⊥
+EndsAs σ overlap stats BadImage taken left printed = ⊥
 
 -- some bytes were taken and some printed, as the status says
 pub record Ends (σ : Setting) (overlap stats : Bool) (status : Status) (left_old left_new printed_old printed_new : Option (List ℕ)) : Type 0 where

@@ -2,10 +2,12 @@ ghost use Rattle.std.specs.Prelude.{◌≡◌, Some, None, IfOk, IsErrOf, map, s
 ghost use Rattle.earlybird.specs.Command.{command_of};
 
 mod bench;
+mod images;
 mod lines;
 
 use bench::read_bench;
 use eb_base::Config;
+use images::{read_load, read_save};
 use lines::read_run;
 use std::alloc::Global;
 
@@ -28,6 +30,16 @@ pub enum Command {
         /// How many documents it has, 1 to 40,000.
         docs: u32,
     },
+    /// `save`: write an image of the documents that lines add to an index of this setting.
+    Save {
+        /// The setting that the options give, as of `run`.
+        config: Config,
+    },
+    /// `load`: read an image, and then lines as `run` does.
+    Load {
+        /// Whether the segments are told behind the summary (`--stats`).
+        stats: bool,
+    },
 }
 
 /// Why no command is read from the words.
@@ -46,8 +58,10 @@ pub enum CommandFault {
 ///   allowed; what isn't named is as in `Config::usual`. `Config::new` has to allow the setting.
 /// - `bench START DOCS`: one to twenty digits of value at most 18446744073709551615, and one to nine
 ///   digits of value 1 to 40,000; leading zeros allowed.
+/// - `save`, and then the options of a setting as behind `run`.
+/// - `load`, and then `--stats` at most once.
 ///
-/// Usage comes exactly where the words are neither; NoMemory is free.
+/// Usage comes exactly where the words are none of these; NoMemory is free.
 pub fn read_command(alloc: Global, words: &Vec<String>) -> Result<Command, CommandFault>
     ensures command { IfOk result (λ command. command_of (map string_bytes words.now.items) ≡ Some command) }
     ensures usage { IsErrOf result CommandFault.Usage → command_of (map string_bytes words.now.items) ≡ None }
@@ -60,6 +74,12 @@ pub fn read_command(alloc: Global, words: &Vec<String>) -> Result<Command, Comma
     }
     if name.as_str() == "bench" {
         return read_bench(rest).ok_or(CommandFault::Usage);
+    }
+    if name.as_str() == "save" {
+        return read_save(alloc, rest);
+    }
+    if name.as_str() == "load" {
+        return read_load(alloc, rest);
     }
     Err(CommandFault::Usage)
 }

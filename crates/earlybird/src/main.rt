@@ -25,7 +25,7 @@ pub use laws::{one_text, order_text, some_text};
 pub use run::run;
 use std::alloc::Global;
 use std::env;
-use std::io::ErrorKind;
+use std::io::{BufReader, ErrorKind};
 use std::process::ExitCode;
 use std::rt::Env;
 use usage::USAGE;
@@ -40,7 +40,11 @@ fn main(rt: HostRuntime) -> ExitCode {
             return ExitCode::from(status.code());
         }
     };
-    let mut source = StdSource::new(rt.stdin());
+    let Ok(reader) = BufReader::new(alloc, rt.stdin()) else {
+        let _ = write_all(&mut err, Status::NoMemory.line(USAGE));
+        return ExitCode::from(Status::NoMemory.code());
+    };
+    let mut source = StdSource::new(reader);
     let mut out = StdSink::new(rt.stdout());
     let status = run(
         &rt,

@@ -3,7 +3,17 @@ ghost use Rattle.eb_io.specs.Faults.{HasRisen};
 ghost use Rattle.eb_io.specs.Held.{Held};
 ghost use Rattle.eb_io.specs.Sink.{grown};
 ghost use Rattle.eb_base.specs.Setting.{Setting};
-ghost use Rattle.earlybird.specs.Command.{command_of, AsksRun, AsksBench};
+ghost use Rattle.earlybird.specs.Command.{command_of, AsksRun, AsksBench, AsksSave, AsksLoad};
+ghost use Rattle.eb_archive.specs.Loaded.{EndsLoad, IsImage, WroteLoaded, MeansLoaded};
+ghost use Rattle.eb_image.specs.Reading.{IsBad};
+ghost use Rattle.eb_io.specs.Source.{after};
+ghost use Rattle.eb_base.specs.Document.{Doc};
+ghost use Rattle.eb_base.specs.Setting.{IsSetting};
+ghost use Rattle.eb_image.specs.Image.{image_of};
+ghost use Rattle.eb_place.specs.Room.{IsLawful};
+ghost use Rattle.eb_archive.specs.Saved.{AreParts, IsSaved, HasUnsaved, HasNoUnsaved, WroteSaved, MeansSaved};
+ghost use Rattle.eb_lines.specs.Outcomes as outcomes;
+ghost use Rattle.eb_lines.specs.Passing as passing;
 ghost use Rattle.earlybird.specs.Bench.{WroteBench, MeansBench, PrintsFigures};
 ghost use Rattle.eb_gen.specs.Made.{made};
 ghost use Rattle.eb_io.specs.Lines.{longest_input, lines_of};
@@ -16,6 +26,7 @@ use crate::command::{Command, CommandFault, read_command};
 use crate::printing::put_end;
 use crate::running::Running;
 use crate::usage::USAGE;
+use eb_archive::{load_lines, save_lines};
 use eb_base::{Config, Gate, NoMemory};
 use eb_io::{Lines, Next, Sink, SinkFailed, Source, write_all};
 use eb_lines::{MAX_INPUT, Status, write_gathered, write_much};
@@ -60,6 +71,31 @@ where
     ensures bench_means { (start count : ℕ) → AsksBench (map string_bytes words.now.items) start count → MeansBench result start count }
     ensures bench_completes { (start count : ℕ) → AsksBench (map string_bytes words.now.items) start count
         → (HasRisen (K.faults out.old) (K.faults out.new) → ⊥) → IsWorkedOff result }
+    // Where they ask to save the documents of lines for an index of a setting, `out` took what the status says of their image.
+    ensures saved { (σ : Setting) → AsksSave (map string_bytes words.now.items) σ
+        → (bytes before : List ℕ) → S.left source.old ≡ Some bytes → K.taken out.old ≡ Some before
+        → (printed : List ℕ) × (K.taken out.new ≡ Some (before ++ printed)) × WroteSaved σ result bytes (S.left source.new) printed }
+    ensures saved_means { (σ : Setting) → AsksSave (map string_bytes words.now.items) σ → (bytes : List ℕ) → S.left source.old ≡ Some bytes
+        → MeansSaved σ result bytes (S.left source.new) }
+    ensures saved_completes { (σ : Setting) → AsksSave (map string_bytes words.now.items) σ
+        → (HasRisen (S.faults source.old) (S.faults source.new) → ⊥) → (HasRisen (K.faults out.old) (K.faults out.new) → ⊥)
+        → (bytes : List ℕ) → S.left source.old ≡ Some bytes → length bytes < longest_input → outcomes.IsWorkedOff result }
+    // Where they ask to load, and the source tells an image and then lines, `out` took what the status says of the lines; where what
+    // was read begins no image, nothing was printed. An image, and then lines with an end in time, are worked off.
+    ensures loaded { (stats : Bool) → AsksLoad (map string_bytes words.now.items) stats
+        → (σ : Setting) (docs : List Doc) (rest before : List ℕ) → IsSetting σ → IsLawful σ docs
+        → S.left source.old ≡ Some (image_of σ docs ++ rest) → K.taken out.old ≡ Some before
+        → (printed : List ℕ) × (K.taken out.new ≡ Some (before ++ printed))
+        × WroteLoaded (record { setting = σ; documents = docs; stats = stats }) result rest (S.left source.new) printed }
+    ensures loaded_means { (stats : Bool) → AsksLoad (map string_bytes words.now.items) stats
+        → (σ : Setting) (docs : List Doc) (rest : List ℕ) → IsSetting σ → IsLawful σ docs → S.left source.old ≡ Some (image_of σ docs ++ rest)
+        → MeansLoaded (record { setting = σ; documents = docs; stats = stats }) result rest (S.left source.new) }
+    ensures bad_image { (stats : Bool) → AsksLoad (map string_bytes words.now.items) stats → result ≡ Status.BadImage
+        → (K.taken out.new ≡ K.taken out.old) × ((taken : List ℕ) × (S.left source.old ≡ after taken (S.left source.new)) × IsBad IsImage taken (S.left source.new)) }
+    ensures loaded_completes { (stats : Bool) → AsksLoad (map string_bytes words.now.items) stats
+        → (HasRisen (S.faults source.old) (S.faults source.new) → ⊥) → (HasRisen (K.faults out.old) (K.faults out.new) → ⊥)
+        → (σ : Setting) (docs : List Doc) (rest : List ℕ) → IsSetting σ → IsLawful σ docs → S.left source.old ≡ Some (image_of σ docs ++ rest)
+        → length rest < longest_input → outcomes.IsWorkedOff result }
     // Faults come only from outside.
     ensures read_fault { result ≡ Status.ReadFault → HasRisen (S.faults source.old) (S.faults source.new) }
     ensures write_fault { result ≡ Status.WriteFault → HasRisen (K.faults out.old) (K.faults out.new) }
@@ -92,6 +128,10 @@ fn run_words<R: Threads + Sync, S: Source, K: Sink, G: Gate + Sync>(
     ensures bench_unread { (start count : ℕ) → AsksBench (map string_bytes words.now.items) start count → source.new ≡ source.old }
     ensures bench { (start count : ℕ) → AsksBench (map string_bytes words.now.items) start count
         → PrintsFigures result (lines_of (made start count)) (K.taken out.old) (K.taken out.new) }
+    ensures loaded { (stats : Bool) → AsksLoad (map string_bytes words.now.items) stats
+        → EndsLoad stats result (S.left source.old) (S.left source.new) (K.taken out.old) (K.taken out.new) }
+    ensures saved { (σ : Setting) → AsksSave (map string_bytes words.now.items) σ
+        → passing.Ends (AreParts σ) (IsSaved σ) (HasUnsaved σ) (HasNoUnsaved σ) result (S.left source.old) (S.left source.new) (K.taken out.old) (K.taken out.new) }
     ensures read_fault { result ≡ Status.ReadFault → HasRisen (S.faults source.old) (S.faults source.new) }
     ensures write_fault { result ≡ Status.WriteFault → HasRisen (K.faults out.old) (K.faults out.new) }
 {
@@ -107,6 +147,8 @@ fn run_words<R: Threads + Sync, S: Source, K: Sink, G: Gate + Sync>(
             config,
         } => run_lines(rt, alloc, overlap, stats, config, source, out, gate),
         Command::Bench { start, docs } => run_bench(alloc, start, docs, out, gate),
+        Command::Save { config } => save_lines(alloc, config, source, out),
+        Command::Load { stats } => load_lines(alloc, stats, source, out, gate),
     }
 }
 

@@ -2,10 +2,12 @@ ghost use Rattle.std.specs.Prelude.{◌≤◌};
 
 mod commands;
 mod faults;
+mod images;
 mod index;
 mod overlap;
 mod stats;
 mod turns;
+mod windows;
 
 use crate::{Status, run};
 use eb_base::OpenGate;
@@ -74,7 +76,7 @@ fn sink_of(alloc: Global, piece: usize, failing: &[u64]) -> Result<MemSink, Allo
 }
 
 // The words of a run over a small index.
-const SMALL: [&str; 4] = ["run", "--segments=1", "--terms", "256"];
+const SMALL: [&str; 4] = ["run", "--segments=1", "--terms", "1024"];
 
 const MESSAGES: &str =
     "{\"id\":20,\"user\":\"lena\",\"lang\":\"de\",\"text\":\"Sunset over the Straße tonight 🌅 can't believe it's already March in Berlin! #spring @lena\"}
@@ -207,14 +209,14 @@ fn put_many(text: &mut String, byte: char, count: usize) -> Result<(), AllocErro
 fn keeps_the_limits(rt: HostRuntime) -> Result<(), Fail> {
     let alloc = rt.alloc();
     let mut text = String::new(alloc);
-    for (id, words) in [(1, 256), (2, 257)] {
+    for (id, words) in [(1, 1024), (2, 1025)] {
         text.push_str(format!(in alloc; "{{\"id\":{id},\"text\":\"")?.as_str())?;
         for _ in 0..words {
             text.push_str("a ")?;
         }
         text.push_str("\"}\n")?;
     }
-    for (id, letters) in [(3, 4096), (4, 4097)] {
+    for (id, letters) in [(3, 16_384), (4, 16_385)] {
         text.push_str(format!(in alloc; "{{\"id\":{id},\"text\":\"")?.as_str())?;
         put_many(&mut text, 'b', letters)?;
         text.push_str("\"}\n")?;
@@ -314,7 +316,7 @@ fn refuses_other_words(rt: HostRuntime) -> Result<(), Fail> {
         assert!(rt; left.printed.is_empty());
         assert_eq!(rt;
             left.said.as_slice(),
-            b"earlybird: usage: run [--overlap] [--stats] [--segments N] [--docs N] [--terms N] | bench START DOCS\n".as_slice()
+            b"earlybird: usage: run [--overlap] [--stats] [--segments N] [--docs N] [--terms N] | bench START DOCS | save [--segments N] [--docs N] [--terms N] | load [--stats]\n".as_slice()
         );
     }
     Ok(())

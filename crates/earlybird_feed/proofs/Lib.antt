@@ -1,5 +1,5 @@
 pub mod Texts
 pub mod Counting
 pub mod Fed
-pub mod Runs
+pub mod Steps
 pub mod OneOutput

@@ -3,5 +3,5 @@ pub mod StatusLine
 pub mod Text
 pub mod Output
 pub mod Feeding
-pub mod Worked
+pub mod Asked
 pub mod Laws

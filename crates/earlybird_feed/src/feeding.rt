@@ -170,7 +170,7 @@ impl Feeding {
         ensures ok { OnOk result (GoesOn self.old self.new text.old.items text.new.items (refused refusal)) }
         ensures err { OnErr result ((self.new ≡ self.old) × (text.new.items ≡ text.old.items)) }
     {
-        text.reserve(64)?;
+        text.reserve(68)?;
         self.number += 1;
         self.refused += 1;
         put_refusal(text, self.number, refusal);

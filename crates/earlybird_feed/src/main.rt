@@ -5,6 +5,7 @@
 ghost use Rattle.std.specs.Prelude.{◌≡◌, ◌↔◌};
 
 mod command;
+mod feed_program;
 mod feeding;
 mod laws;
 mod printing;

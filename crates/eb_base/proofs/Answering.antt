@@ -45,10 +45,10 @@ pub record IsWalk (q : Tree) (k : ℕ) (docs : List Doc) (place : ℕ) (ids : Li
   pub ids_are : ids ≡ ids_of (matches q (drop place docs))
   pub few : length ids ≤ k
 
-matches-cons_true : (q : Tree) (d : Doc) (ds : List Doc) → is_match q d.terms ≡ true → matches q (d ∷ ds) ≡ matches q ds ++ d ∷ []
+matches-cons_true : (q : Tree) (d : Doc) (ds : List Doc) → is_match q d ≡ true → matches q (d ∷ ds) ≡ matches q ds ++ d ∷ []
 matches-cons_true q d ds e = matches-append q (d ∷ []) ds ∙ ap (λ (l : List Doc). matches q ds ++ l) (rw e refl)
 
-matches-cons_false : (q : Tree) (d : Doc) (ds : List Doc) → is_match q d.terms ≡ false → matches q (d ∷ ds) ≡ matches q ds
+matches-cons_false : (q : Tree) (d : Doc) (ds : List Doc) → is_match q d ≡ false → matches q (d ∷ ds) ≡ matches q ds
 matches-cons_false q d ds e = rw e refl
 
 front_at : (docs : List Doc) (place : ℕ) (d : Doc) → place < length docs → d ≡ get_or docs place d → drop place docs ≡ d ∷ drop (place + 1) docs
@@ -56,7 +56,7 @@ front_at docs place d lt e = rw (add-one, drop-cons docs place d, ← e) refl
 
 -- the document before the walk matches, and its id is the next
 pub walk_match : (q : Tree) (k : ℕ) (docs : List Doc) (place : ℕ) (d : Doc) (ids : List ℕ) → place < length docs → d ≡ get_or docs place d
-    → is_match q d.terms ≡ true → length ids < k → IsWalk q k docs (place + 1) ids → IsWalk q k docs place (ids ++ d.id ∷ [])
+    → is_match q d ≡ true → length ids < k → IsWalk q k docs (place + 1) ids → IsWalk q k docs place (ids ++ d.id ∷ [])
 walk_match q k docs place d ids lt e yes_is room w =
     let at : drop place docs ≡ d ∷ drop (place + 1) docs = front_at docs place d lt e in
     record {
@@ -67,7 +67,7 @@ walk_match q k docs place d ids lt e yes_is room w =
 
 -- the document before the walk doesn't match
 pub walk_other : (q : Tree) (k : ℕ) (docs : List Doc) (place : ℕ) (d : Doc) (ids : List ℕ) → place < length docs → d ≡ get_or docs place d
-    → is_match q d.terms ≡ false → IsWalk q k docs (place + 1) ids → IsWalk q k docs place ids
+    → is_match q d ≡ false → IsWalk q k docs (place + 1) ids → IsWalk q k docs place ids
 walk_other q k docs place d ids lt e no_is w =
     let at : drop place docs ≡ d ∷ drop (place + 1) docs = front_at docs place d lt e in
     record {

@@ -1,7 +1,7 @@
 -- Answers over a few documents, computed by the definitions.
 use Rattle.std.proofs.Common.{◌≡◌, ℕ, List, [], ◌∷◌, refl}
 use Rattle.eb_base.specs.Document.{Doc}
-use Rattle.eb_base.specs.Query.{Tree, word, phrase, negation, conjunction, disjunction, no_trees, trees}
+use Rattle.eb_base.specs.Query.{Tree, word, phrase, window, since, negation, conjunction, disjunction, no_trees, trees}
 use Rattle.eb_base.specs.Match.{answer}
 
 -- the terms `a` to `d`
@@ -71,3 +71,37 @@ and_across = refl
 or_both : answer (some (word b) (word c)) 5 pairs ≡ 2 ∷ 1 ∷ []
 unfolding answer
 or_both = refl
+
+-- a window: in order, at most so far apart, and two equal terms at two places
+window_near : answer (window (a ∷ a ∷ []) 2) 5 repeated ≡ 1 ∷ []
+unfolding answer
+window_near = refl
+
+window_far : answer (window (a ∷ a ∷ []) 1) 5 repeated ≡ []
+unfolding answer
+window_far = refl
+
+window_of_three : answer (window (b ∷ b ∷ b ∷ []) 3) 5 repeated ≡ 1 ∷ []
+unfolding answer
+window_of_three = refl
+
+window_three_far : answer (window (a ∷ a ∷ a ∷ []) 4) 5 repeated ≡ []
+unfolding answer
+window_three_far = refl
+
+window_across : answer (window (b ∷ c ∷ []) 5) 5 pairs ≡ []
+unfolding answer
+window_across = refl
+
+-- a bound on ids takes only greater ones
+since_greater : answer (since 1) 5 pairs ≡ 2 ∷ []
+unfolding answer
+since_greater = refl
+
+since_not : answer (negation (since 1)) 5 pairs ≡ 1 ∷ []
+unfolding answer
+since_not = refl
+
+since_last : answer (since 18446744073709551615) 5 pairs ≡ []
+unfolding answer
+since_last = refl

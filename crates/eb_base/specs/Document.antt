@@ -15,11 +15,11 @@ bytes_of terms = sum_by length terms
 
 -- the most terms of a document
 abbrev pub most_tokens : ℕ
-most_tokens = 256
+most_tokens = 1024
 
 -- the most bytes of all its terms
 abbrev pub most_bytes : ℕ
-most_bytes = 4096
+most_bytes = 16384
 
 -- so many terms, with so many bytes in all, are a document's at most
 pub record AreWithinLimits (terms : List (List ℕ)) : Type 0 where

@@ -1,5 +1,5 @@
 -- Queries as plain trees: what a query asks, however it lies in memory.
-use Rattle.std.specs.Prelude.{ℕ, ◌+◌, ◌≤◌, List, [], ◌∷◌, length, map, Option, Some, None, option_and_then, nat_lt, cond, ◌-◌, Bool, true, false}
+use Rattle.std.specs.Prelude.{ℕ, ◌+◌, ◌≤◌, List, [], ◌∷◌, length, map, Option, Some, None, option_and_then, nat_lt, cond, ◌||◌, ◌-◌, Bool, true, false}
 use Rattle.eb_base.specs.declared.query.Query.{Query, fold-Query}
 use Rattle.eb_base.specs.declared.query.Query.TheOpen.{Query-F, Queries-F}
 use Rattle.eb_base.specs.declared.query.Queries.{Queries}
@@ -9,6 +9,8 @@ mutual
   pub data Tree : Type 0 where
     word : List ℕ → Tree
     phrase : List (List ℕ) → Tree
+    window : List (List ℕ) → ℕ → Tree
+    since : ℕ → Tree
     negation : Tree → Tree
     conjunction : Trees → Tree
     disjunction : Trees → Tree
@@ -26,6 +28,8 @@ trees_of (t ∷ ts) = trees t (trees_of ts)
 abbrev pub tree_step : Query-F Tree Trees → Tree
 tree_step (Query-F.Word t) = word t
 tree_step (Query-F.Phrase ts) = phrase ts
+tree_step (Query-F.Window ts w) = window ts w
+tree_step (Query-F.Since x) = since x
 tree_step (Query-F.Not q) = negation q.value
 tree_step (Query-F.And qs) = conjunction qs
 tree_step (Query-F.Or qs) = disjunction qs
@@ -59,6 +63,8 @@ abbrev mutual
   pub size : Tree → ℕ
   size (word t) = 1
   size (phrase ts) = length ts
+  size (window ts w) = length ts
+  size (since x) = 1
   size (negation t) = 1 + size t
   size (conjunction ts) = 1 + sizes ts
   size (disjunction ts) = 1 + sizes ts
@@ -78,11 +84,18 @@ AreSeveral (trees t (trees u ts)) = Unit {0}
 abbrev pub most_size : ℕ
 most_size = 64
 
--- phrases of at least two terms, and ands and ors of at least two parts
+-- the greatest reach of a window
+abbrev pub most_reach : ℕ
+most_reach = 1023
+
+-- phrases and windows of at least two terms, windows with a reach from 1 to 1,023, and ands and ors of at
+-- least two parts
 abbrev mutual
   pub IsFormed : Tree → Type 0
   IsFormed (word t) = Unit {0}
   IsFormed (phrase ts) = 2 ≤ length ts
+  IsFormed (window ts w) = (2 ≤ length ts) × (1 ≤ w) × (w ≤ most_reach)
+  IsFormed (since x) = Unit {0}
   IsFormed (negation t) = IsFormed t
   IsFormed (conjunction ts) = AreSeveral ts × AreFormed ts
   IsFormed (disjunction ts) = AreSeveral ts × AreFormed ts
@@ -104,11 +117,17 @@ several no_trees = false
 several (trees t no_trees) = false
 several (trees t (trees u ts)) = true
 
+-- a window with these terms and this reach is not one
+abbrev pub is_no_window : List (List ℕ) → ℕ → Bool
+is_no_window ts w = nat_lt (length ts) 2 || (nat_lt w 1 || nat_lt most_reach w)
+
 -- the room that is left after a query that is formed well and has room
 abbrev mutual
   pub left_after : Tree → ℕ → Option ℕ
   left_after (word t) room = less 1 room
   left_after (phrase ts) room = cond (nat_lt (length ts) 2) None (less (length ts) room)
+  left_after (window ts w) room = cond (is_no_window ts w) None (less (length ts) room)
+  left_after (since x) room = less 1 room
   left_after (negation t) room = option_and_then (left_after t) (less 1 room)
   left_after (conjunction ts) room = cond (several ts) (option_and_then (left_after_each ts) (less 1 room)) None
   left_after (disjunction ts) room = cond (several ts) (option_and_then (left_after_each ts) (less 1 room)) None
@@ -125,3 +144,9 @@ abbrev pub leaf_of : List (List ℕ) → Option Tree
 leaf_of [] = None
 leaf_of (t ∷ []) = Some (word t)
 leaf_of (t ∷ u ∷ ts) = Some (phrase (t ∷ u ∷ ts))
+
+-- what a window text with these terms and this reach asks: one term is a word, none is no query
+abbrev pub window_of : List (List ℕ) → ℕ → Option Tree
+window_of [] w = None
+window_of (t ∷ []) w = Some (word t)
+window_of (t ∷ u ∷ ts) w = Some (window (t ∷ u ∷ ts) w)

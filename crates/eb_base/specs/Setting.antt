@@ -18,9 +18,16 @@ AreSegments n = (1 ≤ n) × (n ≤ 64)
 abbrev pub AreDocs : ℕ → Type 0
 AreDocs n = (1 ≤ n) × (n ≤ 2 ^ 24)
 
--- a power of two from 256 to 1,048,576
+-- the least and the greatest power of two that the terms of a segment can be
+abbrev pub least_power : ℕ
+least_power = 10
+
+abbrev pub greatest_power : ℕ
+greatest_power = 20
+
+-- a power of two from 1,024 to 1,048,576
 abbrev pub AreTerms : ℕ → Type 0
-AreTerms n = (k : ℕ) × (8 ≤ k) × (k ≤ 20) × (n ≡ 2 ^ k)
+AreTerms n = (k : ℕ) × (least_power ≤ k) × (k ≤ greatest_power) × (n ≡ 2 ^ k)
 
 -- at most 1 GiB
 abbrev pub AreWords : ℕ → Type 0

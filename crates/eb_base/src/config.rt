@@ -40,7 +40,7 @@ pub enum ConfigFault {
     Segments,
     /// The documents of a segment aren't 1 to 16,777,216.
     Docs,
-    /// The terms of a segment aren't a power of two from 256 to 1,048,576.
+    /// The terms of a segment aren't a power of two from 1,024 to 1,048,576.
     Terms,
     /// The words of the index, `1 + segments * (2 + docs + 77 * terms)`, are more than 134,217,728.
     Words,
@@ -101,7 +101,7 @@ impl Config {
         self.docs
     }
 
-    /// The terms that a segment has room for, a power of two from 256 to 1,048,576.
+    /// The terms that a segment has room for, a power of two from 1,024 to 1,048,576.
     pub fn terms(&self) -> u32
         ensures { result ≡ self.now.terms }
     {
@@ -117,11 +117,11 @@ impl Config {
     }
 }
 
-// Whether the number is a power of two from 256 to 1,048,576.
+// Whether the number is a power of two from 1,024 to 1,048,576.
 fn are_terms(terms: u32) -> bool
     ensures { IsTrue result ↔ AreTerms terms }
 {
-    for bits in 8u32..21 {
+    for bits in 10u32..21 {
         if terms == 1 << bits {
             return true;
         }

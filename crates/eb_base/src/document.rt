@@ -5,10 +5,10 @@ use crate::terms::Terms;
 use std::marker::Model;
 
 /// The most tokens of a document.
-pub const MAX_TOKENS: usize = 256;
+pub const MAX_TOKENS: usize = 1024;
 
 /// The most bytes of a document's folded tokens, summed.
-pub const MAX_BYTES: usize = 4096;
+pub const MAX_BYTES: usize = 16_384;
 
 /// A message that can be found: its id, and its terms in the order of its words, at most
 /// [`MAX_TOKENS`] with at most [`MAX_BYTES`] bytes in all (this project's profile, docs/FORMATS.md).
@@ -38,8 +38,8 @@ pub enum DocFault {
 }
 
 impl Document {
-    /// The document with this id and these terms. Refused as `TooManyTokens` exactly at 257 or more
-    /// terms, else as `TooManyBytes` exactly at 4,097 or more bytes; the terms are dropped then.
+    /// The document with this id and these terms. Refused as `TooManyTokens` exactly at 1,025 or more
+    /// terms, else as `TooManyBytes` exactly at 16,385 or more bytes; the terms are dropped then.
     /// Takes no memory.
     pub fn new(id: u64, terms: Terms) -> Result<Document, DocFault>
         ensures ok { IfOk result (λ document. document ≡ record { id = id; terms = terms }) }

@@ -9,6 +9,8 @@ mod gate;
 mod match_law;
 mod memory;
 mod query;
+mod query_copy;
+mod query_is;
 mod terms;
 #[cfg(test)]
 mod tests;
@@ -18,5 +20,5 @@ pub use document::{DocFault, Document, MAX_BYTES, MAX_TOKENS};
 pub use gate::{Gate, OpenGate, Point};
 pub use match_law::match_is_decided;
 pub use memory::NoMemory;
-pub use query::{MAX_SIZE, Queries, Query};
+pub use query::{MAX_REACH, MAX_SIZE, Queries, Query};
 pub use terms::{Term, Terms};

@@ -1,13 +1,17 @@
 ghost use Rattle.std.specs.Prelude.{◌≡◌, ℕ, ◌<◌, List, [], ◌∷◌, ◌++◌, length, slice_get, IfOk, OnOk, OnErr, MatchOption, Some, IsTrue, ◌↔◌};
 
 use crate::memory::NoMemory;
+use smallvec::SmallVec;
 use std::alloc::Global;
 use std::marker::Model;
 
-/// A term: one folded word of a text, as a list of bytes.
+/// The most bytes of a term that lie in the term itself; a longer one has an allocation of its own.
+const BYTES_WITHIN: usize = 16;
+
+/// A term: one folded word of a text, as a list of bytes. A short one lies in the term itself.
 #[derive(Debug, Drop)]
 pub struct Term {
-    bytes: Vec<u8>,
+    bytes: SmallVec<u8, BYTES_WITHIN>,
 }
 
 impl Model for Term {
@@ -22,11 +26,11 @@ impl Model for Term {
 }
 
 impl Term {
-    /// The term with these bytes, which are copied. Takes memory.
+    /// The term with these bytes, which are copied. Takes memory where they are more than 16.
     pub fn new(alloc: Global, bytes: &[u8]) -> Result<Term, NoMemory>
         ensures { IfOk result (λ term. term ≡ bytes.now) }
     {
-        let bytes = bytes.to_vec(alloc)?;
+        let bytes = SmallVec::from_slice(alloc, bytes)?;
         Ok(Term { bytes })
     }
 

@@ -101,7 +101,7 @@ answer_none : (q : Tree) (docs : List Doc) → answer q 0 docs ≡ []
 unfolding answer
 answer_none q docs = refl
 
-one_match : (q : Tree) (k : ℕ) (d : Doc) → is_match q d.terms ≡ true → answer q (suc k) (d ∷ []) ≡ d.id ∷ []
+one_match : (q : Tree) (k : ℕ) (d : Doc) → is_match q d ≡ true → answer q (suc k) (d ∷ []) ≡ d.id ∷ []
 unfolding answer
 one_match q k d e = rw e (ap (λ (z : List Doc). d.id ∷ map (λ (x : Doc). x.id) z) (take_none k))
   where
@@ -109,18 +109,18 @@ one_match q k d e = rw e (ap (λ (z : List Doc). d.id ∷ map (λ (x : Doc). x.i
     take_none zero = refl
     take_none (suc k) = refl
 
-one_other : (q : Tree) (k : ℕ) (d : Doc) → is_match q d.terms ≡ false → answer q k (d ∷ []) ≡ []
+one_other : (q : Tree) (k : ℕ) (d : Doc) → is_match q d ≡ false → answer q k (d ∷ []) ≡ []
 unfolding answer
 one_other q zero d e = refl
 one_other q (suc k) d e = rw e refl
 
-push_match : (q : Tree) (k : ℕ) (docs : List Doc) (d : Doc) → is_match q d.terms ≡ true → answer q (suc k) (docs ++ d ∷ []) ≡ d.id ∷ answer q k docs
+push_match : (q : Tree) (k : ℕ) (docs : List Doc) (d : Doc) → is_match q d ≡ true → answer q (suc k) (docs ++ d ∷ []) ≡ d.id ∷ answer q k docs
 push_match q k docs d e =
     let one = one_match q k d e in
     let left : suc k - 1 ≡ k = omega arith in
     answer-append q (suc k) docs (d ∷ []) ∙ ap (λ (z : List ℕ). z ++ answer q (suc k - length z) docs) one ∙ ap (λ n. d.id ∷ answer q n docs) left
 
-push_other : (q : Tree) (k : ℕ) (docs : List Doc) (d : Doc) → is_match q d.terms ≡ false → answer q k (docs ++ d ∷ []) ≡ answer q k docs
+push_other : (q : Tree) (k : ℕ) (docs : List Doc) (d : Doc) → is_match q d ≡ false → answer q k (docs ++ d ∷ []) ≡ answer q k docs
 push_other q k docs d e =
     let left : k - 0 ≡ k = omega arith in
     answer-append q k docs (d ∷ []) ∙ ap (λ (z : List ℕ). z ++ answer q (k - length z) docs) (one_other q k d e) ∙ ap (λ n. answer q n docs) left
@@ -144,7 +144,7 @@ answer_below x q = by_push (λ docs. AllBelow x docs → (k : ℕ) → Below x (
     more docs d ih b zero = subst (Below x) (sym (answer_none q (docs ++ d ∷ []))) tt
     more docs d ih b (suc k) =
         let s = split docs d b in
-        elim (cases_Bool (is_match q d.terms)) [
+        elim (cases_Bool (is_match q d)) [
           | inl e ↦ subst (Below x) (sym (push_match q k docs d e)) (s.1, ih s.0 k)
           | inr e ↦ subst (Below x) (sym (push_other q (suc k) docs d e)) (ih s.0 (suc k))
         ]
@@ -155,12 +155,12 @@ each_below x q ks hs (p ∷ ps) b = below-append x (answer q (ks p) (hs p)) (eac
 
 -- ---- the parts of a history with one more document
 
-own_part : (parts : ℕ) (docs : List Doc) (d : Doc) → part parts (docs ++ d ∷ []) (d.id % parts) ≡ part parts docs (d.id % parts) ++ d ∷ []
+pub own_part : (parts : ℕ) (docs : List Doc) (d : Doc) → part parts (docs ++ d ∷ []) (d.id % parts) ≡ part parts docs (d.id % parts) ++ d ∷ []
 own_part parts docs d =
     let e : (d.id % parts == d.id % parts) ≡ true = eqb_self (d.id % parts) in
     filter-append (λ (x : Doc). x.id % parts == d.id % parts) docs (d ∷ []) ∙ ap (λ (z : List Doc). part parts docs (d.id % parts) ++ z) (rw e refl)
 
-other_part : (parts : ℕ) (docs : List Doc) (d : Doc) (p : ℕ) → p ≢ d.id % parts → part parts (docs ++ d ∷ []) p ≡ part parts docs p
+pub other_part : (parts : ℕ) (docs : List Doc) (d : Doc) (p : ℕ) → p ≢ d.id % parts → part parts (docs ++ d ∷ []) p ≡ part parts docs p
 other_part parts docs d p ne =
     let e : (d.id % parts == p) ≡ false = eqb_other (d.id % parts) p (λ q. ne (sym q)) in
     filter-append (λ (x : Doc). x.id % parts == p) docs (d ∷ []) ∙ ap (λ (z : List Doc). part parts docs p ++ z) (rw e refl) ∙ append-nil (part parts docs p)
@@ -215,7 +215,7 @@ law q parts some = by_push (λ docs. HasRisingIds docs → (k : ℕ) (ks : ℕ �
         let hs = part parts docs in
         let gs = part parts (docs ++ d ∷ []) in
         let other : (p : ℕ) → p ≢ d.id % parts → part parts (docs ++ d ∷ []) p ≡ part parts docs p = λ p ne. other_part parts docs d p ne in
-        elim (cases_Bool (is_match q d.terms)) [
+        elim (cases_Bool (is_match q d)) [
           | inl e ↦
               let ls = lowered m ks in
               let n = ks m - 1 in

@@ -39,6 +39,7 @@ impl Blend {
         requires { (1 ≤ parts) × (parts ≤ 16) }
         ensures setting { IfOk result (λ r. r.0.setting ≡ config) }
         ensures parts { IfOk result (λ r. length r.0.indexes ≡ parts) }
+        ensures settings { IfOk result (λ r. All (λ w. w.setting ≡ config) r.0.indexes) }
         ensures writer { IfOk result (λ r. r.1 ≡ record { indexes = r.0.indexes; histories = replicate parts []; last = None }) }
         ensures converter { IfOk result (λ r. r.2 ≡ record { indexes = r.0.indexes; histories = replicate parts []; converted = replicate parts 0 }) }
     {

@@ -65,6 +65,7 @@ impl BlendConverter {
         requires { self.old.indexes ≡ blend.now.indexes }
         ensures indexes { self.new.indexes ≡ self.old.indexes }
         ensures known { AreFronts self.old.histories self.new.histories }
+        ensures parts { length self.new.converted ≡ length blend.now.indexes }
         ensures converted { AllConverted blend.now.setting self.old.histories self.new.converted }
         ensures grown { result ≡ few_counted self.new.converted - few_counted self.old.converted }
     {

@@ -5,7 +5,6 @@ ghost use Rattle.eb_blend.specs.Blended.{falling};
 ghost use Rattle.eb_blend.specs.Frames.{AllAsk, Asks, found_of, searched_of};
 ghost use Rattle.eb_blend.specs.Parts.{joined};
 
-use crate::copy::copy;
 use crate::order::keep_greatest;
 use eb_base::{NoMemory, Query};
 use eb_cursor::Frame;
@@ -37,7 +36,7 @@ impl BlendFrame {
         let mut frames = Vec::with_capacity(alloc, parts as usize)?;
         for _part in 0..parts {
             lengths.push(0)?;
-            frames.push(Frame::new(alloc, copy(alloc, query)?, k)?)?;
+            frames.push(Frame::new(alloc, query.copy(alloc)?, k)?)?;
         }
         Ok(BlendFrame {
             k,

@@ -4,7 +4,6 @@
 
 mod blend;
 mod converter;
-mod copy;
 mod frame;
 mod laws;
 mod order;

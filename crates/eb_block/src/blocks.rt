@@ -33,7 +33,7 @@ pub fn pack_block(postings: &[Posting], into: &mut [u64; BLOCK_WORDS]) -> usize
         bits: Bits::none(),
     };
     for i in 1..postings.len() {
-        spot = pour(into, spot, u64::from(postings[i - 1] - postings[i]), width);
+        spot = pour(into, spot, postings[i - 1] - postings[i], width);
     }
     close(into, spot)
 }
@@ -56,7 +56,7 @@ pub fn unpack_block(words: &[u64], into: &mut [Posting; BLOCK_POSTINGS]) -> usiz
     for i in 1..count {
         let (difference, next) = draw(words, spot, width);
         spot = next;
-        posting -= difference as Posting;
+        posting -= difference;
         into[i] = posting;
     }
     count
@@ -69,7 +69,7 @@ fn width_of(postings: &[Posting]) -> u32
 {
     let mut widest = 0u64;
     for i in 1..postings.len() {
-        widest = u64::from(postings[i - 1] - postings[i]).max(widest);
+        widest = (postings[i - 1] - postings[i]).max(widest);
     }
     64 - widest.leading_zeros()
 }
@@ -77,11 +77,12 @@ fn width_of(postings: &[Posting]) -> u32
 // The header of a block.
 #[inline(always)]
 fn header(posting: Posting, width: u32, count: u64) -> u64
+    requires posting { posting < 2 ^ posting_bits }
     requires width { width < 2 ^ 8 }
     requires count { count < 2 ^ 8 }
     ensures { result ≡ posting * 2 ^ 16 + width * 2 ^ 8 + count }
 {
-    (u64::from(posting) << 16) + (u64::from(width) << 8) + count
+    (posting << 16) + (u64::from(width) << 8) + count
 }
 
 // How many postings the block with this header has.
@@ -106,7 +107,7 @@ pub(crate) fn posting_in(header: u64) -> Posting
     requires { header < 2 ^ (16 + posting_bits) }
     ensures { result ≡ header / 2 ^ 16 }
 {
-    (header >> 16) as Posting
+    header >> 16
 }
 
 // Writes one more field.

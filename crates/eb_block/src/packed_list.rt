@@ -276,14 +276,14 @@ impl PackedList {
         if self.width <= self.bits.count {
             let (field, bits) = self.bits.first(self.width);
             self.bits = bits;
-            self.last -= field as Posting;
+            self.last -= field;
             return;
         }
         let word = packed_word(port, self.segment, self.at, steps);
         let (field, bits) = self.bits.first_over(word, self.width);
         self.at += 1;
         self.bits = bits;
-        self.last -= field as Posting;
+        self.last -= field;
     }
 
     // Loads the header of the next block, where it isn't loaded.

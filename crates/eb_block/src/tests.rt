@@ -1,4 +1,6 @@
-ghost use Rattle.std.specs.Prelude.{◌≡◌, true};
+ghost use Rattle.std.specs.Prelude.{◌≡◌, ◌^◌, true};
+ghost use Rattle.eb_place.specs.Falling.{AllBelow};
+ghost use Rattle.eb_place.specs.Postings.{posting_bits};
 ghost use Rattle.eb_block.specs.Blocks.{IsPackable};
 
 use super::{BLOCK_POSTINGS, BLOCK_WORDS, pack_block, unpack_block};
@@ -6,11 +8,26 @@ use eb_place::{POSTING_BITS, Posting};
 use std::alloc::Global;
 use std::test::Fail;
 
+// The greatest posting.
+const GREATEST: Posting = (1 << POSTING_BITS) - 1;
+
+// Whether none of these is above the greatest posting.
+fn are_small(postings: &[Posting]) -> bool
+    ensures { result ≡ true → AllBelow (2 ^ posting_bits) postings.now }
+{
+    for i in 0..postings.len() {
+        if postings[i] > GREATEST {
+            return false;
+        }
+    }
+    true
+}
+
 // Whether these are 1 to 128 postings that fall.
 fn is_packable(postings: &[Posting]) -> bool
     ensures { result ≡ true → IsPackable postings.now }
 {
-    if postings.is_empty() || postings.len() > BLOCK_POSTINGS {
+    if postings.is_empty() || postings.len() > BLOCK_POSTINGS || !are_small(postings) {
         return false;
     }
     for i in 1..postings.len() {
@@ -70,6 +87,14 @@ fn blocks_have_their_words(rt: HostRuntime) -> Result<(), Fail> {
             vec![in alloc; 281474976653314, 4294967295]?,
         ),
         (
+            vec![in alloc; 1099511627775, 0]?,
+            vec![in alloc; 72057594037872642, 1099511627775]?,
+        ),
+        (
+            vec![in alloc; 65536, 1023]?,
+            vec![in alloc; 4294971394, 64513]?,
+        ),
+        (
             vec![in alloc; 8388612, 8388611, 8388609, 0]?,
             vec![in alloc; 549756082180, 281475010265089, 128]?,
         ),
@@ -92,9 +117,9 @@ fn blocks_have_their_words(rt: HostRuntime) -> Result<(), Fail> {
 // Postings whose greatest difference, in the middle, has so many bits; `power` is 2 to this.
 fn made(alloc: Global, count: usize, power: u64) -> Result<Vec<Posting>, Fail> {
     let mut postings = Vec::new(alloc);
-    let mut posting = u64::from(Posting::MAX);
+    let mut posting = GREATEST;
     for i in 0..count {
-        postings.push(Posting::try_from(posting).unwrap_or(0))?;
+        postings.push(posting)?;
         let small = (i as u64).saturating_mul(40503) % power.saturating_sub(1).clamp(1, 1 << 20)
             + 1;
         let difference = if i == (count - 1) / 2 {
@@ -110,7 +135,7 @@ fn made(alloc: Global, count: usize, power: u64) -> Result<Vec<Posting>, Fail> {
 // The words of a block by its definition, bit by bit.
 fn defined(alloc: Global, postings: &[Posting], width: u64) -> Result<Vec<u64>, Fail> {
     let mut words = Vec::new(alloc);
-    let first = u64::from(postings.first().copied().unwrap_or(0));
+    let first = postings.first().copied().unwrap_or(0);
     let count = postings.len() as u64;
     words.push(
         first
@@ -169,6 +194,6 @@ fn made_blocks_are_as_defined(rt: HostRuntime) -> Result<(), Fail> {
             blocks = blocks.saturating_add(1);
         }
     }
-    assert_eq!(rt; blocks, 4096);
+    assert_eq!(rt; blocks, 5120);
     Ok(())
 }

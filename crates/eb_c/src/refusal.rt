@@ -16,7 +16,7 @@ pub enum Refusal {
     BadJson,
     /// A document line has no number as its `id` or no string as its `text`.
     BadDocument,
-    /// A document has more than 256 tokens, or more than 4,096 bytes of them.
+    /// A document has more than 1,024 tokens, or more than 16,384 bytes of them.
     TooLong,
     /// There is no room for the document: it doesn't fit the last segment, and all segments are begun.
     Full,

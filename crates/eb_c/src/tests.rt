@@ -22,7 +22,7 @@ const NOTHING: Segment = Segment {
 fn begin(words: &mut [u64], index: &mut Index) -> Result<(), Fail>
     ensures { OnOk result (IsIndex index.new words.new) }
 {
-    if eb_begin(words, index, 1, 2, 256) != 0 {
+    if eb_begin(words, index, 1, 2, 1024) != 0 {
         return Err(Fail::new("no index"));
     }
     Ok(())
@@ -83,9 +83,9 @@ fn ask_text(
 #[test]
 fn the_calls_answer(rt: HostRuntime) -> Result<(), Fail> {
     let alloc = rt.alloc();
-    assert_eq!(rt; eb_words(1, 2, 256), 19_717);
-    assert_eq!(rt; eb_words(0, 2, 256), 0);
-    let mut memory = vec![in alloc; 7u64; 19_717]?;
+    assert_eq!(rt; eb_words(1, 2, 1024), 78_853);
+    assert_eq!(rt; eb_words(0, 2, 1024), 0);
+    let mut memory = vec![in alloc; 7u64; 78_853]?;
     let words = memory.as_mut_slice();
     let mut index = Index {
         documents: 7,
@@ -96,8 +96,8 @@ fn the_calls_answer(rt: HostRuntime) -> Result<(), Fail> {
         begun: 7,
         last: NOTHING,
     };
-    assert_eq!(rt; eb_begin(words, &mut index, 0, 2, 256), 13);
-    assert_eq!(rt; eb_begin(words, &mut index, 1, 3, 256), 14);
+    assert_eq!(rt; eb_begin(words, &mut index, 0, 2, 1024), 13);
+    assert_eq!(rt; eb_begin(words, &mut index, 1, 3, 1024), 14);
     begin(words, &mut index)?;
     assert_eq!(rt;
         add_line(

@@ -8,11 +8,11 @@ fn by_pool(new: NewSlices) -> (u32, u32, u32, u32) {
 
 #[test]
 fn further_postings_take_slices(rt: HostRuntime) -> Result<(), Fail> {
-    assert_eq!(rt; by_pool(needs(0, 256)), (1, 1, 1, 1));
+    assert_eq!(rt; by_pool(needs(0, 1024)), (1, 1, 1, 1));
     assert_eq!(rt; by_pool(needs(0, 0)), (0, 0, 0, 0));
     assert_eq!(rt; by_pool(needs(2, 1)), (0, 1, 0, 0));
     assert_eq!(rt; by_pool(needs(1073741840, 1)), (0, 0, 1, 0));
     assert_eq!(rt; by_pool(needs(2147483776, 1)), (0, 0, 0, 1));
-    assert_eq!(rt; by_pool(needs(3221227520, 256)), (0, 0, 0, 1));
+    assert_eq!(rt; by_pool(needs(3221227520, 1024)), (0, 0, 0, 1));
     Ok(())
 }

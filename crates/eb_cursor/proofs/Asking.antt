@@ -9,7 +9,7 @@ use Rattle.eb_place.specs.Moments.{IsMoment}
 use Rattle.eb_place.specs.Later.{IsNotBefore}
 use Rattle.eb_cursor.specs.Tops.{top}
 use Rattle.eb_cursor.specs.Lists.{gives}
-use Rattle.eb_cursor.specs.Posted.{terms_in, match_at}
+use Rattle.eb_cursor.specs.Posted.{doc_in, match_at}
 use Rattle.eb_cursor.specs.Asked.{IsNumberBelow}
 use Rattle.eb_cursor.specs.Ready.{Ready}
 use Rattle.eb_cursor.specs.Greatest.{MatchesAt, IsGreatestMatch}
@@ -32,7 +32,7 @@ asks_at l m f docs document cs may later e =
 
 there_matches : (q : Tree) (docs : List Doc) (n : ℕ) → MatchesAt q docs n → (n < length docs) × (match_at docs q n ≡ true)
 there_matches q docs n h =
-    (in_docs docs n h.0 h.1, ap (λ (o : Option Doc). is_match q (terms_in o)) h.1 ∙ (match_decides q h.0).1 h.2)
+    (in_docs docs n h.0 h.1, ap (λ (o : Option Doc). is_match q (doc_in o)) h.1 ∙ (match_decides q h.0).1 h.2)
   where
     in_docs : (ds : List Doc) (n : ℕ) (d : Doc) → slice_get ds n ≡ Some d → n < length ds
     in_docs [] n d e = cc

@@ -1,22 +1,25 @@
 -- What the cursors hold at the beginning.
-use Rattle.std.proofs.Common.{◌≡◌, ℕ, zero, suc, ◌+◌, ◌-◌, ◌*◌, ◌/◌, ◌%◌, ◌<◌, ◌≤◌, Bool, true, false, not, List, [], ◌∷◌, ◌++◌, length, take, drop, get_or, set, None, slice_get, if◌then◌else◌, refl, sym, ap, ◌∙◌, subst, inl, inr, arith, length-set}
+use Rattle.std.proofs.Common.{◌≡◌, ℕ, zero, suc, ◌+◌, ◌-◌, ◌*◌, ◌/◌, ◌%◌, ◌<◌, ◌≤◌, Bool, true, false, not, leb, List, [], ◌∷◌, ◌++◌, length, take, drop, get_or, set, None, slice_get, if◌then◌else◌, refl, sym, ap, ◌∙◌, subst, inl, inr, arith, length-set}
 use Rattle.std.proofs.lemmas.Bool.{cases_Bool, cases_lt, and_left, and_right, and_parts, lt-leb, false≢true}
 use Rattle.eb_base.specs.Document.{Doc}
-use Rattle.eb_base.specs.Query.{Tree, Trees, size, sizes, word, phrase, negation, conjunction, disjunction, no_trees, trees, IsFormed, AreFormed}
+use Rattle.eb_base.specs.Query.{Tree, Trees, size, sizes, word, phrase, window, since, negation, conjunction, disjunction, no_trees, trees, IsFormed, AreFormed}
 use Rattle.eb_place.specs.Postings.{places}
 use Rattle.eb_place.specs.declared.moment.Moment.{Moment}
-use Rattle.eb_cursor.specs.Tops.{top}
+use Rattle.eb_cursor.specs.Tops.{top, before}
+use Rattle.eb_cursor.specs.Loads.{ahead}
 use Rattle.eb_cursor.specs.Lists.{Gives, gives, Gave}
-use Rattle.eb_cursor.specs.Posted.{terms_at, is_term, is_posting, is_start, has_room, is_run_from, match_at, each_at, some_at, Narrow, document_end}
+use Rattle.eb_cursor.specs.Posted.{terms_at, is_term, is_posting, is_start, has_room, is_run_from, first_below, reach_end, last_of, is_window_end, match_at, each_at, some_at, Narrow, document_end}
 use Rattle.eb_cursor.specs.Opened.{Opened}
-use Rattle.eb_cursor.specs.Ready.{IsLeaf, IsLeft, IsOnly, IsPassed, AllLeaves, Ready, AllReady, upto, rest_of}
-use Rattle.eb_cursor.specs.Begun.{AreClear, AllAt, BegunLeaves, Begun, BegunEach, BegunSome}
+use Rattle.eb_cursor.specs.Ready.{IsLeaf, IsLeft, IsOnly, IsBound, IsOnlyBound, IsPassed, AllLeaves, AllBehind, Ready, AllReady, upto, rest_of}
+use Rattle.eb_cursor.specs.Begun.{AreClear, AllAt, HasAbsent, BegunLeaves, Begun, BegunEach, BegunSome}
 use Rattle.eb_cursor.specs.declared.posting_list.PostingList.{PostingList}
 use Rattle.eb_cursor.specs.declared.cursor.Cursor.{Cursor}
 use Rattle.eb_cursor.proofs.Tellings.{IsLater, gives_later}
 use Rattle.eb_cursor.proofs.Tops.{top_implied, top_or, top_past}
 use Rattle.eb_cursor.proofs.Leaves.{leaf_lower, leaf_later, leaf_none, gave_left}
 use Rattle.eb_cursor.proofs.Readies.{ready_lower, ready_later, all_join}
+use Rattle.eb_cursor.proofs.Spans.{first_low}
+use Rattle.eb_cursor.proofs.Windows.{behind_upto, window_top}
 use Rattle.eb_cursor.proofs.Phrases.{leaves_upto, upto_set, phrase_top}
 use Rattle.eb_cursor.proofs.Documents.{top_stays, word_top}
 use Rattle.eb_cursor.proofs.Steps.{IsFront}
@@ -65,14 +68,22 @@ leaves_end n docs (t ∷ ts) (c ∷ cs) e z = absurd (omega arith)
 pub leaves_none : (n : Moment) (docs : List Doc) (ts : List (List ℕ)) (t : List ℕ) (us : List (List ℕ)) (c : Cursor) (cs : List Cursor) → ts ≡ t ∷ us → c.current ≡ None → IsLeaf (gives n) (is_posting docs t) c (places * length docs) → BegunLeaves docs ts (c ∷ cs) false n
 leaves_none n docs ts t us c cs e none leaf = record {
   ready = λ h. absurd (false≢true h);
-  none = λ _ x. subst (λ (z : List (List ℕ)). is_run_from docs z x ≡ false) (sym e) (and_left (is_posting docs t x) (is_run_from docs us (suc x)) (leaf_absent (gives n) docs t c none leaf x));
+  none = λ _. subst (HasAbsent docs) (sym e) (inl (leaf_absent (gives n) docs t c none leaf));
 }
 
 pub leaves_step : (m n : Moment) (docs : List Doc) (ts : List (List ℕ)) (t : List ℕ) (us : List (List ℕ)) (c : Cursor) (cs : List Cursor) (may : Bool) → ts ≡ t ∷ us → IsLater m n → IsLeaf (gives m) (is_posting docs t) c (places * length docs) → BegunLeaves docs us cs may n → BegunLeaves docs ts (c ∷ cs) may n
 leaves_step m n docs ts t us c cs may e w leaf more = record {
   ready = λ h. subst (λ (z : List (List ℕ)). AllAt (gives n) docs z (c ∷ cs) (places * length docs)) (sym e) (leaf_later (gives m) (gives n) (gives_later m n w) (is_posting docs t) c (places * length docs) leaf, more.ready h);
-  none = λ h x. subst (λ (z : List (List ℕ)). is_run_from docs z x ≡ false) (sym e) (and_right (is_posting docs t x) (is_run_from docs us (suc x)) (more.none h (suc x)));
+  none = λ h. subst (HasAbsent docs) (sym e) (inr (more.none h));
 }
+
+-- nothing stands from a place on where a term stands nowhere
+absent_run : (docs : List Doc) (ts : List (List ℕ)) → HasAbsent docs ts → (x : ℕ) → is_run_from docs ts x ≡ false
+absent_run docs [] h x = absurd h
+absent_run docs (t ∷ ts) h x = elim h [
+  | inl none ↦ and_left (is_posting docs t x) (is_run_from docs ts (suc x)) (none x)
+  | inr more ↦ and_right (is_posting docs t x) (is_run_from docs ts (suc x)) (absent_run docs ts more (suc x))
+]
 
 leaves_from : (g : Gives) (docs : List Doc) (ts : List (List ℕ)) (cursors : List Cursor) (low end : ℕ) → low + length ts ≤ end + 1 → AllAt g docs ts cursors end → AllLeaves g docs ts cursors low
 leaves_from g docs [] cursors low end h r = r
@@ -130,10 +141,28 @@ word_clear g docs t [] w h e = absurd (omega arith)
 word_clear g docs t (c ∷ []) w h e = (refl, w, leaf_clear g (is_posting docs t) c h.0)
 word_clear g docs t (c ∷ (x ∷ xs)) w h e = absurd (omega arith)
 
+bound_clear : (g : Gives) (docs : List Doc) (x : ℕ) (cs : List Cursor) → AreClear cs → length cs ≡ 1 → IsOnlyBound g docs x cs 0
+bound_clear g docs x [] h e = absurd (omega arith)
+bound_clear g docs x (c ∷ []) h e =
+    let none : ahead c.current ≡ 0 = ap ahead h.0 in (
+      refl,
+      record {
+        passed = passed_zero (match_at docs (since x)) c.upto;
+        firsts = λ some. absurd (omega (arith, h.1));
+        within = omega (arith, h.1);
+        near = omega (arith, h.1);
+        low = omega (arith, none);
+        known = λ low. absurd (omega (arith, h.1));
+      },
+    )
+bound_clear g docs x (c ∷ (y ∷ ys)) h e = absurd (omega arith)
+
 mutual
   pub clear_ready : (g : Gives) (docs : List Doc) (q : Tree) (cs : List Cursor) → Narrow docs → AreClear cs → IsFormed q → length cs ≡ size q → Ready g docs q cs 0
   clear_ready g docs (word t) cs w h f e = word_clear g docs t cs w h e
   clear_ready g docs (phrase ts) cs w h f e = (omega (arith, e, f), w, passed_zero (is_start docs ts) (upto cs), e, λ some. absurd (omega (arith, clear_upto cs h)))
+  clear_ready g docs (window ts w) cs narrow h f e = (omega (arith, e, f.0), narrow, passed_zero (is_window_end docs ts w) (upto cs), e, λ some. absurd (omega (arith, clear_upto cs h)))
+  clear_ready g docs (since x) cs w h f e = bound_clear g docs x cs h e
   clear_ready g docs (negation q) cs w h f e = (omega (arith, e), passed_zero (λ n. not (match_at docs q n)) (upto cs), subst (λ k. Ready g docs q (rest_of cs) k) (sym (clear_upto cs h)) (clear_ready g docs q (rest_of cs) w (clear_rest cs h) f (length_rest cs (size q) (omega (arith, e)))))
   clear_ready g docs (conjunction qs) cs w h f e = (omega (arith, e), passed_zero (each_at docs qs) (upto cs), subst (λ k. AllReady g docs qs (rest_of cs) k) (sym (clear_upto cs h)) (clear_all g docs qs (rest_of cs) w (clear_rest cs h) f.1 (length_rest cs (sizes qs) (omega (arith, e)))))
   clear_ready g docs (disjunction qs) cs w h f e = (omega (arith, e), clear_all g docs qs (rest_of cs) w (clear_rest cs h) f.1 (length_rest cs (sizes qs) (omega (arith, e))))
@@ -177,46 +206,121 @@ top_never : (f : ℕ → Bool) → ((n : ℕ) → f n ≡ false) → (n : ℕ) �
 top_never f w zero = refl
 top_never f w (suc n) = rw (w n) (top_never f w n)
 
-phrase_set : (g : Gives) (docs : List Doc) (ts : List (List ℕ)) (cursors : List Cursor) (d : Cursor) (low lead : ℕ) → 0 < length cursors → length cursors ≡ length ts → Narrow docs → IsPassed (is_start docs ts) low (places * length docs) → (0 < low → AllLeaves g docs ts cursors low)
-    → Ready g docs (phrase ts) (set cursors 0 (record { upto = low; lead = lead; current = (get_or cursors 0 d).current; list = (get_or cursors 0 d).list })) (length docs)
-phrase_set g docs ts cursors d low lead some len w passed leaves =
-    let c : Cursor = record { upto = low; lead = lead; current = (get_or cursors 0 d).current; list = (get_or cursors 0 d).list } in
+phrase_set : (g : Gives) (docs : List Doc) (ts : List (List ℕ)) (cursors : List Cursor) (d : Cursor) (low lead segment : ℕ) → 0 < length cursors → length cursors ≡ length ts → Narrow docs → IsPassed (is_start docs ts) low (places * length docs) → (0 < low → AllLeaves g docs ts cursors low)
+    → Ready g docs (phrase ts) (set cursors 0 (record { upto = low; lead = lead; segment = segment; current = (get_or cursors 0 d).current; list = (get_or cursors 0 d).list })) (length docs)
+phrase_set g docs ts cursors d low lead segment some len w passed leaves =
+    let c : Cursor = record { upto = low; lead = lead; segment = segment; current = (get_or cursors 0 d).current; list = (get_or cursors 0 d).list } in
     let u : upto (set cursors 0 c) ≡ low = upto_set cursors c some in
     let long = length-set cursors 0 c in (
       omega arith,
       w,
       subst (λ y. IsPassed (is_start docs ts) y (places * length docs)) (sym u) passed,
       long ∙ len,
-      subst (λ y. 0 < y → AllLeaves g docs ts (set cursors 0 c) y) (sym u) (λ h. leaves_upto g docs ts cursors d low lead low (leaves h)),
+      subst (λ y. 0 < y → AllLeaves g docs ts (set cursors 0 c) y) (sym u) (λ h. leaves_upto g docs ts cursors d low lead segment low (leaves h)),
     )
 
 never_starts : (docs : List Doc) (ts : List (List ℕ)) → ((x : ℕ) → is_run_from docs ts x ≡ false) → (n : ℕ) → top (is_start docs ts) n ≡ 0
 never_starts docs ts h n = top_never (is_start docs ts) (λ x. and_right (has_room (length ts) x) (is_run_from docs ts x) (h x)) n
 
-phrase_ready : (n : Moment) (docs : List Doc) (ts : List (List ℕ)) (cursors : List Cursor) (d : Cursor) (low lead end : ℕ) (may : Bool) → 2 ≤ length ts → length ts ≤ 64 → 0 < length docs → end ≡ places * length docs + 1 - length ts → low ≡ (if may then end else 0) → length cursors ≡ length ts → Narrow docs → BegunLeaves docs ts cursors may n
-    → Ready (gives n) docs (phrase ts) (set cursors 0 (record { upto = low; lead = lead; current = (get_or cursors 0 d).current; list = (get_or cursors 0 d).list })) (length docs)
-phrase_ready n docs ts cursors d low lead end true few most some at e len w begun =
+phrase_ready : (n : Moment) (docs : List Doc) (ts : List (List ℕ)) (cursors : List Cursor) (d : Cursor) (low lead segment end : ℕ) (may : Bool) → 2 ≤ length ts → length ts ≤ 64 → 0 < length docs → end ≡ places * length docs + 1 - length ts → low ≡ (if may then end else 0) → length cursors ≡ length ts → Narrow docs → BegunLeaves docs ts cursors may n
+    → Ready (gives n) docs (phrase ts) (set cursors 0 (record { upto = low; lead = lead; segment = segment; current = (get_or cursors 0 d).current; list = (get_or cursors 0 d).list })) (length docs)
+phrase_ready n docs ts cursors d low lead segment end true few most some at e len w begun =
     let k : low ≡ places * length docs + 1 - length ts = e ∙ at in
-    phrase_set (gives n) docs ts cursors d low lead (omega arith) len w
+    phrase_set (gives n) docs ts cursors d low lead segment (omega arith) len w
     (subst (λ y. IsPassed (is_start docs ts) y (places * length docs)) (sym k) (phrase_passed docs ts (length docs) (omega arith) (omega arith) some))
     (λ _. leaves_from (gives n) docs ts cursors low (places * length docs) (omega arith) (begun.ready refl))
-phrase_ready n docs ts cursors d low lead end false few most some at e len w begun =
-    phrase_set (gives n) docs ts cursors d low lead (omega arith) len w
-    (record { same = λ _. never_starts docs ts (begun.none refl) (places * length docs) ∙ sym (never_starts docs ts (begun.none refl) low) })
+phrase_ready n docs ts cursors d low lead segment end false few most some at e len w begun =
+    phrase_set (gives n) docs ts cursors d low lead segment (omega arith) len w
+    (record { same = λ _. never_starts docs ts (absent_run docs ts (begun.none refl)) (places * length docs) ∙ sym (never_starts docs ts (absent_run docs ts (begun.none refl)) low) })
     (λ h. absurd (omega (arith, e)))
 
-pub begun_phrase : (n : Moment) (docs : List Doc) (q : Tree) (ts : List (List ℕ)) (cursors : List Cursor) (d : Cursor) (low lead end : ℕ) (may : Bool) → q ≡ phrase ts → 2 ≤ length ts → length ts ≤ 64 → 0 < length docs → end ≡ places * length docs + 1 - length ts → low ≡ (if may then end else 0) → length cursors ≡ length ts → Narrow docs → BegunLeaves docs ts cursors may n
-    → Begun docs q (set cursors 0 (record { upto = low; lead = lead; current = (get_or cursors 0 d).current; list = (get_or cursors 0 d).list })) may n
-begun_phrase n docs q ts cursors d low lead end may i few most some at e len w begun =
-    let c : Cursor = record { upto = low; lead = lead; current = (get_or cursors 0 d).current; list = (get_or cursors 0 d).list } in
+pub begun_phrase : (n : Moment) (docs : List Doc) (q : Tree) (ts : List (List ℕ)) (cursors : List Cursor) (d : Cursor) (low lead segment end : ℕ) (may : Bool) → q ≡ phrase ts → 2 ≤ length ts → length ts ≤ 64 → 0 < length docs → end ≡ places * length docs + 1 - length ts → low ≡ (if may then end else 0) → length cursors ≡ length ts → Narrow docs → BegunLeaves docs ts cursors may n
+    → Begun docs q (set cursors 0 (record { upto = low; lead = lead; segment = segment; current = (get_or cursors 0 d).current; list = (get_or cursors 0 d).list })) may n
+begun_phrase n docs q ts cursors d low lead segment end may i few most some at e len w begun =
+    let c : Cursor = record { upto = low; lead = lead; segment = segment; current = (get_or cursors 0 d).current; list = (get_or cursors 0 d).list } in
     record {
-      ready = subst (λ (x : Tree). Ready (gives n) docs x (set cursors 0 c) (length docs)) (sym i) (phrase_ready n docs ts cursors d low lead end may few most some at e len w begun);
-      none = λ h. ap (λ (x : Tree). top (match_at docs x) (length docs)) i ∙ phrase_top docs w ts (omega arith) (length docs) ∙ ap document_end (never_starts docs ts (begun.none h) (places * length docs));
+      ready = subst (λ (x : Tree). Ready (gives n) docs x (set cursors 0 c) (length docs)) (sym i) (phrase_ready n docs ts cursors d low lead segment end may few most some at e len w begun);
+      none = λ h. ap (λ (x : Tree). top (match_at docs x) (length docs)) i ∙ phrase_top docs w ts (omega arith) (length docs) ∙ ap document_end (never_starts docs ts (absent_run docs ts (begun.none h)) (places * length docs));
     }
 
 -- an operator begins with nothing passed
 passed_self : (f : ℕ → Bool) (low n : ℕ) → low ≡ n → IsPassed f low n
 passed_self f low n e = record { same = λ h. ap (top f) (sym e) }
+
+-- ---- windows
+
+behind_from : (g : Gives) (docs : List Doc) (ts : List (List ℕ)) (cursors : List Cursor) (low end : ℕ) → low ≤ end → AllAt g docs ts cursors end → AllBehind g docs ts cursors low
+behind_from g docs [] cursors low end h r = r
+behind_from g docs (t ∷ ts) [] low end h r = r
+behind_from g docs (t ∷ ts) (c ∷ cs) low end h r = (leaf_lower g (is_posting docs t) c (before (first_below docs ts low)) end (omega (arith, first_low docs ts low)) r.0, behind_from g docs ts cs low end h r.1)
+
+-- where a term stands nowhere no window ends
+absent_first : (docs : List Doc) (ts : List (List ℕ)) → HasAbsent docs ts → (end : ℕ) → first_below docs ts end ≡ 0
+absent_first docs [] h end = absurd h
+absent_first docs (t ∷ ts) h end = elim h [
+  | inl none ↦ top_never (is_posting docs t) none (before (first_below docs ts end))
+  | inr more ↦ ap (λ (k : ℕ). top (is_posting docs t) (before k)) (absent_first docs ts more end)
+]
+
+absent_window : (docs : List Doc) (ts : List (List ℕ)) (w : ℕ) → HasAbsent docs ts → (x : ℕ) → is_window_end docs ts w x ≡ false
+absent_window docs ts w h x =
+    let none : reach_end w (first_below docs ts (suc x)) < suc x = omega (arith, ap (reach_end w) (absent_first docs ts h (suc x))) in
+    and_right (is_posting docs (last_of ts) x) (leb (suc x) (reach_end w (first_below docs ts (suc x)))) (lt-leb (suc x) (reach_end w (first_below docs ts (suc x))) none)
+
+window_set : (g : Gives) (docs : List Doc) (ts : List (List ℕ)) (w : ℕ) (cursors : List Cursor) (d : Cursor) (low lead segment : ℕ) → 0 < length cursors → length cursors ≡ length ts → Narrow docs → IsPassed (is_window_end docs ts w) low (places * length docs) → (0 < low → AllBehind g docs ts cursors low)
+    → Ready g docs (window ts w) (set cursors 0 (record { upto = low; lead = lead; segment = segment; current = (get_or cursors 0 d).current; list = (get_or cursors 0 d).list })) (length docs)
+window_set g docs ts w cursors d low lead segment some len narrow passed leaves =
+    let c : Cursor = record { upto = low; lead = lead; segment = segment; current = (get_or cursors 0 d).current; list = (get_or cursors 0 d).list } in
+    let u : upto (set cursors 0 c) ≡ low = upto_set cursors c some in
+    let long = length-set cursors 0 c in (
+      omega arith,
+      narrow,
+      subst (λ y. IsPassed (is_window_end docs ts w) y (places * length docs)) (sym u) passed,
+      long ∙ len,
+      subst (λ y. 0 < y → AllBehind g docs ts (set cursors 0 c) y) (sym u) (λ h. behind_upto g docs ts cursors d low lead segment low (leaves h)),
+    )
+
+window_ready : (n : Moment) (docs : List Doc) (ts : List (List ℕ)) (w : ℕ) (cursors : List Cursor) (d : Cursor) (low lead segment end : ℕ) (may : Bool) → 0 < length ts → end ≡ places * length docs → low ≡ (if may then end else 0) → length cursors ≡ length ts → Narrow docs → BegunLeaves docs ts cursors may n
+    → Ready (gives n) docs (window ts w) (set cursors 0 (record { upto = low; lead = lead; segment = segment; current = (get_or cursors 0 d).current; list = (get_or cursors 0 d).list })) (length docs)
+window_ready n docs ts w cursors d low lead segment end true some at e len narrow begun =
+    let k : low ≡ places * length docs = e ∙ at in
+    window_set (gives n) docs ts w cursors d low lead segment (omega arith) len narrow (passed_self (is_window_end docs ts w) low (places * length docs) k)
+    (λ _. behind_from (gives n) docs ts cursors low (places * length docs) (omega arith) (begun.ready refl))
+window_ready n docs ts w cursors d low lead segment end false some at e len narrow begun =
+    let none = absent_window docs ts w (begun.none refl) in
+    window_set (gives n) docs ts w cursors d low lead segment (omega arith) len narrow
+    (record { same = λ _. top_never (is_window_end docs ts w) none (places * length docs) ∙ sym (top_never (is_window_end docs ts w) none low) })
+    (λ h. absurd (omega (arith, e)))
+
+pub begun_window : (n : Moment) (docs : List Doc) (ts : List (List ℕ)) (w : ℕ) (cursors : List Cursor) (d : Cursor) (low lead segment end : ℕ) (may : Bool) → 0 < length ts → end ≡ places * length docs → low ≡ (if may then end else 0) → length cursors ≡ length ts → Narrow docs → BegunLeaves docs ts cursors may n
+    → Begun docs (window ts w) (set cursors 0 (record { upto = low; lead = lead; segment = segment; current = (get_or cursors 0 d).current; list = (get_or cursors 0 d).list })) may n
+begun_window n docs ts w cursors d low lead segment end may some at e len narrow begun = record {
+  ready = window_ready n docs ts w cursors d low lead segment end may some at e len narrow begun;
+  none = λ h. window_top docs narrow ts w some (length docs) ∙ ap document_end (top_never (is_window_end docs ts w) (absent_window docs ts w (begun.none h)) (places * length docs));
+}
+
+-- ---- bounds on ids
+
+pub bound_begun : (g : Gives) (docs : List Doc) (x : ℕ) (c : Cursor) → c.upto ≡ length docs → ahead c.current ≡ c.upto → g.firsts c.segment docs → IsBound g docs x c (length docs)
+bound_begun g docs x c upto current first = record {
+  passed = passed_self (match_at docs (since x)) c.upto (length docs) upto;
+  firsts = λ some. first;
+  within = omega (arith, upto);
+  near = omega (arith, current);
+  low = omega (arith, current);
+  known = λ low. absurd (omega (arith, low, current));
+}
+
+pub begun_since : (n : Moment) (docs : List Doc) (q : Tree) (x : ℕ) (cursors : List Cursor) (c : Cursor) → q ≡ since x → length cursors ≡ 1 → IsBound (gives n) docs x c (length docs) → Begun docs q (set cursors 0 c) true n
+begun_since n docs q x cursors c i one bound = record {
+  ready = subst (λ (z : Tree). Ready (gives n) docs z (set cursors 0 c) (length docs)) (sym i) (only cursors one);
+  none = λ h. absurd (false≢true (sym h));
+}
+  where
+    only : (cs : List Cursor) → length cs ≡ 1 → IsOnlyBound (gives n) docs x (set cs 0 c) (length docs)
+    only [] e = absurd (omega arith)
+    only (y ∷ []) e = (refl, bound)
+    only (y ∷ (z ∷ zs)) e = absurd (omega arith)
 
 pub begun_not : (n : Moment) (docs : List Doc) (q' q : Tree) (c : Cursor) (rest : List Cursor) (may : Bool) → q' ≡ negation q → c.upto ≡ length docs → Begun docs q rest may n → Begun docs q' (c ∷ rest) true n
 begun_not n docs q' q c rest may i u begun =

@@ -6,10 +6,11 @@ use Rattle.eb_cursor.specs.Loads.{ahead}
 use Rattle.eb_cursor.specs.Ready.{IsLeft, IsLeaf}
 use Rattle.eb_cursor.specs.declared.posting_list.PostingList.{PostingList}
 use Rattle.eb_cursor.specs.declared.cursor.Cursor.{Cursor}
+use Rattle.eb_cursor.proofs.Tellings.{Later}
 use Rattle.eb_cursor.proofs.Tops.{from_below_in, from_below_past, from_below_twice, from_below-below, top_none, top_first}
 
 -- what is left, where the current posting is known
-left_some : (g : Gives) (o : Option ℕ) (list : PostingList) (zs : List ℕ) (p : ℕ) → o ≡ Some p → IsLeft g o list zs → (ys : List ℕ) × (zs ≡ p ∷ ys) × g list ys
+left_some : (g : Gives) (o : Option ℕ) (list : PostingList) (zs : List ℕ) (p : ℕ) → o ≡ Some p → IsLeft g o list zs → (ys : List ℕ) × (zs ≡ p ∷ ys) × g.lists list ys
 left_some g o list zs p e h = rw e at h
 
 left_none : (g : Gives) (o : Option ℕ) (list : PostingList) (zs : List ℕ) → o ≡ None → IsLeft g o list zs → zs ≡ []
@@ -32,11 +33,11 @@ leaf_lower g f s e last h leaf = record {
   rest = sym (from_below_twice e last leaf.left h) ∙ ap (from_below e) leaf.rest ∙ from_below-below f e last h;
 }
 
-left_later : (g g' : Gives) → ((c : PostingList) (xs : List ℕ) → g c xs → g' c xs) → (o : Option ℕ) (list : PostingList) (zs : List ℕ) → IsLeft g o list zs → IsLeft g' o list zs
+left_later : (g g' : Gives) → Later g g' → (o : Option ℕ) (list : PostingList) (zs : List ℕ) → IsLeft g o list zs → IsLeft g' o list zs
 left_later g g' w None list zs h = h
-left_later g g' w (Some p) list zs h = (h.0, h.1, w list h.0 h.2)
+left_later g g' w (Some p) list zs h = (h.0, h.1, w.lists list h.0 h.2)
 
-pub leaf_later : (g g' : Gives) → ((c : PostingList) (xs : List ℕ) → g c xs → g' c xs) → (f : ℕ → Bool) (s : Cursor) (last : ℕ) → IsLeaf g f s last → IsLeaf g' f s last
+pub leaf_later : (g g' : Gives) → Later g g' → (f : ℕ → Bool) (s : Cursor) (last : ℕ) → IsLeaf g f s last → IsLeaf g' f s last
 leaf_later g g' w f s last leaf = record {
   left = leaf.left;
   told = left_later g g' w s.current s.list leaf.left leaf.told;
@@ -47,14 +48,14 @@ leaf_later g g' w f s last leaf = record {
 -- what a list's next call gives
 -- what was given of what is left, where it's known
 abbrev pub Given : Gives → PostingList → List ℕ → Option ℕ → Type 0
-Given g list xs r = MatchOption r (xs ≡ []) (λ p. (ys : List ℕ) × (xs ≡ p ∷ ys) × g list ys)
+Given g list xs r = MatchOption r (xs ≡ []) (λ p. (ys : List ℕ) × (xs ≡ p ∷ ys) × g.lists list ys)
 
 pub gave_left : (g : Gives) (list : PostingList) (xs : List ℕ) (r : Option ℕ) → Given g list xs r → IsLeft g r list xs
 gave_left g list xs None h = h
 gave_left g list xs (Some p) h = h
 
 -- what is left behind the current posting
-pub leaf_left : (g : Gives) (f : ℕ → Bool) (s : Cursor) (p e : ℕ) → s.current ≡ Some p → (leaf : IsLeaf g f s e) → (ys : List ℕ) × (leaf.left ≡ p ∷ ys) × g s.list ys
+pub leaf_left : (g : Gives) (f : ℕ → Bool) (s : Cursor) (p e : ℕ) → s.current ≡ Some p → (leaf : IsLeaf g f s e) → (ys : List ℕ) × (leaf.left ≡ p ∷ ys) × g.lists s.list ys
 leaf_left g f s p e is leaf = left_some g s.current s.list leaf.left p is leaf.told
 
 pub leaf_next : (g g' : Gives) (f : ℕ → Bool) (s s' : Cursor) (p e : ℕ) (ys : List ℕ) → e ≤ p → (leaf : IsLeaf g f s e) → leaf.left ≡ p ∷ ys → Given g' s'.list ys s'.current → IsLeaf g' f s' e

@@ -1,3 +1,4 @@
+pub mod Firsts
 pub mod Tellings
 pub mod Accepted
 pub mod Openings
@@ -5,10 +6,13 @@ pub mod Tops
 pub mod PostingsOf
 pub mod Leaves
 pub mod Leaps
+pub mod Spans
 pub mod Readies
 pub mod Documents
 pub mod Steps
 pub mod Phrases
+pub mod Windows
+pub mod Bounds
 pub mod Begins
 pub mod Owing
 pub mod Rounds

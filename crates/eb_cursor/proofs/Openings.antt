@@ -16,7 +16,7 @@ use Rattle.eb_place.proofs.Counts.{count_of-append}
 use Rattle.eb_place.proofs.Closed.{seen_is, reached_few}
 use Rattle.eb_place.proofs.Enough.{length-postings}
 use Rattle.eb_place.proofs.EnteredTerms.{number_found, entered_is_term}
-use Rattle.eb_place.proofs.Grows.{later_segment, segments_grow}
+use Rattle.eb_place.proofs.Grows.{later_segment}
 use Rattle.eb_place.proofs.Histories.{terms_more, postings_more}
 use Rattle.eb_place.proofs.Laters.{later_on}
 use Rattle.eb_place.proofs.Placed.{placed_all}
@@ -34,10 +34,11 @@ use Rattle.eb_chain.specs.Chains.{Stands}
 use Rattle.eb_chain.specs.declared.chain.Chain.{Chain}
 use Rattle.eb_cursor.specs.Lists.{from_below, IsFalling}
 use Rattle.eb_cursor.specs.Posted.{Narrow}
-use Rattle.eb_cursor.specs.Accepted.{accepted_in}
-use Rattle.eb_cursor.specs.Opened.{AreFirst, CanRead, Opened}
+use Rattle.eb_cursor.specs.Accepted.{accepted_in, AreFirst}
+use Rattle.eb_cursor.specs.Opened.{CanRead, Opened}
 use Rattle.eb_cursor.specs.declared.posting_list.PostingList.TheVariants.{Empty, Live, Packed}
 use Rattle.eb_cursor.proofs.Accepted.{whole_moment, whole_lawful, whole_segment, whole_before, seen_accepted, entered_accepted}
+use Rattle.eb_cursor.proofs.Firsts.{first_on}
 use Rattle.eb_cursor.proofs.PostingsOf.{postings_below, seen_below, narrow_each, narrow_front}
 
 -- a number that was found is that of a term with postings
@@ -101,18 +102,6 @@ packed_opens m n s docs t p budget js l a stands =
       falls = subst (λ (z : List ℕ). IsFalling (reverse z)) (sym all) w.0;
       all = ap (λ (z : List ℕ). from_below (places * length docs) (reverse z)) all ∙ w.1;
     }
-
--- the segment is one of a later moment too
-pub first_later : (m n : Moment) (s : ℕ) (docs : List Doc) → IsNotBefore n m → AreFirst m s docs → s < n.setting.segments
-first_later m n s docs l a = subst (λ σ. s < σ.segments) l.setting a.inside
-
--- the first documents of a segment are so later too
-pub first_on : (m n : Moment) (s : ℕ) (docs : List Doc) → IsNotBefore n m → AreFirst m s docs → AreFirst n s docs
-first_on m n s docs l a =
-    let p = l.documents.accepted in
-    let q = segments_grow m.setting m.documents.accepted p.0 s in
-    let e : accepted_in m s ++ q.0 ≡ accepted_in n s = q.1 ∙ ap (λ (z : List Doc). get_or (cut m.setting z) s []) p.1 ∙ ap (λ σ. get_or (cut σ n.documents.accepted) s []) l.setting in
-    record { inside = first_later m n s docs l a; narrow = a.narrow; rest = a.rest ++ q.0; are = sym e ∙ ap (λ (z : List Doc). z ++ q.0) a.are ∙ append_assoc docs a.rest q.0 }
 
 -- what can be read can be read later
 pub read_on : (m n : Moment) (s : ℕ) (docs : List Doc) (packed : Bool) → IsNotBefore n m → CanRead m s docs packed → CanRead n s docs packed

@@ -189,7 +189,7 @@ starts_run ts [] = refl
 starts_run [] (p ∷ ps) = refl
 starts_run (u ∷ us) (p ∷ ps) = ap (λ (b : Bool). bytes_eq p u && b) (starts_run us ps ∙ sym (run_shift u us ps 0))
 
-slice_in : (p : List ℕ) (ts : List (List ℕ)) (k : ℕ) → is_term p (slice_get ts k) ≡ true → k < length ts
+pub slice_in : (p : List ℕ) (ts : List (List ℕ)) (k : ℕ) → is_term p (slice_get ts k) ≡ true → k < length ts
 slice_in p [] k e = cc
 slice_in p (u ∷ us) zero e = omega arith
 slice_in p (u ∷ us) (suc k) e = omega (arith, slice_in p us k e)
@@ -236,24 +236,24 @@ phrase_top docs w ps h end = blocks (match_at docs (phrase ps)) (is_start docs p
 
 -- ---- the whole phrase
 
-leaf_upto : (g : Gives) (f : ℕ → Bool) (s : Cursor) (v k y : ℕ) → IsLeaf g f s y → IsLeaf g f (record { upto = v; lead = k; current = s.current; list = s.list }) y
-leaf_upto g f s v k y r = record { left = r.left; told = r.told; falls = r.falls; rest = r.rest }
+pub leaf_upto : (g : Gives) (f : ℕ → Bool) (s : Cursor) (v k i y : ℕ) → IsLeaf g f s y → IsLeaf g f (record { upto = v; lead = k; segment = i; current = s.current; list = s.list }) y
+leaf_upto g f s v k i y r = record { left = r.left; told = r.told; falls = r.falls; rest = r.rest }
 
-pub leaves_upto : (g : Gives) (docs : List Doc) (ts : List (List ℕ)) (cursors : List Cursor) (d : Cursor) (v k y : ℕ) → AllLeaves g docs ts cursors y → AllLeaves g docs ts (set cursors 0 (record { upto = v; lead = k; current = (get_or cursors 0 d).current; list = (get_or cursors 0 d).list })) y
-leaves_upto g docs [] [] d v k y r = r
-leaves_upto g docs [] (s ∷ ss) d v k y r = let e : s ∷ ss ≡ [] = r in cc
-leaves_upto g docs (t ∷ ts) [] d v k y r = absurd r
-leaves_upto g docs (t ∷ ts) (s ∷ ss) d v k y r = (leaf_upto g (is_posting docs t) s v k y r.0, r.1)
+pub leaves_upto : (g : Gives) (docs : List Doc) (ts : List (List ℕ)) (cursors : List Cursor) (d : Cursor) (v k i y : ℕ) → AllLeaves g docs ts cursors y → AllLeaves g docs ts (set cursors 0 (record { upto = v; lead = k; segment = i; current = (get_or cursors 0 d).current; list = (get_or cursors 0 d).list })) y
+leaves_upto g docs [] [] d v k i y r = r
+leaves_upto g docs [] (s ∷ ss) d v k i y r = let e : s ∷ ss ≡ [] = r in cc
+leaves_upto g docs (t ∷ ts) [] d v k i y r = absurd r
+leaves_upto g docs (t ∷ ts) (s ∷ ss) d v k i y r = (leaf_upto g (is_posting docs t) s v k i y r.0, r.1)
 
 pub upto_set : (cursors : List Cursor) (s : Cursor) → 0 < length cursors → upto (set cursors 0 s) ≡ s.upto
 upto_set [] s h = absurd (omega arith)
 upto_set (x ∷ xs) s h = refl
 
-upto_at : (cursors : List Cursor) (d : Cursor) → 0 < length cursors → upto cursors ≡ (get_or cursors 0 d).upto
+pub upto_at : (cursors : List Cursor) (d : Cursor) → 0 < length cursors → upto cursors ≡ (get_or cursors 0 d).upto
 upto_at [] d h = absurd (omega arith)
 upto_at (x ∷ xs) d h = refl
 
-ahead_of : (start a b u : ℕ) → start ≡ min a b → (start ≡ 0 → ⊥) → u ≡ b → 0 < u
+pub ahead_of : (start a b u : ℕ) → start ≡ min a b → (start ≡ 0 → ⊥) → u ≡ b → 0 < u
 ahead_of zero a b u m some e = absurd (some refl)
 ahead_of (suc s) a b u m some e = omega arith
 
@@ -280,15 +280,15 @@ pub phrase_told : (g g' : Gives) (docs : List Doc) (ts : List (List ℕ)) (curso
     → start ≡ min (places * end) (get_or cursors 0 d).upto → end ≤ last → length cursors2 ≡ length cursors
     → (found ≡ top (is_start docs ts) start) × AllLeaves g' docs ts cursors2 found
     → Ready g docs (phrase ts) cursors last
-    → (document_end found ≡ top (match_at docs (phrase ts)) end) × Ready g' docs (phrase ts) (set cursors2 0 (record { upto = found; lead = (get_or cursors2 0 d').lead; current = (get_or cursors2 0 d').current; list = (get_or cursors2 0 d').list })) end
+    → (document_end found ≡ top (match_at docs (phrase ts)) end) × Ready g' docs (phrase ts) (set cursors2 0 (record { upto = found; lead = (get_or cursors2 0 d').lead; segment = (get_or cursors2 0 d').segment; current = (get_or cursors2 0 d').current; list = (get_or cursors2 0 d').list })) end
 phrase_told g g' docs ts cursors cursors2 d d' start end last found m h len w r =
     let f : ℕ → Bool = is_start docs ts in
     let some : 0 < length ts = omega (arith, r.3, r.0) in
     let some2 : 0 < length cursors2 = omega (arith, len, r.0) in
     let top_is : found ≡ top f (places * end) = w.0 ∙ ap (top f) m ∙ passed_min f (get_or cursors 0 d).upto (places * end) (places * last) (omega arith) (passed_at docs ts cursors d last r.0 r.2) in
-    let s' : Cursor = record { upto = found; lead = (get_or cursors2 0 d').lead; current = (get_or cursors2 0 d').current; list = (get_or cursors2 0 d').list } in
+    let s' : Cursor = record { upto = found; lead = (get_or cursors2 0 d').lead; segment = (get_or cursors2 0 d').segment; current = (get_or cursors2 0 d').current; list = (get_or cursors2 0 d').list } in
     let v : upto (set cursors2 0 s') ≡ found = upto_set cursors2 s' some2 in
     let again : IsPassed f (upto (set cursors2 0 s')) (places * end) = subst (λ y. IsPassed f y (places * end)) (sym v) (passed_again f found (places * end) top_is) in
-    let leaves : AllLeaves g' docs ts (set cursors2 0 s') (upto (set cursors2 0 s')) = subst (λ y. AllLeaves g' docs ts (set cursors2 0 s') y) (sym v) (leaves_upto g' docs ts cursors2 d' found _ found w.1) in
+    let leaves : AllLeaves g' docs ts (set cursors2 0 s') (upto (set cursors2 0 s')) = subst (λ y. AllLeaves g' docs ts (set cursors2 0 s') y) (sym v) (leaves_upto g' docs ts cursors2 d' found _ _ found w.1) in
     let long : 0 < length (set cursors2 0 s') = omega (arith, length-set cursors2 0 s') in
     (ap document_end top_is ∙ sym (phrase_top docs r.1 ts some end), (long, r.1, again, length-set cursors2 0 s' ∙ len ∙ r.3, λ _. leaves))

@@ -141,7 +141,7 @@ narrow_each ds h = record { narrow = go ds h }
   where
     go : (ds : List Doc) → Each IsDocument ds → (n : ℕ) → length (terms_at ds n) ≤ places
     go [] none n = omega arith
-    go (d ∷ ds) (more i h) zero = i.limits.tokens
+    go (d ∷ ds) (more i h) zero = omega (arith, i.limits.tokens)
     go (d ∷ ds) (more i h) (suc n) = go ds h n
 
 pub narrow_front : (docs rest : List Doc) → Narrow (docs ++ rest) → Narrow docs

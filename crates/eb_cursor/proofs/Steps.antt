@@ -1,9 +1,9 @@
 -- What each kind of query says of its answer.
 use Rattle.std.proofs.Common.{◌≡◌, Box, Global, ℕ, zero, suc, ◌-◌, ◌*◌, ◌<◌, ◌≤◌, Bool, true, false, not, max, min, List, [], ◌∷◌, ◌++◌, take, drop, get_or, set, refl, sym, ap, ◌∙◌, subst, inl, inr, arith, rules}
-use Rattle.std.proofs.lemmas.Bool.{cases_lt, cases_Bool, and_parts}
+use Rattle.std.proofs.lemmas.Bool.{cases_lt, and_parts}
 use Rattle.eb_base.specs.Document.{Doc}
-use Rattle.eb_base.specs.Query.{Tree, Trees, size, word, phrase, negation, conjunction, disjunction, no_trees, trees, tree, queries_of}
-use Rattle.eb_base.specs.declared.query.Query.{Query, And, Or, Not, Word, Phrase, the_lemmas}
+use Rattle.eb_base.specs.Query.{Tree, Trees, size, word, phrase, window, since, negation, conjunction, disjunction, no_trees, trees, tree, queries_of}
+use Rattle.eb_base.specs.declared.query.Query.{Query, And, Or, Not, Word, Phrase, Window, Since, the_lemmas}
 use Rattle.eb_base.specs.declared.query.Queries.{Queries}
 use Rattle.eb_place.specs.Postings.{places}
 use Rattle.eb_cursor.specs.Tops.{top}
@@ -13,7 +13,7 @@ use Rattle.eb_cursor.specs.Ready.{IsLeaf, IsOnly, IsPassed, Ready, AllReady}
 use Rattle.eb_cursor.specs.Asked.{IsLed, IsRound, AreUnder, trees_in}
 use Rattle.eb_cursor.specs.declared.cursor.Cursor.{Cursor}
 use Rattle.eb_cursor.proofs.Tellings.{Later}
-use Rattle.eb_cursor.proofs.Tops.{top_le, top_between, top_twice, top_skips, top_implied, top_and, top_or, top_not_here, top_not_past, top_here}
+use Rattle.eb_cursor.proofs.Tops.{top_le, top_up, top_between, top_twice, top_skips, top_implied, top_and, top_or, top_not_here, top_not_past, top_here}
 use Rattle.eb_cursor.proofs.Leaves.{leaf_lower}
 use Rattle.eb_cursor.proofs.Readies.{ready_lower, all_lower, ready_later, all_later, all_front, all_join}
 use Rattle.eb_cursor.proofs.Documents.{word_top}
@@ -29,6 +29,12 @@ tree_Word t = search (rules, the_lemmas)
 
 pub tree_Phrase : (ts : List (List ℕ)) → tree (Phrase ts) ≡ phrase ts
 tree_Phrase ts = search (rules, the_lemmas)
+
+pub tree_Window : (ts : List (List ℕ)) (w : ℕ) → tree (Window ts w) ≡ window ts w
+tree_Window ts w = search (rules, the_lemmas)
+
+pub tree_Since : (x : ℕ) → tree (Since x) ≡ since x
+tree_Since x = search (rules, the_lemmas)
 
 pub tree_Not : (b : Box Query Global) → tree (Not b) ≡ negation (tree b.value)
 tree_Not b = search (rules, the_lemmas)
@@ -115,16 +121,6 @@ pub top_all : (f : ℕ → Bool) → ((n : ℕ) → f n ≡ true) → (n : ℕ) 
 top_all f w zero = refl
 top_all f w (suc n) = top_here f n (w n)
 
-top_grows : (f : ℕ → Bool) (n : ℕ) → top f n ≤ top f (suc n)
-top_grows f n = elim (cases_Bool (f n)) [ inl e ↦ rw e (omega (arith, top_le f n)) | inr e ↦ rw e (omega arith) ]
-
-top_up : (f : ℕ → Bool) (a b : ℕ) → a ≤ b → top f a ≤ top f b
-top_up f a zero h = let e : a ≡ 0 = omega (arith, h) in omega (arith, ap (top f) e)
-top_up f a (suc b) h = elim (cases_lt b a) [
-  | inl all ↦ let e : a ≡ suc b = omega (arith, h, all) in omega (arith, ap (top f) e)
-  | inr low ↦ omega (arith, top_up f a b low, top_grows f b)
-]
-
 under_up : (docs : List Doc) (qs : Trees) (a b found : ℕ) → a ≤ b → AreUnder docs qs a found → AreUnder docs qs b found
 under_up docs no_trees a b found h k = tt
 under_up docs (trees q qs) a b found h k = (omega (arith, k.0, top_up (match_at docs q) a b h), under_up docs qs a b found h k.1)
@@ -158,6 +154,32 @@ round_step g1 g' docs qs q qs' a b' end found1 found e w told ready more =
           subst (λ y. top (each_at docs y) end ≡ end) (sym i) (top_and f h end p p2);
       under = subst (λ y. AreUnder docs y end found) (sym i) (omega (arith, told, more.falls), under_up docs qs' found1 end found le more.under);
       ready = all_join g' docs x q qs' a b' found i (ready_lower g' docs q a found end (omega (arith, more.falls)) (ready_later g1 g' w docs q a end ready)) more.ready;
+    } in
+    back qs e
+
+under_down : (docs : List Doc) (qs : Trees) (end a b : ℕ) → b ≤ a → AreUnder docs qs end a → AreUnder docs qs end b
+under_down docs no_trees end a b h k = tt
+under_down docs (trees q qs) end a b h k = (omega (arith, k.0), under_down docs qs end a b h k.1)
+
+-- the first part is asked behind the others
+pub round_behind : (g1 g' : Gives) (docs : List Doc) (qs : Trees) (q : Tree) (qs' : Trees) (a b' : List Cursor) (end found1 found : ℕ)
+    → qs ≡ trees q qs' → Later g1 g' → IsRound g1 docs qs' b' end found1 → found ≡ top (match_at docs q) found1 → Ready g' docs q a found1 → IsRound g' docs qs (a ++ b') end found
+round_behind g1 g' docs qs q qs' a b' end found1 found e w more told ready =
+    let f : ℕ → Bool = match_at docs q in
+    let h : ℕ → Bool = each_at docs qs' in
+    let both : ℕ → Bool = each_at docs (trees q qs') in
+    let under : top both end ≤ found1 = omega (arith, top_implied h both (λ n p. (and_parts (f n) (h n) p).1) end, more.same, top_le h found1) in
+    let first : top both end ≡ top both found1 = sym (top_between both found1 end under more.falls) in
+    let skip : top both found1 ≡ top both found = subst (λ x. top both found1 ≡ top both x) (sym told) (top_skips f both (λ n p. (and_parts (f n) (h n) p).0) found1) in
+    let le : found ≤ found1 = omega (arith, told, top_le f found1) in
+    let back : (x : Trees) → x ≡ trees q qs' → IsRound g' docs x (a ++ b') end found = λ x i. record {
+      falls = omega (arith, more.falls);
+      same = subst (λ y. top (each_at docs y) end ≡ top (each_at docs y) found) (sym i) (first ∙ skip);
+      all = λ k. let k1 : found1 ≡ end = omega (arith, more.falls) in
+          let p : top f end ≡ end = ap (top f) (sym k1) ∙ sym told ∙ k in
+          subst (λ y. top (each_at docs y) end ≡ end) (sym i) (top_and f h end p (more.all k1));
+      under = subst (λ y. AreUnder docs y end found) (sym i) (omega (arith, told, top_up f found1 end more.falls), under_down docs qs' end found1 found le more.under);
+      ready = all_join g' docs x q qs' a b' found i (ready_lower g' docs q a found found1 le ready) (all_later g1 g' w docs qs' b' found (all_lower g1 docs qs' b' found found1 le more.ready));
     } in
     back qs e
 

@@ -1,5 +1,6 @@
 -- Calls that load words, one after the other.
 use Rattle.std.proofs.Common.{ℕ, List}
+use Rattle.eb_base.specs.Document.{Doc}
 use Rattle.eb_place.specs.declared.moment.Moment.{Moment}
 use Rattle.eb_place.specs.Moments.{IsMoment}
 use Rattle.eb_place.specs.Later.{IsNotBefore}
@@ -7,7 +8,8 @@ use Rattle.eb_place.proofs.Laters.{later_self, later_on}
 use Rattle.eb_chain.proofs.Walks.{stands_later}
 use Rattle.eb_block.proofs.Standing.{list_stands_later}
 use Rattle.eb_cursor.specs.Told.{Told}
-use Rattle.eb_cursor.specs.Lists.{Gives, gives}
+use Rattle.eb_cursor.specs.Lists.{Gives, gives, list_gives}
+use Rattle.eb_cursor.proofs.Firsts.{first_on}
 use Rattle.eb_cursor.specs.declared.posting_list.PostingList.{PostingList}
 use Rattle.eb_cursor.specs.declared.posting_list.PostingList.TheVariants.{Empty, Live, Packed}
 
@@ -16,15 +18,23 @@ pub record IsLater (m n : Moment) : Type 0 where
   pub is : IsMoment m
   pub later : IsNotBefore n m
 
--- what a list gives by the first it gives by the second
-abbrev pub Later : Gives → Gives → Type 0
-Later g g' = (list : PostingList) (xs : List ℕ) → g list xs → g' list xs
+-- what is read by the first is read by the second
+pub record Later (g g' : Gives) : Type 0 where
+  pub lists : (list : PostingList) (xs : List ℕ) → g.lists list xs → g'.lists list xs
+  pub firsts : (s : ℕ) (docs : List Doc) → g.firsts s docs → g'.firsts s docs
+
+pub later_same : (g : Gives) → Later g g
+later_same g = record { lists = λ list xs h. h; firsts = λ s docs h. h }
 
 -- a list still gives the same at a later moment
+lists_later : (m n : Moment) → IsLater m n → (list : PostingList) (xs : List ℕ) → list_gives m list xs → list_gives n list xs
+lists_later m n l Empty xs h = h
+lists_later m n l (Live c) xs h = (h.0, h.1, h.2, stands_later m n h.0 h.1 c h.2 xs l.is l.later h.3)
+lists_later m n l (Packed p) xs h = (h.0, h.1, h.2, list_stands_later m n h.0 h.1 p xs h.2 l.is l.later h.3)
+
+-- and the first documents of a segment are so later too
 pub gives_later : (m n : Moment) → IsLater m n → Later (gives m) (gives n)
-gives_later m n l Empty xs h = h
-gives_later m n l (Live c) xs h = (h.0, h.1, h.2, stands_later m n h.0 h.1 c h.2 xs l.is l.later h.3)
-gives_later m n l (Packed p) xs h = (h.0, h.1, h.2, list_stands_later m n h.0 h.1 p xs h.2 l.is l.later h.3)
+gives_later m n l = record { lists = lists_later m n l; firsts = λ s docs a. first_on m n s docs l.later a }
 
 -- the laws of a port that are used here
 abbrev pub IsLawfulPort : {S : Type 0} → (S → Moment → Type 0) → Type 0

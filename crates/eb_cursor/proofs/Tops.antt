@@ -49,6 +49,16 @@ top_implied f h w (suc n) = elim (cases_Bool (h n)) [
 pub top_skips : (f h : ℕ → Bool) → ((n : ℕ) → h n ≡ true → f n ≡ true) → (n : ℕ) → top h n ≡ top h (top f n)
 top_skips f h w n = sym (top_between h (top f n) n (top_implied f h w n) (top_le f n))
 
+top_grows : (f : ℕ → Bool) (n : ℕ) → top f n ≤ top f (suc n)
+top_grows f n = elim (cases_Bool (f n)) [ inl e ↦ rw e (omega (arith, top_le f n)) | inr e ↦ rw e (omega arith) ]
+
+pub top_up : (f : ℕ → Bool) (a b : ℕ) → a ≤ b → top f a ≤ top f b
+top_up f a zero h = let e : a ≡ 0 = omega (arith, h) in omega (arith, ap (top f) e)
+top_up f a (suc b) h = elim (cases_lt b a) [
+  | inl all ↦ let e : a ≡ suc b = omega (arith, h, all) in omega (arith, ap (top f) e)
+  | inr low ↦ omega (arith, top_up f a b low, top_grows f b)
+]
+
 pub top_same : (f h : ℕ → Bool) → ((n : ℕ) → f n ≡ h n) → (n : ℕ) → top f n ≡ top h n
 top_same f h w zero = refl
 top_same f h w (suc n) = rw (w n, top_same f h w n) refl

@@ -1,12 +1,12 @@
 -- What beginning a query in a segment gives.
-use Rattle.std.specs.Prelude.{◌≡◌, ℕ, ◌*◌, Bool, true, false, List, length, [], ◌∷◌, None}
+use Rattle.std.specs.Prelude.{◌≡◌, ℕ, ◌*◌, Bool, true, false, ◌⊎◌, List, length, [], ◌∷◌, None}
 use Rattle.eb_base.specs.Document.{Doc}
 use Rattle.eb_base.specs.Query.{Tree, Trees}
 use Rattle.eb_place.specs.Postings.{places}
 use Rattle.eb_place.specs.declared.moment.Moment.{Moment}
 use Rattle.eb_cursor.specs.Lists.{Gives, gives}
 use Rattle.eb_cursor.specs.Opened.{CanRead}
-use Rattle.eb_cursor.specs.Posted.{is_posting, is_run_from, match_at, each_at, some_at}
+use Rattle.eb_cursor.specs.Posted.{is_posting, match_at, each_at, some_at}
 use Rattle.eb_cursor.specs.Ready.{Ready, AllReady, IsLeaf}
 use Rattle.eb_cursor.specs.Tops.{top}
 use Rattle.eb_cursor.specs.declared.cursor.Cursor.{Cursor}
@@ -26,10 +26,15 @@ AllAt g docs [] cursors end = cursors ≡ []
 AllAt g docs (t ∷ ts) [] end = ⊥
 AllAt g docs (t ∷ ts) (c ∷ cs) end = IsLeaf g (is_posting docs t) c end × AllAt g docs ts cs end
 
--- the terms of a phrase are begun, or one of them stands in no document
+-- some term stands in none of the documents
+abbrev pub HasAbsent : List Doc → List (List ℕ) → Type 0
+HasAbsent docs [] = ⊥
+HasAbsent docs (t ∷ ts) = ((x : ℕ) → is_posting docs t x ≡ false) ⊎ HasAbsent docs ts
+
+-- the terms of a phrase or a window are begun, or one of them stands in no document
 pub record BegunLeaves (docs : List Doc) (ts : List (List ℕ)) (cursors : List Cursor) (may : Bool) (n : Moment) : Type 0 where
   pub ready : may ≡ true → AllAt (gives n) docs ts cursors (places * length docs)
-  pub none : may ≡ false → (x : ℕ) → is_run_from docs ts x ≡ false
+  pub none : may ≡ false → HasAbsent docs ts
 
 -- the query is begun; where the answer is false no document matches
 pub record Begun (docs : List Doc) (q : Tree) (cursors : List Cursor) (may : Bool) (n : Moment) : Type 0 where

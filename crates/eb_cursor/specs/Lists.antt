@@ -1,25 +1,32 @@
 -- Falling lists of postings.
 use Rattle.std.specs.Prelude.{◌≡◌, ℕ, ◌<◌, List, [], ◌∷◌, cond, ltb, MatchOption, Option}
 use Rattle.eb_base.specs.Term.{Term}
+use Rattle.eb_base.specs.Document.{Doc}
 use Rattle.eb_place.specs.declared.moment.Moment.{Moment}
 use Rattle.eb_chain.specs.Chains.{Stands}
 use Rattle.eb_block.specs.Reading.{ListStands}
+use Rattle.eb_cursor.specs.Accepted.{AreFirst}
 use Rattle.eb_cursor.specs.declared.posting_list.PostingList.{PostingList}
 use Rattle.eb_cursor.specs.declared.posting_list.PostingList.TheVariants.{Empty, Live, Packed}
 
--- which postings a list still gives
-abbrev pub Gives : Type 1
-Gives = PostingList → List ℕ → Type 0
-
 -- the postings that a list still gives at a moment and later
+abbrev pub list_gives : Moment → PostingList → List ℕ → Type 0
+list_gives m Empty xs = xs ≡ []
+list_gives m (Live c) xs = (s : ℕ) × (t : Term) × (opened : ℕ) × Stands m s t c opened xs
+list_gives m (Packed p) xs = (s : ℕ) × (t : Term) × (budget : ℕ) × ListStands m s t p xs budget
+
+-- what cursors read: which postings a list still gives, and which documents are the first of a segment
+pub record Gives : Type 1 where
+  pub lists : PostingList → List ℕ → Type 0
+  pub firsts : ℕ → List Doc → Type 0
+
+-- what they read at a moment and later
 abbrev pub gives : Moment → Gives
-gives m Empty xs = xs ≡ []
-gives m (Live c) xs = (s : ℕ) × (t : Term) × (opened : ℕ) × Stands m s t c opened xs
-gives m (Packed p) xs = (s : ℕ) × (t : Term) × (budget : ℕ) × ListStands m s t p xs budget
+gives m = record { lists = list_gives m; firsts = AreFirst m }
 
 -- what a call gave: nothing where nothing was left, else the first of what was left
 abbrev pub Gave : List ℕ → PostingList → Option ℕ → Moment → Type 0
-Gave xs list r n = MatchOption r (xs ≡ []) (λ p. (ys : List ℕ) × (xs ≡ p ∷ ys) × gives n list ys)
+Gave xs list r n = MatchOption r (xs ≡ []) (λ p. (ys : List ℕ) × (xs ≡ p ∷ ys) × list_gives n list ys)
 
 -- what is left of a falling list below an end
 abbrev pub from_below : ℕ → List ℕ → List ℕ

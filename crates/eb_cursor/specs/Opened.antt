@@ -1,23 +1,16 @@
 -- What opening a list gives.
-use Rattle.std.specs.Prelude.{◌≡◌, ℕ, ◌*◌, ◌<◌, ◌++◌, Bool, true, List, length}
+use Rattle.std.specs.Prelude.{◌≡◌, ℕ, ◌*◌, Bool, true, List, length}
 use Rattle.eb_base.specs.Document.{Doc}
 use Rattle.eb_place.specs.Postings.{places}
 use Rattle.eb_place.specs.declared.moment.Moment.{Moment}
 use Rattle.eb_place.specs.PackedLists.{IsConverted}
-use Rattle.eb_cursor.specs.Accepted.{accepted_in}
-use Rattle.eb_cursor.specs.Lists.{gives, IsFalling, from_below}
+use Rattle.eb_cursor.specs.Accepted.{AreFirst}
+use Rattle.eb_cursor.specs.Lists.{list_gives, IsFalling, from_below}
 use Rattle.eb_cursor.specs.Tops.{below}
-use Rattle.eb_cursor.specs.Posted.{is_posting, Narrow}
+use Rattle.eb_cursor.specs.Posted.{is_posting}
 use Rattle.eb_cursor.specs.declared.posting_list.PostingList.{PostingList}
 
--- these are the first accepted documents of the segment
-pub record AreFirst (m : Moment) (s : ℕ) (docs : List Doc) : Type 0 where
-  pub inside : s < m.setting.segments
-  pub narrow : Narrow docs
-  pub rest : List Doc
-  pub are : accepted_in m s ≡ docs ++ rest
-
--- and its postings can be read: where its packed lists are read, it is converted
+-- the first accepted documents of the segment can be read: where its packed lists are read, it is converted
 pub record CanRead (m : Moment) (s : ℕ) (docs : List Doc) (packed : Bool) : Type 0 where
   pub first : AreFirst m s docs
   pub converted : packed ≡ true → IsConverted m s
@@ -25,6 +18,6 @@ pub record CanRead (m : Moment) (s : ℕ) (docs : List Doc) (packed : Bool) : Ty
 -- the list gives all postings of the term in these documents, and above them what came since
 pub record Opened (m : Moment) (docs : List Doc) (t : List ℕ) (list : PostingList) : Type 0 where
   pub postings : List ℕ
-  pub told : gives m list postings
+  pub told : list_gives m list postings
   pub falls : IsFalling postings
   pub all : from_below (places * length docs) postings ≡ below (is_posting docs t) (places * length docs)

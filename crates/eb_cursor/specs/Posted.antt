@@ -1,18 +1,23 @@
 -- Which postings a term has, and which documents a query matches, by their numbers.
-use Rattle.std.specs.Prelude.{ℕ, zero, suc, ◌+◌, ◌/◌, ◌%◌, ◌≤◌, Bool, true, false, ◌&&◌, leb, List, [], ◌∷◌, length, bytes_eq, Option, None, Some, slice_get}
+use Rattle.std.specs.Prelude.{ℕ, zero, suc, ◌+◌, ◌*◌, ◌/◌, ◌%◌, ◌≤◌, Bool, true, false, ◌&&◌, leb, min, List, [], ◌∷◌, length, bytes_eq, Option, None, Some, slice_get}
 use Rattle.eb_base.specs.Document.{Doc}
 use Rattle.eb_base.specs.Query.{Tree, Trees}
 use Rattle.eb_base.specs.Match.{is_match, each_matches, some_matches}
 use Rattle.eb_place.specs.Postings.{places}
+use Rattle.eb_cursor.specs.Tops.{top, before}
 
--- the terms of a document, none where there is none
-abbrev pub terms_in : Option Doc → List (List ℕ)
-terms_in None = []
-terms_in (Some d) = d.terms
+-- a document, one of id 0 without terms where there is none
+abbrev pub doc_in : Option Doc → Doc
+doc_in None = record { id = 0; terms = [] }
+doc_in (Some d) = d
+
+-- the document with this number
+abbrev pub doc_at : List Doc → ℕ → Doc
+doc_at docs n = doc_in (slice_get docs n)
 
 -- the terms of the document with this number
 abbrev pub terms_at : List Doc → ℕ → List (List ℕ)
-terms_at docs n = terms_in (slice_get docs n)
+terms_at docs n = (doc_at docs n).terms
 
 -- whether there is a term and it is this one
 abbrev pub is_term : List ℕ → Option (List ℕ) → Bool
@@ -25,15 +30,15 @@ is_posting docs t x = is_term t (slice_get (terms_at docs (x / places)) (x % pla
 
 -- whether the document with this number matches
 abbrev pub match_at : List Doc → Tree → ℕ → Bool
-match_at docs q n = is_match q (terms_at docs n)
+match_at docs q n = is_match q (doc_at docs n)
 
 -- whether each query matches it
 abbrev pub each_at : List Doc → Trees → ℕ → Bool
-each_at docs qs n = each_matches qs (terms_at docs n)
+each_at docs qs n = each_matches qs (doc_at docs n)
 
 -- whether some query matches it
 abbrev pub some_at : List Doc → Trees → ℕ → Bool
-some_at docs qs n = some_matches qs (terms_at docs n)
+some_at docs qs n = some_matches qs (doc_at docs n)
 
 -- whether the terms stand from this place on, one after the other
 abbrev pub is_run_from : List Doc → List (List ℕ) → ℕ → Bool
@@ -56,3 +61,24 @@ pub record Narrow (docs : List Doc) : Type 0 where
 abbrev pub document_end : ℕ → ℕ
 document_end zero = 0
 document_end (suc x) = suc (x / places)
+
+-- the last of the terms
+abbrev pub last_of : List (List ℕ) → List ℕ
+last_of [] = []
+last_of (t ∷ []) = t
+last_of (t ∷ u ∷ ts) = last_of (u ∷ ts)
+
+-- one more than the greatest place at which the terms can begin that stand in their order below the end, each
+-- as near as it can to the one behind it; 0 where they don't so stand, and one more than the end without terms
+abbrev pub first_below : List Doc → List (List ℕ) → ℕ → ℕ
+first_below docs [] end = suc end
+first_below docs (t ∷ ts) end = top (is_posting docs t) (before (first_below docs ts end))
+
+-- the end below which the last term of a window stands whose first term stands before `first`: at most `w`
+-- places behind it, and in its document
+abbrev pub reach_end : ℕ → ℕ → ℕ
+reach_end w first = min (first + w) (places * document_end first)
+
+-- whether a window of these terms ends at this place
+abbrev pub is_window_end : List Doc → List (List ℕ) → ℕ → ℕ → Bool
+is_window_end docs ts w x = is_posting docs (last_of ts) x && leb (suc x) (reach_end w (first_below docs ts (suc x)))

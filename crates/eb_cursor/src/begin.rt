@@ -1,19 +1,20 @@
 //! The first postings of each term of a query.
 ghost use Rattle.std.specs.Prelude.{◌≡◌, ℕ, ◌+◌, ◌*◌, ◌<◌, ◌≤◌, ◌^◌, List, length, if◌then◌else◌};
 ghost use Rattle.eb_base.specs.Document.{Doc};
-ghost use Rattle.eb_base.specs.Query.{tree, word, size, sizes, IsFormed, AreFormed};
+ghost use Rattle.eb_base.specs.Query.{tree, word, window, size, sizes, IsFormed, AreFormed};
 ghost use Rattle.eb_place.specs.Postings.{places};
 ghost use Rattle.eb_place.specs.declared.moment.Moment.{Moment};
 ghost use Rattle.eb_cursor.specs.Told.{Told};
 ghost use Rattle.eb_cursor.specs.Lists.{gives};
+ghost use Rattle.eb_cursor.specs.Accepted.{AreFirst};
 ghost use Rattle.eb_cursor.specs.Opened.{CanRead};
 ghost use Rattle.eb_cursor.specs.Posted.{is_posting};
-ghost use Rattle.eb_cursor.specs.Ready.{IsLeaf, Ready};
+ghost use Rattle.eb_cursor.specs.Ready.{IsLeaf, IsBound, Ready};
 ghost use Rattle.eb_cursor.specs.Costs.{Costs, FirstCosts, IsPaid, IsReading, word_loads};
 ghost use Rattle.eb_cursor.specs.Asked.{trees_in};
 ghost use Rattle.eb_cursor.specs.Begun.{AreClear, CanBegin, Begun, BegunLeaves, BegunEach, BegunSome};
 
-use crate::cursor::Cursor;
+use crate::cursor::{Cursor, last_before};
 use crate::posting_list::PostingList;
 use crate::rarest::{rarest, rarest_leaf};
 use crate::size::size;
@@ -51,12 +52,13 @@ fn open_leaf<P: Port, L: Ledger>(
     Cursor {
         upto: 0,
         lead: 0,
+        segment,
         current,
         list,
     }
 }
 
-// Opens the lists of the terms of a phrase, up to the first that stands in no document.
+// Opens the lists of the terms of a phrase or a window, up to the first that stands in no document.
 fn begin_leaves<P: Port, L: Ledger>(
     terms: &[Term],
     cursors: &mut [Cursor],
@@ -88,6 +90,39 @@ fn end_if(some: bool, end: u64) -> u64
     ensures { result ≡ (if some then end else 0) }
 {
     if some { end } else { 0 }
+}
+
+// Begins a window of these terms, as `begin` does.
+fn begin_window<P: Port, L: Ledger>(
+    terms: &[Term],
+    cursors: &mut [Cursor],
+    segment: u32,
+    packed: bool,
+    documents: u32,
+    port: &mut P,
+    steps: &mut Steps<L>,
+) -> bool
+    requires some { 0 < length terms.now }
+    requires fits { length cursors.old ≡ length terms.now }
+    requires first { CanBegin P.stands port.old segment documents packed }
+    ensures { (docs : List Doc) (w : ℕ) → length docs ≡ documents → Told P.stands P.keeps port.old port.new (λ m. CanRead m segment docs packed)
+        (Begun docs (window terms.now w) cursors.new result) }
+{
+    let end = PLACES * u64::from(documents);
+    let all = begin_leaves(terms, cursors, segment, packed, port, steps);
+    let upto = end_if(all, end);
+    cursors[0].upto = upto;
+    all
+}
+
+// Begins a bound on the id, as `begin` does. Loads nothing.
+fn begin_bound(cursor: &mut Cursor, segment: u32, documents: u32)
+    ensures { (n : Moment) (docs : List Doc) (x : ℕ) → length docs ≡ documents → AreFirst n segment docs → IsBound (gives n) docs x cursor.new (length docs) }
+{
+    let end = u64::from(documents);
+    cursor.segment = segment;
+    cursor.upto = end;
+    cursor.current = last_before(end);
 }
 
 /// Begins a query, as [`begin`] does, whose loads are bounded where it is a word. Only then are packed lists
@@ -122,8 +157,8 @@ pub fn begin_query<P: Port, L: Ledger>(
 }
 
 /// Begins a query at the end of the first `documents` documents of a segment. False only where none of
-/// them matches; a term that stands in none ends a word, a phrase and an and at once. In an and and a
-/// phrase the part leads that is likely the rarest.
+/// them matches; a term that stands in none ends a word, a phrase, a window and an and at once. In an and and
+/// a phrase the part leads that is likely the rarest. A bound on the id loads nothing yet.
 #[cycle(begin)]
 pub fn begin<P: Port, L: Ledger>(
     query: &Query,
@@ -159,6 +194,19 @@ pub fn begin<P: Port, L: Ledger>(
             first.upto = upto;
             first.lead = lead;
             all
+        }
+        Query::Window(terms, _) => begin_window(
+            terms.as_slice(),
+            cursors,
+            segment,
+            packed,
+            documents,
+            port,
+            steps,
+        ),
+        Query::Since(_) => {
+            begin_bound(&mut cursors[0], segment, documents);
+            true
         }
         Query::Not(part) => {
             let Some((own, rest)) = cursors.split_first_mut() else {

@@ -10,9 +10,11 @@ ghost use Rattle.eb_cursor.specs.Costs.{FirstCosts, IsPaid};
 ghost use Rattle.eb_cursor.specs.Ready.{Ready, AllReady};
 ghost use Rattle.eb_cursor.specs.Asked.{trees_in, CanAsk, CanAskAll, Found, FoundNot, FoundSome, FoundAll, CanAskWord, IsLed, IsRound};
 
+use crate::bound::bound_below;
 use crate::cursor::{Cursor, leaf_below, walk_below};
 use crate::phrase::{phrase_below, to_document_end};
 use crate::size::size;
+use crate::window::window_below;
 use eb_base::Query;
 use eb_place::{PLACES, Port, Steps};
 use std::sync::ledger::Ledger;
@@ -77,6 +79,8 @@ pub fn below<P: Port, L: Ledger>(
     match query {
         Query::Word(_) => word_below(cursors, port, steps, end),
         Query::Phrase(_) => phrase_below(cursors, port, steps, end),
+        Query::Window(_, reach) => window_below(*reach, cursors, port, steps, end),
+        Query::Since(bound) => bound_below(*bound, cursors, port, steps, end),
         Query::Not(part) => {
             let Some((own, rest)) = cursors.split_first_mut() else {
                 return 0;
@@ -189,6 +193,11 @@ fn lead_below<P: Port, L: Ledger>(
     lead_below(others, rest, lead - 1, port, steps, end)
 }
 
+// Whether the query is a bound on the id.
+fn is_bound(query: &Query) -> bool {
+    matches!(query, Query::Since(_))
+}
+
 // Asks all parts in turn, each from where the one before it stopped, until none of them falls.
 #[cycle(below)]
 fn all_below<P: Port, L: Ledger>(
@@ -213,6 +222,7 @@ fn all_below<P: Port, L: Ledger>(
     }
 }
 
+// One such turn. A bound on the id is asked behind the parts that follow it, since it costs loads.
 #[cycle(below)]
 fn round_below<P: Port, L: Ledger>(
     parts: &[Query],
@@ -230,6 +240,10 @@ fn round_below<P: Port, L: Ledger>(
         return end;
     };
     let (own, rest) = cursors.split_at_mut(size(part));
+    if is_bound(part) {
+        let found = round_below(others, rest, port, steps, end);
+        return below(part, own, port, steps, found);
+    }
     let found = below(part, own, port, steps, end);
     round_below(others, rest, port, steps, found)
 }

@@ -12,15 +12,19 @@ use crate::posting_list::PostingList;
 use eb_place::{Port, Posting, Steps};
 use std::sync::ledger::Ledger;
 
-/// What a part of a query remembers between two calls: each word, each term of a phrase and each
-/// operator has one.
+/// What a part of a query remembers between two calls: each word, each term of a phrase or window, each
+/// bound on the id and each operator has one.
 #[derive(Drop)]
 pub struct Cursor {
-    /// Of an operator or a phrase: all above this end is passed. A place for a phrase, else a document.
+    /// Of an operator, a phrase, a window or a bound: all above this end is passed. A place for a phrase or
+    /// a window, else a document.
     pub upto: u64,
     /// Of an and or a phrase: the number of the part or term that is asked first, counted from 0.
     pub lead: u32,
-    /// Of a word or a term of a phrase: the posting that was given last.
+    /// Of a word, a term of a phrase or window and a bound: the segment whose words it loads.
+    pub segment: u32,
+    /// Of a word or a term of a phrase or window: the posting that was given last. Of a bound: the newest
+    /// document whose id wasn't loaded yet.
     pub current: Option<Posting>,
     /// The postings below it.
     pub list: PostingList,
@@ -34,6 +38,7 @@ impl Cursor {
         Cursor {
             upto: 0,
             lead: 0,
+            segment: 0,
             current: None,
             list: PostingList::Empty,
         }
@@ -55,7 +60,6 @@ pub fn walk_below<P: Port, L: Ledger>(
         (λ n. IsPaid (Costs n s t cursor.new.list) steps.old most steps.new) }
 {
     while let Some(posting) = cursor.current {
-        let posting = u64::from(posting);
         if posting < end {
             return posting + 1;
         }
@@ -82,7 +86,6 @@ pub fn leaf_below<P: Port, L: Ledger>(
     let Some(posting) = cursor.current else {
         return 0;
     };
-    let posting = u64::from(posting);
     if posting < end {
         return posting + 1;
     }
@@ -107,34 +110,33 @@ fn leap_below<P: Port, L: Ledger>(
     let Some(posting) = cursor.current else {
         return 0;
     };
-    let place = u64::from(posting);
-    if place < end {
-        return place + 1;
+    if posting < end {
+        return posting + 1;
     }
     if end == 0 {
         return 0;
     }
-    cursor.current = cursor
-        .list
-        .next_at_most(port, most_below(posting, end), steps);
+    cursor.current = cursor.list.next_at_most(port, end - 1, steps);
     place_after(cursor.current)
 }
 
-// One more than a posting, 0 where there is none.
-fn place_after(posting: Option<Posting>) -> u64
+/// One more than a posting, 0 where there is none.
+pub fn place_after(posting: Option<Posting>) -> u64
+    requires { ahead posting < 2 ^ 64 }
     ensures { result ≡ ahead posting }
 {
     match posting {
         None => 0,
-        Some(posting) => u64::from(posting) + 1,
+        Some(posting) => posting + 1,
     }
 }
 
-// The greatest posting below an end at or below a posting.
-fn most_below(posting: Posting, end: u64) -> Posting
-    requires end { end ≤ posting }
-    requires some { 0 < end }
-    ensures { result + 1 ≡ end }
+/// The posting before an end, none before 0.
+pub fn last_before(end: u64) -> Option<Posting>
+    ensures { ahead result ≡ end }
 {
-    (end - 1) as Posting
+    if end == 0 {
+        return None;
+    }
+    Some(end - 1)
 }

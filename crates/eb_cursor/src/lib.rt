@@ -5,12 +5,14 @@
 
 mod begin;
 mod below;
+mod bound;
 mod cursor;
 mod frame;
 mod phrase;
 mod posting_list;
 mod rarest;
 mod size;
+mod window;
 
 pub use frame::Frame;
 

@@ -50,7 +50,7 @@ fn leaves_below<P: Port, L: Ledger>(
     steps: &mut Steps<L>,
     end: u64,
 ) -> u64
-    requires small { end + at + length cursors.old < 2 ^ 48 }
+    requires small { end + at + length cursors.old < 2 ^ 49 }
     requires ready { CanAskLeaves P.stands port.old cursors.old at end }
     ensures found { (docs : List Doc) (ts : List (List ℕ)) (last : ℕ) → end ≤ last → Told P.stands P.keeps port.old port.new (λ m. AllLeaves (gives m) docs ts cursors.old (last + at)) (λ n. IsRun (gives n) docs ts cursors.new at end result) }
     ensures loads { steps.new + loads_left cursors.new ≤ steps.old + loads_left cursors.old }
@@ -77,7 +77,7 @@ fn lead_leaf_below<P: Port, L: Ledger>(
     steps: &mut Steps<L>,
     end: u64,
 ) -> u64
-    requires small { end + at + length cursors.old < 2 ^ 48 }
+    requires small { end + at + length cursors.old < 2 ^ 49 }
     requires ready { CanAskLeaves P.stands port.old cursors.old at end }
     ensures found { (docs : List Doc) (ts : List (List ℕ)) (last : ℕ) → end ≤ last → Told P.stands P.keeps port.old port.new (λ m. AllLeaves (gives m) docs ts cursors.old (last + at)) (λ n. IsLedRun (gives n) docs ts cursors.new at end result) }
     ensures loads { steps.new + loads_left cursors.new ≤ steps.old + loads_left cursors.old }
@@ -98,7 +98,7 @@ fn starts_below<P: Port, L: Ledger>(
     steps: &mut Steps<L>,
     end: u64,
 ) -> u64
-    requires small { (end ≤ 2 ^ 40) × (0 < length cursors.old) × (length cursors.old ≤ 64) }
+    requires small { (end ≤ 2 ^ 48) × (0 < length cursors.old) × (length cursors.old ≤ 64) }
     requires ready { CanAskLeaves P.stands port.old cursors.old 0 end }
     ensures found { (docs : List Doc) (ts : List (List ℕ)) (last : ℕ) → end ≤ last → Told P.stands P.keeps port.old port.new (λ m. AllLeaves (gives m) docs ts cursors.old last) (FoundStart ts docs cursors.new end result) }
     ensures loads { steps.new + loads_left cursors.new ≤ steps.old + loads_left cursors.old }
@@ -123,7 +123,7 @@ fn led_starts_below<P: Port, L: Ledger>(
     steps: &mut Steps<L>,
     end: u64,
 ) -> u64
-    requires small { (end ≤ 2 ^ 40) × (0 < length cursors.old) × (length cursors.old ≤ 64) }
+    requires small { (end ≤ 2 ^ 48) × (0 < length cursors.old) × (length cursors.old ≤ 64) }
     requires ready { CanAskLeaves P.stands port.old cursors.old 0 end }
     ensures found { (docs : List Doc) (ts : List (List ℕ)) (last : ℕ) → end ≤ last → Told P.stands P.keeps port.old port.new (λ m. AllLeaves (gives m) docs ts cursors.old last) (FoundStart ts docs cursors.new end result) }
     ensures loads { steps.new + loads_left cursors.new ≤ steps.old + loads_left cursors.old }

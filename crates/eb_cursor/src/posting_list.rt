@@ -5,7 +5,7 @@ ghost use Rattle.eb_base.specs.Document.{Doc};
 ghost use Rattle.eb_place.specs.declared.moment.Moment.{Moment};
 ghost use Rattle.eb_cursor.specs.Told.{Told};
 ghost use Rattle.eb_cursor.specs.Costs.{Costs, Spans, leap_loads, IsPaid, IsReading, word_loads};
-ghost use Rattle.eb_cursor.specs.Lists.{gives, Gave, from_below};
+ghost use Rattle.eb_cursor.specs.Lists.{list_gives, Gave, from_below};
 ghost use Rattle.eb_cursor.specs.Opened.{CanRead, Opened};
 ghost use Rattle.eb_place.specs.PackedLists.{IsConverted};
 
@@ -70,8 +70,8 @@ impl PostingList {
         port: &mut P,
         steps: &mut Steps<L>,
     ) -> Option<Posting>
-        requires { (m : Moment) × (xs : List ℕ) × P.stands port.old m × gives m self.old xs }
-        ensures given { (xs : List ℕ) → Told P.stands P.keeps port.old port.new (λ m. gives m self.old xs) (Gave xs self.new result) }
+        requires { (m : Moment) × (xs : List ℕ) × P.stands port.old m × list_gives m self.old xs }
+        ensures given { (xs : List ℕ) → Told P.stands P.keeps port.old port.new (λ m. list_gives m self.old xs) (Gave xs self.new result) }
         ensures loads { steps.new ≤ steps.old + 2 }
         ensures costs { (s : ℕ) (t : List ℕ) (most : ℕ) → Told P.stands P.keeps port.old port.new (λ m. Costs m s t self.old most)
             (λ n. IsPaid (Costs n s t self.new) steps.old most steps.new) }
@@ -92,9 +92,10 @@ impl PostingList {
         most: Posting,
         steps: &mut Steps<L>,
     ) -> Option<Posting>
-        requires { (m : Moment) × (xs : List ℕ) × P.stands port.old m × gives m self.old xs }
-        ensures given { (xs : List ℕ) → Told P.stands P.keeps port.old port.new (λ m. gives m self.old xs) (Gave (from_below (most + 1) xs) self.new result) }
-        ensures loads { (m : Moment) (xs : List ℕ) → P.stands port.old m → gives m self.old xs
+        requires { (m : Moment) × (xs : List ℕ) × P.stands port.old m × list_gives m self.old xs }
+        ensures given { (xs : List ℕ) → Told P.stands P.keeps port.old port.new
+            (λ m. list_gives m self.old xs) (Gave (from_below (most + 1) xs) self.new result) }
+        ensures loads { (m : Moment) (xs : List ℕ) → P.stands port.old m → list_gives m self.old xs
             → steps.new ≤ steps.old + 2 * (length xs - length (from_below (most + 1) xs) + 1) + 2 }
         ensures spans { (s : ℕ) (t : List ℕ) (owed : ℕ) → Told P.stands P.keeps port.old port.new (λ m. Spans m s t self.old owed)
             (λ n. IsPaid (Spans n s t self.new) steps.old (owed + leap_loads) steps.new) }

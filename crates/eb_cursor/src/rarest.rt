@@ -13,13 +13,20 @@ pub struct Commonness {
     /// The pool that its live postings have come to, each of which holds some nine times the postings of the
     /// one before it, or the number of its packed postings; the greatest number where that can't be told.
     pub frequency: u64,
-    /// One more than its newest posting, 0 where there is none, the greatest number where that can't be
-    /// told: of two terms of one frequency the rarer one likely begins lower.
+    /// One more than its newest posting, 0 where there is none, the greatest number but one where that can't
+    /// be told, and the greatest for a bound on the id: of two terms of one frequency the rarer one likely
+    /// begins lower.
     pub newest: u64,
 }
 
-// Of nothing rarer than which there is.
-const UNKNOWN: Commonness = Commonness {
+/// Of a part of which nothing is known.
+pub const UNKNOWN: Commonness = Commonness {
+    frequency: u64::MAX,
+    newest: u64::MAX - 1,
+};
+
+/// Of a bound on the id, than which nothing is more common, since each of its documents costs a load.
+pub const BOUND: Commonness = Commonness {
     frequency: u64::MAX,
     newest: u64::MAX,
 };
@@ -49,7 +56,7 @@ fn is_rarer(one: Commonness, other: Commonness) -> bool {
 fn commonness_of_leaf(cursor: &Cursor) -> Commonness {
     let newest = match cursor.current {
         None => return NOTHING,
-        Some(posting) => u64::from(posting) + 1,
+        Some(posting) => posting.saturating_add(1),
     };
     Commonness {
         frequency: cursor.list.frequency(),
@@ -77,7 +84,7 @@ const NO_PART: Part = Part {
     commonness: UNKNOWN,
 };
 
-/// The term of a phrase that is likely the rarest. Loads nothing.
+/// The term of a phrase or window that is likely the rarest. Loads nothing.
 pub fn rarest_leaf(cursors: &[Cursor]) -> Part {
     let Some((own, rest)) = cursors.split_first() else {
         return NO_PART;
@@ -85,7 +92,7 @@ pub fn rarest_leaf(cursors: &[Cursor]) -> Part {
     rarer(commonness_of_leaf(own), rarest_leaf(rest))
 }
 
-/// The part that is likely the rarest. Loads nothing.
+/// The part that is likely the rarest, none of them where all are bounds on the id. Loads nothing.
 #[cycle(common)]
 pub fn rarest(parts: &[Query], cursors: &[Cursor]) -> Part
     requires fits { length cursors.now ≡ sizes (trees_in parts.now) }
@@ -124,7 +131,8 @@ fn commonness_of_part(query: &Query, cursors: &[Cursor]) -> Commonness
     };
     match query {
         Query::Word(_) => commonness_of_leaf(own),
-        Query::Phrase(_) => rarest_leaf(cursors).commonness,
+        Query::Phrase(_) | Query::Window(_, _) => rarest_leaf(cursors).commonness,
+        Query::Since(_) => BOUND,
         Query::Not(_) => UNKNOWN,
         Query::And(parts) => rarest(parts.as_slice(), rest).commonness,
         Query::Or(parts) => commonness_of_some(parts.as_slice(), rest),

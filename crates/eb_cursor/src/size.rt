@@ -5,7 +5,7 @@ ghost use Rattle.eb_cursor.specs.Asked.{trees_in};
 
 use eb_base::Query;
 
-/// The size of a query: one for each word, each term of a phrase and each operator.
+/// The size of a query: one for each word, each bound on the id, each term of a phrase or window and each operator.
 #[cycle(size)]
 pub fn size(query: &Query) -> usize
     requires { size (tree query.now) < 2 ^ 32 }
@@ -14,6 +14,8 @@ pub fn size(query: &Query) -> usize
     match query {
         Query::Word(_) => 1,
         Query::Phrase(terms) => terms.len(),
+        Query::Window(terms, _) => terms.len(),
+        Query::Since(_) => 1,
         Query::Not(part) => 1 + size(part),
         Query::And(parts) => 1 + sizes(parts.as_slice()),
         Query::Or(parts) => 1 + sizes(parts.as_slice()),

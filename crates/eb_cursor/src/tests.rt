@@ -1,6 +1,6 @@
 use crate::Frame;
 use crate::cursor::Cursor;
-use crate::rarest::{Commonness, Part, rarer, rarest_leaf};
+use crate::rarest::{BOUND, Commonness, Part, UNKNOWN, rarer, rarest_leaf};
 use eb_base::{Queries, Query, Term, Terms};
 use eb_place::Posting;
 use std::alloc::Global;
@@ -64,5 +64,27 @@ fn the_rarest_term_leads_and_then_that_with_the_oldest_newest_posting(rt: HostRu
             rarer(Commonness { frequency, newest }, behind).number,
             leads
         );
+    }
+}
+
+#[test]
+fn a_bound_on_the_id_leads_before_no_part(rt: HostRuntime) {
+    for (own, behind, leads) in [
+        (BOUND, UNKNOWN, 1),
+        (UNKNOWN, BOUND, 0),
+        (
+            BOUND,
+            Commonness {
+                frequency: 9,
+                newest: 9,
+            },
+            1,
+        ),
+    ] {
+        let behind = Part {
+            number: 0,
+            commonness: behind,
+        };
+        assert_eq!(rt; rarer(own, behind).number, leads);
     }
 }

@@ -25,7 +25,7 @@ pub enum LineFault {
     /// The value is no object, its `id` isn't a whole number below 2^64, or its `text` isn't a
     /// string; a member that is missing counts as of another kind.
     BadDocument,
-    /// The text has 257 or more tokens, or 4,097 or more bytes of folded tokens.
+    /// The text has 1,025 or more tokens, or 16,385 or more bytes of folded tokens.
     TooLong,
     /// Memory ran out. It can come for any line.
     NoMemory,

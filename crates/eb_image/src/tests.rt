@@ -177,13 +177,13 @@ fn changed(at: usize, byte: u8) -> Read {
             Read::BadImage
         },
         13..16 => Read::All(1),
-        // the terms of a segment: a power of two from 256 to 1,048,576
+        // the terms of a segment: a power of two from 1,024 to 1,048,576
         16 | 17 | 19 => if byte == 0 {
             Read::All(1)
         } else {
             Read::BadImage
         },
-        18 => if byte.count_ones() == 1 {
+        18 => if byte.count_ones() == 1 && byte >= 4 {
             Read::All(1)
         } else {
             Read::BadImage

@@ -1,3 +1,5 @@
 pub mod LineKinds
 pub mod Advancing
 pub mod OneReading
+pub mod PassingLines
+pub mod Told

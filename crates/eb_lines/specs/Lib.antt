@@ -5,3 +5,6 @@ pub mod Reads
 pub mod Works
 pub mod Text
 pub mod StatusLine
+pub mod Programs
+pub mod Outcomes
+pub mod Passing

@@ -2,7 +2,7 @@
 use Rattle.std.specs.Prelude.{ℕ, List, [], ◌∷◌, ◌++◌, codes, flat_map}
 use Rattle.std.specs.Fmt.{decimal}
 use Rattle.eb_lines.specs.declared.refusal.Refusal.{Refusal}
-use Rattle.eb_lines.specs.declared.refusal.Refusal.TheVariants.{BadLine, LongLine, BadJson, BadDocument, TooLong, Full, BadNumber, BadQuery, TooManyNodes, TooDeep}
+use Rattle.eb_lines.specs.declared.refusal.Refusal.TheVariants.{BadLine, LongLine, BadJson, BadDocument, TooLong, NotRising, Full, BadNumber, BadQuery, TooManyNodes, TooDeep}
 
 -- each id, with a space before it
 abbrev pub spaced : List ℕ → List ℕ
@@ -19,6 +19,7 @@ refusal_name LongLine = codes "long line"
 refusal_name BadJson = codes "bad json"
 refusal_name BadDocument = codes "bad document"
 refusal_name TooLong = codes "too long"
+refusal_name (NotRising last) = codes "not rising after " ++ decimal last
 refusal_name Full = codes "full"
 refusal_name BadNumber = codes "bad number"
 refusal_name (BadQuery column) = codes "bad query at " ++ decimal column

@@ -3,12 +3,16 @@
 #![tactic(auto)]
 
 mod gathered;
+mod passing;
+mod program;
 mod refusal;
 mod status;
 mod work;
 mod writing;
 
 pub use gathered::{write_gathered, write_much};
+pub use passing::pass_lines;
+pub use program::LineProgram;
 pub use refusal::Refusal;
 pub use status::{MAX_INPUT, Status};
 pub use work::{Work, read_document_line, read_line, read_query_text};

@@ -21,10 +21,12 @@ pub enum Status {
     NoMemory,
     /// [`MAX_INPUT`] bytes were read without an end. Their whole lines are worked off.
     TooLong,
+    /// What was read is no image. It comes from a load alone; nothing was printed.
+    BadImage,
 }
 
 impl Status {
-    /// The exit code of the program, 0 to 6 in the order of the statuses.
+    /// The exit code of the program, 0 to 7 in the order of the statuses.
     pub fn code(&self) -> u8
         ensures { result ≡ code_of self.now }
     {
@@ -36,6 +38,7 @@ impl Status {
             Status::WriteFault => 4,
             Status::NoMemory => 5,
             Status::TooLong => 6,
+            Status::BadImage => 7,
         }
     }
 
@@ -52,6 +55,7 @@ impl Status {
             Status::WriteFault => b"earlybird: write fault\n",
             Status::NoMemory => b"earlybird: no memory\n",
             Status::TooLong => b"earlybird: input too long\n",
+            Status::BadImage => b"earlybird: bad image\n",
         }
     }
 }

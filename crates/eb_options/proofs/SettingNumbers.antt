@@ -101,10 +101,10 @@ found n low (suc m) h = go (λ e. found n (low + 1) m e) (n == 2 ^ low) refl
         let a = f.1 in let b = f.2 in (f.0, omega arith, omega arith, f.3)
 
 terms_true : (n : ℕ) → AreTerms n → are_terms n ≡ true
-terms_true n t = let low = t.1 in let high = t.2 in any_by (λ k. n == 2 ^ k) t.0 (range_with_len 8 13) (eqb_same n (2 ^ t.0) t.3) (near t.0 8 13 low (omega arith))
+terms_true n t = let low = t.1 in let high = t.2 in any_by (λ k. n == 2 ^ k) t.0 (range_with_len 10 11) (eqb_same n (2 ^ t.0) t.3) (near t.0 10 11 low (omega arith))
 
 terms_are : (n : ℕ) → are_terms n ≡ true → AreTerms n
-terms_are n h = let f = found n 8 13 h in let a = f.1 in let b = f.2 in (f.0, omega arith, omega arith, f.3)
+terms_are n h = let f = found n 10 11 h in let a = f.1 in let b = f.2 in (f.0, omega arith, omega arith, f.3)
 
 -- ---- settings
 

@@ -1,16 +1,16 @@
 -- The setting that items ask for.
-use Rattle.std.specs.Prelude.{ℕ, ◌&&◌, ◌==◌, ◌^◌, Bool, List, [], ◌∷◌, codes, nat_le, Option, Some, None, unwrap_or, if◌then◌else◌}
+use Rattle.std.specs.Prelude.{ℕ, ◌&&◌, ◌==◌, ◌+◌, ◌-◌, ◌^◌, Bool, List, [], ◌∷◌, codes, nat_le, Option, Some, None, unwrap_or, if◌then◌else◌}
 use Rattle.std.specs.List.{list_any, range_with_len}
-use Rattle.eb_base.specs.Setting.{Setting, words_of}
+use Rattle.eb_base.specs.Setting.{Setting, words_of, least_power, greatest_power}
 use Rattle.eb_options.specs.Items.{Items, number_of}
 
 -- the options of a setting
 abbrev pub setting_options : List (List ℕ)
 setting_options = codes "segments" ∷ codes "docs" ∷ codes "terms" ∷ []
 
--- a power of two from 256 to 1,048,576
+-- a power of two from 1,024 to 1,048,576
 abbrev pub are_terms : ℕ → Bool
-are_terms n = list_any (λ k. n == 2 ^ k) (range_with_len 8 13)
+are_terms n = list_any (λ k. n == 2 ^ k) (range_with_len least_power (greatest_power + 1 - least_power))
 
 -- the setting is allowed, as `Config::new` tests it
 abbrev pub is_setting : Setting → Bool

@@ -147,8 +147,8 @@ fn reads_settings(rt: HostRuntime) -> Result<(), Fail> {
     let lines = [
         ("--segments=3", Config::new(3, 4096, 8192).ok()),
         (
-            "--terms|256|--docs|1|--segments|64",
-            Config::new(64, 1, 256).ok(),
+            "--terms|1024|--docs|1|--segments|64",
+            Config::new(64, 1, 1024).ok(),
         ),
         ("--segments=0", None),
         ("--terms=300", None),

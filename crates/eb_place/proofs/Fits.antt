@@ -7,7 +7,7 @@ use Rattle.std.proofs.lemmas.Bool.Decides.{nat_tests}
 use Rattle.std.proofs.Math.Nat.{pow-le-pow_right}
 use Rattle.eb_base.specs.Term.{Term}
 use Rattle.eb_base.specs.Document.{Doc, IsDocument}
-use Rattle.eb_base.specs.Setting.{Setting, IsSetting}
+use Rattle.eb_base.specs.Setting.{Setting, IsSetting, least_power}
 use Rattle.eb_place.specs.Postings.{count_of, distinct, terms_of}
 use Rattle.eb_place.specs.Room.{slices, all_slices, text_words, holds, fits}
 use Rattle.eb_place.proofs.Counts.{by_push, distinct_push, distinct-nil, with_term_cases, total_count}
@@ -63,8 +63,8 @@ pub fits_empty : (σ : Setting) → IsSetting σ → (d : Doc) → IsDocument d 
 unfolding holds
 fits_empty σ s d h =
     let k = s.terms.0 in
-    let least : 2 ^ 8 ≤ 2 ^ k = pow-le-pow_right (lit< tt) s.terms.1 in
-    let t : 256 ≤ σ.terms = omega (arith, least, s.terms.3) in
+    let least : 2 ^ least_power ≤ 2 ^ k = pow-le-pow_right (lit< tt) s.terms.1 in
+    let t : 2 ^ least_power ≤ σ.terms = omega (arith, least, s.terms.3) in
     let ts = d.terms in
     let a = length_distinct ts in
     let b = text_cost ts in

@@ -7,7 +7,7 @@ use Rattle.std.proofs.Math.Nat.{pow-le-pow_right}
 use native.Mathlib.Decide.{ℕ_discrete}
 use Rattle.eb_base.specs.Term.{Term}
 use Rattle.eb_base.specs.Document.{Doc, IsDocument}
-use Rattle.eb_base.specs.Setting.{Setting, IsSetting}
+use Rattle.eb_base.specs.Setting.{Setting, IsSetting, least_power, greatest_power}
 use Rattle.eb_place.specs.declared.moment.Documents.{Documents}
 use Rattle.eb_place.specs.Postings.{count_of, distinct, terms_of}
 use Rattle.eb_place.specs.Room.{fits, with_doc, cut, last_of, has_room, IsLawful}
@@ -33,8 +33,8 @@ reached_same σ s ts P Q L e h = record { post = λ t f l. h.post t f l ∙ e t 
 pub setting_terms : (σ : Setting) → IsSetting σ → (1 ≤ σ.terms) × (σ.terms ≤ 2 ^ 20)
 setting_terms σ k =
     let n = k.terms.0 in
-    let low : 2 ^ 8 ≤ 2 ^ n = pow-le-pow_right (lit< tt) k.terms.1 in
-    let high : 2 ^ n ≤ 2 ^ 20 = pow-le-pow_right (lit< tt) k.terms.2 in
+    let low : 2 ^ least_power ≤ 2 ^ n = pow-le-pow_right (lit< tt) k.terms.1 in
+    let high : 2 ^ n ≤ 2 ^ greatest_power = pow-le-pow_right (lit< tt) k.terms.2 in
     (omega (arith, low, k.terms.3), omega (arith, high, k.terms.3))
 
 placings_after-append : (σ : Setting) (before xs ys : List Doc) → placings_after σ before (xs ++ ys) ≡ placings_after σ before xs ++ placings_after σ (before ++ xs) ys

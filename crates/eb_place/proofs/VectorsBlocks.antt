@@ -15,6 +15,16 @@ far : block (4294967295 ∷ 0 ∷ []) ≡ 281474976653314 ∷ 4294967295 ∷ []
 unfolding block lib.Count.count_leading_zeros
 far = refl
 
+-- a difference of 40 bits
+farthest : block (1099511627775 ∷ 0 ∷ []) ≡ 72057594037872642 ∷ 1099511627775 ∷ []
+unfolding block lib.Count.count_leading_zeros
+farthest = refl
+
+-- one of 16 bits
+next_document : block (65536 ∷ 1023 ∷ []) ≡ 4294971394 ∷ 64513 ∷ []
+unfolding block lib.Count.count_leading_zeros
+next_document = refl
+
 -- three differences of 24 bits, of which the third crosses from one word to the next
 crossing : block (8388612 ∷ 8388611 ∷ 8388609 ∷ 0 ∷ []) ≡ 549756082180 ∷ 281475010265089 ∷ 128 ∷ []
 unfolding block lib.Count.count_leading_zeros

@@ -1,5 +1,5 @@
--- The fullest documents fit the least segment: 256 terms, 1,024 text words, and 256, 128, 16 and 2 slices.
-use Rattle.std.proofs.Common.{◌≡◌, ℕ, zero, suc, ◌+◌, true, List, [], ◌∷◌, ◌++◌, length, sum_by, refl, replicate}
+-- The fullest documents fit the least segment: 1,024 terms, 4,096 text words, and 1,024, 512, 64 and 8 slices.
+use Rattle.std.proofs.Common.{◌≡◌, ℕ, zero, suc, ◌+◌, ◌/◌, ◌%◌, true, List, [], ◌∷◌, ◌++◌, length, sum_by, refl, replicate}
 use Rattle.eb_base.specs.Term.{Term}
 use Rattle.eb_base.specs.Document.{Doc, bytes_of}
 use Rattle.eb_base.specs.Setting.{Setting}
@@ -7,12 +7,12 @@ use Rattle.eb_place.specs.Postings.{terms_of, distinct, count_of}
 use Rattle.eb_place.specs.Room.{text_words, holds, fits, all_slices}
 
 abbrev least : Setting
-least = record { segments = 1; docs = 1; terms = 256 }
+least = record { segments = 1; docs = 1; terms = 1024 }
 
--- n different terms, with this first byte and the next ones, and `more` bytes behind it
+-- n different terms: the numbers from `first` on, in two bytes each, and `more` bytes behind them
 abbrev different : ℕ → ℕ → ℕ → List Term
 different first zero more = []
-different first (suc n) more = ((first + n) ∷ replicate more 0) ∷ different first n more
+different first (suc n) more = ((first + n) % 256 ∷ (first + n) / 256 ∷ replicate more 0) ∷ different first n more
 
 -- each of the terms k times
 abbrev times : ℕ → List Term → List Term
@@ -22,26 +22,22 @@ times k (t ∷ ts) = replicate k t ++ times k ts
 abbrev doc : List Term → Doc
 doc terms = record { id = 1; terms = terms }
 
--- 224 terms of 17 bytes and 32 of 9, all different
+-- 896 terms of 17 bytes and 128 of 9, all different
 abbrev longest : List Term
-longest = different 0 224 16 ++ different 224 32 8
+longest = different 0 896 15 ++ different 896 128 7
 
-longest_limits : length longest ∷ bytes_of longest ∷ [] ≡ 256 ∷ 4096 ∷ []
+longest_limits : length longest ∷ bytes_of longest ∷ [] ≡ 1024 ∷ 16384 ∷ []
 longest_limits = refl
 
-longest_words : length (distinct longest) ∷ sum_by text_words (distinct longest) ∷ all_slices 0 longest ∷ [] ≡ 256 ∷ 992 ∷ 256 ∷ []
-unfolding distinct all_slices count_of
+-- they take so many text words; that they fit is the law that each document within the limits does
+longest_words : sum_by text_words longest ≡ 3968
 longest_words = refl
-
-longest_fits : fits least [] (doc longest) ≡ true
-unfolding holds terms_of distinct all_slices count_of
-longest_fits = refl
 
 -- as many terms as can have three postings each
 abbrev threes : List Term
-threes = times 3 (different 0 85 0)
+threes = times 3 (different 0 341 0)
 
-threes_slices : length threes ∷ all_slices 1 threes ∷ [] ≡ 255 ∷ 85 ∷ []
+threes_slices : length threes ∷ all_slices 1 threes ∷ [] ≡ 1023 ∷ 341 ∷ []
 unfolding distinct all_slices count_of
 threes_slices = refl
 
@@ -51,9 +47,9 @@ threes_fit = refl
 
 -- as can have 18 each
 abbrev eighteens : List Term
-eighteens = times 18 (different 0 14 0)
+eighteens = times 18 (different 0 56 0)
 
-eighteens_slices : length eighteens ∷ all_slices 2 eighteens ∷ [] ≡ 252 ∷ 14 ∷ []
+eighteens_slices : length eighteens ∷ all_slices 2 eighteens ∷ [] ≡ 1008 ∷ 56 ∷ []
 unfolding distinct all_slices count_of
 eighteens_slices = refl
 
@@ -61,9 +57,21 @@ eighteens_fit : fits least [] (doc eighteens) ≡ true
 unfolding holds terms_of distinct all_slices count_of
 eighteens_fit = refl
 
--- and one term 256 times
+-- as can have 145 each
+abbrev many : List Term
+many = times 145 (different 0 7 0)
+
+many_slices : length many ∷ all_slices 3 many ∷ [] ≡ 1015 ∷ 7 ∷ []
+unfolding distinct all_slices count_of
+many_slices = refl
+
+many_fit : fits least [] (doc many) ≡ true
+unfolding holds terms_of distinct all_slices count_of
+many_fit = refl
+
+-- and one term 1,024 times
 abbrev sames : List Term
-sames = replicate 256 (97 ∷ [])
+sames = replicate 1024 (97 ∷ [])
 
 sames_slices : all_slices 3 sames ≡ 1
 unfolding distinct all_slices count_of

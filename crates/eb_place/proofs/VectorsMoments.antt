@@ -17,7 +17,7 @@ abbrev at : ℕ → Moment
 at n = record { setting = small; documents = record { accepted = []; current = Some (first_doc, n) }; conversions = record { converted = 0; packed = 0 } }
 
 -- its last posting is stored
-word_14 : word (at 14) 2053 ≡ 2
+word_14 : word (at 14) 8197 ≡ 2
 unfolding word value_after document_stores conversion_stores conversions placings_after doc_stores place pool_slot start size stores_in tokens_stores token_stores append_stores enter_stores cell_of_next cells_of address_of front_of begun_after count_of cut holds all_slices distinct terms_of pool_at offset_at slice_start segment_stores convert_stores pack_stores
 word_14 = refl
 

@@ -77,7 +77,7 @@ link_2191 : link 2191 ≡ (1 + (2 + 26 * 8192 + 4096) + 2048, 3221227519) ∷ []
 unfolding append_stores place pool_slot start size distinct address_of front_of begun_after count_of pool_at offset_at slice_start
 link_2191 = refl
 
--- how many of the first 256 postings of a term stand in each pool
-pools_256 : map (λ p. count_by (λ f. pool_at f == p) (range_with_len 0 256)) (0 ∷ 1 ∷ 2 ∷ 3 ∷ []) ≡ 2 ∷ 15 ∷ 127 ∷ 112 ∷ []
+-- how many of the first 1,024 postings of a term stand in each pool
+pools_1024 : map (λ p. count_by (λ f. pool_at f == p) (range_with_len 0 1024)) (0 ∷ 1 ∷ 2 ∷ 3 ∷ []) ≡ 2 ∷ 15 ∷ 127 ∷ 880 ∷ []
 unfolding pool_at
-pools_256 = refl
+pools_1024 = refl

@@ -6,11 +6,11 @@ use Rattle.eb_base.specs.Document.{Doc}
 
 -- the lowest bits of a posting, which hold the position
 abbrev pub position_bits : ℕ
-position_bits = 8
+position_bits = 16
 
 -- all bits of a posting: those above the position hold the document's number in its segment
 abbrev pub posting_bits : ℕ
-posting_bits = 32
+posting_bits = 40
 
 -- how many places a document has in the postings
 abbrev pub places : ℕ

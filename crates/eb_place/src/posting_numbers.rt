@@ -10,16 +10,17 @@ ghost use Rattle.eb_place.specs.Postings.{
 
 /// A posting: where a term stands in a segment, the document's number in the segment above the position in
 /// the document (the Earlybird paper of 2012).
-pub type Posting = u32;
+pub type Posting = u64;
 
 /// The lowest bits of a posting, which hold the position; the bits above hold the document's number.
-pub const POSITION_BITS: u32 = 8;
+pub const POSITION_BITS: u32 = 16;
 
 /// The places of a document: a posting is its document's number times this and its position.
 pub const PLACES: u64 = 1 << POSITION_BITS;
 
-/// All bits of a posting: 24 of the document's number and 8 of the position (the Earlybird paper of 2012).
-pub const POSTING_BITS: u32 = 32;
+/// All bits of a posting: 24 of the document's number (the Earlybird paper of 2012) and 16 of the position
+/// (this project's profile, docs/FORMATS.md).
+pub const POSTING_BITS: u32 = 40;
 
 /// The posting of a position in a document, by the document's number in its segment.
 pub fn posting(document: u32, position: u32) -> Posting
@@ -27,7 +28,7 @@ pub fn posting(document: u32, position: u32) -> Posting
     requires position { position < places }
     ensures { result ≡ posting_of document position }
 {
-    (document << POSITION_BITS) + position
+    (Posting::from(document) << POSITION_BITS) + Posting::from(position)
 }
 
 /// The posting that a word of a pool holds.
@@ -40,14 +41,16 @@ pub fn posting_in_word(word: u64) -> Posting
 
 /// The number in its segment of the document that a posting is of.
 pub fn document_of(posting: Posting) -> u32
+    requires { posting < 2 ^ posting_bits }
     ensures { result ≡ posting_document posting }
 {
-    posting >> POSITION_BITS
+    (posting >> POSITION_BITS) as u32
 }
 
 /// The position in its document that a posting is of.
 pub fn position_of(posting: Posting) -> u32
+    requires { posting < 2 ^ posting_bits }
     ensures { result ≡ posting_position posting }
 {
-    posting % (1 << POSITION_BITS)
+    (posting % (1 << POSITION_BITS)) as u32
 }

@@ -1,3 +1,4 @@
 pub mod Parts
+pub mod Windows
 pub mod Recounts
 pub mod HistoryCuts

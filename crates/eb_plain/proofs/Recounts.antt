@@ -39,7 +39,7 @@ pub pushed : (found : List (List ℕ)) (t : List ℕ) → list_any (bytes_eq t) 
 pushed found t e = rw e refl
 
 -- what is distinct is no more than the list
-pub text_few : (ts : List (List ℕ)) → length ts ≤ 2 ^ 41 → sum_by length ts ≤ 2 ^ 45 → sum_by text_words (distinct ts) < 2 ^ 60
+pub text_few : (ts : List (List ℕ)) → length ts ≤ most_tokens * 2 ^ 32 → sum_by length ts ≤ most_bytes * 2 ^ 32 → sum_by text_words (distinct ts) < 2 ^ 60
 text_few ts few short = omega (arith, few, short, text_cost ts)
 
 slices_few : (p f : ℕ) → 1 * slices p f ≤ f + 0
@@ -48,7 +48,7 @@ slices_few (suc zero) f = grind (arith, nat_tests)
 slices_few (suc (suc zero)) f = grind (arith, nat_tests)
 slices_few (suc (suc (suc p))) f = grind (arith, nat_tests)
 
-pub all_slices_few : (p : ℕ) (ts : List (List ℕ)) → length ts ≤ 2 ^ 41 → all_slices p ts < 2 ^ 60
+pub all_slices_few : (p : ℕ) (ts : List (List ℕ)) → length ts ≤ most_tokens * 2 ^ 32 → all_slices p ts < 2 ^ 60
 all_slices_few p ts few = omega (arith, few, all_slices_cost p 1 (slices_few p) ts)
 
 pub all_taken : (ts : List (List ℕ)) (i : ℕ) → i ≤ length ts → length ts ≤ i → take i ts ≡ ts

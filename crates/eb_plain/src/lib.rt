@@ -5,6 +5,8 @@
 
 mod answers;
 mod history;
+#[cfg(test)]
+mod match_tests;
 mod room;
 mod scan;
 #[cfg(test)]

@@ -1,6 +1,6 @@
 ghost use Rattle.std.specs.Prelude.{◌≡◌, ℕ, ◌+◌, ◌*◌, ◌<◌, ◌≤◌, ◌^◌, ◌++◌, length, sum_by, IfOk, OnOk, bytes_eq};
 ghost use Rattle.std.specs.List.{list_any};
-ghost use Rattle.eb_base.specs.Document.{IsDocument};
+ghost use Rattle.eb_base.specs.Document.{IsDocument, most_tokens, most_bytes};
 ghost use Rattle.eb_place.specs.Postings.{count_of, distinct};
 ghost use Rattle.eb_place.specs.Room.{all_slices};
 ghost use Rattle.eb_place.specs.Room as spec;
@@ -44,8 +44,8 @@ fn put_terms(alloc: Global, document: &Document, terms: &mut Terms) -> Result<()
 
 // Whether a segment has room for these terms.
 fn has_room_for(alloc: Global, config: &Config, terms: &Terms) -> Result<bool, NoMemory>
-    requires few { length terms.now ≤ 2 ^ 41 }
-    requires short { sum_by length terms.now ≤ 2 ^ 45 }
+    requires few { length terms.now ≤ most_tokens * 2 ^ 32 }
+    requires short { sum_by length terms.now ≤ most_bytes * 2 ^ 32 }
     ensures { IfOk result (λ answer. answer ≡ holds_terms config.now terms.now) }
 {
     let found = distinct_terms(alloc, terms)?;
@@ -81,8 +81,8 @@ fn distinct_terms(alloc: Global, terms: &Terms) -> Result<Terms, NoMemory>
 // The text words of the distinct terms of a list.
 fn text_of(found: &Terms, terms: &Terms) -> u64
     requires distinct { found.now ≡ distinct terms.now }
-    requires few { length terms.now ≤ 2 ^ 41 }
-    requires short { sum_by length terms.now ≤ 2 ^ 45 }
+    requires few { length terms.now ≤ most_tokens * 2 ^ 32 }
+    requires short { sum_by length terms.now ≤ most_bytes * 2 ^ 32 }
     ensures { result ≡ sum_by spec.text_words (distinct terms.now) }
 {
     let mut words = 0u64;
@@ -96,7 +96,7 @@ fn text_of(found: &Terms, terms: &Terms) -> u64
 fn slices_of(pool: u32, found: &Terms, terms: &Terms) -> u64
     requires pool { pool < 4 }
     requires distinct { found.now ≡ distinct terms.now }
-    requires few { length terms.now ≤ 2 ^ 41 }
+    requires few { length terms.now ≤ most_tokens * 2 ^ 32 }
     ensures { result ≡ all_slices pool terms.now }
 {
     let mut slices = 0u64;
@@ -123,7 +123,7 @@ fn count(term: &Term, terms: &Terms) -> u64
 // The slices of a pool that a term with so many postings takes.
 fn slices_for(pool: u32, postings: u64) -> u64
     requires pool { pool < 4 }
-    requires few { postings ≤ 2 ^ 41 }
+    requires few { postings ≤ most_tokens * 2 ^ 32 }
     ensures { result ≡ spec.slices pool postings }
 {
     match pool {

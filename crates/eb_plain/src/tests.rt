@@ -31,7 +31,7 @@ fn counted(alloc: Global, config: &Config) -> Result<Told, NoMemory> {
         documents.push(of_a(alloc, id, 1)?)?;
     }
     let word = Query::Word(Term::new(alloc, b"a")?);
-    let first = of_a(alloc, 1, 256)?;
+    let first = of_a(alloc, 1, 1024)?;
     Ok(Told {
         lengths: cut(alloc, config, documents.as_slice())?,
         ids: newest(alloc, &word, 3, documents.as_slice())?,
@@ -44,7 +44,7 @@ fn counted(alloc: Global, config: &Config) -> Result<Told, NoMemory> {
 
 #[test]
 fn counts_again(rt: HostRuntime) {
-    let config = Config::new(2, 2, 256);
+    let config = Config::new(2, 2, 1024);
     assert!(rt; config.is_ok());
     if let Ok(config) = config {
         let told = counted(rt.alloc(), &config);

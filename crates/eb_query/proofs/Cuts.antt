@@ -1,13 +1,15 @@
 -- Where lexemes begin and end in a line.
-use Rattle.std.proofs.Common.{◌≡◌, ℕ, zero, suc, ◌+◌, ◌-◌, ◌<◌, ◌≤◌, nat_lt, eqb, ◌||◌, Bool, true, false, not, List, [], ◌∷◌, length, take, drop, get_or, Option, Some, None, refl, sym, ap, ◌∙◌, arith, inl, inr, ◌⊎◌, ne_eqb, lt-ltb, le-ltb, ltb-false, drop-cons, length-drop}
+use Rattle.std.proofs.Common.{◌≡◌, ℕ, zero, suc, ◌+◌, ◌-◌, ◌<◌, ◌≤◌, nat_lt, eqb, ◌||◌, Bool, true, false, not, List, [], ◌∷◌, length, take}
+use Rattle.std.proofs.Common.{drop, get_or, Option, Some, None, refl, sym, ap, ◌∙◌, arith, subst, inl, inr, ◌⊎◌, ne_eqb, lt-ltb, le-ltb, ltb-false, drop-cons, length-drop}
 use Rattle.std.proofs.lemmas.Bool.{ltb-true, eqb-true, or_cases}
 use Rattle.std.proofs.lemmas.List.{get_or-drop, drop_all, drop-drop, take_all}
 use Rattle.std.proofs.lemmas.List.Sums.{position_or_len_is, passes_at_first, prefix_len-le-length}
 use Rattle.std.proofs.lemmas.Str.{IsCharBoundary-before_ascii, IsCharBoundary-after_ascii}
 use Rattle.std.specs.List.{position_or_len}
 use Rattle.std.specs.Str.{IsUtf8, IsCharBoundary}
+use Rattle.eb_query.specs.Digits.{is_no_digit}
 use Rattle.eb_query.specs.Grammar.{Lexeme, opening, closing, minus, broken}
-use Rattle.eb_query.specs.Lexemes.{Placed, is_blank, ends_run, is_quote, text_lexeme, run_lexeme, quoted, bare, first, lexemes}
+use Rattle.eb_query.specs.Lexemes.{Placed, is_blank, ends_run, is_quote, run_lexeme, is_run_end, has_tilde, quoted_lexeme, tilde_len, text_lexeme, window_lexeme, quoted, bare, first, lexemes}
 use Rattle.eb_query.specs.Reading.{bad_query, too_deep}
 use Rattle.eb_base.specs.Query.{Tree}
 use Rattle.eb_query.specs.Machine.{State, step, is_deep, finish, ending, outcome}
@@ -42,7 +44,7 @@ pub quoted_none : (bs : List ℕ) (n : ℕ) → n ≡ position_or_len is_quote b
 unfolding quoted
 quoted_none bs n e h = rw (le-ltb (position_or_len is_quote bs) (length bs) (omega arith)) refl
 
-pub quoted_some : (bs : List ℕ) (n : ℕ) → n ≡ position_or_len is_quote bs → n < length bs → quoted bs ≡ (text_lexeme (take n bs), n + 1)
+pub quoted_some : (bs : List ℕ) (n : ℕ) → n ≡ position_or_len is_quote bs → n < length bs → quoted bs ≡ (quoted_lexeme (take n bs) (drop (n + 1) bs), n + 1 + tilde_len (drop (n + 1) bs))
 unfolding quoted
 quoted_some bs n e h = rw (← e) (rw (lt-ltb n (length bs) h) refl)
 
@@ -56,21 +58,46 @@ blank_small b k = elim (or_cases _ _ k) [ inl e ↦ (let i = eqb-true b 32 e in 
 pub is_quote_small : (b : ℕ) → is_quote b ≡ true → b < 128
 is_quote_small b h = let e = eqb-true b 34 h in omega arith
 
-pub ends_run_small : (b : ℕ) → ends_run b ≡ true → b < 128
-ends_run_small b h = go (or_cases _ _ h)
+-- what ends a run is one of five bytes
+pub ends_run_by : (P : ℕ → Type 0) (b : ℕ) → ends_run b ≡ true → P 32 → P 9 → P 40 → P 41 → P 34 → P b
+ends_run_by P b h space tab left right mark = four (or_cases _ _ h)
   where
-    blank : (is_blank b ≡ true) → b < 128
-    blank k = elim (or_cases _ _ k) [ inl e ↦ (let i = eqb-true b 32 e in omega arith) | inr e ↦ (let i = eqb-true b 9 e in omega arith) ]
+    one : (is_blank b ≡ true) → P b
+    one k = elim (or_cases _ _ k) [ inl e ↦ subst P (sym (eqb-true b 32 e)) space | inr e ↦ subst P (sym (eqb-true b 9 e)) tab ]
 
-    two : ((is_blank b || eqb b 40) ≡ true) → b < 128
-    two k = elim (or_cases _ _ k) [ inl e ↦ blank e | inr e ↦ (let i = eqb-true b 40 e in omega arith) ]
+    two : ((is_blank b || eqb b 40) ≡ true) → P b
+    two k = elim (or_cases _ _ k) [ inl e ↦ one e | inr e ↦ subst P (sym (eqb-true b 40 e)) left ]
 
-    three : ((is_blank b || eqb b 40 || eqb b 41) ≡ true) → b < 128
-    three k = elim (or_cases _ _ k) [ inl e ↦ two e | inr e ↦ (let i = eqb-true b 41 e in omega arith) ]
+    three : ((is_blank b || eqb b 40 || eqb b 41) ≡ true) → P b
+    three k = elim (or_cases _ _ k) [ inl e ↦ two e | inr e ↦ subst P (sym (eqb-true b 41 e)) right ]
 
-    go : ((is_blank b || eqb b 40 || eqb b 41) ≡ true) ⊎ (eqb b 34 ≡ true) → b < 128
-    go (inl e) = three e
-    go (inr e) = let i = eqb-true b 34 e in omega arith
+    four : ((is_blank b || eqb b 40 || eqb b 41) ≡ true) ⊎ (eqb b 34 ≡ true) → P b
+    four (inl e) = three e
+    four (inr e) = subst P (sym (eqb-true b 34 e)) mark
+
+pub ends_run_small : (b : ℕ) → ends_run b ≡ true → b < 128
+ends_run_small b h = ends_run_by (λ n. n < 128) b h (omega arith) (omega arith) (omega arith) (omega arith) (omega arith)
+
+-- where a run ends, no tilde stands
+pub end_no_tilde : (bs : List ℕ) → is_run_end bs ≡ true → has_tilde bs ≡ false
+end_no_tilde [] h = refl
+end_no_tilde (b ∷ bs) h = ends_run_by (λ n. eqb n 126 ≡ false) b h refl refl refl refl refl
+
+pub quoted_text : (text bs : List ℕ) → has_tilde bs ≡ false → quoted_lexeme text bs ≡ text_lexeme text
+unfolding quoted_lexeme
+quoted_text text bs h = rw h refl
+
+pub quoted_window : (text bs : List ℕ) → has_tilde bs ≡ true → quoted_lexeme text bs ≡ window_lexeme text (drop 1 bs)
+unfolding quoted_lexeme
+quoted_window text bs h = rw h refl
+
+pub no_tilde_len : (bs : List ℕ) → has_tilde bs ≡ false → tilde_len bs ≡ 0
+unfolding tilde_len
+no_tilde_len bs h = rw h refl
+
+pub tilde_digits : (bs : List ℕ) → has_tilde bs ≡ true → tilde_len bs ≡ 1 + position_or_len is_no_digit (drop 1 bs)
+unfolding tilde_len
+tilde_digits bs h = rw h refl
 
 -- the place that a test found behind at + 1
 pub cut_within : (p : ℕ → Bool) (line : List ℕ) (at n : ℕ) → at < length line → n ≡ position_or_len p (drop (at + 1) line) → at + 1 + n ≤ length line

@@ -1,6 +1,7 @@
 -- The grammar over what is written.
 use Rattle.std.proofs.Common.{◌≡◌, ℕ, suc, ◌≤◌, List, [], ◌∷◌, ◌++◌, length, refl, sym, ap, ◌∙◌, arith, subst, append_assoc, append-nil}
-use Rattle.eb_base.specs.Query.{Tree, word, phrase, negation, conjunction, disjunction, Trees, no_trees, trees, trees_of, and_of, or_of, size, IsFormed, AreFormed, AreSeveral, most_size}
+use Rattle.eb_base.specs.Query.{Tree, word, phrase, window, since, negation, conjunction, disjunction, Trees, no_trees}
+use Rattle.eb_base.specs.Query.{trees, trees_of, and_of, or_of, size, IsFormed, AreFormed, AreSeveral, most_size}
 use Rattle.eb_query.specs.Grammar.{Lexeme, opening, closing, minus, or_word, leaf, broken, IsUnary, a_leaf, a_minus, a_group, IsAnd, last, beside, IsOr, final, either, Gives}
 use Rattle.eb_query.specs.Lexemes.{Placed}
 use Rattle.eb_query.specs.Nesting.{Open, group, completed, closed, open_after, nesting, IsOpener, NestsWithin}
@@ -43,6 +44,8 @@ mutual
   unary_derives : (t : Tree) (rest : List Lexeme) → IsFormed t → IsUnary (unary_lexemes t ++ rest) t rest
   unary_derives (word t) rest f = a_leaf
   unary_derives (phrase ts) rest f = a_leaf
+  unary_derives (window ts w) rest f = a_leaf
+  unary_derives (since x) rest f = a_leaf
   unary_derives (negation t) rest f = a_minus (unary_derives t rest f)
   unary_derives (conjunction ts) rest f = grouped (and_lexemes ts) rest (and_of (list ts) ∷ []) (conjunction ts) (final (and_derives ts (closing ∷ rest) f.0 f.1)) (and_list ts f.0)
   unary_derives (disjunction ts) rest f = grouped (or_lexemes ts) rest (list ts) (disjunction ts) (or_derives ts (closing ∷ rest) f.0 f.1) (or_list ts f.0)
@@ -50,6 +53,8 @@ mutual
   part_derives : (t : Tree) (rest : List Lexeme) → IsFormed t → IsPart (part_lexemes t ++ rest) t rest
   part_derives (word t) rest f = (word t ∷ [], last a_leaf, refl)
   part_derives (phrase ts) rest f = (phrase ts ∷ [], last a_leaf, refl)
+  part_derives (window ts w) rest f = (window ts w ∷ [], last a_leaf, refl)
+  part_derives (since x) rest f = (since x ∷ [], last a_leaf, refl)
   part_derives (negation t) rest f = (negation t ∷ [], last (a_minus (unary_derives t rest f)), refl)
   part_derives (conjunction ts) rest f = (list ts, and_derives ts rest f.0 f.1, and_list ts f.0)
   part_derives (disjunction ts) rest f =
@@ -85,6 +90,8 @@ mutual
 pub query_derives : (t : Tree) → IsFormed t → Gives (query_lexemes t) t
 query_derives (word t) f = (word t ∷ [], final (last a_leaf), refl)
 query_derives (phrase ts) f = (phrase ts ∷ [], final (last a_leaf), refl)
+query_derives (window ts w) f = (window ts w ∷ [], final (last a_leaf), refl)
+query_derives (since x) f = (since x ∷ [], final (last a_leaf), refl)
 query_derives (negation t) f =
     (negation t ∷ [], final (last (a_minus (subst (λ (ks : List Lexeme). IsUnary ks t []) (append-nil (unary_lexemes t)) (unary_derives t [] f)))), refl)
 query_derives (conjunction ts) f =

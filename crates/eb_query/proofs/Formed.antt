@@ -1,16 +1,18 @@
 -- What is read is formed well.
 use Rattle.std.proofs.Common.{◌≡◌, ℕ, zero, suc, ◌+◌, nat_lt, Bool, true, false, cond, List, [], ◌∷◌, ◌++◌, length, refl, sym, ap, ◌∙◌, arith, subst}
-use Rattle.std.proofs.lemmas.Bool.{ltb-true}
-use Rattle.eb_base.specs.Query.{Tree, trees_of, and_of, or_of, size, IsFormed, AreFormed, IsWellFormed, leaf_of, most_size}
+use Rattle.std.proofs.lemmas.Bool.{ltb-true, and_parts}
+use Rattle.eb_base.specs.Query.{Tree, trees_of, and_of, or_of, size, IsFormed, AreFormed, IsWellFormed, leaf_of, window_of, most_size, most_reach, since}
 use Rattle.eb_text.specs.Tokens.{tokens_of}
+use Rattle.eb_query.specs.Digits.{is_no_digit, value_after}
 use Rattle.eb_query.specs.Grammar.{Lexeme, opening, closing, minus, or_word, leaf, broken, IsUnary, a_leaf, a_minus, a_group, IsAnd, last, beside, IsOr, final, either, Gives}
-use Rattle.eb_query.specs.Lexemes.{Placed, is_blank, ends_run, text_lexeme, run_lexeme, of_leaf, quoted, bare, first, lexemes, is_quote}
+use Rattle.eb_query.specs.Lexemes.{Placed, is_blank, ends_run, text_lexeme, is_reach, reach_by, reach_of, window_lexeme, has_tilde, quoted_lexeme}
+use Rattle.eb_query.specs.Lexemes.{tilde_len, id_of, run_lexeme, of_leaf, quoted, bare, first, lexemes, is_quote}
 use Rattle.eb_query.specs.Number.{number_of}
 use Rattle.eb_query.specs.Reading.{Outcome, asks, too_many_nodes, IsOutcome, stands, cannot_stand, stands_too_deep, incomplete, large, complete}
 use Rattle.eb_query.specs.Machine.{start, sized, outcome}
-use Rattle.std.specs.List.{position_or_len}
+use Rattle.std.specs.List.{position_or_len, starts_with}
 use Rattle.std.specs.Str.{bytes_eq}
-use Rattle.std.proofs.Common.{codes, eqb, take}
+use Rattle.std.proofs.Common.{codes, eqb, take, drop, ◌≤◌, Option, Some, None, option_map, option_and_then, leb-true}
 use Rattle.eb_query.proofs.Outcomes.{found}
 
 -- a leaf is formed well
@@ -88,21 +90,58 @@ text_sound : (text : List ℕ) → IsSound (text_lexeme text)
 unfolding text_lexeme
 text_sound text = leaf_sound (tokens_of text)
 
+-- a window of a reach that a window may have
+window_sound : (ts : List (List ℕ)) (w : ℕ) → 1 ≤ w → w ≤ most_reach → IsSound (of_leaf (window_of ts w))
+window_sound [] w low high = tt
+window_sound (t ∷ []) w low high = tt
+window_sound (t ∷ u ∷ ts) w low high = (omega arith, low, high)
+
+reach_sound : (text : List ℕ) (n : ℕ) (bs : List ℕ) → IsSound (of_leaf (option_and_then (window_of (tokens_of text)) (reach_by n bs)))
+reach_sound text n bs = go (is_reach n bs) refl
+  where
+    go : (b : Bool) → is_reach n bs ≡ b → IsSound (of_leaf (option_and_then (window_of (tokens_of text)) (cond b (Some (value_after 0 (take n bs))) None)))
+    go false e = tt
+    go true e =
+        let values = (and_parts _ _ (and_parts _ _ e).1).0 in
+        let within = and_parts _ _ values in
+        window_sound (tokens_of text) (value_after 0 (take n bs)) (leb-true _ _ within.0) (leb-true _ _ within.1)
+
+behind_sound : (text bs : List ℕ) → IsSound (window_lexeme text bs)
+unfolding window_lexeme reach_of
+behind_sound text bs = reach_sound text (position_or_len is_no_digit bs) bs
+
+closed_sound : (text bs : List ℕ) → IsSound (quoted_lexeme text bs)
+unfolding quoted_lexeme
+closed_sound text bs = go (has_tilde bs)
+  where
+    go : (b : Bool) → IsSound (cond b (window_lexeme text (drop 1 bs)) (text_lexeme text))
+    go true = behind_sound text (drop 1 bs)
+    go false = text_sound text
+
+bound_sound : (id : Option ℕ) → IsSound (of_leaf (option_map since id))
+bound_sound None = tt
+bound_sound (Some x) = tt
+
 run_sound : (run : List ℕ) → IsSound (run_lexeme run)
 unfolding run_lexeme
-run_sound run = go (bytes_eq run (codes "OR"))
+run_sound run = go (bytes_eq run (codes "OR")) (starts_with eqb run (codes "since:"))
   where
-    go : (b : Bool) → IsSound (cond b or_word (text_lexeme run))
-    go true = tt
-    go false = text_sound run
+    go : (a b : Bool) → IsSound (cond a or_word (cond b (of_leaf (option_map since (id_of (drop 6 run)))) (text_lexeme run)))
+    go true b = tt
+    go false true = bound_sound (id_of (drop 6 run))
+    go false false = text_sound run
 
 quoted_sound : (bs : List ℕ) → IsSound (quoted bs).0
 unfolding quoted
-quoted_sound bs = go (nat_lt (position_or_len is_quote bs) (length bs))
+quoted_sound bs =
+    let n = position_or_len is_quote bs in
+    let text = take n bs in
+    let behind = drop (n + 1) bs in
+    go (quoted_lexeme text behind) (n + 1 + tilde_len behind) (closed_sound text behind) (nat_lt n (length bs))
   where
-    go : (b : Bool) → IsSound (cond {A = Lexeme × ℕ} b (text_lexeme (take (position_or_len is_quote bs) bs), position_or_len is_quote bs + 1) (broken, length bs)).0
-    go true = text_sound (take (position_or_len is_quote bs) bs)
-    go false = tt
+    go : (l : Lexeme) (len : ℕ) → IsSound l → (b : Bool) → IsSound (cond {A = Lexeme × ℕ} b (l, len) (broken, length bs)).0
+    go l len h true = h
+    go l len h false = tt
 
 bare_sound : (b : ℕ) (bs : List ℕ) → IsSound (bare b bs).0
 unfolding bare

@@ -4,8 +4,11 @@ pub mod Machine
 pub mod Outcomes
 pub mod Cuts
 pub mod Values
+pub mod Decimals
 pub mod Formed
 pub mod Asks
+pub mod Leaves
+pub mod WrittenLeaves
 pub mod Written
 pub mod Derived
 pub mod OneOutcome

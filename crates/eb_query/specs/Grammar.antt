@@ -2,8 +2,9 @@
 use Rattle.std.specs.Prelude.{◌≡◌, List, [], ◌∷◌, ◌++◌}
 use Rattle.eb_base.specs.Query.{Tree, negation, and_of, or_of}
 
--- A lexeme of a query text. A bare word and a quoted text are leaves, each with what it asks. A
--- quote that isn't closed and a text without a token are broken: they stand nowhere.
+-- A lexeme of a query text. A bare word, a quoted text, a window text and a bound are leaves, each with
+-- what it asks. A quote that isn't closed, a text without a token, a window text without a reach and a
+-- bound without an id are broken: they stand nowhere.
 pub data Lexeme : Type 0 where
   opening : Lexeme
   closing : Lexeme

@@ -1,10 +1,12 @@
 -- The lexemes of a query text. Text is its UTF-8 bytes: 32 is a space, 9 a tab, 40 and 41 the
--- parentheses, 34 the quotation mark, 45 the minus.
-use Rattle.std.specs.Prelude.{ℕ, zero, suc, ◌+◌, nat_lt, eqb, ◌||◌, Bool, if◌then◌else◌, List, [], ◌∷◌, length, take, codes, Option, Some, None}
-use Rattle.std.specs.List.{position_or_len}
+-- parentheses, 34 the quotation mark, 45 the minus, 126 the tilde.
+use Rattle.std.specs.Prelude.{ℕ, zero, suc, ◌+◌, nat_lt, nat_le, eqb, ◌&&◌, ◌||◌, Bool, true, false, if◌then◌else◌}
+use Rattle.std.specs.Prelude.{List, [], ◌∷◌, length, take, drop, codes, Option, Some, None, option_map, option_and_then}
+use Rattle.std.specs.List.{position_or_len, starts_with}
 use Rattle.std.specs.Str.{bytes_eq}
-use Rattle.eb_base.specs.Query.{Tree, leaf_of}
+use Rattle.eb_base.specs.Query.{Tree, since, leaf_of, window_of, most_reach}
 use Rattle.eb_text.specs.Tokens.{tokens_of}
+use Rattle.eb_query.specs.Digits.{is_no_digit, value_after}
 use Rattle.eb_query.specs.Grammar.{Lexeme, opening, closing, minus, or_word, leaf, broken}
 
 -- a lexeme, and the place of its first byte in the line, counted from 1
@@ -33,16 +35,72 @@ of_leaf (Some t) = leaf t
 unfoldable pub text_lexeme : List ℕ → Lexeme
 text_lexeme text = of_leaf (leaf_of (tokens_of text))
 
--- a run: `OR` is the operator, any other is a text
-unfoldable pub run_lexeme : List ℕ → Lexeme
-run_lexeme run = if bytes_eq run (codes "OR") then or_word else text_lexeme run
+-- what ends a run comes first, or there is no byte
+abbrev pub is_run_end : List ℕ → Bool
+is_run_end [] = true
+is_run_end (b ∷ bs) = ends_run b
 
--- behind a quotation mark: all up to the next one, and how many bytes belong to the lexeme
+-- the first n bytes are digits that write a reach: one to four of a value from 1 to the greatest reach, with
+-- what ends a run behind them, or nothing
+abbrev pub is_reach : ℕ → List ℕ → Bool
+is_reach n bs =
+    (nat_le 1 n && nat_le n 4) && ((nat_le 1 (value_after 0 (take n bs)) && nat_le (value_after 0 (take n bs)) most_reach) && is_run_end (drop n bs))
+
+-- the reach that the first n bytes write, if they do
+abbrev pub reach_by : ℕ → List ℕ → Option ℕ
+reach_by n bs = if is_reach n bs then Some (value_after 0 (take n bs)) else None
+
+-- the reach that the digits in front write, if they do
+unfoldable pub reach_of : List ℕ → Option ℕ
+reach_of bs = reach_by (position_or_len is_no_digit bs) bs
+
+-- a text, and the bytes behind the tilde after it: with a reach it is a window, or a word where it is one token
+unfoldable pub window_lexeme : List ℕ → List ℕ → Lexeme
+window_lexeme text bs = of_leaf (option_and_then (window_of (tokens_of text)) (reach_of bs))
+
+-- a tilde comes first
+abbrev pub has_tilde : List ℕ → Bool
+has_tilde [] = false
+has_tilde (b ∷ bs) = eqb b 126
+
+-- a text between quotation marks, and the bytes behind the second one: a tilde there makes it a window text
+unfoldable pub quoted_lexeme : List ℕ → List ℕ → Lexeme
+quoted_lexeme text bs = if has_tilde bs then window_lexeme text (drop 1 bs) else text_lexeme text
+
+-- how many bytes behind the second quotation mark belong to the lexeme: a tilde, and the digits behind it
+unfoldable pub tilde_len : List ℕ → ℕ
+tilde_len bs = if has_tilde bs then 1 + position_or_len is_no_digit (drop 1 bs) else 0
+
+-- behind a quotation mark: all up to the next one and what goes on behind that, and how many bytes belong to the
+-- lexeme
 unfoldable pub quoted : List ℕ → Lexeme × ℕ
 quoted bs =
     if nat_lt (position_or_len is_quote bs) (length bs)
-    then (text_lexeme (take (position_or_len is_quote bs) bs), position_or_len is_quote bs + 1)
+    then (
+      quoted_lexeme (take (position_or_len is_quote bs) bs) (drop (position_or_len is_quote bs + 1) bs),
+      position_or_len is_quote bs + 1 + tilde_len (drop (position_or_len is_quote bs + 1) bs),
+    )
     else (broken, length bs)
+
+-- the greatest id of a document
+abbrev pub most_id : ℕ
+most_id = 18446744073709551615
+
+-- the bytes are one to twenty digits of a value that an id may have
+abbrev pub is_id : List ℕ → Bool
+is_id ds =
+    (nat_le 1 (length ds) && nat_le (length ds) 20) && (eqb (position_or_len is_no_digit ds) (length ds) && nat_le (value_after 0 ds) most_id)
+
+-- the id that the bytes write, if they do
+unfoldable pub id_of : List ℕ → Option ℕ
+id_of ds = if is_id ds then Some (value_after 0 ds) else None
+
+-- a run: `OR` is the operator, one that begins with `since:` is a bound, any other is a text
+unfoldable pub run_lexeme : List ℕ → Lexeme
+run_lexeme run =
+    if bytes_eq run (codes "OR") then or_word
+    else if starts_with eqb run (codes "since:") then of_leaf (option_map since (id_of (drop 6 run)))
+    else text_lexeme run
 
 -- the longest run that begins with b, and how many of the bytes bs after it belong to it
 unfoldable pub bare : ℕ → List ℕ → Lexeme × ℕ

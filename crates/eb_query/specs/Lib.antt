@@ -1,5 +1,6 @@
 pub mod Grammar
 pub mod Nesting
+pub mod Digits
 pub mod Lexemes
 pub mod Number
 pub mod Reading

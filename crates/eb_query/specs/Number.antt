@@ -1,17 +1,9 @@
 -- The number of a query line, which follows its question mark.
-use Rattle.std.specs.Prelude.{◌≡◌, ℕ, ◌+◌, ◌-◌, ◌*◌, ◌≤◌, nat_lt, ◌||◌, Bool, true, List, [], ◌∷◌, take, drop}
+use Rattle.std.specs.Prelude.{◌≡◌, ℕ, ◌+◌, ◌≤◌, Bool, true, List, [], ◌∷◌, take, drop}
 use Rattle.std.specs.List.{position_or_len}
+use Rattle.eb_query.specs.Digits.{is_no_digit, value_after}
 use Rattle.eb_query.specs.Lexemes.{Placed, is_blank, lexemes}
 use Rattle.eb_base.specs.Match.{most_matches}
-
--- the byte is no ASCII digit
-abbrev pub is_no_digit : ℕ → Bool
-is_no_digit b = nat_lt b 48 || nat_lt 57 b
-
--- the value of decimal digits, after digits of the value n
-abbrev pub value_after : ℕ → List ℕ → ℕ
-value_after n [] = n
-value_after n (d ∷ ds) = value_after (10 * n + (d - 48)) ds
 
 -- how many digits follow the question mark
 unfoldable pub digits_len : List ℕ → ℕ

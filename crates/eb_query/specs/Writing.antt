@@ -1,8 +1,9 @@
 -- How a query is written as a line. Text is its bytes: 32 is a space, 34 the quotation mark, 40
--- and 41 the parentheses, 45 the minus, 63 the question mark, and 79 82 is `OR`.
-use Rattle.std.specs.Prelude.{◌≡◌, ℕ, ◌≢◌, List, [], ◌∷◌, ◌++◌, decimal}
+-- and 41 the parentheses, 45 the minus, 63 the question mark, 126 the tilde, and 79 82 is `OR`.
+use Rattle.std.specs.Prelude.{◌≡◌, ℕ, ◌≤◌, ◌≢◌, List, [], ◌∷◌, ◌++◌, codes, decimal}
 use Rattle.std.specs.List.{AllByRecursion}
-use Rattle.eb_base.specs.Query.{Tree, word, phrase, negation, conjunction, disjunction, Trees, no_trees, trees}
+use Rattle.eb_query.specs.Lexemes.{most_id}
+use Rattle.eb_base.specs.Query.{Tree, word, phrase, window, since, negation, conjunction, disjunction, Trees, no_trees, trees}
 use Rattle.eb_text.specs.Tokens.{tokens_of}
 
 -- terms with one space between
@@ -15,6 +16,14 @@ joined (t ∷ u ∷ ts) = t ++ 32 ∷ joined (u ∷ ts)
 abbrev pub in_quotes : List ℕ → List ℕ
 in_quotes text = 34 ∷ text ++ 34 ∷ []
 
+-- the quoted terms of a window, a tilde and the reach in decimal
+abbrev pub window_text : List (List ℕ) → ℕ → List ℕ
+window_text ts w = in_quotes (joined ts) ++ 126 ∷ decimal w
+
+-- `since:` and the number of a bound in decimal
+abbrev pub since_text : ℕ → List ℕ
+since_text x = codes "since:" ++ decimal x
+
 -- the text between parentheses
 abbrev pub in_parentheses : List ℕ → List ℕ
 in_parentheses text = 40 ∷ text ++ 41 ∷ []
@@ -24,6 +33,8 @@ abbrev mutual
   pub unary_text : Tree → List ℕ
   unary_text (word t) = in_quotes t
   unary_text (phrase ts) = in_quotes (joined ts)
+  unary_text (window ts w) = window_text ts w
+  unary_text (since x) = since_text x
   unary_text (negation t) = 45 ∷ unary_text t
   unary_text (conjunction ts) = in_parentheses (and_text ts)
   unary_text (disjunction ts) = in_parentheses (or_text ts)
@@ -32,6 +43,8 @@ abbrev mutual
   pub part_text : Tree → List ℕ
   part_text (word t) = in_quotes t
   part_text (phrase ts) = in_quotes (joined ts)
+  part_text (window ts w) = window_text ts w
+  part_text (since x) = since_text x
   part_text (negation t) = 45 ∷ unary_text t
   part_text (conjunction ts) = and_text ts
   part_text (disjunction ts) = in_parentheses (or_text ts)
@@ -60,6 +73,8 @@ abbrev mutual
 abbrev pub query_text : Tree → List ℕ
 query_text (word t) = in_quotes t
 query_text (phrase ts) = in_quotes (joined ts)
+query_text (window ts w) = window_text ts w
+query_text (since x) = since_text x
 query_text (negation t) = 45 ∷ unary_text t
 query_text (conjunction ts) = and_text ts
 query_text (disjunction ts) = or_text ts
@@ -74,10 +89,12 @@ pub record IsNamed (text : List ℕ) (terms : List (List ℕ)) : Type 0 where
   pub tokens : tokens_of text ≡ terms
 
 abbrev mutual
-  -- the text of each leaf can be named
+  -- the text of each word, phrase and window can be named, and each bound is on an id that can be
   pub AreNamed : Tree → Type 0
   AreNamed (word t) = IsNamed t (t ∷ [])
   AreNamed (phrase ts) = IsNamed (joined ts) ts
+  AreNamed (window ts w) = IsNamed (joined ts) ts
+  AreNamed (since x) = x ≤ most_id
   AreNamed (negation t) = AreNamed t
   AreNamed (conjunction ts) = AllNamed ts
   AreNamed (disjunction ts) = AllNamed ts

@@ -16,9 +16,9 @@ pub fn one_reading()
 {}
 
 /// The law of writing: the line that [`write_query`] gives for `k` and a well-formed query reads
-/// as `k` and that query, where no term of a leaf has a quotation mark, each leaf's text has
-/// exactly the leaf's terms as its tokens, and the line doesn't nest deeper than 16. The call does
-/// nothing.
+/// as `k` and that query, where no term of a word, phrase or window has a quotation mark, the text
+/// of each has exactly its terms as its tokens, and the line doesn't nest deeper than 16. Of a bound
+/// the law asks no more than that 64 bits hold its number. The call does nothing.
 ///
 /// [`write_query`]: crate::write_query
 pub fn reads_back()

@@ -1,9 +1,11 @@
 ghost use Rattle.std.specs.Prelude.{◌≡◌, ◌+◌, ◌<◌, length, drop, slice_index, IfOk};
 ghost use Rattle.std.specs.List.{position_or_len};
 ghost use Rattle.std.specs.Str.{IsCharBoundary};
-ghost use Rattle.eb_query.specs.Lexemes.{is_quote, is_blank, ends_run, text_lexeme, run_lexeme, quoted, bare, first};
+ghost use Rattle.eb_query.specs.Lexemes.{is_blank, ends_run, text_lexeme, run_lexeme, bare, first};
 ghost use Rattle.eb_query.specs.Views.{lexeme_of};
 
+use crate::bound::read_id;
+use crate::quoted::quoted_at;
 use eb_base::{NoMemory, Query};
 use eb_text::tokens;
 use std::alloc::Global;
@@ -19,9 +21,10 @@ pub enum Lexeme {
     Minus,
     /// The run `OR`.
     OrWord,
-    /// A bare word or a quoted text, by what it asks.
+    /// A bare word, a quoted text, a window text or a bound, by what it asks.
     Leaf(Query),
-    /// A quote that isn't closed, or a text without a token.
+    /// A quote that isn't closed, a text without a token, a window text without a reach, or a bound
+    /// without an id.
     Broken,
 }
 
@@ -41,23 +44,11 @@ pub fn is_blank_byte(byte: u8) -> bool
     byte == b' ' || byte == b'\t'
 }
 
-// Whether a bare word ends before this byte.
-fn ends_run_byte(byte: u8) -> bool
+/// Whether a bare word ends before this byte.
+pub fn ends_run_byte(byte: u8) -> bool
     ensures { result ≡ ends_run byte }
 {
     is_blank_byte(byte) || byte == b'(' || byte == b')' || byte == b'"'
-}
-
-// How many bytes stand before the first quotation mark; all, if there is none.
-fn quote_at(bytes: &[u8]) -> usize
-    ensures { result ≡ position_or_len is_quote bytes.now }
-{
-    for (at, byte) in bytes.iter().enumerate() {
-        if *byte == b'"' {
-            return at;
-        }
-    }
-    bytes.len()
 }
 
 // How many bytes stand in front that belong to a bare word.
@@ -72,9 +63,9 @@ fn run_len(bytes: &[u8]) -> usize
     bytes.len()
 }
 
-// The lexeme of a text, by its tokens.
+/// The lexeme of a text, by its tokens.
 #[tactic(auto, unfolding(crate::specs::Lexemes::text_lexeme))]
-fn text_of(alloc: Global, text: &str) -> Result<Lexeme, NoMemory>
+pub fn text_of(alloc: Global, text: &str) -> Result<Lexeme, NoMemory>
     ensures { IfOk result (λ lexeme. lexeme_of lexeme ≡ text_lexeme text.now) }
 {
     match Query::of_terms(tokens(alloc, text)?) {
@@ -91,32 +82,13 @@ fn run_of(alloc: Global, run: &str) -> Result<Lexeme, NoMemory>
     if run == "OR" {
         return Ok(Lexeme::OrWord);
     }
-    text_of(alloc, run)
-}
-
-// The quoted text whose first quotation mark stands at this place.
-fn quoted_at(alloc: Global, line: &str, at: usize) -> Result<Found, NoMemory>
-    requires within { at < length line.now }
-    requires quote { slice_index line.now at ≡ 34 }
-    ensures lexeme { IfOk result (λ found.
-        lexeme_of found.lexeme ≡ (quoted (drop (at + 1) line.now)).0) }
-    ensures end { IfOk result (λ found.
-        found.end ≡ at + 1 + (quoted (drop (at + 1) line.now)).1) }
-    ensures boundary { IfOk result (λ found. IsCharBoundary line.now found.end) }
-{
-    let start = at + 1;
-    let len = quote_at(&line.as_bytes()[start..]);
-    if len == line.len() - start {
-        return Ok(Found {
-            lexeme: Lexeme::Broken,
-            end: line.len(),
+    if let Some(digits) = run.strip_prefix("since:") {
+        return Ok(match read_id(digits) {
+            Some(bound) => Lexeme::Leaf(Query::Since(bound)),
+            None => Lexeme::Broken,
         });
     }
-    let lexeme = text_of(alloc, &line[start..start + len])?;
-    Ok(Found {
-        lexeme,
-        end: start + len + 1,
-    })
+    text_of(alloc, run)
 }
 
 // The run that begins at this place.

@@ -1,13 +1,16 @@
-//! Query lines: `?`, how many matches are wanted, and a query of words, phrases, `OR`, `-` and
-//! parentheses (this project's profile, docs/FORMATS.md). [`read_query`] reads a line and
+//! Query lines: `?`, how many matches are wanted, and a query of words, phrases, windows, bounds on
+//! ids, `OR`, `-` and parentheses (this project's profile, docs/FORMATS.md). [`read_query`] reads a line and
 //! [`write_query`] writes one. What a line asks, and where and why another is refused, is told by
 //! the rules in `specs/`. That they give each line a reading, and one alone, and that what is
 //! written reads back, are the laws [`some_reading`], [`one_reading`] and [`reads_back`].
 #![tactic(auto)]
 
+mod bound;
+mod digits;
 mod laws;
 mod lexeme;
 mod number;
+mod quoted;
 mod read;
 mod reader;
 mod write;

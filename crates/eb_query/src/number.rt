@@ -1,7 +1,7 @@
 ghost use Rattle.std.specs.Prelude.{◌≡◌, ◌+◌, ◌<◌, ◌≤◌, length, drop, IfSome, IfNone};
-ghost use Rattle.std.specs.List.{position_or_len};
-ghost use Rattle.eb_query.specs.Number.{value_after, is_no_digit, is_blank_or_end, digits_len, number_of, HasNumber};
+ghost use Rattle.eb_query.specs.Number.{is_blank_or_end, digits_len, number_of, HasNumber};
 
+use crate::digits::{digits_at, value_of};
 use crate::lexeme::is_blank_byte;
 
 /// The most matches that a query may ask for (this project's profile, docs/FORMATS.md).
@@ -14,36 +14,6 @@ pub struct Number {
     pub value: u32,
     /// The place of the byte behind its last digit, counted from 0.
     pub end: usize,
-}
-
-fn is_no_digit_byte(byte: u8) -> bool
-    ensures { result ≡ is_no_digit byte }
-{
-    byte < b'0' || b'9' < byte
-}
-
-// How many digits stand in front.
-fn digits_at(bytes: &[u8]) -> usize
-    ensures { result ≡ position_or_len is_no_digit bytes.now }
-{
-    for (at, byte) in bytes.iter().enumerate() {
-        if is_no_digit_byte(*byte) {
-            return at;
-        }
-    }
-    bytes.len()
-}
-
-// The value of a few digits.
-fn value_of(digits: &[u8]) -> u32
-    requires { length digits.now ≤ 4 }
-    ensures { result ≡ value_after 0 digits.now }
-{
-    let mut value: u32 = 0;
-    for digit in digits {
-        value = 10 * value + u32::from(digit.saturating_sub(b'0'));
-    }
-    value
 }
 
 // Whether a blank stands at this place, or the line ends there.

@@ -21,8 +21,8 @@ pub enum QueryFault {
     /// The question mark isn't followed by one to four digits of a value from 1 to 1,000 with a
     /// blank or the end of the line behind them.
     BadNumber,
-    /// A lexeme can't stand at its place, is a quote that isn't closed or has no token; or the
-    /// line ends before the query is complete.
+    /// A lexeme can't stand at its place, is a quote that isn't closed, has no token, or is a window
+    /// text without a reach or a bound without an id; or the line ends before the query is complete.
     BadQuery {
         /// The place of the lexeme's first byte in the line, counted from 1 with the question mark
         /// as 1; at the end of the line its length plus 1.
@@ -30,8 +30,8 @@ pub enum QueryFault {
     },
     /// A `(` or a `-` may stand at its place, where 16 of them are open already.
     TooDeep,
-    /// The query is complete, and its size is over 64: 1 for each word and minus and for each `and`
-    /// and `or` of several parts, and the number of its terms for each phrase.
+    /// The query is complete, and its size is over 64: 1 for each word, bound and minus and for each
+    /// `and` and `or` of several parts, and the number of its terms for each phrase and window.
     TooManyNodes,
     /// Memory ran out, which says nothing of the line.
     NoMemory,
@@ -94,6 +94,12 @@ fn read_text(alloc: Global, line: &str, from: usize) -> Result<Query, QueryFault
 ///
 /// - a word, or a text between two `"`, cut into tokens as documents are: one token asks for that
 ///   word, several for the phrase of them in this order;
+/// - a text between two `"` with `~` and one to four digits of a value from 1 to 1,023 right behind
+///   it, apart by a blank, a parenthesis, a `"` or the end from what follows: the window of its
+///   tokens, in this order with the last at most so many places behind the first; one token asks
+///   for that word;
+/// - `since:` with one to twenty digits of a value that 64 bits hold right behind it, up to a blank,
+///   a parenthesis, a `"` or the end: the documents with a greater id;
 /// - parts side by side: all of them;
 /// - parts with `OR` between: any of them; it binds less than standing side by side;
 /// - `-` where a part begins: not that part;

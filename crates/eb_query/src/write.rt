@@ -1,6 +1,6 @@
 ghost use Rattle.std.specs.Prelude.{◌≡◌, ◌≤◌, ◌++◌, IfOk, OnOk, decimal};
 ghost use Rattle.eb_base.specs.Query.{tree, trees_of, parts_of, IsWellFormed};
-ghost use Rattle.eb_query.specs.Writing.{joined, unary_text, part_text, and_text, or_text, line_text};
+ghost use Rattle.eb_query.specs.Writing.{joined, in_quotes, window_text, since_text, unary_text, part_text, and_text, or_text, line_text};
 ghost use Rattle.eb_query.specs.Gaps.{and_gap, or_gap};
 ghost use Rattle.eb_base.specs.Match.{most_matches};
 
@@ -46,9 +46,43 @@ fn put_terms(out: &mut Vec<u8>, terms: &Terms) -> Result<(), NoMemory>
     Ok(())
 }
 
+// Puts the terms between two quotation marks, with a space between.
+fn put_quoted(out: &mut Vec<u8>, terms: &Terms) -> Result<(), NoMemory>
+    ensures { OnOk result (out.new.items ≡ out.old.items ++ in_quotes (joined terms.now)) }
+{
+    out.push(b'"')?;
+    put_terms(out, terms)?;
+    out.push(b'"')?;
+    Ok(())
+}
+
+// Puts the number in decimal.
+fn put_number(alloc: Global, out: &mut Vec<u8>, number: u64) -> Result<(), NoMemory>
+    ensures { OnOk result (out.new.items ≡ out.old.items ++ decimal number) }
+{
+    put(out, number.to_string(alloc)?.as_bytes())
+}
+
+// Puts a window: its quoted terms, a tilde and its reach.
+fn put_window(alloc: Global, out: &mut Vec<u8>, terms: &Terms, reach: u32) -> Result<(), NoMemory>
+    ensures { OnOk result (out.new.items ≡ out.old.items ++ window_text terms.now reach) }
+{
+    put_quoted(out, terms)?;
+    out.push(b'~')?;
+    put_number(alloc, out, u64::from(reach))
+}
+
+// Puts a bound on ids.
+fn put_since(alloc: Global, out: &mut Vec<u8>, bound: u64) -> Result<(), NoMemory>
+    ensures { OnOk result (out.new.items ≡ out.old.items ++ since_text bound) }
+{
+    put(out, b"since:")?;
+    put_number(alloc, out, bound)
+}
+
 // Puts a query as a part of an `and`, or behind a minus.
 #[cycle(put)]
-fn put_unary(out: &mut Vec<u8>, query: &Query) -> Result<(), NoMemory>
+fn put_unary(alloc: Global, out: &mut Vec<u8>, query: &Query) -> Result<(), NoMemory>
     ensures { OnOk result (out.new.items ≡ out.old.items ++ unary_text (tree query.now)) }
 {
     match query {
@@ -57,23 +91,21 @@ fn put_unary(out: &mut Vec<u8>, query: &Query) -> Result<(), NoMemory>
             put(out, term.bytes())?;
             out.push(b'"')?;
         }
-        Query::Phrase(terms) => {
-            out.push(b'"')?;
-            put_terms(out, terms)?;
-            out.push(b'"')?;
-        }
+        Query::Phrase(terms) => put_quoted(out, terms)?,
+        Query::Window(terms, reach) => put_window(alloc, out, terms, *reach)?,
+        Query::Since(bound) => put_since(alloc, out, *bound)?,
         Query::Not(part) => {
             out.push(b'-')?;
-            put_unary(out, part)?;
+            put_unary(alloc, out, part)?;
         }
         Query::And(parts) => {
             out.push(b'(')?;
-            put_all(out, parts)?;
+            put_all(alloc, out, parts)?;
             out.push(b')')?;
         }
         Query::Or(parts) => {
             out.push(b'(')?;
-            put_any(out, parts)?;
+            put_any(alloc, out, parts)?;
             out.push(b')')?;
         }
     }
@@ -82,54 +114,47 @@ fn put_unary(out: &mut Vec<u8>, query: &Query) -> Result<(), NoMemory>
 
 // Puts a query as a part of an `or`.
 #[cycle(put)]
-fn put_part(out: &mut Vec<u8>, query: &Query) -> Result<(), NoMemory>
+fn put_part(alloc: Global, out: &mut Vec<u8>, query: &Query) -> Result<(), NoMemory>
     ensures { OnOk result (out.new.items ≡ out.old.items ++ part_text (tree query.now)) }
 {
     match query {
-        Query::And(parts) => put_all(out, parts),
-        _ => put_unary(out, query),
+        Query::And(parts) => put_all(alloc, out, parts),
+        _ => put_unary(alloc, out, query),
     }
 }
 
 // Puts the parts of an `and`.
 #[cycle(put)]
-fn put_all(out: &mut Vec<u8>, parts: &Queries) -> Result<(), NoMemory>
+fn put_all(alloc: Global, out: &mut Vec<u8>, parts: &Queries) -> Result<(), NoMemory>
     ensures { OnOk result
         (out.new.items ≡ out.old.items ++ and_text (trees_of (parts_of parts.now))) }
 {
     for (at, part) in parts.as_slice().iter().enumerate() {
         put_gap(out, at)?;
-        put_unary(out, part)?;
+        put_unary(alloc, out, part)?;
     }
     Ok(())
 }
 
 // Puts the parts of an `or`.
 #[cycle(put)]
-fn put_any(out: &mut Vec<u8>, parts: &Queries) -> Result<(), NoMemory>
+fn put_any(alloc: Global, out: &mut Vec<u8>, parts: &Queries) -> Result<(), NoMemory>
     ensures { OnOk result
         (out.new.items ≡ out.old.items ++ or_text (trees_of (parts_of parts.now))) }
 {
     for (at, part) in parts.as_slice().iter().enumerate() {
         put_or(out, at)?;
-        put_part(out, part)?;
+        put_part(alloc, out, part)?;
     }
     Ok(())
 }
 
-// Puts the number in decimal.
-fn put_number(alloc: Global, out: &mut Vec<u8>, number: u32) -> Result<(), NoMemory>
-    ensures { OnOk result (out.new.items ≡ out.old.items ++ decimal number) }
-{
-    put(out, number.to_string(alloc)?.as_bytes())
-}
-
 /// The line that asks for the first `k` matches of the query: `?`, `k`, a space and the query,
 /// without a LF (this project's profile, docs/FORMATS.md). A word or a phrase is its terms between
-/// two `"` with one space between; the parts of an `and` have a space between, those of an `or`
-/// ` OR `; a `-` stands before what is negated; an `and` or an `or` inside another or behind a `-`
-/// stands in parentheses, but for an `and` inside an `or`. `NoMemory` comes where a growth was
-/// refused.
+/// two `"` with one space between, and a window is so too, with `~` and its reach behind; a bound is
+/// `since:` and its number; the parts of an `and` have a space between, those of an `or` ` OR `; a `-`
+/// stands before what is negated; an `and` or an `or` inside another or behind a `-` stands in
+/// parentheses, but for an `and` inside an `or`. `NoMemory` comes where a growth was refused.
 pub fn write_query(alloc: Global, k: u32, query: &Query) -> Result<Vec<u8>, NoMemory>
     requires well_formed { IsWellFormed (tree query.now) }
     requires some { 1 ≤ k }
@@ -138,12 +163,12 @@ pub fn write_query(alloc: Global, k: u32, query: &Query) -> Result<Vec<u8>, NoMe
 {
     let mut line = Vec::new(alloc);
     line.push(b'?')?;
-    put_number(alloc, &mut line, k)?;
+    put_number(alloc, &mut line, u64::from(k))?;
     line.push(b' ')?;
     match query {
-        Query::And(parts) => put_all(&mut line, parts)?,
-        Query::Or(parts) => put_any(&mut line, parts)?,
-        _ => put_unary(&mut line, query)?,
+        Query::And(parts) => put_all(alloc, &mut line, parts)?,
+        Query::Or(parts) => put_any(alloc, &mut line, parts)?,
+        _ => put_unary(alloc, &mut line, query)?,
     }
     Ok(line)
 }

@@ -66,10 +66,10 @@ WorksOff σ held docs_old docs_new text_old text_new d q r = (before after : Cou
 
 -- the most bytes that a line prints
 abbrev pub need : Reading → ℕ
-need blank = 64
-need (document d) = 64
+need blank = 68
+need (document d) = 68
 need (query k q) = 64 + 21 * k
-need (refused r) = 64
+need (refused r) = 68
 
 -- ---- the two halves of a round
 

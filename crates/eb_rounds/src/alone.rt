@@ -50,7 +50,7 @@ fn work_given<G: Gate>(
     text: &mut Vec<u8>,
 ) -> (u64, u64)
     requires writer { writer.old.index ≡ index.now }
-    requires text { vec_len text.old + 64 ≤ vec_capacity text.old }
+    requires text { vec_len text.old + 68 ≤ vec_capacity text.old }
     ensures index { writer.new.index ≡ writer.old.index }
     ensures off { (h : HeldLine) → ReadsLine h (given_entry task) → WorksOff index.now.setting (h ∷ []) writer.old.docs writer.new.docs
         text.old.items text.new.items result.0 0 result.1 }
@@ -78,7 +78,7 @@ fn work_document_line<G: Gate>(
     ensures err { OnErr result ((writer.new ≡ writer.old) × (text.new.items ≡ text.old.items)) }
 {
     let work = document_work(alloc, bytes)?;
-    text.reserve(64)?;
+    text.reserve(68)?;
     let (documents, refused) = work_given(index, writer, Given { number, work }, gate, text);
     Ok(Counts {
         documents,
@@ -132,7 +132,7 @@ fn work_refused_line<G: Gate>(
     ensures few { IfOk result (λ c. c.documents + (c.queries + c.refused) ≤ 1) }
     ensures err { OnErr result ((writer.new ≡ writer.old) × (text.new.items ≡ text.old.items)) }
 {
-    text.reserve(64)?;
+    text.reserve(68)?;
     let work = GivenWork::Refuse(refusal);
     let (documents, refused) = work_given(index, writer, Given { number, work }, gate, text);
     Ok(Counts {

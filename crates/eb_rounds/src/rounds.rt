@@ -233,8 +233,8 @@ impl Rounds {
         ensures few { length self.now.held ≤ 2 ^ 14 }
         ensures read { IfOk result (λ r. AllZip ReadsLine self.now.held (map asked_entry r.0.items ++ map given_entry r.1.items)) }
         ensures text { text.new.items ≡ text.old.items }
-        ensures room { IfOk result (λ r. vec_len text.new + (sum_by asked_need r.0.items + 64 * length r.1.items) ≤ vec_capacity text.new) }
-        ensures refusals { IfOk result (λ r. (r.2.items ≡ []) × (vec_len r.2 ≡ 0) × (64 * length r.1.items ≤ vec_capacity r.2)) }
+        ensures room { IfOk result (λ r. vec_len text.new + (sum_by asked_need r.0.items + 68 * length r.1.items) ≤ vec_capacity text.new) }
+        ensures refusals { IfOk result (λ r. (r.2.items ≡ []) × (vec_len r.2 ≡ 0) × (68 * length r.1.items ≤ vec_capacity r.2)) }
     {
         let (asked, given) = read_round(rt, alloc, self.first.as_slice(), self.last.as_slice())?;
         let refusals = make_room(alloc, asked.as_slice(), given.as_slice(), text)?;

@@ -21,7 +21,7 @@ pub(crate) fn need_of(task: &Asked) -> usize
 {
     match &task.work {
         AskedWork::Answer(frame) => 64 + 21 * frame.k() as usize,
-        AskedWork::Refuse(_) => 64,
+        AskedWork::Refuse(_) => 68,
     }
 }
 
@@ -49,10 +49,10 @@ pub(crate) fn make_room(
     requires asked { length asked.now ≤ 2 ^ 16 }
     requires given { length given.now ≤ 2 ^ 16 }
     ensures text { text.new.items ≡ text.old.items }
-    ensures room { OnOk result (vec_len text.new + (sum_by asked_need asked.now + 64 * length given.now) ≤ vec_capacity text.new) }
-    ensures refusals { IfOk result (λ v. (v.items ≡ []) × (vec_len v ≡ 0) × (64 * length given.now ≤ vec_capacity v)) }
+    ensures room { OnOk result (vec_len text.new + (sum_by asked_need asked.now + 68 * length given.now) ≤ vec_capacity text.new) }
+    ensures refusals { IfOk result (λ v. (v.items ≡ []) × (vec_len v ≡ 0) × (68 * length given.now ≤ vec_capacity v)) }
 {
-    let most = 64 * given.len();
+    let most = 68 * given.len();
     let refusals = Vec::with_capacity(alloc, most)?;
     text.reserve(needs_of(asked) + most)?;
     Ok(refusals)
@@ -97,12 +97,12 @@ fn work_beside<R: Threads + Sync, G: Gate + Sync>(
     requires writer { writer.old.index ≡ index.now }
     requires reader { reader.old.index ≡ index.now }
     requires answers { vec_len answers.old + sum_by asked_need asked.old ≤ vec_capacity answers.old }
-    requires refusals { vec_len refusals.old + 64 * length given.now ≤ vec_capacity refusals.old }
+    requires refusals { vec_len refusals.old + 68 * length given.now ≤ vec_capacity refusals.old }
     ensures writer { writer.new.index ≡ writer.old.index }
     ensures reader { reader.new.index ≡ reader.old.index }
     ensures answers { vec_len answers.new ≤ vec_len answers.old + sum_by asked_need asked.old }
     ensures room { vec_capacity answers.old ≤ vec_capacity answers.new }
-    ensures refusals { vec_len refusals.new ≤ vec_len refusals.old + 64 * length given.now }
+    ensures refusals { vec_len refusals.new ≤ vec_len refusals.old + 68 * length given.now }
     ensures answered { AreAnswered reader.old.docs reader.new.docs (map asked_entry asked.old) answers.old.items answers.new.items result.1.0 result.1.1 }
     ensures added { AreAdded index.now.setting writer.old.docs writer.new.docs (map given_entry given.now) refusals.old.items refusals.new.items result.0.0 result.0.1 }
 {
@@ -130,12 +130,12 @@ fn work_either<R: Threads + Sync, G: Gate + Sync>(
     requires writer { writer.old.index ≡ index.now }
     requires reader { reader.old.index ≡ index.now }
     requires answers { vec_len answers.old + sum_by asked_need asked.old ≤ vec_capacity answers.old }
-    requires refusals { vec_len refusals.old + 64 * length given.now ≤ vec_capacity refusals.old }
+    requires refusals { vec_len refusals.old + 68 * length given.now ≤ vec_capacity refusals.old }
     ensures writer { writer.new.index ≡ writer.old.index }
     ensures reader { reader.new.index ≡ reader.old.index }
     ensures answers { vec_len answers.new ≤ vec_len answers.old + sum_by asked_need asked.old }
     ensures room { vec_capacity answers.old ≤ vec_capacity answers.new }
-    ensures refusals { vec_len refusals.new ≤ vec_len refusals.old + 64 * length given.now }
+    ensures refusals { vec_len refusals.new ≤ vec_len refusals.old + 68 * length given.now }
     ensures answered { AreAnswered reader.old.docs reader.new.docs (map asked_entry asked.old) answers.old.items answers.new.items result.1.0 result.1.1 }
     ensures added { AreAdded index.now.setting writer.old.docs writer.new.docs (map given_entry given.now) refusals.old.items refusals.new.items result.0.0 result.0.1 }
 {
@@ -161,8 +161,8 @@ fn work_round<R: Threads + Sync, G: Gate + Sync>(
     refusals: &mut Vec<u8>,
 ) -> ((u64, u64), (u64, u64))
     requires writer { writer.old.index ≡ index.now }
-    requires text { vec_len text.old + (sum_by asked_need asked.old + 64 * length given.now) ≤ vec_capacity text.old }
-    requires refusals { (refusals.old.items ≡ []) × (vec_len refusals.old ≡ 0) × (64 * length given.now ≤ vec_capacity refusals.old) }
+    requires text { vec_len text.old + (sum_by asked_need asked.old + 68 * length given.now) ≤ vec_capacity text.old }
+    requires refusals { (refusals.old.items ≡ []) × (vec_len refusals.old ≡ 0) × (68 * length given.now ≤ vec_capacity refusals.old) }
     ensures index { writer.new.index ≡ writer.old.index }
     ensures round { IsRound index.now.setting writer.old.docs writer.new.docs (map asked_entry asked.old) (map given_entry given.now) text.old.items text.new.items
         result.1.0 result.0.0 result.1.1 result.0.1 }
@@ -198,8 +198,8 @@ fn convert_beside<R: Threads + Sync, G: Gate + Sync>(
 ) -> ((u64, u64), (u64, u64))
     requires writer { writer.old.index ≡ index.now }
     requires converter { converter.old.index ≡ index.now }
-    requires text { vec_len text.old + (sum_by asked_need asked.old + 64 * length given.now) ≤ vec_capacity text.old }
-    requires refusals { (refusals.old.items ≡ []) × (vec_len refusals.old ≡ 0) × (64 * length given.now ≤ vec_capacity refusals.old) }
+    requires text { vec_len text.old + (sum_by asked_need asked.old + 68 * length given.now) ≤ vec_capacity text.old }
+    requires refusals { (refusals.old.items ≡ []) × (vec_len refusals.old ≡ 0) × (68 * length given.now ≤ vec_capacity refusals.old) }
     ensures index { writer.new.index ≡ writer.old.index }
     ensures converter { converter.new.index ≡ converter.old.index }
     ensures grown { converter.old.converted ≤ converter.new.converted }
@@ -212,8 +212,8 @@ fn convert_beside<R: Threads + Sync, G: Gate + Sync>(
         &mut || convert_all(index, converter),
         &mut ||
             requires writer { writer.now.index ≡ index.now }
-            requires text { vec_len text.now + (sum_by asked_need asked.now + 64 * length given.now) ≤ vec_capacity text.now }
-            requires refusals { (refusals.now.items ≡ []) × (vec_len refusals.now ≡ 0) × (64 * length given.now ≤ vec_capacity refusals.now) }
+            requires text { vec_len text.now + (sum_by asked_need asked.now + 68 * length given.now) ≤ vec_capacity text.now }
+            requires refusals { (refusals.now.items ≡ []) × (vec_len refusals.now ≡ 0) × (68 * length given.now ≤ vec_capacity refusals.now) }
         { work_round(rt, index, writer, asked, given, gate, text, refusals) },
     );
     counts
@@ -235,8 +235,8 @@ pub(crate) fn work_and_convert<R: Threads + Sync, G: Gate + Sync>(
     requires writer { writer.old.index ≡ index.now }
     requires converter { converter.old.index ≡ index.now }
     requires told { IsPrefix writer.old.docs converter.old.docs }
-    requires text { vec_len text.old + (sum_by asked_need asked.old + 64 * length given.now) ≤ vec_capacity text.old }
-    requires refusals { (refusals.old.items ≡ []) × (vec_len refusals.old ≡ 0) × (64 * length given.now ≤ vec_capacity refusals.old) }
+    requires text { vec_len text.old + (sum_by asked_need asked.old + 68 * length given.now) ≤ vec_capacity text.old }
+    requires refusals { (refusals.old.items ≡ []) × (vec_len refusals.old ≡ 0) × (68 * length given.now ≤ vec_capacity refusals.old) }
     ensures index { writer.new.index ≡ writer.old.index }
     ensures converter { converter.new.index ≡ converter.old.index }
     ensures grown { converter.old.converted ≤ converter.new.converted }

@@ -24,7 +24,7 @@ walk_down q k docs low (suc more) ids le none w =
     let d : Doc = get_or docs at nobody in
     let there = slice_get-get_or docs at nobody (omega arith) in
     let e : d ≡ get_or docs at d = sym (get_or_from_slice_get docs at d d there) in
-    let away : is_match q d.terms ≡ false = elim (cases_Bool (is_match q d.terms)) [
+    let away : is_match q d ≡ false = elim (cases_Bool (is_match q d)) [
       | inl y ↦ absurd (none at (omega arith) (omega arith) (d, there, (match_decides q d).0 y))
       | inr n ↦ n
     ] in

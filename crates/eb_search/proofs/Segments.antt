@@ -1,7 +1,5 @@
 -- The accepted documents of a segment, at later moments too.
 use Rattle.std.proofs.Common.{◌≡◌, ℕ, ◌+◌, ◌<◌, ◌≤◌, ◌^◌, List, [], ◌++◌, length, drop, get_or, slice_get, Some, ap, sym, ◌∙◌, subst, arith}
-use Rattle.std.proofs.lemmas.List.{get_or-map}
-use Rattle.std.proofs.lemmas.Option.{get_or_from_slice_get}
 use mathlib.Core.List.{IsPrefix}
 use Rattle.eb_base.specs.Document.{Doc}
 use Rattle.eb_base.specs.Setting.{Setting}
@@ -13,13 +11,13 @@ use Rattle.eb_place.specs.Room.{cut}
 use Rattle.eb_place.specs.Moments.{IsMoment, word}
 use Rattle.eb_place.specs.Later.{IsNotBefore}
 use Rattle.eb_place.proofs.Grows.{segments_grow}
-use Rattle.eb_place.proofs.Ids.{word_id}
 use Rattle.eb_place.proofs.Placed.{placed_all}
-use Rattle.eb_place.proofs.Prefixes.{prefix_trans, prefix_get, prefix_length}
+use Rattle.eb_place.proofs.Prefixes.{prefix_trans, prefix_length}
 use Rattle.eb_cursor.specs.Accepted.{accepted_in}
 use Rattle.eb_cursor.specs.Frames.{MayAsk}
 use Rattle.eb_cursor.specs.declared.frame.Frame.{Frame}
 use Rattle.eb_cursor.proofs.Accepted.{whole_lawful}
+use Rattle.eb_cursor.proofs.Bounds.{IsLow, first_is_low, loaded_first}
 use Rattle.eb_cursor.proofs.Openings.{are_first}
 use Rattle.eb_place.proofs.Laters.{later_self}
 use Rattle.eb_search.specs.Visible.{AreFirsts, AreVisible, documents_before}
@@ -50,24 +48,12 @@ visible_later m n docs firsts begun l v = record {
 pub start_later : (m n : Moment) (docs : List Doc) (s start : ℕ) → IsNotBefore n m → start ≡ documents_before (cut m.setting docs) s → start ≡ documents_before (cut n.setting docs) s
 start_later m n docs s start l e = e ∙ ap (λ (σ : Setting). documents_before (cut σ docs) s) l.setting
 
--- a document of a segment lies in the table
-pub record IsLow (m : Moment) (s i : ℕ) : Type 0 where
-  pub segment : s < m.setting.segments
-  pub document : i < m.setting.docs
-
 pub is_low : (m : Moment) (s i : ℕ) (docs : List Doc) → IsMoment m → i < length docs → IsPrefix docs (accepted_in m s) → IsLow m s i
-is_low m s i docs is h p =
-    let f = are_first m s docs is (omega arith) p in
-    let placed = placed_all m.setting m.documents.accepted is.setting (whole_lawful m is) in
-    record { segment = f.inside; document = omega (arith, placed.few s, prefix_length docs (accepted_in m s) p) }
+is_low m s i docs is h p = first_is_low m s i docs is h (are_first m s docs is (omega arith) p)
 
 -- the id word of one of the first accepted documents of a segment
 pub loaded_id : (m : Moment) (s i w : ℕ) (docs : List Doc) (d : Doc) → IsMoment m → IsPrefix docs (accepted_in m s) → slice_get docs i ≡ Some d → i < length docs → w ≡ word m (place m.setting (slot s id_region i)) → w ≡ d.id
-loaded_id m s i w docs d is p there h e =
-    let low = is_low m s i docs is h p in
-    let long = prefix_length docs (accepted_in m s) p in
-    e ∙ word_id m s i is low.segment (omega arith) ∙ get_or-map {X = Doc} (λ x. x.id) (accepted_in m s) i d 0 (omega arith)
-    ∙ ap (λ (x : Doc). x.id) (get_or_from_slice_get (accepted_in m s) i d d (prefix_get docs (accepted_in m s) i d p there))
+loaded_id m s i w docs d is p there h e = loaded_first m s i w docs d is (are_first m s docs is (omega arith) p) there h e
 
 -- a search of a segment goes on: its frame may be asked below the end, for these documents
 pub record IsUnderWay (s : ℕ) (docs : List Doc) (f : Frame) (end : ℕ) (n : Moment) : Type 0 where

@@ -145,7 +145,7 @@ fn searched(port: &mut CountedWords, frame: &mut Frame, gate: &Recorder) -> u64
 
 #[test]
 fn the_newest_come_first(rt: HostRuntime) -> Result<(), Fail> {
-    let config = Config::new(2, 2, 256)?;
+    let config = Config::new(2, 2, 1024)?;
     let mut words = FlatWords::new(rt.alloc(), config)?;
     let mut placer = Placer::new(config);
     for id in 1..5 {
@@ -173,7 +173,7 @@ fn the_newest_come_first(rt: HostRuntime) -> Result<(), Fail> {
 
 #[test]
 fn the_gate_is_told_directly_after_the_load_of_the_count(rt: HostRuntime) -> Result<(), Fail> {
-    let config = Config::new(2, 2, 256)?;
+    let config = Config::new(2, 2, 1024)?;
     let loads = Cell::new(0);
     let gate = Recorder::new(&loads);
     let mut port = CountedWords {

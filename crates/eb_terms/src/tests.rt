@@ -6,15 +6,17 @@ use std::test::Fail;
 fn hashes_and_home_cells(rt: HostRuntime) -> Result<(), Fail> {
     for (bytes, hash, cell) in [
         ("b", 98, 98),
-        ("ab", 3105, 33),
-        ("aa", 3104, 32),
-        ("qq", 3616, 32),
-        ("po", 3583, 511),
-        ("r1", 3583, 511),
+        ("ab", 3105, 1057),
+        ("aa", 3104, 1056),
+        ("qq", 3616, 1568),
+        ("po", 3583, 1535),
+        ("r1", 3583, 1535),
+        ("aonpo", 92997631, 2047),
+        ("aonr1", 92997631, 2047),
     ] {
         let term = Term::new(rt.alloc(), bytes.as_bytes())?;
         assert_eq!(rt; hash_of(&term), hash, "{bytes}");
-        assert_eq!(rt; home(&term, 512), cell, "{bytes}");
+        assert_eq!(rt; home(&term, 2048), cell, "{bytes}");
     }
     Ok(())
 }

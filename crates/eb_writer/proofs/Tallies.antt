@@ -116,7 +116,7 @@ small_more u v t before n short h k s =
       pool3 = omega (arith, h.pool3, k.pool3, s.pool3, begun_push 3 before t, p3);
     }
   where
-    grows : (length (distinct (before ++ t ∷ [])) ≤ length (distinct before) + 1) × (sum_by text_words (distinct (before ++ t ∷ [])) ≤ sum_by text_words (distinct before) + 1024)
+    grows : (length (distinct (before ++ t ∷ [])) ≤ length (distinct before) + 1) × (sum_by text_words (distinct (before ++ t ∷ [])) ≤ sum_by text_words (distinct before) + most_bytes)
     grows = elim (with_term_cases (distinct before) t) [
       | inl w ↦ let e = distinct_push before t ∙ w.1 in (omega (arith, ap length e), omega (arith, ap (sum_by text_words) e))
       | inr w ↦ let e = distinct_push before t ∙ w.1 in (omega (arith, ap length e, length_push (distinct before) t), omega (arith, ap (sum_by text_words) e, sum_by_push text_words (distinct before) t))

@@ -1,7 +1,8 @@
 -- What a document needs of a segment, and what is found of its tokens.
-use Rattle.std.specs.Prelude.{◌≡◌, ℕ, ◌+◌, ◌*◌, ◌<◌, ◌≤◌, List, [], ◌++◌, length, get_or, take, sum_by, None, Some, slice_get}
+use Rattle.std.specs.Prelude.{◌≡◌, ℕ, ◌+◌, ◌*◌, ◌<◌, ◌≤◌, ◌^◌, List, [], ◌++◌, length, get_or, take, sum_by, None, Some, slice_get}
 use Rattle.eb_base.specs.Term.{Term}
-use Rattle.eb_base.specs.Document.{Doc, IsDocument, most_tokens}
+use Rattle.eb_base.specs.Document.{Doc, IsDocument, most_tokens, most_bytes}
+use Rattle.eb_base.specs.Setting.{greatest_power}
 use Rattle.eb_place.specs.declared.moment.Moment.{Moment}
 use Rattle.eb_place.specs.declared.used.Used.{Used}
 use Rattle.eb_place.specs.Postings.{terms_of, distinct, count_of, number_of}
@@ -65,9 +66,9 @@ pub record IsPlan (m : Moment) (s : ℕ) (u : Used) (d : Doc) (plan : Plan) : Ty
 
 -- the numbers are far from the end of their type, when n tokens are counted
 pub record IsSmall (u : Used) (n : ℕ) : Type 0 where
-  pub terms : u.terms ≤ 1048576 + n
-  pub text : u.text ≤ 4194304 + 1024 * n
-  pub pool0 : u.pool0 ≤ 1048576 + n
-  pub pool1 : u.pool1 ≤ 1048576 + n
-  pub pool2 : u.pool2 ≤ 1048576 + n
-  pub pool3 : u.pool3 ≤ 1048576 + n
+  pub terms : u.terms ≤ 2 ^ greatest_power + n
+  pub text : u.text ≤ 4 * 2 ^ greatest_power + most_bytes * n
+  pub pool0 : u.pool0 ≤ 2 ^ greatest_power + n
+  pub pool1 : u.pool1 ≤ 2 ^ greatest_power + n
+  pub pool2 : u.pool2 ≤ 2 ^ greatest_power + n
+  pub pool3 : u.pool3 ≤ 2 ^ greatest_power + n

@@ -20,7 +20,7 @@ fn added(placer: &mut Placer, words: &mut FlatWords, document: &Document) -> Opt
 
 #[test]
 fn four_documents_have_room(rt: HostRuntime) -> Result<(), Fail> {
-    let config = Config::new(2, 2, 256)?;
+    let config = Config::new(2, 2, 1024)?;
     let mut terms = Terms::new(rt.alloc());
     terms.push(Term::new(rt.alloc(), b"a")?)?;
     let document = Document::new(7, terms)?;

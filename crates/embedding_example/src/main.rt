@@ -174,8 +174,8 @@ fn search_beside<R: Threads + Sync>(
 
 fn main(rt: HostRuntime) -> Result<(), Trouble> {
     let alloc = rt.alloc();
-    // Two segments of at most 100 messages and 256 terms each. `open` takes all memory of the index.
-    let Ok(config) = Config::new(2, 100, 256) else {
+    // Two segments of at most 100 messages and 1,024 terms each. `open` takes all memory of the index.
+    let Ok(config) = Config::new(2, 100, 1024) else {
         return Err(Trouble::BadSetting);
     };
     let Ok((index, mut writer, _converter)) = Index::open(alloc, config) else {

@@ -41,7 +41,8 @@ fn refuses_words_outside_the_grammar(rt: HostRuntime) -> Result<(), Fail> {
         "run|--docs",
         "run|--docs=",
         "run|--docs|-",
-        "run|--docs|--terms|256",
+        "run|--docs|--terms|1024",
+        "run|--terms|512",
         "run|--docs|--",
         "run|--docs=5=6",
         "run|--docs|1234567890",
@@ -58,6 +59,15 @@ fn refuses_words_outside_the_grammar(rt: HostRuntime) -> Result<(), Fail> {
         "bench|a|1",
         "bench|-1|5",
         "bench|000000000000000000001|1",
+        "save|--overlap",
+        "save|--stats",
+        "save|--docs",
+        "save|--terms|512",
+        "save|load",
+        "load|--docs|1",
+        "load|--stats|--stats",
+        "load|--overlap",
+        "load|x",
     ];
     for line in lines {
         let read = read_line(alloc, line)?;
@@ -73,6 +83,19 @@ fn refuses_words_outside_the_grammar(rt: HostRuntime) -> Result<(), Fail> {
 fn reads_commands(rt: HostRuntime) -> Result<(), Fail> {
     let alloc = rt.alloc();
     let config = Config::usual();
+    let small = Config::new(2, 2, 1024)?;
+    for (line, want) in [
+        ("save", Command::Save { config }),
+        (
+            "save|--terms=1024|--docs|2|--segments=2",
+            Command::Save { config: small },
+        ),
+        ("load", Command::Load { stats: false }),
+        ("load|--stats", Command::Load { stats: true }),
+    ] {
+        let read = read_line(alloc, line)?;
+        assert!(rt; read == Ok(want), "{line} is read otherwise");
+    }
     for (line, overlap) in [("run", false), ("run|--overlap", true)] {
         let usual = read_line(alloc, line)?;
         assert!(rt;
@@ -98,12 +121,12 @@ fn reads_commands(rt: HostRuntime) -> Result<(), Fail> {
             8192,
         ),
         (
-            "run|--stats|--terms|256|--overlap",
+            "run|--stats|--terms|1024|--overlap",
             true,
             true,
             12,
             4096,
-            256,
+            1024,
         ),
         ("run|--docs=000000005|--stats", false, true, 12, 5, 8192),
         (

@@ -105,7 +105,7 @@ fn other_sinks_change_no_status(rt: HostRuntime) -> Result<(), Fail> {
 
 #[test]
 fn a_write_that_fails_counts_before_a_read_that_failed(rt: HostRuntime) -> Result<(), Fail> {
-    let words = ["run", "--overlap", "--segments=1", "--terms", "256"];
+    let words = ["run", "--overlap", "--segments=1", "--terms", "1024"];
     let left = run_on(&rt, rt.alloc(), &words, INPUT, 5, &[2], &[1])?;
     assert!(rt; left.printed.is_empty());
     assert!(rt; left.status == Status::WriteFault);

@@ -28,12 +28,12 @@ const THREE: &str = "{\"id\":2,\"text\":\"new\"}\n{\"id\":3,\"text\":\"t7\"}\n?5
 fn settings_say_where_it_is_full(rt: HostRuntime) -> Result<(), Fail> {
     let alloc = rt.alloc();
     let mut terms = String::new(alloc);
-    put_terms(alloc, &mut terms, 256)?;
+    put_terms(alloc, &mut terms, 1024)?;
     terms.push_str(THREE)?;
     let cases: [(&[&str], &str, &str, u8); 5] = [
         (
-            &["run", "--terms", "256"],
-            "{\"id\":1,\"text\":\"aa qq po r1\"}\n?5 qq r1\n?5 aa po\n?5 zz\n",
+            &["run", "--terms", "1024"],
+            "{\"id\":1,\"text\":\"po r1 aonpo aonr1\"}\n?5 r1 aonr1\n?5 po aonpo\n?5 zz\n",
             "2 seen 1: 1\n3 seen 1: 1\n4 seen 1:\nend: documents 1, queries 3, refused 0\n",
             0,
         ),
@@ -50,13 +50,13 @@ fn settings_say_where_it_is_full(rt: HostRuntime) -> Result<(), Fail> {
             1,
         ),
         (
-            &["run", "--segments", "1", "--docs", "10", "--terms", "256"],
+            &["run", "--segments", "1", "--docs", "10", "--terms", "1024"],
             terms.as_str(),
             "2 refused: full\n4 seen 2: 3 1\n5 seen 2:\nend: documents 2, queries 2, refused 1\n",
             1,
         ),
         (
-            &["run", "--segments", "2", "--docs", "10", "--terms", "256"],
+            &["run", "--segments", "2", "--docs", "10", "--terms", "1024"],
             terms.as_str(),
             "4 seen 3: 3 1\n5 seen 3: 2\nend: documents 3, queries 2, refused 0\n",
             0,
@@ -88,7 +88,7 @@ fn words_of_one_home_cell_are_found(rt: HostRuntime) -> Result<(), Fail> {
         put_word(&mut text, number)?;
     }
     text.push_str("\"}\n?1 popopopopopopopo\n?1 r1r1r1r1r1r1r1r1\n?1 popo\n")?;
-    let words = ["run", "--terms", "256"];
+    let words = ["run", "--terms", "1024"];
     let left = run_on(&rt, alloc, &words, text.as_bytes(), 1000, &[], &[])?;
     let want = "2 seen 1: 5\n3 seen 1: 5\n4 seen 1:\nend: documents 1, queries 3, refused 0\n";
     assert_eq!(rt; left.printed.as_slice(), want.as_bytes());
@@ -151,7 +151,7 @@ fn counted<R: Threads + Sync>(
 #[test]
 fn the_gate_of_the_caller_sees_each_query(rt: HostRuntime) -> Result<(), Fail> {
     let alloc = rt.alloc();
-    let run = counted(&rt, alloc, &["run", "--terms=256"], PAIR.as_bytes())?;
+    let run = counted(&rt, alloc, &["run", "--terms=1024"], PAIR.as_bytes())?;
     assert_eq!(rt; run, (3, 6));
     let bench = counted(&rt, alloc, &["bench", "0", "1001"], b"")?;
     assert_eq!(rt; bench, (2, 2001));
@@ -250,7 +250,7 @@ fn answers_as_the_plain_scan(rt: HostRuntime) -> Result<(), Fail> {
         )?;
     }
     want.push_str("end: documents 200, queries 400, refused 0\n")?;
-    let words = ["run", "--segments", "5", "--docs", "45", "--terms", "256"];
+    let words = ["run", "--segments", "5", "--docs", "45", "--terms", "1024"];
     let left = run_on(&rt, rt.alloc(), &words, input.as_slice(), 4096, &[], &[])?;
     assert_eq!(rt; left.printed.as_slice(), want.as_bytes());
     Ok(())

@@ -54,8 +54,8 @@ const PAIR: &str =
 fn the_gate_sees_the_same_points_in_both_modes(rt: HostRuntime) -> Result<(), Fail> {
     let want = "3 seen 2:\n4 seen 2:\n5 seen 2: 2 1\nend: documents 2, queries 3, refused 0\n";
     for words in [
-        &["run", "--overlap", "--terms=256"],
-        &["run", "--terms", "256"],
+        &["run", "--overlap", "--terms=1024"],
+        &["run", "--terms", "1024"],
     ] {
         let gate = Recorder {
             points: AtomicU64::new(0),
@@ -125,7 +125,7 @@ fn behind<'a>(text: &'a [u8], firsts: &[&str]) -> Option<&'a [u8]> {
 #[test]
 fn a_query_sees_some_of_the_documents_behind_it(rt: HostRuntime) -> Result<(), Fail> {
     let firsts = ["2 seen 1: 1\n", "2 seen 2: 2 1\n", "2 seen 3: 3 2 1\n"];
-    let words = ["run", "--overlap", "--terms=256"];
+    let words = ["run", "--overlap", "--terms=1024"];
     let left = run_on(&rt, rt.alloc(), &words, TURNS.as_bytes(), 10_000, &[], &[])?;
     assert_eq!(rt; behind(left.printed.as_slice(), &firsts), Some(LAST));
     Ok(())
@@ -138,7 +138,7 @@ fn documents_are_added_while_a_query_is_answered(rt: HostRuntime) -> Result<(), 
         loaded: AtomicU64::new(0),
         run_out: AtomicU64::new(0),
     };
-    let words = ["run", "--terms=256", "--overlap"];
+    let words = ["run", "--terms=1024", "--overlap"];
     let text = run_with(&rt, rt.alloc(), &words, TURNS, &gate)?;
     assert_eq!(rt; gate.run_out.load(Ordering::SeqCst), 0);
     let firsts = ["2 seen 1: 1\n", "2 seen 2: 2 1\n"];
@@ -149,7 +149,7 @@ fn documents_are_added_while_a_query_is_answered(rt: HostRuntime) -> Result<(), 
 #[test]
 fn held_lines_are_worked_off_before_a_fault(rt: HostRuntime) -> Result<(), Fail> {
     let input = b"\nx\n{\"id\":1\n{\"id\":1,\"text\":\"a\"}\n?5 ";
-    let words = ["run", "--overlap", "--terms=256"];
+    let words = ["run", "--overlap", "--terms=1024"];
     let left = run_on(&rt, rt.alloc(), &words, input, 10_000, &[2], &[])?;
     assert_eq!(rt;
         left.printed.as_slice(),

@@ -73,7 +73,7 @@ impl<'a> io::Write for Taker<'a> {
 fn run_in_turns<R: Threads + Abort + Sync>(rt: &R, alloc: Global) -> Result<(Status, u64), Fail> {
     let mut words = Vec::new(alloc);
     words.push(String::from_str(alloc, "run")?)?;
-    words.push(String::from_str(alloc, "--terms=256")?)?;
+    words.push(String::from_str(alloc, "--terms=1024")?)?;
     let taken = AtomicU64::new(0);
     let mut source = StdSource::new(Asker {
         taken: &taken,

@@ -88,9 +88,9 @@ fn reads_the_feed_that_is_asked_for(rt: HostRuntime) -> Result<(), Fail> {
         ("--keep=2", 2, usual),
         ("--keep|000000016", 16, usual),
         (
-            "--terms|256|--keep|64|--segments=1",
+            "--terms|1024|--keep|64|--segments=1",
             64,
-            Config::new(1, 4096, 256)?,
+            Config::new(1, 4096, 1024)?,
         ),
         (
             "--segments=1|--terms=262144|--docs=13369341|--keep=3",

@@ -20,9 +20,9 @@ fn put_lines(input: &mut String, fills: Fills, id: u64) -> Result<(), Fail> {
     write!(input, "{{\"id\":{id},\"text\":\"a")?;
     let (words, times, len) = match fills {
         Fills::Documents => (0, 0, 0),
-        Fills::Terms => (60, 1, 0),
-        Fills::Text => (8, 1, 400),
-        Fills::Slices => (5, 18, 0),
+        Fills::Terms => (240, 1, 0),
+        Fills::Text => (8, 1, 1600),
+        Fills::Slices => (20, 18, 0),
     };
     for word in 0..words {
         for _time in 0..times {
@@ -72,16 +72,16 @@ fn compare(
     }
     let mut text = String::new(alloc);
     put_text(&mut text, documents, each)?;
-    let words = ["--keep=3", "--segments=1", "--docs=20", "--terms=256"];
+    let words = ["--keep=3", "--segments=1", "--docs=20", "--terms=1024"];
     let left = run_on(rt, alloc, &words, input.as_bytes(), 65_536, &[], &[])?;
     assert!(rt; left.printed.as_slice() == text.as_bytes());
     assert!(rt; left.status == Status::Done);
     Ok(())
 }
 
-// A generation here has room for 20 documents, 256 terms, 1,024 text words, and 16 terms of more than 17 postings, each of
+// A generation here has room for 20 documents, 1,024 terms, 4,096 text words, and 64 terms of more than 17 postings, each of
 // which takes a slice of pool 2. A term takes a text word and one for each 8 bytes begun. So a generation takes 20 short
-// documents; 4 of 60 further terms each; 2 of 8 further terms of some 400 bytes; and 3 of 5 further terms that stand 18
+// documents; 4 of 240 further terms each; 2 of 8 further terms of some 1,600 bytes; and 3 of 20 further terms that stand 18
 // times each.
 #[test]
 fn a_feed_turns_whatever_is_full(rt: HostRuntime) -> Result<(), Fail> {

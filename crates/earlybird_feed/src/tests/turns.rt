@@ -73,7 +73,7 @@ impl<'a> io::Write for Taker<'a> {
 // Runs between the two, and gives how it ended, and how many bytes and calls were taken.
 fn run_in_turns(alloc: Global) -> Result<(Status, u64, u64), Fail> {
     let mut words = Vec::new(alloc);
-    words.push(String::from_str(alloc, "--terms=256")?)?;
+    words.push(String::from_str(alloc, "--terms=1024")?)?;
     let taken = AtomicU64::new(0);
     let calls = AtomicU64::new(0);
     let mut source = StdSource::new(Asker {

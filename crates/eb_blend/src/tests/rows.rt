@@ -7,7 +7,7 @@ use std::test::Fail;
 #[test]
 fn ids_must_rise(rt: HostRuntime) -> Result<(), Fail> {
     let alloc = rt.alloc();
-    let config = Config::new(1, 8, 256)?;
+    let config = Config::new(1, 8, 1024)?;
     let (blend, mut writer, _converter) = Blend::open(alloc, 2, config)?;
     assert_eq!(rt; added(alloc, &blend, &mut writer, 1)?, Ok(1));
     assert_eq!(rt; added(alloc, &blend, &mut writer, 2)?, Ok(2));
@@ -33,7 +33,7 @@ fn ids_must_rise(rt: HostRuntime) -> Result<(), Fail> {
 #[test]
 fn a_full_part_keeps_the_last_id(rt: HostRuntime) -> Result<(), Fail> {
     let alloc = rt.alloc();
-    let config = Config::new(1, 1, 256)?;
+    let config = Config::new(1, 1, 1024)?;
     let (blend, mut writer, _converter) = Blend::open(alloc, 2, config)?;
     assert_eq!(rt; added(alloc, &blend, &mut writer, 1)?, Ok(1));
     assert_eq!(rt;

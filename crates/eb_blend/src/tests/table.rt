@@ -61,7 +61,7 @@ fn fill(
 #[test]
 fn four_parts_answer_as_one_history(rt: HostRuntime) -> Result<(), Fail> {
     let alloc = rt.alloc();
-    let config = Config::new(10, 10, 256)?;
+    let config = Config::new(10, 10, 1024)?;
     let (blend, mut writer, mut converter) = Blend::open(alloc, 4, config)?;
     let mut history = Vec::new(alloc);
     fill(&rt, alloc, &blend, &mut writer, &mut history)?;

@@ -188,7 +188,7 @@ fn all_beside<R: Threads + Sync>(
 #[test]
 fn readers_search_beside_a_writer_and_a_converter(rt: HostRuntime) -> Result<(), Fail> {
     let alloc = rt.alloc();
-    let Ok((index, mut writer, converter)) = Index::open(alloc, Config::new(4, 100, 256)?) else {
+    let Ok((index, mut writer, converter)) = Index::open(alloc, Config::new(4, 100, 1024)?) else {
         return Err(Fail::new("no memory"));
     };
     let mut documents = Vec::new(alloc);

@@ -156,7 +156,7 @@ fn overlapping<R: Threads + Sync>(
 fn opened(alloc: Global) -> Result<(Index, Writer, Converter), Fail>
     ensures { IfOk result (λ r. (r.1.index ≡ r.0) × (r.2.index ≡ r.0)) }
 {
-    let Ok(opened) = Index::open(alloc, Config::new(2, 2, 256)?) else {
+    let Ok(opened) = Index::open(alloc, Config::new(2, 2, 1024)?) else {
         return Err(Fail::new("no memory"));
     };
     Ok(opened)

@@ -68,7 +68,7 @@ fn step(
 
 #[test]
 fn the_oldest_go(rt: HostRuntime) -> Result<(), Fail> {
-    let config = Config::new(1, 2, 256)?;
+    let config = Config::new(1, 2, 1024)?;
     let Ok(mut feed) = Feed::open(rt.alloc(), config, 2) else {
         return Err(Fail::new("no memory"));
     };

@@ -50,13 +50,13 @@ fn made(alloc: Global, fills: Fills, number: u64) -> Result<Document, Fail> {
     terms.push(term(alloc, number % 7, 0, 0)?)?;
     let (further, len) = match fills {
         Fills::Documents => (0, 0),
-        Fills::Terms => (60, 0),
-        Fills::Text => (8, 400),
-        Fills::Slices => (90, 0),
+        Fills::Terms => (240, 0),
+        Fills::Text => (8, 1600),
+        Fills::Slices => (360, 0),
     };
     for at in 0..further {
         terms.push(match fills {
-            Fills::Slices => term(alloc, number.wrapping_add(7), at % 5, 0)?,
+            Fills::Slices => term(alloc, number.wrapping_add(7), at % 20, 0)?,
             _ => term(alloc, number.wrapping_add(7), at, len)?,
         })?;
     }
@@ -118,7 +118,7 @@ fn ask(rt: &impl Abort, alloc: Global, row: &mut Row, number: u64) -> Result<(),
 
 // Takes so many made documents, compares behind each, and gives the number of generations that were begun.
 fn compare(rt: &impl Abort, alloc: Global, fills: Fills, documents: u64) -> Result<usize, Fail> {
-    let config = Config::new(1, 20, 256)?;
+    let config = Config::new(1, 20, 1024)?;
     let mut row = Row {
         feed: Feed::open(alloc, config, KEEP as u32)?,
         history: Vec::new(alloc),
@@ -132,9 +132,9 @@ fn compare(rt: &impl Abort, alloc: Global, fills: Fills, documents: u64) -> Resu
     Ok(row.begins.len())
 }
 
-// A generation here has room for 20 documents, 256 terms, 1,024 text words, and 16 terms of more than 17 postings, each of
-// which takes a slice of pool 2. So it takes 20 short documents; 4 of 60 further terms each; 2 of 8 further terms of 400
-// bytes; and 3 of 5 further terms that stand 18 times each.
+// A generation here has room for 20 documents, 1,024 terms, 4,096 text words, and 64 terms of more than 17 postings, each of
+// which takes a slice of pool 2. So it takes 20 short documents; 4 of 240 further terms each; 2 of 8 further terms of 1,600
+// bytes; and 3 of 20 further terms that stand 18 times each.
 #[test]
 fn a_feed_keeps_what_the_plain_scan_keeps(rt: HostRuntime) -> Result<(), Fail> {
     for (fills, documents, generations) in [

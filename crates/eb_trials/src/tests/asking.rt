@@ -32,7 +32,34 @@ fn taken(alloc: Global, queries: &mut Vec<Query>, count: usize) -> Result<Querie
     Ok(parts)
 }
 
-// Puts the query that an operator makes of the last ones, or a word.
+// The number that these digits write.
+fn number(digits: &[u8]) -> u64 {
+    let mut number: u64 = 0;
+    for digit in digits {
+        let value = u64::from(digit.wrapping_sub(b'0'));
+        number = number.wrapping_mul(10).wrapping_add(value);
+    }
+    number
+}
+
+// The window that a reach makes of the phrase before it, a bound on the id, or a word.
+fn leaf(alloc: Global, queries: &mut Vec<Query>, word: &[u8]) -> Result<Query, Fail> {
+    let Some((sign, digits)) = word.split_first() else {
+        return Err(Fail::new("no word"));
+    };
+    match *sign {
+        b'~' => {
+            let Some(Query::Phrase(terms)) = queries.pop() else {
+                return Err(Fail::new("no phrase"));
+            };
+            Ok(Query::Window(terms, u32::try_from(number(digits))?))
+        }
+        b'>' => Ok(Query::Since(number(digits))),
+        _ => Ok(Query::Word(Term::new(alloc, word)?)),
+    }
+}
+
+// Puts the query that an operator makes of the last ones, or a leaf.
 fn put(alloc: Global, queries: &mut Vec<Query>, word: &[u8]) -> Result<(), Fail> {
     let query = match word {
         b"-" => {
@@ -45,14 +72,15 @@ fn put(alloc: Global, queries: &mut Vec<Query>, word: &[u8]) -> Result<(), Fail>
         b"&3" => Query::And(taken(alloc, queries, 3)?),
         b"|2" => Query::Or(taken(alloc, queries, 2)?),
         b"|3" => Query::Or(taken(alloc, queries, 3)?),
-        _ => Query::Word(Term::new(alloc, word)?),
+        _ => leaf(alloc, queries, word)?,
     };
     queries.push(query)?;
     Ok(())
 }
 
 // The query that a text writes, with each operator behind its parts: `-` is Not, `&2` and `&3` are And of
-// so many parts, `|2` and `|3` Or, `"` begins and ends a phrase, and any other word is a word.
+// so many parts, `|2` and `|3` Or, `"` begins and ends a phrase, `~` and a number make of the phrase before
+// it a window of that reach, `>` and a number are a bound on the id, and any other word is a word.
 pub(super) fn query(alloc: Global, text: &[u8]) -> Result<Query, Fail> {
     let mut queries = Vec::new(alloc);
     let mut phrase = Terms::new(alloc);

@@ -11,7 +11,7 @@ use crate::{GrowingPort, Pace};
 use eb_base::{Config, Document, MAX_TOKENS, Term, Terms};
 use eb_chain::Chain;
 use eb_flat::FlatWords;
-use eb_place::{Port, Steps};
+use eb_place::{PLACES, Port, Posting, Steps};
 use eb_terms::find;
 use eb_writer::Placer;
 use std::alloc::Global;
@@ -30,7 +30,7 @@ pub(super) fn of_a(alloc: Global, times: usize) -> Result<Document, Fail> {
 
 // Puts the postings of the first positions of a document, by its number, behind the list.
 fn put_postings(postings: &mut Vec<u64>, document: u64, times: u64) -> Result<(), Fail> {
-    let first = document.saturating_mul(256);
+    let first = document.saturating_mul(PLACES);
     for position in 0..times {
         postings.push(first.saturating_add(position))?;
     }
@@ -65,11 +65,11 @@ fn add_postings(
 }
 
 // Whether the calls of a walk gave these postings, from the last to the first, and then none.
-fn are_given(given: &[Option<u32>], postings: &[u64]) -> bool {
+fn are_given(given: &[Option<Posting>], postings: &[u64]) -> bool {
     let mut left = postings.len();
     for posting in given {
         if let Some(posting) = posting {
-            if left == 0 || postings[left - 1] != u64::from(*posting) {
+            if left == 0 || postings[left - 1] != *posting {
                 return false;
             }
             left -= 1;
@@ -105,7 +105,7 @@ fn ask<P: Port, L: Ledger>(
     port: &mut P,
     times: usize,
     steps: &mut Steps<L>,
-) -> Result<Vec<Option<u32>>, Fail>
+) -> Result<Vec<Option<Posting>>, Fail>
     requires { (m : Moment) × (s : ℕ) × (t : List ℕ) × (opened : ℕ) × (rest : List ℕ) × P.stands port.old m × chains.Stands m s t chain.old opened rest }
 {
     let mut given = Vec::new(alloc);
@@ -122,7 +122,7 @@ fn walk<L: Ledger>(
     term: &Term,
     times: usize,
     blank: Blank,
-) -> Result<Vec<Option<u32>>, Fail>
+) -> Result<Vec<Option<Posting>>, Fail>
     requires blank { (blank.name ≡ L.name) × (blank.parts ≡ L.parts) × (0 < blank.parts) }
     requires words { (m : Moment) × StandsFor words.old m }
 {
@@ -215,7 +215,7 @@ fn is_walk_of_seen<L: Ledger>(
     let Some(mut chain) = open(port, &term, &mut steps) else {
         return Ok(false);
     };
-    let postings = postings_stored(alloc, port, 771)?;
+    let postings = postings_stored(alloc, port, 3075)?;
     let times = postings.len().saturating_add(2);
     let given = ask(alloc, &mut chain, port, times, &mut steps)?;
     Ok(are_given(given.as_slice(), postings.as_slice()))
@@ -223,7 +223,7 @@ fn is_walk_of_seen<L: Ledger>(
 
 // The same, with so many stores done before.
 fn walks_what_it_saw(alloc: Global, stores: usize) -> Result<bool, Fail> {
-    let config = Config::new(1, 4096, 256)?;
+    let config = Config::new(1, 4096, 1024)?;
     let documents = [of_a(alloc, 16)?];
     let last = of_a(alloc, 256)?;
     let mut port = growing(alloc, config, documents.as_slice(), last, Pace::OneFrom(0))?;

@@ -22,7 +22,7 @@ use std::test::Fail;
 fn one_segment(alloc: Global, documents: &[Document]) -> Result<FlatWords, Fail>
     ensures { IfOk result (λ words. HasAccepted StandsFor words (length documents.now)) }
 {
-    let config = Config::new(1, 512, 512)?;
+    let config = Config::new(1, 512, 1024)?;
     let words = index_of(alloc, config, documents)?;
     Ok(words)
 }
@@ -37,7 +37,7 @@ fn growing_segment(
 ) -> Result<GrowingPort, Fail>
     ensures { IfOk result (λ port. HasAccepted Grows port (length documents.now)) }
 {
-    let config = Config::new(1, 512, 512)?;
+    let config = Config::new(1, 512, 1024)?;
     let mut port = growing(alloc, config, documents, last, Pace::OneFrom(0))?;
     grow_by(&mut port, stores);
     Ok(port)
@@ -116,12 +116,17 @@ pub(super) fn made(alloc: Global, count: usize) -> Result<Vec<Document>, Fail> {
     Ok(documents)
 }
 
-// What cursors find of two documents.
+// What cursors find of documents.
+fn found_of(alloc: Global, documents: &[Document], text: &[u8]) -> Result<Vec<u64>, Fail> {
+    let mut words = one_segment(alloc, documents)?;
+    asked::<FlatWords, Brand>(alloc, &mut words, text, documents, Blank::new(1))
+}
+
+// What they find of two documents.
 fn found_of_two(alloc: Global, texts: [&[u8]; 2], text: &[u8]) -> Result<Vec<u64>, Fail> {
     let [first, second] = texts;
     let documents = [document(alloc, 1, first)?, document(alloc, 2, second)?];
-    let mut words = one_segment(alloc, documents.as_slice())?;
-    asked::<FlatWords, Brand>(alloc, &mut words, text, documents.as_slice(), Blank::new(1))
+    found_of(alloc, documents.as_slice(), text)
 }
 
 #[test]
@@ -144,6 +149,101 @@ fn cursors_find_by_hand(rt: HostRuntime) -> Result<(), Fail> {
         (pairs, b"b c |2", &[1, 0]),
     ] {
         assert_eq!(rt; found_of_two(alloc, texts, text)?.as_slice(), want);
+    }
+    Ok(())
+}
+
+#[test]
+fn cursors_find_windows_and_bounds_by_hand(rt: HostRuntime) -> Result<(), Fail> {
+    let alloc = rt.alloc();
+    let none: &[u64] = &[];
+    let rows = [b"a b b a b a".as_slice(), b"b a"];
+    let pairs = [b"a b".as_slice(), b"c d"];
+    for (texts, text, want) in [
+        (rows, b"\" a a \" ~2".as_slice(), [0].as_slice()),
+        (rows, b"\" a a \" ~1", none),
+        (rows, b"\" b b b \" ~3", &[0]),
+        (rows, b"\" a a a \" ~5", &[0]),
+        (rows, b"\" a a a \" ~4", none),
+        (rows, b"\" b a \" ~1", &[1, 0]),
+        (rows, b"\" a b a \" ~2", &[0]),
+        (rows, b"\" b a b b \" ~1023", none),
+        (pairs, b"\" b c \" ~1023", none),
+        (pairs, b"\" a b \" ~1 \" c d \" ~1 |2", &[1, 0]),
+        (rows, b">1 a &2", &[1]),
+        (rows, b"a >1 &2", &[1]),
+        (rows, b">1 -", &[0]),
+        (rows, b">0 >1 &2", &[1]),
+        (rows, b">0 b - &2", none),
+        (rows, b">18446744073709551615", none),
+    ] {
+        assert_eq!(rt; found_of_two(alloc, texts, text)?.as_slice(), want);
+    }
+    Ok(())
+}
+
+// Documents of the word `a` whose ids come in no order.
+fn in_no_order(alloc: Global) -> Result<Vec<Document>, Fail> {
+    let mut documents = Vec::new(alloc);
+    for id in [5, 3, 9, 1, 7] {
+        documents.push(document(alloc, id, b"a")?)?;
+    }
+    Ok(documents)
+}
+
+#[test]
+fn bounds_hold_for_ids_in_any_order(rt: HostRuntime) -> Result<(), Fail> {
+    let alloc = rt.alloc();
+    let documents = in_no_order(alloc)?;
+    let documents = documents.as_slice();
+    for (text, want) in [
+        (b">4".as_slice(), [4, 2, 0].as_slice()),
+        (b">5", &[4, 2]),
+        (b">4 -", &[3, 1]),
+        (b">4 a &2", &[4, 2, 0]),
+        (b">4 >6 - &2", &[0]),
+        (b">8 >2 - |2", &[3, 2]),
+    ] {
+        assert_eq!(rt; found_of(alloc, documents, text)?.as_slice(), want);
+    }
+    Ok(())
+}
+
+// Windows, bounds on ids, and operators over them.
+const WINDOWS_AND_BOUNDS: [&[u8]; 24] = [
+    b"\" a b \" ~1",
+    b"\" a b \" ~2",
+    b"\" a b \" ~4",
+    b"\" b b \" ~1",
+    b"\" b b \" ~2",
+    b"\" c c \" ~3",
+    b"\" a b c \" ~2",
+    b"\" a b c \" ~3",
+    b"\" c c c \" ~2",
+    b"\" c b c \" ~4",
+    b"\" a a b b \" ~4",
+    b"\" a b \" ~2 -",
+    b"\" a b \" ~2 c &2",
+    b"\" a b \" ~2 \" b a \" ~3 &2",
+    b"\" a b \" ~2 c |2",
+    b">0",
+    b">200",
+    b">200 -",
+    b">200 a &2",
+    b"a >200 b &3",
+    b">100 a - &2",
+    b">300 c |2",
+    b">100 >300 - &2",
+    b">250 \" a b \" ~2 c &3",
+];
+
+#[test]
+fn cursors_find_windows_and_bounds_as_a_scan_does(rt: HostRuntime) -> Result<(), Fail> {
+    let alloc = rt.alloc();
+    let documents = made(alloc, 400)?;
+    let mut words = one_segment(alloc, documents.as_slice())?;
+    for text in WINDOWS_AND_BOUNDS {
+        assert!(rt; is_as_scanned(alloc, &mut words, text, documents.as_slice())?);
     }
     Ok(())
 }

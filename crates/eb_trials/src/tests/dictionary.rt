@@ -54,8 +54,8 @@ fn numbers_in(
 #[test]
 fn terms_stand_in_the_cells_of_their_hashes(rt: HostRuntime) -> Result<(), Fail> {
     let alloc = rt.alloc();
-    let config = Config::new(2, 1, 256)?;
-    let asked = terms(alloc, b"aa qq po r1 zz")?;
+    let config = Config::new(2, 1, 1024)?;
+    let asked = terms(alloc, b"po r1 aonpo aonr1 zz")?;
     let none = [None, None, None, None, None];
     let mut words = index_of(alloc, config, &[])?;
     assert_eq!(rt;
@@ -66,12 +66,12 @@ fn terms_stand_in_the_cells_of_their_hashes(rt: HostRuntime) -> Result<(), Fail>
         numbers_in(alloc, &mut words, 1, &asked)?.as_slice(),
         none.as_slice()
     );
-    let document = document(alloc, 1, b"aa qq po r1")?;
+    let document = document(alloc, 1, b"po r1 aonpo aonr1")?;
     let mut words = index_of(alloc, config, [document].as_slice())?;
     let places = Places::new(config);
-    assert_eq!(rt; word_at(&mut words, places.cell(0, 32)), Some(1));
-    assert_eq!(rt; word_at(&mut words, places.cell(0, 33)), Some(2));
-    assert_eq!(rt; word_at(&mut words, places.cell(0, 511)), Some(3));
+    assert_eq!(rt; word_at(&mut words, places.cell(0, 1535)), Some(1));
+    assert_eq!(rt; word_at(&mut words, places.cell(0, 1536)), Some(2));
+    assert_eq!(rt; word_at(&mut words, places.cell(0, 2047)), Some(3));
     assert_eq!(rt; word_at(&mut words, places.cell(0, 0)), Some(4));
     assert_eq!(rt;
         numbers_in(alloc, &mut words, 0, &asked)?.as_slice(),
@@ -142,7 +142,7 @@ fn find_after(
     stores: usize,
     pace: Pace,
 ) -> Result<Option<Found>, Fail> {
-    let config = Config::new(1, 1, 256)?;
+    let config = Config::new(1, 1, 1024)?;
     let last = document(alloc, 7, search.text)?;
     let mut port = growing(alloc, config, &[], last, pace)?;
     grow_by(&mut port, stores);
@@ -198,12 +198,12 @@ fn search_all(alloc: Global, search: Search, number: u32) -> Result<Tally, Fail>
 fn a_term_is_found_while_it_is_entered(rt: HostRuntime) -> Result<(), Fail> {
     let alloc = rt.alloc();
     for (text, term, store, number) in [
-        (b"ab b ab".as_slice(), b"ab".as_slice(), (36, 1), 0),
+        (b"ab b ab".as_slice(), b"ab".as_slice(), (1060, 1), 0),
         (b"ab b ab", b"b", (101, 2), 1),
-        (b"aa qq po r1", b"aa", (35, 1), 0),
-        (b"aa qq po r1", b"qq", (36, 2), 1),
-        (b"aa qq po r1", b"po", (514, 3), 2),
-        (b"aa qq po r1", b"r1", (3, 4), 3),
+        (b"po r1 aonpo aonr1", b"po", (1538, 1), 0),
+        (b"po r1 aonpo aonr1", b"r1", (1539, 2), 1),
+        (b"po r1 aonpo aonr1", b"aonpo", (2050, 3), 2),
+        (b"po r1 aonpo aonr1", b"aonr1", (3, 4), 3),
     ] {
         let search = Search { text, term, store };
         let tally = search_all(alloc, search, number)?;
@@ -211,7 +211,7 @@ fn a_term_is_found_while_it_is_entered(rt: HostRuntime) -> Result<(), Fail> {
         assert!(rt; tally.entered_meanwhile > 0, "{number}");
     }
     let search = Search {
-        text: b"aa qq po r1",
+        text: b"po r1 aonpo aonr1",
         term: b"zz",
         store: (0, 2),
     };

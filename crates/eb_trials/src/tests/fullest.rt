@@ -73,7 +73,7 @@ fn all_words(alloc: Global, words: &mut FlatWords) -> Result<Vec<u64>, Fail>
 // Which of these documents, added in order to one segment, have room; and whether all words were left as they
 // were by those that have none.
 fn room(alloc: Global, documents: &[Words]) -> Result<(Vec<bool>, bool), Fail> {
-    let config = Config::new(1, 4096, 256)?;
+    let config = Config::new(1, 4096, 1024)?;
     let mut words = FlatWords::new(alloc, config)?;
     let mut placer = Placer::new(config);
     let mut room = Vec::new(alloc);
@@ -97,39 +97,39 @@ fn a_segment_is_filled_to_the_last(rt: HostRuntime) -> Result<(), Fail> {
     let rows: [(&[Words], &[bool]); 4] = [
         (
             &[
-                of(256, 0, 15, 1),
-                of(256, 15, 15, 1),
-                of(1, 0, 17, 1),
-                of(1, 17, 1, 1),
-                of(1, 5, 1, 1),
+                of(256, 0, 64, 1),
+                of(256, 64, 60, 1),
+                of(1, 0, 2, 1),
+                of(1, 2, 1, 1),
+                of(1, 1, 1, 1),
             ],
             &[true, true, true, false, true],
         ),
         (
             &[
-                of(4, 0, 85, 3),
-                of(4, 85, 43, 3),
-                of(4, 128, 1, 3),
-                of(4, 128, 1, 2),
-                of(4, 128, 1, 1),
+                of(4, 0, 341, 3),
+                of(4, 341, 171, 3),
+                of(4, 512, 1, 3),
+                of(4, 512, 1, 2),
+                of(4, 512, 1, 1),
             ],
             &[true, true, false, true, false],
         ),
         (
             &[
-                of(4, 0, 14, 18),
-                of(4, 14, 2, 18),
-                of(4, 16, 1, 18),
-                of(4, 16, 1, 17),
+                of(4, 0, 56, 18),
+                of(4, 56, 8, 18),
+                of(4, 64, 1, 18),
+                of(4, 64, 1, 17),
             ],
             &[true, true, false, true],
         ),
         (
             &[
-                of(1, 0, 1, 145),
-                of(1, 1, 1, 145),
-                of(1, 2, 1, 145),
-                of(1, 2, 1, 144),
+                of(1, 0, 7, 145),
+                of(1, 7, 1, 145),
+                of(1, 8, 1, 145),
+                of(1, 8, 1, 144),
             ],
             &[true, true, false, true],
         ),

@@ -8,14 +8,13 @@ use super::chains::{of_a, open, postings_stored};
 use super::made::{grow_by, growing};
 use crate::{GrowingPort, Pace};
 use eb_base::{Config, Document, MAX_TOKENS, Term};
-use eb_place::{Posting, Steps};
+use eb_place::{PLACES, Posting, Steps};
 use std::alloc::Global;
 use std::marker::Brand;
 use std::sync::ledger::{Blank, Ledger};
 use std::test::Fail;
 
-// Documents of the term `a` with so many postings in all, full but for the last: so the postings of the term
-// are the numbers from 0 on.
+// Documents of the term `a` with so many postings in all, full but for the last.
 fn documents_of(alloc: Global, postings: usize) -> Result<Vec<Document>, Fail> {
     let mut documents = Vec::new(alloc);
     let mut left = postings;
@@ -29,6 +28,14 @@ fn documents_of(alloc: Global, postings: usize) -> Result<Vec<Document>, Fail> {
     Ok(documents)
 }
 
+// The posting of this number of those documents, counted from 0.
+fn nth(at: u64) -> Posting {
+    let tokens = MAX_TOKENS as u64;
+    (at / tokens)
+        .saturating_mul(PLACES)
+        .saturating_add(at % tokens)
+}
+
 // How many of rising numbers are at most `most`.
 fn count_at_most(postings: &[u64], most: u64) -> usize {
     postings.iter().filter(|posting| **posting <= most).count()
@@ -38,7 +45,7 @@ fn count_at_most(postings: &[u64], most: u64) -> usize {
 fn is_last(given: Option<Posting>, postings: &[u64], left: usize) -> bool {
     match given {
         None => left == 0,
-        Some(posting) => left > 0 && postings.get(left - 1) == Some(&u64::from(posting)),
+        Some(posting) => left > 0 && postings.get(left - 1) == Some(&posting),
     }
 }
 
@@ -64,16 +71,16 @@ fn leaps_as_listed<L: Ledger>(
     let Some(mut chain) = open(port, &term, &mut steps) else {
         return Ok(false);
     };
-    let stored = postings_stored(alloc, port, 1539)?;
+    let stored = postings_stored(alloc, port, 3075)?;
     let postings = stored.as_slice();
     let before = port.loads();
     let first = chain.next_at_most(port, most, &mut steps);
     let loads = port.loads().saturating_sub(before);
     let second = chain.next(port, &mut steps);
     let third = chain.next_at_most(port, most / 2, &mut steps);
-    let at_first = count_at_most(postings, u64::from(most));
+    let at_first = count_at_most(postings, most);
     let at_second = at_first.saturating_sub(1);
-    let at_third = count_at_most(postings, u64::from(most / 2)).min(at_second.saturating_sub(1));
+    let at_third = count_at_most(postings, most / 2).min(at_second.saturating_sub(1));
     let passed = slices_of(postings.len()).saturating_sub(slices_of(at_first));
     let bound = passed.saturating_mul(2).saturating_add(23);
     Ok(
@@ -87,7 +94,7 @@ fn leaps_as_listed<L: Ledger>(
 // The same for so many postings, with five stores of a further document done before, and one more before
 // each load.
 fn leaps(alloc: Global, postings: usize, most: Posting) -> Result<bool, Fail> {
-    let config = Config::new(1, 4096, 512)?;
+    let config = Config::new(1, 4096, 1024)?;
     let documents = documents_of(alloc, postings)?;
     let last = of_a(alloc, 256)?;
     let mut port = growing(alloc, config, documents.as_slice(), last, Pace::OneFrom(0))?;
@@ -123,9 +130,9 @@ fn a_leap_gives_what_the_list_has(rt: HostRuntime) -> Result<(), Fail> {
             5998,
             5999,
             6000,
-            u32::MAX,
+            1 << 23,
         ] {
-            assert!(rt; leaps(alloc, postings, most)?, "{postings} {most}");
+            assert!(rt; leaps(alloc, postings, nth(most))?, "{postings} {most}");
         }
     }
     Ok(())

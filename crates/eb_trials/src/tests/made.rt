@@ -17,16 +17,16 @@ use std::marker::Brand;
 use std::sync::ledger::{Blank, Ledger};
 use std::test::Fail;
 
-// The terms of a text whose words have one blank between them.
+// The terms of a text whose words have blanks between them.
 pub(super) fn terms(alloc: Global, text: &[u8]) -> Result<Terms, Fail> {
     let mut terms = Terms::new(alloc);
     let mut word = Vec::new(alloc);
     for byte in text {
-        if *byte == b' ' {
+        if *byte != b' ' {
+            word.push(*byte)?;
+        } else if !word.is_empty() {
             terms.push(Term::new(alloc, word.as_slice())?)?;
             word.clear();
-        } else {
-            word.push(*byte)?;
         }
     }
     if !word.is_empty() {

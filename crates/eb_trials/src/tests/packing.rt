@@ -10,7 +10,7 @@ use crate::RecordingPen;
 use eb_base::{Config, Document, Term};
 use eb_block::PackedList;
 use eb_convert::{Converted, convert_next};
-use eb_place::{Port, Posting, Steps};
+use eb_place::{PLACES, Port, Posting, Steps};
 use eb_terms::find;
 use eb_writer::Placer;
 use std::alloc::Global;
@@ -59,7 +59,7 @@ fn convert_all(alloc: Global, pen: &mut RecordingPen, times: usize) -> Result<Ve
 #[test]
 fn a_segment_is_converted_word_by_word(rt: HostRuntime) -> Result<(), Fail> {
     let alloc = rt.alloc();
-    let config = Config::new(2, 1, 256)?;
+    let config = Config::new(2, 1, 1024)?;
     let documents = [document(alloc, 7, b"ab b ab")?, document(alloc, 8, b"b")?];
     let mut pen = placed(alloc, config, &documents)?;
     let done = convert_all(alloc, &mut pen, 3)?;
@@ -70,11 +70,11 @@ fn a_segment_is_converted_word_by_word(rt: HostRuntime) -> Result<(), Fail> {
     assert_eq!(rt;
         pen.puts(),
         [
-            (11012, 131586),
-            (11013, 2),
-            (10756, 2),
-            (11014, 65537),
-            (10757, 8589934593),
+            (44036, 131586),
+            (44037, 2),
+            (43012, 2),
+            (44038, 65537),
+            (43013, 8589934593),
             (2, 1),
         ]
         .as_slice()
@@ -86,7 +86,7 @@ fn a_segment_is_converted_word_by_word(rt: HostRuntime) -> Result<(), Fail> {
 #[test]
 fn what_is_not_closed_is_not_converted(rt: HostRuntime) -> Result<(), Fail> {
     let alloc = rt.alloc();
-    let config = Config::new(3, 2, 256)?;
+    let config = Config::new(3, 2, 1024)?;
     for (count, converted) in [(0, 0), (1, 0), (2, 0), (3, 1), (4, 1), (5, 2), (6, 2)] {
         let mut documents = Vec::new(alloc);
         for id in 0..count {
@@ -184,7 +184,7 @@ fn seek_on<L: Ledger>(
 fn greatest(postings: &[Posting], most: Posting, end: u64) -> Option<Posting> {
     let mut found = None;
     for posting in postings {
-        if *posting <= most && u64::from(*posting) < end {
+        if *posting <= most && *posting < end {
             found = Some(*posting);
         }
     }
@@ -214,7 +214,7 @@ fn greatest_on(
     let mut end = u64::MAX;
     for most in mosts {
         let next = greatest(postings, *most, end);
-        end = next.map_or(0, u64::from);
+        end = next.unwrap_or(0);
         found.push(next)?;
     }
     Ok(found)
@@ -280,13 +280,13 @@ struct Wide {
 }
 
 impl Wide {
-    // The number of the last document that it stands in. Where it is the first word of each, 9 bits hold the
+    // The number of the last document that it stands in. Where it is the first word of each, 17 bits hold the
     // difference from one document to the next.
     fn last(self) -> u64 {
-        let gap = if self.bits < 10 {
+        let gap = if self.bits < 18 {
             0
         } else {
-            1u64.wrapping_shl(self.bits.wrapping_sub(9))
+            1u64.wrapping_shl(self.bits.wrapping_sub(17))
         };
         self.postings.wrapping_sub(1).wrapping_add(gap)
     }
@@ -298,18 +298,18 @@ impl Wide {
 }
 
 // The lists: the first has eleven blocks, the second one posting, and the others have greatest differences of
-// all numbers of bits from 9 to 32.
+// all numbers of bits from 17 to 40.
 fn wide_lists(alloc: Global) -> Result<Vec<Wide>, Fail> {
     let mut lists = Vec::new(alloc);
     lists.push(Wide {
-        bits: 9,
+        bits: 17,
         postings: 1399,
     })?;
     lists.push(Wide {
         bits: 0,
         postings: 1,
     })?;
-    for bits in 9..=32 {
+    for bits in 17..=40 {
         for postings in [2, 3, 128] {
             lists.push(Wide { bits, postings })?;
         }
@@ -363,13 +363,13 @@ fn postings_of(alloc: Global, lists: &[Wide], list: usize) -> Result<Vec<Posting
         } else {
             number
         };
-        let mut posting = document.wrapping_mul(256);
+        let mut posting = document.wrapping_mul(PLACES);
         for before in &lists[..list] {
             if before.has(document) {
                 posting = posting.wrapping_add(1);
             }
         }
-        postings.push(Posting::try_from(posting)?)?;
+        postings.push(posting)?;
     }
     Ok(postings)
 }
@@ -384,17 +384,17 @@ fn fill(placer: &mut Placer, pen: &mut RecordingPen, empty: &Document, from: u64
     }
 }
 
-// Puts the numbers of the documents behind the first 2,009 that a list stands in.
+// Puts the numbers of the documents behind the first 2,011 that a list stands in.
 fn put_last(lists: &[Wide], numbers: &mut Vec<u64>) -> Result<(), Fail> {
     for list in lists {
-        if list.last() >= 2009 {
+        if list.last() >= 2011 {
             numbers.push(list.last())?;
         }
     }
     Ok(())
 }
 
-// An index of two segments whose first one has the lists, and from its document 2,001 on the eight narrow ones.
+// An index of two segments whose first one has the lists, and from its document 2,001 on the ten narrow ones.
 fn with_all_widths(alloc: Global, lists: &[Wide]) -> Result<RecordingPen, Fail>
     ensures { IfOk result (λ pen. (m : Moment) × IsRecord pen m) }
 {
@@ -407,7 +407,7 @@ fn with_all_widths(alloc: Global, lists: &[Wide]) -> Result<RecordingPen, Fail>
         let _ = added(&mut placer, &mut pen, &with_lists(alloc, lists, number)?);
         done = done.wrapping_add(1);
     }
-    for bits in 1..=8 {
+    for bits in 1..=10 {
         let _ = added(&mut placer, &mut pen, &narrow(alloc, bits)?);
         done = done.wrapping_add(1);
     }
@@ -437,10 +437,10 @@ fn packed_lists_are_walked_and_leapt_over(rt: HostRuntime) -> Result<(), Fail> {
         let is = is_packed::<Brand>(alloc, &mut pen, &term, postings.as_slice(), Blank::new(1))?;
         assert!(rt; is, "{list}");
     }
-    for bits in 1..=8u32 {
+    for bits in 1..=10u32 {
         let word = [b'n', b'0' + (bits % 10) as u8];
-        let first = (2000 + bits) * 256;
-        let postings = [first, first + 1u32.wrapping_shl(bits - 1)];
+        let first = u64::from(2000 + bits) * PLACES;
+        let postings = [first, first + 1u64.wrapping_shl(bits - 1)];
         let term = Term::new(alloc, &word)?;
         let is = is_packed::<Brand>(alloc, &mut pen, &term, &postings, Blank::new(1))?;
         assert!(rt; is, "{bits}");

@@ -8,7 +8,7 @@ use std::test::Fail;
 #[test]
 fn a_document_is_stored_word_by_word(rt: HostRuntime) -> Result<(), Fail> {
     let alloc = rt.alloc();
-    let config = Config::new(2, 1, 256)?;
+    let config = Config::new(2, 1, 1024)?;
     let first = document(alloc, 7, b"ab b ab")?;
     let second = document(alloc, 8, b"b")?;
     let mut pen = RecordingPen::new(alloc, config)?;
@@ -18,27 +18,27 @@ fn a_document_is_stored_word_by_word(rt: HostRuntime) -> Result<(), Fail> {
         pen.stores(),
         [
             (1, 1),
-            (1027, 2),
-            (1028, 25185),
-            (515, 0),
-            (36, 1),
-            (2052, 0),
-            (771, 1),
-            (1029, 1),
-            (1030, 98),
-            (516, 2),
+            (4099, 2),
+            (4100, 25185),
+            (2051, 0),
+            (1060, 1),
+            (8196, 0),
+            (3075, 1),
+            (4101, 1),
+            (4102, 98),
+            (2052, 2),
             (101, 2),
-            (2054, 1),
-            (772, 3),
-            (2053, 2),
-            (771, 2),
-            (2051, 7),
+            (8198, 1),
+            (3076, 3),
+            (8197, 2),
+            (3075, 2),
+            (8195, 7),
             (0, 1),
         ]
         .as_slice()
     );
     assert_eq!(rt; added(&mut placer, &mut pen, &second), Some(2));
-    assert_eq!(rt; pen.stores().get(17), Some(&(19716, 2)));
+    assert_eq!(rt; pen.stores().get(17), Some(&(78852, 2)));
     assert!(rt; !pen.has_lost());
     Ok(())
 }

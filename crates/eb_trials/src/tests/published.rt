@@ -56,7 +56,7 @@ fn is_answer(answer: Option<&Answer>, stores: u64, seen: usize, ids: &[u64]) -> 
 #[test]
 fn a_document_is_seen_with_its_last_store(rt: HostRuntime) -> Result<(), Fail> {
     let alloc = rt.alloc();
-    let config = Config::new(2, 1, 256)?;
+    let config = Config::new(2, 1, 1024)?;
     let first = document(alloc, 7, b"ab b ab")?;
     let second = document(alloc, 8, b"b")?;
     let mut pen = searched(alloc, config, b"b ab |2")?;
@@ -116,7 +116,7 @@ fn conversions(pen: &mut SearchingPen, calls: u32) -> u32
 #[test]
 fn answers_change_with_the_last_store_alone(rt: HostRuntime) -> Result<(), Fail> {
     let alloc = rt.alloc();
-    let config = Config::new(16, 7, 256)?;
+    let config = Config::new(16, 7, 1024)?;
     let documents = made(alloc, 110)?;
     let texts = small_queries(alloc)?;
     for text in texts.as_slice().iter().step_by(13) {

@@ -8,7 +8,7 @@ ghost use Rattle.eb_writer.specs.Progress.{Stands};
 use super::chains::open;
 use super::made::document;
 use eb_base::{Config, Document, Term};
-use eb_place::{Port, Steps};
+use eb_place::{PLACES, Port, Steps};
 use eb_table::{ConverterPort, ReaderPort, ReaderSeat, SharedWords, WriterPort, WriterSeat};
 use eb_writer::{Full, Placer};
 use std::marker::Brand;
@@ -77,10 +77,12 @@ fn walked<P: Port, L: Ledger>(port: &mut P, term: &Term, steps: &mut Steps<L>) -
             return if left == 0 { Some(count) } else { None };
         };
         if count == 0 {
-            count = (posting / 256).saturating_add(1);
+            count = u32::try_from(posting / PLACES)
+                .unwrap_or(0)
+                .saturating_add(1);
             left = count;
         }
-        if left == 0 || posting != (left - 1).saturating_mul(256) {
+        if left == 0 || posting != u64::from(left - 1).saturating_mul(PLACES) {
             return None;
         }
         left -= 1;
@@ -179,7 +181,7 @@ fn count_of<P: Port>(port: &mut P) -> u64
 #[test]
 fn a_reader_walks_beside_the_writer(rt: HostRuntime) -> Result<(), Fail> {
     let alloc = rt.alloc();
-    let config = Config::new(1, DOCUMENTS, 256)?;
+    let config = Config::new(1, DOCUMENTS, 1024)?;
     let Ok((words, mut writer, mut converter)) = SharedWords::open(alloc, config) else {
         return Err(Fail::new("no memory"));
     };

@@ -1,6 +1,37 @@
 use Rattle.earlybird.proofs.Benches.{figures_told, figures_mean, figures_end}
 use Rattle.earlybird.proofs.Runs.{ends_told, ends_mean, completes}
+use Rattle.eb_lines.proofs.Told as told
+use Rattle.eb_archive.proofs.LoadEnds.{load_completes, load_told, load_means}
+use Rattle.earlybird.proofs.Loads.{bad_told}
 use Rattle.earlybird.proofs.run.run.Goals as goal
+
+pub returns-clause-loaded : goal.returns-clause-loaded
+returns-clause-loaded g c = λ stats is σ docs rest before allowed lawful source sink.
+    load_told σ docs rest allowed lawful stats c.run_words-status.result _ _ _ _ (c.run_words-status.ensures.loaded stats is) source before sink
+
+pub returns-clause-loaded_means : goal.returns-clause-loaded_means
+returns-clause-loaded_means g c = λ stats is σ docs rest allowed lawful source.
+    load_means σ docs rest allowed lawful stats c.run_words-status.result _ _ _ _ (c.run_words-status.ensures.loaded stats is) source
+
+pub returns-clause-bad_image : goal.returns-clause-bad_image
+returns-clause-bad_image g c = λ stats is bad. bad_told stats c.run_words-status.result _ _ _ _ (c.run_words-status.ensures.loaded stats is) bad
+
+pub returns-clause-loaded_completes : goal.returns-clause-loaded_completes
+returns-clause-loaded_completes g c = λ stats is no_read no_write σ docs rest allowed lawful source short.
+    load_completes σ docs rest allowed lawful stats c.run_words-status.result _ _ _ _ _ _ (c.run_words-status.ensures.loaded stats is) c.run_words-status.ensures.read_fault
+    c.run_words-status.ensures.write_fault no_read no_write source short
+
+pub returns-clause-saved : goal.returns-clause-saved
+returns-clause-saved g c = λ σ is bytes before source sink.
+    told.ends_told _ _ _ _ c.run_words-status.result _ _ _ _ bytes (c.run_words-status.ensures.saved σ is) source before sink
+
+pub returns-clause-saved_means : goal.returns-clause-saved_means
+returns-clause-saved_means g c = λ σ is bytes source. told.ends_mean _ _ _ _ c.run_words-status.result _ _ _ _ bytes (c.run_words-status.ensures.saved σ is) source
+
+pub returns-clause-saved_completes : goal.returns-clause-saved_completes
+returns-clause-saved_completes g c = λ σ is no_read no_write bytes source short.
+    told.completes _ _ _ _ c.run_words-status.result _ _ _ _ _ _ bytes (c.run_words-status.ensures.saved σ is) c.run_words-status.ensures.read_fault
+    c.run_words-status.ensures.write_fault no_read no_write source short
 
 pub returns-clause-output : goal.returns-clause-output
 returns-clause-output g c = λ overlap stats σ is bytes before source sink. ends_told σ overlap stats c.run_words-status.result _ _ _ _ bytes before (c.run_words-status.ensures.ends overlap stats σ is) source sink

@@ -27,7 +27,7 @@ pour-spot-requires-clause-field c =
     let s = step_at xs i c.requires.falls c.loop-i.auto.i c.loop-i-test.true in
     let w = is_width xs c.requires.small in
     let b = below_at (2 ^ width_in xs) (differences xs) (i - 1) w.holds s.inside in
-    subst (λ k. c.from.result < 2 ^ k) (sym c.width_of-width.ensures) (subst (λ k. k < 2 ^ width_in xs) (s.is ∙ sym c.from.ensures) b)
+    subst (λ k. get_or xs (i - 1) 0 - get_or xs i 0 < 2 ^ k) (sym c.width_of-width.ensures) (subst (λ k. k < 2 ^ width_in xs) s.is b)
 
 pub pour-spot-requires-clause-narrow : goal.pour-spot-requires-clause-narrow
 pour-spot-requires-clause-narrow c =
@@ -54,7 +54,7 @@ loop-i-preserved c =
     let h = get_or xs 0 0 * 2 ^ 16 + w * 2 ^ 8 + length xs in
     let s = step_at xs i c.requires.falls c.loop-i.auto.i c.loop-i-test.true in
     let p = c.pour-spot.ensures h (take (i - 1) (differences xs)) c.loop-i.invariant in
-    subst (λ ds. Poured w h c.pour-spot.new.into c.pour-spot.result.at c.pour-spot.result.bits ds) (ap (λ d. take (i - 1) (differences xs) ++ d ∷ []) c.from.ensures ∙ sym s.before) p
+    subst (λ ds. Poured w h c.pour-spot.new.into c.pour-spot.result.at c.pour-spot.result.bits ds) (sym s.before) p
 
 pub close-requires : goal.close-requires
 close-requires c =

@@ -1,6 +1,6 @@
 use Rattle.std.proofs.Common.{◌≡◌, ℕ, suc, ◌-◌, ◌<◌, ◌^◌, get_or, subst, arith, inl, inr}
 use Rattle.std.proofs.lemmas.Bool.{cases_lt}
-use Rattle.eb_place.proofs.Falling.{falls_from, below_from}
+use Rattle.eb_place.proofs.Falling.{falls_from}
 use Rattle.eb_block.proofs.tests.is_packable.Goals as goal
 
 pub loop-i-init : goal.loop-i-init
@@ -21,5 +21,5 @@ returns c ok = record {
   some = grind (arith, c.if-is_empty.ensures);
   few = c.if-postings-gt-BLOCK_POSTINGS.false;
   falls = falls_from c.args.postings.now (λ k l. c.loop-i.invariant k (omega (arith, l, c.loop-i-test.false)));
-  small = below_from (2 ^ 32) c.args.postings.now (λ k l. (let z = c.type_inv.postings k in omega (arith, z)));
+  small = c.are_small.ensures c.if-not-are_small.false;
 }

@@ -1,14 +1,14 @@
 use Rattle.std.proofs.Common.{◌≡◌, ℕ, ◌+◌, ◌*◌, ◌-◌, ◌≤◌, List, length, Option, None, Some, ap, sym, subst, ◌∙◌, arith, rules, Bool, false, is_some, if◌then◌else◌, refl, [], ◌∷◌}
 use Rattle.std.proofs.lemmas.Bool.{false≢true}
-use Rattle.eb_base.specs.Query.{tree, word, phrase, negation, conjunction, size, sizes, IsFormed, AreFormed}
+use Rattle.eb_base.specs.Query.{Tree, tree, word, phrase, window, since, negation, conjunction, size, sizes, IsFormed, AreFormed}
 use Rattle.eb_base.specs.declared.query.Query.{Query}
 use Rattle.eb_place.specs.Postings.{places}
 use Rattle.eb_cursor.specs.Asked.{trees_in}
 use Rattle.eb_cursor.specs.Begun.{BegunLeaves, Begun}
 use Rattle.eb_cursor.proofs.Tellings.{told_itself, told_as, told_on}
 use Rattle.eb_cursor.proofs.Openings.{read_on}
-use Rattle.eb_cursor.proofs.Steps.{tree_Word, tree_Phrase, tree_Not, tree_And, front_of}
-use Rattle.eb_cursor.proofs.Begins.{begun_word, begun_phrase, begun_not, begun_and, each_ends, each_goes, some_none, some_goes, front_clear, back_clear}
+use Rattle.eb_cursor.proofs.Steps.{tree_Word, tree_Phrase, tree_Window, tree_Since, tree_Not, tree_And, front_of}
+use Rattle.eb_cursor.proofs.Begins.{begun_word, begun_phrase, begun_since, begun_not, begun_and, each_ends, each_goes, some_none, some_goes, front_clear, back_clear}
 use Rattle.eb_cursor.proofs.begin.+begin.Goals as goal
 
 none_of : (o : Option ℕ) → is_some o ≡ false → o ≡ None
@@ -31,9 +31,29 @@ begin-returns-in-Phrase g t c = λ docs same.
     let kept : length c.begin_leaves-all.new.cursors ≡ length c.args.cursors.now = c.begin_leaves-all.auto.cursors in
     let formed : 2 ≤ length ts = subst IsFormed i c.requires.formed in
     told_as g.met.P.Port.lawful (c.begin_leaves-all.ensures docs) (λ m a. a)
-    (λ m n w a begun. begun_phrase n docs (tree c.args.query.now) ts c.begin_leaves-all.new.cursors _ c.end_if-upto.result _ (places * length docs + 1 - length ts) c.begin_leaves-all.result i formed (omega (arith, few, c.requires.small.1)) (omega (arith, same, c.requires.small.0)) refl
+    (λ m n w a begun. begun_phrase n docs (tree c.args.query.now) ts c.begin_leaves-all.new.cursors _ c.end_if-upto.result _ _ (places * length docs + 1 - length ts) c.begin_leaves-all.result i formed (omega (arith, few, c.requires.small.1)) (omega (arith, same, c.requires.small.0)) refl
     (c.end_if-upto.ensures ∙ ap (λ (k : ℕ). if c.begin_leaves-all.result then k else 0) (omega (arith, same, c.from-end.ensures, c.len.ensures))) (kept ∙ few) a.first.narrow
     (subst (λ (z : List (List ℕ)). BegunLeaves docs z c.begin_leaves-all.new.cursors c.begin_leaves-all.result n) slice begun))
+
+pub begin-begin_window-requires : goal.begin-begin_window-requires
+begin-begin_window-requires g t c =
+    let ts : List (List ℕ) = c.in-Window.terms in
+    let i : tree c.args.query.now ≡ window ts c.in-Window.field-1 = ap tree c.in-Window.is ∙ tree_Window ts c.in-Window.field-1 in
+    let slice : length c.as_slice-in-Window.result.now ≡ length ts = ap length c.as_slice-in-Window.ensures in
+    let formed : IsFormed (window ts c.in-Window.field-1) = subst IsFormed i c.requires.formed in
+    let few : length c.args.cursors.now ≡ length ts = c.requires.fits ∙ ap size i in
+    record { some = omega (arith, slice, formed.0); fits = few ∙ sym slice; first = c.requires.first }
+
+pub begin-returns-in-Window : goal.begin-returns-in-Window
+begin-returns-in-Window g t c = λ docs same.
+    let i : tree c.args.query.now ≡ window c.as_slice-in-Window.result.now c.in-Window.field-1 = ap tree c.in-Window.is ∙ tree_Window c.in-Window.terms c.in-Window.field-1 ∙ ap (λ (z : List (List ℕ)). window z c.in-Window.field-1) (sym c.as_slice-in-Window.ensures) in
+    told_as g.met.P.Port.lawful (c.begin_window.ensures docs c.in-Window.field-1 same) (λ m a. a)
+    (λ m n w a begun. subst (λ (x : Tree). Begun docs x c.begin_window.new.cursors c.begin_window.result n) (sym i) begun)
+
+pub begin-returns-in-Since : goal.begin-returns-in-Since
+begin-returns-in-Since g t c = λ docs same.
+    let i : tree c.args.query.now ≡ since c.in-Since.field-0 = ap tree c.in-Since.is ∙ tree_Since c.in-Since.field-0 in
+    told_itself g.met.P.Port.keeps_itself (λ m a. begun_since m docs (tree c.args.query.now) c.in-Since.field-0 c.args.cursors.now c.begin_bound.new.cursor i (c.requires.fits ∙ ap size i) (c.begin_bound.ensures m docs c.in-Since.field-0 same a.first))
 
 pub begin-returns-in-Some-split_first_mut : goal.begin-returns-in-Some-split_first_mut
 begin-returns-in-Some-split_first_mut g t c = λ docs same.

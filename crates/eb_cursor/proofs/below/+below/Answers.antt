@@ -1,5 +1,5 @@
 use Rattle.std.proofs.Common.{◌≡◌, ◌≢◌, ℕ, zero, suc, ◌-◌, ◌<◌, ◌≤◌, List, [], ◌∷◌, length, not, Bool, arith, ap, ◌∙◌, sym, subst, refl, rules}
-use Rattle.eb_base.specs.Query.{Tree, tree, word, phrase, negation, conjunction, disjunction}
+use Rattle.eb_base.specs.Query.{Tree, tree, word, phrase, window, since, negation, conjunction, disjunction}
 use Rattle.eb_base.specs.declared.query.Query.{Query}
 use Rattle.eb_cursor.specs.Asked.{trees_in}
 use Rattle.eb_cursor.specs.Lists.{gives}
@@ -8,9 +8,9 @@ use Rattle.eb_cursor.specs.Tops.{top}
 use Rattle.eb_cursor.specs.Posted.{match_at}
 use Rattle.eb_cursor.proofs.Tops.{top_le}
 use Rattle.eb_cursor.proofs.Readies.{ready_lower, ready_later, all_lower, all_size}
-use Rattle.eb_cursor.proofs.Steps.{tree_Word, tree_Phrase, tree_Not, tree_And, tree_Or, not_asks, not_told, not_here, not_past, each_told, each_asks, led_none, led_here, led_there, led_top, round_end, round_step, some_end, some_step, some_asks, some_told, front_of, front_asks, others_ask, ended}
-use Rattle.eb_cursor.proofs.LoadsLeft.{loads_split}
-use Rattle.eb_cursor.proofs.Tellings.{IsLater, gives_later, told_itself, told_as, told_on}
+use Rattle.eb_cursor.proofs.Steps.{tree_Word, tree_Phrase, tree_Window, tree_Since, tree_Not, tree_And, tree_Or, not_asks, not_told, not_here, not_past, each_told, each_asks, led_none, led_here, led_there, led_top, round_end, round_step, round_behind, some_end, some_step, some_asks, some_told, front_of, front_asks, others_ask, ended}
+use Rattle.eb_cursor.proofs.LoadsLeft.{loads_split, loads_split_back}
+use Rattle.eb_cursor.proofs.Tellings.{IsLater, gives_later, later_same, told_itself, told_as, told_on}
 use Rattle.eb_cursor.proofs.below.+below.Goals as goal
 
 -- ---- each kind of query
@@ -31,6 +31,20 @@ below-returns-in-Phrase-clause-found g t c = λ docs last h.
     told_as g.met.P.Port.lawful (c.phrase_below.ensures.found docs c.in-Phrase.field-0 last h)
     (λ m r. subst (λ x. Ready (gives m) docs x c.args.cursors.now last) i r)
     (λ m n later r w. (w.0 ∙ ap (λ (x : Tree). top (match_at docs x) c.args.end) (sym i), subst (λ x. Ready (gives n) docs x c.phrase_below.new.cursors c.args.end) (sym i) w.1))
+
+pub below-returns-in-Window-clause-found : goal.below-returns-in-Window-clause-found
+below-returns-in-Window-clause-found g t c = λ docs last h.
+    let i : tree c.args.query.now ≡ window c.in-Window.field-0 c.in-Window.reach = ap tree c.in-Window.is ∙ tree_Window c.in-Window.field-0 c.in-Window.reach in
+    told_as g.met.P.Port.lawful (c.window_below.ensures.found docs c.in-Window.field-0 last h)
+    (λ m r. subst (λ x. Ready (gives m) docs x c.args.cursors.now last) i r)
+    (λ m n later r w. (w.0 ∙ ap (λ (x : Tree). top (match_at docs x) c.args.end) (sym i), subst (λ x. Ready (gives n) docs x c.window_below.new.cursors c.args.end) (sym i) w.1))
+
+pub below-returns-in-Since-clause-found : goal.below-returns-in-Since-clause-found
+below-returns-in-Since-clause-found g t c = λ docs last h.
+    let i : tree c.args.query.now ≡ since c.in-Since.bound = ap tree c.in-Since.is ∙ tree_Since c.in-Since.bound in
+    told_as g.met.P.Port.lawful (c.bound_below.ensures.found docs last h)
+    (λ m r. subst (λ x. Ready (gives m) docs x c.args.cursors.now last) i r)
+    (λ m n later r w. (w.0 ∙ ap (λ (x : Tree). top (match_at docs x) c.args.end) (sym i), subst (λ x. Ready (gives n) docs x c.bound_below.new.cursors c.args.end) (sym i) w.1))
 
 pub below-returns-in-Some-clause-found : goal.below-returns-in-Some-clause-found
 below-returns-in-Some-clause-found g t c = λ docs last h.
@@ -182,14 +196,14 @@ pub lead_below-lead_below-requires : goal.lead_below-lead_below-requires
 lead_below-lead_below-requires g t c = λ κs lv.
     let r = c.requires.ready in
     let e = front_of c.args.parts.now c.in-Some.part.now c.in-Some.others.now c.args.cursors.now c.split_at_mut-own.result.0.now c.split_at_mut-own.result.1.now c.size.result c.in-Some.ensures.cases.0 c.size.ensures c.split_at_mut-own.ensures.front c.split_at_mut-own.ensures.back in
-    let more = others_ask (gives r.0) (gives r.0) r.1 (trees_in c.args.parts.now) (tree c.in-Some.part.now) (trees_in c.in-Some.others.now) c.args.cursors.now c.split_at_mut-own.result.0.now c.split_at_mut-own.result.1.now r.2 r.2 e (λ l xs y. y) (omega arith) r.5 in
+    let more = others_ask (gives r.0) (gives r.0) r.1 (trees_in c.args.parts.now) (tree c.in-Some.part.now) (trees_in c.in-Some.others.now) c.args.cursors.now c.split_at_mut-own.result.0.now c.split_at_mut-own.result.1.now r.2 r.2 e (later_same (gives r.0)) (omega arith) r.5 in
     (search rules, (search rules, (search rules, (search rules, (r.0, r.1, r.2, r.3, r.4, more)))))
 
 pub lead_below-returns-clause-found : goal.lead_below-returns-clause-found
 lead_below-returns-clause-found g t c = λ docs last h.
     let e = front_of c.args.parts.now c.in-Some.part.now c.in-Some.others.now c.args.cursors.now c.split_at_mut-own.result.0.now c.split_at_mut-own.result.1.now c.size.result c.in-Some.ensures.cases.0 c.size.ensures c.split_at_mut-own.ensures.front c.split_at_mut-own.ensures.back in
     told_as g.met.P.Port.lawful (c.lead_below.ensures.found docs last h)
-    (λ m r. others_ask (gives m) (gives m) docs (trees_in c.args.parts.now) (tree c.in-Some.part.now) (trees_in c.in-Some.others.now) c.args.cursors.now c.split_at_mut-own.result.0.now c.split_at_mut-own.result.1.now last last e (λ l xs y. y) (omega arith) r)
+    (λ m r. others_ask (gives m) (gives m) docs (trees_in c.args.parts.now) (tree c.in-Some.part.now) (trees_in c.in-Some.others.now) c.args.cursors.now c.split_at_mut-own.result.0.now c.split_at_mut-own.result.1.now last last e (later_same (gives m)) (omega arith) r)
     (λ m n later r w. led_there (gives n) docs (trees_in c.args.parts.now) (tree c.in-Some.part.now) (trees_in c.in-Some.others.now) c.split_at_mut-own.result.0.now c.lead_below.new.cursors c.args.end last c.lead_below.result e.parts h
     (ready_later (gives m) (gives n) (gives_later m n later) docs (tree c.in-Some.part.now) c.split_at_mut-own.result.0.now last (front_asks (gives m) docs (trees_in c.args.parts.now) (tree c.in-Some.part.now) (trees_in c.in-Some.others.now) c.args.cursors.now c.split_at_mut-own.result.0.now c.split_at_mut-own.result.1.now last e r)) w)
 
@@ -246,6 +260,34 @@ round_below-returns-clause-found g t c = λ docs last h.
     (λ l m w k i. others_ask (gives l) (gives m) docs (trees_in c.args.parts.now) (tree c.in-Some.part.now) (trees_in c.in-Some.others.now) c.args.cursors.now c.split_at_mut-own.result.0.now c.split_at_mut-own.result.1.now c.args.end last e (gives_later l m w) h k)
     (λ l m n w1 w2 k i more. round_step (gives m) (gives n) docs (trees_in c.args.parts.now) (tree c.in-Some.part.now) (trees_in c.in-Some.others.now) c.below-found.new.cursors c.round_below.new.cursors c.args.end c.below-found.result c.round_below.result
     e.parts (gives_later m n w2) i.0 i.1 more)
+
+-- ---- a bound on the id is asked behind the parts that follow it
+
+pub round_below-below-requires : goal.round_below-below-requires
+round_below-below-requires g t c = λ κs lv.
+    let r = c.requires.ready in
+    let e = front_of c.args.parts.now c.in-Some.part.now c.in-Some.others.now c.args.cursors.now c.split_at_mut-own.result.0.now c.split_at_mut-own.result.1.now c.size.result c.in-Some.ensures.cases.0 c.size.ensures c.split_at_mut-own.ensures.front c.split_at_mut-own.ensures.back in
+    let more = others_ask (gives r.0) (gives r.0) r.1 (trees_in c.args.parts.now) (tree c.in-Some.part.now) (trees_in c.in-Some.others.now) c.args.cursors.now c.split_at_mut-own.result.0.now c.split_at_mut-own.result.1.now r.2 r.2 e (later_same (gives r.0)) (omega arith) r.5 in
+    let x = (c.round_below-found.ensures.found r.1 r.2 r.4).told r.0 r.3 more in
+    let w : IsLater r.0 x.0 = record { is = g.met.P.Port.lawful _ r.0 r.3; later = x.2 } in
+    let own = ready_later (gives r.0) (gives x.0) (gives_later r.0 x.0 w) r.1 (tree c.in-Some.part.now) c.split_at_mut-own.result.0.now r.2 (front_asks (gives r.0) r.1 (trees_in c.args.parts.now) (tree c.in-Some.part.now) (trees_in c.in-Some.others.now) c.args.cursors.now c.split_at_mut-own.result.0.now c.split_at_mut-own.result.1.now r.2 e r.5) in
+    (search rules, (search rules, (search rules, ((omega (arith, x.4.falls, c.requires.small.0), search rules), (x.0, r.1, r.2, x.1, omega (arith, x.4.falls, r.4), own)))))
+
+pub round_below-returns-then-is_bound-clause-found : goal.round_below-returns-then-is_bound-clause-found
+round_below-returns-then-is_bound-clause-found g t c = λ docs last h.
+    let r = c.requires.ready in
+    let e = front_of c.args.parts.now c.in-Some.part.now c.in-Some.others.now c.args.cursors.now c.split_at_mut-own.result.0.now c.split_at_mut-own.result.1.now c.size.result c.in-Some.ensures.cases.0 c.size.ensures c.split_at_mut-own.ensures.front c.split_at_mut-own.ensures.back in
+    let more = others_ask (gives r.0) (gives r.0) r.1 (trees_in c.args.parts.now) (tree c.in-Some.part.now) (trees_in c.in-Some.others.now) c.args.cursors.now c.split_at_mut-own.result.0.now c.split_at_mut-own.result.1.now r.2 r.2 e (later_same (gives r.0)) (omega arith) r.5 in
+    let x = (c.round_below-found.ensures.found r.1 r.2 r.4).told r.0 r.3 more in
+    let under : c.round_below-found.result ≤ last = omega (arith, x.4.falls, h) in
+    told_on g.met.P.Port.lawful g.met.P.Port.keeps_on (c.round_below-found.ensures.found docs last h) (c.below.ensures.found docs last under)
+    (λ l k. others_ask (gives l) (gives l) docs (trees_in c.args.parts.now) (tree c.in-Some.part.now) (trees_in c.in-Some.others.now) c.args.cursors.now c.split_at_mut-own.result.0.now c.split_at_mut-own.result.1.now last last e (later_same (gives l)) (omega arith) k)
+    (λ l m w k i. ready_later (gives l) (gives m) (gives_later l m w) docs (tree c.in-Some.part.now) c.split_at_mut-own.result.0.now last (front_asks (gives l) docs (trees_in c.args.parts.now) (tree c.in-Some.part.now) (trees_in c.in-Some.others.now) c.args.cursors.now c.split_at_mut-own.result.0.now c.split_at_mut-own.result.1.now last e k))
+    (λ l m n w1 w2 k i own. round_behind (gives m) (gives n) docs (trees_in c.args.parts.now) (tree c.in-Some.part.now) (trees_in c.in-Some.others.now) c.below.new.cursors c.round_below-found.new.cursors c.args.end c.round_below-found.result c.below.result e.parts (gives_later m n w2) i own.0 own.1)
+
+pub round_below-returns-then-is_bound-clause-loads : goal.round_below-returns-then-is_bound-clause-loads
+round_below-returns-then-is_bound-clause-loads g t c = loads_split_back c.args.cursors.now c.split_at_mut-own.result.0.now c.split_at_mut-own.result.1.now c.below.new.cursors c.round_below-found.new.cursors c.args.steps.now c.round_below-found.new.steps c.below.new.steps
+    c.split_at_mut-own.ensures.value c.round_below-found.ensures.loads c.below.ensures.loads
 
 -- ---- what some part matches
 

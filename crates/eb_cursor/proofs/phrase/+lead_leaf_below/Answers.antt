@@ -2,7 +2,7 @@ use Rattle.std.proofs.Common.{◌≡◌, ◌+◌, length, arith, rules}
 use Rattle.eb_cursor.specs.Lists.{gives}
 use Rattle.eb_cursor.specs.Posted.{is_posting}
 use Rattle.eb_cursor.proofs.Phrases.{run_asks, front_leaf, front_rest, led_run_none, led_run_here, led_run_there}
-use Rattle.eb_cursor.proofs.Tellings.{told_itself, gives_later, IsLater}
+use Rattle.eb_cursor.proofs.Tellings.{told_itself, gives_later, later_same, IsLater}
 use Rattle.eb_cursor.proofs.phrase.+lead_leaf_below.Goals as goal
 
 pub returns-in_default-clause-found : goal.returns-in_default-clause-found
@@ -32,7 +32,7 @@ returns-then-lead-eq0-clause-found g t c = λ docs ts last h. record {
 pub lead_leaf_below-requires : goal.lead_leaf_below-requires
 lead_leaf_below-requires g t c = λ κs lv. let r = c.requires.ready in
     let a = run_asks (gives r.0) r.1 r.2 c.args.cursors.now c.in-Some.own.now c.in-Some.rest.now (r.3 + c.args.at) c.in-Some.ensures.cases.0 r.6 in
-    let rest = front_rest (gives r.0) (gives r.0) (λ l xs y. y) r.1 r.2 c.in-Some.own.now c.in-Some.rest.now c.args.at r.3 a in
+    let rest = front_rest (gives r.0) (gives r.0) (later_same (gives r.0)) r.1 r.2 c.in-Some.own.now c.in-Some.rest.now c.args.at r.3 a in
     let len : length c.in-Some.rest.now + 1 ≡ length c.args.cursors.now = c.in-Some.ensures.cases.1 in
     (search rules, (search rules, (search rules, (omega (arith, c.requires.small), (r.0, r.1, a.1, r.3, r.4, r.5, rest)))))
 
@@ -40,7 +40,7 @@ pub returns-clause-found : goal.returns-clause-found
 returns-clause-found g t c = λ docs ts last h. record {
   told = λ m st r.
       let a = run_asks (gives m) docs ts c.args.cursors.now c.in-Some.own.now c.in-Some.rest.now (last + c.args.at) c.in-Some.ensures.cases.0 r in
-      let rest = front_rest (gives m) (gives m) (λ l xs y. y) docs ts c.in-Some.own.now c.in-Some.rest.now c.args.at last a in
+      let rest = front_rest (gives m) (gives m) (later_same (gives m)) docs ts c.in-Some.own.now c.in-Some.rest.now c.args.at last a in
       let y = (c.lead_leaf_below.ensures.found docs a.1 last h).told m st rest in
       let later : IsLater m y.0 = record { is = g.met.P.Port.lawful _ m st; later = y.2 } in (
         y.0,

@@ -5,8 +5,8 @@ use Rattle.eb_plain.proofs.scan.+matches.Given as goal
 
 abbrev pub invariant-each_matches-loop-part : goal.invariant-each_matches-loop-part
 invariant-each_matches-loop-part l =
-    each_matches (trees_of (map tree (drop l.part-index l.part-items))) l.terms ≡ each_matches (trees_of (parts_of l.parts)) l.terms
+    each_matches (trees_of (map tree (drop l.part-index l.part-items))) l.document ≡ each_matches (trees_of (parts_of l.parts)) l.document
 
 abbrev pub invariant-some_matches-loop-part : goal.invariant-some_matches-loop-part
 invariant-some_matches-loop-part l =
-    some_matches (trees_of (map tree (drop l.part-index l.part-items))) l.terms ≡ some_matches (trees_of (parts_of l.parts)) l.terms
+    some_matches (trees_of (map tree (drop l.part-index l.part-items))) l.document ≡ some_matches (trees_of (parts_of l.parts)) l.document

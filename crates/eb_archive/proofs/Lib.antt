@@ -1,0 +1,6 @@
+pub mod Admissions
+pub mod Savings
+pub mod Loadings
+pub mod Images
+pub mod Takings
+pub mod LoadEnds

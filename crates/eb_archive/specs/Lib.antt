@@ -1,0 +1,8 @@
+pub mod Behind
+pub mod Saved
+pub mod Saving
+pub mod SavingLaws
+pub mod Loaded
+pub mod Stores
+pub mod Loading
+pub mod Reading

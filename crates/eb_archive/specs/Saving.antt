@@ -1,0 +1,31 @@
+-- How far `save` has come between two lines.
+use Rattle.std.specs.Prelude.{◌≡◌, ℕ, ◌≤◌, List, [], ◌∷◌, ◌++◌, length}
+use Rattle.std.specs.List.{flat_map}
+use Rattle.eb_base.specs.Setting.{Setting}
+use Rattle.eb_image.specs.Image.{head_of, part_of}
+use Rattle.eb_io.specs.Lines.{Line}
+use Rattle.eb_lines.specs.Progress.{accepted, refusals}
+use Rattle.eb_lines.specs.Reading.{Reading}
+use Rattle.eb_table.specs.Known.{Words}
+use Rattle.eb_archive.specs.declared.saving.Saving.{Saving}
+use Rattle.eb_archive.specs.Saved.{ReadsToSave, AreReadToSave}
+
+-- these lines were taken, in an index of this setting, and the head and the parts of their documents were written: the
+-- history of the index's writer is these documents
+pub record HasSaved (s : Saving) (σ : Setting) (given : List Line) (so_far : List ℕ) : Type 0 where
+  pub words : Words
+  pub index : s.index ≡ words
+  pub setting : words.setting ≡ σ
+  pub writer : s.writer.index ≡ words
+  pub readings : List Reading
+  pub read : AreReadToSave σ given readings
+  pub documents : s.writer.docs ≡ accepted readings
+  pub number : s.number ≡ length given
+  pub refused : s.refused ≡ refusals readings
+  pub few : s.refused ≤ s.number
+  pub written : so_far ≡ head_of σ ++ flat_map part_of (accepted readings)
+
+-- a line of this reading was taken, and its part was put behind the text
+abbrev pub TakesLine : Saving → Saving → List ℕ → List ℕ → Reading → Type 0
+TakesLine old new text_old text_new r = (σ : Setting) (given : List Line) (so_far : List ℕ) (l : Line) → HasSaved old σ given so_far → ReadsToSave l r
+    → (part : List ℕ) × HasSaved new σ (given ++ l ∷ []) (so_far ++ part) × (text_new ≡ text_old ++ part)

@@ -1,0 +1,17 @@
+//! The programs `save` and `load` over the lines of an input: `save` writes the image of the documents that the lines add,
+//! and `load` reads one and works off the lines behind it. `specs/Saved.antt` and `specs/Loaded.antt` say what they write.
+#![tactic(auto)]
+
+mod image;
+mod load;
+mod load_program;
+mod loading;
+mod printing;
+mod save;
+mod saving;
+mod store;
+#[cfg(test)]
+mod tests;
+
+pub use load::load_lines;
+pub use save::save_lines;

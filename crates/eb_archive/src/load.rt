@@ -1,0 +1,85 @@
+ghost use Rattle.std.specs.Prelude.{◌≡◌, ◌<◌, ◌++◌, ℕ, List, Some, length};
+ghost use Rattle.eb_base.specs.Document.{Doc};
+ghost use Rattle.eb_base.specs.Setting.{Setting, IsSetting};
+ghost use Rattle.eb_image.specs.Image.{image_of};
+ghost use Rattle.eb_image.specs.Reading.{IsBad};
+ghost use Rattle.eb_io.specs.Faults.{HasRisen};
+ghost use Rattle.eb_io.specs.Lines.{longest_input};
+ghost use Rattle.eb_io.specs.Source.{after};
+ghost use Rattle.eb_lines.specs.Outcomes.{IsWorkedOff};
+ghost use Rattle.eb_place.specs.Room.{IsLawful};
+ghost use Rattle.eb_archive.specs.Loaded.{EndsLoad, IsImage, WroteLoaded, MeansLoaded};
+
+use crate::image::read_image;
+use crate::load_program::LoadProgram;
+use crate::loading::Loading;
+use eb_base::Gate;
+use eb_image::ImageFault;
+use eb_io::{Sink, Source};
+use eb_lines::{Status, pass_lines};
+use std::alloc::Global;
+
+/// Loads an image and works off the lines behind it, which come from the same source: reads the image, exactly its bytes,
+/// into an index of its setting, and then document lines and query lines in order; prints answers, refusals and the
+/// summary on `out`. Lines are numbered from 1. A query sees the documents of the image and those of the lines before it.
+/// With `stats` the line of the segments follows the summary.
+///
+/// `BadImage` says that what was read begins no image of documents that an index of its setting has room for, or that
+/// the source ended in it; then nothing was printed, as wherever the image wasn't read to its end. A source that gives
+/// few bytes a call is slow here. Takes the memory of the index at once.
+pub fn load_lines<S: Source, K: Sink, G: Gate>(
+    alloc: Global,
+    stats: bool,
+    source: &mut S,
+    out: &mut K,
+    gate: &G,
+) -> Status
+    // No image was read and nothing was printed; or an image was read, and the lines behind it as the status says.
+    ensures ends { EndsLoad stats result (S.left source.old) (S.left source.new) (K.taken out.old) (K.taken out.new) }
+    // What was read begins no image, and nothing was printed.
+    ensures bad_image { result ≡ Status.BadImage → (K.taken out.new ≡ K.taken out.old)
+        × ((taken : List ℕ) × (S.left source.old ≡ after taken (S.left source.new)) × IsBad IsImage taken (S.left source.new)) }
+    // Where the source tells an image and then lines, and `out` its bytes, `out` took what the status says of the lines.
+    ensures output { (σ : Setting) (docs : List Doc) (rest before : List ℕ) → IsSetting σ → IsLawful σ docs
+        → S.left source.old ≡ Some (image_of σ docs ++ rest) → K.taken out.old ≡ Some before
+        → (printed : List ℕ) × (K.taken out.new ≡ Some (before ++ printed))
+        × WroteLoaded (record { setting = σ; documents = docs; stats = stats }) result rest (S.left source.new) printed }
+    // What the status says of the lines holds whatever becomes of the output.
+    ensures means { (σ : Setting) (docs : List Doc) (rest : List ℕ) → IsSetting σ → IsLawful σ docs
+        → S.left source.old ≡ Some (image_of σ docs ++ rest)
+        → MeansLoaded (record { setting = σ; documents = docs; stats = stats }) result rest (S.left source.new) }
+    // Faults come only from outside.
+    ensures read_fault { result ≡ Status.ReadFault → HasRisen (S.faults source.old) (S.faults source.new) }
+    ensures write_fault { result ≡ Status.WriteFault → HasRisen (K.faults out.old) (K.faults out.new) }
+    // An image, and then lines with an end in time, are worked off where no fault comes.
+    ensures completes { (HasRisen (S.faults source.old) (S.faults source.new) → ⊥) → (HasRisen (K.faults out.old) (K.faults out.new) → ⊥)
+        → (σ : Setting) (docs : List Doc) (rest : List ℕ) → IsSetting σ → IsLawful σ docs → S.left source.old ≡ Some (image_of σ docs ++ rest)
+        → length rest < longest_input → IsWorkedOff result }
+{
+    pass_loaded(alloc, stats, source, out, gate)
+}
+
+fn pass_loaded<S: Source, K: Sink, G: Gate>(
+    alloc: Global,
+    stats: bool,
+    source: &mut S,
+    out: &mut K,
+    gate: &G,
+) -> Status
+    ensures ends { EndsLoad stats result (S.left source.old) (S.left source.new) (K.taken out.old) (K.taken out.new) }
+    ensures read_fault { result ≡ Status.ReadFault → HasRisen (S.faults source.old) (S.faults source.new) }
+    ensures write_fault { result ≡ Status.WriteFault → HasRisen (K.faults out.old) (K.faults out.new) }
+{
+    let store = match read_image(alloc, source, gate) {
+        Ok(store) => store,
+        Err(ImageFault::BadImage) => return Status::BadImage,
+        Err(ImageFault::ReadFault) => return Status::ReadFault,
+        Err(ImageFault::NoMemory) => return Status::NoMemory,
+    };
+    let mut program = LoadProgram {
+        alloc,
+        gate,
+        loading: Loading::new(store, stats),
+    };
+    pass_lines(alloc, &mut program, Vec::new(alloc), source, out)
+}

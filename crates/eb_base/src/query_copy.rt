@@ -1,0 +1,106 @@
+//! A query once more.
+ghost use Rattle.std.specs.Prelude.{◌≡◌, IfOk};
+ghost use Rattle.eb_base.specs.Query.{tree, parts_of};
+
+use crate::memory::NoMemory;
+use crate::query::{Queries, Query};
+use crate::terms::{Term, Terms};
+use std::alloc::Global;
+
+impl Query {
+    /// An equal query, with memory of its own. Takes memory.
+    pub fn copy(&self, alloc: Global) -> Result<Query, NoMemory>
+        ensures { IfOk result (λ copied. tree copied ≡ tree self.now) }
+    {
+        copy_query(alloc, self)
+    }
+}
+
+// A copy of the terms.
+fn copy_terms(alloc: Global, terms: &Terms) -> Result<Terms, NoMemory>
+    ensures { IfOk result (λ copied. copied ≡ terms.now) }
+{
+    let mut copied = Terms::new(alloc);
+    for at in 0..terms.len() {
+        copied.push(Term::new(alloc, terms.get(at).bytes())?)?;
+    }
+    Ok(copied)
+}
+
+// A copy of the query.
+#[cycle(copy)]
+fn copy_query(alloc: Global, query: &Query) -> Result<Query, NoMemory>
+    ensures { IfOk result (λ copied. tree copied ≡ tree query.now) }
+{
+    match query {
+        Query::Word(term) => Ok(Query::Word(Term::new(alloc, term.bytes())?)),
+        Query::Phrase(terms) => Ok(Query::Phrase(copy_terms(alloc, terms)?)),
+        Query::Window(terms, reach) => Ok(Query::Window(copy_terms(alloc, terms)?, *reach)),
+        Query::Since(id) => Ok(Query::Since(*id)),
+        Query::Not(part) => Ok(Query::Not(Box::new(alloc, copy_query(alloc, part)?)?)),
+        Query::And(parts) => Ok(Query::And(copy_parts(alloc, parts)?)),
+        Query::Or(parts) => Ok(Query::Or(copy_parts(alloc, parts)?)),
+    }
+}
+
+// A copy of the parts.
+#[cycle(copy)]
+fn copy_parts(alloc: Global, parts: &Queries) -> Result<Queries, NoMemory>
+    ensures { IfOk result (λ copied. parts_of copied ≡ parts_of parts.now) }
+{
+    let mut copied = Queries::new(alloc);
+    for part in parts.as_slice() {
+        copied.push(copy_query(alloc, part)?)?;
+    }
+    Ok(copied)
+}
+
+#[cfg(test)]
+mod tests {
+    use crate::query::{Queries, Query};
+    use crate::terms::{Term, Terms};
+    use std::alloc::Global;
+    use std::test::Fail;
+
+    // The phrase `x y`.
+    fn phrase(alloc: Global) -> Result<Query, Fail> {
+        let mut terms = Terms::new(alloc);
+        terms.push(Term::new(alloc, b"x")?)?;
+        terms.push(Term::new(alloc, b"y")?)?;
+        Ok(Query::Phrase(terms))
+    }
+
+    // The window `x y` of this reach.
+    fn window_of(alloc: Global, reach: u32) -> Result<Query, Fail> {
+        let mut terms = Terms::new(alloc);
+        terms.push(Term::new(alloc, b"x")?)?;
+        terms.push(Term::new(alloc, b"y")?)?;
+        Ok(Query::Window(terms, reach))
+    }
+
+    // The word `a`, and not the phrase.
+    fn word_without_phrase(alloc: Global) -> Result<Query, Fail> {
+        let mut parts = Queries::new(alloc);
+        parts.push(Query::Word(Term::new(alloc, b"a")?))?;
+        parts.push(Query::Not(Box::new(alloc, phrase(alloc)?)?))?;
+        Ok(Query::And(parts))
+    }
+
+    #[test]
+    fn a_copy_is_equal(rt: HostRuntime) -> Result<(), Fail> {
+        let alloc = rt.alloc();
+        let query = word_without_phrase(alloc)?;
+        let copied = query.copy(alloc)?;
+        assert!(rt; copied.is(&query));
+        assert!(rt; !copied.is(&phrase(alloc)?));
+        let window = window_of(alloc, 3)?;
+        assert!(rt; window.copy(alloc)?.is(&window));
+        for other in [window_of(alloc, 4)?, phrase(alloc)?, Query::Since(3)] {
+            assert!(rt; !window.is(&other));
+        }
+        let since = Query::Since(7);
+        assert!(rt; since.copy(alloc)?.is(&since));
+        assert!(rt; !since.is(&Query::Since(8)));
+        Ok(())
+    }
+}

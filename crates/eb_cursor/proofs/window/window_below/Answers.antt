@@ -1,0 +1,25 @@
+use Rattle.std.proofs.Common.{◌≡◌, ℕ, ◌≤◌, min, arith, ◌∙◌}
+use Rattle.eb_cursor.specs.Lists.{gives}
+use Rattle.eb_cursor.proofs.Windows.{window_asks, window_past, window_told}
+use Rattle.eb_cursor.proofs.Tellings.{told_itself, told_as}
+use Rattle.eb_cursor.proofs.window.window_below.Goals as goal
+
+pub returns-then-start-eq0-clause-found : goal.returns-then-start-eq0-clause-found
+returns-then-start-eq0-clause-found g c = λ docs ts last h. told_itself g.met.P.Port.keeps_itself (λ m r.
+    window_past (gives m) docs ts c.args.reach c.args.cursors.now _ c.min-start.result c.args.end last c.min-start.ensures c.if-start-eq0.true h r)
+
+pub windows_below-found-requires-clause-ready : goal.windows_below-found-requires-clause-ready
+windows_below-found-requires-clause-ready g c = let r = c.requires.ready in
+    let a = window_asks (gives r.0) r.1 r.2 c.args.reach c.args.cursors.now _ c.min-start.result c.args.end r.3 c.min-start.ensures c.if-start-eq0.false r.6 in
+    (r.0, r.1, r.2, _, r.4, a.0, a.1)
+
+window_up : (start a b : ℕ) → start ≡ min a b → start ≤ b
+window_up start a b e = omega arith
+
+pub returns-clause-found : goal.returns-clause-found
+returns-clause-found g c = λ docs ts last h. told_as g.met.P.Port.lawful (c.windows_below-found.ensures.found docs ts _ (window_up _ _ _ c.min-start.ensures))
+    (λ m r. (window_asks (gives m) docs ts c.args.reach c.args.cursors.now _ c.min-start.result c.args.end last c.min-start.ensures c.if-start-eq0.false r).1)
+    (λ m n later r w.
+    let told = window_told (gives m) (gives n) docs ts c.args.reach c.args.cursors.now c.windows_below-found.new.cursors _ _ c.min-start.result c.args.end last c.windows_below-found.result
+    c.min-start.ensures h c.windows_below-found.auto.cursors w r in
+    (c.to_document_end.ensures ∙ told.0, told.1))

@@ -1,0 +1,30 @@
+-- What a program over lines does between two of them.
+use Rattle.std.specs.Prelude.{◌≡◌, List, [], ◌∷◌, ◌++◌, ℕ, ◌+◌}
+use Rattle.eb_io.specs.Lines.{Line}
+
+-- the program was given some lines, and printed a text for some of the first of them
+abbrev pub IsRunning : {P A : Type 0} → (P → A → List Line → List ℕ → Type 0) → P → Type 0
+IsRunning {P} {A} has_run p = (a : A) × (given : List Line) × (so_far : List ℕ) × has_run p a given so_far
+
+-- the program worked off lines that it held, if any, and put what they print behind the text
+abbrev pub WorksOn : {P A : Type 0} → (P → A → List Line → List ℕ → Type 0) → P → P → List ℕ → List ℕ → Type 0
+WorksOn {P} {A} has_run old new text_old text_new = (a : A) (given : List Line) (so_far : List ℕ) → has_run old a given so_far
+    → (printed : List ℕ) × has_run new a given (so_far ++ printed) × (text_new ≡ text_old ++ printed)
+
+-- and this line was given more
+abbrev pub GoesOn : {P A : Type 0} → (P → A → List Line → List ℕ → Type 0) → P → P → List ℕ → List ℕ → Line → Type 0
+GoesOn {P} {A} has_run old new text_old text_new l = (a : A) (given : List Line) (so_far : List ℕ) → has_run old a given so_far
+    → (printed : List ℕ) × has_run new a (given ++ l ∷ []) (so_far ++ printed) × (text_new ≡ text_old ++ printed)
+
+-- what the program printed is what all lines that it was given print
+abbrev pub HasPrinted : {P A : Type 0} → (P → A → List Line → List ℕ → Type 0) → (A → List Line → List ℕ → Type 0) → P → Type 0
+HasPrinted {P} {A} has_run prints p = (a : A) (given : List Line) (so_far : List ℕ) → has_run p a given so_far → prints a given so_far
+
+-- the end of the input was put behind the text, and so many lines are refused
+pub record Finishes {P A : Type 0} (has_run : P → A → List Line → List ℕ → Type 0) (ends_with : A → List Line → List ℕ → Type 0) (refuses accepts : A → List Line → Type 0)
+    (old : P) (text_old text_new : List ℕ) (refused : ℕ) (a : A) (given : List Line) (so_far : List ℕ) : Type 0 where
+  pub printed : List ℕ
+  pub whole : ends_with a given (so_far ++ printed)
+  pub text : text_new ≡ text_old ++ printed
+  pub some : (n : ℕ) → refused ≡ n + 1 → refuses a given
+  pub none : refused ≡ 0 → accepts a given

@@ -1,0 +1,5 @@
+pub mod Admissions
+pub mod Histories
+pub mod Placings
+pub mod Closing
+pub mod Lines

@@ -1,0 +1,5 @@
+pub mod AcceptedInParts
+pub mod Texts
+pub mod Questions
+pub mod Stores
+pub mod LineRuns

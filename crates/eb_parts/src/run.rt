@@ -1,0 +1,79 @@
+ghost use Rattle.std.specs.Prelude.{◌≡◌, ◌<◌, ◌≤◌, ◌++◌, ℕ, List, Some, length};
+ghost use Rattle.eb_io.specs.Faults.{HasRisen};
+ghost use Rattle.eb_io.specs.Lines.{longest_input};
+ghost use Rattle.eb_lines.specs.Outcomes.{IsWorkedOff};
+ghost use Rattle.eb_lines.specs.Passing.{Ends};
+ghost use Rattle.eb_parts.specs.Texts.{Asked, IsBodyInParts, IsTextInParts, HasRefusalInParts, HasNoRefusalInParts, WroteInParts, MeansInParts};
+
+use crate::line_run::LineRun;
+use crate::parts_program::PartsProgram;
+use crate::store::Store;
+use eb_base::{Config, Gate};
+use eb_io::{Sink, Source};
+use eb_lines::{Status, pass_lines};
+use std::alloc::Global;
+
+/// Works off the lines that the source gives, in order, over so many parts, from 1 to 16, each an index of this setting:
+/// a document goes to the part that is the rest of its id by their number; prints answers, refusals and the summary on
+/// `out`. Lines are numbered from 1. A query sees all documents that were accepted before its line, and its answer is that
+/// of one history of them. With `stats` the line of the segments of all parts follows the summary.
+///
+/// A document line whose id isn't above that of the last accepted document is refused as `not rising`, and then one whose
+/// part has no room as `full`. Each answer is written before the source is asked for a line that it hasn't given yet. The
+/// gate is told of each search. Takes the memory of the parts at once.
+pub fn run_parts<S: Source, K: Sink, G: Gate>(
+    alloc: Global,
+    parts: u32,
+    stats: bool,
+    config: Config,
+    source: &mut S,
+    out: &mut K,
+    gate: &G,
+) -> Status
+    requires { (1 ≤ parts) × (parts ≤ 16) }
+    ensures ends { let a : Asked = record { parts = parts; setting = config; stats = stats } in
+        Ends (IsBodyInParts a) (IsTextInParts a) (HasRefusalInParts a) (HasNoRefusalInParts a) result
+        (S.left source.old) (S.left source.new) (K.taken out.old) (K.taken out.new) }
+    // Where source and `out` tell their bytes, `out` took what the status says of the input.
+    ensures output { (bytes before : List ℕ) → S.left source.old ≡ Some bytes → K.taken out.old ≡ Some before
+        → (printed : List ℕ) × (K.taken out.new ≡ Some (before ++ printed))
+        × WroteInParts (record { parts = parts; setting = config; stats = stats }) result bytes (S.left source.new) printed }
+    // What the status says of the input holds whatever becomes of the output.
+    ensures means { (bytes : List ℕ) → S.left source.old ≡ Some bytes
+        → MeansInParts (record { parts = parts; setting = config; stats = stats }) result bytes (S.left source.new) }
+    // Faults come only from outside.
+    ensures read_fault { result ≡ Status.ReadFault → HasRisen (S.faults source.old) (S.faults source.new) }
+    ensures write_fault { result ≡ Status.WriteFault → HasRisen (K.faults out.old) (K.faults out.new) }
+    // Without a fault and with an end in time, the input is worked off.
+    ensures completes { (HasRisen (S.faults source.old) (S.faults source.new) → ⊥) → (HasRisen (K.faults out.old) (K.faults out.new) → ⊥)
+        → (bytes : List ℕ) → S.left source.old ≡ Some bytes → length bytes < longest_input → IsWorkedOff result }
+{
+    pass_parts(alloc, parts, stats, config, source, out, gate)
+}
+
+fn pass_parts<S: Source, K: Sink, G: Gate>(
+    alloc: Global,
+    parts: u32,
+    stats: bool,
+    config: Config,
+    source: &mut S,
+    out: &mut K,
+    gate: &G,
+) -> Status
+    requires { (1 ≤ parts) × (parts ≤ 16) }
+    ensures ends { let a : Asked = record { parts = parts; setting = config; stats = stats } in
+        Ends (IsBodyInParts a) (IsTextInParts a) (HasRefusalInParts a) (HasNoRefusalInParts a) result
+        (S.left source.old) (S.left source.new) (K.taken out.old) (K.taken out.new) }
+    ensures read_fault { result ≡ Status.ReadFault → HasRisen (S.faults source.old) (S.faults source.new) }
+    ensures write_fault { result ≡ Status.WriteFault → HasRisen (K.faults out.old) (K.faults out.new) }
+{
+    let Ok(store) = Store::new(alloc, parts, config) else {
+        return Status::NoMemory;
+    };
+    let mut program = PartsProgram {
+        alloc,
+        gate,
+        run: LineRun::new(store, parts, stats),
+    };
+    pass_lines(alloc, &mut program, Vec::new(alloc), source, out)
+}

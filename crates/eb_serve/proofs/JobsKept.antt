@@ -1,0 +1,153 @@
+-- Each step keeps the rule of the jobs.
+use Rattle.std.proofs.Common.{◌+◌, ◌≡◌, ℕ, ◌⊎◌, inl, inr, ⊎_elim, List, [], ◌∷◌, ◌++◌, set, Bool, true, false, true≢false, refl, ap, sym, ◌∙◌, subst, arith}
+use Rattle.std.proofs.lemmas.List.Elements.{All-push, All-head, All-tail, All-nil}
+use mathlib.Core.Option.{some, some-injective}
+use lib.ListN.{get_elem?}
+use Rattle.crossbeam_queue.specs.Fifo.{Pushes, Pops, Forks}
+use Rattle.eb_table.specs.Known.{Words}
+use Rattle.eb_serve.specs.declared.job.Task.{Task}
+use Rattle.eb_serve.specs.declared.job.Task.TheVariants.{Job as a_job, Stop}
+use Rattle.eb_serve.specs.declared.rule.Pair.{Pair}
+use Rattle.eb_serve.specs.declared.rule.Hand.{Hand}
+use Rattle.eb_serve.specs.declared.rule.View.{View}
+use Rattle.eb_serve.specs.declared.rule.View.TheVariants.{Opening, At}
+use Rattle.eb_serve.specs.Jobs.{pair_of}
+use Rattle.eb_serve.specs.Rule.{idle, pairs_of, stops_of, weigh, hand_of, Balanced, IsTaker}
+use Rattle.eb_serve.specs.Rule.{IsMadeTask, IsOpening, JobsOf, KeepsJobs}
+use Rattle.eb_serve.specs.Steps.{put_in, taken_out, index_of_view, Moves, opened, IsTaken, MayPut}
+use Rattle.eb_serve.proofs.Weighing.{weigh_last, weigh_tasks_last, stops_last, stops_first, rising_last, total_zero}
+use Rattle.eb_serve.proofs.Moving.{alone_at, is_at, not_opening, seat_at, moved, joined, first_seats, moves_at}
+
+pub jobs_begin : KeepsJobs [] (Opening ∷ [])
+jobs_begin = inl (refl, refl)
+
+-- the rule at a pass of an index
+jobs_at : (items : List Task) (views : List View) (by : ℕ) (index : Words) (h : Hand) → KeepsJobs items views → get_elem? views by ≡ some (At index h)
+    → (b : JobsOf index items views) × IsTaker b.clerk by h
+jobs_at items views by index h keeps at =
+    ⊎_elim
+    (λ (o : IsOpening items views). absurd (not_opening items views by index h at o))
+    (λ (x : (d : Words) × JobsOf d items views).
+    let s = seat_at x.0 (IsTaker x.1.clerk) views by index h x.1.balanced.seated at in
+    (subst (λ (d : Words). (b : JobsOf d items views) × IsTaker b.clerk by h) s.0 (x.1, s.1)))
+    keeps
+
+put_kind : (clerk by : ℕ) (h : Hand) (x : Task) → IsTaker clerk by h → h.puts ≡ true → MayPut h x → IsTaker clerk by (put_in h x)
+put_kind clerk by h (a_job j) is puts may = record { puts = λ e. let o = is.puts e in (o.0, rising_last h.put (pair_of j) o.1 may); takes = λ e. absurd (true≢false (sym puts ∙ e)) }
+put_kind clerk by h Stop is puts may = record { puts = is.puts; takes = λ e. absurd (true≢false (sym puts ∙ e)) }
+
+put_pairs : (g : Pair → ℕ) (h : Hand) (x : Task) (items : List Task)
+    → (weigh g (put_in h x).put + weigh g h.taken) + weigh g (pairs_of items) ≡ (weigh g h.put + weigh g (put_in h x).taken) + weigh g (pairs_of (items ++ x ∷ []))
+put_pairs g h (a_job j) items = let a = weigh_last g h.put (pair_of j) in let b = weigh_tasks_last g items (a_job j) in omega (arith, a, b)
+put_pairs g h Stop items = let b = weigh_tasks_last g items Stop in omega (arith, b)
+
+put_stops : (h : Hand) (x : Task) (items : List Task)
+    → ((put_in h x).stops_put + h.stops_taken) + stops_of items ≡ (h.stops_put + (put_in h x).stops_taken) + stops_of (items ++ x ∷ [])
+put_stops h (a_job j) items = let b = stops_last items (a_job j) in omega (arith, b)
+put_stops h Stop items = let b = stops_last items Stop in omega (arith, b)
+
+taken_kind : (clerk by : ℕ) (h : Hand) (x : Task) → IsTaker clerk by h → IsTaker clerk by (taken_out h x)
+taken_kind clerk by h (a_job j) is = record { puts = is.puts; takes = is.takes }
+taken_kind clerk by h Stop is = record { puts = is.puts; takes = is.takes }
+
+taken_pairs : (g : Pair → ℕ) (h : Hand) (x : Task) (items : List Task)
+    → (weigh g (taken_out h x).put + weigh g h.taken) + weigh g (pairs_of (x ∷ items)) ≡ (weigh g h.put + weigh g (taken_out h x).taken) + weigh g (pairs_of items)
+taken_pairs g h (a_job j) items = let a = weigh_last g h.taken (pair_of j) in omega (arith, a)
+taken_pairs g h Stop items = omega arith
+
+taken_stops : (h : Hand) (x : Task) (items : List Task)
+    → ((taken_out h x).stops_put + h.stops_taken) + stops_of (x ∷ items) ≡ (h.stops_put + (taken_out h x).stops_taken) + stops_of items
+taken_stops h (a_job j) items = omega arith
+taken_stops h Stop items = omega arith
+
+-- where the clerk has put no stop, the queue has none
+no_stop : (index : Words) (clerk : ℕ) (ps : List Pair) (m : ℕ) (views : List View) (by : ℕ) (h : Hand) → Balanced index (IsTaker clerk) ps m views
+    → get_elem? views by ≡ some (At index h) → h.puts ≡ true → h.stops_put ≡ 0 → m ≡ 0
+no_stop index clerk ps m views by h b at puts none =
+    let mine = (seat_at index (IsTaker clerk) views by index h b.seated at).1.puts puts in
+    let zero' = total_zero (λ x. x.stops_put) views (λ j v e. let s = b.seated j v e in by_kind j v s.0 s.1 s.2 e s.0.puts refl) in
+    let o = b.stopped in
+    omega (arith, zero', o)
+  where
+    by_kind : (j : ℕ) (v : View) (k : Hand) → v ≡ At index k → IsTaker clerk j k → get_elem? views j ≡ some v → (c : Bool) → k.puts ≡ c → (hand_of v).stops_put ≡ 0
+    by_kind j v k is kind e true c =
+        let here : j ≡ by = (kind.puts c).0 ∙ sym ((seat_at index (IsTaker clerk) views by index h b.seated at).1.puts puts).0 in
+        let same : v ≡ At index h = some-injective v (At index h) (sym e ∙ (ap (λ (i : ℕ). get_elem? views i) here ∙ at)) in
+        ap (λ (u : View). (hand_of u).stops_put) same ∙ none
+    by_kind j v k is kind e false c = ap (λ (u : View). (hand_of u).stops_put) is ∙ (kind.takes c).1
+
+-- the queue of jobs: push, pop, split
+pub puts_task : (n by : ℕ) (v : View) (x : Task) (index : Words) (h : Hand) → v ≡ At index h → h.puts ≡ true → IsMadeTask index x → MayPut h x
+    → Pushes KeepsJobs n by v x (Moves v (λ k. put_in k x))
+puts_task n by v x index h is puts made may = subst (λ (u : View). Pushes KeepsJobs n by u x (Moves u (λ k. put_in k x))) (sym is) (λ items views room keeps at.
+    let r = jobs_at items views by index h keeps at in
+    let b = r.0 in (
+      At index (put_in h x),
+      inr (
+        index,
+        record {
+          clerk = b.clerk;
+          made = All-push (IsMadeTask index) items x b.made made;
+          balanced = moved index (IsTaker b.clerk) (pairs_of items) (pairs_of (items ++ x ∷ [])) (stops_of items) (stops_of (items ++ x ∷ []))
+              views by h (put_in h x) b.balanced at (put_kind b.clerk by h x r.1 puts may) (λ g. put_pairs g h x items) (put_stops h x items);
+        },
+      ),
+      moves_at (λ k. put_in k x) index h,
+    ))
+
+pub takes_task : (by : ℕ) (v : View) (index : Words) (h : Hand) → v ≡ At index h → Pops KeepsJobs by v (λ x w. Moves v (λ k. taken_out k x) w × IsTaken v x)
+takes_task by v index h is = subst (λ (u : View). Pops KeepsJobs by u (λ x w. Moves u (λ k. taken_out k x) w × IsTaken u x)) (sym is) (λ x items views keeps at.
+    let r = jobs_at (x ∷ items) views by index h keeps at in
+    let b = r.0 in (
+      At index (taken_out h x),
+      inr (
+        index,
+        record {
+          clerk = b.clerk;
+          made = All-tail (IsMadeTask index) x items b.made;
+          balanced = moved index (IsTaker b.clerk) (pairs_of (x ∷ items)) (pairs_of items) (stops_of (x ∷ items)) (stops_of items) views by h (taken_out h x) b.balanced at
+              (taken_kind b.clerk by h x r.1) (λ g. taken_pairs g h x items) (taken_stops h x items);
+        },
+      ),
+      (
+        moves_at (λ k. taken_out k x) index h,
+        λ d k e. subst (λ (u : View). IsMadeTask (index_of_view index u) x × ((hand_of u).puts ≡ true → (hand_of u).stops_put ≡ 0 → stops_of (x ∷ []) ≡ 0)) e (
+          All-head (IsMadeTask index) x items b.made,
+          λ puts none.
+              let z = no_stop index b.clerk (pairs_of (x ∷ items)) (stops_of (x ∷ items)) views by h b.balanced at puts none in
+              let s = stops_first x items in
+              omega (arith, z, s),
+        ),
+      ),
+    ))
+
+-- a split of the first pass, or of the clerk's
+pub splits_jobs : (by : ℕ) (v : View) (index : Words) → (v ≡ Opening) ⊎ ((h : Hand) × (v ≡ At index h)) → Forks KeepsJobs by v (At index (opened true v)) (At index (idle false))
+splits_jobs by v index is items views keeps at = ⊎_elim (λ (e : v ≡ Opening). at_first e) (λ (x : (h : Hand) × (v ≡ At index h)). later x.0 x.1) is
+  where
+    idle_taker : (clerk j : ℕ) → IsTaker clerk j (idle false)
+    idle_taker clerk j = record { puts = λ e. absurd (true≢false (sym e)); takes = λ e. (refl, refl) }
+
+    later : (h : Hand) → v ≡ At index h → KeepsJobs items (set views by (At index (opened true v)) ++ At index (idle false) ∷ [])
+    later h e =
+        let at' : get_elem? views by ≡ some (At index h) = at ∙ ap (λ (u : View). some u) e in
+        let r = jobs_at items views by index h keeps at' in
+        let b = r.0 in
+        let same = moved index (IsTaker b.clerk) (pairs_of items) (pairs_of items) (stops_of items) (stops_of items) views by h h b.balanced at' r.1
+        (λ g. omega arith) (omega arith) in
+        let more = joined index (IsTaker b.clerk) (pairs_of items) (stops_of items) (set views by (At index h)) false same (idle_taker b.clerk) in
+        subst (λ (u : View). KeepsJobs items (set views by (At index (opened true u)) ++ At index (idle false) ∷ [])) (sym e)
+        (inr (index, record { clerk = b.clerk; made = b.made; balanced = more }))
+
+    at_first : v ≡ Opening → KeepsJobs items (set views by (At index (opened true v)) ++ At index (idle false) ∷ [])
+    at_first e = ⊎_elim
+        (λ (o : IsOpening items views).
+        let here = alone_at Opening v by (ap (λ (l : List View). get_elem? l by) (sym o.1) ∙ at) in
+        let start = first_seats index (IsTaker 0) true (record { puts = λ _. (refl, tt); takes = λ e. absurd (true≢false e) }) in
+        let more = joined index (IsTaker 0) [] 0 (At index (idle true) ∷ []) false start (idle_taker 0) in
+        let all : JobsOf index [] (At index (idle true) ∷ At index (idle false) ∷ []) = record { clerk = 0; made = All-nil (IsMadeTask index); balanced = more } in
+        subst (λ (y : (List Task × List View) × (ℕ × View)). KeepsJobs y.0.0 (set y.0.1 y.1.0 (At index (opened true y.1.1)) ++ At index (idle false) ∷ []))
+        (λ i. ((sym o.0 i, sym o.1 i), (sym here.0 i, sym e i))) (inr (index, all)))
+        (λ (x : (d : Words) × JobsOf d items views).
+        let s = x.1.balanced.seated by v at in absurd (true≢false (ap is_at (sym s.1 ∙ e))))
+        keeps

@@ -1,0 +1,5 @@
+pub mod Jobs
+pub mod Rule
+pub mod Steps
+pub mod Desk
+pub mod Laws

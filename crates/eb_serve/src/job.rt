@@ -1,0 +1,146 @@
+//! Jobs and answers.
+ghost use Rattle.std.specs.Prelude.{◌≡◌, ◌≤◌, ◌<◌, length};
+ghost use mathlib.Core.List.{IsPrefix};
+ghost use Rattle.eb_base.specs.Match.{answer};
+ghost use Rattle.eb_cursor.specs.Frames.{query_of, k_of, ids_of};
+
+use eb_base::Gate;
+use eb_cursor::Frame;
+use eb_engine::{Index, Reader};
+use eb_place::Steps;
+use std::marker::Brand;
+use std::sync::ledger::{Blank, Ledger};
+
+/// A query that waits for its answer: a number, a frame with the query, and a reader of its own. It keeps how many
+/// documents its reader had seen when it was made.
+#[derive(Drop)]
+pub struct Job {
+    number: u64,
+    told: u64,
+    frame: Frame,
+    reader: Reader,
+    ghost knows: { told ≡ length reader.docs },
+}
+
+/// A query with its answer: the frame holds the ids of the newest `k` matches among the documents that the reader
+/// knows, and these are at least as many as the job's reader had seen.
+#[derive(Drop)]
+pub struct Answer {
+    number: u64,
+    told: u64,
+    frame: Frame,
+    reader: Reader,
+    ghost knows: { told ≤ length reader.docs },
+    ghost found: { ids_of frame ≡ answer (query_of frame) (k_of frame) reader.docs },
+}
+
+// What lies in the queue of jobs.
+#[derive(Drop)]
+pub(crate) enum Task {
+    Job(Job),
+    Stop,
+}
+
+fn search_with<G: Gate, L: Ledger>(
+    reader: &mut Reader,
+    index: &Index,
+    frame: &mut Frame,
+    gate: &G,
+    blank: Blank,
+)
+    requires blank { (blank.name ≡ L.name) × (blank.parts ≡ L.parts) × (0 < blank.parts) }
+    requires made { reader.old.index ≡ index.now }
+    ensures index { reader.new.index ≡ reader.old.index }
+    ensures known { IsPrefix reader.old.docs reader.new.docs }
+    ensures query { query_of frame.new ≡ query_of frame.old }
+    ensures k { k_of frame.new ≡ k_of frame.old }
+    ensures ids { ids_of frame.new ≡ answer (query_of frame.old) (k_of frame.old) reader.new.docs }
+{
+    let mut steps = Steps::<L>::new(blank);
+    reader.search(index, frame, gate, &mut steps);
+}
+
+impl Job {
+    ghost use Rattle.eb_serve.specs.Jobs.{pair, pair_of, asking, asker, answer_pair, answering, answerer};
+
+    /// A job of this number. It keeps how many documents the reader has seen, as its `told`. Takes no memory.
+    pub fn new(number: u64, frame: Frame, reader: Reader) -> Job
+        ensures pair { pair_of result ≡ pair number (length reader.docs) }
+        ensures frame { asking result ≡ frame }
+        ensures reader { asker result ≡ reader }
+    {
+        let told = reader.seen();
+        Job {
+            number,
+            told,
+            frame,
+            reader,
+        }
+    }
+
+    // The job's answer.
+    pub(crate) fn answered<G: Gate>(self, index: &Index, gate: &G) -> Answer
+        requires { (asker self).index ≡ index.now }
+        ensures made { (answerer result).index ≡ index.now }
+        ensures known { IsPrefix (asker self).docs (answerer result).docs }
+        ensures pair { answer_pair result ≡ pair_of self }
+        ensures query { query_of (answering result) ≡ query_of (asking self) }
+        ensures k { k_of (answering result) ≡ k_of (asking self) }
+    {
+        let Job {
+            number,
+            told,
+            mut frame,
+            mut reader,
+        } = self;
+        search_with::<G, Brand>(&mut reader, index, &mut frame, gate, Blank::new(1));
+        Answer {
+            number,
+            told,
+            frame,
+            reader,
+        }
+    }
+}
+
+impl Answer {
+    ghost use Rattle.eb_serve.specs.Jobs.{answer_pair, answering, answerer};
+
+    /// The job's number.
+    pub fn number(&self) -> u64
+        ensures { result ≡ (answer_pair self.now).number }
+    {
+        self.number
+    }
+
+    /// How many documents the job's reader had seen when the job was made.
+    pub fn told(&self) -> u64
+        ensures { result ≡ (answer_pair self.now).told }
+    {
+        self.told
+    }
+
+    /// The frame, with the query and the ids.
+    pub fn frame(&self) -> &Frame
+        ensures { result.now ≡ answering self.now }
+    {
+        &self.frame
+    }
+
+    /// The frame and the reader: its ids are those of the newest `k` matches among the documents that the reader knows,
+    /// which are at least as many as the job's reader had seen.
+    pub fn finish(self) -> (Frame, Reader)
+        ensures frame { result.0 ≡ answering self }
+        ensures reader { result.1 ≡ answerer self }
+        ensures ids { ids_of result.0 ≡ answer (query_of result.0) (k_of result.0) result.1.docs }
+        ensures told { (answer_pair self).told ≤ length result.1.docs }
+    {
+        let Answer {
+            number: _,
+            told: _,
+            frame,
+            reader,
+        } = self;
+        (frame, reader)
+    }
+}
