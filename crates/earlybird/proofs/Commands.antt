@@ -1,74 +1,107 @@
--- The words ask for no made input that is longer than the grammar allows.
+-- The words ask for nothing out of range.
 use Rattle.std.proofs.Common.{◌≡◌, ℕ, ◌≤◌, List, [], ◌∷◌, Option, None, Some, refl, sym, ap, subst, ◌∙◌, arith}
-use Rattle.std.specs.Prelude.{◌&&◌, Bool, true, false, codes, nat_le, if◌then◌else◌, option_map, option_and_then}
+use Rattle.std.specs.Prelude.{◌&&◌, ◌*◌, ◌^◌, Bool, true, false, codes, nat_le, if◌then◌else◌, option_map, option_and_then}
 use Rattle.std.specs.Str.{bytes_eq}
 use Rattle.std.proofs.lemmas.Bool.{and_parts, leb-true}
-use Rattle.eb_base.specs.Setting.{Setting}
+use Rattle.eb_base.specs.Setting.{Setting, words_of}
 use Rattle.eb_options.specs.Numbers.{number}
-use Rattle.eb_options.specs.Items.{Items, has, items_of}
+use Rattle.eb_options.specs.Items.{Items, has, items_of, number_of}
 use Rattle.eb_options.specs.Settings.{setting_of, setting_options}
 use Rattle.earlybird.specs.declared.command.Command.{Command}
-use Rattle.earlybird.specs.declared.command.Command.TheVariants.{Run, Bench, Save, Load}
-use Rattle.earlybird.specs.Command.{run_flags, run_with, run_of, bench_docs, bench_of, save_with, save_of, load_with, load_of, command_of, AsksBench}
+use Rattle.earlybird.specs.declared.command.Command.TheVariants.{Run, RunWorkers, RunParts, Bench, Save, Load}
+use Rattle.earlybird.specs.Command.{run_flags, run_options, is_few, with_workers, over_parts, run_by, run_with, run_of, bench_docs, bench_of, save_with, save_of, load_with, load_of, command_of}
 
--- how many documents the made input has that is asked for
-abbrev docs_in : Option Command → ℕ
-docs_in None = 0
-docs_in (Some (Run overlap stats σ)) = 0
-docs_in (Some (Bench start docs)) = docs
-docs_in (Some (Save σ)) = 0
-docs_in (Some (Load stats)) = 0
+-- what is asked for is in range: a made input of at most 40,000 documents, 1 to 16 workers, 1 to 16 parts
+abbrev IsInRange : Option Command → Type 0
+IsInRange None = Unit {0}
+IsInRange (Some (Run overlap stats σ)) = Unit {0}
+IsInRange (Some (RunWorkers n stats σ)) = (1 ≤ n) × (n ≤ 16)
+IsInRange (Some (RunParts n stats σ)) = (1 ≤ n) × (n ≤ 16)
+IsInRange (Some (Bench start docs)) = docs ≤ 40000
+IsInRange (Some (Save σ)) = Unit {0}
+IsInRange (Some (Load stats)) = Unit {0}
 
-none_few : 0 ≤ 40000
-none_few = omega arith
+mapped : {A : Type 0} (f : A → Command) → ((x : A) → IsInRange (Some (f x))) → (o : Option A) → IsInRange (option_map f o)
+mapped f h None = tt
+mapped f h (Some x) = h x
 
-few_mapped : {A : Type 0} (f : A → Command) → ((x : A) → docs_in (Some (f x)) ≤ 40000) → (o : Option A) → docs_in (option_map f o) ≤ 40000
-few_mapped f h None = none_few
-few_mapped f h (Some x) = h x
+then_in : {A : Type 0} (f : A → Option Command) → ((x : A) → IsInRange (f x)) → (o : Option A) → IsInRange (option_and_then f o)
+then_in f h None = tt
+then_in f h (Some x) = h x
 
-few_then : {A : Type 0} (f : A → Option Command) → ((x : A) → docs_in (f x) ≤ 40000) → (o : Option A) → docs_in (option_and_then f o) ≤ 40000
-few_then f h None = none_few
-few_then f h (Some x) = h x
+either_in : (b : Bool) (x y : Option Command) → IsInRange x → IsInRange y → IsInRange (if b then x else y)
+either_in true x y h k = h
+either_in false x y h k = k
 
-few_either : (b : Bool) (x y : Option Command) → docs_in x ≤ 40000 → docs_in y ≤ 40000 → docs_in (if b then x else y) ≤ 40000
-few_either true x y h k = h
-few_either false x y h k = k
+-- only where a test holds
+where_in : (b : Bool) (c : Command) → (b ≡ true → IsInRange (Some c)) → IsInRange (if b then Some c else None)
+where_in true c h = h refl
+where_in false c h = tt
 
-few_run : (words : List (List ℕ)) → docs_in (run_of words) ≤ 40000
-few_run words =
-    few_then run_with (λ items. few_mapped (λ (σ : Setting). Run (has (codes "overlap") items) (has (codes "stats") items) σ) (λ σ. none_few) (setting_of items))
-    (items_of run_flags setting_options words)
+few_is : (n : ℕ) → is_few n ≡ true → (1 ≤ n) × (n ≤ 16)
+few_is n e = let p = and_parts (nat_le 1 n) (nat_le n 16) e in (leb-true 1 n p.0, leb-true n 16 p.1)
 
-few_save : (words : List (List ℕ)) → docs_in (save_of words) ≤ 40000
-few_save words = few_then save_with (λ items. few_mapped (λ (σ : Setting). Save σ) (λ σ. none_few) (setting_of items)) (items_of [] setting_options words)
+workers_in : (n : ℕ) (stats : Bool) (σ : Setting) → IsInRange (with_workers n stats σ)
+workers_in n stats σ = where_in (is_few n) (RunWorkers n stats σ) (few_is n)
 
-few_load : (words : List (List ℕ)) → docs_in (load_of words) ≤ 40000
-few_load words = few_mapped load_with (λ items. none_few) (items_of (codes "stats" ∷ []) [] words)
+parts_in : (n : ℕ) (stats : Bool) (σ : Setting) → IsInRange (over_parts n stats σ)
+parts_in n stats σ = where_in (is_few n && nat_le (n * words_of σ) (2 ^ 27)) (RunParts n stats σ) (λ e. few_is n (and_parts (is_few n) (nat_le (n * words_of σ) (2 ^ 27)) e).0)
 
-few_where : (start n : ℕ) (b : Bool) → (b ≡ true → n ≤ 40000) → docs_in (option_map (λ count. Bench start count) (if b then Some n else None)) ≤ 40000
-few_where start n true h = h refl
-few_where start n false h = none_few
+by_in : (overlap : Bool) (workers parts : Option ℕ) (stats : Bool) (σ : Setting) → IsInRange (run_by overlap workers parts stats σ)
+by_in true None None stats σ = tt
+by_in false None None stats σ = tt
+by_in false (Some n) None stats σ = workers_in n stats σ
+by_in false None (Some n) stats σ = parts_in n stats σ
+by_in false (Some n) (Some p) stats σ = tt
+by_in true (Some n) parts stats σ = tt
+by_in true None (Some p) stats σ = tt
 
-few_number : (start : ℕ) (o : Option ℕ)
-    → docs_in (option_map (λ count. Bench start count) (option_and_then (λ (n : ℕ). if nat_le 1 n && nat_le n 40000 then Some n else None) o)) ≤ 40000
-few_number start None = none_few
-few_number start (Some n) = few_where start n (nat_le 1 n && nat_le n 40000) (λ e. leb-true n 40000 (and_parts (nat_le 1 n) (nat_le n 40000) e).1)
+run_in : (words : List (List ℕ)) → IsInRange (run_of words)
+run_in words =
+    then_in run_with (λ items. then_in (λ σ. run_by (has (codes "overlap") items) (number_of (codes "workers") items) (number_of (codes "parts") items) (has (codes "stats") items) σ)
+    (λ σ. by_in (has (codes "overlap") items) (number_of (codes "workers") items) (number_of (codes "parts") items) (has (codes "stats") items) σ) (setting_of items))
+    (items_of run_flags run_options words)
 
-few_bench : (words : List (List ℕ)) → docs_in (bench_of words) ≤ 40000
-few_bench [] = none_few
-few_bench (start ∷ []) = none_few
-few_bench (start ∷ docs ∷ []) =
-    few_then (λ first. option_map (λ count. Bench first count) (bench_docs docs)) (λ first. few_number first (number 9 docs)) (number 20 start)
-few_bench (start ∷ docs ∷ more ∷ words) = none_few
+save_in : (words : List (List ℕ)) → IsInRange (save_of words)
+save_in words = then_in save_with (λ items. mapped (λ (σ : Setting). Save σ) (λ σ. tt) (setting_of items)) (items_of [] setting_options words)
 
-few_asked : (words : List (List ℕ)) → docs_in (command_of words) ≤ 40000
-few_asked [] = none_few
-few_asked (name ∷ words) =
-    few_either (bytes_eq name (codes "run")) _ _ (few_run words)
-    (few_either (bytes_eq name (codes "bench")) _ _ (few_bench words)
-    (few_either (bytes_eq name (codes "save")) _ _ (few_save words)
-    (few_either (bytes_eq name (codes "load")) _ _ (few_load words) (none_few))))
+load_in : (words : List (List ℕ)) → IsInRange (load_of words)
+load_in words = mapped load_with (λ items. tt) (items_of (codes "stats" ∷ []) [] words)
+
+counted_in : (start n : ℕ) (b : Bool) → (b ≡ true → n ≤ 40000) → IsInRange (option_map (λ count. Bench start count) (if b then Some n else None))
+counted_in start n true h = h refl
+counted_in start n false h = tt
+
+number_in : (start : ℕ) (o : Option ℕ)
+    → IsInRange (option_map (λ count. Bench start count) (option_and_then (λ (n : ℕ). if nat_le 1 n && nat_le n 40000 then Some n else None) o))
+number_in start None = tt
+number_in start (Some n) = counted_in start n (nat_le 1 n && nat_le n 40000) (λ e. leb-true n 40000 (and_parts (nat_le 1 n) (nat_le n 40000) e).1)
+
+bench_in : (words : List (List ℕ)) → IsInRange (bench_of words)
+bench_in [] = tt
+bench_in (start ∷ []) = tt
+bench_in (start ∷ docs ∷ []) =
+    then_in (λ first. option_map (λ count. Bench first count) (bench_docs docs)) (λ first. number_in first (number 9 docs)) (number 20 start)
+bench_in (start ∷ docs ∷ more ∷ words) = tt
+
+asked_in : (words : List (List ℕ)) → IsInRange (command_of words)
+asked_in [] = tt
+asked_in (name ∷ words) =
+    either_in (bytes_eq name (codes "run")) _ _ (run_in words)
+    (either_in (bytes_eq name (codes "bench")) _ _ (bench_in words)
+    (either_in (bytes_eq name (codes "save")) _ _ (save_in words)
+    (either_in (bytes_eq name (codes "load")) _ _ (load_in words) tt)))
+
+in_range : (words : List (List ℕ)) (c : Command) → command_of words ≡ Some c → IsInRange (Some c)
+in_range words c e = subst IsInRange e (asked_in words)
 
 -- a made input that is asked for has at most 40,000 documents
 pub few_made : (words : List (List ℕ)) (start docs : ℕ) → command_of words ≡ Some (Bench start docs) → docs ≤ 40000
-few_made words start docs e = subst (λ (n : ℕ). n ≤ 40000) (ap docs_in e) (few_asked words)
+few_made words start docs e = in_range words (Bench start docs) e
+
+-- workers and parts that are asked for are 1 to 16
+pub few_workers : (words : List (List ℕ)) (n : ℕ) (stats : Bool) (σ : Setting) → command_of words ≡ Some (RunWorkers n stats σ) → (1 ≤ n) × (n ≤ 16)
+few_workers words n stats σ e = in_range words (RunWorkers n stats σ) e
+
+pub few_parts : (words : List (List ℕ)) (n : ℕ) (stats : Bool) (σ : Setting) → command_of words ≡ Some (RunParts n stats σ) → (1 ≤ n) × (n ≤ 16)
+few_parts words n stats σ e = in_range words (RunParts n stats σ) e

@@ -1,26 +1,51 @@
 -- What the words of a command line ask; they are without the program's name.
-use Rattle.std.specs.Prelude.{◌≡◌, ℕ, ◌&&◌, Bool, List, [], ◌∷◌, codes, nat_le, Option, Some, None, if◌then◌else◌, option_map, option_and_then}
+use Rattle.std.specs.Prelude.{◌≡◌, ℕ, ◌*◌, ◌^◌, ◌&&◌, Bool, true, false, List, [], ◌∷◌, codes, nat_le, Option, Some, None, if◌then◌else◌, option_map, option_and_then}
 use Rattle.std.specs.Str.{bytes_eq}
-use Rattle.eb_base.specs.Setting.{Setting}
+use Rattle.eb_base.specs.Setting.{Setting, words_of}
 use Rattle.eb_options.specs.Numbers.{number}
-use Rattle.eb_options.specs.Items.{Items, has, items_of}
+use Rattle.eb_options.specs.Items.{Items, has, items_of, number_of}
 use Rattle.eb_options.specs.Settings.{setting_of, setting_options}
 use Rattle.earlybird.specs.declared.command.Command.{Command}
-use Rattle.earlybird.specs.declared.command.Command.TheVariants.{Run, Bench, Save, Load}
+use Rattle.earlybird.specs.declared.command.Command.TheVariants.{Run, RunWorkers, RunParts, Bench, Save, Load}
 
 -- ---- `run`
 
--- its flags
+-- its flags and its options
 abbrev pub run_flags : List (List ℕ)
 run_flags = codes "overlap" ∷ codes "stats" ∷ []
 
+abbrev pub run_options : List (List ℕ)
+run_options = codes "workers" ∷ codes "parts" ∷ setting_options
+
+-- 1 to 16
+abbrev pub is_few : ℕ → Bool
+is_few n = nat_le 1 n && nat_le n 16
+
+-- to run with so many workers
+abbrev pub with_workers : ℕ → Bool → Setting → Option Command
+with_workers n stats σ = if is_few n then Some (RunWorkers n stats σ) else None
+
+-- to run over so many parts, which together have at most as many words as an index may have
+abbrev pub over_parts : ℕ → Bool → Setting → Option Command
+over_parts n stats σ = if is_few n && nat_le (n * words_of σ) (2 ^ 27) then Some (RunParts n stats σ) else None
+
+-- at most one of overlap, workers and parts
+abbrev pub run_by : Bool → Option ℕ → Option ℕ → Bool → Setting → Option Command
+run_by overlap None None stats σ = Some (Run overlap stats σ)
+run_by false (Some n) None stats σ = with_workers n stats σ
+run_by false None (Some n) stats σ = over_parts n stats σ
+run_by false (Some n) (Some p) stats σ = None
+run_by true (Some n) parts stats σ = None
+run_by true None (Some p) stats σ = None
+
 -- what the items behind `run` ask for
 abbrev pub run_with : Items → Option Command
-run_with items = option_map (λ σ. Run (has (codes "overlap") items) (has (codes "stats") items) σ) (setting_of items)
+run_with items = option_and_then (λ σ. run_by (has (codes "overlap") items) (number_of (codes "workers") items) (number_of (codes "parts") items)
+    (has (codes "stats") items) σ) (setting_of items)
 
--- what the words behind `run` ask for: its flags and the options of a setting, in any order, each at most once
+-- what the words behind `run` ask for: its flags and options, in any order, each at most once
 abbrev pub run_of : List (List ℕ) → Option Command
-run_of words = option_and_then run_with (items_of run_flags setting_options words)
+run_of words = option_and_then run_with (items_of run_flags run_options words)
 
 -- ---- `bench`
 
@@ -65,6 +90,13 @@ command_of (name ∷ words) =
 -- the words ask to run with an index of this setting, with or without overlap, and with or without figures
 abbrev pub AsksRun : List (List ℕ) → Bool → Bool → Setting → Type 0
 AsksRun words overlap stats σ = command_of words ≡ Some (Run overlap stats σ)
+
+-- to run with so many workers, or over so many parts with an index of this setting each
+abbrev pub AsksWorkers : List (List ℕ) → ℕ → Bool → Setting → Type 0
+AsksWorkers words n stats σ = command_of words ≡ Some (RunWorkers n stats σ)
+
+abbrev pub AsksParts : List (List ℕ) → ℕ → Bool → Setting → Type 0
+AsksParts words n stats σ = command_of words ≡ Some (RunParts n stats σ)
 
 -- the words ask to work off a made input
 abbrev pub AsksBench : List (List ℕ) → ℕ → ℕ → Type 0

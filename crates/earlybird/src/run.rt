@@ -3,7 +3,9 @@ ghost use Rattle.eb_io.specs.Faults.{HasRisen};
 ghost use Rattle.eb_io.specs.Held.{Held};
 ghost use Rattle.eb_io.specs.Sink.{grown};
 ghost use Rattle.eb_base.specs.Setting.{Setting};
-ghost use Rattle.earlybird.specs.Command.{command_of, AsksRun, AsksBench, AsksSave, AsksLoad};
+ghost use Rattle.earlybird.specs.Command.{command_of, AsksRun, AsksWorkers, AsksParts, AsksBench, AsksSave, AsksLoad};
+ghost use Rattle.eb_workers.specs.Output.{asked, IsWorkersBody, IsWorkersText, HasRefusal, HasNoRefusal, WroteWorkers, MeansWorkers};
+ghost use Rattle.eb_parts.specs.Texts.{Asked as AskedParts, IsBodyInParts, IsTextInParts, HasRefusalInParts, HasNoRefusalInParts, WroteInParts, MeansInParts};
 ghost use Rattle.eb_archive.specs.Loaded.{EndsLoad, IsImage, WroteLoaded, MeansLoaded};
 ghost use Rattle.eb_image.specs.Reading.{IsBad};
 ghost use Rattle.eb_io.specs.Source.{after};
@@ -30,12 +32,17 @@ use eb_archive::{load_lines, save_lines};
 use eb_base::{Config, Gate, NoMemory};
 use eb_io::{Lines, Next, Sink, SinkFailed, Source, write_all};
 use eb_lines::{MAX_INPUT, Status, write_gathered, write_much};
+use eb_parts::run_parts;
+use eb_workers::run_workers;
 use std::alloc::Global;
+use std::sync::Wait;
 use std::thread::Threads;
 
 /// Runs the command that the words ask for: `run` reads document lines and query lines from the
 /// source and prints answers and refusals on `out`. With `--overlap` documents are added while queries
-/// are answered, by two threads, and lines are read by several. What is printed goes out in one write before the source
+/// are answered, by two threads, and lines are read by several; with `--workers N` queries are answered by workers that live
+/// for the whole run, and the call may wait: its promise holds if its waits end; with `--parts N` documents go to several
+/// indexes by their ids. What is printed goes out in one write before the source
 /// is asked again, or once 64 KiB are gathered. What the status has to say goes to `err`; a fault there changes no status.
 pub fn run<R, S, K, E, G>(
     rt: &R,
@@ -47,7 +54,7 @@ pub fn run<R, S, K, E, G>(
     gate: &G,
 ) -> Status
 where
-    R: Threads + Sync,
+    R: Threads + Wait + Sync,
     S: Source,
     K: Sink,
     E: Sink,
@@ -64,6 +71,25 @@ where
     // What the status says of the input holds whatever becomes of the output.
     ensures means { (overlap stats : Bool) (σ : Setting) → AsksRun (map string_bytes words.now.items) overlap stats σ → (bytes : List ℕ) → S.left source.old ≡ Some bytes
         → Means σ result bytes (S.left source.new) }
+    // Where they ask to run with workers, `out` took a text in which each query sees at least the documents before its line.
+    ensures workers { (n : ℕ) (stats : Bool) (σ : Setting) → AsksWorkers (map string_bytes words.now.items) n stats σ
+        → (bytes before : List ℕ) → S.left source.old ≡ Some bytes → K.taken out.old ≡ Some before
+        → (printed : List ℕ) × (K.taken out.new ≡ Some (before ++ printed)) × WroteWorkers (asked σ stats) result bytes (S.left source.new) printed }
+    ensures workers_means { (n : ℕ) (stats : Bool) (σ : Setting) → AsksWorkers (map string_bytes words.now.items) n stats σ → (bytes : List ℕ) → S.left source.old ≡ Some bytes
+        → MeansWorkers (asked σ stats) result bytes (S.left source.new) }
+    ensures workers_complete { (n : ℕ) (stats : Bool) (σ : Setting) → AsksWorkers (map string_bytes words.now.items) n stats σ
+        → (HasRisen (S.faults source.old) (S.faults source.new) → ⊥) → (HasRisen (K.faults out.old) (K.faults out.new) → ⊥)
+        → (bytes : List ℕ) → S.left source.old ≡ Some bytes → length bytes < longest_input → outcomes.IsWorkedOff result }
+    // Where they ask to run over parts, `out` took the text of the input in these parts.
+    ensures parts { (n : ℕ) (stats : Bool) (σ : Setting) → AsksParts (map string_bytes words.now.items) n stats σ
+        → (bytes before : List ℕ) → S.left source.old ≡ Some bytes → K.taken out.old ≡ Some before
+        → (printed : List ℕ) × (K.taken out.new ≡ Some (before ++ printed))
+        × WroteInParts (record { parts = n; setting = σ; stats = stats }) result bytes (S.left source.new) printed }
+    ensures parts_mean { (n : ℕ) (stats : Bool) (σ : Setting) → AsksParts (map string_bytes words.now.items) n stats σ → (bytes : List ℕ) → S.left source.old ≡ Some bytes
+        → MeansInParts (record { parts = n; setting = σ; stats = stats }) result bytes (S.left source.new) }
+    ensures parts_complete { (n : ℕ) (stats : Bool) (σ : Setting) → AsksParts (map string_bytes words.now.items) n stats σ
+        → (HasRisen (S.faults source.old) (S.faults source.new) → ⊥) → (HasRisen (K.faults out.old) (K.faults out.new) → ⊥)
+        → (bytes : List ℕ) → S.left source.old ≡ Some bytes → length bytes < longest_input → outcomes.IsWorkedOff result }
     // Where they ask to work off a made input, the source isn't read, and the run printed the figures of that input.
     ensures bench_unread { (start count : ℕ) → AsksBench (map string_bytes words.now.items) start count → source.new ≡ source.old }
     ensures bench { (start count : ℕ) → AsksBench (map string_bytes words.now.items) start count → (before : List ℕ) → K.taken out.old ≡ Some before
@@ -112,7 +138,7 @@ where
     status
 }
 
-fn run_words<R: Threads + Sync, S: Source, K: Sink, G: Gate + Sync>(
+fn run_words<R: Threads + Wait + Sync, S: Source, K: Sink, G: Gate + Sync>(
     rt: &R,
     alloc: Global,
     words: &Vec<String>,
@@ -125,6 +151,12 @@ fn run_words<R: Threads + Sync, S: Source, K: Sink, G: Gate + Sync>(
     ensures unread { command_of (map string_bytes words.now.items) ≡ None → (source.new ≡ source.old) × (out.new ≡ out.old) }
     ensures ends { (overlap stats : Bool) (σ : Setting) → AsksRun (map string_bytes words.now.items) overlap stats σ
         → Ends σ overlap stats result (S.left source.old) (S.left source.new) (K.taken out.old) (K.taken out.new) }
+    ensures workers { (n : ℕ) (stats : Bool) (σ : Setting) → AsksWorkers (map string_bytes words.now.items) n stats σ → let a = asked σ stats in
+        passing.Ends (IsWorkersBody a) (IsWorkersText a) (HasRefusal a) (HasNoRefusal a) result (S.left source.old) (S.left source.new) (K.taken out.old) (K.taken out.new) }
+    ensures parts { (n : ℕ) (stats : Bool) (σ : Setting) → AsksParts (map string_bytes words.now.items) n stats σ
+        → let a : AskedParts = record { parts = n; setting = σ; stats = stats } in
+        passing.Ends (IsBodyInParts a) (IsTextInParts a) (HasRefusalInParts a) (HasNoRefusalInParts a) result
+        (S.left source.old) (S.left source.new) (K.taken out.old) (K.taken out.new) }
     ensures bench_unread { (start count : ℕ) → AsksBench (map string_bytes words.now.items) start count → source.new ≡ source.old }
     ensures bench { (start count : ℕ) → AsksBench (map string_bytes words.now.items) start count
         → PrintsFigures result (lines_of (made start count)) (K.taken out.old) (K.taken out.new) }
@@ -146,6 +178,16 @@ fn run_words<R: Threads + Sync, S: Source, K: Sink, G: Gate + Sync>(
             stats,
             config,
         } => run_lines(rt, alloc, overlap, stats, config, source, out, gate),
+        Command::RunWorkers {
+            workers,
+            stats,
+            config,
+        } => run_workers(rt, alloc, workers, stats, config, source, out, gate),
+        Command::RunParts {
+            parts,
+            stats,
+            config,
+        } => run_parts(alloc, parts, stats, config, source, out, gate),
         Command::Bench { start, docs } => run_bench(alloc, start, docs, out, gate),
         Command::Save { config } => save_lines(alloc, config, source, out),
         Command::Load { stats } => load_lines(alloc, stats, source, out, gate),

@@ -7,6 +7,7 @@ mod index;
 mod overlap;
 mod stats;
 mod turns;
+mod ways;
 mod windows;
 
 use crate::{Status, run};
@@ -14,6 +15,7 @@ use eb_base::OpenGate;
 use eb_io::{Got, MemSink, MemSource, Source};
 use std::alloc::{AllocError, Global};
 use std::process::Abort;
+use std::sync::Wait;
 use std::test::Fail;
 use std::thread::Threads;
 
@@ -27,7 +29,7 @@ struct Left {
 
 // Runs on these bytes. The source gives `piece` bytes a call and the output takes as many; they fail
 // at the calls of these numbers.
-fn run_on<R: Threads + Abort + Sync>(
+fn run_on<R: Threads + Wait + Abort + Sync>(
     rt: &R,
     alloc: Global,
     words: &[&str],
@@ -316,7 +318,7 @@ fn refuses_other_words(rt: HostRuntime) -> Result<(), Fail> {
         assert!(rt; left.printed.is_empty());
         assert_eq!(rt;
             left.said.as_slice(),
-            b"earlybird: usage: run [--overlap] [--stats] [--segments N] [--docs N] [--terms N] | bench START DOCS | save [--segments N] [--docs N] [--terms N] | load [--stats]\n".as_slice()
+            b"earlybird: usage: run [--overlap | --workers N | --parts N] [--stats] [--segments N] [--docs N] [--terms N] | bench START DOCS | save [--segments N] [--docs N] [--terms N] | load [--stats]\n".as_slice()
         );
     }
     Ok(())

@@ -1,10 +1,11 @@
 -- What a run over a feed is asked to do, what it has done between two lines, and that what it prints is a front of a whole
 -- text.
 use Rattle.std.specs.Prelude.{◌≡◌, ℕ, List, [], ◌++◌, length}
-use Rattle.std.proofs.Common.{ap, sym, ◌∙◌, append-nil, append_assoc}
+use Rattle.std.proofs.Common.{ap, ◌∙◌}
 use Rattle.std.proofs.lemmas.Slice.Zip.{AllZip-long}
 use Rattle.eb_base.specs.Setting.{Setting}
 use Rattle.eb_io.specs.Lines.{Line}
+use Rattle.eb_lines.specs.Programs.{PrintsFront, prints_all}
 use Rattle.eb_lines.specs.Reading.{Reading}
 use Rattle.eb_lines.specs.Reads.{Reads}
 use Rattle.earlybird_feed.specs.declared.feeding.Feeding.{Feeding}
@@ -28,8 +29,8 @@ pub body_of : (f : Feeding) (a : Asked) (given : List Line) (so_far : List ℕ) 
 body_of f a given so_far h = record { readings = h.readings; read = h.read; bytes = h.printed }
 
 pub printed_first : (f : Feeding) (a : Asked) (given : List Line) (so_far : List ℕ) → HasRun f a given so_far
-    → (done : List Line) × (more : List Line) × (given ≡ done ++ more) × IsBodyOf a.setting a.keep done so_far
-printed_first f a given so_far h = (given, [], sym (append-nil given), body_of f a given so_far h)
+    → PrintsFront (λ a. IsBodyOf a.setting a.keep) a given so_far
+printed_first f a given so_far h = prints_all (λ a. IsBodyOf a.setting a.keep) a given so_far (body_of f a given so_far h)
 
 -- what lines print comes first in their whole text
 pub comes_first : (σ : Setting) (keep : ℕ) (lines : List Line) (printed : List ℕ) → IsBodyOf σ keep lines printed → (more : List ℕ) × IsTextOf σ keep lines (printed ++ more)

@@ -1,7 +1,8 @@
 -- How far a load has come between two lines, and that what it printed is a front of a whole text.
 use Rattle.std.specs.Prelude.{◌≡◌, ℕ, ◌≤◌, List, [], ◌∷◌, ◌++◌, length}
-use Rattle.std.proofs.Common.{sym, ap, append-nil}
+use Rattle.std.proofs.Common.{ap}
 use Rattle.eb_io.specs.Lines.{Line}
+use Rattle.eb_lines.specs.Programs.{PrintsFront, prints_all}
 use Rattle.eb_lines.specs.Progress.{accepted, queries, refusals}
 use Rattle.eb_lines.specs.Reading.{Reading}
 use Rattle.eb_lines.specs.Reads.{Reads}
@@ -29,8 +30,8 @@ TakesLine old new text_old text_new r = (a : Loaded) (given : List Line) (so_far
 
 -- the lines given are those that printed
 pub loaded_first : (s : Loading) (a : Loaded) (given : List Line) (so_far : List ℕ) → HasLoaded s a given so_far
-    → (done : List Line) × (more : List Line) × (given ≡ done ++ more) × IsBodyBehind a done so_far
-loaded_first s a given so_far h = (given, [], sym (append-nil given), record { readings = h.readings; read = h.read; bytes = h.printed })
+    → PrintsFront IsBodyBehind a given so_far
+loaded_first s a given so_far h = prints_all IsBodyBehind a given so_far (record { readings = h.readings; read = h.read; bytes = h.printed })
 
 -- what lines print comes first in their whole text
 pub body_first : (a : Loaded) (lines : List Line) (printed : List ℕ) → IsBodyBehind a lines printed → (more : List ℕ) × IsTextBehind a lines (printed ++ more)

@@ -13,7 +13,7 @@ use Rattle.eb_io.proofs.Pieces.{lines_of-append}
 use Rattle.eb_lines.specs.declared.status.Status.{Status}
 use Rattle.eb_lines.specs.declared.status.Status.TheVariants.{Done, Refused, Usage, ReadFault, WriteFault, NoMemory, TooLong, BadImage}
 use Rattle.eb_lines.specs.declared.passing.Upcoming.TheVariants as next
-use Rattle.eb_lines.specs.Programs.{IsRunning, WorksOn, GoesOn, Finishes}
+use Rattle.eb_lines.specs.Programs.{IsRunning, WorksOn, GoesOn, PrintsFront, Finishes}
 use Rattle.eb_lines.specs.Outcomes.{IsPartOfOutput, Wrote, Means, IsWorkedOff}
 use Rattle.eb_lines.specs.Passing.{IsAt, IsAtEnd, IsStopped, MayStop, AreFirst, IsPart, EndsAs, Ends, Comes, upcoming_of}
 
@@ -68,14 +68,16 @@ ComesFirst prints ends_with = (lines : List Line) (printed : List ℕ) → print
 module _ (prints ends_with : List Line → List ℕ → Type 0) (refuses accepts : List Line → Type 0) (first : ComesFirst prints ends_with) (l0 l1 p0 p1 : Option (List ℕ)) where
   part : (text front rest : List ℕ) (m : MayStop prints l0 l1 p0 p1 text) → text ≡ front ++ rest → IsPart ends_with m.taken l1 (m.written ++ front)
   part text front rest m split =
-      let w = first m.done m.so_far m.body in
+      let w = first m.done (m.so_far ++ m.rest) m.body in
+      let behind = m.rest ++ w.0 in
+      let so_far_is = m.parts ∙ ap (λ t. m.written ++ t) split ∙ sym (append_assoc m.written front rest) in
       record {
         lines = m.done;
-        whole = m.so_far ++ w.0;
-        more = rest ++ w.0;
+        whole = (m.so_far ++ m.rest) ++ w.0;
+        more = rest ++ behind;
         first = m.first;
         text = w.1;
-        front = ap (λ b. b ++ w.0) (m.parts ∙ ap (λ t. m.written ++ t) split ∙ sym (append_assoc m.written front rest)) ∙ append_assoc (m.written ++ front) rest w.0;
+        front = append_assoc m.so_far m.rest w.0 ∙ ap (λ b. b ++ behind) so_far_is ∙ append_assoc (m.written ++ front) rest behind;
       }
 
   pub ends_unwritten : (p2 : Option (List ℕ)) (text : List ℕ) (n : ℕ) → MayStop prints l0 l1 p0 p1 text → p2 ≡ grown p1 (take n text) → Ends prints ends_with refuses accepts WriteFault l0 l1 p0 p2
@@ -100,13 +102,14 @@ module _ (prints ends_with : List Line → List ℕ → Type 0) (refuses accepts
 pub ends_at_once : (prints ends_with : List Line → List ℕ → Type 0) (refuses accepts : List Line → Type 0) (first : ComesFirst prints ends_with) (left printed : Option (List ℕ)) (text : List ℕ) → prints [] text
     → Ends prints ends_with refuses accepts NoMemory left left printed printed
 ends_at_once prints ends_with refuses accepts first left printed text none =
-    let m : MayStop prints left left printed printed text = record {
+    let m : MayStop prints left left printed printed [] = record {
       taken = [];
       done = [];
-      so_far = text;
+      so_far = [];
+      rest = text;
       written = [];
       left = sym (after-nil left);
-      first = λ rest e. (lines_of rest, refl);
+      first = λ r e. (lines_of r, refl);
       body = none;
       wrote = sym (grown-nil printed);
       parts = refl;
@@ -116,18 +119,18 @@ ends_at_once prints ends_with refuses accepts first left printed text none =
       printed = [];
       left = sym (after-nil left);
       put = sym (grown-nil printed);
-      ends = part prints ends_with refuses accepts first left left printed printed text [] text m refl;
+      ends = part prints ends_with refuses accepts first left left printed printed [] [] [] m refl;
     }
 
 -- ---- a program between two lines
 
 module _ {P A : Type 0} (has_run : P → A → List Line → List ℕ → Type 0) (prints : A → List Line → List ℕ → Type 0)
-    (printed_first : (p : P) (a : A) (given : List Line) (so_far : List ℕ) → has_run p a given so_far → (done : List Line) × (more : List Line) × (given ≡ done ++ more) × prints a done so_far) (a : A) where
+    (printed_first : (p : P) (a : A) (given : List Line) (so_far : List ℕ) → has_run p a given so_far → PrintsFront prints a given so_far) (a : A) where
   -- what is printed before the first line
-  pub prints_none : (p : P) (text : List ℕ) → has_run p a [] text → prints a [] text
+  pub prints_none : (p : P) (text : List ℕ) → has_run p a [] text → (rest : List ℕ) × prints a [] (text ++ rest)
   prints_none p text h =
       let f = printed_first p a [] text h in
-      subst (λ (ls : List Line). prints a ls text) (none f.0 f.1 f.2) f.3
+      (f.2, subst (λ (ls : List Line). prints a ls (text ++ f.2)) (none f.0 f.1 f.3) f.4)
     where
       none : (done more : List Line) → [] ≡ done ++ more → done ≡ []
       none [] more e = refl
@@ -161,10 +164,11 @@ module _ {P A : Type 0} (has_run : P → A → List Line → List ℕ → Type 0
           taken = at.taken;
           done = f.0;
           so_far = at.so_far;
+          rest = f.2;
           written = at.written;
           left = at.left;
-          first = first_front at.given f.0 f.1 at.taken l1 f.2 (first_given at.taken at.given h l1 at.lines at.ended);
-          body = f.3;
+          first = first_front at.given f.0 f.1 at.taken l1 f.3 (first_given at.taken at.given h l1 at.lines at.ended);
+          body = f.4;
           wrote = at.wrote;
           parts = at.parts;
         }
@@ -239,15 +243,16 @@ module _ {P A : Type 0} (has_run : P → A → List Line → List ℕ → Type 0
     stop_line new t l lines on =
         let w = on a at.given at.so_far at.works in
         let f = printed_first new a at.given (at.so_far ++ w.0) w.1 in
-        let all : at.given ++ l ∷ [] ≡ f.0 ++ (f.1 ++ l ∷ []) = ap (λ ls. ls ++ l ∷ []) f.2 ∙ append_assoc f.0 f.1 (l ∷ []) in
+        let all : at.given ++ l ∷ [] ≡ f.0 ++ (f.1 ++ l ∷ []) = ap (λ ls. ls ++ l ∷ []) f.3 ∙ append_assoc f.0 f.1 (l ∷ []) in
         record {
           taken = at.taken ++ seen;
           done = f.0;
           so_far = at.so_far ++ w.0;
+          rest = f.2;
           written = at.written;
           left = left_all;
           first = first_front (at.given ++ l ∷ []) f.0 (f.1 ++ l ∷ []) (at.taken ++ seen) l2 all (first_given (at.taken ++ seen) (at.given ++ l ∷ []) g l2 lines is_empty);
-          body = f.3;
+          body = f.4;
           wrote = at.wrote;
           parts = ap (λ b. b ++ w.0) at.parts ∙ append_assoc at.written text w.0 ∙ ap (λ t. at.written ++ t) (sym w.2);
         }

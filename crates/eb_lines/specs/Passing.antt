@@ -45,15 +45,16 @@ IsStopped has_run BadImage a l0 l1 p0 p1 held run gathered = ⊥
 IsStopped has_run WriteFault a l0 l1 p0 p1 held run gathered = ⊥
 IsStopped has_run NoMemory a l0 l1 p0 p1 held run gathered = ⊥
 
--- the program may stop here: what some first lines of the input print is written or gathered
+-- the program may stop here: a front of what some first lines of the input print is written or gathered
 pub record MayStop (prints : List Line → List ℕ → Type 0) (left_old left_new printed_old printed_new : Option (List ℕ)) (gathered : List ℕ) : Type 0 where
   pub taken : List ℕ
   pub done : List Line
   pub so_far : List ℕ
+  pub rest : List ℕ
   pub written : List ℕ
   pub left : left_old ≡ after taken left_new
   pub first : AreFirst done taken left_new
-  pub body : prints done so_far
+  pub body : prints done (so_far ++ rest)
   pub wrote : printed_new ≡ grown printed_old written
   pub parts : so_far ≡ written ++ gathered
 

@@ -1,5 +1,6 @@
 -- What a program over lines does between two of them.
 use Rattle.std.specs.Prelude.{◌≡◌, List, [], ◌∷◌, ◌++◌, ℕ, ◌+◌}
+use Rattle.std.proofs.Common.{sym, subst, append-nil}
 use Rattle.eb_io.specs.Lines.{Line}
 
 -- the program was given some lines, and printed a text for some of the first of them
@@ -15,6 +16,14 @@ WorksOn {P} {A} has_run old new text_old text_new = (a : A) (given : List Line) 
 abbrev pub GoesOn : {P A : Type 0} → (P → A → List Line → List ℕ → Type 0) → P → P → List ℕ → List ℕ → Line → Type 0
 GoesOn {P} {A} has_run old new text_old text_new l = (a : A) (given : List Line) (so_far : List ℕ) → has_run old a given so_far
     → (printed : List ℕ) × has_run new a (given ++ l ∷ []) (so_far ++ printed) × (text_new ≡ text_old ++ printed)
+
+-- what the program printed is a front of what some first lines of those that it was given print
+abbrev pub PrintsFront : {A : Type 0} → (A → List Line → List ℕ → Type 0) → A → List Line → List ℕ → Type 0
+PrintsFront prints a given so_far = (done : List Line) × (more : List Line) × (rest : List ℕ) × (given ≡ done ++ more) × prints a done (so_far ++ rest)
+
+-- what all of them print is such a front
+pub prints_all : {A : Type 0} (prints : A → List Line → List ℕ → Type 0) (a : A) (given : List Line) (so_far : List ℕ) → prints a given so_far → PrintsFront prints a given so_far
+prints_all prints a given so_far h = (given, [], [], sym (append-nil given), subst (prints a given) (sym (append-nil so_far)) h)
 
 -- what the program printed is what all lines that it was given print
 abbrev pub HasPrinted : {P A : Type 0} → (P → A → List Line → List ℕ → Type 0) → (A → List Line → List ℕ → Type 0) → P → Type 0

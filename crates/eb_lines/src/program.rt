@@ -1,7 +1,7 @@
 //! What a program does with the lines of an input.
 ghost use Rattle.std.specs.Prelude.{◌≡◌, ◌≤◌, ◌++◌, ◌^◌, List, [], ◌∷◌, ℕ, length, MatchResult, OnErr, OnOk, ⊤};
 ghost use Rattle.eb_io.specs.Lines.{Line, line, long_line};
-ghost use Rattle.eb_lines.specs.Programs.{IsRunning, WorksOn, GoesOn, HasPrinted, Finishes};
+ghost use Rattle.eb_lines.specs.Programs.{IsRunning, WorksOn, GoesOn, PrintsFront, HasPrinted, Finishes};
 
 use eb_base::NoMemory;
 
@@ -11,7 +11,7 @@ pub trait LineProgram {
     // What the program was asked to do.
     ghost Asked: { Type 0 };
 
-    // It was asked this, was given these lines, and printed this text for some of the first of them.
+    // It was asked this, was given these lines, and printed this text for the first of them.
     ghost has_run: { Self → Asked → List Line → List ℕ → Type 0 };
 
     // What these lines print; the whole text, with the end of the input.
@@ -65,9 +65,8 @@ pub trait LineProgram {
             → Finishes has_run ends_with refuses accepts self.old text.old.items text.new.items refused a given so_far) (λ e. ⊤) }
         ensures err { OnErr result (text.new.items ≡ text.old.items) };
 
-    // What it printed is what some first lines print.
-    ghost printed_first: { (p : Self) (a : Asked) (given : List Line) (so_far : List ℕ) → has_run p a given so_far
-        → (done : List Line) × (more : List Line) × (given ≡ done ++ more) × prints a done so_far };
+    // What it printed is a front of what some first lines print.
+    ghost printed_first: { (p : Self) (a : Asked) (given : List Line) (so_far : List ℕ) → has_run p a given so_far → PrintsFront prints a given so_far };
 
     // What some lines print comes first in their whole text.
     ghost whole: { (a : Asked) (lines : List Line) (printed : List ℕ) → prints a lines printed → (more : List ℕ) × ends_with a lines (printed ++ more) };

@@ -1,7 +1,8 @@
 -- How far a run over parts has come between two lines, and that what it printed is a front of a whole text.
 use Rattle.std.specs.Prelude.{◌≡◌, ℕ, ◌+◌, ◌^◌, ◌≤◌, List, [], ◌∷◌, ◌++◌, length}
-use Rattle.std.proofs.Common.{sym, ap, ◌∙◌, append_assoc, append-nil}
+use Rattle.std.proofs.Common.{sym, ap, ◌∙◌, append_assoc}
 use Rattle.eb_io.specs.Lines.{Line}
+use Rattle.eb_lines.specs.Programs.{PrintsFront, prints_all}
 use Rattle.eb_lines.specs.Progress.{accepted, queries, refusals, told, progress_after}
 use Rattle.eb_lines.specs.Reading.{Reading}
 use Rattle.eb_lines.specs.Reads.{Reads}
@@ -33,8 +34,8 @@ TakesLine old new text_old text_new r = (a : Asked) (given : List Line) (so_far 
 
 -- the lines given are those that printed
 pub taken_first : (s : LineRun) (a : Asked) (given : List Line) (so_far : List ℕ) → HasTaken s a given so_far
-    → (done : List Line) × (more : List Line) × (given ≡ done ++ more) × IsBodyInParts a done so_far
-taken_first s a given so_far h = (given, [], sym (append-nil given), record { readings = h.readings; read = h.read; bytes = h.printed })
+    → PrintsFront IsBodyInParts a given so_far
+taken_first s a given so_far h = prints_all IsBodyInParts a given so_far (record { readings = h.readings; read = h.read; bytes = h.printed })
 
 -- what lines print comes first in their whole text
 pub body_first : (a : Asked) (lines : List Line) (printed : List ℕ) → IsBodyInParts a lines printed → (more : List ℕ) × IsTextInParts a lines (printed ++ more)

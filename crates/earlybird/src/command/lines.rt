@@ -1,29 +1,85 @@
 ghost use Rattle.std.specs.Prelude.{◌≡◌, Some, None, IfOk, IsErrOf, map, string_bytes};
-ghost use Rattle.earlybird.specs.Command.{run_of};
+ghost use Rattle.earlybird.specs.Command.{run_by, run_of, over_parts, with_workers};
 
 use crate::command::{Command, CommandFault};
-use eb_options::{OptionFault, SETTING_OPTIONS, read_options, read_setting};
+use eb_base::{Config, MAX_WORDS};
+use eb_options::{OptionFault, read_options, read_setting};
 use std::alloc::Global;
 
-// The flags of `run`.
+// The flags and the options of `run`.
 const RUN_FLAGS: [&str; 2] = ["overlap", "stats"];
+
+const RUN_OPTIONS: [&str; 5] = ["workers", "parts", "segments", "docs", "terms"];
+
+// The most workers and the most parts of a run.
+const MOST: u32 = 16;
+
+// To run with so many workers.
+fn run_with_workers(workers: u32, stats: bool, config: Config) -> Option<Command>
+    ensures { result ≡ with_workers workers stats config }
+{
+    if workers < 1 || workers > MOST {
+        return None;
+    }
+    Some(Command::RunWorkers {
+        workers,
+        stats,
+        config,
+    })
+}
+
+// To run over so many parts.
+fn run_over_parts(parts: u32, stats: bool, config: Config) -> Option<Command>
+    ensures { result ≡ over_parts parts stats config }
+{
+    if parts < 1 || parts > MOST || u64::from(parts) * config.words() > MAX_WORDS {
+        return None;
+    }
+    Some(Command::RunParts {
+        parts,
+        stats,
+        config,
+    })
+}
+
+// To run in one of these ways, at most one of which is asked for.
+fn run_in_way(
+    overlap: bool,
+    workers: Option<u32>,
+    parts: Option<u32>,
+    stats: bool,
+    config: Config,
+) -> Option<Command>
+    ensures { result ≡ run_by overlap workers parts stats config }
+{
+    match (workers, parts) {
+        (None, None) => Some(Command::Run {
+            overlap,
+            stats,
+            config,
+        }),
+        (Some(workers), None) if !overlap => run_with_workers(workers, stats, config),
+        (None, Some(parts)) if !overlap => run_over_parts(parts, stats, config),
+        _ => None,
+    }
+}
 
 // What the words behind `run` ask for.
 pub(super) fn read_run(alloc: Global, words: &[String]) -> Result<Command, CommandFault>
     ensures command { IfOk result (λ command. run_of (map string_bytes words.now) ≡ Some command) }
     ensures usage { IsErrOf result CommandFault.Usage → run_of (map string_bytes words.now) ≡ None }
 {
-    let items = match read_options(alloc, words, &RUN_FLAGS, &SETTING_OPTIONS) {
+    let items = match read_options(alloc, words, &RUN_FLAGS, &RUN_OPTIONS) {
         Ok(items) => items,
         Err(OptionFault::Usage) => return Err(CommandFault::Usage),
         Err(OptionFault::NoMemory) => return Err(CommandFault::NoMemory),
     };
-    match read_setting(&items) {
-        Some(config) => Ok(Command::Run {
-            overlap: items.has("overlap"),
-            stats: items.has("stats"),
-            config,
-        }),
-        None => Err(CommandFault::Usage),
-    }
+    let Some(config) = read_setting(&items) else {
+        return Err(CommandFault::Usage);
+    };
+    let overlap = items.has("overlap");
+    let stats = items.has("stats");
+    let workers = items.number("workers");
+    let parts = items.number("parts");
+    run_in_way(overlap, workers, parts, stats, config).ok_or(CommandFault::Usage)
 }

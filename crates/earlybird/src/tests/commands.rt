@@ -50,6 +50,21 @@ fn refuses_words_outside_the_grammar(rt: HostRuntime) -> Result<(), Fail> {
         "run|--docs=0x5",
         "run|--doc|5",
         "run|-docs|5",
+        "run|--workers",
+        "run|--workers|0",
+        "run|--workers|17",
+        "run|--workers|2|--workers|2",
+        "run|--overlap|--workers|2",
+        "run|--workers|2|--overlap",
+        "run|--parts",
+        "run|--parts|0",
+        "run|--parts|17",
+        "run|--overlap|--parts|2",
+        "run|--workers|2|--parts|2",
+        "run|--parts|16|--docs|68265",
+        "bench|0|1|--workers|2",
+        "save|--parts|2",
+        "load|--workers|2",
         "bench",
         "bench|0",
         "bench|0|0",
@@ -91,6 +106,46 @@ fn reads_commands(rt: HostRuntime) -> Result<(), Fail> {
             Command::Save { config: small },
         ),
         ("load", Command::Load { stats: false }),
+        (
+            "run|--workers|1",
+            Command::RunWorkers {
+                workers: 1,
+                stats: false,
+                config,
+            },
+        ),
+        (
+            "run|--stats|--segments=2|--workers=16|--docs|2|--terms|1024",
+            Command::RunWorkers {
+                workers: 16,
+                stats: true,
+                config: small,
+            },
+        ),
+        (
+            "run|--parts|1",
+            Command::RunParts {
+                parts: 1,
+                stats: false,
+                config,
+            },
+        ),
+        (
+            "run|--parts=16|--stats|--terms=1024|--docs|2|--segments=2",
+            Command::RunParts {
+                parts: 16,
+                stats: true,
+                config: small,
+            },
+        ),
+        (
+            "run|--parts|16|--docs|68264",
+            Command::RunParts {
+                parts: 16,
+                stats: false,
+                config: Config::new(12, 68_264, 8192)?,
+            },
+        ),
         ("load|--stats", Command::Load { stats: true }),
     ] {
         let read = read_line(alloc, line)?;

@@ -5,6 +5,7 @@ use eb_base::OpenGate;
 use eb_io::CountSink;
 use std::alloc::Global;
 use std::process::Abort;
+use std::sync::Wait;
 use std::test::Fail;
 use std::thread::Threads;
 
@@ -13,7 +14,7 @@ const INPUT: &[u8] = b"?5 a\n{\"id\":1,\"text\":\"a\"}\n?5 a\n";
 const TEXT: &[u8] = b"1 seen 0:\n3 seen 1: 1\nend: documents 1, queries 2, refused 0\n";
 
 // A run byte by byte whose read, or write, of these numbers fails.
-fn run_with<R: Threads + Abort + Sync>(
+fn run_with<R: Threads + Wait + Abort + Sync>(
     rt: &R,
     alloc: Global,
     reads: &[u64],
@@ -53,7 +54,7 @@ fn a_failing_write_leaves_a_front(rt: HostRuntime) -> Result<(), Fail> {
 }
 
 // What a run of these words says where the error output fails at its first call, and its status.
-fn run_unheard<R: Threads + Abort + Sync>(
+fn run_unheard<R: Threads + Wait + Abort + Sync>(
     rt: &R,
     alloc: Global,
     word: &str,
@@ -76,7 +77,10 @@ fn run_unheard<R: Threads + Abort + Sync>(
 }
 
 // How many bytes a run prints into a sink that counts them, and its status.
-fn run_counted<R: Threads + Abort + Sync>(rt: &R, alloc: Global) -> Result<(Status, u64), Fail> {
+fn run_counted<R: Threads + Wait + Abort + Sync>(
+    rt: &R,
+    alloc: Global,
+) -> Result<(Status, u64), Fail> {
     let mut words = Vec::new(alloc);
     for word in SMALL {
         words.push(String::from_str(alloc, word)?)?;

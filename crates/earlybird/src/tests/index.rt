@@ -9,6 +9,7 @@ use eb_query::read_query;
 use std::alloc::{AllocError, Global};
 use std::process::Abort;
 use std::str;
+use std::sync::Wait;
 use std::sync::atomic::{AtomicU64, Ordering};
 use std::test::Fail;
 use std::thread::Threads;
@@ -124,7 +125,7 @@ const PAIR: &str =
     "{\"id\":1,\"text\":\"a b\"}\n{\"id\":2,\"text\":\"c d\"}\n?5 \"b c\"\n?5 b c\n?5 b OR c\n";
 
 // How many searches the gate is told of in a run on these words and this input, and the sum of their counts.
-fn counted<R: Threads + Sync>(
+fn counted<R: Threads + Wait + Sync>(
     rt: &R,
     alloc: Global,
     list: &[&str],

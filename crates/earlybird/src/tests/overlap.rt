@@ -4,13 +4,14 @@ use crate::{Status, run};
 use eb_base::{Gate, Point};
 use std::alloc::Global;
 use std::process::Abort;
+use std::sync::Wait;
 use std::sync::atomic::{AtomicU64, Ordering};
 use std::test::Fail;
 use std::thread;
 use std::thread::Threads;
 
 // Runs on this input with this gate, over a source that gives it at once.
-fn run_with<R: Threads + Abort + Sync, G: Gate + Sync>(
+pub(super) fn run_with<R: Threads + Wait + Abort + Sync, G: Gate + Sync>(
     rt: &R,
     alloc: Global,
     list: &[&str],
@@ -47,7 +48,7 @@ impl Gate for Recorder {
     }
 }
 
-const PAIR: &str =
+pub(super) const PAIR: &str =
     "{\"id\":1,\"text\":\"a b\"}\n{\"id\":2,\"text\":\"c d\"}\n?5 \"b c\"\n?5 b c\n?5 b OR c\n";
 
 #[test]

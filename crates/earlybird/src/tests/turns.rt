@@ -8,6 +8,7 @@ use eb_io::{StdSink, StdSource};
 use std::alloc::Global;
 use std::io;
 use std::process::Abort;
+use std::sync::Wait;
 use std::sync::atomic::{AtomicU64, Ordering};
 use std::test::Fail;
 use std::thread::Threads;
@@ -69,11 +70,16 @@ impl<'a> io::Write for Taker<'a> {
     }
 }
 
-// Runs between the two, and gives how it ended and how many bytes were taken.
-fn run_in_turns<R: Threads + Abort + Sync>(rt: &R, alloc: Global) -> Result<(Status, u64), Fail> {
+// Runs between the two by these words, and gives how it ended and how many bytes were taken.
+fn run_in_turns<R: Threads + Wait + Abort + Sync>(
+    rt: &R,
+    alloc: Global,
+    list: &[&str],
+) -> Result<(Status, u64), Fail> {
     let mut words = Vec::new(alloc);
-    words.push(String::from_str(alloc, "run")?)?;
-    words.push(String::from_str(alloc, "--terms=1024")?)?;
+    for word in list {
+        words.push(String::from_str(alloc, word)?)?;
+    }
     let taken = AtomicU64::new(0);
     let mut source = StdSource::new(Asker {
         taken: &taken,
@@ -95,9 +101,17 @@ fn run_in_turns<R: Threads + Abort + Sync>(rt: &R, alloc: Global) -> Result<(Sta
 
 #[test]
 fn each_answer_is_out_before_the_next_line_is_read(rt: HostRuntime) -> Result<(), Fail> {
-    assert_eq!(rt;
-        run_in_turns(&rt, rt.alloc())?,
-        (Status::Done, WHOLE.len() as u64)
-    );
+    let lists: [&[&str]; 4] = [
+        &["run", "--terms=1024"],
+        &["run", "--terms=1024", "--overlap"],
+        &["run", "--terms=1024", "--workers=2"],
+        &["run", "--terms=1024", "--parts=2"],
+    ];
+    for list in lists {
+        assert_eq!(rt;
+            run_in_turns(&rt, rt.alloc(), list)?,
+            (Status::Done, WHOLE.len() as u64)
+        );
+    }
     Ok(())
 }

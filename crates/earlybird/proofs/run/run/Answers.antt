@@ -33,6 +33,32 @@ returns-clause-saved_completes g c = λ σ is no_read no_write bytes source shor
     told.completes _ _ _ _ c.run_words-status.result _ _ _ _ _ _ bytes (c.run_words-status.ensures.saved σ is) c.run_words-status.ensures.read_fault
     c.run_words-status.ensures.write_fault no_read no_write source short
 
+pub returns-clause-workers : goal.returns-clause-workers
+returns-clause-workers g c = λ n stats σ is bytes before source sink.
+    told.ends_told _ _ _ _ c.run_words-status.result _ _ _ _ bytes (c.run_words-status.ensures.workers n stats σ is) source before sink
+
+pub returns-clause-workers_means : goal.returns-clause-workers_means
+returns-clause-workers_means g c = λ n stats σ is bytes source.
+    told.ends_mean _ _ _ _ c.run_words-status.result _ _ _ _ bytes (c.run_words-status.ensures.workers n stats σ is) source
+
+pub returns-clause-workers_complete : goal.returns-clause-workers_complete
+returns-clause-workers_complete g c = λ n stats σ is no_read no_write bytes source short.
+    told.completes _ _ _ _ c.run_words-status.result _ _ _ _ _ _ bytes (c.run_words-status.ensures.workers n stats σ is) c.run_words-status.ensures.read_fault
+    c.run_words-status.ensures.write_fault no_read no_write source short
+
+pub returns-clause-parts : goal.returns-clause-parts
+returns-clause-parts g c = λ n stats σ is bytes before source sink.
+    told.ends_told _ _ _ _ c.run_words-status.result _ _ _ _ bytes (c.run_words-status.ensures.parts n stats σ is) source before sink
+
+pub returns-clause-parts_mean : goal.returns-clause-parts_mean
+returns-clause-parts_mean g c = λ n stats σ is bytes source.
+    told.ends_mean _ _ _ _ c.run_words-status.result _ _ _ _ bytes (c.run_words-status.ensures.parts n stats σ is) source
+
+pub returns-clause-parts_complete : goal.returns-clause-parts_complete
+returns-clause-parts_complete g c = λ n stats σ is no_read no_write bytes source short.
+    told.completes _ _ _ _ c.run_words-status.result _ _ _ _ _ _ bytes (c.run_words-status.ensures.parts n stats σ is) c.run_words-status.ensures.read_fault
+    c.run_words-status.ensures.write_fault no_read no_write source short
+
 pub returns-clause-output : goal.returns-clause-output
 returns-clause-output g c = λ overlap stats σ is bytes before source sink. ends_told σ overlap stats c.run_words-status.result _ _ _ _ bytes before (c.run_words-status.ensures.ends overlap stats σ is) source sink
 

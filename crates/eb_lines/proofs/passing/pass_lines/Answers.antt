@@ -1,12 +1,12 @@
-use Rattle.std.proofs.Common.{refl, ap, le_refl, le_trans, arith}
+use Rattle.std.proofs.Common.{◌++◌, refl, ap, le_refl, le_trans, arith}
 use Rattle.eb_io.specs.Held.{Held}
 use Rattle.eb_lines.proofs.PassingLines.{at_start, few_lines, at_written, may_stop, prints_none, ends_at_once, ends_unwritten}
 use Rattle.eb_lines.proofs.passing.pass_lines.Goals as goal
 
 pub returns-in_default-clause-ends : goal.returns-in_default-clause-ends
 returns-in_default-clause-ends g c = λ a h.
-    ends_at_once _ _ _ _ (g.met.P.LineProgram.whole a) _ _ c.args.text.items
-    (prints_none g.P.LineProgram.has_run g.P.LineProgram.prints g.met.P.LineProgram.printed_first a c.args.program.now c.args.text.items h)
+    let none = prints_none g.P.LineProgram.has_run g.P.LineProgram.prints g.met.P.LineProgram.printed_first a c.args.program.now c.args.text.items h in
+    ends_at_once _ _ _ _ (g.met.P.LineProgram.whole a) _ _ (c.args.text.items ++ none.0) none.1
 
 pub lines-init : goal.lines-init
 lines-init g c =

@@ -1,0 +1,65 @@
+-- Before the first line.
+use Rattle.std.proofs.Common.{◌≡◌, ℕ, ◌+◌, List, [], refl, sym, ap, subst, ◌∙◌, arith}
+use Rattle.std.specs.Prelude.{Option, Some, None}
+use Rattle.std.proofs.lemmas.List.Elements.{All-nil}
+use Rattle.eb_lines.specs.Progress.{accepted, queries, refusals}
+use Rattle.eb_serve.specs.Desk.{Queues, ClerkBook, new_clerk}
+use Rattle.eb_serve.specs.Rule.{IsAbove}
+use Rattle.eb_serve.specs.declared.rule.Pair.{Pair}
+use Rattle.eb_table.specs.Known.{Words}
+use Rattle.eb_workers.specs.declared.office.Office.{Office}
+use Rattle.eb_workers.specs.declared.office.Side.{Side}
+use Rattle.eb_workers.specs.declared.serving.Serving.{Serving}
+use Rattle.eb_workers.specs.declared.waiting.Waiting.{Waiting}
+use Rattle.eb_workers.specs.Offices.{IsStaffed, IsNewSide}
+use Rattle.eb_workers.specs.Output.{Asked, asked, IsWorkersBody}
+use Rattle.eb_workers.specs.Serving.{HasServed}
+use Rattle.eb_workers.specs.Bodies.{body_none, get_behind}
+use Rattle.eb_workers.specs.Waiting.{AreWaiting}
+use Rattle.eb_workers.proofs.Admissions.{read_none}
+
+pub new_side : (q : Queues) (w : Words) (o : Option Side) (s : Side) → IsNewSide q w o → Some s ≡ o
+    → (s.clerk ≡ new_clerk q w) × (s.writer.index ≡ w) × (s.writer.docs ≡ []) × (s.converter.index ≡ w)
+new_side q w o s h e = subst (IsNewSide q w) (sym e) h
+
+pub served_none : (s : Serving) (o : Office) (stats : _) → s.office ≡ o → o.clerk ≡ new_clerk o.desk.now.queues o.index.now → o.writer.index ≡ o.index.now → o.writer.docs ≡ [] → o.converter.index ≡ o.index.now
+    → s.stats ≡ stats → (s.number ≡ 0) × (s.queries ≡ 0) × (s.refused ≡ 0) → s.waiting.items ≡ [] → HasServed s (asked o.index.now.setting stats) [] []
+unfolding accepted queries refusals
+served_none s o stats office clerk writer docs converter told counts items =
+    let none : s.office.writer.docs ≡ [] = ap (λ (x : Office). x.writer.docs) office ∙ docs in
+    let staffed : IsStaffed o = record {
+      clerk = (ap (λ (k : ClerkBook). k.queues) clerk, ap (λ (k : ClerkBook). k.index) clerk, ap (λ (k : ClerkBook). k.stops) clerk);
+      writer = writer;
+      converter = converter;
+    } in
+    let put : s.office.clerk.put ≡ [] = ap (λ (x : Office). x.clerk.put) office ∙ ap (λ (k : ClerkBook). k.put) clerk in
+    record {
+      staffed = subst (λ (x : Office). IsStaffed x) (sym office) staffed;
+      setting = ap (λ (x : Office). x.index.now.setting) office;
+      stats = told;
+      done = [];
+      ahead = [];
+      numbers = λ j. 0;
+      read = read_none o.index.now.setting;
+      documents = none;
+      number = counts.0;
+      queries = counts.1;
+      refused = counts.2;
+      few_queries = omega (arith, counts.1);
+      few_refused = omega (arith, counts.2);
+      above = subst (IsAbove (s.number + 1)) (sym put) (All-nil _);
+      least = λ j e. (let no : ⊥ = cc (get_behind [] j (omega arith), e) in absurd no);
+      most = λ j. omega arith;
+      waiting = subst (λ (xs : List Waiting). AreWaiting s.office.writer.docs 0 [] xs) (sym items) tt;
+      printed = sym (body_none (λ j. 0) s.office.writer.docs 0);
+    }
+
+pub body_none_given : (a : Asked) → IsWorkersBody a [] []
+unfolding accepted
+body_none_given a = record {
+  readings = [];
+  numbers = λ j. 0;
+  read = read_none a.setting;
+  sees = record { least = λ j e. (let no : ⊥ = cc (get_behind [] j (omega arith), e) in absurd no); most = λ j e. omega arith };
+  bytes = sym (body_none (λ j. 0) (accepted []) 0);
+}

@@ -1,0 +1,6 @@
+pub mod Waits
+pub mod Admissions
+pub mod NextLines
+pub mod Servings
+pub mod Endings
+pub mod Beginnings

@@ -1,0 +1,82 @@
+-- The next line is printed.
+use Rattle.std.proofs.Common.{◌≡◌, ℕ, ◌+◌, ◌-◌, ◌<◌, ◌≤◌, ◌⊎◌, inl, inr, true, false, List, [], ◌∷◌, ◌++◌, length, take, refl, sym, ap, ap₂, subst, ◌∙◌, arith, append_assoc, append-nil, length-append}
+use Rattle.eb_base.specs.Document.{Doc}
+use Rattle.eb_base.specs.Match.{answer}
+use Rattle.eb_cursor.specs.Frames.{query_of, k_of, ids_of}
+use Rattle.eb_lines.specs.Reading.{Reading}
+use Rattle.eb_lines.specs.Progress.{documents_in, accepted, told, is_query}
+use Rattle.eb_lines.specs.Text.{answer_line}
+use Rattle.eb_lines.proofs.Advancing.{told-length}
+use Rattle.eb_rounds.specs.Sees.{is_asked, IsAsked}
+use Rattle.eb_rounds.specs.Rows.{joined}
+use Rattle.eb_rounds.specs.Text.{output_of, body_from}
+use Rattle.eb_workers.specs.declared.waiting.Waiting.{Waiting}
+use Rattle.eb_workers.specs.declared.waiting.Waiting.TheVariants as waits
+use Rattle.eb_workers.specs.Waiting.{IsReady, WaitsAs, AreWaiting, printed_by}
+use Rattle.eb_workers.specs.Bodies.{body_append, body_one, joined_front, joined_back, joined_body, side, get_here, get_behind, asked_front, told_front}
+
+-- how many documents an answer saw
+abbrev pub seen_by : Waiting → ℕ
+seen_by waits.Nothing = 0
+seen_by (waits.Refused x) = 0
+seen_by (waits.Asked t k q) = 0
+seen_by (waits.Answered seen frame) = seen
+
+pub prints_as : (docs : List Doc) (t : ℕ) (r : Reading) (w : Waiting) (number : ℕ) → IsReady w → WaitsAs docs t r w → printed_by number w ≡ output_of number (seen_by w) docs r
+prints_as docs t r waits.Nothing number ready h = sym (h.nothing number 0 docs)
+prints_as docs t r (waits.Refused x) number ready h = rw h refl
+prints_as docs t r (waits.Asked told k q) number ready h = absurd ready
+prints_as docs t r (waits.Answered seen frame) number ready h = ap (answer_line number seen) h.3 ∙ sym (ap (output_of number seen docs) h.0)
+
+pub seen_within : (docs : List Doc) (t : ℕ) (r : Reading) (w : Waiting) → WaitsAs docs t r w → seen_by w ≤ length docs
+seen_within docs t r waits.Nothing h = omega arith
+seen_within docs t r (waits.Refused x) h = omega arith
+seen_within docs t r (waits.Asked told k q) h = omega arith
+seen_within docs t r (waits.Answered seen frame) h = h.2
+
+pub told_least : (docs : List Doc) (t : ℕ) (r : Reading) (w : Waiting) → IsReady w → WaitsAs docs t r w → is_query r ≡ true → t ≤ seen_by w
+told_least docs t r waits.Nothing ready h e = let no : ⊥ = cc (h.asks, e) in absurd no
+told_least docs t r (waits.Refused x) ready h e = let no : ⊥ = cc (h, e) in absurd no
+told_least docs t r (waits.Asked told k q) ready h e = absurd ready
+told_least docs t r (waits.Answered seen frame) ready h e = h.1
+
+pub split_waiting : (docs : List Doc) (t : ℕ) (rs : List Reading) (w : Waiting) (ws : List Waiting) → AreWaiting docs t rs (w ∷ ws)
+    → (r : Reading) × (rest : List Reading) × (rs ≡ r ∷ rest) × WaitsAs docs t r w × AreWaiting docs (t + length (documents_in r)) rest ws
+split_waiting docs t [] w ws h = absurd h
+split_waiting docs t (r ∷ rest) w ws h = (r, rest, refl, h.0, h.1)
+
+-- lines that are done, and one more behind them
+module _ (docs : List Doc) (done : List Reading) (r : Reading) (w : Waiting) (n : ℕ → ℕ) (ready : IsReady w) (stands : WaitsAs docs (length (accepted done)) r w) where
+  abbrev pub numbers_on : ℕ → ℕ
+  numbers_on = joined (length done) n (λ i. seen_by w)
+
+  at_end : numbers_on (length done) ≡ seen_by w
+  at_end = joined_back (length done) n (λ i. seen_by w) (length done) (omega arith)
+
+  pub least_on : ((j : ℕ) → IsAsked done j → told done j ≤ n j) → (j : ℕ) → IsAsked (done ++ r ∷ []) j → told (done ++ r ∷ []) j ≤ numbers_on j
+  least_on least j e = elim (side j (length done)) [
+    | inl low ↦ omega (arith, told_front done (r ∷ []) j (omega (arith, low)), joined_front (length done) n (λ i. seen_by w) j low, least j (asked_front done (r ∷ []) j low e))
+    | inr high ↦ here high (side j (length done + 1))
+  ]
+    where
+      here : length done ≤ j → (j < length done + 1) ⊎ (length done + 1 ≤ j) → told (done ++ r ∷ []) j ≤ numbers_on j
+      here high (inl low) =
+          let is : length done ≡ j = omega (arith, high, low) in
+          let asks : is_query r ≡ true = ap is_asked (sym (get_here done r [])) ∙ subst (λ i. IsAsked (done ++ r ∷ []) i) (sym is) e in
+          subst (λ i. told (done ++ r ∷ []) i ≤ numbers_on i) is
+          (omega (arith, told_front done (r ∷ []) (length done) (omega arith), told-length done, at_end, told_least docs (length (accepted done)) r w ready stands asks))
+      here high (inr far) =
+          let none = get_behind (done ++ r ∷ []) j (omega (arith, far, length-append done (r ∷ []))) in
+          let no : ⊥ = cc (none, e) in absurd no
+
+  pub most_on : ((j : ℕ) → n j ≤ length docs) → (j : ℕ) → numbers_on j ≤ length docs
+  most_on most j = elim (side j (length done)) [
+    | inl low ↦ omega (arith, joined_front (length done) n (λ i. seen_by w) j low, most j)
+    | inr high ↦ omega (arith, joined_back (length done) n (λ i. seen_by w) j high, seen_within docs (length (accepted done)) r w stands)
+  ]
+
+  pub body_on : (number : ℕ) → number ≡ length done + 1 → body_from numbers_on docs 0 (done ++ r ∷ []) ≡ body_from n docs 0 done ++ printed_by number w
+  body_on number is =
+      body_append numbers_on docs 0 (length done) done (r ∷ []) (omega arith)
+      ∙ ap₂ (λ x y. x ++ y) (joined_body (length done) n (λ i. seen_by w) docs done refl)
+      (body_one numbers_on docs (length done) r ∙ ap₂ (λ i s. output_of i s docs r) (sym is) at_end ∙ sym (prints_as docs (length (accepted done)) r w number ready stands))

@@ -1,0 +1,250 @@
+-- A run with workers goes on.
+use Rattle.std.proofs.Common.{◌≡◌, ℕ, ◌+◌, ◌-◌, ◌<◌, ◌≤◌, true, false, List, [], ◌∷◌, ◌++◌, length, take, set, refl, sym, ap, ap₂, subst, ◌∙◌, arith, append_assoc, append-nil, length-append}
+use Rattle.std.proofs.lemmas.List.Elements.{All-weaker}
+use Rattle.std.specs.Prelude.{Result, Ok, Err, OnOk, OnErr}
+use Rattle.std.proofs.lemmas.List.{take-append-le}
+use Rattle.std.proofs.Math.Seq.{take-append_seam}
+use mathlib.Core.List.{IsPrefix}
+use Rattle.eb_base.specs.Document.{Doc}
+use Rattle.eb_base.specs.Match.{answer}
+use Rattle.eb_cursor.specs.declared.frame.Frame.{Frame}
+use Rattle.eb_cursor.specs.Frames.{query_of, k_of, ids_of}
+use Rattle.eb_engine.specs.Tokens.{Token}
+use Rattle.eb_io.specs.Lines.{Line}
+use Rattle.eb_lines.specs.Programs.{IsRunning, WorksOn, GoesOn}
+use Rattle.eb_lines.specs.Reading.{Reading}
+use Rattle.eb_lines.specs.Reads.{Reads}
+use Rattle.eb_lines.specs.Progress.{documents_in, accepted, queries, refusals, is_query, is_refused, one_if}
+use Rattle.eb_lines.proofs.Advancing.{accepted-push, accepted-append}
+use Rattle.eb_lines.proofs.PassingLines.{works_number}
+use Rattle.eb_rounds.specs.Admitted.{admit}
+use Rattle.eb_rounds.specs.Text.{body_from}
+use Rattle.eb_serve.specs.Rule.{IsAbove}
+use Rattle.eb_serve.specs.declared.rule.Pair.{Pair}
+use Rattle.eb_table.specs.Known.{Words}
+use Rattle.eb_workers.specs.declared.office.Office.{Office}
+use Rattle.eb_workers.specs.declared.serving.Serving.{Serving}
+use Rattle.eb_workers.specs.declared.waiting.Waiting.{Waiting}
+use Rattle.eb_workers.specs.declared.waiting.Waiting.TheVariants as waits
+use Rattle.eb_workers.specs.Offices.{IsStaffed, Keeps}
+use Rattle.eb_workers.specs.Output.{Asked, AreRead}
+use Rattle.eb_workers.specs.Serving.{HasServed, IsFurther, TakesLine}
+use Rattle.eb_workers.specs.Waiting.{IsReady, WaitsAs, AreWaiting, AwaitsAt, NextNeeds, need_of, printed_by}
+use Rattle.eb_workers.specs.Bodies.{body_grown}
+use Rattle.eb_workers.proofs.Admissions.{read_push, read_long, queries-push, refusals-push}
+use Rattle.eb_workers.proofs.Waits.{waiting_grown, waiting_push, waiting_long, waiting_set, as_answered}
+use Rattle.eb_workers.proofs.NextLines.{split_waiting, numbers_on, least_on, most_on, body_on}
+
+-- ---- answers may have come
+
+pub served_further : (old new : Serving) (a : Asked) (given : List Line) (so_far : List ℕ) → IsFurther old new → HasServed old a given so_far → HasServed new a given so_far
+served_further old new a given so_far f h =
+    let docs : new.office.writer.docs ≡ old.office.writer.docs = ap (λ (t : Token). t.docs) f.writer in
+    record {
+      staffed = f.keeps.staffed;
+      setting = ap (λ (x : Words). x.setting) f.keeps.index ∙ h.setting;
+      stats = f.stats ∙ h.stats;
+      done = h.done;
+      ahead = h.ahead;
+      numbers = h.numbers;
+      read = h.read;
+      documents = docs ∙ h.documents;
+      number = f.number ∙ h.number;
+      queries = f.queries ∙ h.queries;
+      refused = f.refused ∙ h.refused;
+      few_queries = omega (arith, f.queries, f.number, h.few_queries);
+      few_refused = omega (arith, f.refused, f.number, h.few_refused);
+      above = subst (λ n. IsAbove (n + 1) new.office.clerk.put) (sym f.number) (subst (IsAbove (old.number + 1)) (sym f.put) h.above);
+      least = h.least;
+      most = λ j. subst (λ (ds : List Doc). h.numbers j ≤ length ds) (sym docs) (h.most j);
+      waiting = subst (λ (ds : List Doc). AreWaiting ds (length (accepted h.done)) h.ahead new.waiting.items) (sym docs) (f.waiting (length (accepted h.done)) h.ahead h.waiting);
+      printed = h.printed ∙ ap (λ ds. body_from h.numbers ds 0 h.done) (sym docs);
+    }
+
+pub further_on : (old new : Serving) (text : List ℕ) → IsFurther old new → WorksOn HasServed old new text text
+further_on old new text f = λ a given so_far h. ([], subst (HasServed new a given) (sym (append-nil so_far)) (served_further old new a given so_far f h), sym (append-nil text))
+
+pub same_on : (s : Serving) (text : List ℕ) → WorksOn HasServed s s text text
+same_on s text = λ a given so_far h. ([], subst (HasServed s a given) (sym (append-nil so_far)) h, sym (append-nil text))
+
+pub on_on : (old mid new : Serving) (t0 t1 t2 : List ℕ) → WorksOn HasServed old mid t0 t1 → WorksOn HasServed mid new t1 t2 → WorksOn HasServed old new t0 t2
+on_on old mid new t0 t1 t2 f g = λ a given so_far h.
+    let x = f a given so_far h in
+    let y = g a given (so_far ++ x.0) x.1 in
+    (x.0 ++ y.0, subst (HasServed new a given) (append_assoc so_far x.0 y.0) y.1, y.2 ∙ ap (λ t. t ++ y.0) x.2 ∙ append_assoc t0 x.0 y.0)
+
+pub on_line : (old mid new : Serving) (t0 t1 : List ℕ) (l : Line) (r : Reading) → WorksOn HasServed old mid t0 t1 → TakesLine mid new r → Reads l r → GoesOn HasServed old new t0 t1 l
+on_line old mid new t0 t1 l r f g reads = λ a given so_far h.
+    let x = f a given so_far h in (x.0, g a given (so_far ++ x.0) l x.1 reads, x.2)
+
+pub goes_running : (old new : Serving) (t0 t1 : List ℕ) → IsRunning HasServed old → WorksOn HasServed old new t0 t1 → IsRunning HasServed new
+goes_running old new t0 t1 r f = let w = f r.0 r.1 r.2 r.3 in (r.0, r.1, r.2 ++ w.0, w.1)
+
+pub further_trans : (old mid new : Serving) → IsFurther old mid → IsFurther mid new → IsFurther old new
+further_trans old mid new f g =
+    let docs : mid.office.writer.docs ≡ old.office.writer.docs = ap (λ (t : Token). t.docs) f.writer in
+    record {
+      keeps = record { staffed = g.keeps.staffed; index = g.keeps.index ∙ f.keeps.index };
+      writer = g.writer ∙ f.writer;
+      put = g.put ∙ f.put;
+      stats = g.stats ∙ f.stats;
+      number = g.number ∙ f.number;
+      queries = g.queries ∙ f.queries;
+      refused = g.refused ∙ f.refused;
+      waiting = λ told rs h.
+          let W : List Doc → List Waiting → Type 0 = λ ds ws. AreWaiting ds told rs ws in
+          subst (λ ds. W ds new.waiting.items) docs (g.waiting told rs (subst (λ ds. W ds mid.waiting.items) (sym docs) (f.waiting told rs h)));
+    }
+
+-- an answer is taken in
+pub further_in : (old new : Serving) (at seen : ℕ) (frame : Frame) (known : List Doc) → Keeps old.office new.office → new.office.writer ≡ old.office.writer → new.office.clerk.put ≡ old.office.clerk.put
+    → new.stats ≡ old.stats → new.number ≡ old.number → new.queries ≡ old.queries → new.refused ≡ old.refused → AwaitsAt old.waiting.items at frame seen
+    → new.waiting.items ≡ set old.waiting.items at (waits.Answered seen frame) → ids_of frame ≡ answer (query_of frame) (k_of frame) known → seen ≡ length known
+    → IsPrefix known new.office.writer.docs → IsFurther old new
+further_in old new at seen frame known keeps writer put stats number queries refused awaits items ids count prefix =
+    let docs : new.office.writer.docs ≡ old.office.writer.docs = ap (λ (t : Token). t.docs) writer in
+    let whole : known ++ prefix.0 ≡ old.office.writer.docs = prefix.1 ∙ docs in
+    let front : take seen old.office.writer.docs ≡ known = ap₂ (λ n ds. take n ds) count (sym whole) ∙ take-append_seam known prefix.0 in
+    let le : seen ≤ length old.office.writer.docs = omega (arith, count, ap length whole, length-append known prefix.0) in
+    let found : ids_of frame ≡ answer (query_of frame) (k_of frame) (take seen old.office.writer.docs) = ids ∙ ap (answer (query_of frame) (k_of frame)) (sym front) in
+    record {
+      keeps = keeps;
+      writer = writer;
+      put = put;
+      stats = stats;
+      number = number;
+      queries = queries;
+      refused = refused;
+      waiting = λ told rs h. subst (AreWaiting old.office.writer.docs told rs) (sym items)
+          (waiting_set old.office.writer.docs told rs old.waiting.items at awaits.0 (waits.Answered seen frame) awaits.1
+          (λ t r w. as_answered old.office.writer.docs t r awaits.0 frame seen awaits.2 le found w) h);
+    }
+
+-- ---- the next line is printed
+
+module _ (old new : Serving) (w : Waiting) (ws : List Waiting) (text text_new : List ℕ) (n : ℕ) (office : new.office ≡ old.office) (stats : new.stats ≡ old.stats) (number : new.number ≡ old.number)
+    (queries_same : new.queries ≡ old.queries) (refused_same : new.refused ≡ old.refused) (first : old.waiting.items ≡ w ∷ ws) (rest : new.waiting.items ≡ ws) (ready : IsReady w)
+    (is : n ≡ old.number - length ws) (put : text_new ≡ text ++ printed_by n w) where
+  served_printed : (a : Asked) (given : List Line) (so_far : List ℕ) → HasServed old a given so_far → HasServed new a given (so_far ++ printed_by n w)
+  served_printed a given so_far h =
+      let docs = old.office.writer.docs in
+      let same : new.office.writer.docs ≡ docs = ap (λ (o : Office). o.writer.docs) office in
+      let s = split_waiting docs (length (accepted h.done)) h.ahead w ws (subst (AreWaiting docs (length (accepted h.done)) h.ahead) first h.waiting) in
+      let r = s.0 in
+      let all : (h.done ++ r ∷ []) ++ s.1 ≡ h.done ++ h.ahead = append_assoc h.done (r ∷ []) s.1 ∙ ap (λ x. h.done ++ x) (sym s.2) in
+      let long = waiting_long docs (length (accepted h.done) + length (documents_in r)) s.1 ws s.4 in
+      let lines : length (h.done ++ h.ahead) ≡ length given = read_long a.setting given (h.done ++ h.ahead) h.read in
+      let at : n ≡ length h.done + 1 = omega (arith, is, h.number, lines, length-append h.done h.ahead, ap length s.2, long) in
+      let told : length (accepted (h.done ++ r ∷ [])) ≡ length (accepted h.done) + length (documents_in r) = ap length (accepted-push h.done r) ∙ length-append (accepted h.done) (documents_in r) in
+      record {
+        staffed = subst (λ (o : Office). IsStaffed o) (sym office) h.staffed;
+        setting = ap (λ (o : Office). o.index.now.setting) office ∙ h.setting;
+        stats = stats ∙ h.stats;
+        done = h.done ++ r ∷ [];
+        ahead = s.1;
+        numbers = numbers_on docs h.done r w h.numbers ready s.3;
+        read = subst (AreRead a.setting given) (sym all) h.read;
+        documents = same ∙ h.documents ∙ ap accepted (sym all);
+        number = number ∙ h.number;
+        queries = queries_same ∙ h.queries ∙ ap queries (sym all);
+        refused = refused_same ∙ h.refused ∙ ap refusals (sym all);
+        few_queries = omega (arith, queries_same, number, h.few_queries);
+        few_refused = omega (arith, refused_same, number, h.few_refused);
+        above = subst (λ m. IsAbove (m + 1) new.office.clerk.put) (sym number) (subst (λ (o : Office). IsAbove (old.number + 1) o.clerk.put) (sym office) h.above);
+        least = least_on docs h.done r w h.numbers ready s.3 h.least;
+        most = λ j. subst (λ (ds : List Doc). numbers_on docs h.done r w h.numbers ready s.3 j ≤ length ds) (sym same) (most_on docs h.done r w h.numbers ready s.3 h.most j);
+        waiting =
+            let A : List Doc → ℕ → List Waiting → Type 0 = λ ds t xs. AreWaiting ds t s.1 xs in
+            subst (λ ds. A ds (length (accepted (h.done ++ r ∷ []))) new.waiting.items) (sym same)
+            (subst (λ t. A docs t new.waiting.items) (sym told) (subst (λ xs. A docs (length (accepted h.done) + length (documents_in r)) xs) (sym rest) s.4));
+        printed = ap (λ b. b ++ printed_by n w) h.printed ∙ sym (body_on docs h.done r w h.numbers ready s.3 n at)
+            ∙ ap (λ ds. body_from (numbers_on docs h.done r w h.numbers ready s.3) ds 0 (h.done ++ r ∷ [])) (sym same);
+      }
+
+  pub printed_on : WorksOn HasServed old new text text_new
+  printed_on = λ a given so_far h. (printed_by n w, served_printed a given so_far h, put)
+
+-- ---- a line is taken
+
+module _ (old new : Serving) (r : Reading) (w : Waiting) (own : Reading) (is : admit old.office.index.now.setting old.office.writer.docs r ≡ own) (keeps : Keeps old.office new.office)
+    (docs : new.office.writer.docs ≡ old.office.writer.docs ++ documents_in own) (stats : new.stats ≡ old.stats) (number : new.number ≡ old.number + 1) (asks : new.queries ≡ old.queries + one_if (is_query own))
+    (fails : new.refused ≡ old.refused + one_if (is_refused own)) (low : (one_if (is_query own) ≤ 1) × (one_if (is_refused own) ≤ 1)) (above : IsAbove (new.number + 1) new.office.clerk.put)
+    (items : new.waiting.items ≡ old.waiting.items ++ w ∷ []) (stands : WaitsAs (old.office.writer.docs ++ documents_in own) (length old.office.writer.docs) own w) where
+  pub served_line : TakesLine old new r
+  served_line a given so_far l h reads =
+      let before = old.office.writer.docs in
+      let more = documents_in own in
+      let readings = h.done ++ h.ahead in
+      let own_is : admit a.setting (accepted readings) r ≡ own = ap₂ (λ s ds. admit s ds r) (sym h.setting) (sym h.documents) ∙ is in
+      let all : readings ++ own ∷ [] ≡ h.done ++ (h.ahead ++ own ∷ []) = append_assoc h.done h.ahead (own ∷ []) in
+      let read : AreRead a.setting (given ++ l ∷ []) (readings ++ own ∷ []) =
+      subst (λ (x : Reading). AreRead a.setting (given ++ l ∷ []) (readings ++ x ∷ [])) own_is (read_push a.setting given readings l r h.read reads) in
+      let told : length (accepted h.done) + length (accepted h.ahead) ≡ length before = sym (length-append (accepted h.done) (accepted h.ahead)) ∙ ap length (sym (accepted-append h.done h.ahead) ∙ sym h.documents) in
+      let grown = waiting_grown before more (length (accepted h.done)) h.ahead old.waiting.items h.waiting in
+      record {
+        staffed = keeps.staffed;
+        setting = ap (λ (x : Words). x.setting) keeps.index ∙ h.setting;
+        stats = stats ∙ h.stats;
+        done = h.done;
+        ahead = h.ahead ++ own ∷ [];
+        numbers = h.numbers;
+        read = subst (AreRead a.setting (given ++ l ∷ [])) all read;
+        documents = docs ∙ ap (λ ds. ds ++ more) h.documents ∙ sym (accepted-push readings own) ∙ ap accepted all;
+        number = number ∙ omega (arith, h.number, length-append given (l ∷ []));
+        queries = asks ∙ ap (λ m. m + one_if (is_query own)) h.queries ∙ sym (queries-push readings own) ∙ ap queries all;
+        refused = fails ∙ ap (λ m. m + one_if (is_refused own)) h.refused ∙ sym (refusals-push readings own) ∙ ap refusals all;
+        few_queries = omega (arith, asks, number, low.0, h.few_queries);
+        few_refused = omega (arith, fails, number, low.1, h.few_refused);
+        above = above;
+        least = h.least;
+        most = λ j. omega (arith, h.most j, ap length docs, length-append before more);
+        waiting =
+            let A : List Doc → List Waiting → Type 0 = λ ds xs. AreWaiting ds (length (accepted h.done)) (h.ahead ++ own ∷ []) xs in
+            subst (λ ds. A ds new.waiting.items) (sym docs) (subst (λ xs. A (before ++ more) xs) (sym items)
+            (waiting_push (before ++ more) (length (accepted h.done)) h.ahead old.waiting.items own w grown (subst (λ t. WaitsAs (before ++ more) t own w) (sym told) stands)));
+        printed = h.printed ∙ body_grown h.numbers before more 0 h.done h.most ∙ ap (λ ds. body_from h.numbers ds 0 h.done) (sym docs);
+      }
+
+-- ---- results
+
+pub ok_on : {T E P Q : Type 0} (r : Result T E) → OnOk r P → (P → Q) → OnOk r Q
+ok_on (Ok x) p f = f p
+ok_on (Err e) p f = tt
+
+pub err_on : {T E P Q : Type 0} (r : Result T E) → OnErr r P → (P → Q) → OnErr r Q
+err_on (Ok x) p f = tt
+err_on (Err e) p f = f p
+
+pub above_more : (n : ℕ) (ps : List Pair) → IsAbove n ps → IsAbove (n + 1) ps
+above_more n ps a = All-weaker (λ (q : Pair). q.number < n) (λ q. q.number < n + 1) (λ q h. omega (arith, h)) ps a
+
+-- the same lines wait
+pub further_items : (old new : Serving) → IsStaffed old.office → new.office ≡ old.office → new.stats ≡ old.stats → new.number ≡ old.number → new.queries ≡ old.queries → new.refused ≡ old.refused
+    → new.waiting.items ≡ old.waiting.items → IsFurther old new
+further_items old new staffed office stats number asks fails items = record {
+  keeps = record { staffed = subst (λ (o : Office). IsStaffed o) (sym office) staffed; index = ap (λ (o : Office). o.index.now) office };
+  writer = ap (λ (o : Office). o.writer) office;
+  put = ap (λ (o : Office). o.clerk.put) office;
+  stats = stats;
+  number = number;
+  queries = asks;
+  refused = fails;
+  waiting = λ told rs h. subst (AreWaiting old.office.writer.docs told rs) (sym items) h;
+}
+
+pub further_same : (s : Serving) → IsStaffed s.office → IsFurther s s
+further_same s staffed = further_items s s staffed refl refl refl refl refl refl
+
+pub same_text : (s : Serving) (text t : List ℕ) → t ≡ text → WorksOn HasServed s s text t
+same_text s text t e = subst (λ x. WorksOn HasServed s s text x) (sym e) (same_on s text)
+
+pub next_is : (items : List Waiting) (need : ℕ) (w : Waiting) (ws : List Waiting) → NextNeeds items need → items ≡ w ∷ ws → IsReady w × (need ≡ need_of w)
+next_is items need w ws h e = subst (λ (xs : List Waiting). NextNeeds xs need) e h
+
+pub room_on : (old mid new : Serving) (t0 t1 : List ℕ) → IsRunning HasServed old → WorksOn HasServed old mid t0 t1 → new.office ≡ mid.office → new.stats ≡ mid.stats → new.number ≡ mid.number → new.queries ≡ mid.queries
+    → new.refused ≡ mid.refused → new.waiting.items ≡ mid.waiting.items → WorksOn HasServed old new t0 t1
+room_on old mid new t0 t1 r f office stats number asks fails items =
+    on_on old mid new t0 t1 t1 f (further_on mid new t1 (further_items mid new (goes_running old mid t0 t1 r f).3.staffed office stats number asks fails items))
+
+pub same_number : (old new : Serving) (t0 t1 : List ℕ) → IsRunning HasServed old → WorksOn HasServed old new t0 t1 → new.number ≡ old.number
+same_number old new t0 t1 r f = works_number HasServed (λ (s : Serving). s.number) (λ s a given so_far h. h.number) old new t0 t1 r f

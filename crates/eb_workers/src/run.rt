@@ -1,0 +1,211 @@
+//! Workers and the clerk's part run at once.
+ghost use Rattle.std.specs.Prelude.{◌≡◌, ◌≤◌, ◌<◌, ◌++◌, ℕ, List, [], Some, length, All};
+ghost use Rattle.eb_io.specs.Faults.{HasRisen};
+ghost use Rattle.eb_io.specs.Lines.{longest_input};
+ghost use Rattle.eb_lines.specs.Outcomes.{IsWorkedOff};
+ghost use Rattle.eb_lines.specs.Passing.{Ends};
+ghost use Rattle.eb_serve.specs.Desk.{IsReady};
+ghost use Rattle.eb_workers.specs.Output.{Asked, asked, IsWorkersBody, IsWorkersText, HasRefusal, HasNoRefusal, WroteWorkers, MeansWorkers};
+ghost use Rattle.eb_workers.specs.Offices.{IsNewSide};
+ghost use Rattle.eb_workers.specs.Serving.{HasServed};
+
+use crate::office::{Office, Side};
+use crate::program::WorkersProgram;
+use crate::serving::Serving;
+use eb_base::{Config, Gate};
+use eb_engine::Index;
+use eb_io::{Sink, Source};
+use eb_lines::{Status, pass_lines};
+use eb_serve::{Clerk, Desk, Worker, work_all};
+use std::alloc::Global;
+use std::sync::Wait;
+use std::thread::{Threads, join_mut};
+
+// Passes the lines to the program, and puts behind them one stop for each worker, after a fault and want of memory too.
+fn pass_and_stop<R: Threads + Wait + Sync, S: Source, K: Sink, G: Gate + Sync>(
+    rt: &R,
+    alloc: Global,
+    program: WorkersProgram<'_, R, G>,
+    source: &mut S,
+    out: &mut K,
+    workers: u32,
+) -> (Status, Clerk)
+    requires { (a : Asked) × HasServed program.serving a [] [] }
+    ensures stops { result.1.stops ≡ workers }
+    ensures ends { (a : Asked) → HasServed program.entry.serving a [] []
+        → Ends (IsWorkersBody a) (IsWorkersText a) (HasRefusal a) (HasNoRefusal a) result.0 (S.left source.old) (S.left source.new) (K.taken out.old) (K.taken out.new) }
+    ensures read_fault { result.0 ≡ Status.ReadFault → HasRisen (S.faults source.old) (S.faults source.new) }
+    ensures write_fault { result.0 ≡ Status.WriteFault → HasRisen (K.faults out.old) (K.faults out.new) }
+{
+    let mut program = program;
+    let status = pass_lines(alloc, &mut program, Vec::new(alloc), source, out);
+    let WorkersProgram { serving, .. } = program;
+    (status, serving.stop(rt, workers))
+}
+
+// The clerk's part, which begins with a new clerk and an empty index. In it one stop is put for each worker, after a fault
+// and want of memory too.
+fn serve<'a, R: Threads + Wait + Sync, S: Source, K: Sink, G: Gate + Sync>(
+    rt: &'a R,
+    alloc: Global,
+    desk: &'a Desk,
+    index: &'a Index,
+    gate: &'a G,
+    side: &mut Option<Side>,
+    stats: bool,
+    source: &mut S,
+    out: &mut K,
+    workers: u32,
+) -> (Status, Clerk)
+    requires { IsNewSide desk.now.queues index.now side.old }
+    ensures stops { result.1.stops ≡ workers }
+    ensures ends { let a = asked index.now.setting stats in
+        Ends (IsWorkersBody a) (IsWorkersText a) (HasRefusal a) (HasNoRefusal a) result.0 (S.left source.old) (S.left source.new) (K.taken out.old) (K.taken out.new) }
+    ensures read_fault { result.0 ≡ Status.ReadFault → HasRisen (S.faults source.old) (S.faults source.new) }
+    ensures write_fault { result.0 ≡ Status.WriteFault → HasRisen (K.faults out.old) (K.faults out.new) }
+{
+    let Some(
+        Side {
+            clerk,
+            writer,
+            converter,
+        },
+    ) = side.take()
+    else {
+        unreachable!();
+    };
+    let office = Office {
+        desk,
+        index,
+        clerk,
+        writer,
+        converter,
+    };
+    let program = WorkersProgram {
+        rt,
+        alloc,
+        gate,
+        serving: Serving::new(alloc, office, stats),
+    };
+    pass_and_stop(rt, alloc, program, source, out, workers)
+}
+
+// The clerk's part beside the workers'.
+fn serve_beside<R: Threads + Wait + Sync, S: Source, K: Sink, G: Gate + Sync>(
+    rt: &R,
+    alloc: Global,
+    desk: &Desk,
+    index: &Index,
+    gate: &G,
+    workers: &mut [Worker],
+    side: &mut Option<Side>,
+    stats: bool,
+    source: &mut S,
+    out: &mut K,
+    count: u32,
+) -> Status
+    requires workers { All (λ w. IsReady desk.now.queues index.now w) workers.old }
+    requires side { IsNewSide desk.now.queues index.now side.old }
+    ensures ends { let a = asked index.now.setting stats in
+        Ends (IsWorkersBody a) (IsWorkersText a) (HasRefusal a) (HasNoRefusal a) result (S.left source.old) (S.left source.new) (K.taken out.old) (K.taken out.new) }
+    ensures read_fault { result ≡ Status.ReadFault → HasRisen (S.faults source.old) (S.faults source.new) }
+    ensures write_fault { result ≡ Status.WriteFault → HasRisen (K.faults out.old) (K.faults out.new) }
+{
+    let (_, (status, _)) = join_mut(
+        rt,
+        &mut ||
+            requires { All (λ w. IsReady desk.now.queues index.now w) workers.now }
+        { work_all(rt, desk, index, gate, workers) },
+        &mut ||
+            requires { IsNewSide desk.now.queues index.now side.now }
+        {
+            serve(
+                rt, alloc, desk, index, gate, side, stats, source, out, count,
+            )
+        },
+    );
+    status
+}
+
+fn pass_at_desk<R: Threads + Wait + Sync, S: Source, K: Sink, G: Gate + Sync>(
+    rt: &R,
+    alloc: Global,
+    workers: u32,
+    stats: bool,
+    config: Config,
+    source: &mut S,
+    out: &mut K,
+    gate: &G,
+) -> Status
+    requires { (1 ≤ workers) × (workers ≤ 16) }
+    ensures ends { let a = asked config stats in
+        Ends (IsWorkersBody a) (IsWorkersText a) (HasRefusal a) (HasNoRefusal a) result (S.left source.old) (S.left source.new) (K.taken out.old) (K.taken out.new) }
+    ensures read_fault { result ≡ Status.ReadFault → HasRisen (S.faults source.old) (S.faults source.new) }
+    ensures write_fault { result ≡ Status.WriteFault → HasRisen (K.faults out.old) (K.faults out.new) }
+{
+    let Ok((index, writer, converter)) = Index::open(alloc, config) else {
+        return Status::NoMemory;
+    };
+    let Ok((desk, clerk, mut all)) = Desk::open(alloc, &index, workers) else {
+        return Status::NoMemory;
+    };
+    let mut side = Some(Side {
+        clerk,
+        writer,
+        converter,
+    });
+    serve_beside(
+        rt,
+        alloc,
+        &desk,
+        &index,
+        gate,
+        all.as_mut_slice(),
+        &mut side,
+        stats,
+        source,
+        out,
+        workers,
+    )
+}
+
+/// Runs over the lines that the source gives, with so many workers, from 1 to 16, that live for the whole run and answer
+/// queries beside the one writer: document lines add, query lines ask, and answers and refusals are printed on `out`, each
+/// in its line's place, and behind them the summary. A query's answer is over a prefix of the accepted documents that holds
+/// at least those before its line. With `stats` the line of the segments follows the summary.
+///
+/// At most 512 queries are unanswered and 4,096 lines unprinted at once: where one of these numbers is reached, and at the
+/// end of the lines, the clerk waits for answers, or answers a query itself. The call may wait, and its promise holds if its
+/// waits end. Takes the memory of the index and of the desk at once.
+pub fn run_workers<R, S, K, G>(
+    rt: &R,
+    alloc: Global,
+    workers: u32,
+    stats: bool,
+    config: Config,
+    source: &mut S,
+    out: &mut K,
+    gate: &G,
+) -> Status
+where
+    R: Threads + Wait + Sync,
+    S: Source,
+    K: Sink,
+    G: Gate + Sync,
+    requires { (1 ≤ workers) × (workers ≤ 16) }
+    ensures ends { let a = asked config stats in
+        Ends (IsWorkersBody a) (IsWorkersText a) (HasRefusal a) (HasNoRefusal a) result (S.left source.old) (S.left source.new) (K.taken out.old) (K.taken out.new) }
+    // Where source and `out` tell their bytes, `out` took what the status says, of the lines of the input.
+    ensures output { (bytes before : List ℕ) → S.left source.old ≡ Some bytes → K.taken out.old ≡ Some before
+        → (printed : List ℕ) × (K.taken out.new ≡ Some (before ++ printed)) × WroteWorkers (asked config stats) result bytes (S.left source.new) printed }
+    // What the status says of the input holds whatever becomes of the output.
+    ensures means { (bytes : List ℕ) → S.left source.old ≡ Some bytes → MeansWorkers (asked config stats) result bytes (S.left source.new) }
+    // Faults come only from outside.
+    ensures read_fault { result ≡ Status.ReadFault → HasRisen (S.faults source.old) (S.faults source.new) }
+    ensures write_fault { result ≡ Status.WriteFault → HasRisen (K.faults out.old) (K.faults out.new) }
+    // Without a fault and with an end in time, the input is worked off.
+    ensures completes { (HasRisen (S.faults source.old) (S.faults source.new) → ⊥) → (HasRisen (K.faults out.old) (K.faults out.new) → ⊥)
+        → (bytes : List ℕ) → S.left source.old ≡ Some bytes → length bytes < longest_input → IsWorkedOff result }
+{
+    pass_at_desk(rt, alloc, workers, stats, config, source, out, gate)
+}
