@@ -33,6 +33,7 @@ returns-clause-found g c = λ docs last h. record {
         x.1,
         x.2,
         x.3,
-        bound_found (gives m) (gives x.0) docs c.args.bound c.args.cursor.now _ c.min-start.result c.args.end last c.ids_below-found.result c.min-start.ensures h x.4 refl refl (c.last_before-cursor.ensures ∙ c.saturating_sub.ensures) now r,
+        bound_found (gives m) (gives x.0) docs c.args.bound c.args.cursor.now _ c.min-start.result c.args.end last c.ids_below-found.result c.min-start.ensures h x.4 refl refl
+            (c.last_before-cursor.ensures ∙ c.saturating_sub.ensures) now r,
       );
 }
