@@ -1,5 +1,6 @@
 -- The first and the last stores of a document.
-use Rattle.std.proofs.Common.{◌≡◌, ℕ, zero, suc, ◌+◌, ◌*◌, ◌<◌, ◌≤◌, ◌==◌, false, ltb, List, [], ◌∷◌, ◌++◌, length, take, drop, get_or, sum_by, refl, ap, sym, ◌∙◌, subst, arith, inl, inr, append-nil, slice_get, Some}
+use Rattle.std.proofs.Common.{◌≡◌, ℕ, zero, suc, ◌+◌, ◌*◌, ◌<◌, ◌≤◌, ◌==◌, false, ltb, List, [], ◌∷◌, ◌++◌, length, take}
+use Rattle.std.proofs.Common.{drop, get_or, sum_by, refl, ap, sym, ◌∙◌, subst, arith, inl, inr, append-nil, slice_get, Some}
 use Rattle.std.proofs.lemmas.Bool.{cases_Bool, eqb-true, ltb-true}
 use Rattle.std.proofs.lemmas.List.{length-append, length-drop}
 use Rattle.std.proofs.lemmas.List.Sums.{sum_by-cons}
@@ -59,7 +60,8 @@ documents_low m d s is p = let j = joined m d s is p in (j.few, is.setting.docs.
 -- ---- the first store
 
 -- all stores of a document
-all_left : (m : Moment) (d : Doc) (s : ℕ) → IsMoment m → IsPlaced m d s → doc_stores m.setting m.documents.accepted d ≡ first_stores s (before_it m d) (length m.documents.accepted) ++ stores_from m.setting m.documents.accepted d s 0 (tokens_until m d 0) d.terms
+all_left : (m : Moment) (d : Doc) (s : ℕ) → IsMoment m → IsPlaced m d s
+    → doc_stores m.setting m.documents.accepted d ≡ first_stores s (before_it m d) (length m.documents.accepted) ++ stores_from m.setting m.documents.accepted d s 0 (tokens_until m d 0) d.terms
 all_left m d s is p =
     let σ = m.setting in
     let docs = m.documents.accepted in
@@ -160,7 +162,8 @@ join_first m d s is idle p some =
 
 -- ---- the last two stores
 
-end_left : (m : Moment) (d : Doc) (s : ℕ) → HasComeTo m d s (length d.terms) → drop (stores_done m.documents.current) (doc_stores m.setting m.documents.accepted d) ≡ (slot s id_region (length (before_it m d)), d.id) ∷ (published, length m.documents.accepted + 1) ∷ []
+end_left : (m : Moment) (d : Doc) (s : ℕ) → HasComeTo m d s (length d.terms)
+    → drop (stores_done m.documents.current) (doc_stores m.setting m.documents.accepted d) ≡ (slot s id_region (length (before_it m d)), d.id) ∷ (published, length m.documents.accepted + 1) ∷ []
 unfolding tokens_stores
 end_left m d s h = h.left ∙ ap (stores_from m.setting m.documents.accepted d s (length d.terms) (tokens_until m d (length d.terms))) (dropped d.terms)
   where
@@ -215,7 +218,8 @@ last m d s value h v =
       next = next;
       accepted = record {
         later = Rattle.eb_place.proofs.Laters.later_on m n (after_store n d) one.later (later_stored n d next.current);
-        documents = (λ j. documents_after (ltb (suc (stores_done ((e j).current))) (length (doc_stores σ ((e j).accepted) d))) ((e j).accepted) d (suc (stores_done ((e j).current)))) ∙ ap (λ b. documents_after b docs d (suc (i + 1))) end;
+        documents = (λ j. documents_after (ltb (suc (stores_done ((e j).current))) (length (doc_stores σ ((e j).accepted) d))) ((e j).accepted) d (suc (stores_done ((e j).current))))
+            ∙ ap (λ b. documents_after b docs d (suc (i + 1))) end;
       };
     }
   where

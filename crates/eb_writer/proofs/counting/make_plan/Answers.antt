@@ -149,7 +149,8 @@ loop-at-preserved g c = (
       let u = c.with_token-used.ensures.used (count_of (term_at ts i) A) (A ++ take i ts) token.tail
       (omega (arith, token.earlier, count_of-append (term_at ts i) A (take i ts), ap (λ z. count_of z (A ++ take i ts)) at)) (token.number ∙ ap (λ z. number_of z (A ++ take i ts)) at) k.5 in
       let bytes = c.terms-terms.ensures.document.limits.bytes in
-      small_more c.loop-at.used c.with_token-used.result t (A ++ take i ts) i (omega (arith, bytes, ap (sum_by length) c.terms-terms.ensures.terms, token_short ts i t c.get.ensures)) k.5 u c.loop-at.invariant.2),
+      small_more c.loop-at.used c.with_token-used.result t (A ++ take i ts) i
+      (omega (arith, bytes, ap (sum_by length) c.terms-terms.ensures.terms, token_short ts i t c.get.ensures)) k.5 u c.loop-at.invariant.2),
   c.with_token-used.ensures.documents ∙ c.loop-at.invariant.3,
 )
 
