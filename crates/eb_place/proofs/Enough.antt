@@ -24,7 +24,12 @@ sums_hold n a b c d h (x ∷ xs) = omega (arith, sums_hold n a b c d h xs, sum_b
 -- the postings of a segment are at most what its slices hold
 pub postings_hold : (ts : List Term) → length ts ≤ 2 * all_slices 0 ts + 15 * all_slices 1 ts + 127 * all_slices 2 ts + 2047 * all_slices 3 ts
 unfolding all_slices
-postings_hold ts = omega (arith, total_count ts, sums_hold (λ u. count_of u ts) (λ u. slices 0 (count_of u ts)) (λ u. slices 1 (count_of u ts)) (λ u. slices 2 (count_of u ts)) (λ u. slices 3 (count_of u ts)) (λ u. slices_hold (count_of u ts)) (distinct ts))
+postings_hold ts = omega (
+  arith,
+  total_count ts,
+  sums_hold (λ u. count_of u ts) (λ u. slices 0 (count_of u ts)) (λ u. slices 1 (count_of u ts))
+      (λ u. slices 2 (count_of u ts)) (λ u. slices 3 (count_of u ts)) (λ u. slices_hold (count_of u ts)) (distinct ts),
+)
 
 -- and so at most 34 a term that it has room for
 pub postings_few : (σ : Setting) (ts : List Term) → SegmentFits σ ts → length ts ≤ 34 * σ.terms

@@ -73,7 +73,13 @@ cells_low cells terms h = by_push (λ ts. (k : ℕ) → k < length ts → get_or
     step : (ts : List Term) (t : Term) → ((k : ℕ) → k < length ts → get_or (cells_of cells ts) k 0 < cells) → (k : ℕ) → k < length (ts ++ t ∷ []) → get_or (cells_of cells (ts ++ t ∷ [])) k 0 < cells
     step ts t ih k l = let e = ap (λ z. get_or z k 0) (cells_push cells ts t) in let n = length-cells cells ts in elim (cases_lt k (length ts)) [
       | inl low ↦ omega (arith, e, get_or_append_left (cells_of cells ts) (cell_of_next cells ts t ∷ []) 0 k (omega arith), ih k low)
-      | inr high ↦ omega (arith, e, ap (λ j. get_or (cells_of cells ts ++ cell_of_next cells ts t ∷ []) j 0) (let q : k ≡ length (cells_of cells ts) = omega (arith, length_push ts t) in q), get_or-append_seam (cells_of cells ts) (cell_of_next cells ts t) [] 0, cell_within ts t cells h)
+      | inr high ↦ omega (
+        arith,
+        e,
+        ap (λ j. get_or (cells_of cells ts ++ cell_of_next cells ts t ∷ []) j 0) (let q : k ≡ length (cells_of cells ts) = omega (arith, length_push ts t) in q),
+        get_or-append_seam (cells_of cells ts) (cell_of_next cells ts t) [] 0,
+        cell_within ts t cells h,
+      )
     ]
 
 -- one more term

@@ -55,14 +55,20 @@ under xs ys zs p = (p.0, append_assoc xs ys p.0 ∙ ap (λ z. xs ++ z) p.1)
 stores_grow : (σ : Setting) (a b : List Doc) (x y : Option (Doc × ℕ)) → IsPrefix a b → Goes a x record { accepted = b; current = y }
     → IsPrefix (placings σ a ++ current_stores σ a x) (placings σ b ++ current_stores σ b y)
 stores_grow σ a b None y p g =
-    let e : placings σ b ≡ placings σ a ++ placings_after σ a p.0 = ap (placings σ) (sym p.1) ∙ placings-append σ a p.0 in
-    (placings_after σ a p.0 ++ current_stores σ b y, ap (λ z. z ++ (placings_after σ a p.0 ++ current_stores σ b y)) (append-nil (placings σ a)) ∙ sym (append_assoc (placings σ a) (placings_after σ a p.0) (current_stores σ b y)) ∙ ap (λ z. z ++ current_stores σ b y) (sym e))
+    let e : placings σ b ≡ placings σ a ++ placings_after σ a p.0 = ap (placings σ) (sym p.1) ∙ placings-append σ a p.0 in (
+      placings_after σ a p.0 ++ current_stores σ b y,
+      ap (λ z. z ++ (placings_after σ a p.0 ++ current_stores σ b y)) (append-nil (placings σ a))
+          ∙ sym (append_assoc (placings σ a) (placings_after σ a p.0) (current_stores σ b y)) ∙ ap (λ z. z ++ current_stores σ b y) (sym e),
+    )
 stores_grow σ a b (Some c) y p (inr q) =
     let e : placings σ b ≡ placings σ (a ++ c.0 ∷ []) ++ placings_after σ (a ++ c.0 ∷ []) q.0 = ap (placings σ) (sym q.1) ∙ placings-append σ (a ++ c.0 ∷ []) q.0 in
     let d = placings_push σ a c.0 in
     let one : IsPrefix (placings σ a ++ take c.1 (doc_stores σ a c.0)) (placings σ (a ++ c.0 ∷ [])) = subst (IsPrefix (placings σ a ++ take c.1 (doc_stores σ a c.0))) (sym d)
     (under (placings σ a) (take c.1 (doc_stores σ a c.0)) (doc_stores σ a c.0) (drop c.1 (doc_stores σ a c.0), take-append-drop c.1 (doc_stores σ a c.0))) in
-    let two : IsPrefix (placings σ (a ++ c.0 ∷ [])) (placings σ b ++ current_stores σ b y) = (placings_after σ (a ++ c.0 ∷ []) q.0 ++ current_stores σ b y, sym (append_assoc (placings σ (a ++ c.0 ∷ [])) (placings_after σ (a ++ c.0 ∷ []) q.0) (current_stores σ b y)) ∙ ap (λ z. z ++ current_stores σ b y) (sym e)) in
+    let two : IsPrefix (placings σ (a ++ c.0 ∷ [])) (placings σ b ++ current_stores σ b y) = (
+      placings_after σ (a ++ c.0 ∷ []) q.0 ++ current_stores σ b y,
+      sym (append_assoc (placings σ (a ++ c.0 ∷ [])) (placings_after σ (a ++ c.0 ∷ []) q.0) (current_stores σ b y)) ∙ ap (λ z. z ++ current_stores σ b y) (sym e),
+    ) in
     prefix_trans _ _ _ one two
 stores_grow σ a b (Some c) None p (inl q) = absurd q.1
 stores_grow σ a b (Some c) (Some e) p (inl q) =

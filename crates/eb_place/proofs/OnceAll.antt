@@ -164,7 +164,11 @@ pack_grown s seg k P (t ∷ ts) L h =
     let a = pack_row s k P (packed t seg) L h in
     let b = pack_entry s l P (k.packs * 2 ^ 32 + frequency t seg) (L ++ row) a in
     let c = pack_grown s seg m P ts ((L ++ row) ++ x ∷ []) b in
-    record { packs = c.packs; directory = c.directory; grown = subst (Grown s (marked (record k { packs = c.packs; directory = c.directory }) P)) (let q : ((L ++ row) ++ x ∷ []) ++ rest ≡ L ++ (row ++ x ∷ rest) = simp append_assoc in q) c.grown }
+    record {
+      packs = c.packs;
+      directory = c.directory;
+      grown = subst (Grown s (marked (record k { packs = c.packs; directory = c.directory }) P)) (let q : ((L ++ row) ++ x ∷ []) ++ rest ≡ L ++ (row ++ x ∷ rest) = simp append_assoc in q) c.grown;
+    }
 
 -- all stores of a conversion
 convert_single : (s : ℕ) (seg docs : List Doc) (σ : Setting) (L : List Store) → Grown s (words_of_docs σ docs) L → Single (L ++ convert_stores s seg)
@@ -203,7 +207,10 @@ record AllSingle (σ : Setting) (docs : List Doc) (n : ℕ) : Type 0 where
 
 all_single : (σ : Setting) (docs : List Doc) (n : ℕ) → AllGrown σ docs → AllSingle σ docs n
 unfolding conversions segment_stores
-all_single σ docs zero h = record { single = subst Single (sym (append-nil (placings σ docs))) h.single; named = λ v l. subst (Each (Named v (words_of_docs σ (get_or (cut σ docs) v [])))) (sym (append-nil (placings σ docs))) (h.named v) }
+all_single σ docs zero h = record {
+  single = subst Single (sym (append-nil (placings σ docs))) h.single;
+  named = λ v l. subst (Each (Named v (words_of_docs σ (get_or (cut σ docs) v [])))) (sym (append-nil (placings σ docs))) (h.named v);
+}
 all_single σ docs (suc n) h =
     let a = all_single σ docs n h in
     let L = placings σ docs in

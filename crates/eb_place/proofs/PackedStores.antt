@@ -76,7 +76,12 @@ segment_packs σ docs s room =
     let fits = room.fits in
     let few = fits.few in
     Each-append (packs σ s seg 0 0 (distinct (terms_of seg)) room.inside
-    (omega (arith, sums (λ t. length (packed t seg)) (λ t. count_of t (terms_of seg)) (λ t. packed_few t seg) (distinct (terms_of seg)), total_count (terms_of seg), postings_few σ (terms_of seg) fits)) (omega arith))
+    (omega (
+      arith,
+      sums (λ t. length (packed t seg)) (λ t. count_of t (terms_of seg)) (λ t. packed_few t seg) (distinct (terms_of seg)),
+      total_count (terms_of seg),
+      postings_few σ (terms_of seg) fits,
+    )) (omega arith))
     (more (record { within = (room.inside, lit< tt); packed = refl }) none)
 
 -- and those of all conversions so far

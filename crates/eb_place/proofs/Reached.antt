@@ -266,8 +266,10 @@ tailed σ s ts P u L room h =
     λ a i. val_keeps σ L (x ∷ []) (pool_slot s a) i (more in_x none) (more (λ q. not_tail s (number_of u ts) (pool_slot s a) (pool_pool s a) (sym q)) none) in
     let tail_kept : (j : ℕ) → j < σ.terms → (number_of u ts ≡ j → ⊥)
     → (val σ (L ++ x ∷ []) (slot s tail_region j) ≡ val σ L (slot s tail_region j)) × (times σ (L ++ x ∷ []) (slot s tail_region j) ≡ times σ L (slot s tail_region j)) =
-    λ j l o. (let i = tail_within σ s j room.inside l in
-    (val_keeps σ L (x ∷ []) (slot s tail_region j) i (more in_x none) (more (λ q. o (tail_index s (number_of u ts) j q)) none), times_keep σ L (x ∷ []) (slot s tail_region j) i (more in_x none) (more (λ q. o (tail_index s (number_of u ts) j q)) none))) in
+    λ j l o. (let i = tail_within σ s j room.inside l in (
+      val_keeps σ L (x ∷ []) (slot s tail_region j) i (more in_x none) (more (λ q. o (tail_index s (number_of u ts) j q)) none),
+      times_keep σ L (x ∷ []) (slot s tail_region j) i (more in_x none) (more (λ q. o (tail_index s (number_of u ts) j q)) none),
+    )) in
     let grows = distinct_grows ts u in
     let number : number_of u new ≡ number_of u ts = number_here u ts in
     let number_in : number_of u ts < length (distinct new) = omega (arith, number_low u new (omega arith), number) in

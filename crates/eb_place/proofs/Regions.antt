@@ -122,8 +122,11 @@ picks_all σ s p of k = by_push (λ docs. filter p (placings σ docs) ≡ of (te
 -- what is done is the front of the stores of the whole history
 pub started_stores : (σ : Setting) (docs : List Doc) (c : Option (Doc × ℕ)) → IsPrefix (placings σ docs ++ current_stores σ docs c) (placings σ (docs ++ current_of c))
 started_stores σ docs None = ([], append-nil (placings σ docs ++ []) ∙ append-nil (placings σ docs) ∙ ap (placings σ) (sym (append-nil docs)))
-started_stores σ docs (Some c) =
-    (drop c.1 (doc_stores σ docs c.0), append_assoc (placings σ docs) (take c.1 (doc_stores σ docs c.0)) (drop c.1 (doc_stores σ docs c.0)) ∙ ap (λ z. placings σ docs ++ z) (take-append-drop c.1 (doc_stores σ docs c.0)) ∙ sym (placings_push σ docs c.0))
+started_stores σ docs (Some c) = (
+  drop c.1 (doc_stores σ docs c.0),
+  append_assoc (placings σ docs) (take c.1 (doc_stores σ docs c.0)) (drop c.1 (doc_stores σ docs c.0))
+      ∙ ap (λ z. placings σ docs ++ z) (take-append-drop c.1 (doc_stores σ docs c.0)) ∙ sym (placings_push σ docs c.0),
+)
 
 -- of a front, the kept ones are a front
 pub filter_prefix : {X : Type 0} (p : X → Bool) (xs ys : List X) → IsPrefix xs ys → IsPrefix (filter p xs) (filter p ys)

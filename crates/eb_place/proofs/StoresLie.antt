@@ -116,7 +116,12 @@ packs_fit σ docs s k h l =
     let short = p.short in
     let seg = get_or (cut σ docs) s [] in
     let room = p.room s (omega arith) in
-    omega (arith, sums_few (λ t. length (packed t seg)) (λ t. count_of t (terms_of seg)) (λ t. packed_few t seg) (distinct (terms_of seg)), total_count (terms_of seg), postings_few σ (terms_of seg) room.fits)
+    omega (
+      arith,
+      sums_few (λ t. length (packed t seg)) (λ t. count_of t (terms_of seg)) (λ t. packed_few t seg) (distinct (terms_of seg)),
+      total_count (terms_of seg),
+      postings_few σ (terms_of seg) room.fits,
+    )
 
 pub block_few : (xs : List ℕ) → 1 ≤ length xs → length (block xs) ≤ length xs
 unfolding block

@@ -117,7 +117,13 @@ pub record Some_stored (σ : Setting) (s : ℕ) (ts us : List Term) (P : Term �
 pub tokens_begun : (σ : Setting) (s n p r : ℕ) (ts us : List Term) (P : Term → ℕ → ℕ) (L : List Store) → Room σ s (ts ++ us)
     → Agrees P n p ts us → Reached σ s ts P L → Some_stored σ s ts us P (L ++ take r (tokens_stores σ s n p ts us))
 unfolding tokens_stores
-tokens_begun σ s n p r ts [] P L room a h = record { stored = []; left = []; all = refl; reached = subst (λ z. Reached σ s z P (L ++ take r [])) (sym (append-nil ts)) (subst (λ z. Reached σ s ts P (L ++ z)) (sym (take_all r [] (omega arith))) (subst (Reached σ s ts P) (sym (append-nil L)) h)) }
+tokens_begun σ s n p r ts [] P L room a h = record {
+  stored = [];
+  left = [];
+  all = refl;
+  reached = subst (λ z. Reached σ s z P (L ++ take r [])) (sym (append-nil ts))
+      (subst (λ z. Reached σ s ts P (L ++ z)) (sym (take_all r [] (omega arith))) (subst (Reached σ s ts P) (sym (append-nil L)) h));
+}
 tokens_begun σ s n p r ts (u ∷ us) P L room a h =
     let e = append_assoc ts (u ∷ []) us in
     let room' : Room σ s ((ts ++ u ∷ []) ++ us) = subst (Room σ s) (sym e) room in
