@@ -85,7 +85,13 @@ seen_whole m s t is h =
     let n = length-postings t seg in
     elim (cases_lt 0 (count_of t (terms_of seg))) [
       | inl some ↦ let d = whole_tails m.setting m.documents.accepted s t h (whole_is m is) some in
-          omega (arith, n, d, length-take (count_by (λ (x : ℕ × ℕ). x.0 == place m.setting (slot s tail_region (number_of t (terms_of seg)))) (pairs_of m.setting (document_stores m.setting (record { accepted = m.documents.accepted; current = None })))) (postings t seg))
+          omega (
+            arith,
+            n,
+            d,
+            length-take (count_by (λ (x : ℕ × ℕ). x.0 == place m.setting (slot s tail_region (number_of t (terms_of seg))))
+                (pairs_of m.setting (document_stores m.setting (record { accepted = m.documents.accepted; current = None })))) (postings t seg),
+          )
       | inr away ↦ omega (arith, n)
     ]
 

@@ -168,8 +168,16 @@ mutual
   clear_ready g docs (phrase ts) cs w h f e = (omega (arith, e, f), w, passed_zero (is_start docs ts) (upto cs), e, λ some. absurd (omega (arith, clear_upto cs h)))
   clear_ready g docs (window ts w) cs narrow h f e = (omega (arith, e, f.0), narrow, passed_zero (is_window_end docs ts w) (upto cs), e, λ some. absurd (omega (arith, clear_upto cs h)))
   clear_ready g docs (since x) cs w h f e = bound_clear g docs x cs h e
-  clear_ready g docs (negation q) cs w h f e = (omega (arith, e), passed_zero (λ n. not (match_at docs q n)) (upto cs), subst (λ k. Ready g docs q (rest_of cs) k) (sym (clear_upto cs h)) (clear_ready g docs q (rest_of cs) w (clear_rest cs h) f (length_rest cs (size q) (omega (arith, e)))))
-  clear_ready g docs (conjunction qs) cs w h f e = (omega (arith, e), passed_zero (each_at docs qs) (upto cs), subst (λ k. AllReady g docs qs (rest_of cs) k) (sym (clear_upto cs h)) (clear_all g docs qs (rest_of cs) w (clear_rest cs h) f.1 (length_rest cs (sizes qs) (omega (arith, e)))))
+  clear_ready g docs (negation q) cs w h f e = (
+    omega (arith, e),
+    passed_zero (λ n. not (match_at docs q n)) (upto cs),
+    subst (λ k. Ready g docs q (rest_of cs) k) (sym (clear_upto cs h)) (clear_ready g docs q (rest_of cs) w (clear_rest cs h) f (length_rest cs (size q) (omega (arith, e)))),
+  )
+  clear_ready g docs (conjunction qs) cs w h f e = (
+    omega (arith, e),
+    passed_zero (each_at docs qs) (upto cs),
+    subst (λ k. AllReady g docs qs (rest_of cs) k) (sym (clear_upto cs h)) (clear_all g docs qs (rest_of cs) w (clear_rest cs h) f.1 (length_rest cs (sizes qs) (omega (arith, e)))),
+  )
   clear_ready g docs (disjunction qs) cs w h f e = (omega (arith, e), clear_all g docs qs (rest_of cs) w (clear_rest cs h) f.1 (length_rest cs (sizes qs) (omega (arith, e))))
 
   pub clear_all : (g : Gives) (docs : List Doc) (qs : Trees) (cs : List Cursor) → Narrow docs → AreClear cs → AreFormed qs → length cs ≡ sizes qs → AllReady g docs qs cs 0

@@ -238,8 +238,12 @@ phrase_block docs w ps h n = record {
   some = λ e. let a = phrase_some ps (terms_at docs n) e in
       let in_doc : a.0 + length ps ≤ places = omega (arith, w.narrow n, a.1) in
       let k : a.0 < places = omega arith in
-      let room : (places * n + a.0) % places + length ps ≤ places = omega arith in
-      (a.0, k, and_from (has_room (length ps) (places * n + a.0)) (is_run_from docs ps (places * n + a.0)) (le-leb ((places * n + a.0) % places + length ps) places room) (start_run docs ps n a.0 in_doc ∙ a.2));
+      let room : (places * n + a.0) % places + length ps ≤ places = omega arith in (
+        a.0,
+        k,
+        and_from (has_room (length ps) (places * n + a.0)) (is_run_from docs ps (places * n + a.0)) (le-leb ((places * n + a.0) % places + length ps) places room)
+            (start_run docs ps n a.0 in_doc ∙ a.2),
+      );
   none = λ e k i. elim (cases_lt places (k + length ps)) [
     | inl j ↦ let over : places < (places * n + k) % places + length ps = omega arith in
         and_left (has_room (length ps) (places * n + k)) (is_run_from docs ps (places * n + k)) (lt-leb ((places * n + k) % places + length ps) places over)

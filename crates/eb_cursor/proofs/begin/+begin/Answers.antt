@@ -86,7 +86,17 @@ begin_each-begin-requires g t c = λ κs lv.
           search rules,
           (
             omega (arith, c.requires.small.0, c.requires.small.1, c.split_at_mut-own.ensures.front_len, c.split_at_mut-own.ensures.back_len),
-            (omega (arith, c.split_at_mut-own.ensures.front_len, c.size.ensures), (formed.0, (front_clear (trees_in c.args.parts.now) (tree c.in-Some.part.now) (trees_in c.in-Some.others.now) c.args.cursors.now c.split_at_mut-own.result.0.now c.split_at_mut-own.result.1.now e c.requires.clear, c.requires.first))),
+            (
+              omega (arith, c.split_at_mut-own.ensures.front_len, c.size.ensures),
+              (
+                formed.0,
+                (
+                  front_clear (trees_in c.args.parts.now) (tree c.in-Some.part.now)
+                      (trees_in c.in-Some.others.now) c.args.cursors.now c.split_at_mut-own.result.0.now c.split_at_mut-own.result.1.now e c.requires.clear,
+                  c.requires.first,
+                ),
+              ),
+            ),
           ),
         ),
       ),
@@ -166,7 +176,17 @@ begin_some-begin-some-requires g t c = λ κs lv.
           search rules,
           (
             omega (arith, c.requires.small.0, c.requires.small.1, c.split_at_mut-own.ensures.front_len, c.split_at_mut-own.ensures.back_len),
-            (omega (arith, c.split_at_mut-own.ensures.front_len, c.size.ensures), (formed.0, (front_clear (trees_in c.args.parts.now) (tree c.in-Some.part.now) (trees_in c.in-Some.others.now) c.args.cursors.now c.split_at_mut-own.result.0.now c.split_at_mut-own.result.1.now e c.requires.clear, c.requires.first))),
+            (
+              omega (arith, c.split_at_mut-own.ensures.front_len, c.size.ensures),
+              (
+                formed.0,
+                (
+                  front_clear (trees_in c.args.parts.now) (tree c.in-Some.part.now)
+                      (trees_in c.in-Some.others.now) c.args.cursors.now c.split_at_mut-own.result.0.now c.split_at_mut-own.result.1.now e c.requires.clear,
+                  c.requires.first,
+                ),
+              ),
+            ),
           ),
         ),
       ),

@@ -116,15 +116,22 @@ not_below-loop-place-preserved g t c = record {
       (λ l r. r) (λ l m w r i. i.1)
       (λ l m n w1 w2 r i w.
       let f : ℕ → _ = match_at docs (tree c.args.query.now) in
-      let over : c.loop-place.place ≤ top f c.loop-place.place = omega (arith, w.0) in
-      (i.0 ∙ not_past f c.loop-place.place c.loop-place-test.true over, ready_lower (gives n) docs (tree c.args.query.now) c.below-found.new.cursors (c.loop-place.place - 1) c.loop-place.place (omega arith) w.1));
+      let over : c.loop-place.place ≤ top f c.loop-place.place = omega (arith, w.0) in (
+        i.0 ∙ not_past f c.loop-place.place c.loop-place-test.true over,
+        ready_lower (gives n) docs (tree c.args.query.now) c.below-found.new.cursors (c.loop-place.place - 1) c.loop-place.place (omega arith) w.1,
+      ));
 }
 
 pub not_below-below-found-requires : goal.not_below-below-found-requires
 not_below-below-found-requires g t c = λ κs lv.
     let r = c.requires.ready in
-    let i = (c.loop-place.invariant.found r.1 r.2 r.4).told r.0 r.3 r.5 in
-    (search rules, (search rules, (search rules, (omega (arith, c.requires.small.0, c.requires.small.1, c.loop-place.invariant.falls, c.loop-place.auto.cursors), (i.0, r.1, c.loop-place.place, i.1, omega arith, i.4.1)))))
+    let i = (c.loop-place.invariant.found r.1 r.2 r.4).told r.0 r.3 r.5 in (
+      search rules,
+      (
+        search rules,
+        (search rules, (omega (arith, c.requires.small.0, c.requires.small.1, c.loop-place.invariant.falls, c.loop-place.auto.cursors), (i.0, r.1, c.loop-place.place, i.1, omega arith, i.4.1))),
+      ),
+    )
 
 at_zero : (f : ℕ → Bool) (place : ℕ) → place ≤ 0 → place ≡ top f place
 at_zero f zero h = refl
@@ -147,8 +154,13 @@ all_below-loop-place-init g t c = record {
 pub all_below-round_below-found-requires : goal.all_below-round_below-found-requires
 all_below-round_below-found-requires g t c = λ κs lv.
     let r = c.requires.ready in
-    let i = (c.loop-place.invariant.found r.1 r.2 r.4).told r.0 r.3 r.5 in
-    (search rules, (search rules, (search rules, (omega (arith, c.requires.small.0, c.requires.small.1, c.loop-place.invariant.falls, c.loop-place.auto.cursors), (i.0, r.1, c.loop-place.place, i.1, omega arith, i.4.1)))))
+    let i = (c.loop-place.invariant.found r.1 r.2 r.4).told r.0 r.3 r.5 in (
+      search rules,
+      (
+        search rules,
+        (search rules, (omega (arith, c.requires.small.0, c.requires.small.1, c.loop-place.invariant.falls, c.loop-place.auto.cursors), (i.0, r.1, c.loop-place.place, i.1, omega arith, i.4.1))),
+      ),
+    )
 
 pub all_below-returns-then-found-place-clause-found : goal.all_below-returns-then-found-place-clause-found
 all_below-returns-then-found-place-clause-found g t c = λ docs last h.
@@ -233,8 +245,16 @@ pub led_below-all_below-requires : goal.led_below-all_below-requires
 led_below-all_below-requires g t c = λ κs lv.
     let r = c.requires.ready in
     let x = (c.lead_below-start.ensures.found r.1 r.2 r.4).told r.0 r.3 r.5 in
-    let under : c.lead_below-start.result ≤ c.args.end = x.4.falls in
-    (search rules, (search rules, (search rules, ((omega (arith, under, c.requires.small.0), omega (arith, c.requires.small.1, c.lead_below-start.auto.cursors)), (x.0, r.1, c.lead_below-start.result, x.1, omega arith, x.4.ready)))))
+    let under : c.lead_below-start.result ≤ c.args.end = x.4.falls in (
+      search rules,
+      (
+        search rules,
+        (
+          search rules,
+          ((omega (arith, under, c.requires.small.0), omega (arith, c.requires.small.1, c.lead_below-start.auto.cursors)), (x.0, r.1, c.lead_below-start.result, x.1, omega arith, x.4.ready)),
+        ),
+      ),
+    )
 
 pub led_below-returns-clause-found : goal.led_below-returns-clause-found
 led_below-returns-clause-found g t c = λ docs last h.
@@ -272,8 +292,13 @@ round_below-round_below-requires g t c = λ κs lv.
     let w : IsLater r.0 x.0 = record { is = g.met.P.Port.lawful _ r.0 r.3; later = x.2 } in
     let more = others_ask (gives r.0) (gives x.0) r.1 (trees_in c.args.parts.now) (tree c.in-Some.part.now)
     (trees_in c.in-Some.others.now) c.args.cursors.now c.split_at_mut-own.result.0.now c.split_at_mut-own.result.1.now c.args.end r.2 e (gives_later r.0 x.0 w) r.4 r.5 in
-    let under : c.below-found.result ≤ c.args.end = omega (arith, x.4.0, top_le (match_at r.1 (tree c.in-Some.part.now)) c.args.end) in
-    (search rules, (search rules, (search rules, ((omega (arith, under, c.requires.small.0), search rules), (x.0, r.1, c.args.end, x.1, omega (arith, x.4.0, top_le (match_at r.1 (tree c.in-Some.part.now)) c.args.end), more)))))
+    let under : c.below-found.result ≤ c.args.end = omega (arith, x.4.0, top_le (match_at r.1 (tree c.in-Some.part.now)) c.args.end) in (
+      search rules,
+      (
+        search rules,
+        (search rules, ((omega (arith, under, c.requires.small.0), search rules), (x.0, r.1, c.args.end, x.1, omega (arith, x.4.0, top_le (match_at r.1 (tree c.in-Some.part.now)) c.args.end), more))),
+      ),
+    )
 
 pub round_below-returns-clause-found : goal.round_below-returns-clause-found
 round_below-returns-clause-found g t c = λ docs last h.

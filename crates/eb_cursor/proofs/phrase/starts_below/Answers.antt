@@ -21,8 +21,15 @@ leaves_below-found-requires-clause-small g c =
 
 pub leaves_below-found-requires-clause-ready : goal.leaves_below-found-requires-clause-ready
 leaves_below-found-requires-clause-ready g c = let r = c.requires.ready in
-    let i = (c.loop-place.invariant.found r.1 r.2 r.3 r.5).told r.0 r.4 (leaves_of (gives r.0) r.1 r.2 c.args.cursors.now r.3 r.6) in
-    (i.0, r.1, r.2, c.loop-place.place, i.1, omega (arith, c.room_below-room.ensures, top_le (has_room (length c.args.cursors.now)) c.loop-place.place), leaves_at (gives i.0) r.1 r.2 c.loop-place.cursors c.loop-place.place i.4.1)
+    let i = (c.loop-place.invariant.found r.1 r.2 r.3 r.5).told r.0 r.4 (leaves_of (gives r.0) r.1 r.2 c.args.cursors.now r.3 r.6) in (
+      i.0,
+      r.1,
+      r.2,
+      c.loop-place.place,
+      i.1,
+      omega (arith, c.room_below-room.ensures, top_le (has_room (length c.args.cursors.now)) c.loop-place.place),
+      leaves_at (gives i.0) r.1 r.2 c.loop-place.cursors c.loop-place.place i.4.1,
+    )
 
 pub returns-then-found-place-clause-found : goal.returns-then-found-place-clause-found
 returns-then-found-place-clause-found g c = λ docs ts last h.

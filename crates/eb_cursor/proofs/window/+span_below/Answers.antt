@@ -37,8 +37,14 @@ returns-then-behind-eq0-clause-found g t c = λ docs ts last h. record {
   told = λ m st r.
       let a = behind_asks (gives m) docs ts c.args.cursors.now c.in-Some.own.now c.in-Some.rest.now last c.in-Some.ensures.cases.0 r in
       let x = (c.span_below-behind.ensures.found docs a.1 last h).told m st a.4 in
-      let w : IsLater m x.0 = record { is = g.met.P.Port.lawful _ m st; later = x.2 } in
-      (x.0, x.1, x.2, x.3, span_none (gives m) (gives x.0) (gives_later m x.0 w) docs ts a.1 a.0 c.in-Some.own.now c.span_below-behind.new.cursors c.args.end last _ _ a.2 (omega (arith, c.span_below-behind.auto.cursors, some_of (length c.in-Some.rest.now) (sym c.is_empty.ensures ∙ c.if-is_empty.false))) h c.if-behind-eq0.true x.4 a.3);
+      let w : IsLater m x.0 = record { is = g.met.P.Port.lawful _ m st; later = x.2 } in (
+        x.0,
+        x.1,
+        x.2,
+        x.3,
+        span_none (gives m) (gives x.0) (gives_later m x.0 w) docs ts a.1 a.0 c.in-Some.own.now c.span_below-behind.new.cursors c.args.end last _ _ a.2
+            (omega (arith, c.span_below-behind.auto.cursors, some_of (length c.in-Some.rest.now) (sym c.is_empty.ensures ∙ c.if-is_empty.false))) h c.if-behind-eq0.true x.4 a.3,
+      );
 }
 
 pub leaf_below-first-requires : goal.leaf_below-first-requires
