@@ -300,7 +300,20 @@ done_after σ x d s t posting k lawful q =
     ap (λ z. placings σ docs ++ z) (taken_more (doc_stores σ docs d) A _ (stores_done x.current) q.left ∙ ap (λ z. z ++ A) w) ∙ sym (append_assoc (placings σ docs) W A) in
     record {
       seen = front_take (terms_of (get_or (cut σ (docs ++ d ∷ [])) s [])) (b ++ t ∷ []) q.later _ all
-          (omega (arith, ap (count_in s tail_region) stores, count_in-append s tail_region (placings σ docs ++ W) A, tails_before σ docs s seg q.earlier t j.old c, appends_tails s b t (count_of t b) posting, length_push b t));
+          (omega (
+            arith,
+            ap (count_in s tail_region) stores,
+            count_in-append s tail_region (placings σ docs ++ W) A,
+            tails_before σ docs s seg q.earlier t j.old c,
+            appends_tails s b t (count_of t b) posting,
+            length_push b t,
+          ));
       entered = front_take (distinct (terms_of (get_or (cut σ (docs ++ d ∷ [])) s []))) (distinct (b ++ t ∷ [])) more.0 _ (ap distinct all ∙ more.1)
-          (omega (arith, ap (count_in s cell_region) stores, count_in-append s cell_region (placings σ docs ++ W) A, cells_before σ docs s seg q.earlier t j.old c, appends_cells s b t (count_of t b) posting));
+          (omega (
+            arith,
+            ap (count_in s cell_region) stores,
+            count_in-append s cell_region (placings σ docs ++ W) A,
+            cells_before σ docs s seg q.earlier t j.old c,
+            appends_cells s b t (count_of t b) posting,
+          ));
     }

@@ -225,7 +225,20 @@ found_short opened rest left given g at span i before after end v0 size shorter 
     let more = walk_more opened (length rest) (length rest - length left) (suc (g - f)) (omega arith) in
     let k1 : length rest - length given + 1 ≡ length rest - length left + suc (g - f) = omega (arith, n, size, shorter, e, within) in
     let k2 : length rest - (length rest - length left) ≡ suc g = omega (arith, size, shorter) in
-    omega (arith, walk, more, ap (walk_loads opened (length rest)) k1, ap (λ j. walk_loads opened j (suc (g - f))) k2, walk_first opened g (g - f) (omega arith), way, lead, loads, double_power i, p, e)
+    omega (
+      arith,
+      walk,
+      more,
+      ap (walk_loads opened (length rest)) k1,
+      ap (λ j. walk_loads opened j (suc (g - f))) k2,
+      walk_first opened g (g - f) (omega arith),
+      way,
+      lead,
+      loads,
+      double_power i,
+      p,
+      e,
+    )
 
 pub end_leap : (rest : List ℕ) (before after end : ℕ) (v0 : Way) → after + 2 * slices_in_use 0 ≤ before + 2 * slices_in_use (length rest) → end ≡ after + lead_loads v0 → IsLeap rest [] before end
 end_leap rest before after end v0 slices loads = record { digits = 0; passed = omega arith; few = omega arith; loads = omega (arith, slices, loads, lead_few v0) }

@@ -262,13 +262,46 @@ counts_placed σ docs k = by_push (λ ds. IsLawful σ ds → (v : ℕ)
                   let new : terms_of (get_or (cut σ (ds ++ d ∷ [])) v []) ≡ terms_of before ++ d.terms =
                   ap (λ z. terms_of (get_or (cut σ (ds ++ d ∷ [])) z [])) q ∙ ap terms_of j.here ∙ terms_push before d in
                   record {
-                    tails = omega (arith, ap (count_in v tail_region) e, count_in-append v tail_region (placings σ ds) X, ap (λ z. count_in z tail_region X) q, doc_tails σ s before (length ds) d, c.tails, ap (λ z. length (terms_of z)) old, ap length new, length-append (terms_of before) d.terms);
-                    cells = omega (arith, ap (count_in v cell_region) e, count_in-append v cell_region (placings σ ds) X, ap (λ z. count_in z cell_region X) q, doc_cells σ s before (length ds) d, c.cells, ap (λ z. length (distinct (terms_of z))) old, ap (λ z. length (distinct z)) new);
+                    tails = omega (
+                      arith,
+                      ap (count_in v tail_region) e,
+                      count_in-append v tail_region (placings σ ds) X,
+                      ap (λ z. count_in z tail_region X) q,
+                      doc_tails σ s before (length ds) d,
+                      c.tails,
+                      ap (λ z. length (terms_of z)) old,
+                      ap length new,
+                      length-append (terms_of before) d.terms,
+                    );
+                    cells = omega (
+                      arith,
+                      ap (count_in v cell_region) e,
+                      count_in-append v cell_region (placings σ ds) X,
+                      ap (λ z. count_in z cell_region X) q,
+                      doc_cells σ s before (length ds) d,
+                      c.cells,
+                      ap (λ z. length (distinct (terms_of z))) old,
+                      ap (λ z. length (distinct z)) new,
+                    );
                   }
               | no q ↦
                   let same = j.other v q in
                   record {
-                    tails = omega (arith, ap (count_in v tail_region) e, count_in-append v tail_region (placings σ ds) X, doc_other σ s v tail_region before (length ds) d (λ w. q (sym w)), c.tails, ap (λ z. length (terms_of z)) same);
-                    cells = omega (arith, ap (count_in v cell_region) e, count_in-append v cell_region (placings σ ds) X, doc_other σ s v cell_region before (length ds) d (λ w. q (sym w)), c.cells, ap (λ z. length (distinct (terms_of z))) same);
+                    tails = omega (
+                      arith,
+                      ap (count_in v tail_region) e,
+                      count_in-append v tail_region (placings σ ds) X,
+                      doc_other σ s v tail_region before (length ds) d (λ w. q (sym w)),
+                      c.tails,
+                      ap (λ z. length (terms_of z)) same,
+                    );
+                    cells = omega (
+                      arith,
+                      ap (count_in v cell_region) e,
+                      count_in-append v cell_region (placings σ ds) X,
+                      doc_other σ s v cell_region before (length ds) d (λ w. q (sym w)),
+                      c.cells,
+                      ap (λ z. length (distinct (terms_of z))) same,
+                    );
                   }
             ]
