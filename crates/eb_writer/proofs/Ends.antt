@@ -85,7 +85,10 @@ begin_next m d s is b =
       room = b.placed.room;
       current = b.placed.current;
       later = R;
-      more = omega (arith, length-append (tokens_stores m.setting s (length (before_it m d)) 0 (tokens_until m d 0) d.terms) ((slot s id_region (length (before_it m d)), d.id) ∷ (published, length docs + 1) ∷ []));
+      more = omega (
+        arith,
+        length-append (tokens_stores m.setting s (length (before_it m d)) 0 (tokens_until m d 0) d.terms) ((slot s id_region (length (before_it m d)), d.id) ∷ (published, length docs + 1) ∷ []),
+      );
       left = ap (λ k. drop k (doc_stores m.setting docs d)) (idle_done m b.idle) ∙ all_left m d s is b.placed ∙ ap (λ z. z ++ R) (first_is s (before_it m d) (length docs) b.first);
     }
 
@@ -122,9 +125,23 @@ begun m d s is b =
     let L = placings σ docs ++ take 1 D in
     let stores : L ≡ placings σ docs ++ first_stores s seg (length docs) = ap (λ z. placings σ docs ++ take 1 z) all ∙ ap (λ z. placings σ docs ++ z) (sym (first_is s seg (length docs) b.first)) in
     let cells : count_in s cell_region L ≡ 0 =
-    omega (arith, ap (count_in s cell_region) stores, count_in-append s cell_region (placings σ docs) (first_stores s seg (length docs)), firsts_away s s cell_region seg (length docs) refl, c.cells, ap length (nothing_terms (get_or (cut σ docs) s []) old)) in
+    omega (
+      arith,
+      ap (count_in s cell_region) stores,
+      count_in-append s cell_region (placings σ docs) (first_stores s seg (length docs)),
+      firsts_away s s cell_region seg (length docs) refl,
+      c.cells,
+      ap length (nothing_terms (get_or (cut σ docs) s []) old),
+    ) in
     let tails : count_in s tail_region L ≡ 0 =
-    omega (arith, ap (count_in s tail_region) stores, count_in-append s tail_region (placings σ docs) (first_stores s seg (length docs)), firsts_away s s tail_region seg (length docs) refl, c.tails, ap length (nothing_tokens (get_or (cut σ docs) s []) old)) in
+    omega (
+      arith,
+      ap (count_in s tail_region) stores,
+      count_in-append s tail_region (placings σ docs) (first_stores s seg (length docs)),
+      firsts_away s s tail_region seg (length docs) refl,
+      c.tails,
+      ap length (nothing_tokens (get_or (cut σ docs) s []) old),
+    ) in
     let none : tokens_until m d 0 ≡ [] = append-nil (terms_of seg) ∙ nothing_tokens seg b.first in
     let P : Setting → Documents → Type 0 = λ κ y. HasComeTo record { setting = κ; documents = y; conversions = n.conversions } d s 0 in
     let at : P σ record { accepted = docs; current = Some (d, 1) } = record {

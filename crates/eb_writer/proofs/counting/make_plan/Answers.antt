@@ -43,8 +43,13 @@ found_at-token-requires-clause-ready g c =
     let r = c.requires.ready in
     let s = c.args.segment in
     let k = c.loop-at.invariant.0 r.0 r.1 r.2 in
-    let f = g.met.P.Pen.pen_keeps _ _ r.0 k.0 k.3 in
-    (k.0, k.1, idle_same r.0 k.0 f r.2.idle, inside_same r.0 k.0 s k.2 r.2.inside, subst (λ (z : List Term). AreFound z c.terms-terms.result.now c.loop-at.found c.loop-at.at) (sym (tokens_same r.0 k.0 s k.2 f)) k.4)
+    let f = g.met.P.Pen.pen_keeps _ _ r.0 k.0 k.3 in (
+      k.0,
+      k.1,
+      idle_same r.0 k.0 f r.2.idle,
+      inside_same r.0 k.0 s k.2 r.2.inside,
+      subst (λ (z : List Term). AreFound z c.terms-terms.result.now c.loop-at.found c.loop-at.at) (sym (tokens_same r.0 k.0 s k.2 f)) k.4,
+    )
 
 pub with_token-used-requires-clause-tail : goal.with_token-used-requires-clause-tail
 with_token-used-requires-clause-tail g c =
