@@ -101,7 +101,12 @@ pub tails_few : (m : Moment) (s : ℕ) → stores_in_region m s tail_region ≤ 
 unfolding stores_in_region
 tails_few m s =
     let p = picks_done m s (is_in s tail_region) (tail_stores s []) (tails_picked m.setting s) in
-    omega (arith, prefix_length (filter (is_in s tail_region) (document_stores m.setting m.documents)) (tail_stores s [] (terms_of (segment m s))) p, length-tail_stores s [] (terms_of (segment m s)), length-filter (is_in s tail_region) (document_stores m.setting m.documents))
+    omega (
+      arith,
+      prefix_length (filter (is_in s tail_region) (document_stores m.setting m.documents)) (tail_stores s [] (terms_of (segment m s))) p,
+      length-tail_stores s [] (terms_of (segment m s)),
+      length-filter (is_in s tail_region) (document_stores m.setting m.documents),
+    )
 
 -- where no tail is stored between two moments, the same tokens are seen
 pub tokens_same : (m n : Moment) (s : ℕ) → IsNotBefore n m → stores_in_region n s tail_region ≡ stores_in_region m s tail_region → tokens_seen n s ≡ tokens_seen m s
