@@ -1,5 +1,6 @@
 -- What is known where a placing has come to a posting, and after its stores.
-use Rattle.std.proofs.Common.{◌≡◌, ℕ, zero, suc, ◌+◌, ◌<◌, ◌≤◌, ◌⊎◌, List, [], ◌∷◌, ◌++◌, length, take, drop, get_or, refl, ap, sym, ◌∙◌, subst, arith, inl, inr, append-nil, append_assoc, Option, Some, None}
+use Rattle.std.proofs.Common.{◌≡◌, ℕ, zero, suc, ◌+◌, ◌<◌, ◌≤◌, ◌⊎◌, List, [], ◌∷◌, ◌++◌, length, take, drop, get_or}
+use Rattle.std.proofs.Common.{refl, ap, sym, ◌∙◌, subst, arith, inl, inr, append-nil, append_assoc, Option, Some, None}
 use Rattle.std.proofs.lemmas.Bool.{eq-eqb}
 use Rattle.std.proofs.lemmas.List.{length_push, length-append, length-drop, take_at}
 use Rattle.eb_base.specs.Term.{Term}
@@ -24,7 +25,8 @@ use Rattle.eb_place.proofs.Histories.{posting_numbers, agrees_doc, posting_front
 use Rattle.eb_place.proofs.PlacedDocuments.{first_stores, first_within, first_plain, stores_split}
 use Rattle.eb_place.proofs.Placed.{placed_all, reached_same, Joins, joins, lawful_front}
 use Rattle.eb_chain.specs.Appends.{tokens_before, IsPostingNext, with_stores}
-use Rattle.eb_chain.proofs.RegionCounts.{count_in, count_in-append, enters, enters_tails, enters_cells, appends_tails, appends_cells, tokens_tails, tokens_cells, distinct_one, distinct_more, firsts_away, Counts, counts_placed}
+use Rattle.eb_chain.proofs.RegionCounts.{count_in, count_in-append, enters, enters_tails, enters_cells, appends_tails, appends_cells}
+use Rattle.eb_chain.proofs.RegionCounts.{tokens_tails, tokens_cells, distinct_one, distinct_more, firsts_away, Counts, counts_placed}
 
 -- ---- where in the placing it is
 
@@ -42,9 +44,11 @@ taken xs front back i e some d =
     ap (take i) e ∙ ap (λ j. take j (front ++ back)) k ∙ take_at front back (length front) refl
 
 -- the placing of a document is cut before the stores of a posting
-pub placing_cut : (σ : Setting) (s : ℕ) (seg : List Doc) (count : ℕ) (d : Doc) (earlier later : List Term) (t : Term) (posting : ℕ) → d.terms ≡ earlier ++ t ∷ later → posting ≡ posting_of (length seg) (length earlier)
+pub placing_cut : (σ : Setting) (s : ℕ) (seg : List Doc) (count : ℕ) (d : Doc) (earlier later : List Term) (t : Term) (posting : ℕ)
+    → d.terms ≡ earlier ++ t ∷ later → posting ≡ posting_of (length seg) (length earlier)
     → stores_in σ s seg count d ≡ stores_before σ s seg count earlier t
-    ++ (append_stores s (terms_of seg ++ earlier) t (count_of t (terms_of seg ++ earlier)) posting ++ (tokens_stores σ s (length seg) (length earlier + 1) ((terms_of seg ++ earlier) ++ t ∷ []) later ++ (slot s id_region (length seg), d.id) ∷ (published, count + 1) ∷ []))
+    ++ (append_stores s (terms_of seg ++ earlier) t (count_of t (terms_of seg ++ earlier)) posting
+    ++ (tokens_stores σ s (length seg) (length earlier + 1) ((terms_of seg ++ earlier) ++ t ∷ []) later ++ (slot s id_region (length seg), d.id) ∷ (published, count + 1) ∷ []))
 unfolding tokens_stores token_stores
 placing_cut σ s seg count d earlier later t posting e p =
     let n = length seg in
@@ -95,7 +99,8 @@ number_around t before tail later ts e (inl w) =
     ap (number_of t) (e ∙ ap (λ z. before ++ z) w ∙ sym (append_assoc before (t ∷ []) later)) ∙ number_stays t (before ++ t ∷ []) later (omega arith) ∙ number_here t before
 number_around t before tail later ts e (inr w) = ap (number_of t) (e ∙ ap (λ z. before ++ z) w.0 ∙ append-nil before)
 
-distinct_around : (t : Term) (before tail later ts : List Term) → ts ≡ before ++ tail → (tail ≡ t ∷ later) ⊎ ((tail ≡ []) × (1 ≤ count_of t before)) → (rest : List Term) × (distinct ts ≡ distinct (before ++ t ∷ []) ++ rest)
+distinct_around : (t : Term) (before tail later ts : List Term) → ts ≡ before ++ tail
+    → (tail ≡ t ∷ later) ⊎ ((tail ≡ []) × (1 ≤ count_of t before)) → (rest : List Term) × (distinct ts ≡ distinct (before ++ t ∷ []) ++ rest)
 distinct_around t before tail later ts e (inl w) =
     let r = distinct_more (before ++ t ∷ []) later in
     (r.0, ap distinct (e ∙ ap (λ z. before ++ z) w ∙ sym (append_assoc before (t ∷ []) later)) ∙ r.1)
@@ -109,7 +114,8 @@ distinct_around t before tail later ts e (inr w) =
     ]
 
 -- the document is being placed, or its term was there before
-around : (σ : Setting) (docs : List Doc) (c : Option (Doc × ℕ)) (d : Doc) (s : ℕ) (seg : List Doc) (earlier later : List Term) (t : Term) → Joins σ docs d s seg → IsCurrent c d → d.terms ≡ earlier ++ t ∷ later
+around : (σ : Setting) (docs : List Doc) (c : Option (Doc × ℕ)) (d : Doc) (s : ℕ) (seg : List Doc) (earlier later : List Term) (t : Term)
+    → Joins σ docs d s seg → IsCurrent c d → d.terms ≡ earlier ++ t ∷ later
     → take (stores_done c) (doc_stores σ docs d) ≡ stores_before σ s seg (length docs) earlier t → Around σ record { accepted = docs; current = c } d s t (terms_of seg ++ earlier) later
 around σ docs (Some c) d s seg earlier later t j cur e w = record {
   tail = t ∷ later;
@@ -144,7 +150,8 @@ around σ docs None d s seg (u ∷ us) later t j cur e w = absurd (
     )
 
 -- with these stores done, the tokens before the posting are stored, and its term is entered
-reached_before : (σ : Setting) (docs : List Doc) (d : Doc) (s : ℕ) (seg : List Doc) (earlier later : List Term) (t : Term) → IsSetting σ → IsLawful σ docs → Joins σ docs d s seg → d.terms ≡ earlier ++ t ∷ later
+reached_before : (σ : Setting) (docs : List Doc) (d : Doc) (s : ℕ) (seg : List Doc) (earlier later : List Term) (t : Term)
+    → IsSetting σ → IsLawful σ docs → Joins σ docs d s seg → d.terms ≡ earlier ++ t ∷ later
     → Room σ s ((terms_of seg ++ earlier) ++ t ∷ []) × Reached σ s (terms_of seg ++ earlier) (posting_numbers (seg ++ d ∷ [])) (placings σ docs ++ stores_before σ s seg (length docs) earlier t)
 reached_before σ docs d s seg earlier later t k lawful j e =
     let T0 = terms_of seg in
@@ -214,7 +221,8 @@ cells_before σ docs s seg earlier t old c =
     )
 
 -- the segment of the document
-pub joined : (σ : Setting) (x : Documents) (d : Doc) (s : ℕ) (t : Term) (posting : ℕ) → IsSetting σ → IsLawful σ (with_current x) → IsPostingNext σ x d s t posting → Joins σ x.accepted d s (segment_before σ x.accepted d)
+pub joined : (σ : Setting) (x : Documents) (d : Doc) (s : ℕ) (t : Term) (posting : ℕ) → IsSetting σ
+    → IsLawful σ (with_current x) → IsPostingNext σ x d s t posting → Joins σ x.accepted d s (segment_before σ x.accepted d)
 joined σ x d s t posting k lawful q =
     let p = placed_all σ x.accepted k (lawful_front σ x.accepted (current_of x.current) lawful) in
     subst (λ z. Joins σ x.accepted d z (segment_before σ x.accepted d)) (sym q.place) (joins σ x.accepted d k p.short (record { limits = q.limits; there = q.room }))
@@ -255,7 +263,8 @@ here σ x d s t posting k lawful q =
       reached = r.1;
       number = number_around t (terms_of seg ++ q.earlier) a.tail q.later (terms_of (get_or (cut σ (with_current x)) s [])) a.all a.known;
       seen = front_take (terms_of (get_or (cut σ (with_current x)) s [])) (terms_of seg ++ q.earlier) a.tail _ a.all (tails_before σ docs s seg q.earlier t j.old c);
-      entered = front_take (distinct (terms_of (get_or (cut σ (with_current x)) s []))) (distinct ((terms_of seg ++ q.earlier) ++ t ∷ [])) dist.0 _ dist.1 (cells_before σ docs s seg q.earlier t j.old c);
+      entered =
+          front_take (distinct (terms_of (get_or (cut σ (with_current x)) s []))) (distinct ((terms_of seg ++ q.earlier) ++ t ∷ [])) dist.0 _ dist.1 (cells_before σ docs s seg q.earlier t j.old c);
     }
 
 -- ---- after the stores of the posting
@@ -272,7 +281,8 @@ taken_more [] (y ∷ a) b (suc i) e = absurd cc
 taken_more (x ∷ xs) a b (suc i) e = ap (λ k. take k (x ∷ xs)) (let q : suc i + length a ≡ suc (i + length a) = omega arith in q) ∙ ap (λ z. x ∷ z) (taken_more xs a b i e)
 
 pub done_after : (σ : Setting) (x : Documents) (d : Doc) (s : ℕ) (t : Term) (posting : ℕ) → IsSetting σ → IsLawful σ (with_current x) → (q : IsPostingNext σ x d s t posting)
-    → Done σ (with_stores x d (length (append_stores s (tokens_before σ x.accepted d q.earlier) t (count_of t (tokens_before σ x.accepted d q.earlier)) posting))) s t (tokens_before σ x.accepted d q.earlier)
+    → Done σ (with_stores x d (length (append_stores s (tokens_before σ x.accepted d q.earlier) t (count_of t (tokens_before σ x.accepted d q.earlier)) posting))) s t
+    (tokens_before σ x.accepted d q.earlier)
 unfolding document_stores
 done_after σ x d s t posting k lawful q =
     let docs = x.accepted in
@@ -290,7 +300,20 @@ done_after σ x d s t posting k lawful q =
     ap (λ z. placings σ docs ++ z) (taken_more (doc_stores σ docs d) A _ (stores_done x.current) q.left ∙ ap (λ z. z ++ A) w) ∙ sym (append_assoc (placings σ docs) W A) in
     record {
       seen = front_take (terms_of (get_or (cut σ (docs ++ d ∷ [])) s [])) (b ++ t ∷ []) q.later _ all
-          (omega (arith, ap (count_in s tail_region) stores, count_in-append s tail_region (placings σ docs ++ W) A, tails_before σ docs s seg q.earlier t j.old c, appends_tails s b t (count_of t b) posting, length_push b t));
+          (omega (
+            arith,
+            ap (count_in s tail_region) stores,
+            count_in-append s tail_region (placings σ docs ++ W) A,
+            tails_before σ docs s seg q.earlier t j.old c,
+            appends_tails s b t (count_of t b) posting,
+            length_push b t,
+          ));
       entered = front_take (distinct (terms_of (get_or (cut σ (docs ++ d ∷ [])) s []))) (distinct (b ++ t ∷ [])) more.0 _ (ap distinct all ∙ more.1)
-          (omega (arith, ap (count_in s cell_region) stores, count_in-append s cell_region (placings σ docs ++ W) A, cells_before σ docs s seg q.earlier t j.old c, appends_cells s b t (count_of t b) posting));
+          (omega (
+            arith,
+            ap (count_in s cell_region) stores,
+            count_in-append s cell_region (placings σ docs ++ W) A,
+            cells_before σ docs s seg q.earlier t j.old c,
+            appends_cells s b t (count_of t b) posting,
+          ));
     }

@@ -60,7 +60,8 @@ unfolding pool_at offset_at slice_start
 first_begins = (refl, refl, refl)
 
 -- the first posting of a term
-pub next_first : (f tail : ℕ) (u : Used) (r : NextPlace) → tail ≡ 0 → IsTailWord f tail → r.address ≡ address_number 0 (slices_of u 0) 0 → r.link ≡ None → r.used ≡ with_slice u 0 → IsNextPlace f tail u r
+pub next_first : (f tail : ℕ) (u : Used) (r : NextPlace) → tail ≡ 0 → IsTailWord f tail
+    → r.address ≡ address_number 0 (slices_of u 0) 0 → r.link ≡ None → r.used ≡ with_slice u 0 → IsNextPlace f tail u r
 next_first f tail u r z h a l w = subst (λ k. IsNextPlace k tail u r) (sym (none_of_tail f tail z h)) (record {
   within = λ b. absurd (false≢true (sym b ∙ first_begins.0));
   first = λ b. (
@@ -78,7 +79,8 @@ first_room f tail u z h room =
     subst (λ (w : ℕ × ℕ). slices_of u w.0 * 2 ^ slice_bits w.0 + w.1 < 2 ^ 30) (λ i. (first_begins.1 i, first_begins.2 i)) room0
 
 -- a further one of a slice
-pub next_within : (f tail : ℕ) (u : Used) (r : NextPlace) → 1 ≤ tail → IsTailWord f tail → address_offset (tail - 1) + 1 < 2 ^ slice_bits (address_pool (tail - 1)) → r.address ≡ tail → r.link ≡ None → r.used ≡ u → IsNextPlace f tail u r
+pub next_within : (f tail : ℕ) (u : Used) (r : NextPlace) → 1 ≤ tail → IsTailWord f tail
+    → address_offset (tail - 1) + 1 < 2 ^ slice_bits (address_pool (tail - 1)) → r.address ≡ tail → r.link ≡ None → r.used ≡ u → IsNextPlace f tail u r
 next_within f tail u r some h left a l w =
     let g = last_of_tail f tail some h in
     let p = g.2.pool in
@@ -92,7 +94,8 @@ next_within f tail u r some h left a l w =
     })
 
 -- the first of a linked slice
-pub next_slice : (f tail q : ℕ) (u : Used) (r : NextPlace) → 1 ≤ tail → IsTailWord f tail → 2 ^ slice_bits (address_pool (tail - 1)) ≤ address_offset (tail - 1) + 1 → IsPoolAfter (address_pool (tail - 1)) q
+pub next_slice : (f tail q : ℕ) (u : Used) (r : NextPlace) → 1 ≤ tail → IsTailWord f tail
+    → 2 ^ slice_bits (address_pool (tail - 1)) ≤ address_offset (tail - 1) + 1 → IsPoolAfter (address_pool (tail - 1)) q
     → r.address ≡ address_number q (slices_of u q) 1 → r.link ≡ Some (tail - 1) → r.used ≡ with_slice u q → IsNextPlace f tail u r
 next_slice f tail q u r some h full after a l w =
     let g = last_of_tail f tail some h in
@@ -118,7 +121,8 @@ next_slice f tail q u r some h full after a l w =
     ]
 
 -- the room for it
-pub slice_room : (f tail q : ℕ) (u : Used) → 1 ≤ tail → IsTailWord f tail → 2 ^ slice_bits (address_pool (tail - 1)) ≤ address_offset (tail - 1) + 1 → IsPoolAfter (address_pool (tail - 1)) q → HasAddress f u → slices_of u q * 2 ^ slice_bits q + 1 < 2 ^ 30
+pub slice_room : (f tail q : ℕ) (u : Used) → 1 ≤ tail → IsTailWord f tail → 2 ^ slice_bits (address_pool (tail - 1)) ≤ address_offset (tail - 1) + 1
+    → IsPoolAfter (address_pool (tail - 1)) q → HasAddress f u → slices_of u q * 2 ^ slice_bits q + 1 < 2 ^ 30
 slice_room f tail q u some h full after room =
     let g = last_of_tail f tail some h in
     let p = g.2.pool in

@@ -1,5 +1,6 @@
 -- Leaps: rows of postings that stand one place after the other, and what a walk may pass over.
-use Rattle.std.proofs.Common.{◌≡◌, ℕ, zero, suc, ◌+◌, ◌-◌, ◌*◌, ◌^◌, ◌<◌, ◌≤◌, inl, inr, true, false, List, [], ◌∷◌, ◌++◌, length, take, reverse, get_or, refl, ap, sym, ◌∙◌, subst, arith, bytes_eq, nat_le, nat_lt, ◌&&◌}
+use Rattle.std.proofs.Common.{◌≡◌, ℕ, zero, suc, ◌+◌, ◌-◌, ◌*◌, ◌^◌, ◌<◌, ◌≤◌, inl, inr, true, false, List, [], ◌∷◌, ◌++◌}
+use Rattle.std.proofs.Common.{length, take, reverse, get_or, refl, ap, sym, ◌∙◌, subst, arith, bytes_eq, nat_le, nat_lt, ◌&&◌}
 use Rattle.std.proofs.lemmas.Bool.{cases_Bool, cases_lt}
 use Rattle.std.proofs.lemmas.Bool.Decides.{nat_tests}
 use Rattle.std.proofs.Math.Nat.{pow-succ'}
@@ -35,7 +36,8 @@ row_later m n s t b o span is l h = record { places = λ p k. address_later m n 
 pub row_stays : (m n : Moment) (s : ℕ) (t : Term) (b o span p : ℕ) → IsNotBefore n m → IsRow m s t b o span → p ≤ span → posting_in n s t (b + p) ≡ posting_in m s t (b + p)
 row_stays m n s t b o span p l h k = later_posting m n s t (b + p) l (h.places p k).reached
 
-pub between_as : (m n : Moment) (s : ℕ) (t : Term) (b span most : ℕ) (x : Bounds) → ((p : ℕ) → p ≤ span → posting_in n s t (b + p) ≡ posting_in m s t (b + p)) → Between m s t b span most x → Between n s t b span most x
+pub between_as : (m n : Moment) (s : ℕ) (t : Term) (b span most : ℕ) (x : Bounds)
+    → ((p : ℕ) → p ≤ span → posting_in n s t (b + p) ≡ posting_in m s t (b + p)) → Between m s t b span most x → Between n s t b span most x
 between_as m n s t b span most x same h = let o = h.order in let w = h.within in
     record {
       order = h.order;
@@ -45,7 +47,8 @@ between_as m n s t b span most x same h = let o = h.order in let w = h.within in
       above = λ k. omega (arith, h.above k, same x.high k);
     }
 
-pub newest_as : (m n : Moment) (s : ℕ) (t : Term) (b span most : ℕ) (x : Found) → ((p : ℕ) → p ≤ span → posting_in n s t (b + p) ≡ posting_in m s t (b + p)) → IsNewest m s t b span most x → IsNewest n s t b span most x
+pub newest_as : (m n : Moment) (s : ℕ) (t : Term) (b span most : ℕ) (x : Found)
+    → ((p : ℕ) → p ≤ span → posting_in n s t (b + p) ≡ posting_in m s t (b + p)) → IsNewest m s t b span most x → IsNewest n s t b span most x
 newest_as m n s t b span most x same h =
     record {
       within = h.within;
@@ -214,7 +217,10 @@ pub walk_more : (opened f a b : ℕ) → a ≤ f → walk_loads opened f (a + b)
 unfolding walk_loads
 walk_more opened f zero b h = let e : 0 + b ≡ b = omega arith in let k : f - 0 ≡ f = omega arith in rw (e, k) (omega arith)
 walk_more opened zero (suc a) b h = absurd (omega (arith, h))
-walk_more opened (suc f) (suc a) b h = let e : suc a + b ≡ suc (a + b) = omega arith in let k : suc f - suc a ≡ f - a = omega arith in rw (e, k) (omega (arith, walk_more opened f a b (omega (arith, h))))
+walk_more opened (suc f) (suc a) b h =
+    let e : suc a + b ≡ suc (a + b) = omega arith in
+    let k : suc f - suc a ≡ f - a = omega arith in
+    rw (e, k) (omega (arith, walk_more opened f a b (omega (arith, h))))
 
 -- ---- a whole walk
 

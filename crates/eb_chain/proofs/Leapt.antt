@@ -25,7 +25,8 @@ use Rattle.eb_place.proofs.Laters.{later_on}
 use Rattle.eb_place.proofs.Rising.{postings_rise}
 use Rattle.eb_place.proofs.WayBack.{reverse_take, told}
 use Rattle.eb_chain.proofs.Walks.{stands_later, way_back}
-use Rattle.eb_chain.proofs.Leaping.{passes, at_most_in, rises_get, row_first, row_of, row_later, row_stays, row_head, newest_as, span_is, slices_before, slices_same, walk_more, walk_first, power_next, power_some}
+use Rattle.eb_chain.proofs.Leaping.{passes, at_most_in, rises_get, row_first, row_of, row_later, row_stays, row_head, newest_as}
+use Rattle.eb_chain.proofs.Leaping.{span_is, slices_before, slices_same, walk_more, walk_first, power_next, power_some}
 
 -- the first is below the number
 abbrev pub IsHeadBelow : ℕ → List ℕ → Type 0
@@ -57,7 +58,8 @@ length_front : (k : ℕ) (ps : List ℕ) → k ≤ length ps → length (reverse
 length_front k ps h = length-reverse (take k ps) ∙ length-take-le k ps h
 
 -- before the first slice all is left
-pub leapt_start : (m : Moment) (s : ℕ) (t : Term) (c : Chain) (opened most : ℕ) (rest : List ℕ) (steps : ℕ) → IsMoment m → Stands m s t c opened rest → Leapt m s t c opened most rest (2 ^ 64 - 1) steps steps
+pub leapt_start : (m : Moment) (s : ℕ) (t : Term) (c : Chain) (opened most : ℕ) (rest : List ℕ) (steps : ℕ)
+    → IsMoment m → Stands m s t c opened rest → Leapt m s t c opened most rest (2 ^ 64 - 1) steps steps
 leapt_start m s t c opened most rest steps is h = record {
   left = rest;
   stands = h;
@@ -70,7 +72,9 @@ leapt_start m s t c opened most rest steps is h = record {
   where
     go : (xs : List ℕ) → length xs ≤ length (postings t (segment m s)) → xs ≡ reverse (take (length xs) (postings t (segment m s))) → IsHeadBelow (2 ^ 64 - 1) xs
     go [] k e = tt
-    go (x ∷ xs) k e = let hd : x ≡ get_or (postings t (segment m s)) (length xs) 0 = cc (e ∙ reverse_take (length xs) (postings t (segment m s)) (omega (arith, k))) in omega (arith, hd, posting_small m s t (length xs) is)
+    go (x ∷ xs) k e =
+        let hd : x ≡ get_or (postings t (segment m s)) (length xs) 0 = cc (e ∙ reverse_take (length xs) (postings t (segment m s)) (omega (arith, k))) in
+        omega (arith, hd, posting_small m s t (length xs) is)
 
 -- the front of a segment's postings that a walk still has to give
 pub record IsFront (l : Moment) (v : ℕ) (t : Term) (opened : ℕ) (left : List ℕ) (g : ℕ) : Type 0 where
@@ -109,7 +113,8 @@ front_stands l v t opened left g f a w is h k at b =
     }
 
 -- what is found in a slice is what the call gives
-pub found_gives : (l : Moment) (v : ℕ) (t : Term) (opened most : ℕ) (rest left : List ℕ) (g b o span : ℕ) (x : Found) (w : Way) → IsMoment l → IsFront l v t opened left g → at_most most left ≡ at_most most rest
+pub found_gives : (l : Moment) (v : ℕ) (t : Term) (opened most : ℕ) (rest left : List ℕ) (g b o span : ℕ) (x : Found) (w : Way)
+    → IsMoment l → IsFront l v t opened left g → at_most most left ≡ at_most most rest
     → g ≡ b + span → IsRow l v t b o span → IsNewest l v t b span most x → IsWayBefore (o + x.at) w
     → Given l v t record { segment = v; way = w } opened (at_most most rest) (Some x.posting) × (length (at_most most rest) ≡ suc (b + x.at))
 found_gives l v t opened most rest left g b o span x w is h same e row new back =
@@ -124,7 +129,8 @@ found_gives l v t opened most rest left g b o span x w is h same e row new back 
     let one : get_or ps f 0 ≤ most = omega (arith, new.is, new.few) in
     let pass : at_most most (reverse (take (suc g) ps)) ≡ at_most most (reverse (take (suc f) ps)) =
     ap (λ j. at_most most (reverse (take j ps))) (let q : suc g ≡ suc f + (g - f) = omega (arith, near) in q)
-    ∙ passes ps 0 most (suc f) (g - f) (postings_rise l v t is) (omega (arith, near, there)) (λ k. omega (arith, new.above (omega (arith, k, e)), ap (λ j. get_or ps j 0) (let q : b + suc x.at ≡ suc f = omega arith in q))) in
+    ∙ passes ps 0 most (suc f) (g - f) (postings_rise l v t is)
+    (omega (arith, near, there)) (λ k. omega (arith, new.above (omega (arith, k, e)), ap (λ j. get_or ps j 0) (let q : b + suc x.at ≡ suc f = omega arith in q))) in
     let all : at_most most rest ≡ get_or ps f 0 ∷ reverse (take f ps) =
     sym same ∙ ap (at_most most) h.postings ∙ pass ∙ ap (at_most most) (reverse_take f ps (omega (arith, near, there))) ∙ at_most_in most (get_or ps f 0) (reverse (take f ps)) one in
     let st = front_stands l v t opened left g f (o + x.at) w is h near (row.places x.at in_row) back in (
@@ -133,8 +139,10 @@ found_gives l v t opened most rest left g b o span x w is h same e row new back 
     )
 
 -- a slice that is passed as a whole
-pub passed_slice : (l : Moment) (v : ℕ) (t : Term) (opened most : ℕ) (rest left : List ℕ) (g o span first : ℕ) (v0 w : Way) (before after : ℕ) → IsMoment l → IsFront l v t opened left g → at_most most left ≡ at_most most rest
-    → g ≡ slice_start g + span → IsRow l v t (slice_start g) o span → first ≡ posting_in l v t (slice_start g) → most < first → IsWayBefore o w → length left ≤ length rest → way_loads v0 ≡ next_loads opened (suc g) → way_loads v0 ≡ lead_loads v0 + 1
+pub passed_slice : (l : Moment) (v : ℕ) (t : Term) (opened most : ℕ) (rest left : List ℕ) (g o span first : ℕ) (v0 w : Way) (before after : ℕ)
+    → IsMoment l → IsFront l v t opened left g → at_most most left ≡ at_most most rest
+    → g ≡ slice_start g + span → IsRow l v t (slice_start g) o span → first ≡ posting_in l v t (slice_start g) → most < first
+    → IsWayBefore o w → length left ≤ length rest → way_loads v0 ≡ next_loads opened (suc g) → way_loads v0 ≡ lead_loads v0 + 1
     → after + 2 * slices_in_use (length left) ≤ before + 2 * slices_in_use (length rest) → after ≤ before + walk_loads opened (length rest) (length rest - length left)
     → Leapt l v t record { segment = v; way = w } opened most rest first before (after + lead_loads v0 + 1)
 passed_slice l v t opened most rest left g o span first v0 w before after is h same e row is_first above back shorter loads lead slices walk =
@@ -167,10 +175,12 @@ passed_slice l v t opened most rest left g o span first v0 w before after is h s
   where
     head : (b : ℕ) → b < length (postings t (segment l v)) → first ≡ posting_in l v t b → IsHeadBelow first (reverse (take b (postings t (segment l v))))
     head zero k z = tt
-    head (suc b) k z = subst (IsHeadBelow first) (sym (reverse_take b (postings t (segment l v)) (omega (arith, k)))) (omega (arith, z, rises_get 0 (postings t (segment l v)) b (suc b) (postings_rise l v t is) (omega arith) k))
+    head (suc b) k z = subst (IsHeadBelow first)
+        (sym (reverse_take b (postings t (segment l v)) (omega (arith, k)))) (omega (arith, z, rises_get 0 (postings t (segment l v)) b (suc b) (postings_rise l v t is) (omega arith) k))
 
 -- the first of a passed slice is below the number that all of it is below
-pub falls_on : (l : Moment) (v : ℕ) (t : Term) (opened : ℕ) (left : List ℕ) (g first above : ℕ) → IsMoment l → IsFront l v t opened left g → first ≡ posting_in l v t (slice_start g) → IsHeadBelow above left → first < above
+pub falls_on : (l : Moment) (v : ℕ) (t : Term) (opened : ℕ) (left : List ℕ) (g first above : ℕ) → IsMoment l
+    → IsFront l v t opened left g → first ≡ posting_in l v t (slice_start g) → IsHeadBelow above left → first < above
 falls_on l v t opened left g first above is h e below =
     let ps : List ℕ = postings t (segment l v) in
     let few = reached_few l v t in
@@ -196,7 +206,8 @@ ten_digits i h = elim (cases_lt 10 i) [
   | inr low ↦ low
 ]
 
-pub found_leap : (rest left given : List ℕ) (g at span i before after end : ℕ) (v0 : Way) → length left ≡ suc g → length left ≤ length rest → g ≡ slice_start g + span → span ≤ 2046 → length given ≡ suc (slice_start g + at) → at ≤ span → 2 ^ i + at ≤ span + 1
+pub found_leap : (rest left given : List ℕ) (g at span i before after end : ℕ) (v0 : Way) → length left ≡ suc g → length left ≤ length rest
+    → g ≡ slice_start g + span → span ≤ 2046 → length given ≡ suc (slice_start g + at) → at ≤ span → 2 ^ i + at ≤ span + 1
     → after + 2 * slices_in_use (length left) ≤ before + 2 * slices_in_use (length rest) → end ≤ after + lead_loads v0 + 2 * i + 2 → IsLeap rest given before end
 found_leap rest left given g at span i before after end v0 size shorter e short n within p slices loads = record {
   digits = i;
@@ -205,19 +216,35 @@ found_leap rest left given g at span i before after end v0 size shorter e short 
   loads = omega (arith, slices, ap slices_in_use n, ap slices_in_use size, slices_same g (slice_start g + at) (omega arith) (omega (arith, e, within)), lead_few v0, loads);
 }
 
-pub found_short : (opened : ℕ) (rest left given : List ℕ) (g at span i before after end : ℕ) (v0 : Way) → length left ≡ suc g → length left ≤ length rest → g ≡ slice_start g + span → length given ≡ suc (slice_start g + at) → at ≤ span → 2 ^ i + at ≤ span + 1
-    → way_loads v0 ≡ next_loads opened (suc g) → way_loads v0 ≡ lead_loads v0 + 1 → after ≤ before + walk_loads opened (length rest) (length rest - length left) → end ≤ after + lead_loads v0 + 2 * i + 2 → IsShort opened rest given before end
+pub found_short : (opened : ℕ) (rest left given : List ℕ) (g at span i before after end : ℕ) (v0 : Way) → length left ≡ suc g
+    → length left ≤ length rest → g ≡ slice_start g + span → length given ≡ suc (slice_start g + at) → at ≤ span → 2 ^ i + at ≤ span + 1
+    → way_loads v0 ≡ next_loads opened (suc g) → way_loads v0 ≡ lead_loads v0 + 1 → after ≤ before + walk_loads opened (length rest) (length rest - length left)
+    → end ≤ after + lead_loads v0 + 2 * i + 2 → IsShort opened rest given before end
 found_short opened rest left given g at span i before after end v0 size shorter e n within p way lead walk loads =
     let f : ℕ = slice_start g + at in
     let more = walk_more opened (length rest) (length rest - length left) (suc (g - f)) (omega arith) in
     let k1 : length rest - length given + 1 ≡ length rest - length left + suc (g - f) = omega (arith, n, size, shorter, e, within) in
     let k2 : length rest - (length rest - length left) ≡ suc g = omega (arith, size, shorter) in
-    omega (arith, walk, more, ap (walk_loads opened (length rest)) k1, ap (λ j. walk_loads opened j (suc (g - f))) k2, walk_first opened g (g - f) (omega arith), way, lead, loads, double_power i, p, e)
+    omega (
+      arith,
+      walk,
+      more,
+      ap (walk_loads opened (length rest)) k1,
+      ap (λ j. walk_loads opened j (suc (g - f))) k2,
+      walk_first opened g (g - f) (omega arith),
+      way,
+      lead,
+      loads,
+      double_power i,
+      p,
+      e,
+    )
 
 pub end_leap : (rest : List ℕ) (before after end : ℕ) (v0 : Way) → after + 2 * slices_in_use 0 ≤ before + 2 * slices_in_use (length rest) → end ≡ after + lead_loads v0 → IsLeap rest [] before end
 end_leap rest before after end v0 slices loads = record { digits = 0; passed = omega arith; few = omega arith; loads = omega (arith, slices, loads, lead_few v0) }
 
-pub end_short : (opened : ℕ) (rest : List ℕ) (before after end : ℕ) (v0 : Way) → after ≤ before + walk_loads opened (length rest) (length rest - 0) → end ≡ after + lead_loads v0 → IsShort opened rest [] before end
+pub end_short : (opened : ℕ) (rest : List ℕ) (before after end : ℕ) (v0 : Way)
+    → after ≤ before + walk_loads opened (length rest) (length rest - 0) → end ≡ after + lead_loads v0 → IsShort opened rest [] before end
 end_short opened rest before after end v0 walk loads =
     let more = walk_more opened (length rest) (length rest - 0) 1 (omega arith) in
     omega (arith, walk, more, loads, lead_few v0)
@@ -251,7 +278,8 @@ lead_offset k v t f a is h high =
     let z = span_is (f - 1) in
     omega (arith, q.0, q.1, z.1 (omega (arith, q.0, high)), start_le (f - 1))
 
-pub look_found : (n k l : Moment) (s : ℕ) (t : Term) (c : Chain) (opened most : ℕ) (rest : List ℕ) (above before after end a o : ℕ) (x : Found) (w : Way) (L : Leapt n s t c opened most rest above before after)
+pub look_found : (n k l : Moment) (s : ℕ) (t : Term) (c : Chain) (opened most : ℕ) (rest : List ℕ)
+    (above before after end a o : ℕ) (x : Found) (w : Way) (L : Leapt n s t c opened most rest above before after)
     → IsMoment n → IsMoment k → IsMoment l → IsNotBefore k n → IsNotBefore l k → LeadsTo k c.segment t (length L.left) (Some a) → IsOldest a o
     → IsNewest k c.segment t (slice_start (length L.left - 1)) (a - o) most x → IsWayBefore (o + x.at) w → IsLookLoads (a - o) (Within x) (after + lead_loads c.way) end
     → Given l s t record { segment = c.segment; way = w } opened (at_most most rest) (Some x.posting) × IsLeap rest (at_most most rest) before end × IsShort opened rest (at_most most rest) before end
@@ -275,7 +303,8 @@ look_found n k l s t c opened most rest above before after end a o x w L is js l
       found_short opened rest L.left (at_most most rest) g x.at (a - o) loads.0 before after end c.way at.0 L.shorter e q.1 new.within loads.1 way one L.walk loads.2,
     )
 
-pub look_passed : (n k l : Moment) (s : ℕ) (t : Term) (c : Chain) (opened most : ℕ) (rest : List ℕ) (above before after end a o first : ℕ) (w : Way) (L : Leapt n s t c opened most rest above before after)
+pub look_passed : (n k l : Moment) (s : ℕ) (t : Term) (c : Chain) (opened most : ℕ) (rest : List ℕ)
+    (above before after end a o first : ℕ) (w : Way) (L : Leapt n s t c opened most rest above before after)
     → IsMoment n → IsMoment k → IsMoment l → IsNotBefore k n → IsNotBefore l k → LeadsTo k c.segment t (length L.left) (Some a) → IsOldest a o
     → first ≡ posting_in k c.segment t (slice_start (length L.left - 1)) → most < first → IsWayBefore o w → end ≡ after + lead_loads c.way + 1
     → Leapt l s t record { segment = c.segment; way = w } opened most rest first before end × (first < above)

@@ -1,5 +1,6 @@
 -- What the writer finds where a posting comes next, and what it leaves.
-use Rattle.std.proofs.Common.{◌≡◌, ℕ, zero, suc, ◌+◌, ◌-◌, ◌*◌, ◌^◌, ◌<◌, ◌≤◌, ◌==◌, ◌&&◌, Bool, true, false, List, [], ◌∷◌, ◌++◌, length, take, get_or, refl, ap, sym, ◌∙◌, subst, arith, inl, inr, if◌then◌else◌, nat_le, sum_by, Option, Some, None, lit<}
+use Rattle.std.proofs.Common.{◌≡◌, ℕ, zero, suc, ◌+◌, ◌-◌, ◌*◌, ◌^◌, ◌<◌, ◌≤◌, ◌==◌, ◌&&◌, Bool, true, false, List, [], ◌∷◌, ◌++◌, length, take}
+use Rattle.std.proofs.Common.{get_or, refl, ap, sym, ◌∙◌, subst, arith, inl, inr, if◌then◌else◌, nat_le, sum_by, Option, Some, None, lit<}
 use Rattle.std.proofs.lemmas.Bool.{cases_Bool, cases_lt, false≢true, eqb-true, le-leb}
 use Rattle.std.proofs.lemmas.List.{length-append}
 use Rattle.eb_base.specs.Term.{Term}
@@ -53,11 +54,13 @@ tail_of t ts (suc f) = address_of t f ts + 1
 
 -- the facts where t comes next
 pub known : (m : Moment) (d : Doc) (s : ℕ) (t : Term) (posting : ℕ) → IsMoment m → (q : IsPostingNext m.setting m.documents d s t posting)
-    → Here m.setting m.documents s t (tokens_before m.setting m.documents.accepted d q.earlier) (placings m.setting m.documents.accepted ++ stores_before m.setting s (segment_before m.setting m.documents.accepted d) (length m.documents.accepted) q.earlier t)
+    → Here m.setting m.documents s t (tokens_before m.setting m.documents.accepted d q.earlier)
+    (placings m.setting m.documents.accepted ++ stores_before m.setting s (segment_before m.setting m.documents.accepted d) (length m.documents.accepted) q.earlier t)
 known m d s t posting is q = here m.setting m.documents d s t posting is.setting is.lawful q
 
 -- its tail is that of the stored tokens
-tail_here : (m : Moment) (s : ℕ) (t : Term) (k : ℕ) (before : List Term) (L : List Store) → IsMoment m → IsTerm m s t k → Here m.setting m.documents s t before L → word m (place m.setting (slot s tail_region k)) ≡ tail_of t before (count_of t before)
+tail_here : (m : Moment) (s : ℕ) (t : Term) (k : ℕ) (before : List Term) (L : List Store) → IsMoment m → IsTerm m s t k
+    → Here m.setting m.documents s t before L → word m (place m.setting (slot s tail_region k)) ≡ tail_of t before (count_of t before)
 tail_here m s t k before L is term h =
     let i = tail_in_table m s t k is term in
     let number : k ≡ number_of t before = term.number ∙ h.number in
@@ -94,7 +97,8 @@ has_address t before u fit same b =
     let m = count_of_push t t before in
     let m1 = ap one_if (same_term t) in
     let start : slice_start c ≡ c = eqb-true _ _ b in
-    let front : front_of t (slice_start c) (before ++ t ∷ []) ≡ before = ap (λ k. front_of t k (before ++ t ∷ [])) start ∙ front_here t c before [] (omega arith) ∙ front_all t c before (omega arith) in
+    let front : front_of t (slice_start c) (before ++ t ∷ []) ≡ before = ap (λ k. front_of t k (before ++ t ∷ [])) start
+    ∙ front_here t c before [] (omega arith) ∙ front_all t c before (omega arith) in
     let h = slice_in t c (before ++ t ∷ []) (omega arith) fit in
     subst (λ z. z * 2 ^ slice_bits (pool_at c) + offset_at c < 2 ^ 30) (ap (slices_begun (pool_at c)) front ∙ sym (same (pool_at c) (pool_low c))) h
 
@@ -107,26 +111,35 @@ pub record Found (f tail : ℕ) (u : Used) : Type 0 where
 abbrev pub before_it : (m : Moment) (d : Doc) (s : ℕ) (t : Term) (posting : ℕ) → IsPostingNext m.setting m.documents d s t posting → ℕ
 before_it m d s t posting q = count_of t (tokens_before m.setting m.documents.accepted d q.earlier)
 
-seen_here : (m : Moment) (d : Doc) (s : ℕ) (t : Term) (posting : ℕ) → IsMoment m → (q : IsPostingNext m.setting m.documents d s t posting) → tokens_seen m s ≡ tokens_before m.setting m.documents.accepted d q.earlier
+seen_here : (m : Moment) (d : Doc) (s : ℕ) (t : Term) (posting : ℕ) → IsMoment m → (q : IsPostingNext m.setting m.documents d s t posting)
+    → tokens_seen m s ≡ tokens_before m.setting m.documents.accepted d q.earlier
 unfolding tokens_seen stores_in_region
 seen_here m d s t posting is q = let h = known m d s t posting is q in ap (λ z. take (count_in s tail_region z) (terms_of (segment m s))) h.stores ∙ h.seen
 
-entered_here : (m : Moment) (d : Doc) (s : ℕ) (t : Term) (posting : ℕ) → IsMoment m → (q : IsPostingNext m.setting m.documents d s t posting) → entered m s ≡ distinct (tokens_before m.setting m.documents.accepted d q.earlier ++ t ∷ [])
+entered_here : (m : Moment) (d : Doc) (s : ℕ) (t : Term) (posting : ℕ) → IsMoment m → (q : IsPostingNext m.setting m.documents d s t posting)
+    → entered m s ≡ distinct (tokens_before m.setting m.documents.accepted d q.earlier ++ t ∷ [])
 unfolding entered stores_in_region
 entered_here m d s t posting is q = let h = known m d s t posting is q in ap (λ z. take (count_in s cell_region z) (distinct (terms_of (segment m s)))) h.stores ∙ h.entered
 
-tail_is : (m : Moment) (d : Doc) (s : ℕ) (t : Term) (posting k tail : ℕ) → IsMoment m → IsTerm m s t k → (q : IsPostingNext m.setting m.documents d s t posting) → tail ≡ word m (place m.setting (slot s tail_region k))
+tail_is : (m : Moment) (d : Doc) (s : ℕ) (t : Term) (posting k tail : ℕ) → IsMoment m → IsTerm m s t k
+    → (q : IsPostingNext m.setting m.documents d s t posting) → tail ≡ word m (place m.setting (slot s tail_region k))
     → tail ≡ tail_of t (tokens_before m.setting m.documents.accepted d q.earlier) (before_it m d s t posting q)
 tail_is m d s t posting k tail is term q e = e ∙ tail_here m s t k (tokens_before m.setting m.documents.accepted d q.earlier) _ is term (known m d s t posting is q)
 
-fit_here : (m : Moment) (d : Doc) (s : ℕ) (t : Term) (posting : ℕ) → IsMoment m → (q : IsPostingNext m.setting m.documents d s t posting) → SlicesFit (tokens_before m.setting m.documents.accepted d q.earlier ++ t ∷ [])
+fit_here : (m : Moment) (d : Doc) (s : ℕ) (t : Term) (posting : ℕ) → IsMoment m → (q : IsPostingNext m.setting m.documents d s t posting)
+    → SlicesFit (tokens_before m.setting m.documents.accepted d q.earlier ++ t ∷ [])
 fit_here m d s t posting is q = let h = known m d s t posting is q in let r = h.room in slices_fit m.setting (tokens_before m.setting m.documents.accepted d q.earlier ++ t ∷ []) r.small r.fits
 
-fit_before : (m : Moment) (d : Doc) (s : ℕ) (t : Term) (posting : ℕ) → IsMoment m → (q : IsPostingNext m.setting m.documents d s t posting) → SlicesFit (tokens_before m.setting m.documents.accepted d q.earlier)
-fit_before m d s t posting is q = let h = known m d s t posting is q in let r = room_before m.setting s (tokens_before m.setting m.documents.accepted d q.earlier) (t ∷ []) h.room in slices_fit m.setting (tokens_before m.setting m.documents.accepted d q.earlier) r.small r.fits
+fit_before : (m : Moment) (d : Doc) (s : ℕ) (t : Term) (posting : ℕ) → IsMoment m
+    → (q : IsPostingNext m.setting m.documents d s t posting) → SlicesFit (tokens_before m.setting m.documents.accepted d q.earlier)
+fit_before m d s t posting is q =
+    let h = known m d s t posting is q in
+    let r = room_before m.setting s (tokens_before m.setting m.documents.accepted d q.earlier) (t ∷ []) h.room in
+    slices_fit m.setting (tokens_before m.setting m.documents.accepted d q.earlier) r.small r.fits
 
 -- the tail's word tells what the call needs
-pub found : (m : Moment) (d : Doc) (s : ℕ) (t : Term) (posting k tail : ℕ) (u : Used) → IsMoment m → IsTerm m s t k → TellsSegment u m s → (q : IsPostingNext m.setting m.documents d s t posting) → tail ≡ word m (place m.setting (slot s tail_region k))
+pub found : (m : Moment) (d : Doc) (s : ℕ) (t : Term) (posting k tail : ℕ) (u : Used) → IsMoment m → IsTerm m s t k → TellsSegment u m s
+    → (q : IsPostingNext m.setting m.documents d s t posting) → tail ≡ word m (place m.setting (slot s tail_region k))
     → Found (before_it m d s t posting q) tail u
 found m d s t posting k tail u is term tells q e =
     let b = tokens_before m.setting m.documents.accepted d q.earlier in
@@ -148,10 +161,12 @@ none_linked : (p : ℕ) → p ≡ 0 → nat_le 1 p ≡ false
 none_linked p e = ap (nat_le 1) e
 
 -- the address that a call finds is that of the posting
-address_found : (t : Term) (before : List Term) (tail : ℕ) (u : Used) (r : NextPlace) → tail ≡ tail_of t before (count_of t before) → ((p : ℕ) → p < 4 → slices_of u p ≡ slices_begun p before) → IsNextPlace (count_of t before) tail u r
+address_found : (t : Term) (before : List Term) (tail : ℕ) (u : Used) (r : NextPlace) → tail ≡ tail_of t before (count_of t before)
+    → ((p : ℕ) → p < 4 → slices_of u p ≡ slices_begun p before) → IsNextPlace (count_of t before) tail u r
     → r.address ≡ address_of t (count_of t before) before
 address_found t before tail u r e same h = elim (cases_Bool (begins (count_of t before))) [
-  | inl new ↦ (h.first new).0 ∙ ap (λ z. address_number (pool_at (count_of t before)) z (offset_at (count_of t before))) (same (pool_at (count_of t before)) (pool_low (count_of t before))) ∙ sym (address_new t before new)
+  | inl new ↦ (h.first new).0 ∙ ap (λ z. address_number (pool_at (count_of t before)) z (offset_at (count_of t before))) (same (pool_at (count_of t before)) (pool_low (count_of t before)))
+      ∙ sym (address_new t before new)
   | inr old ↦ (h.within old).0 ∙ e ∙ by (count_of t before) old
 ]
   where
@@ -164,14 +179,17 @@ unfolding pool_at
 zero_unlinked h = omega arith
 
 -- and so is the link
-link_found : (s : ℕ) (t : Term) (before : List Term) (tail : ℕ) (u : Used) (r : NextPlace) → tail ≡ tail_of t before (count_of t before) → IsNextPlace (count_of t before) tail u r → r.address ≡ address_of t (count_of t before) before
-    → (if begins (count_of t before) && nat_le 1 (pool_at (count_of t before)) then ((pool_slot s (address_of t (count_of t before) before - 1), address_of t (count_of t before - 1) before) ∷ []) else []) ≡ link_stores s r.address r.link
+link_found : (s : ℕ) (t : Term) (before : List Term) (tail : ℕ) (u : Used) (r : NextPlace) → tail ≡ tail_of t before (count_of t before)
+    → IsNextPlace (count_of t before) tail u r → r.address ≡ address_of t (count_of t before) before
+    → (if begins (count_of t before) && nat_le 1 (pool_at (count_of t before))
+    then ((pool_slot s (address_of t (count_of t before) before - 1), address_of t (count_of t before - 1) before) ∷ []) else []) ≡ link_stores s r.address r.link
 link_found s t before tail u r e h a = elim (cases_Bool (begins (count_of t before))) [
   | inr old ↦ ap (λ (b : Bool). if b && nat_le 1 (pool_at (count_of t before)) then X else []) old ∙ sym (ap (link_stores s r.address) (h.within old).1)
   | inl new ↦ elim (cases_lt 0 (pool_at (count_of t before))) [
     | inl high ↦ (λ i. if new i && one_linked (pool_at (count_of t before)) high i then X else []) ∙ ap (λ z. (pool_slot s (z - 1), address_of t (count_of t before - 1) before) ∷ []) (sym a)
         ∙ ap (λ z. (pool_slot s (r.address - 1), z) ∷ []) (last (count_of t before) high e) ∙ sym (ap (link_stores s r.address) (h.linked new high))
-    | inr low ↦ let z : pool_at (count_of t before) ≡ 0 = omega arith in (λ i. if new i && none_linked (pool_at (count_of t before)) z i then X else []) ∙ sym (ap (link_stores s r.address) (h.unlinked new z))
+    | inr low ↦ let z : pool_at (count_of t before) ≡ 0 = omega arith in
+        (λ i. if new i && none_linked (pool_at (count_of t before)) z i then X else []) ∙ sym (ap (link_stores s r.address) (h.unlinked new z))
   ]
 ]
   where
@@ -183,9 +201,11 @@ link_found s t before tail u r e h a = elim (cases_Bool (begins (count_of t befo
     last (suc f) p e = ap (λ k. address_of t k before) (let q : suc f - 1 ≡ f = omega arith in q) ∙ omega (arith, e)
 
 -- so these stores come next
-pub stores_next : (m : Moment) (d : Doc) (s : ℕ) (t : Term) (posting k tail : ℕ) (u : Used) (r : NextPlace) → IsMoment m → IsTerm m s t k → TellsSegment u m s → (q : IsPostingNext m.setting m.documents d s t posting)
+pub stores_next : (m : Moment) (d : Doc) (s : ℕ) (t : Term) (posting k tail : ℕ) (u : Used) (r : NextPlace)
+    → IsMoment m → IsTerm m s t k → TellsSegment u m s → (q : IsPostingNext m.setting m.documents d s t posting)
     → tail ≡ word m (place m.setting (slot s tail_region k)) → IsNextPlace (before_it m d s t posting q) tail u r
-    → append_stores s (tokens_before m.setting m.documents.accepted d q.earlier) t (before_it m d s t posting q) posting ≡ link_stores s r.address r.link ++ (pool_slot s r.address, posting) ∷ (slot s tail_region k, r.address + 1) ∷ []
+    → append_stores s (tokens_before m.setting m.documents.accepted d q.earlier) t (before_it m d s t posting q) posting
+    ≡ link_stores s r.address r.link ++ (pool_slot s r.address, posting) ∷ (slot s tail_region k, r.address + 1) ∷ []
 unfolding append_stores
 stores_next m d s t posting k tail u r is term tells q e h =
     let b = tokens_before m.setting m.documents.accepted d q.earlier in
@@ -212,7 +232,8 @@ are_next m d s t posting now q e =
     }
 
 -- a slice that has a link begins behind an address
-pub link_behind : (s : ℕ) (t : Term) (before : List Term) (tail last : ℕ) (u : Used) (r : NextPlace) → tail ≡ tail_of t before (count_of t before) → ((p : ℕ) → p < 4 → slices_of u p ≡ slices_begun p before) → IsNextPlace (count_of t before) tail u r → r.link ≡ Some last → 0 < r.address
+pub link_behind : (s : ℕ) (t : Term) (before : List Term) (tail last : ℕ) (u : Used) (r : NextPlace) → tail ≡ tail_of t before (count_of t before)
+    → ((p : ℕ) → p < 4 → slices_of u p ≡ slices_begun p before) → IsNextPlace (count_of t before) tail u r → r.link ≡ Some last → 0 < r.address
 unfolding address_of
 link_behind s t before tail last u r e same h l = elim (cases_Bool (begins (count_of t before))) [
   | inr old ↦ absurd (cc ((h.within old).1, l))
@@ -235,7 +256,8 @@ one_more m n d k x now h a =
     let one = one_stored n d x now a in
     record {
       setting = setting_stored n d ∙ h.setting;
-      documents = one.documents ∙ ap (λ (z : Documents). with_stores z d 1) h.documents ∙ ap (λ j. record { accepted = m.documents.accepted; current = Some (d, j) }) (let q : stores_done m.documents.current + k + 1 ≡ stores_done m.documents.current + (k + 1) = omega arith in q);
+      documents = one.documents ∙ ap (λ (z : Documents). with_stores z d 1) h.documents ∙ ap (λ j. record { accepted = m.documents.accepted; current = Some (d, j) })
+          (let q : stores_done m.documents.current + k + 1 ≡ stores_done m.documents.current + (k + 1) = omega arith in q);
       later = later_on m n (after_store n d) h.later one.later;
     }
 
@@ -243,7 +265,8 @@ first_more : (m : Moment) (d : Doc) (x : Store) (now : List Store) → AreNext m
 first_more m d x now a = let one = one_stored m d x now a in record { setting = setting_stored m d; documents = one.documents; later = one.later }
 
 -- after the link the other stores come next
-pub link_next : (m : Moment) (d : Doc) (s at : ℕ) (link : Option ℕ) (now : List Store) → AreNext m.setting m.documents d (link_stores s at link ++ now) → AreNext (after_link m d link).setting (after_link m d link).documents d now
+pub link_next : (m : Moment) (d : Doc) (s at : ℕ) (link : Option ℕ) (now : List Store)
+    → AreNext m.setting m.documents d (link_stores s at link ++ now) → AreNext (after_link m d link).setting (after_link m d link).documents d now
 link_next m d s at None now h = h
 link_next m d s at (Some last) now h = (one_stored m d (pool_slot s (at - 1), last) now h).rest
 
@@ -308,7 +331,8 @@ adds f tail u r h = elim (cases_Bool (begins f)) [
 ]
 
 -- it tells the segment afterwards
-pub tells_after : (m n : Moment) (d : Doc) (s : ℕ) (t : Term) (posting tail : ℕ) (u : Used) (r : NextPlace) → IsMoment m → TellsSegment u m s → (q : IsPostingNext m.setting m.documents d s t posting) → IsNextPlace (before_it m d s t posting q) tail u r
+pub tells_after : (m n : Moment) (d : Doc) (s : ℕ) (t : Term) (posting tail : ℕ) (u : Used) (r : NextPlace) → IsMoment m
+    → TellsSegment u m s → (q : IsPostingNext m.setting m.documents d s t posting) → IsNextPlace (before_it m d s t posting q) tail u r
     → More m n d (length (append_stores s (tokens_before m.setting m.documents.accepted d q.earlier) t (before_it m d s t posting q) posting)) → TellsSegment r.used n s
 unfolding tokens_seen entered stores_in_region
 tells_after m n d s t posting tail u r is tells q h more =
@@ -348,7 +372,8 @@ pub record Carried (n : Moment) (d : Doc) (s : ℕ) (t : Term) (posting k : ℕ)
   pub tells : TellsSegment u n s
   pub term : IsTerm n s t k
 
-pub carried : (m n : Moment) (d : Doc) (s : ℕ) (t : Term) (posting k : ℕ) (u : Used) → IsNotBefore n m → n.documents ≡ m.documents → IsTerm m s t k → TellsSegment u m s → IsPostingNext m.setting m.documents d s t posting → Carried n d s t posting k u
+pub carried : (m n : Moment) (d : Doc) (s : ℕ) (t : Term) (posting k : ℕ) (u : Used) → IsNotBefore n m → n.documents ≡ m.documents
+    → IsTerm m s t k → TellsSegment u m s → IsPostingNext m.setting m.documents d s t posting → Carried n d s t posting k u
 carried m n d s t posting k u later same term tells q =
     let e : m.documents ≡ n.documents = sym same in
     let seen = seen_same m n s later.setting e in
@@ -383,16 +408,19 @@ posted m n d s t posting k tail u r is later same c e h =
     let next = are_next n d s t posting (link_stores s r.address r.link ++ x ∷ y ∷ []) c.next stores in
     let more = all_more n d s r.address r.link x y next in
     let seen : b ≡ tokens_seen m s = sym (seen_here n d s t posting is c.next) ∙ sym (seen_same m n s later.setting (sym same)) in
-    let long : length (link_stores s r.address r.link ++ x ∷ y ∷ []) ≡ length (append_stores s (tokens_seen m s) t (count_of t (tokens_seen m s)) posting) = sym (ap length stores) ∙ ap (λ z. length (append_stores s z t (count_of t z) posting)) seen in
+    let long : length (link_stores s r.address r.link ++ x ∷ y ∷ []) ≡ length (append_stores s (tokens_seen m s) t (count_of t (tokens_seen m s)) posting) =
+    sym (ap length stores) ∙ ap (λ z. length (append_stores s z t (count_of t z) posting)) seen in
     let last = after_store (after_store (after_link n d r.link) d) d in
     record {
       next = next;
       appended = record { later = later_on m n last later more.later; documents = more.documents ∙ (λ i. with_stores (same i) d (long i)) };
-      tells = tells_after n last d s t posting tail u r is c.tells c.next h (record { setting = more.setting; documents = more.documents ∙ ap (with_stores n.documents d) (sym (ap length stores)); later = more.later });
+      tells = tells_after n last d s t posting tail u r is c.tells c.next h
+          (record { setting = more.setting; documents = more.documents ∙ ap (with_stores n.documents d) (sym (ap length stores)); later = more.later });
     }
 
 -- where there is a link, the address is behind it
-pub behind : (n : Moment) (d : Doc) (s : ℕ) (t : Term) (posting k tail last : ℕ) (u : Used) (r : NextPlace) → IsMoment n → (c : Carried n d s t posting k u) → tail ≡ word n (place n.setting (slot s tail_region k)) → IsNextPlace (before_it n d s t posting c.next) tail u r
+pub behind : (n : Moment) (d : Doc) (s : ℕ) (t : Term) (posting k tail last : ℕ) (u : Used) (r : NextPlace) → IsMoment n
+    → (c : Carried n d s t posting k u) → tail ≡ word n (place n.setting (slot s tail_region k)) → IsNextPlace (before_it n d s t posting c.next) tail u r
     → r.link ≡ Some last → 0 < r.address
 behind n d s t posting k tail last u r is c e h l =
     let b = tokens_before n.setting n.documents.accepted d c.next.earlier in

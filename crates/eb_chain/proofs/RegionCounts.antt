@@ -1,5 +1,6 @@
 -- How many stores of a placing go to the tails and to the cells of a segment.
-use Rattle.std.proofs.Common.{◌≡◌, ◌≢◌, ℕ, zero, suc, ◌+◌, ◌-◌, ◌*◌, ◌/◌, ◌%◌, ◌^◌, ◌==◌, ◌&&◌, Bool, true, false, List, [], ◌∷◌, ◌++◌, length, get_or, refl, ap, sym, ◌∙◌, arith, inl, inr, if◌then◌else◌, nat_le, sum_by, count_by, append-nil, append_assoc}
+use Rattle.std.proofs.Common.{◌≡◌, ◌≢◌, ℕ, zero, suc, ◌+◌, ◌-◌, ◌*◌, ◌/◌, ◌%◌, ◌^◌, ◌==◌, ◌&&◌, Bool, true, false, List, [], ◌∷◌, ◌++◌, length}
+use Rattle.std.proofs.Common.{get_or, refl, ap, sym, ◌∙◌, arith, inl, inr, if◌then◌else◌, nat_le, sum_by, count_by, append-nil, append_assoc}
 use Rattle.std.proofs.lemmas.Bool.{and_from, eq-eqb, ne_eqb}
 use Rattle.std.proofs.lemmas.List.{length_push, length-append}
 use Rattle.std.proofs.lemmas.List.Sums.{sum_by-append, sum_by-cons}
@@ -87,7 +88,8 @@ enters σ s ts u = if count_of u ts == 0 then enter_stores σ s (distinct ts) u 
 -- entering stores no tail
 pub enters_tails : (σ : Setting) (s : ℕ) (ts : List Term) (u : Term) → count_in s tail_region (enters σ s ts u) ≡ 0
 unfolding enter_stores
-enters_tails σ s ts u = none_in s tail_region (enters σ s ts u) (Each-if (count_of u ts == 0) (λ z. Each-append (row_away s s (sum_by text_words (distinct ts)) tail_region (text_of u) refl) (more (and_false (s == s)) (more (and_false (s == s)) none))))
+enters_tails σ s ts u = none_in s tail_region (enters σ s ts u)
+    (Each-if (count_of u ts == 0) (λ z. Each-append (row_away s s (sum_by text_words (distinct ts)) tail_region (text_of u) refl) (more (and_false (s == s)) (more (and_false (s == s)) none))))
 
 -- and one cell, where the term is new
 pub enters_cells : (σ : Setting) (s : ℕ) (ts : List Term) (u : Term) → count_in s cell_region (enters σ s ts u) ≡ one_if (count_of u ts == 0)
@@ -187,7 +189,8 @@ tokens_cells σ s n p ts (u ∷ us) =
 -- the first-document word is neither
 pub firsts_away : (s v : ℕ) (r : Region) (seg : List Doc) (count : ℕ) → (rank first_region == rank r) ≡ false → count_in v r (first_stores s seg count) ≡ 0
 unfolding first_stores
-firsts_away s v r seg count h = none_in v r (if length seg == 0 then ((slot s first_region 0, count + 1) ∷ []) else []) (Each-if (length seg == 0) (λ z. more (other_region v s 0 (count + 1) first_region r h) none))
+firsts_away s v r seg count h =
+    none_in v r (if length seg == 0 then ((slot s first_region 0, count + 1) ∷ []) else []) (Each-if (length seg == 0) (λ z. more (other_region v s 0 (count + 1) first_region r h) none))
 
 lasts_away : (s v n id count : ℕ) (r : Region) → (rank id_region == rank r) ≡ false → count_in v r ((slot s id_region n, id) ∷ (published, count + 1) ∷ []) ≡ 0
 lasts_away s v n id count r h = none_in v r ((slot s id_region n, id) ∷ (published, count + 1) ∷ []) (more (other_region v s n id id_region r h) (more refl none))
@@ -211,7 +214,8 @@ doc_tails σ s seg count d =
       lasts_away s s (length seg) d.id count tail_region refl,
     )
 
-pub doc_cells : (σ : Setting) (s : ℕ) (seg : List Doc) (count : ℕ) (d : Doc) → length (distinct (terms_of seg)) + count_in s cell_region (stores_in σ s seg count d) ≡ length (distinct (terms_of seg ++ d.terms))
+pub doc_cells : (σ : Setting) (s : ℕ) (seg : List Doc) (count : ℕ) (d : Doc)
+    → length (distinct (terms_of seg)) + count_in s cell_region (stores_in σ s seg count d) ≡ length (distinct (terms_of seg ++ d.terms))
 doc_cells σ s seg count d =
     let T = tokens_stores σ s (length seg) 0 (terms_of seg) d.terms in
     let Z : List Store = (slot s id_region (length seg), d.id) ∷ (published, count + 1) ∷ [] in
@@ -239,7 +243,8 @@ get_none (suc s) = refl
 
 pub counts_placed : (σ : Setting) (docs : List Doc) → IsSetting σ → IsLawful σ docs → (v : ℕ) → Counts σ docs v
 unfolding placings_after cut terms_of distinct
-counts_placed σ docs k = by_push (λ ds. IsLawful σ ds → (v : ℕ) → Counts σ ds v) (λ h v. record { tails = sym (ap (λ z. length (terms_of z)) (get_none v)); cells = sym (ap (λ z. length (distinct (terms_of z))) (get_none v)) }) step docs
+counts_placed σ docs k = by_push (λ ds. IsLawful σ ds → (v : ℕ)
+    → Counts σ ds v) (λ h v. record { tails = sym (ap (λ z. length (terms_of z)) (get_none v)); cells = sym (ap (λ z. length (distinct (terms_of z))) (get_none v)) }) step docs
   where
     step : (ds : List Doc) (d : Doc) → (IsLawful σ ds → (v : ℕ) → Counts σ ds v) → IsLawful σ (ds ++ d ∷ []) → (v : ℕ) → Counts σ (ds ++ d ∷ []) v
     step ds d ih h v =
@@ -254,15 +259,49 @@ counts_placed σ docs k = by_push (λ ds. IsLawful σ ds → (v : ℕ) → Count
             elim (ℕ_discrete v s) [
               | yes q ↦
                   let old : get_or (cut σ ds) v [] ≡ before = ap (λ z. get_or (cut σ ds) z []) q ∙ j.old in
-                  let new : terms_of (get_or (cut σ (ds ++ d ∷ [])) v []) ≡ terms_of before ++ d.terms = ap (λ z. terms_of (get_or (cut σ (ds ++ d ∷ [])) z [])) q ∙ ap terms_of j.here ∙ terms_push before d in
+                  let new : terms_of (get_or (cut σ (ds ++ d ∷ [])) v []) ≡ terms_of before ++ d.terms =
+                  ap (λ z. terms_of (get_or (cut σ (ds ++ d ∷ [])) z [])) q ∙ ap terms_of j.here ∙ terms_push before d in
                   record {
-                    tails = omega (arith, ap (count_in v tail_region) e, count_in-append v tail_region (placings σ ds) X, ap (λ z. count_in z tail_region X) q, doc_tails σ s before (length ds) d, c.tails, ap (λ z. length (terms_of z)) old, ap length new, length-append (terms_of before) d.terms);
-                    cells = omega (arith, ap (count_in v cell_region) e, count_in-append v cell_region (placings σ ds) X, ap (λ z. count_in z cell_region X) q, doc_cells σ s before (length ds) d, c.cells, ap (λ z. length (distinct (terms_of z))) old, ap (λ z. length (distinct z)) new);
+                    tails = omega (
+                      arith,
+                      ap (count_in v tail_region) e,
+                      count_in-append v tail_region (placings σ ds) X,
+                      ap (λ z. count_in z tail_region X) q,
+                      doc_tails σ s before (length ds) d,
+                      c.tails,
+                      ap (λ z. length (terms_of z)) old,
+                      ap length new,
+                      length-append (terms_of before) d.terms,
+                    );
+                    cells = omega (
+                      arith,
+                      ap (count_in v cell_region) e,
+                      count_in-append v cell_region (placings σ ds) X,
+                      ap (λ z. count_in z cell_region X) q,
+                      doc_cells σ s before (length ds) d,
+                      c.cells,
+                      ap (λ z. length (distinct (terms_of z))) old,
+                      ap (λ z. length (distinct z)) new,
+                    );
                   }
               | no q ↦
                   let same = j.other v q in
                   record {
-                    tails = omega (arith, ap (count_in v tail_region) e, count_in-append v tail_region (placings σ ds) X, doc_other σ s v tail_region before (length ds) d (λ w. q (sym w)), c.tails, ap (λ z. length (terms_of z)) same);
-                    cells = omega (arith, ap (count_in v cell_region) e, count_in-append v cell_region (placings σ ds) X, doc_other σ s v cell_region before (length ds) d (λ w. q (sym w)), c.cells, ap (λ z. length (distinct (terms_of z))) same);
+                    tails = omega (
+                      arith,
+                      ap (count_in v tail_region) e,
+                      count_in-append v tail_region (placings σ ds) X,
+                      doc_other σ s v tail_region before (length ds) d (λ w. q (sym w)),
+                      c.tails,
+                      ap (λ z. length (terms_of z)) same,
+                    );
+                    cells = omega (
+                      arith,
+                      ap (count_in v cell_region) e,
+                      count_in-append v cell_region (placings σ ds) X,
+                      doc_other σ s v cell_region before (length ds) d (λ w. q (sym w)),
+                      c.cells,
+                      ap (λ z. length (distinct (terms_of z))) same,
+                    );
                   }
             ]

@@ -50,7 +50,8 @@ one_stored m d x now h =
     let more = h.more in
     let long : suc i < length X = omega (arith, ap length e, length-drop (suc i) X, length-append now h.later) in
     let documents : documents_after (ltb (suc i) (length X)) m.documents.accepted d (suc i) ≡ with_stores m.documents d 1 =
-    ap (λ (b : Bool). documents_after b m.documents.accepted d (suc i)) (lt-ltb _ _ long) ∙ ap (λ k. record { accepted = m.documents.accepted; current = Some (d, k) }) (let q : suc i ≡ i + 1 = omega arith in q) in
+    ap (λ (b : Bool). documents_after b m.documents.accepted d (suc i)) (lt-ltb _ _ long)
+    ∙ ap (λ k. record { accepted = m.documents.accepted; current = Some (d, k) }) (let q : suc i ≡ i + 1 = omega arith in q) in
     record {
       next = record { limits = h.limits; room = h.room; current = h.current; pair = g.0 };
       documents = documents;

@@ -86,7 +86,8 @@ way_back m s t opened (suc f) a w is o h b =
           (subst (IsWay m s t (suc f)) (sym e) here, ap way_loads e ∙ plain_loads opened f old)
     ]
 
-gives : (n l : Moment) (s c : ℕ) (t : Term) (v w : Way) (opened x : ℕ) (xs : List ℕ) (a value : ℕ) → IsMoment n → IsMoment l → IsNotBefore l n → Stands n s t record { segment = c; way = v } opened (x ∷ xs)
+gives : (n l : Moment) (s c : ℕ) (t : Term) (v w : Way) (opened x : ℕ) (xs : List ℕ) (a value : ℕ)
+    → IsMoment n → IsMoment l → IsNotBefore l n → Stands n s t record { segment = c; way = v } opened (x ∷ xs)
     → IsPosting l s t (length xs) a value → IsWayBefore a w → Given l s t record { segment = c; way = w } opened (x ∷ xs) (Some value)
 gives n l s c t v w opened x xs a value is js later h p b =
     let k = stands_later n l s t record { segment = c; way = v } opened (x ∷ xs) is later h in
@@ -152,7 +153,8 @@ end_of m s t zero w h e = refl
 end_of m s t (suc f) w h e = absurd (subst (IsWay m s t (suc f)) e h)
 
 -- what a call gives of what is left
-pub gives_rest : (n l : Moment) (s c : ℕ) (t : Term) (v w : Way) (opened : ℕ) (rest : List ℕ) (k a value : ℕ) → IsMoment n → IsMoment l → IsNotBefore l n → Stands n s t record { segment = c; way = v } opened rest
+pub gives_rest : (n l : Moment) (s c : ℕ) (t : Term) (v w : Way) (opened : ℕ) (rest : List ℕ) (k a value : ℕ)
+    → IsMoment n → IsMoment l → IsNotBefore l n → Stands n s t record { segment = c; way = v } opened rest
     → length rest ≡ suc k → IsPosting l c t k a value → IsWayBefore a w → Given l s t record { segment = c; way = w } opened rest (Some value)
 gives_rest n l s c t v w opened [] k a value is js later h e p b = absurd (omega arith)
 gives_rest n l s c t v w opened (x ∷ xs) k a value is js later h e p b =

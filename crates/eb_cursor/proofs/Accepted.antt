@@ -1,5 +1,6 @@
 -- Accepted documents are whole: their terms are entered, and their postings are seen.
-use Rattle.std.proofs.Common.{◌≡◌, ℕ, zero, suc, ◌<◌, ◌≤◌, ◌==◌, inl, inr, false, cond, List, [], ◌∷◌, ◌++◌, length, get_or, filter, count_by, Contains, None, refl, ap, sym, ◌∙◌, subst, arith, append-nil, bytes_eq}
+use Rattle.std.proofs.Common.{◌≡◌, ℕ, zero, suc, ◌<◌, ◌≤◌, ◌==◌, inl, inr, false, cond, List, [], ◌∷◌, ◌++◌, length, get_or}
+use Rattle.std.proofs.Common.{filter, count_by, Contains, None, refl, ap, sym, ◌∙◌, subst, arith, append-nil, bytes_eq}
 use Rattle.std.specs.List.{position_or_len}
 use Rattle.std.proofs.lemmas.Bool.{cases_Bool, cases_lt}
 use Rattle.std.proofs.lemmas.List.{length-take, length-append}
@@ -65,14 +66,17 @@ whole_before m = record {
 
 -- ---- the postings are seen
 
-whole_tails : (σ : Setting) (docs : List Doc) (s : ℕ) (t : Term) → (h : s < σ.segments) → IsMoment (record { setting = σ; documents = record { accepted = docs; current = None }; conversions = record { converted = 0; packed = 0 } })
-    → 1 ≤ count_of t (terms_of (get_or (cut σ (docs ++ [])) s [])) → count_by (λ (x : ℕ × ℕ). x.0 == place σ (slot s tail_region (number_of t (terms_of (get_or (cut σ (docs ++ [])) s []))))) (pairs_of σ (document_stores σ (record { accepted = docs; current = None }))) ≡ count_of t (terms_of (get_or (cut σ (docs ++ [])) s []))
+whole_tails : (σ : Setting) (docs : List Doc) (s : ℕ) (t : Term) → (h : s < σ.segments)
+    → IsMoment (record { setting = σ; documents = record { accepted = docs; current = None }; conversions = record { converted = 0; packed = 0 } })
+    → 1 ≤ count_of t (terms_of (get_or (cut σ (docs ++ [])) s [])) → count_by (λ (x : ℕ × ℕ). x.0 == place σ (slot s tail_region (number_of t (terms_of (get_or (cut σ (docs ++ [])) s [])))))
+    (pairs_of σ (document_stores σ (record { accepted = docs; current = None }))) ≡ count_of t (terms_of (get_or (cut σ (docs ++ [])) s []))
 unfolding document_stores
 whole_tails σ docs s t h is some =
     let e : docs ++ [] ≡ docs = append-nil docs in
     let p = placed_all σ (docs ++ []) is.setting is.lawful in
     let l : placings σ (docs ++ []) ≡ placings σ docs ++ [] = ap (placings σ) e ∙ sym (append-nil (placings σ docs)) in
-    ap (λ (z : List Store). count_by (λ (x : ℕ × ℕ). x.0 == place σ (slot s tail_region (number_of t (terms_of (get_or (cut σ (docs ++ [])) s []))))) (pairs_of σ z)) (sym l) ∙ (p.reached s h).done t some
+    ap (λ (z : List Store). count_by (λ (x : ℕ × ℕ). x.0 == place σ (slot s tail_region (number_of t (terms_of (get_or (cut σ (docs ++ [])) s []))))) (pairs_of σ z)) (sym l)
+    ∙ (p.reached s h).done t some
 
 seen_whole : (m : Moment) (s : ℕ) (t : Term) → IsMoment m → s < m.setting.segments → length (postings t (segment (whole_moment m) s)) ≤ seen_count (whole_moment m) s t
 unfolding seen_count tails_done
@@ -81,7 +85,13 @@ seen_whole m s t is h =
     let n = length-postings t seg in
     elim (cases_lt 0 (count_of t (terms_of seg))) [
       | inl some ↦ let d = whole_tails m.setting m.documents.accepted s t h (whole_is m is) some in
-          omega (arith, n, d, length-take (count_by (λ (x : ℕ × ℕ). x.0 == place m.setting (slot s tail_region (number_of t (terms_of seg)))) (pairs_of m.setting (document_stores m.setting (record { accepted = m.documents.accepted; current = None })))) (postings t seg))
+          omega (
+            arith,
+            n,
+            d,
+            length-take (count_by (λ (x : ℕ × ℕ). x.0 == place m.setting (slot s tail_region (number_of t (terms_of seg))))
+                (pairs_of m.setting (document_stores m.setting (record { accepted = m.documents.accepted; current = None })))) (postings t seg),
+          )
       | inr away ↦ omega (arith, n)
     ]
 
@@ -99,7 +109,8 @@ behind_none : (s : ℕ) (terms : List Term) (xs : List Store) → Each (Behind s
 behind_none s terms [] none = none
 behind_none s terms (x ∷ xs) (more h t) = more h.test (behind_none s terms xs t)
 
-whole_entries : (σ : Setting) (docs : List Doc) (s : ℕ) → filter (is_entry s) (document_stores σ (record { accepted = docs; current = None })) ≡ entries σ s [] (distinct (terms_of (get_or (cut σ (docs ++ [])) s [])))
+whole_entries : (σ : Setting) (docs : List Doc) (s : ℕ)
+    → filter (is_entry s) (document_stores σ (record { accepted = docs; current = None })) ≡ entries σ s [] (distinct (terms_of (get_or (cut σ (docs ++ [])) s [])))
 unfolding document_stores
 whole_entries σ docs s =
     ap (filter (is_entry s)) (append-nil (placings σ docs)) ∙ picks_all σ s (is_entry s) (λ ts. entries σ s [] (distinct ts)) (entries_picked σ s) docs

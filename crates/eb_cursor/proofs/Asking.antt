@@ -23,7 +23,8 @@ use Rattle.eb_cursor.proofs.Tellings.{gives_later}
 use Rattle.eb_cursor.proofs.Tops.{top_le, top_passes}
 
 -- the cursors of a frame that may be asked are ready, also later
-pub asks_at : (l m : Moment) (f : Frame) (docs : List Doc) (document : ℕ) (cs : List Cursor) → MayAsk l f docs document → IsNotBefore m l → cs ≡ f.cursors.items → Ready (gives m) docs (query_of f) cs (min (document + 1) (length docs))
+pub asks_at : (l m : Moment) (f : Frame) (docs : List Doc) (document : ℕ) (cs : List Cursor) → MayAsk l f docs document
+    → IsNotBefore m l → cs ≡ f.cursors.items → Ready (gives m) docs (query_of f) cs (min (document + 1) (length docs))
 asks_at l m f docs document cs may later e =
     subst (λ z. Ready (gives m) docs (query_of f) z (min (document + 1) (length docs))) (sym e)
     (ready_later (gives l) (gives m) (gives_later l m (record { is = may.is; later = later })) docs (query_of f) f.cursors.items (min (document + 1) (length docs)) may.ready)
@@ -45,7 +46,8 @@ matches_there q (d ∷ ds) zero h e = (d, refl, (match_decides q d).0 e)
 matches_there q (d ∷ ds) (suc n) h e = matches_there q ds n (omega arith) e
 
 -- the number below the top is the greatest match
-pub greatest_of : (q : Tree) (docs : List Doc) (most end found : ℕ) (r : Option ℕ) → end ≡ min (most + 1) (length docs) → found ≡ top (match_at docs q) end → IsNumberBelow found r → IsGreatestMatch q docs most r
+pub greatest_of : (q : Tree) (docs : List Doc) (most end found : ℕ) (r : Option ℕ) → end ≡ min (most + 1) (length docs)
+    → found ≡ top (match_at docs q) end → IsNumberBelow found r → IsGreatestMatch q docs most r
 greatest_of q docs most end found None e t b = λ k h m.
     let w = there_matches q docs k m in
     let low : k < end = omega (arith, w.0) in
@@ -64,7 +66,8 @@ greatest_of q docs most end found (Some n) e t b =
     }
 
 -- what may be asked next
-pub lower_asks : (q : Tree) (m : Moment) (docs : List Doc) (cs : List Cursor) (most end lower : ℕ) → end ≡ min (most + 1) (length docs) → lower ≤ most → Ready (gives m) docs q cs end → Ready (gives m) docs q cs (min (lower + 1) (length docs))
+pub lower_asks : (q : Tree) (m : Moment) (docs : List Doc) (cs : List Cursor) (most end lower : ℕ) → end ≡ min (most + 1) (length docs)
+    → lower ≤ most → Ready (gives m) docs q cs end → Ready (gives m) docs q cs (min (lower + 1) (length docs))
 lower_asks q m docs cs most end lower e h r = ready_lower (gives m) docs q cs (min (lower + 1) (length docs)) end (omega arith) r
 
 -- ---- the first documents
@@ -75,7 +78,8 @@ first_so_many [] (suc n) h = absurd (omega arith)
 first_so_many (x ∷ xs) (suc n) h = let w = first_so_many xs n (omega arith) in (x ∷ w.0, (w.1.0, ap (λ (z : List Doc). x ∷ z) w.1.1), ap suc w.2)
 
 -- the search goes on
-pub next_asks : (n : Moment) (f g : Frame) (docs : List Doc) (document : ℕ) (cs : List Cursor) → IsMoment n → f.documents ≡ length docs → query_of g ≡ query_of f → g.documents ≡ f.documents → g.cursors.items ≡ cs → Ready (gives n) docs (query_of f) cs (min (document + 1) (length docs)) → MayAsk n g docs document
+pub next_asks : (n : Moment) (f g : Frame) (docs : List Doc) (document : ℕ) (cs : List Cursor) → IsMoment n → f.documents ≡ length docs → query_of g ≡ query_of f
+    → g.documents ≡ f.documents → g.cursors.items ≡ cs → Ready (gives n) docs (query_of f) cs (min (document + 1) (length docs)) → MayAsk n g docs document
 next_asks n f g docs document cs is count q d e r = record {
   is = is;
   documents = d ∙ count;

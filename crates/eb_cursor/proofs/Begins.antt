@@ -1,5 +1,6 @@
 -- What the cursors hold at the beginning.
-use Rattle.std.proofs.Common.{◌≡◌, ℕ, zero, suc, ◌+◌, ◌-◌, ◌*◌, ◌/◌, ◌%◌, ◌<◌, ◌≤◌, Bool, true, false, not, leb, List, [], ◌∷◌, ◌++◌, length, take, drop, get_or, set, None, slice_get, if◌then◌else◌, refl, sym, ap, ◌∙◌, subst, inl, inr, arith, length-set}
+use Rattle.std.proofs.Common.{◌≡◌, ℕ, zero, suc, ◌+◌, ◌-◌, ◌*◌, ◌/◌, ◌%◌, ◌<◌, ◌≤◌, Bool, true, false, not, leb, List, [], ◌∷◌, ◌++◌, length}
+use Rattle.std.proofs.Common.{take, drop, get_or, set, None, slice_get, if◌then◌else◌, refl, sym, ap, ◌∙◌, subst, inl, inr, arith, length-set}
 use Rattle.std.proofs.lemmas.Bool.{cases_Bool, cases_lt, and_left, and_right, and_parts, lt-leb, false≢true}
 use Rattle.eb_base.specs.Document.{Doc}
 use Rattle.eb_base.specs.Query.{Tree, Trees, size, sizes, word, phrase, window, since, negation, conjunction, disjunction, no_trees, trees, IsFormed, AreFormed}
@@ -26,7 +27,8 @@ use Rattle.eb_cursor.proofs.Steps.{IsFront}
 
 -- ---- one list
 
-pub opened_leaf : (n o : Moment) (docs : List Doc) (t : List ℕ) (list : PostingList) (c : Cursor) → (h : Opened n docs t list) → Gave h.postings c.list c.current o → IsLeaf (gives o) (is_posting docs t) c (places * length docs)
+pub opened_leaf : (n o : Moment) (docs : List Doc) (t : List ℕ) (list : PostingList) (c : Cursor) → (h : Opened n docs t list)
+    → Gave h.postings c.list c.current o → IsLeaf (gives o) (is_posting docs t) c (places * length docs)
 opened_leaf n o docs t list c h gave = record { left = h.postings; told = gave_left (gives o) c.list h.postings c.current gave; falls = h.falls; rest = h.all }
 
 below_none : (f : ℕ → Bool) (n x : ℕ) → top f n ≡ 0 → x < n → f x ≡ false
@@ -65,15 +67,18 @@ leaves_end n docs [] (c ∷ cs) e z = absurd (omega arith)
 leaves_end n docs (t ∷ ts) [] e z = absurd (omega arith)
 leaves_end n docs (t ∷ ts) (c ∷ cs) e z = absurd (omega arith)
 
-pub leaves_none : (n : Moment) (docs : List Doc) (ts : List (List ℕ)) (t : List ℕ) (us : List (List ℕ)) (c : Cursor) (cs : List Cursor) → ts ≡ t ∷ us → c.current ≡ None → IsLeaf (gives n) (is_posting docs t) c (places * length docs) → BegunLeaves docs ts (c ∷ cs) false n
+pub leaves_none : (n : Moment) (docs : List Doc) (ts : List (List ℕ)) (t : List ℕ) (us : List (List ℕ)) (c : Cursor) (cs : List Cursor)
+    → ts ≡ t ∷ us → c.current ≡ None → IsLeaf (gives n) (is_posting docs t) c (places * length docs) → BegunLeaves docs ts (c ∷ cs) false n
 leaves_none n docs ts t us c cs e none leaf = record {
   ready = λ h. absurd (false≢true h);
   none = λ _. subst (HasAbsent docs) (sym e) (inl (leaf_absent (gives n) docs t c none leaf));
 }
 
-pub leaves_step : (m n : Moment) (docs : List Doc) (ts : List (List ℕ)) (t : List ℕ) (us : List (List ℕ)) (c : Cursor) (cs : List Cursor) (may : Bool) → ts ≡ t ∷ us → IsLater m n → IsLeaf (gives m) (is_posting docs t) c (places * length docs) → BegunLeaves docs us cs may n → BegunLeaves docs ts (c ∷ cs) may n
+pub leaves_step : (m n : Moment) (docs : List Doc) (ts : List (List ℕ)) (t : List ℕ) (us : List (List ℕ)) (c : Cursor) (cs : List Cursor) (may : Bool)
+    → ts ≡ t ∷ us → IsLater m n → IsLeaf (gives m) (is_posting docs t) c (places * length docs) → BegunLeaves docs us cs may n → BegunLeaves docs ts (c ∷ cs) may n
 leaves_step m n docs ts t us c cs may e w leaf more = record {
-  ready = λ h. subst (λ (z : List (List ℕ)). AllAt (gives n) docs z (c ∷ cs) (places * length docs)) (sym e) (leaf_later (gives m) (gives n) (gives_later m n w) (is_posting docs t) c (places * length docs) leaf, more.ready h);
+  ready = λ h. subst (λ (z : List (List ℕ)). AllAt (gives n) docs z (c ∷ cs) (places * length docs)) (sym e)
+      (leaf_later (gives m) (gives n) (gives_later m n w) (is_posting docs t) c (places * length docs) leaf, more.ready h);
   none = λ h. subst (HasAbsent docs) (sym e) (inr (more.none h));
 }
 
@@ -163,8 +168,16 @@ mutual
   clear_ready g docs (phrase ts) cs w h f e = (omega (arith, e, f), w, passed_zero (is_start docs ts) (upto cs), e, λ some. absurd (omega (arith, clear_upto cs h)))
   clear_ready g docs (window ts w) cs narrow h f e = (omega (arith, e, f.0), narrow, passed_zero (is_window_end docs ts w) (upto cs), e, λ some. absurd (omega (arith, clear_upto cs h)))
   clear_ready g docs (since x) cs w h f e = bound_clear g docs x cs h e
-  clear_ready g docs (negation q) cs w h f e = (omega (arith, e), passed_zero (λ n. not (match_at docs q n)) (upto cs), subst (λ k. Ready g docs q (rest_of cs) k) (sym (clear_upto cs h)) (clear_ready g docs q (rest_of cs) w (clear_rest cs h) f (length_rest cs (size q) (omega (arith, e)))))
-  clear_ready g docs (conjunction qs) cs w h f e = (omega (arith, e), passed_zero (each_at docs qs) (upto cs), subst (λ k. AllReady g docs qs (rest_of cs) k) (sym (clear_upto cs h)) (clear_all g docs qs (rest_of cs) w (clear_rest cs h) f.1 (length_rest cs (sizes qs) (omega (arith, e)))))
+  clear_ready g docs (negation q) cs w h f e = (
+    omega (arith, e),
+    passed_zero (λ n. not (match_at docs q n)) (upto cs),
+    subst (λ k. Ready g docs q (rest_of cs) k) (sym (clear_upto cs h)) (clear_ready g docs q (rest_of cs) w (clear_rest cs h) f (length_rest cs (size q) (omega (arith, e)))),
+  )
+  clear_ready g docs (conjunction qs) cs w h f e = (
+    omega (arith, e),
+    passed_zero (each_at docs qs) (upto cs),
+    subst (λ k. AllReady g docs qs (rest_of cs) k) (sym (clear_upto cs h)) (clear_all g docs qs (rest_of cs) w (clear_rest cs h) f.1 (length_rest cs (sizes qs) (omega (arith, e)))),
+  )
   clear_ready g docs (disjunction qs) cs w h f e = (omega (arith, e), clear_all g docs qs (rest_of cs) w (clear_rest cs h) f.1 (length_rest cs (sizes qs) (omega (arith, e))))
 
   pub clear_all : (g : Gives) (docs : List Doc) (qs : Trees) (cs : List Cursor) → Narrow docs → AreClear cs → AreFormed qs → length cs ≡ sizes qs → AllReady g docs qs cs 0
@@ -177,11 +190,13 @@ mutual
 
 -- ---- each kind of query
 
-pub begun_word : (n : Moment) (docs : List Doc) (q : Tree) (t : List ℕ) (cursors : List Cursor) (c : Cursor) (may : Bool) → q ≡ word t → length cursors ≡ 1 → Narrow docs → (may ≡ false → c.current ≡ None) → IsLeaf (gives n) (is_posting docs t) c (places * length docs)
+pub begun_word : (n : Moment) (docs : List Doc) (q : Tree) (t : List ℕ) (cursors : List Cursor) (c : Cursor) (may : Bool) → q ≡ word t
+    → length cursors ≡ 1 → Narrow docs → (may ≡ false → c.current ≡ None) → IsLeaf (gives n) (is_posting docs t) c (places * length docs)
     → Begun docs q (set cursors 0 c) may n
 begun_word n docs q t cursors c may i one w absent leaf = record {
   ready = subst (λ (x : Tree). Ready (gives n) docs x (set cursors 0 c) (length docs)) (sym i) (only cursors one);
-  none = λ h. ap (λ (x : Tree). top (match_at docs x) (length docs)) i ∙ word_top docs w t (length docs) ∙ ap document_end (sym (leaf_none (gives n) (is_posting docs t) c (places * length docs) (absent h) leaf));
+  none = λ h. ap (λ (x : Tree). top (match_at docs x) (length docs)) i ∙ word_top docs w t (length docs)
+      ∙ ap document_end (sym (leaf_none (gives n) (is_posting docs t) c (places * length docs) (absent h) leaf));
 }
   where
     only : (cs : List Cursor) → length cs ≡ 1 → IsOnly (gives n) docs t (set cs 0 c) (length docs)
@@ -206,7 +221,8 @@ top_never : (f : ℕ → Bool) → ((n : ℕ) → f n ≡ false) → (n : ℕ) �
 top_never f w zero = refl
 top_never f w (suc n) = rw (w n) (top_never f w n)
 
-phrase_set : (g : Gives) (docs : List Doc) (ts : List (List ℕ)) (cursors : List Cursor) (d : Cursor) (low lead segment : ℕ) → 0 < length cursors → length cursors ≡ length ts → Narrow docs → IsPassed (is_start docs ts) low (places * length docs) → (0 < low → AllLeaves g docs ts cursors low)
+phrase_set : (g : Gives) (docs : List Doc) (ts : List (List ℕ)) (cursors : List Cursor) (d : Cursor) (low lead segment : ℕ) → 0 < length cursors
+    → length cursors ≡ length ts → Narrow docs → IsPassed (is_start docs ts) low (places * length docs) → (0 < low → AllLeaves g docs ts cursors low)
     → Ready g docs (phrase ts) (set cursors 0 (record { upto = low; lead = lead; segment = segment; current = (get_or cursors 0 d).current; list = (get_or cursors 0 d).list })) (length docs)
 phrase_set g docs ts cursors d low lead segment some len w passed leaves =
     let c : Cursor = record { upto = low; lead = lead; segment = segment; current = (get_or cursors 0 d).current; list = (get_or cursors 0 d).list } in
@@ -222,7 +238,8 @@ phrase_set g docs ts cursors d low lead segment some len w passed leaves =
 never_starts : (docs : List Doc) (ts : List (List ℕ)) → ((x : ℕ) → is_run_from docs ts x ≡ false) → (n : ℕ) → top (is_start docs ts) n ≡ 0
 never_starts docs ts h n = top_never (is_start docs ts) (λ x. and_right (has_room (length ts) x) (is_run_from docs ts x) (h x)) n
 
-phrase_ready : (n : Moment) (docs : List Doc) (ts : List (List ℕ)) (cursors : List Cursor) (d : Cursor) (low lead segment end : ℕ) (may : Bool) → 2 ≤ length ts → length ts ≤ 64 → 0 < length docs → end ≡ places * length docs + 1 - length ts → low ≡ (if may then end else 0) → length cursors ≡ length ts → Narrow docs → BegunLeaves docs ts cursors may n
+phrase_ready : (n : Moment) (docs : List Doc) (ts : List (List ℕ)) (cursors : List Cursor) (d : Cursor) (low lead segment end : ℕ) (may : Bool) → 2 ≤ length ts → length ts ≤ 64
+    → 0 < length docs → end ≡ places * length docs + 1 - length ts → low ≡ (if may then end else 0) → length cursors ≡ length ts → Narrow docs → BegunLeaves docs ts cursors may n
     → Ready (gives n) docs (phrase ts) (set cursors 0 (record { upto = low; lead = lead; segment = segment; current = (get_or cursors 0 d).current; list = (get_or cursors 0 d).list })) (length docs)
 phrase_ready n docs ts cursors d low lead segment end true few most some at e len w begun =
     let k : low ≡ places * length docs + 1 - length ts = e ∙ at in
@@ -234,13 +251,15 @@ phrase_ready n docs ts cursors d low lead segment end false few most some at e l
     (record { same = λ _. never_starts docs ts (absent_run docs ts (begun.none refl)) (places * length docs) ∙ sym (never_starts docs ts (absent_run docs ts (begun.none refl)) low) })
     (λ h. absurd (omega (arith, e)))
 
-pub begun_phrase : (n : Moment) (docs : List Doc) (q : Tree) (ts : List (List ℕ)) (cursors : List Cursor) (d : Cursor) (low lead segment end : ℕ) (may : Bool) → q ≡ phrase ts → 2 ≤ length ts → length ts ≤ 64 → 0 < length docs → end ≡ places * length docs + 1 - length ts → low ≡ (if may then end else 0) → length cursors ≡ length ts → Narrow docs → BegunLeaves docs ts cursors may n
+pub begun_phrase : (n : Moment) (docs : List Doc) (q : Tree) (ts : List (List ℕ)) (cursors : List Cursor) (d : Cursor) (low lead segment end : ℕ) (may : Bool) → q ≡ phrase ts → 2 ≤ length ts
+    → length ts ≤ 64 → 0 < length docs → end ≡ places * length docs + 1 - length ts → low ≡ (if may then end else 0) → length cursors ≡ length ts → Narrow docs → BegunLeaves docs ts cursors may n
     → Begun docs q (set cursors 0 (record { upto = low; lead = lead; segment = segment; current = (get_or cursors 0 d).current; list = (get_or cursors 0 d).list })) may n
 begun_phrase n docs q ts cursors d low lead segment end may i few most some at e len w begun =
     let c : Cursor = record { upto = low; lead = lead; segment = segment; current = (get_or cursors 0 d).current; list = (get_or cursors 0 d).list } in
     record {
       ready = subst (λ (x : Tree). Ready (gives n) docs x (set cursors 0 c) (length docs)) (sym i) (phrase_ready n docs ts cursors d low lead segment end may few most some at e len w begun);
-      none = λ h. ap (λ (x : Tree). top (match_at docs x) (length docs)) i ∙ phrase_top docs w ts (omega arith) (length docs) ∙ ap document_end (never_starts docs ts (absent_run docs ts (begun.none h)) (places * length docs));
+      none = λ h. ap (λ (x : Tree). top (match_at docs x) (length docs)) i ∙ phrase_top docs w ts (omega arith) (length docs)
+          ∙ ap document_end (never_starts docs ts (absent_run docs ts (begun.none h)) (places * length docs));
     }
 
 -- an operator begins with nothing passed
@@ -252,7 +271,8 @@ passed_self f low n e = record { same = λ h. ap (top f) (sym e) }
 behind_from : (g : Gives) (docs : List Doc) (ts : List (List ℕ)) (cursors : List Cursor) (low end : ℕ) → low ≤ end → AllAt g docs ts cursors end → AllBehind g docs ts cursors low
 behind_from g docs [] cursors low end h r = r
 behind_from g docs (t ∷ ts) [] low end h r = r
-behind_from g docs (t ∷ ts) (c ∷ cs) low end h r = (leaf_lower g (is_posting docs t) c (before (first_below docs ts low)) end (omega (arith, first_low docs ts low)) r.0, behind_from g docs ts cs low end h r.1)
+behind_from g docs (t ∷ ts) (c ∷ cs) low end h r =
+    (leaf_lower g (is_posting docs t) c (before (first_below docs ts low)) end (omega (arith, first_low docs ts low)) r.0, behind_from g docs ts cs low end h r.1)
 
 -- where a term stands nowhere no window ends
 absent_first : (docs : List Doc) (ts : List (List ℕ)) → HasAbsent docs ts → (end : ℕ) → first_below docs ts end ≡ 0
@@ -267,7 +287,8 @@ absent_window docs ts w h x =
     let none : reach_end w (first_below docs ts (suc x)) < suc x = omega (arith, ap (reach_end w) (absent_first docs ts h (suc x))) in
     and_right (is_posting docs (last_of ts) x) (leb (suc x) (reach_end w (first_below docs ts (suc x)))) (lt-leb (suc x) (reach_end w (first_below docs ts (suc x))) none)
 
-window_set : (g : Gives) (docs : List Doc) (ts : List (List ℕ)) (w : ℕ) (cursors : List Cursor) (d : Cursor) (low lead segment : ℕ) → 0 < length cursors → length cursors ≡ length ts → Narrow docs → IsPassed (is_window_end docs ts w) low (places * length docs) → (0 < low → AllBehind g docs ts cursors low)
+window_set : (g : Gives) (docs : List Doc) (ts : List (List ℕ)) (w : ℕ) (cursors : List Cursor) (d : Cursor) (low lead segment : ℕ) → 0 < length cursors
+    → length cursors ≡ length ts → Narrow docs → IsPassed (is_window_end docs ts w) low (places * length docs) → (0 < low → AllBehind g docs ts cursors low)
     → Ready g docs (window ts w) (set cursors 0 (record { upto = low; lead = lead; segment = segment; current = (get_or cursors 0 d).current; list = (get_or cursors 0 d).list })) (length docs)
 window_set g docs ts w cursors d low lead segment some len narrow passed leaves =
     let c : Cursor = record { upto = low; lead = lead; segment = segment; current = (get_or cursors 0 d).current; list = (get_or cursors 0 d).list } in
@@ -280,7 +301,8 @@ window_set g docs ts w cursors d low lead segment some len narrow passed leaves 
       subst (λ y. 0 < y → AllBehind g docs ts (set cursors 0 c) y) (sym u) (λ h. behind_upto g docs ts cursors d low lead segment low (leaves h)),
     )
 
-window_ready : (n : Moment) (docs : List Doc) (ts : List (List ℕ)) (w : ℕ) (cursors : List Cursor) (d : Cursor) (low lead segment end : ℕ) (may : Bool) → 0 < length ts → end ≡ places * length docs → low ≡ (if may then end else 0) → length cursors ≡ length ts → Narrow docs → BegunLeaves docs ts cursors may n
+window_ready : (n : Moment) (docs : List Doc) (ts : List (List ℕ)) (w : ℕ) (cursors : List Cursor) (d : Cursor) (low lead segment end : ℕ) (may : Bool)
+    → 0 < length ts → end ≡ places * length docs → low ≡ (if may then end else 0) → length cursors ≡ length ts → Narrow docs → BegunLeaves docs ts cursors may n
     → Ready (gives n) docs (window ts w) (set cursors 0 (record { upto = low; lead = lead; segment = segment; current = (get_or cursors 0 d).current; list = (get_or cursors 0 d).list })) (length docs)
 window_ready n docs ts w cursors d low lead segment end true some at e len narrow begun =
     let k : low ≡ places * length docs = e ∙ at in
@@ -292,7 +314,8 @@ window_ready n docs ts w cursors d low lead segment end false some at e len narr
     (record { same = λ _. top_never (is_window_end docs ts w) none (places * length docs) ∙ sym (top_never (is_window_end docs ts w) none low) })
     (λ h. absurd (omega (arith, e)))
 
-pub begun_window : (n : Moment) (docs : List Doc) (ts : List (List ℕ)) (w : ℕ) (cursors : List Cursor) (d : Cursor) (low lead segment end : ℕ) (may : Bool) → 0 < length ts → end ≡ places * length docs → low ≡ (if may then end else 0) → length cursors ≡ length ts → Narrow docs → BegunLeaves docs ts cursors may n
+pub begun_window : (n : Moment) (docs : List Doc) (ts : List (List ℕ)) (w : ℕ) (cursors : List Cursor) (d : Cursor) (low lead segment end : ℕ) (may : Bool)
+    → 0 < length ts → end ≡ places * length docs → low ≡ (if may then end else 0) → length cursors ≡ length ts → Narrow docs → BegunLeaves docs ts cursors may n
     → Begun docs (window ts w) (set cursors 0 (record { upto = low; lead = lead; segment = segment; current = (get_or cursors 0 d).current; list = (get_or cursors 0 d).list })) may n
 begun_window n docs ts w cursors d low lead segment end may some at e len narrow begun = record {
   ready = window_ready n docs ts w cursors d low lead segment end may some at e len narrow begun;
@@ -311,7 +334,8 @@ bound_begun g docs x c upto current first = record {
   known = λ low. absurd (omega (arith, low, current));
 }
 
-pub begun_since : (n : Moment) (docs : List Doc) (q : Tree) (x : ℕ) (cursors : List Cursor) (c : Cursor) → q ≡ since x → length cursors ≡ 1 → IsBound (gives n) docs x c (length docs) → Begun docs q (set cursors 0 c) true n
+pub begun_since : (n : Moment) (docs : List Doc) (q : Tree) (x : ℕ) (cursors : List Cursor) (c : Cursor) → q ≡ since x
+    → length cursors ≡ 1 → IsBound (gives n) docs x c (length docs) → Begun docs q (set cursors 0 c) true n
 begun_since n docs q x cursors c i one bound = record {
   ready = subst (λ (z : Tree). Ready (gives n) docs z (set cursors 0 c) (length docs)) (sym i) (only cursors one);
   none = λ h. absurd (false≢true (sym h));
@@ -322,16 +346,21 @@ begun_since n docs q x cursors c i one bound = record {
     only (y ∷ []) e = (refl, bound)
     only (y ∷ (z ∷ zs)) e = absurd (omega arith)
 
-pub begun_not : (n : Moment) (docs : List Doc) (q' q : Tree) (c : Cursor) (rest : List Cursor) (may : Bool) → q' ≡ negation q → c.upto ≡ length docs → Begun docs q rest may n → Begun docs q' (c ∷ rest) true n
+pub begun_not : (n : Moment) (docs : List Doc) (q' q : Tree) (c : Cursor) (rest : List Cursor) (may : Bool)
+    → q' ≡ negation q → c.upto ≡ length docs → Begun docs q rest may n → Begun docs q' (c ∷ rest) true n
 begun_not n docs q' q c rest may i u begun =
-    let all : Ready (gives n) docs (negation q) (c ∷ rest) (length docs) = (omega arith, passed_self (λ k. not (match_at docs q k)) c.upto (length docs) u, subst (λ y. Ready (gives n) docs q rest y) (sym u) begun.ready) in
+    let all : Ready (gives n) docs (negation q) (c ∷ rest) (length docs) =
+    (omega arith, passed_self (λ k. not (match_at docs q k)) c.upto (length docs) u, subst (λ y. Ready (gives n) docs q rest y) (sym u) begun.ready) in
     record { ready = subst (λ (x : Tree). Ready (gives n) docs x (c ∷ rest) (length docs)) (sym i) all; none = λ h. absurd (false≢true (sym h)) }
 
-each_ready : (n : Moment) (docs : List Doc) (qs : Trees) (c : Cursor) (rest : List Cursor) (may : Bool) → c.upto ≡ (if may then length docs else 0) → BegunEach docs qs rest may n → Ready (gives n) docs (conjunction qs) (c ∷ rest) (length docs)
+each_ready : (n : Moment) (docs : List Doc) (qs : Trees) (c : Cursor) (rest : List Cursor) (may : Bool)
+    → c.upto ≡ (if may then length docs else 0) → BegunEach docs qs rest may n → Ready (gives n) docs (conjunction qs) (c ∷ rest) (length docs)
 each_ready n docs qs c rest true u begun = (omega arith, passed_self (each_at docs qs) c.upto (length docs) u, subst (λ y. AllReady (gives n) docs qs rest y) (sym u) (begun.ready refl))
-each_ready n docs qs c rest false u begun = (omega arith, record { same = λ _. begun.none refl ∙ ap (top (each_at docs qs)) (sym u) }, subst (λ y. AllReady (gives n) docs qs rest y) (sym u) (begun.ended refl))
+each_ready n docs qs c rest false u begun =
+    (omega arith, record { same = λ _. begun.none refl ∙ ap (top (each_at docs qs)) (sym u) }, subst (λ y. AllReady (gives n) docs qs rest y) (sym u) (begun.ended refl))
 
-pub begun_and : (n : Moment) (docs : List Doc) (q : Tree) (qs : Trees) (c : Cursor) (rest : List Cursor) (end : ℕ) (may : Bool) → q ≡ conjunction qs → end ≡ length docs → c.upto ≡ (if may then end else 0) → BegunEach docs qs rest may n → Begun docs q (c ∷ rest) may n
+pub begun_and : (n : Moment) (docs : List Doc) (q : Tree) (qs : Trees) (c : Cursor) (rest : List Cursor) (end : ℕ) (may : Bool)
+    → q ≡ conjunction qs → end ≡ length docs → c.upto ≡ (if may then end else 0) → BegunEach docs qs rest may n → Begun docs q (c ∷ rest) may n
 begun_and n docs q qs c rest end may i e u begun = record {
   ready = subst (λ (x : Tree). Ready (gives n) docs x (c ∷ rest) (length docs)) (sym i) (each_ready n docs qs c rest may (u ∙ ap (λ (k : ℕ). if may then k else 0) e) begun);
   none = λ h. ap (λ (x : Tree). top (match_at docs x) (length docs)) i ∙ begun.none h;
@@ -356,15 +385,18 @@ each_none n docs qs cursors e len = record {
     none (c ∷ cs) z = absurd (omega arith)
 
 -- a part that matches nothing ends all
-pub each_ends : (n : Moment) (docs : List Doc) (qs : Trees) (q : Tree) (qs' : Trees) (cursors own rest own' : List Cursor) → IsFront qs q qs' cursors own rest → Narrow docs → AreFormed qs' → length rest ≡ sizes qs' → AreClear rest → Begun docs q own' false n → BegunEach docs qs (own' ++ rest) false n
+pub each_ends : (n : Moment) (docs : List Doc) (qs : Trees) (q : Tree) (qs' : Trees) (cursors own rest own' : List Cursor) → IsFront qs q qs' cursors own rest
+    → Narrow docs → AreFormed qs' → length rest ≡ sizes qs' → AreClear rest → Begun docs q own' false n → BegunEach docs qs (own' ++ rest) false n
 each_ends n docs qs q qs' cursors own rest own' e w formed len clear begun = record {
   ready = λ h. absurd (false≢true h);
-  ended = λ _. all_join (gives n) docs qs q qs' own' rest 0 e.parts (ready_lower (gives n) docs q own' 0 (length docs) (omega arith) begun.ready) (clear_all (gives n) docs qs' rest w clear formed len);
+  ended =
+      λ _. all_join (gives n) docs qs q qs' own' rest 0 e.parts (ready_lower (gives n) docs q own' 0 (length docs) (omega arith) begun.ready) (clear_all (gives n) docs qs' rest w clear formed len);
   none = λ _. ap (λ (x : Trees). top (each_at docs x) (length docs)) e.parts
       ∙ (let h = top_implied (match_at docs q) (each_at docs (trees q qs')) (λ k p. (and_parts (match_at docs q k) (each_at docs qs' k) p).0) (length docs) in omega (arith, h, begun.none refl));
 }
 
-pub each_goes : (m n : Moment) (docs : List Doc) (qs : Trees) (q : Tree) (qs' : Trees) (cursors own rest own' rest' : List Cursor) (may1 may : Bool) → IsFront qs q qs' cursors own rest → IsLater m n → Begun docs q own' may1 m → BegunEach docs qs' rest' may n → BegunEach docs qs (own' ++ rest') may n
+pub each_goes : (m n : Moment) (docs : List Doc) (qs : Trees) (q : Tree) (qs' : Trees) (cursors own rest own' rest' : List Cursor) (may1 may : Bool)
+    → IsFront qs q qs' cursors own rest → IsLater m n → Begun docs q own' may1 m → BegunEach docs qs' rest' may n → BegunEach docs qs (own' ++ rest') may n
 each_goes m n docs qs q qs' cursors own rest own' rest' may1 may e w begun more =
     let kept : Ready (gives n) docs q own' (length docs) = ready_later (gives m) (gives n) (gives_later m n w) docs q own' (length docs) begun.ready in
     record {
@@ -384,7 +416,8 @@ some_none n docs qs cursors e len = record {
     none [] z = subst (λ (x : Trees). AllReady (gives n) docs x [] (length docs)) (sym e) refl
     none (c ∷ cs) z = absurd (omega arith)
 
-pub some_goes : (m n : Moment) (docs : List Doc) (qs : Trees) (q : Tree) (qs' : Trees) (cursors own rest own' rest' : List Cursor) (may1 may2 may : Bool) → IsFront qs q qs' cursors own rest → (may ≡ false → (may1 ≡ false) × (may2 ≡ false)) → IsLater m n → Begun docs q own' may1 m → BegunSome docs qs' rest' may2 n → BegunSome docs qs (own' ++ rest') may n
+pub some_goes : (m n : Moment) (docs : List Doc) (qs : Trees) (q : Tree) (qs' : Trees) (cursors own rest own' rest' : List Cursor) (may1 may2 may : Bool) → IsFront qs q qs' cursors own rest
+    → (may ≡ false → (may1 ≡ false) × (may2 ≡ false)) → IsLater m n → Begun docs q own' may1 m → BegunSome docs qs' rest' may2 n → BegunSome docs qs (own' ++ rest') may n
 some_goes m n docs qs q qs' cursors own rest own' rest' may1 may2 may e split w begun more = record {
   ready = all_join (gives n) docs qs q qs' own' rest' (length docs) e.parts (ready_later (gives m) (gives n) (gives_later m n w) docs q own' (length docs) begun.ready) more.ready;
   none = λ h. let s = split h in ap (λ (x : Trees). top (some_at docs x) (length docs)) e.parts

@@ -72,7 +72,8 @@ ahead_under : (g : Gives) (list : PostingList) (xs : List ℕ) (p : ℕ) (r : Op
 ahead_under g list xs p None u h = omega arith
 ahead_under g list xs p (Some q) u h = let k : q < p = subst (IsUnder p) h.1 u in omega arith
 
-pub leaf_ahead : (g g' : Gives) (f : ℕ → Bool) (s s' : Cursor) (p e : ℕ) (ys : List ℕ) → s.current ≡ Some p → (leaf : IsLeaf g f s e) → leaf.left ≡ p ∷ ys → Given g' s'.list ys s'.current → ahead s'.current < ahead s.current
+pub leaf_ahead : (g g' : Gives) (f : ℕ → Bool) (s s' : Cursor) (p e : ℕ) (ys : List ℕ) → s.current ≡ Some p
+    → (leaf : IsLeaf g f s e) → leaf.left ≡ p ∷ ys → Given g' s'.list ys s'.current → ahead s'.current < ahead s.current
 leaf_ahead g g' f s s' p e ys is leaf same gave =
     let falls : IsFalling (p ∷ ys) = subst IsFalling same leaf.falls in
     let k : ahead s'.current < suc p = ahead_under g' s'.list ys p s'.current falls.0 gave in

@@ -60,20 +60,23 @@ first_are m s docs a = whole_segment m s ∙ a.are
 pub absent_opens : (m n : Moment) (s : ℕ) (docs : List Doc) (t : Term) → AreFirst m s docs → (IsEntered m s t → ⊥) → Opened n docs t Empty
 absent_opens m n s docs t a away =
     let few : length (postings t docs) ≡ 0 = elim (cases_lt 0 (count_of t (terms_of docs))) [
-      | inl some ↦ absurd (away (entered_accepted m s t (omega (arith, some, ap (λ (z : List Doc). count_of t (terms_of z)) (first_are m s docs a), ap (count_of t) (terms_more docs a.rest), count_of-append t (terms_of docs) (terms_of a.rest)))))
+      | inl some ↦ absurd (away (entered_accepted m s t
+          (omega (arith, some, ap (λ (z : List Doc). count_of t (terms_of z)) (first_are m s docs a), ap (count_of t) (terms_more docs a.rest), count_of-append t (terms_of docs) (terms_of a.rest)))))
       | inr none ↦ omega (arith, length-postings t docs)
     ] in
     record { postings = []; told = refl; falls = tt; all = ap reverse (sym (empty_of (postings t docs) few)) ∙ postings_below t docs a.narrow }
 
 -- a chain gives what was seen when it was opened
-pub chain_opens : (m n : Moment) (s : ℕ) (docs : List Doc) (t : Term) (c : Chain) → IsMoment m → IsMoment n → IsNotBefore n m → AreFirst m s docs → Stands n s t c (seen_count n s t) (reverse (seen n s t)) → Opened n docs t (Live c)
+pub chain_opens : (m n : Moment) (s : ℕ) (docs : List Doc) (t : Term) (c : Chain) → IsMoment m → IsMoment n → IsNotBefore n m
+    → AreFirst m s docs → Stands n s t c (seen_count n s t) (reverse (seen n s t)) → Opened n docs t (Live c)
 chain_opens m n s docs t c is js l a stands =
     let p = later_segment (whole_moment m) n s (later_on (whole_moment m) m n (whole_before m) l) in
     let more : List Doc = a.rest ++ p.0 in
     let e : segment n s ≡ docs ++ more = sym p.1 ∙ ap (λ (z : List Doc). z ++ p.0) (first_are m s docs a) ∙ append_assoc docs a.rest p.0 in
     let narrow : Narrow (docs ++ more) = subst Narrow e (narrow_each (segment n s) ((placed_all n.setting (with_current n.documents) js.setting js.lawful).limits s)) in
     let q = postings_more t docs a.rest in
-    let few : length (postings t docs) ≤ seen_count n s t = omega (arith, seen_accepted m n s t is a.inside l, ap (λ (z : List Doc). length (postings t z)) (first_are m s docs a), ap length q.1, length-append (postings t docs) q.0) in
+    let few : length (postings t docs) ≤ seen_count n s t =
+    omega (arith, seen_accepted m n s t is a.inside l, ap (λ (z : List Doc). length (postings t z)) (first_are m s docs a), ap length q.1, length-append (postings t docs) q.0) in
     let most : seen_count n s t ≤ length (postings t (docs ++ more)) = omega (arith, reached_few n s t, ap (λ (z : List Doc). length (postings t z)) e) in
     let is_front : seen n s t ≡ take (seen_count n s t) (postings t (docs ++ more)) = seen_is n s t ∙ ap (λ (z : List Doc). take (seen_count n s t) (postings t z)) e in
     let w = seen_below t docs more (seen_count n s t) narrow a.narrow few most in
@@ -85,7 +88,8 @@ chain_opens m n s docs t c is js l a stands =
     }
 
 -- a packed list gives all postings
-pub packed_opens : (m n : Moment) (s : ℕ) (docs : List Doc) (t : Term) (p : PackedList) (budget : ℕ) → IsMoment n → IsNotBefore n m → AreFirst m s docs → ListStands n s t p (newest_first n s t) budget → Opened n docs t (Packed p)
+pub packed_opens : (m n : Moment) (s : ℕ) (docs : List Doc) (t : Term) (p : PackedList) (budget : ℕ) → IsMoment n
+    → IsNotBefore n m → AreFirst m s docs → ListStands n s t p (newest_first n s t) budget → Opened n docs t (Packed p)
 packed_opens m n s docs t p budget js l a stands =
     let q = later_segment (whole_moment m) n s (later_on (whole_moment m) m n (whole_before m) l) in
     let more : List Doc = a.rest ++ q.0 in
@@ -127,7 +131,8 @@ are_first m s docs is some p =
 -- ---- the converted word
 
 -- whether a word is 1 tells whether the segment is converted
-pub packed_if : (n : Moment) (s w : ℕ) (b : Bool) → IsMoment n → s < n.setting.segments → w ≡ word n (place n.setting (slot s converted_region 0)) → b ≡ (w == 1) → MatchBool b (IsConverted n s) (n.conversions.converted ≤ s)
+pub packed_if : (n : Moment) (s w : ℕ) (b : Bool) → IsMoment n → s < n.setting.segments
+    → w ≡ word n (place n.setting (slot s converted_region 0)) → b ≡ (w == 1) → MatchBool b (IsConverted n s) (n.conversions.converted ≤ s)
 packed_if n s w b is inside e i = elim (cases_lt s n.conversions.converted) [
   | inl low ↦ subst (λ z. MatchBool z (IsConverted n s) (n.conversions.converted ≤ s)) (sym (i ∙ ap (λ k. k == 1) (e ∙ word_converted n s is low))) low
   | inr high ↦ subst (λ z. MatchBool z (IsConverted n s) (n.conversions.converted ≤ s)) (sym (i ∙ ap (λ k. k == 1) (e ∙ word_not_converted n s is inside high))) high

@@ -1,5 +1,6 @@
 -- Phrases: places from which all terms stand.
-use Rattle.std.proofs.Common.{◌≡◌, ℕ, zero, suc, ◌+◌, ◌-◌, ◌*◌, ◌%◌, ◌<◌, ◌≤◌, Bool, true, false, ◌&&◌, min, List, [], ◌∷◌, length, get_or, set, slice_get, bytes_eq, length-set, refl, sym, ap, ◌∙◌, subst, inl, inr, arith}
+use Rattle.std.proofs.Common.{◌≡◌, ℕ, zero, suc, ◌+◌, ◌-◌, ◌*◌, ◌%◌, ◌<◌, ◌≤◌, Bool, true, false, ◌&&◌, min, List, [], ◌∷◌}
+use Rattle.std.proofs.Common.{length, get_or, set, slice_get, bytes_eq, length-set, refl, sym, ap, ◌∙◌, subst, inl, inr, arith}
 use Rattle.std.specs.List.{starts_with}
 use Rattle.std.proofs.lemmas.Bool.{cases_Bool, cases_lt, and_parts, and_from, and_left, and_right, or_cases, or_parts, le-leb, lt-leb}
 use Rattle.eb_base.specs.Document.{Doc}
@@ -58,7 +59,8 @@ room_past n x k h p e =
 
 -- ---- one round
 
-pub run_end : (g : Gives) (docs : List Doc) (ts : List (List ℕ)) (cursors : List Cursor) (at end last : ℕ) → length cursors ≡ 0 → end ≤ last → AllLeaves g docs ts cursors (last + at) → IsRun g docs ts cursors at end end
+pub run_end : (g : Gives) (docs : List Doc) (ts : List (List ℕ)) (cursors : List Cursor) (at end last : ℕ)
+    → length cursors ≡ 0 → end ≤ last → AllLeaves g docs ts cursors (last + at) → IsRun g docs ts cursors at end end
 run_end g docs [] cursors at end last n h r = record { falls = omega arith; same = refl; all = λ _. top_all (λ x. true) (λ x. refl) end; ready = r }
 run_end g docs (t ∷ ts) [] at end last n h r = absurd r
 run_end g docs (t ∷ ts) (s ∷ ss) at end last n h r = absurd (omega arith)
@@ -68,7 +70,8 @@ pub run_none : (g : Gives) (docs : List Doc) (ts : List (List ℕ)) (cursors : L
 run_none g docs ts cursors at zero last e r = record { falls = omega arith; same = refl; all = λ _. refl; ready = leaves_lower g docs ts cursors (0 + at) (last + at) (omega arith) r }
 run_none g docs ts cursors at (suc end) last e r = absurd (omega arith)
 
-pub run_asks : (g : Gives) (docs : List Doc) (ts : List (List ℕ)) (cursors : List Cursor) (s : Cursor) (ss : List Cursor) (y : ℕ) → cursors ≡ s ∷ ss → AllLeaves g docs ts cursors y → (t : List ℕ) × (us : List (List ℕ)) × (ts ≡ t ∷ us) × IsLeaf g (is_posting docs t) s y × AllLeaves g docs us ss (suc y)
+pub run_asks : (g : Gives) (docs : List Doc) (ts : List (List ℕ)) (cursors : List Cursor) (s : Cursor) (ss : List Cursor) (y : ℕ) → cursors ≡ s ∷ ss
+    → AllLeaves g docs ts cursors y → (t : List ℕ) × (us : List (List ℕ)) × (ts ≡ t ∷ us) × IsLeaf g (is_posting docs t) s y × AllLeaves g docs us ss (suc y)
 run_asks g docs [] cursors s ss y e r = let k : s ∷ ss ≡ [] = sym e ∙ r in cc
 run_asks g docs (t ∷ us) [] s ss y e r = absurd r
 run_asks g docs (t ∷ us) (x ∷ xs) s ss y e r = let a : x ≡ s = cc in let b : xs ≡ ss = cc in
@@ -78,24 +81,29 @@ run_asks g docs (t ∷ us) (x ∷ xs) s ss y e r = let a : x ≡ s = cc in let b
 abbrev pub Front : Gives → List Doc → List (List ℕ) → Cursor → List Cursor → ℕ → Type 0
 Front g docs ts s ss y = (t : List ℕ) × (us : List (List ℕ)) × (ts ≡ t ∷ us) × IsLeaf g (is_posting docs t) s y × AllLeaves g docs us ss (suc y)
 
-pub front_leaf : (g : Gives) (docs : List Doc) (ts : List (List ℕ)) (s : Cursor) (ss : List Cursor) (at end last : ℕ) → end ≤ last → (a : Front g docs ts s ss (last + at)) → IsLeaf g (is_posting docs a.0) s (end + at)
+pub front_leaf : (g : Gives) (docs : List Doc) (ts : List (List ℕ)) (s : Cursor) (ss : List Cursor) (at end last : ℕ)
+    → end ≤ last → (a : Front g docs ts s ss (last + at)) → IsLeaf g (is_posting docs a.0) s (end + at)
 front_leaf g docs ts s ss at end last h a = leaf_lower g (is_posting docs a.0) s (end + at) (last + at) (omega arith) a.3
 
-pub front_rest : (g g' : Gives) → Later g g' → (docs : List Doc) (ts : List (List ℕ)) (s : Cursor) (ss : List Cursor) (at last : ℕ) → (a : Front g docs ts s ss (last + at)) → AllLeaves g' docs a.1 ss (last + (at + 1))
+pub front_rest : (g g' : Gives) → Later g g' → (docs : List Doc) (ts : List (List ℕ)) (s : Cursor) (ss : List Cursor) (at last : ℕ)
+    → (a : Front g docs ts s ss (last + at)) → AllLeaves g' docs a.1 ss (last + (at + 1))
 front_rest g g' w docs ts s ss at last a = let k : suc (last + at) ≡ last + (at + 1) = omega arith in
     leaves_later g g' w docs a.1 ss (last + (at + 1)) (subst (λ y. AllLeaves g docs a.1 ss y) k a.4)
 
 pub run_step : (g1 g' : Gives) (docs : List Doc) (ts : List (List ℕ)) (t : List ℕ) (us : List (List ℕ)) (s' : Cursor) (ss' : List Cursor) (at end reach found1 found : ℕ)
-    → ts ≡ t ∷ us → Later g1 g' → reach ≡ top (is_posting docs t) (end + at) → found1 ≡ reach - at → IsLeaf g1 (is_posting docs t) s' (end + at) → IsRun g' docs us ss' (at + 1) found1 found → IsRun g' docs ts (s' ∷ ss') at end found
+    → ts ≡ t ∷ us → Later g1 g' → reach ≡ top (is_posting docs t) (end + at) → found1 ≡ reach - at
+    → IsLeaf g1 (is_posting docs t) s' (end + at) → IsRun g' docs us ss' (at + 1) found1 found → IsRun g' docs ts (s' ∷ ss') at end found
 run_step g1 g' docs ts t us s' ss' at end reach found1 found e w told minus leaf more =
     let f : ℕ → Bool = λ x. is_posting docs t (x + at) in
     let h : ℕ → Bool = λ x. is_run_from docs us (suc (x + at)) in
     let told1 : found1 ≡ top f end = omega (arith, top_shift (is_posting docs t) at end) in
-    let hs : (x : ℕ) → top h x ≡ top (λ y. is_run_from docs us (y + (at + 1))) x = top_same h (λ y. is_run_from docs us (y + (at + 1))) (λ n. let k : suc (n + at) ≡ n + (at + 1) = omega arith in ap (is_run_from docs us) k) in
+    let hs : (x : ℕ) → top h x ≡ top (λ y. is_run_from docs us (y + (at + 1))) x =
+    top_same h (λ y. is_run_from docs us (y + (at + 1))) (λ n. let k : suc (n + at) ≡ n + (at + 1) = omega arith in ap (is_run_from docs us) k) in
     let two = and_round f h end found1 found told1 more.falls (hs found1 ∙ more.same ∙ sym (hs found)) (λ k. hs found1 ∙ more.all k) in
     let le : found1 ≤ end = omega (arith, top_le f end) in
     let k : found + (at + 1) ≡ suc (found + at) = omega arith in
-    let own : IsLeaf g' (is_posting docs t) s' (found + at) = leaf_lower g' (is_posting docs t) s' (found + at) (end + at) (omega (arith, more.falls)) (leaf_later g1 g' w (is_posting docs t) s' (end + at) leaf) in
+    let own : IsLeaf g' (is_posting docs t) s' (found + at) =
+    leaf_lower g' (is_posting docs t) s' (found + at) (end + at) (omega (arith, more.falls)) (leaf_later g1 g' w (is_posting docs t) s' (end + at) leaf) in
     let rest : AllLeaves g' docs us ss' (suc (found + at)) = subst (λ y. AllLeaves g' docs us ss' y) k more.ready in
     let run : IsRun g' docs (t ∷ us) (s' ∷ ss') at end found = record { falls = omega (arith, more.falls); same = two.0; all = two.1; ready = (own, rest) } in
     subst (λ x. IsRun g' docs x (s' ∷ ss') at end found) (sym e) run
@@ -103,7 +111,8 @@ run_step g1 g' docs ts t us s' ss' at end reach found1 found e w told minus leaf
 -- ---- the leading leaf
 
 -- no leaf leads
-pub led_run_none : (g : Gives) (docs : List Doc) (ts : List (List ℕ)) (cursors : List Cursor) (at end last : ℕ) → end ≤ last → AllLeaves g docs ts cursors (last + at) → IsLedRun g docs ts cursors at end end
+pub led_run_none : (g : Gives) (docs : List Doc) (ts : List (List ℕ)) (cursors : List Cursor) (at end last : ℕ)
+    → end ≤ last → AllLeaves g docs ts cursors (last + at) → IsLedRun g docs ts cursors at end end
 led_run_none g docs ts cursors at end last h r = record {
   falls = omega arith;
   most = top_le (λ x. is_run_from docs ts (x + at)) end;
@@ -112,7 +121,8 @@ led_run_none g docs ts cursors at end last h r = record {
 
 -- the first leaf leads
 pub led_run_here : (g : Gives) (docs : List Doc) (ts : List (List ℕ)) (t : List ℕ) (us : List (List ℕ)) (s' : Cursor) (ss : List Cursor) (at end last reach found : ℕ)
-    → ts ≡ t ∷ us → end ≤ last → reach ≡ top (is_posting docs t) (end + at) → found ≡ reach - at → IsLeaf g (is_posting docs t) s' (end + at) → AllLeaves g docs us ss (last + (at + 1)) → IsLedRun g docs ts (s' ∷ ss) at end found
+    → ts ≡ t ∷ us → end ≤ last → reach ≡ top (is_posting docs t) (end + at) → found ≡ reach - at
+    → IsLeaf g (is_posting docs t) s' (end + at) → AllLeaves g docs us ss (last + (at + 1)) → IsLedRun g docs ts (s' ∷ ss) at end found
 led_run_here g docs ts t us s' ss at end last reach found e h told minus leaf others =
     let f : ℕ → Bool = λ x. is_posting docs t (x + at) in
     let k : ℕ → Bool = λ x. is_run_from docs us (suc (x + at)) in
@@ -133,26 +143,31 @@ led_run_there g g' docs ts t us s ss' at end last found e w h leaf more =
     let f : ℕ → Bool = λ x. is_posting docs t (x + at) in
     let k : ℕ → Bool = λ x. is_run_from docs us (suc (x + at)) in
     let both : ℕ → Bool = λ x. f x && k x in
-    let ks : top k end ≡ top (λ y. is_run_from docs us (y + (at + 1))) end = top_same k (λ y. is_run_from docs us (y + (at + 1))) (λ n. let j : suc (n + at) ≡ n + (at + 1) = omega arith in ap (is_run_from docs us) j) end in
+    let ks : top k end ≡ top (λ y. is_run_from docs us (y + (at + 1))) end =
+    top_same k (λ y. is_run_from docs us (y + (at + 1))) (λ n. let j : suc (n + at) ≡ n + (at + 1) = omega arith in ap (is_run_from docs us) j) end in
     let under : top both end ≤ top k end = top_implied k both (λ n p. (and_parts (f n) (k n) p).1) end in
     let most : top both end ≤ found = omega (arith, under, ks, more.most) in
-    let own : IsLeaf g' (is_posting docs t) s (found + at) = leaf_lower g' (is_posting docs t) s (found + at) (last + at) (omega (arith, more.falls)) (leaf_later g g' w (is_posting docs t) s (last + at) leaf) in
+    let own : IsLeaf g' (is_posting docs t) s (found + at) =
+    leaf_lower g' (is_posting docs t) s (found + at) (last + at) (omega (arith, more.falls)) (leaf_later g g' w (is_posting docs t) s (last + at) leaf) in
     let j : found + (at + 1) ≡ suc (found + at) = omega arith in
     let rest : AllLeaves g' docs us ss' (suc (found + at)) = subst (λ y. AllLeaves g' docs us ss' y) j more.ready in
     let run : IsLedRun g' docs (t ∷ us) (s ∷ ss') at end found = record { falls = more.falls; most = most; ready = (own, rest) } in
     subst (λ x. IsLedRun g' docs x (s ∷ ss') at end found) (sym e) run
 
 -- the leading leaf passed no start
-pub led_starts : (g : Gives) (docs : List Doc) (ts : List (List ℕ)) (cursors : List Cursor) (end found : ℕ) → IsLedRun g docs ts cursors 0 end found → top (is_start docs ts) found ≡ top (is_start docs ts) end
+pub led_starts : (g : Gives) (docs : List Doc) (ts : List (List ℕ)) (cursors : List Cursor) (end found : ℕ)
+    → IsLedRun g docs ts cursors 0 end found → top (is_start docs ts) found ≡ top (is_start docs ts) end
 led_starts g docs ts cursors end found run =
     let k : ℕ → Bool = λ x. is_run_from docs ts (x + 0) in
-    let under : top (is_start docs ts) end ≤ top k end = top_implied k (is_start docs ts) (λ n p. let z : n ≡ n + 0 = omega arith in subst (λ y. is_run_from docs ts y ≡ true) z (and_parts (has_room (length ts) n) (is_run_from docs ts n) p).1) end in
+    let under : top (is_start docs ts) end ≤ top k end =
+    top_implied k (is_start docs ts) (λ n p. let z : n ≡ n + 0 = omega arith in subst (λ y. is_run_from docs ts y ≡ true) z (and_parts (has_room (length ts) n) (is_run_from docs ts n) p).1) end in
     let most : top k end ≤ found = run.most in
     top_between (is_start docs ts) found end (omega (arith, under, most)) run.falls
 
 -- ---- the starts
 
-pub start_round : (docs : List Doc) (ts : List (List ℕ)) (n place room found : ℕ) → n ≡ length ts → room ≡ top (has_room n) place → (g : Gives) (cursors : List Cursor) → IsRun g docs ts cursors 0 room found
+pub start_round : (docs : List Doc) (ts : List (List ℕ)) (n place room found : ℕ) → n ≡ length ts
+    → room ≡ top (has_room n) place → (g : Gives) (cursors : List Cursor) → IsRun g docs ts cursors 0 room found
     → (found ≤ place) × (top (is_start docs ts) place ≡ top (is_start docs ts) found) × (found ≡ place → top (is_start docs ts) place ≡ place) × AllLeaves g docs ts cursors found
 start_round docs ts n place room found len told g cursors run =
     let h : ℕ → Bool = is_run_from docs ts in
@@ -163,7 +178,8 @@ start_round docs ts n place room found len told g cursors run =
     (omega (arith, run.falls, top_le (has_room (length ts)) place), two.0, two.1, subst (λ y. AllLeaves g docs ts cursors y) z run.ready)
 
 -- what a round over the leaves gave, from a place on
-pub start_round_of : (g g' : Gives) (docs : List Doc) (ts : List (List ℕ)) (cursors cursors' : List Cursor) (count place room found last : ℕ) → count ≡ length cursors → room ≡ top (has_room count) place → AllLeaves g docs ts cursors last → IsRun g' docs ts cursors' 0 room found
+pub start_round_of : (g g' : Gives) (docs : List Doc) (ts : List (List ℕ)) (cursors cursors' : List Cursor) (count place room found last : ℕ)
+    → count ≡ length cursors → room ≡ top (has_room count) place → AllLeaves g docs ts cursors last → IsRun g' docs ts cursors' 0 room found
     → (found ≤ place) × (top (is_start docs ts) place ≡ top (is_start docs ts) found) × (found ≡ place → top (is_start docs ts) place ≡ place) × AllLeaves g' docs ts cursors' found
 start_round_of g g' docs ts cursors cursors' count place room found last len told r run =
     start_round docs ts count place room found (len ∙ leaves_length g docs ts cursors last r) told g' cursors' run
@@ -222,8 +238,12 @@ phrase_block docs w ps h n = record {
   some = λ e. let a = phrase_some ps (terms_at docs n) e in
       let in_doc : a.0 + length ps ≤ places = omega (arith, w.narrow n, a.1) in
       let k : a.0 < places = omega arith in
-      let room : (places * n + a.0) % places + length ps ≤ places = omega arith in
-      (a.0, k, and_from (has_room (length ps) (places * n + a.0)) (is_run_from docs ps (places * n + a.0)) (le-leb ((places * n + a.0) % places + length ps) places room) (start_run docs ps n a.0 in_doc ∙ a.2));
+      let room : (places * n + a.0) % places + length ps ≤ places = omega arith in (
+        a.0,
+        k,
+        and_from (has_room (length ps) (places * n + a.0)) (is_run_from docs ps (places * n + a.0)) (le-leb ((places * n + a.0) % places + length ps) places room)
+            (start_run docs ps n a.0 in_doc ∙ a.2),
+      );
   none = λ e k i. elim (cases_lt places (k + length ps)) [
     | inl j ↦ let over : places < (places * n + k) % places + length ps = omega arith in
         and_left (has_room (length ps) (places * n + k)) (is_run_from docs ps (places * n + k)) (lt-leb ((places * n + k) % places + length ps) places over)
@@ -239,7 +259,8 @@ phrase_top docs w ps h end = blocks (match_at docs (phrase ps)) (is_start docs p
 pub leaf_upto : (g : Gives) (f : ℕ → Bool) (s : Cursor) (v k i y : ℕ) → IsLeaf g f s y → IsLeaf g f (record { upto = v; lead = k; segment = i; current = s.current; list = s.list }) y
 leaf_upto g f s v k i y r = record { left = r.left; told = r.told; falls = r.falls; rest = r.rest }
 
-pub leaves_upto : (g : Gives) (docs : List Doc) (ts : List (List ℕ)) (cursors : List Cursor) (d : Cursor) (v k i y : ℕ) → AllLeaves g docs ts cursors y → AllLeaves g docs ts (set cursors 0 (record { upto = v; lead = k; segment = i; current = (get_or cursors 0 d).current; list = (get_or cursors 0 d).list })) y
+pub leaves_upto : (g : Gives) (docs : List Doc) (ts : List (List ℕ)) (cursors : List Cursor) (d : Cursor) (v k i y : ℕ) → AllLeaves g docs ts cursors y
+    → AllLeaves g docs ts (set cursors 0 (record { upto = v; lead = k; segment = i; current = (get_or cursors 0 d).current; list = (get_or cursors 0 d).list })) y
 leaves_upto g docs [] [] d v k i y r = r
 leaves_upto g docs [] (s ∷ ss) d v k i y r = let e : s ∷ ss ≡ [] = r in cc
 leaves_upto g docs (t ∷ ts) [] d v k i y r = absurd r
@@ -257,18 +278,21 @@ pub ahead_of : (start a b u : ℕ) → start ≡ min a b → (start ≡ 0 → �
 ahead_of zero a b u m some e = absurd (some refl)
 ahead_of (suc s) a b u m some e = omega arith
 
-pub phrase_asks : (g : Gives) (docs : List Doc) (ts : List (List ℕ)) (cursors : List Cursor) (d : Cursor) (start end last : ℕ) → start ≡ min (places * end) (get_or cursors 0 d).upto → (start ≡ 0 → ⊥) → Ready g docs (phrase ts) cursors last
+pub phrase_asks : (g : Gives) (docs : List Doc) (ts : List (List ℕ)) (cursors : List Cursor) (d : Cursor) (start end last : ℕ)
+    → start ≡ min (places * end) (get_or cursors 0 d).upto → (start ≡ 0 → ⊥) → Ready g docs (phrase ts) cursors last
     → (start ≤ (get_or cursors 0 d).upto) × AllLeaves g docs ts cursors (get_or cursors 0 d).upto
 phrase_asks g docs ts cursors d start end last m some r = let u : upto cursors ≡ (get_or cursors 0 d).upto = upto_at cursors d r.0 in
     let ahead : 0 < upto cursors = ahead_of start (places * end) (get_or cursors 0 d).upto (upto cursors) m some u in
     (omega arith, subst (λ y. AllLeaves g docs ts cursors y) u (r.4 ahead))
 
-passed_at : (docs : List Doc) (ts : List (List ℕ)) (cursors : List Cursor) (d : Cursor) (last : ℕ) → 0 < length cursors → IsPassed (is_start docs ts) (upto cursors) (places * last) → IsPassed (is_start docs ts) (get_or cursors 0 d).upto (places * last)
+passed_at : (docs : List Doc) (ts : List (List ℕ)) (cursors : List Cursor) (d : Cursor) (last : ℕ) → 0 < length cursors
+    → IsPassed (is_start docs ts) (upto cursors) (places * last) → IsPassed (is_start docs ts) (get_or cursors 0 d).upto (places * last)
 passed_at docs ts cursors d last some p = subst (λ y. IsPassed (is_start docs ts) y (places * last)) (upto_at cursors d some) p
 
 -- all places are passed
 pub phrase_past : (g : Gives) (docs : List Doc) (ts : List (List ℕ)) (cursors : List Cursor) (d : Cursor) (start end last : ℕ)
-    → start ≡ min (places * end) (get_or cursors 0 d).upto → start ≡ 0 → end ≤ last → Ready g docs (phrase ts) cursors last → (0 ≡ top (match_at docs (phrase ts)) end) × Ready g docs (phrase ts) cursors end
+    → start ≡ min (places * end) (get_or cursors 0 d).upto → start ≡ 0 → end ≤ last → Ready g docs (phrase ts) cursors last
+    → (0 ≡ top (match_at docs (phrase ts)) end) × Ready g docs (phrase ts) cursors end
 phrase_past g docs ts cursors d start end last m z h r =
     let f : ℕ → Bool = is_start docs ts in
     let some : 0 < length ts = omega (arith, r.3, r.0) in
@@ -280,15 +304,18 @@ pub phrase_told : (g g' : Gives) (docs : List Doc) (ts : List (List ℕ)) (curso
     → start ≡ min (places * end) (get_or cursors 0 d).upto → end ≤ last → length cursors2 ≡ length cursors
     → (found ≡ top (is_start docs ts) start) × AllLeaves g' docs ts cursors2 found
     → Ready g docs (phrase ts) cursors last
-    → (document_end found ≡ top (match_at docs (phrase ts)) end) × Ready g' docs (phrase ts) (set cursors2 0 (record { upto = found; lead = (get_or cursors2 0 d').lead; segment = (get_or cursors2 0 d').segment; current = (get_or cursors2 0 d').current; list = (get_or cursors2 0 d').list })) end
+    → (document_end found ≡ top (match_at docs (phrase ts)) end) × Ready g' docs (phrase ts) (set cursors2 0
+    (record { upto = found; lead = (get_or cursors2 0 d').lead; segment = (get_or cursors2 0 d').segment; current = (get_or cursors2 0 d').current; list = (get_or cursors2 0 d').list })) end
 phrase_told g g' docs ts cursors cursors2 d d' start end last found m h len w r =
     let f : ℕ → Bool = is_start docs ts in
     let some : 0 < length ts = omega (arith, r.3, r.0) in
     let some2 : 0 < length cursors2 = omega (arith, len, r.0) in
     let top_is : found ≡ top f (places * end) = w.0 ∙ ap (top f) m ∙ passed_min f (get_or cursors 0 d).upto (places * end) (places * last) (omega arith) (passed_at docs ts cursors d last r.0 r.2) in
-    let s' : Cursor = record { upto = found; lead = (get_or cursors2 0 d').lead; segment = (get_or cursors2 0 d').segment; current = (get_or cursors2 0 d').current; list = (get_or cursors2 0 d').list } in
+    let s' : Cursor =
+    record { upto = found; lead = (get_or cursors2 0 d').lead; segment = (get_or cursors2 0 d').segment; current = (get_or cursors2 0 d').current; list = (get_or cursors2 0 d').list } in
     let v : upto (set cursors2 0 s') ≡ found = upto_set cursors2 s' some2 in
     let again : IsPassed f (upto (set cursors2 0 s')) (places * end) = subst (λ y. IsPassed f y (places * end)) (sym v) (passed_again f found (places * end) top_is) in
-    let leaves : AllLeaves g' docs ts (set cursors2 0 s') (upto (set cursors2 0 s')) = subst (λ y. AllLeaves g' docs ts (set cursors2 0 s') y) (sym v) (leaves_upto g' docs ts cursors2 d' found _ _ found w.1) in
+    let leaves : AllLeaves g' docs ts (set cursors2 0 s') (upto (set cursors2 0 s')) =
+    subst (λ y. AllLeaves g' docs ts (set cursors2 0 s') y) (sym v) (leaves_upto g' docs ts cursors2 d' found _ _ found w.1) in
     let long : 0 < length (set cursors2 0 s') = omega (arith, length-set cursors2 0 s') in
     (ap document_end top_is ∙ sym (phrase_top docs r.1 ts some end), (long, r.1, again, length-set cursors2 0 s' ∙ len ∙ r.3, λ _. leaves))

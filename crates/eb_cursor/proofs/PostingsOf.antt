@@ -1,5 +1,6 @@
 -- The postings of a term in a segment are the places where it stands, and fall when read backwards.
-use Rattle.std.proofs.Common.{◌≡◌, ℕ, zero, suc, ◌+◌, ◌-◌, ◌*◌, ◌/◌, ◌%◌, ◌<◌, ◌≤◌, inl, inr, Bool, false, List, [], ◌∷◌, ◌++◌, length, take, drop, reverse, None, slice_get, refl, ap, sym, ◌∙◌, subst, arith, append-nil, append_assoc, bytes_eq}
+use Rattle.std.proofs.Common.{◌≡◌, ℕ, zero, suc, ◌+◌, ◌-◌, ◌*◌, ◌/◌, ◌%◌, ◌<◌, ◌≤◌, inl, inr, Bool, false, List, [], ◌∷◌, ◌++◌, length}
+use Rattle.std.proofs.Common.{take, drop, reverse, None, slice_get, refl, ap, sym, ◌∙◌, subst, arith, append-nil, append_assoc, bytes_eq}
 use Rattle.std.proofs.lemmas.Bool.{cases_Bool, cases_lt}
 use Rattle.std.proofs.lemmas.List.{reverse-append, length-reverse, length-append, take-append-drop, length-drop}
 use Rattle.std.proofs.Math.Seq.{drop-append_seam}
@@ -49,7 +50,8 @@ segment_below f t n [] w h = let e : n + 0 ≡ n = omega arith in ap (λ (k : �
 segment_below f t n (d ∷ ds) w h =
     let few : length d.terms ≤ places = w.narrow 0 in
     let ih = segment_below f t (n + 1) ds (record { narrow = λ k. w.narrow (suc k) }) (λ k i l j. let e : n + 1 + k ≡ n + suc k = omega arith in rw e (h (suc k) i (omega arith) j)) in
-    let at : (i : ℕ) → i < places → f (places * n + i) ≡ is_term t (slice_get d.terms i) = λ i j. let e : n + 0 ≡ n = omega arith in ap (λ (k : ℕ). f (places * k + i)) (sym e) ∙ h 0 i (omega arith) j in
+    let at : (i : ℕ) → i < places → f (places * n + i) ≡ is_term t (slice_get d.terms i) = λ i j. let e : n + 0 ≡ n = omega arith in
+    ap (λ (k : ℕ). f (places * k + i)) (sym e) ∙ h 0 i (omega arith) j in
     let past : (i : ℕ) → i < places - length d.terms → f (places * n + length d.terms + i) ≡ false = λ i j.
     let e : places * n + length d.terms + i ≡ places * n + (length d.terms + i) = omega arith in
     ap f e ∙ at (length d.terms + i) (omega arith) ∙ ap (is_term t) (past_end d.terms i) in
@@ -58,11 +60,13 @@ segment_below f t n (d ∷ ds) w h =
     let none_is : places * n + 0 ≡ places * n = omega arith in
     let one = tokens_below f t n 0 d.terms (λ i l. let e : places * n + 0 + i ≡ places * n + i = omega arith in ap f e ∙ at i (omega arith)) in
     let doc : below f (places * (n + 1)) ≡ reverse (postings_in t (tokens_from n 0 d.terms)) ++ below f (places * n) =
-    ap (below f) full ∙ below_past f (places * n + length d.terms) (places - length d.terms) past ∙ ap (below f) (sym zero_is) ∙ one ∙ ap (λ (k : ℕ). reverse (postings_in t (tokens_from n 0 d.terms)) ++ below f k) none_is in
+    ap (below f) full ∙ below_past f (places * n + length d.terms) (places - length d.terms) past ∙ ap (below f) (sym zero_is)
+    ∙ one ∙ ap (λ (k : ℕ). reverse (postings_in t (tokens_from n 0 d.terms)) ++ below f k) none_is in
     let size : n + suc (length ds) ≡ n + 1 + length ds = omega arith in
     ap (λ (k : ℕ). below f (places * k)) size ∙ ih ∙ ap (λ (z : List ℕ). reverse (postings_in t (segment_from (n + 1) ds)) ++ z) doc
     ∙ sym (append_assoc (reverse (postings_in t (segment_from (n + 1) ds))) (reverse (postings_in t (tokens_from n 0 d.terms))) (below f (places * n)))
-    ∙ ap (λ (z : List ℕ). z ++ below f (places * n)) (sym (reverse-append (postings_in t (tokens_from n 0 d.terms)) (postings_in t (segment_from (n + 1) ds))) ∙ ap reverse (sym (postings_append t (tokens_from n 0 d.terms) (segment_from (n + 1) ds))))
+    ∙ ap (λ (z : List ℕ). z ++ below f (places * n)) (sym (reverse-append (postings_in t (tokens_from n 0 d.terms)) (postings_in t (segment_from (n + 1) ds)))
+    ∙ ap reverse (sym (postings_append t (tokens_from n 0 d.terms) (segment_from (n + 1) ds))))
   where
     past_end : (ts : List Term) (i : ℕ) → slice_get ts (length ts + i) ≡ None
     past_end [] i = refl
@@ -123,7 +127,8 @@ seen_below t docs rest k w v few most =
     let back : reverse (take k P) ≡ drop j (below F N) = reverse-take k P most ∙ ap (drop j) whole in
     let under : M ≤ N = omega (arith, length-append docs rest) in
     let low : from_below M (below F N) ≡ below F M = from_below-below F M N under in
-    let same : below F M ≡ below (is_posting docs t) M = below_same F (is_posting docs t) M (λ i l. ap (λ (d : List Term). is_term t (slice_get d (i % places))) (front_terms docs rest (i / places) (omega arith))) in
+    let same : below F M ≡ below (is_posting docs t) M =
+    below_same F (is_posting docs t) M (λ i l. ap (λ (d : List Term). is_term t (slice_get d (i % places))) (front_terms docs rest (i / places) (omega arith))) in
     let size : length (below (is_posting docs t) M) ≡ length (postings t docs) = ap length (sym (postings_below t docs v)) ∙ length-reverse (postings t docs) in
     let long : length (below F N) ≡ length P = ap length (sym whole) ∙ length-reverse P in
     let out : from_below M (drop j (below F N)) ≡ from_below M (below F N) = left_out M j (below F N) (omega (arith, ap length low, ap length same, size, long)) in

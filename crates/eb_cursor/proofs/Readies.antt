@@ -149,13 +149,15 @@ mutual
 
 -- ---- the parts, from the first on
 
-pub all_front : (g : Gives) (docs : List Doc) (qs : Trees) (q : Tree) (qs' : Trees) (cursors : List Cursor) (last : ℕ) → qs ≡ trees q qs' → AllReady g docs qs cursors last → Ready g docs q (take (size q) cursors) last × AllReady g docs qs' (drop (size q) cursors) last
+pub all_front : (g : Gives) (docs : List Doc) (qs : Trees) (q : Tree) (qs' : Trees) (cursors : List Cursor) (last : ℕ) → qs ≡ trees q qs'
+    → AllReady g docs qs cursors last → Ready g docs q (take (size q) cursors) last × AllReady g docs qs' (drop (size q) cursors) last
 all_front g docs qs q qs' cursors last e r = subst (λ x. AllReady g docs x cursors last) e r
 
 pub all_size : (g : Gives) (docs : List Doc) (qs : Trees) (q : Tree) (qs' : Trees) (cursors : List Cursor) (last : ℕ) → qs ≡ trees q qs' → AllReady g docs qs cursors last → size q ≤ length cursors
 all_size g docs qs q qs' cursors last e r = let s : sizes qs ≡ size q + sizes qs' = ap sizes e in omega (arith, all_length g docs qs cursors last r)
 
-pub all_join : (g : Gives) (docs : List Doc) (qs : Trees) (q : Tree) (qs' : Trees) (a b : List Cursor) (last : ℕ) → qs ≡ trees q qs' → Ready g docs q a last → AllReady g docs qs' b last → AllReady g docs qs (a ++ b) last
+pub all_join : (g : Gives) (docs : List Doc) (qs : Trees) (q : Tree) (qs' : Trees) (a b : List Cursor) (last : ℕ)
+    → qs ≡ trees q qs' → Ready g docs q a last → AllReady g docs qs' b last → AllReady g docs qs (a ++ b) last
 all_join g docs qs q qs' a b last e r rs =
     let n : length a ≡ size q = ready_length g docs q a last r in
     let front : take (size q) (a ++ b) ≡ a = subst (λ k. take k (a ++ b) ≡ a) n (take-append_seam a b) in

@@ -24,7 +24,8 @@ before_is (suc n) = omega arith
 
 pub first_up : (docs : List Doc) (ts : List (List ℕ)) (a b : ℕ) → a ≤ b → first_below docs ts a ≤ first_below docs ts b
 first_up docs [] a b h = omega arith
-first_up docs (t ∷ ts) a b h = top_up (is_posting docs t) (before (first_below docs ts a)) (before (first_below docs ts b)) (before_up (first_below docs ts a) (first_below docs ts b) (first_up docs ts a b h))
+first_up docs (t ∷ ts) a b h =
+    top_up (is_posting docs t) (before (first_below docs ts a)) (before (first_below docs ts b)) (before_up (first_below docs ts a) (first_below docs ts b) (first_up docs ts a b h))
 
 -- the terms begin below the end
 pub first_low : (docs : List Doc) (ts : List (List ℕ)) (end : ℕ) → before (first_below docs ts end) ≤ end

@@ -1,5 +1,6 @@
 -- What each kind of query says of its answer.
-use Rattle.std.proofs.Common.{◌≡◌, Box, Global, ℕ, zero, suc, ◌-◌, ◌*◌, ◌<◌, ◌≤◌, Bool, true, false, not, max, min, List, [], ◌∷◌, ◌++◌, take, drop, get_or, set, refl, sym, ap, ◌∙◌, subst, inl, inr, arith, rules}
+use Rattle.std.proofs.Common.{◌≡◌, Box, Global, ℕ, zero, suc, ◌-◌, ◌*◌, ◌<◌, ◌≤◌, Bool, true, false, not, max, min, List}
+use Rattle.std.proofs.Common.{[], ◌∷◌, ◌++◌, take, drop, get_or, set, refl, sym, ap, ◌∙◌, subst, inl, inr, arith, rules}
 use Rattle.std.proofs.lemmas.Bool.{cases_lt, and_parts}
 use Rattle.eb_base.specs.Document.{Doc}
 use Rattle.eb_base.specs.Query.{Tree, Trees, size, word, phrase, window, since, negation, conjunction, disjunction, no_trees, trees, tree, queries_of}
@@ -46,11 +47,13 @@ ended g docs q cursors (suc end) last e r = absurd (omega arith)
 
 -- ---- words
 
-pub word_asks : (g : Gives) (docs : List Doc) (t : List ℕ) (cursors : List Cursor) (d : Cursor) (end last : ℕ) → end ≤ last → IsOnly g docs t cursors last → IsLeaf g (is_posting docs t) (get_or cursors 0 d) (places * end)
+pub word_asks : (g : Gives) (docs : List Doc) (t : List ℕ) (cursors : List Cursor) (d : Cursor) (end last : ℕ)
+    → end ≤ last → IsOnly g docs t cursors last → IsLeaf g (is_posting docs t) (get_or cursors 0 d) (places * end)
 word_asks g docs t [] d end last h r = absurd r
 word_asks g docs t (s ∷ ss) d end last h r = leaf_lower g (is_posting docs t) s (places * end) (places * last) (omega arith) r.2
 
-pub word_told : (g g' : Gives) (docs : List Doc) (t : List ℕ) (cursors : List Cursor) (s' : Cursor) (end last found : ℕ) → found ≡ top (is_posting docs t) (places * end) → IsLeaf g' (is_posting docs t) s' (places * end) → IsOnly g docs t cursors last → (document_end found ≡ top (match_at docs (word t)) end) × IsOnly g' docs t (set cursors 0 s') end
+pub word_told : (g g' : Gives) (docs : List Doc) (t : List ℕ) (cursors : List Cursor) (s' : Cursor) (end last found : ℕ) → found ≡ top (is_posting docs t) (places * end)
+    → IsLeaf g' (is_posting docs t) s' (places * end) → IsOnly g docs t cursors last → (document_end found ≡ top (match_at docs (word t)) end) × IsOnly g' docs t (set cursors 0 s') end
 word_told g g' docs t [] s' end last found e leaf r = absurd r
 word_told g g' docs t (s ∷ ss) s' end last found e leaf r = (ap document_end e ∙ sym (word_top docs r.1 t end), (r.0, r.1, leaf))
 
@@ -70,7 +73,8 @@ passed_again f found end e = record { same = λ h. subst (λ x. top f end ≡ to
 
 -- ---- not
 
-pub not_asks : (g : Gives) (docs : List Doc) (q' q : Tree) (cursors : List Cursor) (s : Cursor) (rest : List Cursor) (last : ℕ) → q' ≡ negation q → cursors ≡ s ∷ rest → Ready g docs q' cursors last → Ready g docs q rest s.upto
+pub not_asks : (g : Gives) (docs : List Doc) (q' q : Tree) (cursors : List Cursor) (s : Cursor) (rest : List Cursor) (last : ℕ)
+    → q' ≡ negation q → cursors ≡ s ∷ rest → Ready g docs q' cursors last → Ready g docs q rest s.upto
 not_asks g docs q' q cursors s rest last i e r =
     let r1 : Ready g docs (negation q) cursors last = subst (λ x. Ready g docs x cursors last) i r in
     let r2 : Ready g docs (negation q) (s ∷ rest) last = subst (λ x. Ready g docs (negation q) x last) e r1 in r2.2
@@ -112,7 +116,8 @@ each_told g g' docs q' qs cursors s s' rest rest' start end last found i e u h l
     let all : Ready g' docs (conjunction qs) (s' ∷ rest') end = (omega arith, again, ready) in
     (top_is ∙ ap (λ (x : Tree). top (match_at docs x) end) (sym i), subst (λ x. Ready g' docs x (s' ∷ rest') end) (sym i) all)
 
-pub each_asks : (g : Gives) (docs : List Doc) (q' : Tree) (qs : Trees) (cursors : List Cursor) (s : Cursor) (rest : List Cursor) (last : ℕ) → q' ≡ conjunction qs → cursors ≡ s ∷ rest → Ready g docs q' cursors last → AllReady g docs qs rest s.upto
+pub each_asks : (g : Gives) (docs : List Doc) (q' : Tree) (qs : Trees) (cursors : List Cursor) (s : Cursor) (rest : List Cursor) (last : ℕ)
+    → q' ≡ conjunction qs → cursors ≡ s ∷ rest → Ready g docs q' cursors last → AllReady g docs qs rest s.upto
 each_asks g docs q' qs cursors s rest last i e r =
     let r1 : Ready g docs (conjunction qs) cursors last = subst (λ x. Ready g docs x cursors last) i r in
     let r2 : Ready g docs (conjunction qs) (s ∷ rest) last = subst (λ x. Ready g docs (conjunction qs) x last) e r1 in r2.2
@@ -228,7 +233,8 @@ top_no : (f : ℕ → Bool) → ((n : ℕ) → f n ≡ false) → (n : ℕ) → 
 top_no f w zero = refl
 top_no f w (suc n) = rw (w n) (top_no f w n)
 
-pub some_end : (g : Gives) (docs : List Doc) (qs : Trees) (cursors : List Cursor) (end last : ℕ) → qs ≡ no_trees → end ≤ last → AllReady g docs qs cursors last → (0 ≡ top (some_at docs qs) end) × AllReady g docs qs cursors end
+pub some_end : (g : Gives) (docs : List Doc) (qs : Trees) (cursors : List Cursor) (end last : ℕ) → qs ≡ no_trees
+    → end ≤ last → AllReady g docs qs cursors last → (0 ≡ top (some_at docs qs) end) × AllReady g docs qs cursors end
 some_end g docs qs cursors end last e h r = (top_no (some_at docs no_trees) (λ n. refl) end ∙ ap (λ (x : Trees). top (some_at docs x) end) (sym e), all_lower g docs qs cursors end last h r)
 
 pub some_step : (g1 g' : Gives) (docs : List Doc) (qs : Trees) (q : Tree) (qs' : Trees) (a b' : List Cursor) (end found1 found2 found : ℕ)
@@ -238,7 +244,8 @@ some_step g1 g' docs qs q qs' a b' end found1 found2 found e w m told ready told
     let is : found ≡ top (some_at docs (trees q qs')) end = omega (arith, top_or (match_at docs q) (some_at docs qs') end) in
     (is ∙ ap (λ (x : Trees). top (some_at docs x) end) (sym e), all_join g' docs qs q qs' a b' end e (ready_later g1 g' w docs q a end ready) ready2)
 
-pub some_asks : (g : Gives) (docs : List Doc) (q' : Tree) (qs : Trees) (cursors : List Cursor) (s : Cursor) (rest : List Cursor) (last : ℕ) → q' ≡ disjunction qs → cursors ≡ s ∷ rest → Ready g docs q' cursors last → AllReady g docs qs rest last
+pub some_asks : (g : Gives) (docs : List Doc) (q' : Tree) (qs : Trees) (cursors : List Cursor) (s : Cursor) (rest : List Cursor) (last : ℕ)
+    → q' ≡ disjunction qs → cursors ≡ s ∷ rest → Ready g docs q' cursors last → AllReady g docs qs rest last
 some_asks g docs q' qs cursors s rest last i e r =
     let r1 : Ready g docs (disjunction qs) cursors last = subst (λ x. Ready g docs x cursors last) i r in
     let r2 : Ready g docs (disjunction qs) (s ∷ rest) last = subst (λ x. Ready g docs (disjunction qs) x last) e r1 in r2.1
@@ -257,15 +264,18 @@ pub record IsFront (qs : Trees) (q : Tree) (qs' : Trees) (cursors own rest : Lis
   pub front : own ≡ take (size q) cursors
   pub back : rest ≡ drop (size q) cursors
 
-pub front_asks : (g : Gives) (docs : List Doc) (qs : Trees) (q : Tree) (qs' : Trees) (cursors own rest : List Cursor) (last : ℕ) → IsFront qs q qs' cursors own rest → AllReady g docs qs cursors last → Ready g docs q own last
+pub front_asks : (g : Gives) (docs : List Doc) (qs : Trees) (q : Tree) (qs' : Trees) (cursors own rest : List Cursor) (last : ℕ)
+    → IsFront qs q qs' cursors own rest → AllReady g docs qs cursors last → Ready g docs q own last
 front_asks g docs qs q qs' cursors own rest last e r = subst (λ x. Ready g docs q x last) (sym e.front) (all_front g docs qs q qs' cursors last e.parts r).0
 
-pub others_ask : (g g' : Gives) (docs : List Doc) (qs : Trees) (q : Tree) (qs' : Trees) (cursors own rest : List Cursor) (end last : ℕ) → IsFront qs q qs' cursors own rest → Later g g' → end ≤ last → AllReady g docs qs cursors last → AllReady g' docs qs' rest end
+pub others_ask : (g g' : Gives) (docs : List Doc) (qs : Trees) (q : Tree) (qs' : Trees) (cursors own rest : List Cursor) (end last : ℕ)
+    → IsFront qs q qs' cursors own rest → Later g g' → end ≤ last → AllReady g docs qs cursors last → AllReady g' docs qs' rest end
 others_ask g g' docs qs q qs' cursors own rest end last e w h r =
     let back = all_lower g' docs qs' (drop (size q) cursors) end last h (all_later g g' w docs qs' (drop (size q) cursors) last (all_front g docs qs q qs' cursors last e.parts r).1) in
     subst (λ x. AllReady g' docs qs' x end) (sym e.back) back
 
-pub front_of : (qs : List Query) (q : Query) (qs' : List Query) (cursors own rest : List Cursor) (n : ℕ) → qs ≡ q ∷ qs' → n ≡ size (tree q) → own ≡ take n cursors → rest ≡ drop n cursors → IsFront (trees_in qs) (tree q) (trees_in qs') cursors own rest
+pub front_of : (qs : List Query) (q : Query) (qs' : List Query) (cursors own rest : List Cursor) (n : ℕ) → qs ≡ q ∷ qs'
+    → n ≡ size (tree q) → own ≡ take n cursors → rest ≡ drop n cursors → IsFront (trees_in qs) (tree q) (trees_in qs') cursors own rest
 front_of qs q qs' cursors own rest n e m a b = record {
   parts = ap trees_in e;
   front = a ∙ ap (λ (k : ℕ). take k cursors) m;

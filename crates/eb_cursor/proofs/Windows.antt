@@ -1,5 +1,6 @@
 -- Windows: places where a window ends.
-use Rattle.std.proofs.Common.{◌≡◌, ℕ, zero, suc, ◌+◌, ◌*◌, ◌/◌, ◌<◌, ◌≤◌, Bool, true, leb, min, List, [], ◌∷◌, length, ◌-◌, get_or, set, slice_get, Option, Some, None, length-set, refl, sym, ap, ◌∙◌, subst, inl, inr, arith}
+use Rattle.std.proofs.Common.{◌≡◌, ℕ, zero, suc, ◌+◌, ◌*◌, ◌/◌, ◌<◌, ◌≤◌, Bool, true, leb, min, List, [], ◌∷◌, length, ◌-◌}
+use Rattle.std.proofs.Common.{get_or, set, slice_get, Option, Some, None, length-set, refl, sym, ap, ◌∙◌, subst, inl, inr, arith}
 use Rattle.std.proofs.lemmas.Bool.{cases_Bool, and_parts, and_from, le-leb, leb-true, false≢true}
 use Rattle.std.proofs.lemmas.Slice.Eq.{bytes_eq-Decides}
 use Rattle.eb_base.specs.Document.{Doc}
@@ -53,7 +54,8 @@ window_here docs [] w place last some e h = absurd (omega arith)
 window_here docs (t ∷ ts) w place last some e h = go last e h
   where
     under : top (is_window_end docs (t ∷ ts) w) place ≤ top (is_posting docs (last_of (t ∷ ts))) place
-    under = top_implied (is_posting docs (last_of (t ∷ ts))) (is_window_end docs (t ∷ ts) w) (λ n p. (and_parts (is_posting docs (last_of (t ∷ ts)) n) (leb (suc n) (reach_end w (first_below docs (t ∷ ts) (suc n)))) p).0) place
+    under = top_implied (is_posting docs (last_of (t ∷ ts))) (is_window_end docs (t ∷ ts) w)
+        (λ n p. (and_parts (is_posting docs (last_of (t ∷ ts)) n) (leb (suc n) (reach_end w (first_below docs (t ∷ ts) (suc n)))) p).0) place
 
     go : (n : ℕ) → n ≡ top (is_posting docs (last_of (t ∷ ts))) place → n ≤ reach_end w (first_below docs (t ∷ ts) place) → n ≡ top (is_window_end docs (t ∷ ts) w) place
     go zero i near = omega (arith, under)
@@ -61,7 +63,8 @@ window_here docs (t ∷ ts) w place last some e h = go last e h
         let stands : is_posting docs (last_of (t ∷ ts)) x ≡ true = top_passes (is_posting docs (last_of (t ∷ ts))) place x (sym i) in
         let same : first_below docs (t ∷ ts) place ≡ first_below docs (t ∷ ts) (suc x) = first_at_last docs t ts place ∙ ap (first_below docs (t ∷ ts)) (sym i) in
         let within : suc x ≤ reach_end w (first_below docs (t ∷ ts) (suc x)) = subst (λ (k : ℕ). suc x ≤ reach_end w k) same near in
-        let ends : is_window_end docs (t ∷ ts) w x ≡ true = and_from (is_posting docs (last_of (t ∷ ts)) x) (leb (suc x) (reach_end w (first_below docs (t ∷ ts) (suc x)))) stands (le-leb (suc x) (reach_end w (first_below docs (t ∷ ts) (suc x))) within) in
+        let ends : is_window_end docs (t ∷ ts) w x ≡ true = and_from (is_posting docs (last_of (t ∷ ts)) x)
+        (leb (suc x) (reach_end w (first_below docs (t ∷ ts) (suc x)))) stands (le-leb (suc x) (reach_end w (first_below docs (t ∷ ts) (suc x))) within) in
         let low : x < place = omega (arith, i, top_le (is_posting docs (last_of (t ∷ ts))) place) in
         omega (arith, top_reaches (is_window_end docs (t ∷ ts) w) x place ends low, under, i)
 
@@ -125,7 +128,8 @@ first_stands docs n k t (u ∷ ts) a low own e h = go (first_below docs (u ∷ t
         let r = behind b i (omega (arith, less, h)) in
         front r.0 r.1 r.2 r.3 less (top_passes (is_posting docs t) b a is)
       where
-        front : (q : ℕ) → b ≡ places * n + q → q ≤ k → Stand (terms_at docs n) (u ∷ ts) q k → a < b → is_posting docs t a ≡ true → (j : ℕ) × (a ≡ places * n + j) × (j ≤ k) × Stand (terms_at docs n) (t ∷ u ∷ ts) j k
+        front : (q : ℕ) → b ≡ places * n + q → q ≤ k → Stand (terms_at docs n) (u ∷ ts) q k → a < b
+            → is_posting docs t a ≡ true → (j : ℕ) × (a ≡ places * n + j) × (j ≤ k) × Stand (terms_at docs n) (t ∷ u ∷ ts) j k
         front q at under stands less here =
             let split : a ≡ places * n + (a - places * n) = omega arith in
             let own_low : a - places * n < places = omega arith in
@@ -221,16 +225,19 @@ pub window_told : (g g' : Gives) (docs : List Doc) (ts : List (List ℕ)) (v : �
     → (found ≡ top (is_window_end docs ts v) start) × AllBehind g' docs ts cursors2 found
     → Ready g docs (window ts v) cursors last
     → (document_end found ≡ top (match_at docs (window ts v)) end)
-    × Ready g' docs (window ts v) (set cursors2 0 (record { upto = found; lead = (get_or cursors2 0 d').lead; segment = (get_or cursors2 0 d').segment; current = (get_or cursors2 0 d').current; list = (get_or cursors2 0 d').list })) end
+    × Ready g' docs (window ts v) (set cursors2 0
+    (record { upto = found; lead = (get_or cursors2 0 d').lead; segment = (get_or cursors2 0 d').segment; current = (get_or cursors2 0 d').current; list = (get_or cursors2 0 d').list })) end
 window_told g g' docs ts v cursors cursors2 d d' start end last found m h len w r =
     let f : ℕ → Bool = is_window_end docs ts v in
     let some : 0 < length ts = omega (arith, r.3, r.0) in
     let some2 : 0 < length cursors2 = omega (arith, len, r.0) in
     let top_is : found ≡ top f (places * end) = w.0 ∙ ap (top f) m ∙ passed_min f (get_or cursors 0 d).upto (places * end) (places * last) (omega arith) (passed_at docs ts v cursors d last r.0 r.2) in
-    let s' : Cursor = record { upto = found; lead = (get_or cursors2 0 d').lead; segment = (get_or cursors2 0 d').segment; current = (get_or cursors2 0 d').current; list = (get_or cursors2 0 d').list } in
+    let s' : Cursor =
+    record { upto = found; lead = (get_or cursors2 0 d').lead; segment = (get_or cursors2 0 d').segment; current = (get_or cursors2 0 d').current; list = (get_or cursors2 0 d').list } in
     let u : upto (set cursors2 0 s') ≡ found = upto_set cursors2 s' some2 in
     let again : IsPassed f (upto (set cursors2 0 s')) (places * end) = subst (λ y. IsPassed f y (places * end)) (sym u) (passed_again f found (places * end) top_is) in
-    let leaves : AllBehind g' docs ts (set cursors2 0 s') (upto (set cursors2 0 s')) = subst (λ y. AllBehind g' docs ts (set cursors2 0 s') y) (sym u) (behind_upto g' docs ts cursors2 d' found _ _ found w.1) in
+    let leaves : AllBehind g' docs ts (set cursors2 0 s') (upto (set cursors2 0 s')) =
+    subst (λ y. AllBehind g' docs ts (set cursors2 0 s') y) (sym u) (behind_upto g' docs ts cursors2 d' found _ _ found w.1) in
     let long : 0 < length (set cursors2 0 s') = omega (arith, length-set cursors2 0 s') in
     (ap document_end top_is ∙ sym (window_top docs r.1 ts v some end), (long, r.1, again, length-set cursors2 0 s' ∙ len ∙ r.3, λ _. leaves))
 
@@ -278,7 +285,8 @@ span_none g g' w docs ts us t s ss end last first behind_last e some h none r le
     let zero_is : first_below docs us end ≡ 0 = sym r.0 ∙ none in
     let none_is : first ≡ first_below docs (t ∷ us) end = none ∙ sym (ap (λ (k : ℕ). top (is_posting docs t) (before k)) zero_is) in
     let last_is = r.1 ∙ ap (λ (z : List ℕ). top (is_posting docs z) end) (sym (last_behind t us (omega (arith, behind_length g' docs us ss end r.2)))) in
-    let own : IsLeaf g' (is_posting docs t) s (before (first_below docs us end)) = leaf_lower g' (is_posting docs t) s (before (first_below docs us end)) (before (first_below docs us last)) (before_up (first_below docs us end) (first_below docs us last) (first_up docs us end last h))
+    let own : IsLeaf g' (is_posting docs t) s (before (first_below docs us end)) = leaf_lower g' (is_posting docs t) s (before (first_below docs us end))
+    (before (first_below docs us last)) (before_up (first_below docs us end) (first_below docs us last) (first_up docs us end last h))
     (leaf_later g g' w (is_posting docs t) s (before (first_below docs us last)) leaf) in
     let told : (first ≡ first_below docs (t ∷ us) end) × (behind_last ≡ top (is_posting docs (last_of (t ∷ us))) end) × AllBehind g' docs (t ∷ us) (s ∷ ss) end = (none_is, last_is, (own, r.2)) in
     subst (λ (z : List (List ℕ)). (first ≡ first_below docs z end) × (behind_last ≡ top (is_posting docs (last_of z)) end) × AllBehind g' docs z (s ∷ ss) end) (sym e) told

@@ -72,8 +72,10 @@ IsOnlyBound g docs x (s ∷ ss) last = (ss ≡ []) × IsBound g docs x s last
 abbrev mutual
   pub Ready : Gives → List Doc → Tree → List Cursor → ℕ → Type 0
   Ready g docs (word t) cursors last = IsOnly g docs t cursors last
-  Ready g docs (phrase ts) cursors last = (0 < length cursors) × Narrow docs × IsPassed (is_start docs ts) (upto cursors) (places * last) × (length cursors ≡ length ts) × (0 < upto cursors → AllLeaves g docs ts cursors (upto cursors))
-  Ready g docs (window ts w) cursors last = (0 < length cursors) × Narrow docs × IsPassed (is_window_end docs ts w) (upto cursors) (places * last) × (length cursors ≡ length ts) × (0 < upto cursors → AllBehind g docs ts cursors (upto cursors))
+  Ready g docs (phrase ts) cursors last =
+      (0 < length cursors) × Narrow docs × IsPassed (is_start docs ts) (upto cursors) (places * last) × (length cursors ≡ length ts) × (0 < upto cursors → AllLeaves g docs ts cursors (upto cursors))
+  Ready g docs (window ts w) cursors last = (0 < length cursors) × Narrow docs × IsPassed (is_window_end docs ts w) (upto cursors) (places * last)
+      × (length cursors ≡ length ts) × (0 < upto cursors → AllBehind g docs ts cursors (upto cursors))
   Ready g docs (since x) cursors last = IsOnlyBound g docs x cursors last
   Ready g docs (negation q) cursors last = (0 < length cursors) × IsPassed (λ n. not (match_at docs q n)) (upto cursors) last × Ready g docs q (rest_of cursors) (upto cursors)
   Ready g docs (conjunction qs) cursors last = (0 < length cursors) × IsPassed (each_at docs qs) (upto cursors) last × AllReady g docs qs (rest_of cursors) (upto cursors)

@@ -30,7 +30,8 @@ pub fn query_below<P: Port, L: Ledger>(
 ) -> u64
     requires small { (end ≤ 2 ^ 32) × (length cursors.old ≤ 64) }
     requires ready { CanAsk P.stands port.old (tree query.now) cursors.old end }
-    ensures found { (docs : List Doc) (last : ℕ) → end ≤ last → Told P.stands P.keeps port.old port.new (λ m. Ready (gives m) docs (tree query.now) cursors.old last) (Found (tree query.now) docs cursors.new end result) }
+    ensures found { (docs : List Doc) (last : ℕ) → end ≤ last → Told P.stands P.keeps port.old port.new
+        (λ m. Ready (gives m) docs (tree query.now) cursors.old last) (Found (tree query.now) docs cursors.new end result) }
     ensures loads { steps.new + loads_left cursors.new ≤ steps.old + loads_left cursors.old }
     ensures costs { (s : ℕ) (t : List ℕ) (most : ℕ) → tree query.now ≡ word t → Told P.stands P.keeps port.old port.new (λ m. FirstCosts m s t cursors.old most)
         (λ n. IsPaid (FirstCosts n s t cursors.new) steps.old most steps.new) }
@@ -50,7 +51,8 @@ fn posting_below<P: Port, L: Ledger>(
 ) -> u64
     requires small { end ≤ 2 ^ 32 }
     requires ready { CanAskWord P.stands port.old cursors.old end }
-    ensures found { (docs : List Doc) (t : List ℕ) (last : ℕ) → end ≤ last → Told P.stands P.keeps port.old port.new (λ m. Ready (gives m) docs (word t) cursors.old last) (Found (word t) docs cursors.new end result) }
+    ensures found { (docs : List Doc) (t : List ℕ) (last : ℕ) → end ≤ last
+        → Told P.stands P.keeps port.old port.new (λ m. Ready (gives m) docs (word t) cursors.old last) (Found (word t) docs cursors.new end result) }
     ensures loads { steps.new + loads_left cursors.new ≤ steps.old + loads_left cursors.old }
     ensures costs { (s : ℕ) (t : List ℕ) (most : ℕ) → Told P.stands P.keeps port.old port.new (λ m. FirstCosts m s t cursors.old most)
         (λ n. IsPaid (FirstCosts n s t cursors.new) steps.old most steps.new) }
@@ -70,7 +72,8 @@ pub fn below<P: Port, L: Ledger>(
 ) -> u64
     requires small { (end ≤ 2 ^ 32) × (length cursors.old ≤ 64) }
     requires ready { CanAsk P.stands port.old (tree query.now) cursors.old end }
-    ensures found { (docs : List Doc) (last : ℕ) → end ≤ last → Told P.stands P.keeps port.old port.new (λ m. Ready (gives m) docs (tree query.now) cursors.old last) (Found (tree query.now) docs cursors.new end result) }
+    ensures found { (docs : List Doc) (last : ℕ) → end ≤ last → Told P.stands P.keeps port.old port.new
+        (λ m. Ready (gives m) docs (tree query.now) cursors.old last) (Found (tree query.now) docs cursors.new end result) }
     ensures loads { steps.new + loads_left cursors.new ≤ steps.old + loads_left cursors.old }
 {
     if end == 0 {
@@ -116,7 +119,8 @@ fn word_below<P: Port, L: Ledger>(
 ) -> u64
     requires small { end ≤ 2 ^ 32 }
     requires ready { CanAskWord P.stands port.old cursors.old end }
-    ensures found { (docs : List Doc) (t : List ℕ) (last : ℕ) → end ≤ last → Told P.stands P.keeps port.old port.new (λ m. Ready (gives m) docs (word t) cursors.old last) (Found (word t) docs cursors.new end result) }
+    ensures found { (docs : List Doc) (t : List ℕ) (last : ℕ) → end ≤ last
+        → Told P.stands P.keeps port.old port.new (λ m. Ready (gives m) docs (word t) cursors.old last) (Found (word t) docs cursors.new end result) }
     ensures loads { steps.new + loads_left cursors.new ≤ steps.old + loads_left cursors.old }
 {
     let found = leaf_below(&mut cursors[0], port, steps, PLACES * end);
@@ -134,7 +138,8 @@ fn not_below<P: Port, L: Ledger>(
 ) -> u64
     requires small { (end ≤ 2 ^ 32) × (length cursors.old ≤ 64) }
     requires ready { CanAsk P.stands port.old (tree query.now) cursors.old end }
-    ensures found { (docs : List Doc) (last : ℕ) → end ≤ last → Told P.stands P.keeps port.old port.new (λ m. Ready (gives m) docs (tree query.now) cursors.old last) (FoundNot (tree query.now) docs cursors.new end result) }
+    ensures found { (docs : List Doc) (last : ℕ) → end ≤ last → Told P.stands P.keeps port.old port.new
+        (λ m. Ready (gives m) docs (tree query.now) cursors.old last) (FoundNot (tree query.now) docs cursors.new end result) }
     ensures loads { steps.new + loads_left cursors.new ≤ steps.old + loads_left cursors.old }
 {
     let mut place = end;
@@ -160,7 +165,8 @@ fn led_below<P: Port, L: Ledger>(
 ) -> u64
     requires small { (end ≤ 2 ^ 32) × (length cursors.old ≤ 64) }
     requires ready { CanAskAll P.stands port.old (trees_in parts.now) cursors.old end }
-    ensures found { (docs : List Doc) (last : ℕ) → end ≤ last → Told P.stands P.keeps port.old port.new (λ m. AllReady (gives m) docs (trees_in parts.now) cursors.old last) (FoundAll (trees_in parts.now) docs cursors.new end result) }
+    ensures found { (docs : List Doc) (last : ℕ) → end ≤ last → Told P.stands P.keeps port.old port.new
+        (λ m. AllReady (gives m) docs (trees_in parts.now) cursors.old last) (FoundAll (trees_in parts.now) docs cursors.new end result) }
     ensures loads { steps.new + loads_left cursors.new ≤ steps.old + loads_left cursors.old }
 {
     let start = lead_below(parts, cursors, lead, port, steps, end);
@@ -180,7 +186,8 @@ fn lead_below<P: Port, L: Ledger>(
 ) -> u64
     requires small { (end ≤ 2 ^ 32) × (length cursors.old ≤ 64) }
     requires ready { CanAskAll P.stands port.old (trees_in parts.now) cursors.old end }
-    ensures found { (docs : List Doc) (last : ℕ) → end ≤ last → Told P.stands P.keeps port.old port.new (λ m. AllReady (gives m) docs (trees_in parts.now) cursors.old last) (λ n. IsLed (gives n) docs (trees_in parts.now) cursors.new end result) }
+    ensures found { (docs : List Doc) (last : ℕ) → end ≤ last → Told P.stands P.keeps port.old port.new
+        (λ m. AllReady (gives m) docs (trees_in parts.now) cursors.old last) (λ n. IsLed (gives n) docs (trees_in parts.now) cursors.new end result) }
     ensures loads { steps.new + loads_left cursors.new ≤ steps.old + loads_left cursors.old }
 {
     let Some((part, others)) = parts.split_first() else {
@@ -209,7 +216,8 @@ fn all_below<P: Port, L: Ledger>(
 ) -> u64
     requires small { (end ≤ 2 ^ 32) × (length cursors.old ≤ 64) }
     requires ready { CanAskAll P.stands port.old (trees_in parts.now) cursors.old end }
-    ensures found { (docs : List Doc) (last : ℕ) → end ≤ last → Told P.stands P.keeps port.old port.new (λ m. AllReady (gives m) docs (trees_in parts.now) cursors.old last) (FoundAll (trees_in parts.now) docs cursors.new end result) }
+    ensures found { (docs : List Doc) (last : ℕ) → end ≤ last → Told P.stands P.keeps port.old port.new
+        (λ m. AllReady (gives m) docs (trees_in parts.now) cursors.old last) (FoundAll (trees_in parts.now) docs cursors.new end result) }
     ensures loads { steps.new + loads_left cursors.new ≤ steps.old + loads_left cursors.old }
 {
     let mut place = end;
@@ -233,7 +241,8 @@ fn round_below<P: Port, L: Ledger>(
 ) -> u64
     requires small { (end ≤ 2 ^ 32) × (length cursors.old ≤ 64) }
     requires ready { CanAskAll P.stands port.old (trees_in parts.now) cursors.old end }
-    ensures found { (docs : List Doc) (last : ℕ) → end ≤ last → Told P.stands P.keeps port.old port.new (λ m. AllReady (gives m) docs (trees_in parts.now) cursors.old last) (λ n. IsRound (gives n) docs (trees_in parts.now) cursors.new end result) }
+    ensures found { (docs : List Doc) (last : ℕ) → end ≤ last → Told P.stands P.keeps port.old port.new
+        (λ m. AllReady (gives m) docs (trees_in parts.now) cursors.old last) (λ n. IsRound (gives n) docs (trees_in parts.now) cursors.new end result) }
     ensures loads { steps.new + loads_left cursors.new ≤ steps.old + loads_left cursors.old }
 {
     let Some((part, others)) = parts.split_first() else {
@@ -259,7 +268,8 @@ fn some_below<P: Port, L: Ledger>(
 ) -> u64
     requires small { (end ≤ 2 ^ 32) × (length cursors.old ≤ 64) }
     requires ready { CanAskAll P.stands port.old (trees_in parts.now) cursors.old end }
-    ensures found { (docs : List Doc) (last : ℕ) → end ≤ last → Told P.stands P.keeps port.old port.new (λ m. AllReady (gives m) docs (trees_in parts.now) cursors.old last) (FoundSome (trees_in parts.now) docs cursors.new end result) }
+    ensures found { (docs : List Doc) (last : ℕ) → end ≤ last → Told P.stands P.keeps port.old port.new
+        (λ m. AllReady (gives m) docs (trees_in parts.now) cursors.old last) (FoundSome (trees_in parts.now) docs cursors.new end result) }
     ensures loads { steps.new + loads_left cursors.new ≤ steps.old + loads_left cursors.old }
 {
     let Some((part, others)) = parts.split_first() else {

@@ -52,7 +52,8 @@ fn leaves_below<P: Port, L: Ledger>(
 ) -> u64
     requires small { end + at + length cursors.old < 2 ^ 49 }
     requires ready { CanAskLeaves P.stands port.old cursors.old at end }
-    ensures found { (docs : List Doc) (ts : List (List ℕ)) (last : ℕ) → end ≤ last → Told P.stands P.keeps port.old port.new (λ m. AllLeaves (gives m) docs ts cursors.old (last + at)) (λ n. IsRun (gives n) docs ts cursors.new at end result) }
+    ensures found { (docs : List Doc) (ts : List (List ℕ)) (last : ℕ) → end ≤ last → Told P.stands P.keeps port.old port.new
+        (λ m. AllLeaves (gives m) docs ts cursors.old (last + at)) (λ n. IsRun (gives n) docs ts cursors.new at end result) }
     ensures loads { steps.new + loads_left cursors.new ≤ steps.old + loads_left cursors.old }
     ensures spans { (s : ℕ) (ts : List (List ℕ)) (most : ℕ) → Told P.stands P.keeps port.old port.new (λ m. AllSpan m s ts cursors.old most)
         (λ n. IsPaid (AllSpan n s ts cursors.new) steps.old (most + look_loads * length ts) steps.new) }
@@ -79,7 +80,8 @@ fn lead_leaf_below<P: Port, L: Ledger>(
 ) -> u64
     requires small { end + at + length cursors.old < 2 ^ 49 }
     requires ready { CanAskLeaves P.stands port.old cursors.old at end }
-    ensures found { (docs : List Doc) (ts : List (List ℕ)) (last : ℕ) → end ≤ last → Told P.stands P.keeps port.old port.new (λ m. AllLeaves (gives m) docs ts cursors.old (last + at)) (λ n. IsLedRun (gives n) docs ts cursors.new at end result) }
+    ensures found { (docs : List Doc) (ts : List (List ℕ)) (last : ℕ) → end ≤ last → Told P.stands P.keeps port.old port.new
+        (λ m. AllLeaves (gives m) docs ts cursors.old (last + at)) (λ n. IsLedRun (gives n) docs ts cursors.new at end result) }
     ensures loads { steps.new + loads_left cursors.new ≤ steps.old + loads_left cursors.old }
 {
     let Some((own, rest)) = cursors.split_first_mut() else {
@@ -100,7 +102,8 @@ fn starts_below<P: Port, L: Ledger>(
 ) -> u64
     requires small { (end ≤ 2 ^ 48) × (0 < length cursors.old) × (length cursors.old ≤ 64) }
     requires ready { CanAskLeaves P.stands port.old cursors.old 0 end }
-    ensures found { (docs : List Doc) (ts : List (List ℕ)) (last : ℕ) → end ≤ last → Told P.stands P.keeps port.old port.new (λ m. AllLeaves (gives m) docs ts cursors.old last) (FoundStart ts docs cursors.new end result) }
+    ensures found { (docs : List Doc) (ts : List (List ℕ)) (last : ℕ) → end ≤ last
+        → Told P.stands P.keeps port.old port.new (λ m. AllLeaves (gives m) docs ts cursors.old last) (FoundStart ts docs cursors.new end result) }
     ensures loads { steps.new + loads_left cursors.new ≤ steps.old + loads_left cursors.old }
 {
     let count = cursors.len() as u64;
@@ -125,7 +128,8 @@ fn led_starts_below<P: Port, L: Ledger>(
 ) -> u64
     requires small { (end ≤ 2 ^ 48) × (0 < length cursors.old) × (length cursors.old ≤ 64) }
     requires ready { CanAskLeaves P.stands port.old cursors.old 0 end }
-    ensures found { (docs : List Doc) (ts : List (List ℕ)) (last : ℕ) → end ≤ last → Told P.stands P.keeps port.old port.new (λ m. AllLeaves (gives m) docs ts cursors.old last) (FoundStart ts docs cursors.new end result) }
+    ensures found { (docs : List Doc) (ts : List (List ℕ)) (last : ℕ) → end ≤ last
+        → Told P.stands P.keeps port.old port.new (λ m. AllLeaves (gives m) docs ts cursors.old last) (FoundStart ts docs cursors.new end result) }
     ensures loads { steps.new + loads_left cursors.new ≤ steps.old + loads_left cursors.old }
 {
     let start = lead_leaf_below(0, lead, cursors, port, steps, end);
@@ -141,7 +145,8 @@ pub fn phrase_below<P: Port, L: Ledger>(
 ) -> u64
     requires small { (end ≤ 2 ^ 32) × (length cursors.old ≤ 64) }
     requires ready { CanAskPhrase P.stands port.old cursors.old end }
-    ensures found { (docs : List Doc) (ts : List (List ℕ)) (last : ℕ) → end ≤ last → Told P.stands P.keeps port.old port.new (λ m. Ready (gives m) docs (phrase ts) cursors.old last) (Found (phrase ts) docs cursors.new end result) }
+    ensures found { (docs : List Doc) (ts : List (List ℕ)) (last : ℕ) → end ≤ last
+        → Told P.stands P.keeps port.old port.new (λ m. Ready (gives m) docs (phrase ts) cursors.old last) (Found (phrase ts) docs cursors.new end result) }
     ensures loads { steps.new + loads_left cursors.new ≤ steps.old + loads_left cursors.old }
 {
     let start = (PLACES * end).min(cursors[0].upto);

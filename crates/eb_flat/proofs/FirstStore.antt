@@ -46,7 +46,8 @@ unfolding cut
 first_of_one σ d = refl
 
 -- after it the word is 1, also where other words have grown
-pub word_begun : (m n : Moment) (d : Doc) → m ≡ empty_moment m.setting → IsMoment n → n.setting ≡ m.setting → n.documents ≡ (after_store m d).documents → word n (place m.setting (slot 0 first_region 0)) ≡ 1
+pub word_begun : (m n : Moment) (d : Doc) → m ≡ empty_moment m.setting → IsMoment n → n.setting ≡ m.setting
+    → n.documents ≡ (after_store m d).documents → word n (place m.setting (slot 0 first_region 0)) ≡ 1
 word_begun m n d e is s k =
     let one = is.setting.segments.0 in
     let begun : with_current n.documents ≡ d ∷ [] = ap with_current (k ∙ ap (λ (x : Moment). (after_store x d).documents) e) ∙ stored_with m.setting d in

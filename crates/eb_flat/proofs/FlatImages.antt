@@ -56,9 +56,11 @@ emptied_all f σ n all e =
     stands_first f σ e.allowed (λ i. record { setting = e.setting i; words = zeros i })
 
 -- further words are 0
-pub emptied_next : (f g : Flat) (σ : Setting) (n more : ℕ) → n + more ≤ words_of σ → g.setting ≡ f.setting → g.words ≡ take n f.words ++ (replicate more 0 ++ drop (n + more) f.words) → IsEmptied f σ n → IsEmptied g σ (n + more)
+pub emptied_next : (f g : Flat) (σ : Setting) (n more : ℕ) → n + more ≤ words_of σ → g.setting ≡ f.setting
+    → g.words ≡ take n f.words ++ (replicate more 0 ++ drop (n + more) f.words) → IsEmptied f σ n → IsEmptied g σ (n + more)
 emptied_next f g σ n more le s w e =
-    let zeros : g.words ≡ replicate (n + more) 0 ++ drop (n + more) f.words = w ∙ ap (λ (z : List ℕ). z ++ (replicate more 0 ++ drop (n + more) f.words)) e.zeros ∙ sym (append_assoc (replicate n 0) (replicate more 0) (drop (n + more) f.words))
+    let zeros : g.words ≡ replicate (n + more) 0 ++ drop (n + more) f.words = w ∙ ap (λ (z : List ℕ). z ++ (replicate more 0 ++ drop (n + more) f.words)) e.zeros
+    ∙ sym (append_assoc (replicate n 0) (replicate more 0) (drop (n + more) f.words))
     ∙ ap (λ (z : List ℕ). z ++ drop (n + more) f.words) (replicate-append-replicate n more 0) in
     record {
       setting = s ∙ e.setting;

@@ -132,7 +132,8 @@ module _ (flags options : List Text) (ok : AreNames options) (words alone others
       items_in : Parts → Option Items
       items_in parts = joined (with_each (flag_in parts.flags) flags) (with_each (number_in parts.values) options)
 
-      go : (values : Option (List Value)) → option_and_then items_in (parts_with flags options ok alone values) ≡ joined (with_each (flag_in alone) flags) (option_and_then (λ values. with_each (number_in values) options) values)
+      go : (values : Option (List Value))
+          → option_and_then items_in (parts_with flags options ok alone values) ≡ joined (with_each (flag_in alone) flags) (option_and_then (λ values. with_each (number_in values) options) values)
       go None = sym (none_joined (with_each (flag_in alone) flags))
       go (Some values) = refl
 

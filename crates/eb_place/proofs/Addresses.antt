@@ -178,7 +178,8 @@ address_once ts t u f g hf hg fit e =
     let w = address_fields (pool_at f) (pool_at g) _ _ (offset_at f) (offset_at g) (offset_in f) (offset_in g) (slice_in t f ts hf fit) (slice_in u g ts hg fit) e in
     let bf : begins_in (pool_at f) (slice_start f) ≡ true = start_begins f in
     let bg : begins_in (pool_at f) (slice_start g) ≡ true = subst (λ p. begins_in p (slice_start g) ≡ true) (sym w.0) (start_begins g) in
-    let s : slices_begun (pool_at f) (front_of t (slice_start f) ts) ≡ slices_begun (pool_at f) (front_of u (slice_start g) ts) = w.1 ∙ ap (λ p. slices_begun p (front_of u (slice_start g) ts)) (sym w.0) in
+    let s : slices_begun (pool_at f) (front_of t (slice_start f) ts) ≡ slices_begun (pool_at f) (front_of u (slice_start g) ts) = w.1
+    ∙ ap (λ p. slices_begun p (front_of u (slice_start g) ts)) (sym w.0) in
     let v = slice_once (pool_at f) ts t u (slice_start f) (slice_start g) (start_in f _ hf) (start_in g _ hg) bf bg s in
     (v.0, same_number f g v.1 w.2)
 

@@ -31,7 +31,8 @@ use Rattle.eb_place.proofs.ValuesRise.{Rises, rises_push, values_keep, values_pu
 
 -- ---- tails
 
-token_rises : (σ : Setting) (s k : ℕ) (ts : List Term) (u : Term) (p : ℕ) (L : List Store) → InTable σ (slot s tail_region k) → Room σ s (ts ++ u ∷ []) → TailRises σ s k ts L → TailRises σ s k (ts ++ u ∷ []) (L ++ token_stores σ s ts u p)
+token_rises : (σ : Setting) (s k : ℕ) (ts : List Term) (u : Term) (p : ℕ) (L : List Store) → InTable σ (slot s tail_region k)
+    → Room σ s (ts ++ u ∷ []) → TailRises σ s k ts L → TailRises σ s k (ts ++ u ∷ []) (L ++ token_stores σ s ts u p)
 token_rises σ s k ts u p L i room h =
     let F = front_stores σ s ts u p in
     let z = tail_store s ts u in
@@ -45,7 +46,8 @@ token_rises σ s k ts u p L i room h =
     each_head : (x : Store) (xs : List Store) → Each (IsWithin σ) (x ∷ xs) → IsWithin σ x
     each_head x xs (more w t) = w
 
-tokens_rise : (σ : Setting) (s k n p : ℕ) (ts us : List Term) (L : List Store) → InTable σ (slot s tail_region k) → Room σ s (ts ++ us) → TailRises σ s k ts L → TailRises σ s k (ts ++ us) (L ++ tokens_stores σ s n p ts us)
+tokens_rise : (σ : Setting) (s k n p : ℕ) (ts us : List Term) (L : List Store) → InTable σ (slot s tail_region k)
+    → Room σ s (ts ++ us) → TailRises σ s k ts L → TailRises σ s k (ts ++ us) (L ++ tokens_stores σ s n p ts us)
 unfolding tokens_stores
 tokens_rise σ s k n p ts [] L i room h = subst (λ (z : List Term × List Store). TailRises σ s k z.0 z.1) (λ j. (sym (append-nil ts) j, sym (append-nil L) j)) h
 tokens_rise σ s k n p ts (u ∷ us) L i room h =
@@ -60,7 +62,8 @@ lasts_within : (σ : Setting) (s n count id : ℕ) → s < σ.segments → n < �
 unfolding size
 lasts_within σ s n count id h l = more (h, l) (more tt none)
 
-doc_rises : (σ : Setting) (s k : ℕ) (seg : List Doc) (count : ℕ) (d : Doc) (L : List Store) → InTable σ (slot s tail_region k) → Room σ s (terms_of seg ++ d.terms) → length seg < σ.docs → TailRises σ s k (terms_of seg) L
+doc_rises : (σ : Setting) (s k : ℕ) (seg : List Doc) (count : ℕ) (d : Doc) (L : List Store) → InTable σ (slot s tail_region k)
+    → Room σ s (terms_of seg ++ d.terms) → length seg < σ.docs → TailRises σ s k (terms_of seg) L
     → TailRises σ s k (terms_of seg ++ d.terms) (L ++ stores_in σ s seg count d)
 doc_rises σ s k seg count d L i room few h =
     let T0 = terms_of seg in
@@ -110,7 +113,8 @@ all_tails σ docs c = by_push (λ ds. IsLawful σ ds → AllTails σ ds) (λ h. 
                   (subst (λ z. TailRises σ s k (terms_of z) (placings σ ds ++ M)) (sym j.here) (subst (λ z. TailRises σ s k z (placings σ ds ++ M)) (sym (terms_push before d)) new))
               | no q ↦
                   let seg = get_or (cut σ ds) v [] in
-                  let kept = tail_keeps σ v k (terms_of seg) (placings σ ds) M (tail_within σ v k o l) (doc_within σ s before (length ds) d j.room j.few) (Each-map (λ y w x. w tail_region k x) (doc_elsewhere σ s v before (length ds) d (λ w. q (sym w)))) (a v k o l) in
+                  let kept = tail_keeps σ v k (terms_of seg) (placings σ ds) M (tail_within σ v k o l) (doc_within σ s before (length ds) d j.room j.few)
+                  (Each-map (λ y w x. w tail_region k x) (doc_elsewhere σ s v before (length ds) d (λ w. q (sym w)))) (a v k o l) in
                   subst (λ (z : List Doc × List Store). TailRises σ v k (terms_of z.0) z.1) (λ i. (sym (j.other v q) i, sym e i)) kept
             ]
 
@@ -118,19 +122,23 @@ all_tails σ docs c = by_push (λ ds. IsLawful σ ds → AllTails σ ds) (λ h. 
 
 count_rises : (σ : Setting) (docs : List Doc) → IsSetting σ → IsLawful σ docs → Rises (values_at (place σ published) (pairs_of σ (placings σ docs))) (length docs)
 unfolding placings_after
-count_rises σ docs c = by_push (λ ds. IsLawful σ ds → Rises (values_at (place σ published) (pairs_of σ (placings σ ds))) (length ds)) (λ h. record { rising = λ j o. absurd (omega arith); last = λ o. absurd (omega arith) }) step docs
+count_rises σ docs c = by_push (λ ds. IsLawful σ ds
+    → Rises (values_at (place σ published) (pairs_of σ (placings σ ds))) (length ds)) (λ h. record { rising = λ j o. absurd (omega arith); last = λ o. absurd (omega arith) }) step docs
   where
-    step : (ds : List Doc) (d : Doc) → (IsLawful σ ds → Rises (values_at (place σ published) (pairs_of σ (placings σ ds))) (length ds)) → IsLawful σ (ds ++ d ∷ []) → Rises (values_at (place σ published) (pairs_of σ (placings σ (ds ++ d ∷ [])))) (length (ds ++ d ∷ []))
+    step : (ds : List Doc) (d : Doc) → (IsLawful σ ds → Rises (values_at (place σ published) (pairs_of σ (placings σ ds))) (length ds))
+        → IsLawful σ (ds ++ d ∷ []) → Rises (values_at (place σ published) (pairs_of σ (placings σ (ds ++ d ∷ [])))) (length (ds ++ d ∷ []))
     step ds d ih h =
         let front = lawful_front σ ds (d ∷ []) h in
         let p = placed_all σ ds c front in
         by (length (with_doc σ (cut σ ds) d) - 1) (before_in σ (cut σ ds) d) (joins σ ds d c p.short (lawful_last σ ds d h)) (ih front)
       where
-        by : (s : ℕ) (before : List Doc) → Joins σ ds d s before → Rises (values_at (place σ published) (pairs_of σ (placings σ ds))) (length ds) → Rises (values_at (place σ published) (pairs_of σ (placings σ (ds ++ d ∷ [])))) (length (ds ++ d ∷ []))
+        by : (s : ℕ) (before : List Doc) → Joins σ ds d s before → Rises (values_at (place σ published) (pairs_of σ (placings σ ds))) (length ds)
+            → Rises (values_at (place σ published) (pairs_of σ (placings σ (ds ++ d ∷ [])))) (length (ds ++ d ∷ []))
         by s before j a =
             let B = body σ s before (length ds) d in
             let y : Store = (published, length ds + 1) in
-            let e : placings σ (ds ++ d ∷ []) ≡ (placings σ ds ++ B) ++ y ∷ [] = placings_push σ ds d ∙ ap (λ z. placings σ ds ++ z) (j.stores ∙ body_split σ s before (length ds) d) ∙ sym (append_assoc (placings σ ds) B (y ∷ [])) in
+            let e : placings σ (ds ++ d ∷ []) ≡ (placings σ ds ++ B) ++ y ∷ [] = placings_push σ ds d
+            ∙ ap (λ z. placings σ ds ++ z) (j.stores ∙ body_split σ s before (length ds) d) ∙ sym (append_assoc (placings σ ds) B (y ∷ [])) in
             let within = Each-front B (y ∷ []) (subst (Each (IsWithin σ)) (body_split σ s before (length ds) d) (doc_within σ s before (length ds) d j.room j.few)) in
             let kept = values_keep σ published (placings σ ds) B tt within (Each-map (λ z w. (writes_plain s z.0 w).1) (body_writes σ s before (length ds) d)) in
             let values = ap (λ z. values_at (place σ published) (pairs_of σ z)) e ∙ values_push σ published (length ds + 1) (placings σ ds ++ B) ∙ ap (λ z. z ++ (length ds + 1) ∷ []) kept in
@@ -161,6 +169,8 @@ all_stored_once σ docs c h =
     let within = Each-map (λ y w. w.within) packs in
     record {
       once = λ q no_count no_tail. stored_once σ docs q c h no_count no_tail;
-      count = subst Rattle.std.specs.List.Sorted.IsStrictlyIncreasing (sym (values_keep σ published (placings σ docs) C tt within (packed_apart σ published C count_plain packs))) (count_rises σ docs c h).rising;
-      tails = λ s k o l. subst Rattle.std.specs.List.Sorted.IsStrictlyIncreasing (sym (values_keep σ (slot s tail_region k) (placings σ docs) C (tail_within σ s k o l) within (packed_apart σ (slot s tail_region k) C (tail_plain s k) packs))) (all_tails σ docs c h s k o l).rises.rising;
+      count = subst Rattle.std.specs.List.Sorted.IsStrictlyIncreasing
+          (sym (values_keep σ published (placings σ docs) C tt within (packed_apart σ published C count_plain packs))) (count_rises σ docs c h).rising;
+      tails = λ s k o l. subst Rattle.std.specs.List.Sorted.IsStrictlyIncreasing (sym (values_keep σ (slot s tail_region k) (placings σ docs) C
+          (tail_within σ s k o l) within (packed_apart σ (slot s tail_region k) C (tail_plain s k) packs))) (all_tails σ docs c h s k o l).rises.rising;
     }

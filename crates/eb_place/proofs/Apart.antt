@@ -35,6 +35,7 @@ places_apart σ docs all d s at v w k h l inside x y =
     let short = q.short in
     let packs : Each (λ (z : Store). IsConverters σ z.0) (segment_stores σ all s) = Each-map (λ z f. (f.within, f.packed)) (segment_packs σ all s (q.room s (omega arith))) in
     let a = All-contains (λ (z : ℕ × ℕ). (x : Slot) × (z.0 ≡ place σ x) × IsWriters σ x) (placing σ docs d) (at, v) (All-from_Each writers) x in
-    let b = All-contains (λ (z : ℕ × ℕ). (x : Slot) × (z.0 ≡ place σ x) × IsConverters σ x) (conversion σ all s) (at, w) (All-from_Each (pairs_are σ (IsConverters σ) (segment_stores σ all s) packs)) y in
+    let b =
+    All-contains (λ (z : ℕ × ℕ). (x : Slot) × (z.0 ≡ place σ x) × IsConverters σ x) (conversion σ all s) (at, w) (All-from_Each (pairs_are σ (IsConverters σ) (segment_stores σ all s) packs)) y in
     let same : a.0 ≡ b.0 = place_once σ a.0 b.0 a.2.within b.2.0 (sym a.1 ∙ b.1) in
     false≢true (sym a.2.plain ∙ ap is_packed same ∙ b.2.1)

@@ -17,7 +17,8 @@ use Rattle.eb_place.proofs.Within.{cell_within}
 -- one cell a term
 pub length-cells_of : (cells : ℕ) (terms : List Term) → length (cells_of cells terms) ≡ length terms
 unfolding cells_of
-length-cells_of cells = by_push (λ ts. length (cells_of cells ts) ≡ length ts) refl (λ ts t h. ap length (fold_push (with_cell cells) [] ts t) ∙ length_push (cells_of cells ts) (free_from cells (cells_of cells ts) (length (cells_of cells ts)) (home_cell cells t)) ∙ omega (arith, h, length_push ts t))
+length-cells_of cells = by_push (λ ts. length (cells_of cells ts) ≡ length ts) refl (λ ts t h. ap length (fold_push (with_cell cells) [] ts t)
+    ∙ length_push (cells_of cells ts) (free_from cells (cells_of cells ts) (length (cells_of cells ts)) (home_cell cells t)) ∙ omega (arith, h, length_push ts t))
 
 -- with one more term
 pub cells_of_push : (cells : ℕ) (terms : List Term) (t : Term) → cells_of cells (terms ++ t ∷ []) ≡ cells_of cells terms ++ cell_of_next cells terms t ∷ []
@@ -37,7 +38,8 @@ cell_stays cells xs ys k h = let p = cells_of_front cells xs ys in ap (λ z. get
 
 -- the cell of the last term
 pub cell_last : (cells : ℕ) (terms : List Term) (t : Term) → get_or (cells_of cells (terms ++ t ∷ [])) (length terms) 0 ≡ cell_of_next cells terms t
-cell_last cells terms t = ap (λ z. get_or z (length terms) 0) (cells_of_push cells terms t) ∙ ap (λ k. get_or (cells_of cells terms ++ cell_of_next cells terms t ∷ []) k 0) (sym (length-cells_of cells terms)) ∙ get_or-append_seam (cells_of cells terms) (cell_of_next cells terms t) [] 0
+cell_last cells terms t = ap (λ z. get_or z (length terms) 0) (cells_of_push cells terms t)
+    ∙ ap (λ k. get_or (cells_of cells terms ++ cell_of_next cells terms t ∷ []) k 0) (sym (length-cells_of cells terms)) ∙ get_or-append_seam (cells_of cells terms) (cell_of_next cells terms t) [] 0
 
 -- what stands in a list is taken
 pub taken_here : (xs : List ℕ) (k : ℕ) → k < length xs → is_taken xs (get_or xs k 0) ≡ true
@@ -51,7 +53,9 @@ taken_here (x ∷ xs) (suc k) h = true_right (get_or xs k 0 == x) (is_taken xs (
 
 -- and what is taken stands there
 pub taken_where : (xs : List ℕ) (c : ℕ) → is_taken xs c ≡ true → (k : ℕ) × (k < length xs) × (get_or xs k 0 ≡ c)
-taken_where xs c h = let l = position_in (λ k. c == k) xs h in (position_or_len (λ k. c == k) xs, l, sym (eqb-true c (get_or xs (position_or_len (λ k. c == k) xs) 0) (passes_at_first (λ k. c == k) xs 0 l)))
+taken_where xs c h =
+    let l = position_in (λ k. c == k) xs h in
+    (position_or_len (λ k. c == k) xs, l, sym (eqb-true c (get_or xs (position_or_len (λ k. c == k) xs) 0) (passes_at_first (λ k. c == k) xs 0 l)))
 
 -- the cell of a term is taken
 pub cell_taken : (cells : ℕ) (terms : List Term) (k : ℕ) → k < length terms → is_taken (cells_of cells terms) (get_or (cells_of cells terms) k 0) ≡ true
@@ -73,7 +77,8 @@ next_is_free cells terms t h = let l = length-cells_of cells terms in
     ∙ free_from_free cells (cells_of cells terms) (home_cell cells t) (mod-lt (hash t) (omega arith)) (omega arith)
 
 -- where a free cell is met behind taken ones, it is the cell of the next term
-pub next_is : (cells : ℕ) (terms : List Term) (t : Term) (k : ℕ) → 1 ≤ cells → length terms < cells → ((i : ℕ) → i < k → is_taken (cells_of cells terms) (cell_at cells (home_cell cells t) i) ≡ true) → is_taken (cells_of cells terms) (cell_at cells (home_cell cells t) k) ≡ false
+pub next_is : (cells : ℕ) (terms : List Term) (t : Term) (k : ℕ) → 1 ≤ cells → length terms < cells
+    → ((i : ℕ) → i < k → is_taken (cells_of cells terms) (cell_at cells (home_cell cells t) i) ≡ true) → is_taken (cells_of cells terms) (cell_at cells (home_cell cells t) k) ≡ false
     → cell_of_next cells terms t ≡ cell_at cells (home_cell cells t) k
 unfolding cell_of_next
 next_is cells terms t k some few before free =
@@ -87,7 +92,8 @@ next_is cells terms t k some few before free =
     ]
 
 -- so not all cells are taken
-pub next_not_all : (cells : ℕ) (terms : List Term) (t : Term) (k : ℕ) → cells ≤ k → length terms < cells → ((i : ℕ) → i < k → is_taken (cells_of cells terms) (cell_at cells (home_cell cells t) i) ≡ true) → ⊥
+pub next_not_all : (cells : ℕ) (terms : List Term) (t : Term) (k : ℕ) → cells ≤ k → length terms < cells
+    → ((i : ℕ) → i < k → is_taken (cells_of cells terms) (cell_at cells (home_cell cells t) i) ≡ true) → ⊥
 unfolding cell_of_next
 next_not_all cells terms t k all few taken =
     let r = free_from_is cells (cells_of cells terms) (length terms) (home_cell cells t) (mod-lt (hash t) (omega arith)) in
@@ -123,7 +129,8 @@ steps_to cells terms h = by_push (λ ts. (k : ℕ) → k < length ts → Steps_t
             steps = r.steps;
             few = r.few;
             is = cell_stays cells ts (t ∷ []) k low ∙ r.is ∙ ap (λ z. cell_at cells (home_cell cells z) r.steps) (sym g);
-            before = λ i o. ap (λ z. is_taken (cells_of cells (ts ++ t ∷ [])) (cell_at cells (home_cell cells z) i)) g ∙ taken_stays cells ts (t ∷ []) (cell_at cells (home_cell cells (get_or ts k [])) i) (r.before i o);
+            before = λ i o. ap (λ z. is_taken (cells_of cells (ts ++ t ∷ [])) (cell_at cells (home_cell cells z) i)) g
+                ∙ taken_stays cells ts (t ∷ []) (cell_at cells (home_cell cells (get_or ts k [])) i) (r.before i o);
           }
       | inr high ↦
           let q : k ≡ length ts = omega (arith, length_push ts t) in
@@ -133,19 +140,24 @@ steps_to cells terms h = by_push (λ ts. (k : ℕ) → k < length ts → Steps_t
             steps = r.steps;
             few = omega (arith, r.within);
             is = ap (λ j. get_or (cells_of cells (ts ++ t ∷ [])) j 0) q ∙ cell_last cells ts t ∙ r.is ∙ ap (λ z. cell_at cells (home_cell cells z) r.steps) (sym g);
-            before = λ i o. ap (λ z. is_taken (cells_of cells (ts ++ t ∷ [])) (cell_at cells (home_cell cells z) i)) g ∙ taken_stays cells ts (t ∷ []) (cell_at cells (home_cell cells t) i) (r.before i o);
+            before = λ i o. ap (λ z. is_taken (cells_of cells (ts ++ t ∷ [])) (cell_at cells (home_cell cells z) i)) g
+                ∙ taken_stays cells ts (t ∷ []) (cell_at cells (home_cell cells t) i) (r.before i o);
           }
     ]
 
 -- two terms have two cells
-pub cell_of_one : (cells : ℕ) (terms : List Term) → length terms ≤ cells → (i j : ℕ) → i < length terms → j < length terms → get_or (cells_of cells terms) i 0 ≡ get_or (cells_of cells terms) j 0 → i ≡ j
-cell_of_one cells = by_push (λ ts. length ts ≤ cells → (i j : ℕ) → i < length ts → j < length ts → get_or (cells_of cells ts) i 0 ≡ get_or (cells_of cells ts) j 0 → i ≡ j) (λ few i j l k e. absurd (omega arith)) step
+pub cell_of_one : (cells : ℕ) (terms : List Term) → length terms ≤ cells → (i j : ℕ) → i < length terms
+    → j < length terms → get_or (cells_of cells terms) i 0 ≡ get_or (cells_of cells terms) j 0 → i ≡ j
+cell_of_one cells =
+    by_push (λ ts. length ts ≤ cells → (i j : ℕ) → i < length ts → j < length ts → get_or (cells_of cells ts) i 0 ≡ get_or (cells_of cells ts) j 0 → i ≡ j) (λ few i j l k e. absurd (omega arith)) step
   where
     new : (ts : List Term) (t : Term) → length (ts ++ t ∷ []) ≤ cells → (i : ℕ) → i < length ts → get_or (cells_of cells (ts ++ t ∷ [])) i 0 ≡ get_or (cells_of cells (ts ++ t ∷ [])) (length ts) 0 → ⊥
-    new ts t few i l e = false≢true (sym (next_is_free cells ts t (omega (arith, length_push ts t))) ∙ ap (is_taken (cells_of cells ts)) (sym (sym (cell_stays cells ts (t ∷ []) i l) ∙ e ∙ cell_last cells ts t)) ∙ cell_taken cells ts i l)
+    new ts t few i l e = false≢true (sym (next_is_free cells ts t (omega (arith, length_push ts t)))
+        ∙ ap (is_taken (cells_of cells ts)) (sym (sym (cell_stays cells ts (t ∷ []) i l) ∙ e ∙ cell_last cells ts t)) ∙ cell_taken cells ts i l)
 
     step : (ts : List Term) (t : Term) → (length ts ≤ cells → (i j : ℕ) → i < length ts → j < length ts → get_or (cells_of cells ts) i 0 ≡ get_or (cells_of cells ts) j 0 → i ≡ j)
-        → length (ts ++ t ∷ []) ≤ cells → (i j : ℕ) → i < length (ts ++ t ∷ []) → j < length (ts ++ t ∷ []) → get_or (cells_of cells (ts ++ t ∷ [])) i 0 ≡ get_or (cells_of cells (ts ++ t ∷ [])) j 0 → i ≡ j
+        → length (ts ++ t ∷ []) ≤ cells → (i j : ℕ) → i < length (ts ++ t ∷ []) → j < length (ts ++ t ∷ [])
+        → get_or (cells_of cells (ts ++ t ∷ [])) i 0 ≡ get_or (cells_of cells (ts ++ t ∷ [])) j 0 → i ≡ j
     step ts t ih few i j l k e =
         let n = length_push ts t in
         elim (cases_lt i (length ts)) [

@@ -1,5 +1,6 @@
 -- Closed forms of the words that a reader meets, at any moment.
-use Rattle.std.proofs.Common.{◌≡◌, ℕ, zero, suc, ◌+◌, ◌-◌, ◌*◌, ◌/◌, ◌%◌, ◌^◌, ◌<◌, ◌≤◌, true, List, [], ◌∷◌, length, take, min, get_or, filter, map, refl, ap, sym, ◌∙◌, subst, arith, inl, inr, bytes_eq, lit<}
+use Rattle.std.proofs.Common.{◌≡◌, ℕ, zero, suc, ◌+◌, ◌-◌, ◌*◌, ◌/◌, ◌%◌, ◌^◌, ◌<◌, ◌≤◌, true, List, [], ◌∷◌, length}
+use Rattle.std.proofs.Common.{take, min, get_or, filter, map, refl, ap, sym, ◌∙◌, subst, arith, inl, inr, bytes_eq, lit<}
 use Rattle.std.proofs.lemmas.Bool.{cases_Bool, cases_lt, false≢true}
 use Rattle.std.proofs.lemmas.List.{length-take, take_min}
 use Rattle.eb_base.specs.Term.{Term}
@@ -59,7 +60,8 @@ pub word_of_writer : (m : Moment) (x : Slot) → IsMoment m → InTable m.settin
 unfolding word
 word_of_writer m x is h away =
     let all = moment_packs m is in
-    val_keeps m.setting (document_stores m.setting m.documents) (conversion_stores m.setting (with_current m.documents) m.conversions) x h (Each-map (λ y q. q.within) all) (Each-map (λ y q e. away (subst (λ z. is_packed z ≡ true) e q.packed)) all)
+    val_keeps m.setting (document_stores m.setting m.documents) (conversion_stores m.setting (with_current m.documents) m.conversions) x h
+    (Each-map (λ y q. q.within) all) (Each-map (λ y q e. away (subst (λ z. is_packed z ≡ true) e q.packed)) all)
 
 -- ---- how many are reached
 
@@ -73,7 +75,8 @@ reached_is m s t is h =
     let ts = terms_of seg in
     let n = length-postings t seg in
     let a : count_of t ts ≡ count_of t w.stored + count_of t w.left = ap (count_of t) w.all ∙ count_of-append t w.stored w.left in
-    let c : reached_by m s t ≡ min (times m.setting L (slot s tail_region (number_of t ts))) (length (postings t seg)) = length-take (times m.setting L (slot s tail_region (number_of t ts))) (postings t seg) in
+    let c : reached_by m s t ≡ min (times m.setting L (slot s tail_region (number_of t ts))) (length (postings t seg)) =
+    length-take (times m.setting L (slot s tail_region (number_of t ts))) (postings t seg) in
     let fits = w.room.fits in
     let few = fits.few in
     elim (cases_lt 0 (count_of t w.stored)) [
@@ -243,7 +246,8 @@ small_segment : (n : ℕ) (seg : List Doc) → Each IsDocument seg → n + lengt
 small_segment n [] h l = none
 small_segment n (d ∷ ds) (more i h) l = let few = i.limits.tokens in Each-append (small_from n 0 d.terms (omega arith) (omega arith)) (small_segment (n + 1) ds h (omega arith))
 
-small_list : (t : Term) (ws : List Token) (f : ℕ) → Each (λ (w : Token). w.posting < 2 ^ posting_bits) ws → get_or (map (λ (w : Token). w.posting) (filter (λ (w : Token). bytes_eq t w.term) ws)) f 0 < 2 ^ posting_bits
+small_list : (t : Term) (ws : List Token) (f : ℕ) → Each (λ (w : Token). w.posting < 2 ^ posting_bits) ws
+    → get_or (map (λ (w : Token). w.posting) (filter (λ (w : Token). bytes_eq t w.term) ws)) f 0 < 2 ^ posting_bits
 small_list t [] zero h = lit< tt
 small_list t [] (suc f) h = lit< tt
 small_list t (w ∷ ws) f (more i h) = elim (cases_Bool (bytes_eq t w.term)) [
@@ -251,7 +255,8 @@ small_list t (w ∷ ws) f (more i h) = elim (cases_Bool (bytes_eq t w.term)) [
   | inr away ↦ rw away (small_list t ws f h)
 ]
   where
-    head : (f : ℕ) → ((k : ℕ) → get_or (map (λ (w : Token). w.posting) (filter (λ (w : Token). bytes_eq t w.term) ws)) k 0 < 2 ^ posting_bits) → get_or (w.posting ∷ map (λ (w : Token). w.posting) (filter (λ (w : Token). bytes_eq t w.term) ws)) f 0 < 2 ^ posting_bits
+    head : (f : ℕ) → ((k : ℕ) → get_or (map (λ (w : Token). w.posting) (filter (λ (w : Token). bytes_eq t w.term) ws)) k 0 < 2 ^ posting_bits)
+        → get_or (w.posting ∷ map (λ (w : Token). w.posting) (filter (λ (w : Token). bytes_eq t w.term) ws)) f 0 < 2 ^ posting_bits
     head zero rest = i
     head (suc f) rest = rest f
 

@@ -1,5 +1,6 @@
 -- The published count, and the first words of segments.
-use Rattle.std.proofs.Common.{◌≡◌, ℕ, zero, suc, ◌+◌, ◌-◌, ◌/◌, ◌%◌, ◌^◌, ◌≤◌, ◌==◌, ◌&&◌, Bool, true, false, List, [], ◌∷◌, ◌++◌, length, take, refl, ap, sym, ◌∙◌, subst, arith, nat_le, sum_by, append-nil, append_assoc, Option, Some, None}
+use Rattle.std.proofs.Common.{◌≡◌, ℕ, zero, suc, ◌+◌, ◌-◌, ◌/◌, ◌%◌, ◌^◌, ◌≤◌, ◌==◌, ◌&&◌, Bool, true, false, List, [], ◌∷◌, ◌++◌, length}
+use Rattle.std.proofs.Common.{take, refl, ap, sym, ◌∙◌, subst, arith, nat_le, sum_by, append-nil, append_assoc, Option, Some, None}
 use Rattle.std.proofs.lemmas.Bool.{false≢true, eq-eqb}
 use Rattle.std.proofs.lemmas.List.{length_push, take-append-le}
 use Rattle.eb_base.specs.Term.{Term}
@@ -8,7 +9,8 @@ use Rattle.eb_base.specs.Setting.{Setting, IsSetting}
 use Rattle.eb_place.specs.declared.moment.Moment.{Moment}
 use Rattle.eb_place.specs.Layout.{Slot, pool_slot, pool_region, place}
 use Rattle.eb_place.specs.Layout.Slot.{published, slot}
-use Rattle.eb_place.specs.Layout.Region.{first_region, converted_region, cell_region, text_place_region, tail_region, text_region, id_region, pool_0, pool_1, pool_2, pool_3, directory_region, packed_region}
+use Rattle.eb_place.specs.Layout.Region.{first_region, converted_region, cell_region, text_place_region, tail_region}
+use Rattle.eb_place.specs.Layout.Region.{text_region, id_region, pool_0, pool_1, pool_2, pool_3, directory_region, packed_region}
 use Rattle.eb_place.specs.Postings.{count_of, distinct, posting_of, terms_of}
 use Rattle.eb_place.specs.Room.{text_words, cut, with_doc, IsLawful}
 use Rattle.eb_place.specs.Address.{pool_at, begins, address_of}
@@ -118,11 +120,13 @@ count_placed σ = by_push (λ docs. val σ (placings σ docs) published ≡ leng
     more_one docs d h =
         let s = length (with_doc σ (cut σ docs) d) - 1 in
         let before = before_in σ (cut σ docs) d in
-        ap (λ z. val σ z published) (placings_push σ docs d ∙ ap (λ z. placings σ docs ++ z) (body_split σ s before (length docs) d) ∙ sym (append_assoc (placings σ docs) (body σ s before (length docs) d) ((published, length docs + 1) ∷ [])))
+        ap (λ z. val σ z published) (placings_push σ docs d ∙ ap (λ z. placings σ docs ++ z) (body_split σ s before (length docs) d)
+        ∙ sym (append_assoc (placings σ docs) (body σ s before (length docs) d) ((published, length docs + 1) ∷ [])))
         ∙ val_stored σ (placings σ docs ++ body σ s before (length docs) d) published (length docs + 1)
         ∙ sym (length_push docs d)
 
-count_begun : (σ : Setting) (docs : List Doc) (c : Option (Doc × ℕ)) → IsSetting σ → IsLawful σ (docs ++ current_of c) → IsBegun σ docs c → val σ (placings σ docs ++ current_stores σ docs c) published ≡ length docs
+count_begun : (σ : Setting) (docs : List Doc) (c : Option (Doc × ℕ)) → IsSetting σ → IsLawful σ (docs ++ current_of c)
+    → IsBegun σ docs c → val σ (placings σ docs ++ current_stores σ docs c) published ≡ length docs
 count_begun σ docs None k h b = ap (λ z. val σ z published) (append-nil (placings σ docs)) ∙ count_placed σ docs
 count_begun σ docs (Some c) k h b =
     let p = placed_all σ docs k (lawful_front σ docs (c.0 ∷ []) h) in

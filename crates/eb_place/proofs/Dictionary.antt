@@ -1,5 +1,6 @@
 -- What the words of a segment's dictionary are at a moment.
-use Rattle.std.proofs.Common.{◌≡◌, ℕ, ◌+◌, ◌-◌, ◌*◌, ◌<◌, ◌==◌, ◌||◌, Bool, true, false, cond, List, [], ◌∷◌, ◌++◌, length, take, filter, get_or, count_by, sum_by, refl, ap, sym, ◌∙◌, subst, arith, inl, inr, append-nil, append_assoc}
+use Rattle.std.proofs.Common.{◌≡◌, ℕ, ◌+◌, ◌-◌, ◌*◌, ◌<◌, ◌==◌, ◌||◌, Bool, true, false, cond, List, [], ◌∷◌, ◌++◌, length, take}
+use Rattle.std.proofs.Common.{filter, get_or, count_by, sum_by, refl, ap, sym, ◌∙◌, subst, arith, inl, inr, append-nil, append_assoc}
 use Rattle.std.proofs.lemmas.Bool.{cases_Bool, cases_lt, false≢true, ne_eqb}
 use Rattle.std.proofs.lemmas.List.{length_push, length-append, length-take, take-append-le, take_all, take_at, get_or_append_left}
 use Rattle.std.proofs.lemmas.List.Sums.{sum_by_push, sum_by-append, sum_by-cons, length-filter}
@@ -118,7 +119,8 @@ count_kept s (x ∷ xs) =
 -- ---- values
 
 -- the words that entries go to have their values by these stores alone
-pub val_kept : (σ : Setting) (s : ℕ) (x : Slot) (w : ℕ) (L : List Store) → InTable σ x → ((y : Store) → y.0 ≡ x → is_entry s y ≡ true) → Each (IsWithin σ) L → value_after (place σ x) w (pairs_of σ (filter (is_entry s) L)) ≡ value_after (place σ x) w (pairs_of σ L)
+pub val_kept : (σ : Setting) (s : ℕ) (x : Slot) (w : ℕ) (L : List Store) → InTable σ x → ((y : Store) → y.0 ≡ x → is_entry s y ≡ true)
+    → Each (IsWithin σ) L → value_after (place σ x) w (pairs_of σ (filter (is_entry s) L)) ≡ value_after (place σ x) w (pairs_of σ L)
 unfolding value_after
 val_kept σ s x w [] h of none = refl
 val_kept σ s x w (y ∷ L) h of (more i all) = elim (cases_Bool (is_entry s y)) [
@@ -204,9 +206,11 @@ pub record Dictionary (m : Moment) (s : ℕ) : Type 0 where
   pub cell : (k : ℕ) → k < length (entered m s) → word m (place m.setting (slot s cell_region (get_or (cells_of (2 * m.setting.terms) (entered m s)) k 0))) ≡ k + 1
   pub free : (c : ℕ) → c < 2 * m.setting.terms → is_taken (cells_of (2 * m.setting.terms) (entered m s)) c ≡ false → word m (place m.setting (slot s cell_region c)) ≡ 0
   pub at : (k : ℕ) → k < length (entered m s) → word m (place m.setting (slot s text_place_region k)) ≡ sum_by text_words (take k (entered m s))
-  pub text : (k i : ℕ) → k < length (entered m s) → i < text_words (get_or (entered m s) k []) → word m (place m.setting (slot s text_region (sum_by text_words (take k (entered m s)) + i))) ≡ get_or (text_of (get_or (entered m s) k [])) i 0
+  pub text : (k i : ℕ) → k < length (entered m s) → i < text_words (get_or (entered m s) k [])
+      → word m (place m.setting (slot s text_region (sum_by text_words (take k (entered m s)) + i))) ≡ get_or (text_of (get_or (entered m s) k [])) i 0
 
-dictionary_val : (m : Moment) (s : ℕ) (x : Slot) → IsMoment m → InTable m.setting x → (is_packed x ≡ true → ⊥) → ((y : Store) → y.0 ≡ x → is_entry s y ≡ true) → word m (place m.setting x) ≡ val m.setting (filter (is_entry s) (document_stores m.setting m.documents)) x
+dictionary_val : (m : Moment) (s : ℕ) (x : Slot) → IsMoment m → InTable m.setting x → (is_packed x ≡ true → ⊥) → ((y : Store) → y.0 ≡ x → is_entry s y ≡ true)
+    → word m (place m.setting x) ≡ val m.setting (filter (is_entry s) (document_stores m.setting m.documents)) x
 dictionary_val m s x is h away of = word_of_writer m x is h away ∙ sym (val_kept m.setting s x 0 (document_stores m.setting m.documents) h of (moment_within m is))
 
 pub entered_room : (m : Moment) (s : ℕ) → IsMoment m → s < m.setting.segments → HasTerms m.setting s (entered m s)
@@ -272,13 +276,16 @@ dictionary m s is h =
       room = room;
       cell = λ k l.
           (let c = get_or (cells_of (2 * σ.terms) E) k 0 in
-          dictionary_val m s (slot s cell_region c) is (cell_in_table σ s c h (cell_low (2 * σ.terms) E (omega arith) k l)) (cell_not_packed s c) (λ y e. entry_at s y (slot s cell_region c) e (cell_entry s c)) ∙ w.cells.cell k l);
+          dictionary_val m s (slot s cell_region c) is (cell_in_table σ s c h (cell_low (2 * σ.terms) E (omega arith) k l))
+          (cell_not_packed s c) (λ y e. entry_at s y (slot s cell_region c) e (cell_entry s c)) ∙ w.cells.cell k l);
       free = λ c l o. dictionary_val m s (slot s cell_region c) is (cell_in_table σ s c h l) (cell_not_packed s c) (λ y e. entry_at s y (slot s cell_region c) e (cell_entry s c)) ∙ w.cells.free c l o;
-      at = λ k l. dictionary_val m s (slot s text_place_region k) is (text_place_in_table σ s k h (omega arith)) (text_place_not_packed s k) (λ y e. entry_at s y (slot s text_place_region k) e (text_place_entry s k)) ∙ w.texts.at k l;
+      at = λ k l. dictionary_val m s (slot s text_place_region k) is (text_place_in_table σ s k h (omega arith))
+          (text_place_not_packed s k) (λ y e. entry_at s y (slot s text_place_region k) e (text_place_entry s k)) ∙ w.texts.at k l;
       text = λ k i l j.
           (let a = sum_by text_words (take k E) + i in
           let b = text_ends k E l in
-          dictionary_val m s (slot s text_region a) is (text_in_table σ s a h (omega arith)) (text_not_packed s a) (λ y e. entry_at s y (slot s text_region a) e (text_entry s a)) ∙ w.texts.text k i l j);
+          dictionary_val m s (slot s text_region a) is (text_in_table σ s a h (omega arith)) (text_not_packed s a) (λ y e. entry_at s y (slot s text_region a) e (text_entry s a))
+          ∙ w.texts.text k i l j);
     }
   where
     entry_at : (s : ℕ) (y : Store) (x : Slot) → y.0 ≡ x → ((v : ℕ) → is_entry s (x, v) ≡ true) → is_entry s y ≡ true

@@ -16,14 +16,20 @@ use Rattle.eb_place.proofs.Within.{SegmentFits}
 slices_hold : (f : ℕ) → f ≤ 2 * slices 0 f + 15 * slices 1 f + 127 * slices 2 f + 2047 * slices 3 f
 slices_hold f = grind (arith, nat_tests)
 
-sums_hold : (n a b c d : Term → ℕ) → ((u : Term) → n u ≤ 2 * a u + 15 * b u + 127 * c u + 2047 * d u) → (xs : List Term) → sum_by n xs ≤ 2 * sum_by a xs + 15 * sum_by b xs + 127 * sum_by c xs + 2047 * sum_by d xs
+sums_hold : (n a b c d : Term → ℕ) → ((u : Term) → n u ≤ 2 * a u + 15 * b u + 127 * c u + 2047 * d u)
+    → (xs : List Term) → sum_by n xs ≤ 2 * sum_by a xs + 15 * sum_by b xs + 127 * sum_by c xs + 2047 * sum_by d xs
 sums_hold n a b c d h [] = omega arith
 sums_hold n a b c d h (x ∷ xs) = omega (arith, sums_hold n a b c d h xs, sum_by-cons n x xs, sum_by-cons a x xs, sum_by-cons b x xs, sum_by-cons c x xs, sum_by-cons d x xs, h x)
 
 -- the postings of a segment are at most what its slices hold
 pub postings_hold : (ts : List Term) → length ts ≤ 2 * all_slices 0 ts + 15 * all_slices 1 ts + 127 * all_slices 2 ts + 2047 * all_slices 3 ts
 unfolding all_slices
-postings_hold ts = omega (arith, total_count ts, sums_hold (λ u. count_of u ts) (λ u. slices 0 (count_of u ts)) (λ u. slices 1 (count_of u ts)) (λ u. slices 2 (count_of u ts)) (λ u. slices 3 (count_of u ts)) (λ u. slices_hold (count_of u ts)) (distinct ts))
+postings_hold ts = omega (
+  arith,
+  total_count ts,
+  sums_hold (λ u. count_of u ts) (λ u. slices 0 (count_of u ts)) (λ u. slices 1 (count_of u ts))
+      (λ u. slices 2 (count_of u ts)) (λ u. slices 3 (count_of u ts)) (λ u. slices_hold (count_of u ts)) (distinct ts),
+)
 
 -- and so at most 34 a term that it has room for
 pub postings_few : (σ : Setting) (ts : List Term) → SegmentFits σ ts → length ts ≤ 34 * σ.terms

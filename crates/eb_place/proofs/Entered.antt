@@ -21,7 +21,8 @@ use Rattle.eb_place.proofs.Reached.{val, val_stored, val_keeps}
 
 length-cells : (cells : ℕ) (terms : List Term) → length (cells_of cells terms) ≡ length terms
 unfolding cells_of
-length-cells cells = by_push (λ ts. length (cells_of cells ts) ≡ length ts) refl (λ ts t h. ap length (fold_push (with_cell cells) [] ts t) ∙ length_push (cells_of cells ts) _ ∙ omega (arith, h, length_push ts t))
+length-cells cells =
+    by_push (λ ts. length (cells_of cells ts) ≡ length ts) refl (λ ts t h. ap length (fold_push (with_cell cells) [] ts t) ∙ length_push (cells_of cells ts) _ ∙ omega (arith, h, length_push ts t))
 
 cells_push : (cells : ℕ) (terms : List Term) (t : Term) → cells_of cells (terms ++ t ∷ []) ≡ cells_of cells terms ++ cell_of_next cells terms t ∷ []
 unfolding cells_of cell_of_next
@@ -72,7 +73,13 @@ cells_low cells terms h = by_push (λ ts. (k : ℕ) → k < length ts → get_or
     step : (ts : List Term) (t : Term) → ((k : ℕ) → k < length ts → get_or (cells_of cells ts) k 0 < cells) → (k : ℕ) → k < length (ts ++ t ∷ []) → get_or (cells_of cells (ts ++ t ∷ [])) k 0 < cells
     step ts t ih k l = let e = ap (λ z. get_or z k 0) (cells_push cells ts t) in let n = length-cells cells ts in elim (cases_lt k (length ts)) [
       | inl low ↦ omega (arith, e, get_or_append_left (cells_of cells ts) (cell_of_next cells ts t ∷ []) 0 k (omega arith), ih k low)
-      | inr high ↦ omega (arith, e, ap (λ j. get_or (cells_of cells ts ++ cell_of_next cells ts t ∷ []) j 0) (let q : k ≡ length (cells_of cells ts) = omega (arith, length_push ts t) in q), get_or-append_seam (cells_of cells ts) (cell_of_next cells ts t) [] 0, cell_within ts t cells h)
+      | inr high ↦ omega (
+        arith,
+        e,
+        ap (λ j. get_or (cells_of cells ts ++ cell_of_next cells ts t ∷ []) j 0) (let q : k ≡ length (cells_of cells ts) = omega (arith, length_push ts t) in q),
+        get_or-append_seam (cells_of cells ts) (cell_of_next cells ts t) [] 0,
+        cell_within ts t cells h,
+      )
     ]
 
 -- one more term
@@ -89,19 +96,23 @@ entered_done σ s terms t L hs few all h =
     let n = length-cells C terms in
     let fresh = next_free C terms t (omega arith) in
     let keep : (j : ℕ) → j < C → (c ≡ j → ⊥) → val σ (L ++ (X ++ x ∷ y ∷ [])) (slot s cell_region j) ≡ val σ L (slot s cell_region j) =
-    λ j l o. val_keeps σ L (X ++ x ∷ y ∷ []) (slot s cell_region j) (hs, l) all (Each-append (text_not_cell s j (sum_by text_words terms) (text_of t)) (more (λ e. absurd cc) (more (λ e. o (cell_index s c j e)) none))) in
+    λ j l o. val_keeps σ L (X ++ x ∷ y ∷ []) (slot s cell_region j) (hs, l) all
+    (Each-append (text_not_cell s j (sum_by text_words terms) (text_of t)) (more (λ e. absurd cc) (more (λ e. o (cell_index s c j e)) none))) in
     record {
       cell = λ k l. elim (cases_lt k (length terms)) [
         | inl low ↦
             let e : get_or (cells_of C (terms ++ t ∷ [])) k 0 ≡ get_or (cells_of C terms) k 0 = ap (λ z. get_or z k 0) push ∙ get_or_append_left (cells_of C terms) (c ∷ []) 0 k (omega arith) in
             ap (λ z. val σ (L ++ (X ++ x ∷ y ∷ [])) (slot s cell_region z)) e
-            ∙ keep (get_or (cells_of C terms) k 0) (cells_low C terms (omega arith) k low) (λ q. false≢true (sym fresh ∙ ap (is_taken (cells_of C terms)) q ∙ taken_at (cells_of C terms) k (omega arith)))
+            ∙ keep (get_or (cells_of C terms) k 0) (cells_low C terms (omega arith) k low)
+            (λ q. false≢true (sym fresh ∙ ap (is_taken (cells_of C terms)) q ∙ taken_at (cells_of C terms) k (omega arith)))
             ∙ h.cell k low
         | inr high ↦
             let at : k ≡ length terms = omega (arith, l, length_push terms t) in
-            let e : get_or (cells_of C (terms ++ t ∷ [])) k 0 ≡ c = ap (λ z. get_or z k 0) push ∙ ap (λ j. get_or (cells_of C terms ++ c ∷ []) j 0) (let q : k ≡ length (cells_of C terms) = omega arith in q) ∙ get_or-append_seam (cells_of C terms) c [] 0 in
+            let e : get_or (cells_of C (terms ++ t ∷ [])) k 0 ≡ c = ap (λ z. get_or z k 0) push
+            ∙ ap (λ j. get_or (cells_of C terms ++ c ∷ []) j 0) (let q : k ≡ length (cells_of C terms) = omega arith in q) ∙ get_or-append_seam (cells_of C terms) c [] 0 in
             let split : L ++ (X ++ x ∷ y ∷ []) ≡ ((L ++ X) ++ x ∷ []) ++ y ∷ [] = simp append_assoc in
-            ap (λ z. val σ (L ++ (X ++ x ∷ y ∷ [])) (slot s cell_region z)) e ∙ ap (λ z. val σ z (slot s cell_region c)) split ∙ val_stored σ ((L ++ X) ++ x ∷ []) (slot s cell_region c) (length terms + 1) ∙ omega arith
+            ap (λ z. val σ (L ++ (X ++ x ∷ y ∷ [])) (slot s cell_region z)) e ∙ ap (λ z. val σ z (slot s cell_region c)) split
+            ∙ val_stored σ ((L ++ X) ++ x ∷ []) (slot s cell_region c) (length terms + 1) ∙ omega arith
       ];
       free = λ j l o.
           (let p : (is_taken (cells_of C terms) j || (j == c)) ≡ false = sym (taken_push (cells_of C terms) c j) ∙ ap (λ z. is_taken z j) (sym push) ∙ o in

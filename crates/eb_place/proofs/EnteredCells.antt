@@ -77,7 +77,8 @@ cell_once m s c is i =
     let x = slot s cell_region c in
     let P = placings σ (with_current m.documents) in
     let p = started_stores σ m.documents.accepted m.documents.current in
-    let one = times_once σ P x (all_grown σ (with_current m.documents) is.setting is.lawful).single (placings_within σ (with_current m.documents) is.setting is.lawful) i (record { count = λ e. absurd cc; tails = λ v k e. absurd cc }) in
+    let one = times_once σ P x (all_grown σ (with_current m.documents) is.setting is.lawful).single
+    (placings_within σ (with_current m.documents) is.setting is.lawful) i (record { count = λ e. absurd cc; tails = λ v k e. absurd cc }) in
     omega (arith, one, ap (λ z. times σ z x) (sym p.1), times-append σ (document_stores σ m.documents) p.0 x)
 
 pub entered_cell : EnteredWithTheCell

@@ -1,5 +1,6 @@
 -- The terms that are entered in a segment: their numbers, their bytes, and that they stay.
-use Rattle.std.proofs.Common.{◌≡◌, ℕ, zero, suc, ◌+◌, ◌*◌, ◌/◌, ◌<◌, ◌≤◌, Bool, cond, List, [], ◌∷◌, ◌++◌, length, take, drop, get_or, count_by, All, Contains, refl, ap, sym, ◌∙◌, subst, arith, inl, inr, append-nil, append_assoc, bytes_eq}
+use Rattle.std.proofs.Common.{◌≡◌, ℕ, zero, suc, ◌+◌, ◌*◌, ◌/◌, ◌<◌, ◌≤◌, Bool, cond, List, [], ◌∷◌, ◌++◌, length, take, drop, get_or}
+use Rattle.std.proofs.Common.{count_by, All, Contains, refl, ap, sym, ◌∙◌, subst, arith, inl, inr, append-nil, append_assoc, bytes_eq}
 use Rattle.std.proofs.lemmas.Bool.{cases_lt}
 use Rattle.std.proofs.lemmas.List.{length_push, length-append, length-take, length-drop, take-append-le, take-append-drop, get_or_append_left, get_or_default}
 use Rattle.std.proofs.lemmas.List.Elements.{All-head, All-tail, All-take, All-drop, Contains-get_or, Contains-append_left}
@@ -40,7 +41,8 @@ take_grows (suc i) (suc j) (x ∷ xs) ys h = let r = take_grows i j xs ys (omega
 
 distinct_more : (xs ys : List Term) → IsPrefix (distinct xs) (distinct (xs ++ ys))
 distinct_more xs [] = ([], append-nil (distinct xs) ∙ ap distinct (sym (append-nil xs)))
-distinct_more xs (y ∷ ys) = prefix_trans (distinct xs) (distinct (xs ++ y ∷ [])) (distinct (xs ++ (y ∷ ys))) one (subst (λ z. IsPrefix (distinct (xs ++ y ∷ [])) (distinct z)) (append_assoc xs (y ∷ []) ys) (distinct_more (xs ++ y ∷ []) ys))
+distinct_more xs (y ∷ ys) = prefix_trans (distinct xs) (distinct (xs ++ y ∷ [])) (distinct (xs ++ (y ∷ ys))) one
+    (subst (λ z. IsPrefix (distinct (xs ++ y ∷ [])) (distinct z)) (append_assoc xs (y ∷ []) ys) (distinct_more (xs ++ y ∷ []) ys))
   where
     one : IsPrefix (distinct xs) (distinct (xs ++ y ∷ []))
     one = elim (with_term_cases (distinct xs) y) [
@@ -61,7 +63,8 @@ entered_later m n s l =
     let e : distinct (terms_of (segment m s)) ++ d.0 ≡ distinct (terms_of (segment n s)) = d.1 ∙ ap distinct (sym t) in
     let c = counts_grow (is_in s cell_region) (document_stores m.setting m.documents) (document_stores n.setting n.documents) (later_stores m n l) in
     subst (λ z. IsPrefix (entered m s) (take (count_by (is_in s cell_region) (document_stores n.setting n.documents)) z)) e
-    (take_grows (count_by (is_in s cell_region) (document_stores m.setting m.documents)) (count_by (is_in s cell_region) (document_stores n.setting n.documents)) (distinct (terms_of (segment m s))) d.0 c)
+    (take_grows (count_by (is_in s cell_region) (document_stores m.setting m.documents))
+    (count_by (is_in s cell_region) (document_stores n.setting n.documents)) (distinct (terms_of (segment m s))) d.0 c)
 
 -- so an entered term keeps its number
 pub term_later : (m n : Moment) (s k : ℕ) → IsNotBefore n m → k < length (entered m s) → (k < length (entered n s)) × (get_or (entered n s) k [] ≡ get_or (entered m s) k [])
@@ -80,7 +83,8 @@ is_entered_later m n s t l h = let p = entered_later m n s l in subst (λ z. Con
 counted_low : (ts : List Term) (k : ℕ) → k < length (distinct ts) → 1 ≤ count_of (get_or (distinct ts) k []) ts
 counted_low = by_push (λ ts. (k : ℕ) → k < length (distinct ts) → 1 ≤ count_of (get_or (distinct ts) k []) ts) (λ k h. absurd (omega (arith, ap length distinct-nil))) step
   where
-    step : (ts : List Term) (u : Term) → ((k : ℕ) → k < length (distinct ts) → 1 ≤ count_of (get_or (distinct ts) k []) ts) → (k : ℕ) → k < length (distinct (ts ++ u ∷ [])) → 1 ≤ count_of (get_or (distinct (ts ++ u ∷ [])) k []) (ts ++ u ∷ [])
+    step : (ts : List Term) (u : Term) → ((k : ℕ) → k < length (distinct ts) → 1 ≤ count_of (get_or (distinct ts) k []) ts)
+        → (k : ℕ) → k < length (distinct (ts ++ u ∷ [])) → 1 ≤ count_of (get_or (distinct (ts ++ u ∷ [])) k []) (ts ++ u ∷ [])
     step ts u ih k h =
         let d = distinct_push ts u in
         let old : k < length (distinct ts) → get_or (distinct (ts ++ u ∷ [])) k [] ≡ get_or (distinct ts) k [] → 1 ≤ count_of (get_or (distinct (ts ++ u ∷ [])) k []) (ts ++ u ∷ []) =
@@ -101,7 +105,8 @@ counted_low = by_push (λ ts. (k : ℕ) → k < length (distinct ts) → 1 ≤ c
 pub number_at : (ts : List Term) (k : ℕ) → k < length (distinct ts) → number_of (get_or (distinct ts) k []) ts ≡ k
 number_at = by_push (λ ts. (k : ℕ) → k < length (distinct ts) → number_of (get_or (distinct ts) k []) ts ≡ k) (λ k h. absurd (omega (arith, ap length distinct-nil))) step
   where
-    step : (ts : List Term) (u : Term) → ((k : ℕ) → k < length (distinct ts) → number_of (get_or (distinct ts) k []) ts ≡ k) → (k : ℕ) → k < length (distinct (ts ++ u ∷ [])) → number_of (get_or (distinct (ts ++ u ∷ [])) k []) (ts ++ u ∷ []) ≡ k
+    step : (ts : List Term) (u : Term) → ((k : ℕ) → k < length (distinct ts) → number_of (get_or (distinct ts) k []) ts ≡ k)
+        → (k : ℕ) → k < length (distinct (ts ++ u ∷ [])) → number_of (get_or (distinct (ts ++ u ∷ [])) k []) (ts ++ u ∷ []) ≡ k
     step ts u ih k h =
         let d = distinct_push ts u in
         let old : k < length (distinct ts) → get_or (distinct (ts ++ u ∷ [])) k [] ≡ get_or (distinct ts) k [] → number_of (get_or (distinct (ts ++ u ∷ [])) k []) (ts ++ u ∷ []) ≡ k =
@@ -192,7 +197,8 @@ eights_once (suc n) xs ys e l h k q =
     let first : little_endian (take 8 xs) ≡ little_endian (take 8 ys) = cc in
     let rest : eights n (drop 8 xs) ≡ eights n (drop 8 ys) = cc in
     let a = low_once (take 8 xs) (take 8 ys) (omega (arith, length-take 8 xs, length-take 8 ys)) (All-take (λ b. b < 256) 8 xs h) (All-take (λ b. b < 256) 8 ys k) first in
-    let b = eights_once n (drop 8 xs) (drop 8 ys) (omega (arith, length-drop 8 xs, length-drop 8 ys)) (omega (arith, length-drop 8 xs)) (All-drop (λ b. b < 256) 8 xs h) (All-drop (λ b. b < 256) 8 ys k) rest in
+    let b = eights_once n (drop 8 xs) (drop 8 ys) (omega (arith, length-drop 8 xs, length-drop 8 ys))
+    (omega (arith, length-drop 8 xs)) (All-drop (λ b. b < 256) 8 xs h) (All-drop (λ b. b < 256) 8 ys k) rest in
     sym (take-append-drop 8 xs) ∙ (λ i. a i ++ b i) ∙ take-append-drop 8 ys
 
 -- two terms of bytes have two texts

@@ -1,5 +1,6 @@
 -- The stores that enter the terms of a segment, one term after the other, and what they leave.
-use Rattle.std.proofs.Common.{◌≡◌, ℕ, zero, suc, ◌+◌, ◌-◌, ◌*◌, ◌/◌, ◌%◌, ◌^◌, ◌==◌, ◌&&◌, ◌||◌, Bool, true, false, List, [], ◌∷◌, ◌++◌, length, filter, sum_by, refl, ap, sym, ◌∙◌, arith, inl, inr, append-nil, append_assoc, if◌then◌else◌, nat_le}
+use Rattle.std.proofs.Common.{◌≡◌, ℕ, zero, suc, ◌+◌, ◌-◌, ◌*◌, ◌/◌, ◌%◌, ◌^◌, ◌==◌, ◌&&◌, ◌||◌, Bool, true, false, List, [], ◌∷◌, ◌++◌}
+use Rattle.std.proofs.Common.{length, filter, sum_by, refl, ap, sym, ◌∙◌, arith, inl, inr, append-nil, append_assoc, if◌then◌else◌, nat_le}
 use Rattle.std.proofs.lemmas.Bool.{cases_Bool, eq-eqb, eqb-true, ne_eqb}
 use Rattle.std.proofs.lemmas.List.Elements.{filter-append}
 use Rattle.eb_base.specs.Term.{Term}
@@ -79,7 +80,8 @@ row_entries s i (v ∷ vs) = more (text_entry s i v) (row_entries s (i + 1) vs)
 -- all stores that enter a term are entries
 pub enter_entries : (σ : Setting) (s : ℕ) (terms : List Term) (t : Term) → Each (λ (y : Store). is_entry s y ≡ true) (enter_stores σ s terms t)
 unfolding enter_stores
-enter_entries σ s terms t = Each-append (row_entries s (sum_by text_words terms) (text_of t)) (more (text_place_entry s (length terms) (sum_by text_words terms)) (more (cell_entry s (cell_of_next (2 * σ.terms) terms t) (length terms + 1)) none))
+enter_entries σ s terms t = Each-append (row_entries s (sum_by text_words terms) (text_of t))
+    (more (text_place_entry s (length terms) (sum_by text_words terms)) (more (cell_entry s (cell_of_next (2 * σ.terms) terms t) (length terms + 1)) none))
 
 other_region : (s v : ℕ) (q : Region) (i w : ℕ) → (rank q == 5) ≡ false → (rank q == 3) ≡ false → (rank q == 2) ≡ false → is_entry s (slot v q i, w) ≡ false
 other_region s v q i w a b c = no_entry s (slot v q i, w) (not_in s v text_region q i w a) (not_in s v text_place_region q i w b) (not_in s v cell_region q i w c)

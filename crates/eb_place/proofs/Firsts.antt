@@ -1,5 +1,6 @@
 -- The first-document words.
-use Rattle.std.proofs.Common.{◌≡◌, ◌≢◌, ℕ, zero, suc, ◌+◌, ◌-◌, ◌<◌, ◌≤◌, ◌==◌, Bool, true, cond, List, [], ◌∷◌, ◌++◌, length, take, get_or, refl, ap, sym, ◌∙◌, subst, arith, inl, inr, if◌then◌else◌, append-nil, append_assoc, lit<, Option, Some, None, sum_by}
+use Rattle.std.proofs.Common.{◌≡◌, ◌≢◌, ℕ, zero, suc, ◌+◌, ◌-◌, ◌<◌, ◌≤◌, ◌==◌, Bool, true, cond, List, [], ◌∷◌, ◌++◌, length, take, get_or, refl}
+use Rattle.std.proofs.Common.{ap, sym, ◌∙◌, subst, arith, inl, inr, if◌then◌else◌, append-nil, append_assoc, lit<, Option, Some, None, sum_by}
 use Rattle.std.proofs.lemmas.Bool.{cases_Bool, false≢true, ne_eqb}
 use Rattle.std.proofs.lemmas.List.{length_push, take_all}
 use Rattle.std.proofs.lemmas.List.Sums.{sum_by-cons}
@@ -102,7 +103,8 @@ pub cut_nonempty : (σ : Setting) (docs : List Doc) (s : ℕ) → s < length (cu
 unfolding cut
 cut_nonempty σ = by_push (λ docs. (s : ℕ) → s < length (cut σ docs) → 1 ≤ length (get_or (cut σ docs) s [])) (λ s h. absurd (omega arith)) step
   where
-    step : (docs : List Doc) (d : Doc) → ((s : ℕ) → s < length (cut σ docs) → 1 ≤ length (get_or (cut σ docs) s [])) → (s : ℕ) → s < length (cut σ (docs ++ d ∷ [])) → 1 ≤ length (get_or (cut σ (docs ++ d ∷ [])) s [])
+    step : (docs : List Doc) (d : Doc) → ((s : ℕ) → s < length (cut σ docs) → 1 ≤ length (get_or (cut σ docs) s []))
+        → (s : ℕ) → s < length (cut σ (docs ++ d ∷ [])) → 1 ≤ length (get_or (cut σ (docs ++ d ∷ [])) s [])
     step docs d ih s h =
         let segs = cut σ docs in
         let e = cut_push σ docs d in
@@ -149,8 +151,10 @@ first_after σ docs d v before r s at j h old =
     let L = placings σ docs in
     let within = doc_within σ v before (length docs) d j.room j.few in
     let split = j.stores ∙ stores_split σ v before (length docs) d in
-    let kept : Each (λ (y : Store). y.0 ≡ slot s first_region 0 → ⊥) (stores_in σ v before (length docs) d) → val σ (L ++ take (suc r) (doc_stores σ docs d)) (slot s first_region 0) ≡ first_in 0 segs s =
-    λ a. ap (λ z. val σ (L ++ take (suc r) z) (slot s first_region 0)) j.stores ∙ val_keeps σ L (take (suc r) (stores_in σ v before (length docs) d)) (slot s first_region 0) (first_within σ s h) (Each-take (suc r) within) (Each-take (suc r) a) ∙ old in
+    let kept : Each (λ (y : Store). y.0 ≡ slot s first_region 0 → ⊥) (stores_in σ v before (length docs) d)
+    → val σ (L ++ take (suc r) (doc_stores σ docs d)) (slot s first_region 0) ≡ first_in 0 segs s =
+    λ a. ap (λ z. val σ (L ++ take (suc r) z) (slot s first_region 0)) j.stores
+    ∙ val_keeps σ L (take (suc r) (stores_in σ v before (length docs) d)) (slot s first_region 0) (first_within σ s h) (Each-take (suc r) within) (Each-take (suc r) a) ∙ old in
     let same : s ≢ length segs → first_in 0 segs s ≡ first_in 0 (cut σ (docs ++ d ∷ [])) s = λ o. sym (ap (λ z. first_in 0 z s) e ∙ first_push σ segs d 0 s o) in
     elim (ℕ_discrete v (length segs)) [
       | yes q ↦ elim (ℕ_discrete s v) [
@@ -172,7 +176,8 @@ first_after σ docs d v before r s at j h old =
           let some : 1 ≤ length before = omega (arith, ap length j.old, cut_nonempty σ docs v (omega (arith, w.0, w.1, w.2))) in
           let apart : Each (λ (y : Store). y.0 ≡ slot s first_region 0 → ⊥) (stores_in σ v before (length docs) d) = elim (ℕ_discrete v s) [
             | yes k ↦ subst (λ z. Each (λ (y : Store). y.0 ≡ slot z first_region 0 → ⊥) (stores_in σ v before (length docs) d)) k
-                (subst (Each (λ (y : Store). y.0 ≡ slot v first_region 0 → ⊥)) (sym (stores_split σ v before (length docs) d ∙ ap (λ z. z ++ rest_stores σ v before (length docs) d) (joins_stores v before (length docs) some))) (rest_apart σ v before (length docs) d))
+                (subst (Each (λ (y : Store). y.0 ≡ slot v first_region 0 → ⊥)) (sym (stores_split σ v before (length docs) d
+                ∙ ap (λ z. z ++ rest_stores σ v before (length docs) d) (joins_stores v before (length docs) some))) (rest_apart σ v before (length docs) d))
             | no k ↦ Each-map (λ y z. z first_region 0) (doc_elsewhere σ v s before (length docs) d k)
           ] in
           kept apart ∙ elim (ℕ_discrete s (length segs)) [
@@ -216,8 +221,10 @@ unfolding document_stores is_packed
 word_first m s is h = word_of_writer m (slot s first_region 0) is (first_within m.setting s h) (λ e. false≢true e) ∙ go m.documents.current is.lawful is.begun
   where
     go : (c : Option (Doc × ℕ)) → IsLawful m.setting (m.documents.accepted ++ current_of c) → IsBegun m.setting m.documents.accepted c
-        → val m.setting (placings m.setting m.documents.accepted ++ current_stores m.setting m.documents.accepted c) (slot s first_region 0) ≡ first_in 0 (cut m.setting (m.documents.accepted ++ current_of c)) s
-    go None k b = ap (λ z. val m.setting z (slot s first_region 0)) (append-nil (placings m.setting m.documents.accepted) ∙ ap (placings m.setting) (sym (append-nil m.documents.accepted))) ∙ firsts_all m.setting (m.documents.accepted ++ []) is.setting k s h
+        → val m.setting (placings m.setting m.documents.accepted ++ current_stores m.setting m.documents.accepted c) (slot s first_region 0)
+        ≡ first_in 0 (cut m.setting (m.documents.accepted ++ current_of c)) s
+    go None k b = ap (λ z. val m.setting z (slot s first_region 0)) (append-nil (placings m.setting m.documents.accepted) ∙ ap (placings m.setting) (sym (append-nil m.documents.accepted)))
+        ∙ firsts_all m.setting (m.documents.accepted ++ []) is.setting k s h
     go (Some c) k b =
         let docs = m.documents.accepted in
         let law = lawful_front m.setting docs (c.0 ∷ []) k in

@@ -1,5 +1,6 @@
 -- The stores of one more token go to no pool word that holds a posting.
-use Rattle.std.proofs.Common.{◌≡◌, ℕ, zero, suc, ◌+◌, ◌-◌, ◌*◌, ◌/◌, ◌%◌, ◌^◌, ◌<◌, ◌≤◌, ◌==◌, ◌&&◌, Bool, true, false, List, [], ◌∷◌, ◌++◌, All, refl, ap, sym, ◌∙◌, arith, if◌then◌else◌, nat_le, lit<, sum_by}
+use Rattle.std.proofs.Common.{◌≡◌, ℕ, zero, suc, ◌+◌, ◌-◌, ◌*◌, ◌/◌, ◌%◌, ◌^◌, ◌<◌, ◌≤◌, ◌==◌, ◌&&◌, Bool, true, false}
+use Rattle.std.proofs.Common.{List, [], ◌∷◌, ◌++◌, All, refl, ap, sym, ◌∙◌, arith, if◌then◌else◌, nat_le, lit<, sum_by}
 use Rattle.std.proofs.lemmas.Bool.{false≢true, and_parts}
 use Rattle.std.proofs.lemmas.Bool.Decides.{nat_tests}
 use Rattle.std.proofs.lemmas.List.Elements.{All-cons, All-nil}
@@ -7,7 +8,8 @@ use Rattle.eb_base.specs.Term.{Term}
 use Rattle.eb_base.specs.Setting.{Setting}
 use Rattle.eb_place.specs.Layout.{Slot, pool_slot, pool_region, address_number, slice_bits}
 use Rattle.eb_place.specs.Layout.Slot.{published, slot}
-use Rattle.eb_place.specs.Layout.Region.{first_region, converted_region, cell_region, text_place_region, tail_region, text_region, id_region, pool_0, pool_1, pool_2, pool_3, directory_region, packed_region}
+use Rattle.eb_place.specs.Layout.Region.{first_region, converted_region, cell_region, text_place_region, tail_region}
+use Rattle.eb_place.specs.Layout.Region.{text_region, id_region, pool_0, pool_1, pool_2, pool_3, directory_region, packed_region}
 use Rattle.eb_place.specs.Postings.{count_of, distinct}
 use Rattle.eb_place.specs.Room.{text_words}
 use Rattle.eb_place.specs.Address.{pool_at, offset_at, slice_start, begins, slices_begun, front_of, address_of}
@@ -89,7 +91,8 @@ address_low t f ts h fit = omega (arith, slice_in t f ts h fit, pool_low f)
 -- the address of the next posting of a term is known before it is stored
 pub address_here : (t : Term) (xs ys : List Term) → address_of t (count_of t xs) (xs ++ t ∷ ys) ≡ address_of t (count_of t xs) xs
 unfolding address_of
-address_here t xs ys = ap (λ (z : List Term). address_number (pool_at (count_of t xs)) (slices_begun (pool_at (count_of t xs)) z) (offset_at (count_of t xs))) (front_here t (slice_start (count_of t xs)) xs ys (start_le (count_of t xs)))
+address_here t xs ys = ap (λ (z : List Term). address_number (pool_at (count_of t xs)) (slices_begun (pool_at (count_of t xs)) z) (offset_at (count_of t xs)))
+    (front_here t (slice_start (count_of t xs)) xs ys (start_le (count_of t xs)))
 
 -- the word of a posting is not one that an earlier posting has
 pub posting_fresh : (s : ℕ) (ts : List Term) (t u : Term) (f : ℕ) → SlicesFit (ts ++ u ∷ []) → f < count_of t ts → pool_slot s (address_of u (count_of u ts) ts) ≡ pool_slot s (address_of t f ts) → ⊥

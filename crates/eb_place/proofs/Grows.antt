@@ -52,16 +52,23 @@ take_prefix (suc i) (suc j) (x ∷ xs) h = let r = take_prefix i j xs (omega ari
 under : (xs ys zs : List Store) → IsPrefix ys zs → IsPrefix (xs ++ ys) (xs ++ zs)
 under xs ys zs p = (p.0, append_assoc xs ys p.0 ∙ ap (λ z. xs ++ z) p.1)
 
-stores_grow : (σ : Setting) (a b : List Doc) (x y : Option (Doc × ℕ)) → IsPrefix a b → Goes a x record { accepted = b; current = y } → IsPrefix (placings σ a ++ current_stores σ a x) (placings σ b ++ current_stores σ b y)
+stores_grow : (σ : Setting) (a b : List Doc) (x y : Option (Doc × ℕ)) → IsPrefix a b → Goes a x record { accepted = b; current = y }
+    → IsPrefix (placings σ a ++ current_stores σ a x) (placings σ b ++ current_stores σ b y)
 stores_grow σ a b None y p g =
-    let e : placings σ b ≡ placings σ a ++ placings_after σ a p.0 = ap (placings σ) (sym p.1) ∙ placings-append σ a p.0 in
-    (placings_after σ a p.0 ++ current_stores σ b y, ap (λ z. z ++ (placings_after σ a p.0 ++ current_stores σ b y)) (append-nil (placings σ a)) ∙ sym (append_assoc (placings σ a) (placings_after σ a p.0) (current_stores σ b y)) ∙ ap (λ z. z ++ current_stores σ b y) (sym e))
+    let e : placings σ b ≡ placings σ a ++ placings_after σ a p.0 = ap (placings σ) (sym p.1) ∙ placings-append σ a p.0 in (
+      placings_after σ a p.0 ++ current_stores σ b y,
+      ap (λ z. z ++ (placings_after σ a p.0 ++ current_stores σ b y)) (append-nil (placings σ a))
+          ∙ sym (append_assoc (placings σ a) (placings_after σ a p.0) (current_stores σ b y)) ∙ ap (λ z. z ++ current_stores σ b y) (sym e),
+    )
 stores_grow σ a b (Some c) y p (inr q) =
     let e : placings σ b ≡ placings σ (a ++ c.0 ∷ []) ++ placings_after σ (a ++ c.0 ∷ []) q.0 = ap (placings σ) (sym q.1) ∙ placings-append σ (a ++ c.0 ∷ []) q.0 in
     let d = placings_push σ a c.0 in
     let one : IsPrefix (placings σ a ++ take c.1 (doc_stores σ a c.0)) (placings σ (a ++ c.0 ∷ [])) = subst (IsPrefix (placings σ a ++ take c.1 (doc_stores σ a c.0))) (sym d)
     (under (placings σ a) (take c.1 (doc_stores σ a c.0)) (doc_stores σ a c.0) (drop c.1 (doc_stores σ a c.0), take-append-drop c.1 (doc_stores σ a c.0))) in
-    let two : IsPrefix (placings σ (a ++ c.0 ∷ [])) (placings σ b ++ current_stores σ b y) = (placings_after σ (a ++ c.0 ∷ []) q.0 ++ current_stores σ b y, sym (append_assoc (placings σ (a ++ c.0 ∷ [])) (placings_after σ (a ++ c.0 ∷ []) q.0) (current_stores σ b y)) ∙ ap (λ z. z ++ current_stores σ b y) (sym e)) in
+    let two : IsPrefix (placings σ (a ++ c.0 ∷ [])) (placings σ b ++ current_stores σ b y) = (
+      placings_after σ (a ++ c.0 ∷ []) q.0 ++ current_stores σ b y,
+      sym (append_assoc (placings σ (a ++ c.0 ∷ [])) (placings_after σ (a ++ c.0 ∷ []) q.0) (current_stores σ b y)) ∙ ap (λ z. z ++ current_stores σ b y) (sym e),
+    ) in
     prefix_trans _ _ _ one two
 stores_grow σ a b (Some c) None p (inl q) = absurd q.1
 stores_grow σ a b (Some c) (Some e) p (inl q) =
@@ -71,7 +78,8 @@ stores_grow σ a b (Some c) (Some e) p (inl q) =
 -- the stores of a moment are the first of those of a later one
 pub later_stores : (m n : Moment) → IsNotBefore n m → IsPrefix (document_stores m.setting m.documents) (document_stores n.setting n.documents)
 unfolding document_stores
-later_stores m n l = subst (λ σ. IsPrefix (placings m.setting m.documents.accepted ++ current_stores m.setting m.documents.accepted m.documents.current) (placings σ n.documents.accepted ++ current_stores σ n.documents.accepted n.documents.current)) l.setting
+later_stores m n l = subst (λ σ. IsPrefix (placings m.setting m.documents.accepted ++ current_stores m.setting m.documents.accepted m.documents.current)
+    (placings σ n.documents.accepted ++ current_stores σ n.documents.accepted n.documents.current)) l.setting
     (stores_grow m.setting m.documents.accepted n.documents.accepted m.documents.current n.documents.current l.documents.accepted l.documents.current)
 
 -- ---- the segments
@@ -136,12 +144,15 @@ later_reached m n s t l =
     let a = length-take (times m.setting (document_stores m.setting m.documents) (slot s tail_region (number_of t (terms_of (segment m s))))) (postings t (segment m s)) in
     let b = length-take (times n.setting (document_stores n.setting n.documents) (slot s tail_region (number_of t (terms_of (segment n s))))) (postings t (segment n s)) in
     let lengths = ap length e ∙ length-append (postings t (segment m s)) q.0 in
-    let more = ap (λ z. times m.setting z (slot s tail_region (number_of t (terms_of (segment m s))))) (sym st.1) ∙ times-append m.setting (document_stores m.setting m.documents) st.0 (slot s tail_region (number_of t (terms_of (segment m s)))) in
+    let more = ap (λ z. times m.setting z (slot s tail_region (number_of t (terms_of (segment m s))))) (sym st.1)
+    ∙ times-append m.setting (document_stores m.setting m.documents) st.0 (slot s tail_region (number_of t (terms_of (segment m s)))) in
     elim (cases_lt 0 (count_of t (terms_of (segment m s)))) [
       | inr away ↦ omega (arith, a, length-postings t (segment m s))
       | inl there ↦
-          let k : number_of t (terms_of (segment n s)) ≡ number_of t (terms_of (segment m s)) = ap (number_of t) (ap terms_of (sym p.1) ∙ terms_more (segment m s) p.0) ∙ number_stays t (terms_of (segment m s)) (terms_of p.0) there in
-          let c : times n.setting (document_stores n.setting n.documents) (slot s tail_region (number_of t (terms_of (segment n s)))) ≡ times m.setting (document_stores n.setting n.documents) (slot s tail_region (number_of t (terms_of (segment m s)))) =
+          let k : number_of t (terms_of (segment n s)) ≡ number_of t (terms_of (segment m s)) =
+          ap (number_of t) (ap terms_of (sym p.1) ∙ terms_more (segment m s) p.0) ∙ number_stays t (terms_of (segment m s)) (terms_of p.0) there in
+          let c : times n.setting (document_stores n.setting n.documents) (slot s tail_region (number_of t (terms_of (segment n s))))
+          ≡ times m.setting (document_stores n.setting n.documents) (slot s tail_region (number_of t (terms_of (segment m s)))) =
           λ i. times (sym l.setting i) (document_stores n.setting n.documents) (slot s tail_region (k i)) in
           omega (arith, a, b, c, more, lengths)
     ]

@@ -1,5 +1,6 @@
 -- The words of each segment after the placings of a history.
-use Rattle.std.proofs.Common.{◌≡◌, ◌≢◌, ℕ, zero, suc, ◌+◌, ◌-◌, ◌<◌, ◌≤◌, true, List, [], ◌∷◌, ◌++◌, length, map, get_or, filter, refl, ap, sym, ◌∙◌, subst, arith, inl, inr, bytes_eq, if◌then◌else◌, append-nil, append_assoc}
+use Rattle.std.proofs.Common.{◌≡◌, ◌≢◌, ℕ, zero, suc, ◌+◌, ◌-◌, ◌<◌, ◌≤◌, true, List, [], ◌∷◌, ◌++◌, length, map, get_or, filter}
+use Rattle.std.proofs.Common.{refl, ap, sym, ◌∙◌, subst, arith, inl, inr, bytes_eq, if◌then◌else◌, append-nil, append_assoc}
 use Rattle.std.proofs.lemmas.Bool.{cases_Bool, and_parts, leb-true}
 use Rattle.std.proofs.lemmas.List.{map-append, get_or_append_left}
 use Rattle.std.proofs.lemmas.List.Elements.{filter-append}
@@ -76,7 +77,8 @@ holds_fits σ seg h =
     let a1 = and_parts _ _ a2.0 in
     (record { few = leb-true _ _ a1.1; texts = leb-true _ _ a2.1; slices = by_pool (leb-true _ _ a3.1) (leb-true _ _ a4.1) (leb-true _ _ a5.1) (leb-true _ _ a6.1) }, leb-true _ _ a1.0)
   where
-    by_pool : all_slices 0 (terms_of seg) ≤ pool_slices σ 0 → all_slices 1 (terms_of seg) ≤ pool_slices σ 1 → all_slices 2 (terms_of seg) ≤ pool_slices σ 2 → all_slices 3 (terms_of seg) ≤ pool_slices σ 3 → (p : ℕ) → p < 4 → slices_begun p (terms_of seg) ≤ pool_slices σ p
+    by_pool : all_slices 0 (terms_of seg) ≤ pool_slices σ 0 → all_slices 1 (terms_of seg) ≤ pool_slices σ 1 → all_slices 2 (terms_of seg) ≤ pool_slices σ 2
+        → all_slices 3 (terms_of seg) ≤ pool_slices σ 3 → (p : ℕ) → p < 4 → slices_begun p (terms_of seg) ≤ pool_slices σ p
     by_pool h0 h1 h2 h3 zero l = omega (arith, begun_is 0 l (terms_of seg), h0)
     by_pool h0 h1 h2 h3 (suc zero) l = omega (arith, begun_is 1 l (terms_of seg), h1)
     by_pool h0 h1 h2 h3 (suc (suc zero)) l = omega (arith, begun_is 2 l (terms_of seg), h2)
@@ -101,7 +103,8 @@ terms_push (x ∷ seg) d = ap (λ z. x.terms ++ z) (terms_push seg d) ∙ sym (a
 segment_push : (n : ℕ) (seg : List Doc) (d : Doc) → segment_from n (seg ++ d ∷ []) ≡ segment_from n seg ++ tokens_from (n + length seg) 0 d.terms
 segment_push n [] d = append-nil (tokens_from n 0 d.terms) ∙ ap (λ k. tokens_from k 0 d.terms) (let e : n ≡ n + 0 = omega arith in e)
 segment_push n (x ∷ seg) d =
-    ap (λ z. tokens_from n 0 x.terms ++ z) (segment_push (n + 1) seg d ∙ ap (λ k. segment_from (n + 1) seg ++ tokens_from k 0 d.terms) (let e : n + 1 + length seg ≡ n + suc (length seg) = omega arith in e))
+    ap (λ z. tokens_from n 0 x.terms ++ z) (segment_push (n + 1) seg d
+    ∙ ap (λ k. segment_from (n + 1) seg ++ tokens_from k 0 d.terms) (let e : n + 1 + length seg ≡ n + suc (length seg) = omega arith in e))
     ∙ sym (append_assoc (tokens_from n 0 x.terms) (segment_from (n + 1) seg) (tokens_from (n + suc (length seg)) 0 d.terms))
 
 -- the terms of tokens
@@ -167,7 +170,8 @@ posting_numbers seg t f = get_or (postings t seg) f 0
 pub agrees_doc : (seg : List Doc) (d : Doc) → Agrees (posting_numbers (seg ++ d ∷ [])) (length seg) 0 (terms_of seg) d.terms
 unfolding postings tokens
 agrees_doc seg d =
-    subst (λ z. Agrees (numbers z) (length seg) 0 (terms_of seg) d.terms) (sym (segment_push 0 seg d ∙ ap (λ k. segment_from 0 seg ++ tokens_from k 0 d.terms) (let e : 0 + length seg ≡ length seg = omega arith in e)))
+    subst (λ z. Agrees (numbers z) (length seg) 0 (terms_of seg) d.terms)
+    (sym (segment_push 0 seg d ∙ ap (λ k. segment_from 0 seg ++ tokens_from k 0 d.terms) (let e : 0 + length seg ≡ length seg = omega arith in e)))
     (subst (λ z. Agrees (numbers (segment_from 0 seg ++ tokens_from (length seg) 0 d.terms)) (length seg) 0 z d.terms) (segment_terms 0 seg) (agrees (length seg) 0 (segment_from 0 seg) d.terms))
 
 -- the tokens of further documents come behind

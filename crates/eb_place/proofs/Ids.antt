@@ -1,5 +1,6 @@
 -- The id words of accepted documents.
-use Rattle.std.proofs.Common.{◌≡◌, ℕ, zero, suc, ◌+◌, ◌-◌, ◌/◌, ◌%◌, ◌^◌, ◌<◌, ◌==◌, ◌&&◌, Bool, true, false, List, [], ◌∷◌, ◌++◌, length, map, take, get_or, refl, ap, sym, ◌∙◌, subst, arith, inl, inr, nat_le, sum_by, append-nil, append_assoc, Option, Some, None}
+use Rattle.std.proofs.Common.{◌≡◌, ℕ, zero, suc, ◌+◌, ◌-◌, ◌/◌, ◌%◌, ◌^◌, ◌<◌, ◌==◌, ◌&&◌, Bool, true, false, List, [], ◌∷◌, ◌++◌, length, map, take}
+use Rattle.std.proofs.Common.{get_or, refl, ap, sym, ◌∙◌, subst, arith, inl, inr, nat_le, sum_by, append-nil, append_assoc, Option, Some, None}
 use Rattle.std.proofs.lemmas.Bool.{cases_lt, false≢true}
 use Rattle.std.proofs.lemmas.List.{length_push, map-append, length-map, take_all, get_or_append_left}
 use Rattle.std.proofs.Math.Seq.{get_or-append_seam}
@@ -10,7 +11,8 @@ use Rattle.eb_base.specs.Setting.{Setting, IsSetting}
 use Rattle.eb_place.specs.declared.moment.Moment.{Moment}
 use Rattle.eb_place.specs.Layout.{Slot, size, pool_slot, pool_region, place}
 use Rattle.eb_place.specs.Layout.Slot.{published, slot}
-use Rattle.eb_place.specs.Layout.Region.{first_region, converted_region, cell_region, text_place_region, tail_region, text_region, id_region, pool_0, pool_1, pool_2, pool_3, directory_region, packed_region}
+use Rattle.eb_place.specs.Layout.Region.{first_region, converted_region, cell_region, text_place_region, tail_region}
+use Rattle.eb_place.specs.Layout.Region.{text_region, id_region, pool_0, pool_1, pool_2, pool_3, directory_region, packed_region}
 use Rattle.eb_place.specs.Postings.{count_of, distinct, posting_of, terms_of}
 use Rattle.eb_place.specs.Room.{text_words, cut, IsLawful}
 use Rattle.eb_place.specs.Address.{pool_at, begins, address_of}
@@ -144,7 +146,8 @@ ids_push σ docs d v before p j h s i inside l =
             | inr high ↦
                 let at : i ≡ length before = omega (arith, l, ap length here, length_push before d) in
                 (λ k. val σ (e k) (slot (q k) id_region (at k))) ∙ id_stored σ docs d v before j
-                ∙ sym (ap (λ z. get_or z i 0) n ∙ ap (λ k. get_or (ids_of before ++ d.id ∷ []) k 0) (let r : i ≡ length (ids_of before) = omega arith in r) ∙ get_or-append_seam (ids_of before) d.id [] 0)
+                ∙ sym (ap (λ z. get_or z i 0) n ∙ ap (λ k. get_or (ids_of before ++ d.id ∷ []) k 0) (let r : i ≡ length (ids_of before) = omega arith in r)
+                ∙ get_or-append_seam (ids_of before) d.id [] 0)
           ]
     ]
 
@@ -179,7 +182,9 @@ word_id m s i is h l =
     ∙ go m.documents.current is.lawful
     ∙ ids_all σ docs is.setting (lawful_front σ docs (current_of m.documents.current) is.lawful) s i h l
   where
-    go : (c : Option (Doc × ℕ)) → IsLawful m.setting (m.documents.accepted ++ current_of c) → val m.setting (placings m.setting m.documents.accepted ++ current_stores m.setting m.documents.accepted c) (slot s id_region i) ≡ val m.setting (placings m.setting m.documents.accepted) (slot s id_region i)
+    go : (c : Option (Doc × ℕ)) → IsLawful m.setting (m.documents.accepted ++ current_of c)
+        → val m.setting (placings m.setting m.documents.accepted ++ current_stores m.setting m.documents.accepted c) (slot s id_region i)
+        ≡ val m.setting (placings m.setting m.documents.accepted) (slot s id_region i)
     go None k = ap (λ z. val m.setting z (slot s id_region i)) (append-nil (placings m.setting m.documents.accepted))
     go (Some c) k =
         let p = placed_all m.setting m.documents.accepted is.setting (lawful_front m.setting m.documents.accepted (c.0 ∷ []) k) in

@@ -32,6 +32,8 @@ pub image_changed : (m n : Moment) (at value : ℕ) → n.setting ≡ m.setting 
 image_changed m n at value s h c =
     let l = length-image m in
     image_from (set (image m) at value) n (length-set (image m) at value ∙ l ∙ sym (ap words_of s)) (λ p b. elim (ℕ_discrete at p) [
-      | yes e ↦ ap (λ (j : ℕ). get_or (set (image m) at value) j 0) (sym e) ∙ (get_or-set_same (image m) at value 0 (omega arith) ∙ sym (c p ∙ ap (λ (t : Bool). cond t value (word m p)) (eq-eqb at p e)))
-      | no o ↦ get_or-set_other (image m) at p value 0 (λ e. o (sym e)) ∙ (get_or-image m p (subst (λ (z : Setting). p < words_of z) s b) ∙ sym (c p ∙ ap (λ (t : Bool). cond t value (word m p)) (ne_eqb at p o)))
+      | yes e ↦ ap (λ (j : ℕ). get_or (set (image m) at value) j 0) (sym e)
+          ∙ (get_or-set_same (image m) at value 0 (omega arith) ∙ sym (c p ∙ ap (λ (t : Bool). cond t value (word m p)) (eq-eqb at p e)))
+      | no o ↦ get_or-set_other (image m) at p value 0 (λ e. o (sym e))
+          ∙ (get_or-image m p (subst (λ (z : Setting). p < words_of z) s b) ∙ sym (c p ∙ ap (λ (t : Bool). cond t value (word m p)) (ne_eqb at p o)))
     ])

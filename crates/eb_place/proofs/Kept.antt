@@ -44,7 +44,8 @@ posting_kept σ s n p ts (u ∷ us) t f w hs small some fit h =
     let x = pool_slot s (address_of t f ts) in
     let first = token_stores σ s ts u (posting_of n p) in
     let rest = tokens_stores σ s n (p + 1) (ts ++ u ∷ []) us in
-    let a = untouched σ x w first (address_within σ s ts t f hs small fit0 h) (All-from_Each (token_within σ s ts u (posting_of n p) hs small some fit1)) (All-from_Each (token_fresh σ s ts t u f (posting_of n p) (slices_fit σ (ts ++ u ∷ []) small fit1) h)) in
+    let a = untouched σ x w first (address_within σ s ts t f hs small fit0 h) (All-from_Each (token_within σ s ts u (posting_of n p) hs small some fit1))
+    (All-from_Each (token_fresh σ s ts t u f (posting_of n p) (slices_fit σ (ts ++ u ∷ []) small fit1) h)) in
     let m = count_of_push t u ts in
     let b = posting_kept σ s n (p + 1) (ts ++ u ∷ []) us t f w hs small some fit' (omega arith) in
     let c = address_stays t f ts (u ∷ []) h in

@@ -61,4 +61,5 @@ reaches_stored : (docs : List Doc) (c : Option (Doc × ℕ)) (d : Doc) (b : Bool
 reaches_stored docs None d true is = record { accepted = prefix_self docs; current = tt }
 reaches_stored docs None d false is = record { accepted = prefix_push docs d; current = tt }
 reaches_stored docs (Some c) d true is = record { accepted = prefix_self docs; current = inl (refl, (is, omega arith)) }
-reaches_stored docs (Some c) d false is = record { accepted = prefix_push docs d; current = inr (subst (λ (e : Doc). IsPrefix (docs ++ c.0 ∷ []) (docs ++ e ∷ [])) is (prefix_self (docs ++ c.0 ∷ []))) }
+reaches_stored docs (Some c) d false is =
+    record { accepted = prefix_push docs d; current = inr (subst (λ (e : Doc). IsPrefix (docs ++ c.0 ∷ []) (docs ++ e ∷ [])) is (prefix_self (docs ++ c.0 ∷ []))) }

@@ -47,14 +47,17 @@ pub documents_meet : (a b c : Documents) → Reaches a c → Reaches b c → Bet
 unfolding later_documents
 documents_meet a b c r s = by_count (dec_lt (length a.accepted) (length b.accepted)) (dec_lt (length b.accepted) (length a.accepted)) (dec_lt (rank a.current) (rank b.current))
   where
-    here : (x y z : Bool) → ltb (length a.accepted) (length b.accepted) ≡ x → ltb (length b.accepted) (length a.accepted) ≡ y → ltb (rank a.current) (rank b.current) ≡ z → Between a b c (cond (cond x true (cond y false z)) b a) → Between a b c (cond (is_behind a b) b a)
+    here : (x y z : Bool) → ltb (length a.accepted) (length b.accepted) ≡ x → ltb (length b.accepted) (length a.accepted) ≡ y
+        → ltb (rank a.current) (rank b.current) ≡ z → Between a b c (cond (cond x true (cond y false z)) b a) → Between a b c (cond (is_behind a b) b a)
     here x y z e f g h = rw (e, f, g) h
 
     by_count : Dec (length a.accepted < length b.accepted) → Dec (length b.accepted < length a.accepted) → Dec (rank a.current < rank b.current) → Between a b c (cond (is_behind a b) b a)
     by_count (yes h) _ _ = here true _ _ (lt-ltb _ _ h) refl refl record { first = behind_fewer a b c r s h; second = reaches_self b; third = s }
     by_count (no h) (yes k) _ = here false true _ (le-ltb _ _ (omega arith)) (lt-ltb _ _ k) refl record { first = reaches_self a; second = behind_fewer b a c s r k; third = r }
-    by_count (no h) (no k) (yes l) = here false false true (le-ltb _ _ (omega arith)) (le-ltb _ _ (omega arith)) (lt-ltb _ _ l) record { first = behind_same a b c r s (omega arith) (omega arith); second = reaches_self b; third = s }
-    by_count (no h) (no k) (no l) = here false false false (le-ltb _ _ (omega arith)) (le-ltb _ _ (omega arith)) (le-ltb _ _ (omega arith)) record { first = reaches_self a; second = behind_same b a c s r (omega arith) (omega arith); third = r }
+    by_count (no h) (no k) (yes l) = here false false true (le-ltb _ _ (omega arith)) (le-ltb _ _ (omega arith))
+        (lt-ltb _ _ l) record { first = behind_same a b c r s (omega arith) (omega arith); second = reaches_self b; third = s }
+    by_count (no h) (no k) (no l) = here false false false (le-ltb _ _ (omega arith)) (le-ltb _ _ (omega arith))
+        (le-ltb _ _ (omega arith)) record { first = reaches_self a; second = behind_same b a c s r (omega arith) (omega arith); third = r }
 
 -- the later of two is the first where the second is before it
 pub later_is_first : (a b : Documents) → Reaches b a → later_documents a b ≡ a
@@ -72,4 +75,7 @@ later_is_first a b r = by_count (dec_lt (length b.accepted) (length a.accepted))
 
     by_count : Dec (length b.accepted < length a.accepted) → cond (is_behind a b) b a ≡ a
     by_count (yes h) = rw (le-ltb _ _ le, lt-ltb _ _ h) refl
-    by_count (no h) = let l = le in let k = rank_le b.current a.current refl r.current (omega arith) in rw (le-ltb _ _ le, le-ltb (length b.accepted) (length a.accepted) (omega arith), le-ltb _ _ k) refl
+    by_count (no h) =
+        let l = le in
+        let k = rank_le b.current a.current refl r.current (omega arith) in
+        rw (le-ltb _ _ le, le-ltb (length b.accepted) (length a.accepted) (omega arith), le-ltb _ _ k) refl

@@ -31,14 +31,17 @@ pub record BetweenPacked (a b c d : Conversions) : Type 0 where
 pub conversions_meet : (a b c : Conversions) → ReachesPacked a c → ReachesPacked b c → BetweenPacked a b c (later_conversions a b)
 conversions_meet a b c r s = by_count (dec_lt a.converted b.converted) (dec_lt b.converted a.converted) (dec_lt a.packed b.packed)
   where
-    here : (x y z : Bool) → ltb a.converted b.converted ≡ x → ltb b.converted a.converted ≡ y → ltb a.packed b.packed ≡ z → BetweenPacked a b c (cond x b (cond y a (cond z b a))) → BetweenPacked a b c (later_conversions a b)
+    here : (x y z : Bool) → ltb a.converted b.converted ≡ x → ltb b.converted a.converted ≡ y → ltb a.packed b.packed ≡ z
+        → BetweenPacked a b c (cond x b (cond y a (cond z b a))) → BetweenPacked a b c (later_conversions a b)
     here x y z e f g h = rw (e, f, g) h
 
     by_count : Dec (a.converted < b.converted) → Dec (b.converted < a.converted) → Dec (a.packed < b.packed) → BetweenPacked a b c (later_conversions a b)
     by_count (yes h) _ _ = here true _ _ (lt-ltb _ _ h) refl refl record { first = inl h; second = packed_self b; third = s }
     by_count (no h) (yes k) _ = here false true _ (le-ltb _ _ (omega arith)) (lt-ltb _ _ k) refl record { first = packed_self a; second = inl k; third = r }
-    by_count (no h) (no k) (yes l) = here false false true (le-ltb _ _ (omega arith)) (le-ltb _ _ (omega arith)) (lt-ltb _ _ l) record { first = inr (omega arith, omega arith); second = packed_self b; third = s }
-    by_count (no h) (no k) (no l) = here false false false (le-ltb _ _ (omega arith)) (le-ltb _ _ (omega arith)) (le-ltb _ _ (omega arith)) record { first = packed_self a; second = inr (omega arith, omega arith); third = r }
+    by_count (no h) (no k) (yes l) =
+        here false false true (le-ltb _ _ (omega arith)) (le-ltb _ _ (omega arith)) (lt-ltb _ _ l) record { first = inr (omega arith, omega arith); second = packed_self b; third = s }
+    by_count (no h) (no k) (no l) =
+        here false false false (le-ltb _ _ (omega arith)) (le-ltb _ _ (omega arith)) (le-ltb _ _ (omega arith)) record { first = packed_self a; second = inr (omega arith, omega arith); third = r }
 
 -- ---- it is a moment that an index can be in
 
@@ -55,7 +58,8 @@ pub record ConversionsHold (σ : Setting) (docs : List Doc) (c : Conversions) : 
 grown : (σ : Setting) (docs more : List Doc) (c : Conversions) → ConversionsHold σ docs c → ConversionsHold σ (docs ++ more) c
 grown σ docs more c h = record {
   closed = λ s l. (let k = closed_stays σ docs more s (h.closed s l) in let p = h.closed s l in omega (arith, k.0, p));
-  packs = λ l. (let p = h.packs l in let k = closed_stays σ docs more c.converted p.0 in let e = ap length (segment_stays σ docs more c.converted p.0) in (omega (arith, k.0, p.0), omega (arith, e, p.1)));
+  packs =
+      λ l. (let p = h.packs l in let k = closed_stays σ docs more c.converted p.0 in let e = ap length (segment_stays σ docs more c.converted p.0) in (omega (arith, k.0, p.0), omega (arith, e, p.1)));
 }
 
 reached : (σ : Setting) (x y : Documents) (c : Conversions) → Reaches x y → ConversionsHold σ (with_current x) c → ConversionsHold σ (with_current y) c
@@ -99,11 +103,13 @@ moments_meet m n l mm nn r s =
     let c = conversions_meet m.conversions n.conversions l.conversions r.conversions s.conversions in
     let D = later_documents m.documents n.documents in
     let nd : DocumentsHold m.setting n.documents = subst (λ (σ : Setting). DocumentsHold σ n.documents) (sym same) (documents_of n nn) in
-    let nc : ConversionsHold m.setting (with_current n.documents) n.conversions = subst (λ (σ : Setting). ConversionsHold σ (with_current n.documents) n.conversions) (sym same) (conversions_of n nn) in
+    let nc : ConversionsHold m.setting (with_current n.documents) n.conversions =
+    subst (λ (σ : Setting). ConversionsHold σ (with_current n.documents) n.conversions) (sym same) (conversions_of n nn) in
     record {
       moment = moment_of m.setting D (later_conversions m.conversions n.conversions) mm.setting
           (either_documents (DocumentsHold m.setting) m.documents n.documents (documents_of m mm) nd)
-          (either_conversions (ConversionsHold m.setting (with_current D)) m.conversions n.conversions (reached m.setting m.documents D m.conversions d.first (conversions_of m mm)) (reached m.setting n.documents D n.conversions d.second nc));
+          (either_conversions (ConversionsHold m.setting (with_current D)) m.conversions n.conversions
+          (reached m.setting m.documents D m.conversions d.first (conversions_of m mm)) (reached m.setting n.documents D n.conversions d.second nc));
       first = record { setting = refl; documents = d.first; conversions = c.first };
       second = record { setting = sym same; documents = d.second; conversions = c.second };
       least = λ k p q. (

@@ -1,5 +1,6 @@
 -- Each word but the count and the tails is stored at most once: how stores mark the words of a segment.
-use Rattle.std.proofs.Common.{◌≡◌, ℕ, zero, suc, ◌+◌, ◌-◌, ◌*◌, ◌/◌, ◌%◌, ◌^◌, ◌<◌, ◌≤◌, ◌==◌, ◌&&◌, ◌||◌, ◌⊎◌, Bool, true, false, List, [], ◌∷◌, ◌++◌, length, refl, ap, sym, ◌∙◌, subst, arith, inl, inr, if◌then◌else◌, nat_le, sum_by, append-nil, append_assoc}
+use Rattle.std.proofs.Common.{◌≡◌, ℕ, zero, suc, ◌+◌, ◌-◌, ◌*◌, ◌/◌, ◌%◌, ◌^◌, ◌<◌, ◌≤◌, ◌==◌, ◌&&◌, ◌||◌, ◌⊎◌, Bool, true, false, List, [], ◌∷◌}
+use Rattle.std.proofs.Common.{◌++◌, length, refl, ap, sym, ◌∙◌, subst, arith, inl, inr, if◌then◌else◌, nat_le, sum_by, append-nil, append_assoc}
 use Rattle.std.proofs.lemmas.Bool.{cases_Bool, and_parts, false≢true, eq-eqb, eqb-true}
 use Rattle.std.proofs.lemmas.Bool.Decides.{nat_tests}
 use Rattle.std.proofs.lemmas.List.{length_push}
@@ -9,7 +10,8 @@ use Rattle.eb_base.specs.Term.{Term}
 use Rattle.eb_base.specs.Setting.{Setting}
 use Rattle.eb_place.specs.Layout.{Slot, Region, pool_slot, pool_region}
 use Rattle.eb_place.specs.Layout.Slot.{published, slot}
-use Rattle.eb_place.specs.Layout.Region.{first_region, converted_region, cell_region, text_place_region, tail_region, text_region, id_region, pool_0, pool_1, pool_2, pool_3, directory_region, packed_region}
+use Rattle.eb_place.specs.Layout.Region.{first_region, converted_region, cell_region, text_place_region, tail_region}
+use Rattle.eb_place.specs.Layout.Region.{text_region, id_region, pool_0, pool_1, pool_2, pool_3, directory_region, packed_region}
 use Rattle.eb_place.specs.Postings.{count_of, distinct, number_of, posting_of}
 use Rattle.eb_place.specs.Room.{text_words}
 use Rattle.eb_place.specs.Address.{pool_at, begins, address_of}
@@ -62,7 +64,8 @@ same_slot : (s : ℕ) (r q : Region) (i j : ℕ) (M : Region → ℕ → Type 0)
 same_slot s r q i j M e h = let a : r ≡ q = cc in let b : i ≡ j = cc in subst (λ (z : Region × ℕ). M z.0 z.1) (λ k. (a k, b k)) h
 
 -- one more store, to a word that isn't among them
-pub grow : (s : ℕ) (M N : Region → ℕ → Type 0) (r : Region) (i v : ℕ) (L : List Store) → ((q : Region) (j : ℕ) → M q j → N q j) → N r i → (IsSingle (slot s r i) → M r i → ⊥) → Grown s M L → Grown s N (L ++ (slot s r i, v) ∷ [])
+pub grow : (s : ℕ) (M N : Region → ℕ → Type 0) (r : Region) (i v : ℕ) (L : List Store) → ((q : Region) (j : ℕ) → M q j → N q j)
+    → N r i → (IsSingle (slot s r i) → M r i → ⊥) → Grown s M L → Grown s N (L ++ (slot s r i, v) ∷ [])
 grow s M N r i v L up here new h = record {
   single = single_push L (slot s r i, v) h.single (λ single. Each-map (λ y named same. new single (named r i same)) h.named);
   named = Each-append (Each-map (λ y named q j e. up q j (named q j e)) h.named) (more (λ q j e. same_slot s r q i j N e here) none);
@@ -152,22 +155,31 @@ more_self : (k : Marks) → IsMore k k
 more_self k = record { firsts = omega arith; converts = omega arith; cells = λ c h. h; places = omega arith; texts = omega arith; ids = omega arith; directory = omega arith; packs = omega arith }
 
 -- the next text words
-pub grow_row : (s : ℕ) (k : Marks) (P : ℕ → Type 0) (vs : List ℕ) (L : List Store) → Grown s (marked k P) L → Grown s (marked (record k { texts = k.texts + length vs }) P) (L ++ in_row s text_region k.texts vs)
-grow_row s k P [] L h = subst (Grown s (marked (record k { texts = k.texts + 0 }) P)) (sym (append-nil L)) (widen s (marked k P) (marked (record k { texts = k.texts + 0 }) P) L (marked_more k (record k { texts = k.texts + 0 }) P P (record { firsts = omega arith; converts = omega arith; cells = λ c m. m; places = omega arith; texts = omega arith; ids = omega arith; directory = omega arith; packs = omega arith }) (λ a p. p)) h)
+pub grow_row : (s : ℕ) (k : Marks) (P : ℕ → Type 0) (vs : List ℕ) (L : List Store) → Grown s (marked k P) L
+    → Grown s (marked (record k { texts = k.texts + length vs }) P) (L ++ in_row s text_region k.texts vs)
+grow_row s k P [] L h = subst (Grown s (marked (record k { texts = k.texts + 0 }) P)) (sym (append-nil L))
+    (widen s (marked k P) (marked (record k { texts = k.texts + 0 }) P) L (marked_more k (record k { texts = k.texts + 0 }) P P
+    (record { firsts = omega arith; converts = omega arith; cells = λ c m. m; places = omega arith; texts = omega arith; ids = omega arith; directory = omega arith; packs = omega arith }) (λ a p. p))
+    h)
 grow_row s k P (v ∷ vs) L h =
     let l : Marks = record k { texts = k.texts + 1 } in
     let x : Store = (slot s text_region k.texts, v) in
     let one = grow s (marked k P) (marked l P) text_region k.texts v L
-    (marked_more k l P P (record { firsts = omega arith; converts = omega arith; cells = λ c m. m; places = omega arith; texts = omega arith; ids = omega arith; directory = omega arith; packs = omega arith }) (λ a p. p))
+    (marked_more k l P P
+    (record { firsts = omega arith; converts = omega arith; cells = λ c m. m; places = omega arith; texts = omega arith; ids = omega arith; directory = omega arith; packs = omega arith })
+    (λ a p. p))
     (omega arith) (λ single m. omega arith) h in
     let rest = grow_row s l P vs (L ++ x ∷ []) one in
     subst (λ (t : ℕ). Grown s (marked (record k { texts = t }) P) (L ++ in_row s text_region k.texts (v ∷ vs))) (let e : k.texts + 1 + length vs ≡ k.texts + suc (length vs) = omega arith in e)
     (subst (Grown s (marked (record k { texts = k.texts + 1 + length vs }) P)) (append_assoc L (x ∷ []) (in_row s text_region (k.texts + 1) vs)) rest)
 
 -- the next text place
-grow_place : (s : ℕ) (k : Marks) (P : ℕ → Type 0) (v : ℕ) (L : List Store) → Grown s (marked k P) L → Grown s (marked (record k { places = k.places + 1 }) P) (L ++ (slot s text_place_region k.places, v) ∷ [])
+grow_place : (s : ℕ) (k : Marks) (P : ℕ → Type 0) (v : ℕ) (L : List Store) → Grown s (marked k P) L
+    → Grown s (marked (record k { places = k.places + 1 }) P) (L ++ (slot s text_place_region k.places, v) ∷ [])
 grow_place s k P v L h = grow s (marked k P) (marked (record k { places = k.places + 1 }) P) text_place_region k.places v L
-    (marked_more k (record k { places = k.places + 1 }) P P (record { firsts = omega arith; converts = omega arith; cells = λ c m. m; places = omega arith; texts = omega arith; ids = omega arith; directory = omega arith; packs = omega arith }) (λ a p. p))
+    (marked_more k (record k { places = k.places + 1 }) P P
+    (record { firsts = omega arith; converts = omega arith; cells = λ c m. m; places = omega arith; texts = omega arith; ids = omega arith; directory = omega arith; packs = omega arith })
+    (λ a p. p))
     (omega arith) (λ single m. omega arith) h
 
 or_left : (a b : Bool) → a ≡ true → (a || b) ≡ true
@@ -191,7 +203,8 @@ taken_push (y ∷ xs) x c = ap (λ b. (c == y) || b) (taken_push xs x c) ∙ or_
     or_assoc false b d = refl
 
 -- a free cell
-grow_cell : (s : ℕ) (k : Marks) (P : ℕ → Type 0) (c v : ℕ) (L : List Store) → is_taken k.cells c ≡ false → Grown s (marked k P) L → Grown s (marked (record k { cells = k.cells ++ c ∷ [] }) P) (L ++ (slot s cell_region c, v) ∷ [])
+grow_cell : (s : ℕ) (k : Marks) (P : ℕ → Type 0) (c v : ℕ) (L : List Store) → is_taken k.cells c ≡ false
+    → Grown s (marked k P) L → Grown s (marked (record k { cells = k.cells ++ c ∷ [] }) P) (L ++ (slot s cell_region c, v) ∷ [])
 grow_cell s k P c v L free h = grow s (marked k P) (marked (record k { cells = k.cells ++ c ∷ [] }) P) cell_region c v L
     (marked_more k (record k { cells = k.cells ++ c ∷ [] }) P P (record {
       firsts = omega arith;
@@ -208,13 +221,18 @@ grow_cell s k P c v L free h = grow s (marked k P) (marked (record k { cells = k
 -- the next id
 pub grow_id : (s : ℕ) (k : Marks) (P : ℕ → Type 0) (v : ℕ) (L : List Store) → Grown s (marked k P) L → Grown s (marked (record k { ids = k.ids + 1 }) P) (L ++ (slot s id_region k.ids, v) ∷ [])
 grow_id s k P v L h = grow s (marked k P) (marked (record k { ids = k.ids + 1 }) P) id_region k.ids v L
-    (marked_more k (record k { ids = k.ids + 1 }) P P (record { firsts = omega arith; converts = omega arith; cells = λ c m. m; places = omega arith; texts = omega arith; ids = omega arith; directory = omega arith; packs = omega arith }) (λ a p. p))
+    (marked_more k (record k { ids = k.ids + 1 }) P P
+    (record { firsts = omega arith; converts = omega arith; cells = λ c m. m; places = omega arith; texts = omega arith; ids = omega arith; directory = omega arith; packs = omega arith })
+    (λ a p. p))
     (omega arith) (λ single m. omega arith) h
 
 -- the first-document word
-pub grow_first : (s : ℕ) (k : Marks) (P : ℕ → Type 0) (v : ℕ) (L : List Store) → k.firsts ≡ 0 → Grown s (marked k P) L → Grown s (marked (record k { firsts = 1 }) P) (L ++ (slot s first_region 0, v) ∷ [])
+pub grow_first : (s : ℕ) (k : Marks) (P : ℕ → Type 0) (v : ℕ) (L : List Store) → k.firsts ≡ 0
+    → Grown s (marked k P) L → Grown s (marked (record k { firsts = 1 }) P) (L ++ (slot s first_region 0, v) ∷ [])
 grow_first s k P v L z h = grow s (marked k P) (marked (record k { firsts = 1 }) P) first_region 0 v L
-    (marked_more k (record k { firsts = 1 }) P P (record { firsts = omega arith; converts = omega arith; cells = λ c m. m; places = omega arith; texts = omega arith; ids = omega arith; directory = omega arith; packs = omega arith }) (λ a p. p))
+    (marked_more k (record k { firsts = 1 }) P P
+    (record { firsts = omega arith; converts = omega arith; cells = λ c m. m; places = omega arith; texts = omega arith; ids = omega arith; directory = omega arith; packs = omega arith })
+    (λ a p. p))
     (omega arith) (λ single m. omega arith) h
 
 -- a tail changes nothing
@@ -222,7 +240,8 @@ grow_tail : (s : ℕ) (k : Marks) (P : ℕ → Type 0) (i v : ℕ) (L : List Sto
 grow_tail s k P i v L h = grow s (marked k P) (marked k P) tail_region i v L (λ q j m. m) tt (λ single m. single.tails s i refl) h
 
 -- a pool word that holds nothing yet
-grow_pool : (s : ℕ) (k : Marks) (P Q : ℕ → Type 0) (a v : ℕ) (L : List Store) → a < 2 ^ 32 → ((b : ℕ) → P b → Q b) → Q a → (P a → ⊥) → Grown s (marked k P) L → Grown s (marked k Q) (L ++ (pool_slot s a, v) ∷ [])
+grow_pool : (s : ℕ) (k : Marks) (P Q : ℕ → Type 0) (a v : ℕ) (L : List Store) → a < 2 ^ 32 → ((b : ℕ) → P b → Q b)
+    → Q a → (P a → ⊥) → Grown s (marked k P) L → Grown s (marked k Q) (L ++ (pool_slot s a, v) ∷ [])
 unfolding pool_slot
 grow_pool s k P Q a v L low up here new h = grow s (marked k P) (marked k Q) (pool_region (a / 2 ^ 30)) (a % 2 ^ 30) v L
     (marked_more k k P Q (more_self k) up) (pool_in k Q a low here) (λ single m. new (pool_out k P a low m)) h
@@ -236,7 +255,8 @@ pub data IsStored (ts : List Term) (a : ℕ) : Type 0 where
 
 -- what these tokens and documents mark
 abbrev pub marks_of : Setting → List Term → ℕ → ℕ → Marks
-marks_of σ ts f n = record { firsts = f; converts = 0; cells = cells_of (2 * σ.terms) (distinct ts); places = length (distinct ts); texts = sum_by text_words (distinct ts); ids = n; directory = 0; packs = 0 }
+marks_of σ ts f n =
+    record { firsts = f; converts = 0; cells = cells_of (2 * σ.terms) (distinct ts); places = length (distinct ts); texts = sum_by text_words (distinct ts); ids = n; directory = 0; packs = 0 }
 
 -- the words of a segment where these are stored
 abbrev pub words_of_tokens : Setting → List Term → ℕ → ℕ → Region → ℕ → Type 0
@@ -244,7 +264,8 @@ words_of_tokens σ ts f n = marked (marks_of σ ts f n) (IsStored ts)
 
 length-cells : (cells : ℕ) (terms : List Term) → length (cells_of cells terms) ≡ length terms
 unfolding cells_of
-length-cells cells = by_push (λ ts. length (cells_of cells ts) ≡ length ts) refl (λ ts t h. ap length (fold_push (with_cell cells) [] ts t) ∙ length_push (cells_of cells ts) _ ∙ omega (arith, h, length_push ts t))
+length-cells cells =
+    by_push (λ ts. length (cells_of cells ts) ≡ length ts) refl (λ ts t h. ap length (fold_push (with_cell cells) [] ts t) ∙ length_push (cells_of cells ts) _ ∙ omega (arith, h, length_push ts t))
 
 cells_push : (cells : ℕ) (terms : List Term) (t : Term) → cells_of cells (terms ++ t ∷ []) ≡ cells_of cells terms ++ cell_of_next cells terms t ∷ []
 unfolding cells_of cell_of_next
@@ -288,7 +309,8 @@ enters_grown σ s ts u f n P L few h = elim (cases_Bool (count_of u ts == 0)) [
       rw new (subst (λ (z : Marks × List Store). Grown s (marked z.0 P) z.1) (λ i. (same i, (let q : ((L ++ row) ++ x ∷ []) ++ y ∷ [] ≡ L ++ (row ++ x ∷ y ∷ []) = simp append_assoc in q) i)) d)
   | inr old ↦
       let e : distinct (ts ++ u ∷ []) ≡ distinct ts = same_terms (λ z. false≢true (sym old ∙ eq-eqb _ _ z)) in
-      let same : marks_of σ ts f n ≡ marks_of σ (ts ++ u ∷ []) f n = λ i. record { firsts = f; converts = 0; cells = cells_of (2 * σ.terms) (sym e i); places = length (sym e i); texts = sum_by text_words (sym e i); ids = n; directory = 0; packs = 0 } in
+      let same : marks_of σ ts f n ≡ marks_of σ (ts ++ u ∷ []) f n =
+      λ i. record { firsts = f; converts = 0; cells = cells_of (2 * σ.terms) (sym e i); places = length (sym e i); texts = sum_by text_words (sym e i); ids = n; directory = 0; packs = 0 } in
       rw old (subst (λ (z : Marks × List Store). Grown s (marked z.0 P) z.1) (λ i. (same i, sym (append-nil L) i)) h)
 ]
   where
@@ -324,7 +346,8 @@ at_least_one : (k : ℕ) → nat_le 1 k ≡ true → 1 ≤ k
 at_least_one k z = grind (arith, nat_tests)
 
 -- appending its posting
-append_grown : (σ : Setting) (s : ℕ) (ts : List Term) (u : Term) (p : ℕ) (k : Marks) (L : List Store) → Room σ s (ts ++ u ∷ []) → Grown s (marked k (IsStored ts)) L → Grown s (marked k (IsStored (ts ++ u ∷ []))) (L ++ append_stores s ts u (count_of u ts) p)
+append_grown : (σ : Setting) (s : ℕ) (ts : List Term) (u : Term) (p : ℕ) (k : Marks) (L : List Store) → Room σ s (ts ++ u ∷ [])
+    → Grown s (marked k (IsStored ts)) L → Grown s (marked k (IsStored (ts ++ u ∷ []))) (L ++ append_stores s ts u (count_of u ts) p)
 unfolding append_stores
 append_grown σ s ts u p k L room h =
     let c = count_of u ts in
@@ -350,7 +373,8 @@ append_grown σ s ts u p k L room h =
           let high = linked_high u c ts o in
           let links : Each (Apart s ts) (x ∷ []) = subst (λ (w : Bool). Each (Apart s ts) (if w then (x ∷ []) else [])) new (Each-front K (y ∷ []) back) in
           let Q : ℕ → Type 0 = λ j. IsStored ts j ⊎ (j ≡ a - 1) in
-          let one = grow_pool s k (IsStored ts) Q (a - 1) (address_of u (c - 1) ts) L (omega arith) (λ j m. inl m) (inr refl) (not_stored s ts (a - 1) (address_of u (c - 1) ts) (each_head x [] links)) h in
+          let one =
+          grow_pool s k (IsStored ts) Q (a - 1) (address_of u (c - 1) ts) L (omega arith) (λ j m. inl m) (inr refl) (not_stored s ts (a - 1) (address_of u (c - 1) ts) (each_head x [] links)) h in
           let two = grow_pool s k Q (IsStored (ts ++ u ∷ [])) a p (L ++ x ∷ []) low (wider b.0 o here) mine (distinct_from fresh high) one in
           let three = grow_tail s k (IsStored (ts ++ u ∷ [])) (number_of u ts) (a + 1) ((L ++ x ∷ []) ++ y ∷ []) two in
           rw new (subst (Grown s (marked k (IsStored (ts ++ u ∷ [])))) (let q : ((L ++ x ∷ []) ++ y ∷ []) ++ z ∷ [] ≡ L ++ ((x ∷ []) ++ y ∷ z ∷ []) = simp append_assoc in q) three)
@@ -360,16 +384,19 @@ append_grown σ s ts u p k L room h =
           rw old (subst (Grown s (marked k (IsStored (ts ++ u ∷ [])))) (let q : (L ++ y ∷ []) ++ z ∷ [] ≡ L ++ ([] ++ y ∷ z ∷ []) = simp append_assoc in q) three)
     ]
   where
-    wider : begins (count_of u ts) ≡ true → 1 ≤ pool_at (count_of u ts) → address_of u (count_of u ts) (ts ++ u ∷ []) ≡ address_of u (count_of u ts) ts → (j : ℕ) → (IsStored ts j ⊎ (j ≡ address_of u (count_of u ts) ts - 1)) → IsStored (ts ++ u ∷ []) j
+    wider : begins (count_of u ts) ≡ true → 1 ≤ pool_at (count_of u ts) → address_of u (count_of u ts) (ts ++ u ∷ []) ≡ address_of u (count_of u ts) ts
+        → (j : ℕ) → (IsStored ts j ⊎ (j ≡ address_of u (count_of u ts) ts - 1)) → IsStored (ts ++ u ∷ []) j
     wider b o here j (inl m) = stored_more ts (u ∷ []) j m
     wider b o here j (inr e) = link u (count_of u ts) (let n = count_of_push u u ts in let n1 = ap one_if (same_term u) in omega arith) b o (e ∙ ap (λ q. q - 1) (sym here))
 
-    distinct_from : (IsStored ts (address_of u (count_of u ts) ts) → ⊥) → 1 ≤ address_of u (count_of u ts) ts → (IsStored ts (address_of u (count_of u ts) ts) ⊎ (address_of u (count_of u ts) ts ≡ address_of u (count_of u ts) ts - 1)) → ⊥
+    distinct_from : (IsStored ts (address_of u (count_of u ts) ts) → ⊥) → 1 ≤ address_of u (count_of u ts) ts
+        → (IsStored ts (address_of u (count_of u ts) ts) ⊎ (address_of u (count_of u ts) ts ≡ address_of u (count_of u ts) ts - 1)) → ⊥
     distinct_from fresh high (inl m) = fresh m
     distinct_from fresh high (inr e) = omega arith
 
 -- all stores of a token
-token_grown : (σ : Setting) (s : ℕ) (ts : List Term) (u : Term) (p f n : ℕ) (L : List Store) → Room σ s (ts ++ u ∷ []) → Grown s (words_of_tokens σ ts f n) L → Grown s (words_of_tokens σ (ts ++ u ∷ []) f n) (L ++ token_stores σ s ts u p)
+token_grown : (σ : Setting) (s : ℕ) (ts : List Term) (u : Term) (p f n : ℕ) (L : List Store) → Room σ s (ts ++ u ∷ [])
+    → Grown s (words_of_tokens σ ts f n) L → Grown s (words_of_tokens σ (ts ++ u ∷ []) f n) (L ++ token_stores σ s ts u p)
 unfolding token_stores
 token_grown σ s ts u p f n L room h =
     let E : List Store = if count_of u ts == 0 then enter_stores σ s (distinct ts) u else [] in
@@ -382,7 +409,8 @@ token_grown σ s ts u p f n L room h =
     subst (Grown s (words_of_tokens σ (ts ++ u ∷ []) f n)) (append_assoc L E (append_stores s ts u (count_of u ts) p)) two
 
 -- all stores of further tokens
-pub tokens_grown : (σ : Setting) (s m p f n : ℕ) (ts us : List Term) (L : List Store) → Room σ s (ts ++ us) → Grown s (words_of_tokens σ ts f n) L → Grown s (words_of_tokens σ (ts ++ us) f n) (L ++ tokens_stores σ s m p ts us)
+pub tokens_grown : (σ : Setting) (s m p f n : ℕ) (ts us : List Term) (L : List Store) → Room σ s (ts ++ us)
+    → Grown s (words_of_tokens σ ts f n) L → Grown s (words_of_tokens σ (ts ++ us) f n) (L ++ tokens_stores σ s m p ts us)
 unfolding tokens_stores
 tokens_grown σ s m p f n ts [] L room h = subst (λ (z : List Term × List Store). Grown s (words_of_tokens σ z.0 f n) z.1) (λ i. (sym (append-nil ts) i, sym (append-nil L) i)) h
 tokens_grown σ s m p f n ts (u ∷ us) L room h =

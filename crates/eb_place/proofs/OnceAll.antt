@@ -1,5 +1,6 @@
 -- Each word but the count and the tails is stored at most once: all placings and conversions.
-use Rattle.std.proofs.Common.{◌≡◌, ◌≢◌, ℕ, zero, suc, ◌+◌, ◌-◌, ◌*◌, ◌^◌, ◌<◌, ◌≤◌, ◌==◌, ◌⊎◌, false, List, [], ◌∷◌, ◌++◌, length, min, get_or, filter, count_by, refl, ap, sym, ◌∙◌, subst, arith, inl, inr, append-nil, append_assoc}
+use Rattle.std.proofs.Common.{◌≡◌, ◌≢◌, ℕ, zero, suc, ◌+◌, ◌-◌, ◌*◌, ◌^◌, ◌<◌, ◌≤◌, ◌==◌, ◌⊎◌, false, List, [], ◌∷◌, ◌++◌, length}
+use Rattle.std.proofs.Common.{min, get_or, filter, count_by, refl, ap, sym, ◌∙◌, subst, arith, inl, inr, append-nil, append_assoc}
 use Rattle.std.proofs.lemmas.Bool.{cases_Bool, eqb-true, false≢true}
 use Rattle.std.proofs.lemmas.List.{length_push, length-map}
 use Rattle.std.proofs.lemmas.List.Sums.{length-filter, sum_by-cons}
@@ -36,11 +37,13 @@ use Rattle.eb_place.proofs.Once.Single.{alone, first}
 abbrev pub words_of_docs : Setting → List Doc → Region → ℕ → Type 0
 words_of_docs σ seg = words_of_tokens σ (terms_of seg) (min 1 (length seg)) (length seg)
 
-first_grown : (σ : Setting) (s : ℕ) (seg : List Doc) (count : ℕ) (L : List Store) → Grown s (words_of_docs σ seg) L → Grown s (words_of_tokens σ (terms_of seg) 1 (length seg)) (L ++ first_stores s seg count)
+first_grown : (σ : Setting) (s : ℕ) (seg : List Doc) (count : ℕ) (L : List Store) → Grown s (words_of_docs σ seg) L
+    → Grown s (words_of_tokens σ (terms_of seg) 1 (length seg)) (L ++ first_stores s seg count)
 unfolding first_stores
 first_grown σ s seg count L h = elim (cases_Bool (length seg == 0)) [
   | inl new ↦ let z = eqb-true _ _ new in rw new (grow_first s (marks_of σ (terms_of seg) (min 1 (length seg)) (length seg)) (IsStored (terms_of seg)) (count + 1) L (omega arith) h)
-  | inr old ↦ let one : min 1 (length seg) ≡ 1 = some (length seg) old in rw old (subst (λ (z : ℕ × List Store). Grown s (words_of_tokens σ (terms_of seg) z.0 (length seg)) z.1) (λ i. (one i, sym (append-nil L) i)) h)
+  | inr old ↦ let one : min 1 (length seg) ≡ 1 = some (length seg) old in
+      rw old (subst (λ (z : ℕ × List Store). Grown s (words_of_tokens σ (terms_of seg) z.0 (length seg)) z.1) (λ i. (one i, sym (append-nil L) i)) h)
 ]
   where
     some : (n : ℕ) → (n == 0) ≡ false → min 1 n ≡ 1
@@ -48,7 +51,8 @@ first_grown σ s seg count L h = elim (cases_Bool (length seg == 0)) [
     some (suc n) e = omega arith
 
 -- one more document
-doc_grown : (σ : Setting) (s : ℕ) (seg : List Doc) (count : ℕ) (d : Doc) (L : List Store) → Room σ s (terms_of seg ++ d.terms) → Grown s (words_of_docs σ seg) L → Grown s (words_of_docs σ (seg ++ d ∷ [])) (L ++ stores_in σ s seg count d)
+doc_grown : (σ : Setting) (s : ℕ) (seg : List Doc) (count : ℕ) (d : Doc) (L : List Store) → Room σ s (terms_of seg ++ d.terms)
+    → Grown s (words_of_docs σ seg) L → Grown s (words_of_docs σ (seg ++ d ∷ [])) (L ++ stores_in σ s seg count d)
 doc_grown σ s seg count d L room h =
     let n = length seg in
     let F = first_stores s seg count in
@@ -62,10 +66,12 @@ doc_grown σ s seg count d L room h =
     let more_docs = length_push seg d in
     let one : 1 ≡ min 1 (length (seg ++ d ∷ [])) = omega arith in
     let ids : n + 1 ≡ length (seg ++ d ∷ []) = omega arith in
-    let all : (((L ++ F) ++ T) ++ x ∷ []) ++ y ∷ [] ≡ L ++ stores_in σ s seg count d = (let q : (((L ++ F) ++ T) ++ x ∷ []) ++ y ∷ [] ≡ L ++ (F ++ (T ++ x ∷ y ∷ [])) = simp append_assoc in q) ∙ ap (λ z. L ++ z) (sym (stores_split σ s seg count d)) in
+    let all : (((L ++ F) ++ T) ++ x ∷ []) ++ y ∷ [] ≡ L ++ stores_in σ s seg count d =
+    (let q : (((L ++ F) ++ T) ++ x ∷ []) ++ y ∷ [] ≡ L ++ (F ++ (T ++ x ∷ y ∷ [])) = simp append_assoc in q) ∙ ap (λ z. L ++ z) (sym (stores_split σ s seg count d)) in
     all_of_it one ids all e
   where
-    all_of_it : 1 ≡ min 1 (length (seg ++ d ∷ [])) → length seg + 1 ≡ length (seg ++ d ∷ []) → {X : List Store} → X ≡ L ++ stores_in σ s seg count d → Grown s (words_of_tokens σ (terms_of seg ++ d.terms) 1 (length seg + 1)) X → Grown s (words_of_docs σ (seg ++ d ∷ [])) (L ++ stores_in σ s seg count d)
+    all_of_it : 1 ≡ min 1 (length (seg ++ d ∷ [])) → length seg + 1 ≡ length (seg ++ d ∷ []) → {X : List Store} → X ≡ L ++ stores_in σ s seg count d
+        → Grown s (words_of_tokens σ (terms_of seg ++ d.terms) 1 (length seg + 1)) X → Grown s (words_of_docs σ (seg ++ d ∷ [])) (L ++ stores_in σ s seg count d)
     all_of_it one ids all e = subst (λ (z : (List Term × ℕ) × (ℕ × List Store)). Grown s (words_of_tokens σ z.0.0 z.0.1 z.1.0) z.1.1) (λ i. ((sym (terms_push seg d) i, one i), (ids i, all i))) e
 
 elsewhere_named : (v : ℕ) (M : Region → ℕ → Type 0) (y : Store) → Elsewhere v y → Named v M y
@@ -108,27 +114,36 @@ all_grown σ docs k = by_push (λ ds. IsLawful σ ds → AllGrown σ ds) (λ h. 
 -- ---- conversions
 
 -- the next packed words
-pack_row : (s : ℕ) (k : Marks) (P : ℕ → Type 0) (vs : List ℕ) (L : List Store) → Grown s (marked k P) L → Grown s (marked (record k { packs = k.packs + length vs }) P) (L ++ in_row s packed_region k.packs vs)
+pack_row : (s : ℕ) (k : Marks) (P : ℕ → Type 0) (vs : List ℕ) (L : List Store) → Grown s (marked k P) L
+    → Grown s (marked (record k { packs = k.packs + length vs }) P) (L ++ in_row s packed_region k.packs vs)
 pack_row s k P [] L h = subst (λ (z : ℕ × List Store). Grown s (marked (record k { packs = z.0 }) P) z.1) (λ i. ((let e : k.packs ≡ k.packs + 0 = omega arith in e) i, sym (append-nil L) i)) h
 pack_row s k P (v ∷ vs) L h =
     let l : Marks = record k { packs = k.packs + 1 } in
     let x : Store = (slot s packed_region k.packs, v) in
     let one = grow s (marked k P) (marked l P) packed_region k.packs v L
-    (marked_more k l P P (record { firsts = omega arith; converts = omega arith; cells = λ c m. m; places = omega arith; texts = omega arith; ids = omega arith; directory = omega arith; packs = omega arith }) (λ a p. p))
+    (marked_more k l P P
+    (record { firsts = omega arith; converts = omega arith; cells = λ c m. m; places = omega arith; texts = omega arith; ids = omega arith; directory = omega arith; packs = omega arith })
+    (λ a p. p))
     (omega arith) (λ single m. omega arith) h in
     let rest = pack_row s l P vs (L ++ x ∷ []) one in
-    subst (λ (z : ℕ × List Store). Grown s (marked (record k { packs = z.0 }) P) z.1) (λ i. ((let e : k.packs + 1 + length vs ≡ k.packs + suc (length vs) = omega arith in e) i, append_assoc L (x ∷ []) (in_row s packed_region (k.packs + 1) vs) i)) rest
+    subst (λ (z : ℕ × List Store). Grown s (marked (record k { packs = z.0 }) P) z.1)
+    (λ i. ((let e : k.packs + 1 + length vs ≡ k.packs + suc (length vs) = omega arith in e) i, append_assoc L (x ∷ []) (in_row s packed_region (k.packs + 1) vs) i)) rest
 
 -- the next directory word
-pack_entry : (s : ℕ) (k : Marks) (P : ℕ → Type 0) (v : ℕ) (L : List Store) → Grown s (marked k P) L → Grown s (marked (record k { directory = k.directory + 1 }) P) (L ++ (slot s directory_region k.directory, v) ∷ [])
+pack_entry : (s : ℕ) (k : Marks) (P : ℕ → Type 0) (v : ℕ) (L : List Store) → Grown s (marked k P) L
+    → Grown s (marked (record k { directory = k.directory + 1 }) P) (L ++ (slot s directory_region k.directory, v) ∷ [])
 pack_entry s k P v L h = grow s (marked k P) (marked (record k { directory = k.directory + 1 }) P) directory_region k.directory v L
-    (marked_more k (record k { directory = k.directory + 1 }) P P (record { firsts = omega arith; converts = omega arith; cells = λ c m. m; places = omega arith; texts = omega arith; ids = omega arith; directory = omega arith; packs = omega arith }) (λ a p. p))
+    (marked_more k (record k { directory = k.directory + 1 }) P P
+    (record { firsts = omega arith; converts = omega arith; cells = λ c m. m; places = omega arith; texts = omega arith; ids = omega arith; directory = omega arith; packs = omega arith })
+    (λ a p. p))
     (omega arith) (λ single m. omega arith) h
 
 -- the converted word
 pack_end : (s : ℕ) (k : Marks) (P : ℕ → Type 0) (L : List Store) → k.converts ≡ 0 → Grown s (marked k P) L → Grown s (marked (record k { converts = 1 }) P) (L ++ (slot s converted_region 0, 1) ∷ [])
 pack_end s k P L z h = grow s (marked k P) (marked (record k { converts = 1 }) P) converted_region 0 1 L
-    (marked_more k (record k { converts = 1 }) P P (record { firsts = omega arith; converts = omega arith; cells = λ c m. m; places = omega arith; texts = omega arith; ids = omega arith; directory = omega arith; packs = omega arith }) (λ a p. p))
+    (marked_more k (record k { converts = 1 }) P P
+    (record { firsts = omega arith; converts = omega arith; cells = λ c m. m; places = omega arith; texts = omega arith; ids = omega arith; directory = omega arith; packs = omega arith })
+    (λ a p. p))
     (omega arith) (λ single m. omega arith) h
 
 -- the terms of a conversion
@@ -149,7 +164,11 @@ pack_grown s seg k P (t ∷ ts) L h =
     let a = pack_row s k P (packed t seg) L h in
     let b = pack_entry s l P (k.packs * 2 ^ 32 + frequency t seg) (L ++ row) a in
     let c = pack_grown s seg m P ts ((L ++ row) ++ x ∷ []) b in
-    record { packs = c.packs; directory = c.directory; grown = subst (Grown s (marked (record k { packs = c.packs; directory = c.directory }) P)) (let q : ((L ++ row) ++ x ∷ []) ++ rest ≡ L ++ (row ++ x ∷ rest) = simp append_assoc in q) c.grown }
+    record {
+      packs = c.packs;
+      directory = c.directory;
+      grown = subst (Grown s (marked (record k { packs = c.packs; directory = c.directory }) P)) (let q : ((L ++ row) ++ x ∷ []) ++ rest ≡ L ++ (row ++ x ∷ rest) = simp append_assoc in q) c.grown;
+    }
 
 -- all stores of a conversion
 convert_single : (s : ℕ) (seg docs : List Doc) (σ : Setting) (L : List Store) → Grown s (words_of_docs σ docs) L → Single (L ++ convert_stores s seg)
@@ -173,7 +192,8 @@ pack_elsewhere : (s v : ℕ) (seg : List Doc) (start k : ℕ) (ts : List Term) �
 unfolding pack_stores
 pack_elsewhere s v seg start k [] h = none
 pack_elsewhere s v seg start k (t ∷ ts) h =
-    Each-append (row_elsewhere s v start (packed t seg) h) (more (elsewhere_at s v directory_region k (start * 2 ^ 32 + frequency t seg) h) (pack_elsewhere s v seg (start + length (packed t seg)) (k + 1) ts h))
+    Each-append (row_elsewhere s v start (packed t seg) h)
+    (more (elsewhere_at s v directory_region k (start * 2 ^ 32 + frequency t seg) h) (pack_elsewhere s v seg (start + length (packed t seg)) (k + 1) ts h))
 
 segment_elsewhere : (σ : Setting) (docs : List Doc) (s v : ℕ) → s ≢ v → Each (Elsewhere v) (segment_stores σ docs s)
 unfolding segment_stores convert_stores
@@ -187,7 +207,10 @@ record AllSingle (σ : Setting) (docs : List Doc) (n : ℕ) : Type 0 where
 
 all_single : (σ : Setting) (docs : List Doc) (n : ℕ) → AllGrown σ docs → AllSingle σ docs n
 unfolding conversions segment_stores
-all_single σ docs zero h = record { single = subst Single (sym (append-nil (placings σ docs))) h.single; named = λ v l. subst (Each (Named v (words_of_docs σ (get_or (cut σ docs) v [])))) (sym (append-nil (placings σ docs))) (h.named v) }
+all_single σ docs zero h = record {
+  single = subst Single (sym (append-nil (placings σ docs))) h.single;
+  named = λ v l. subst (Each (Named v (words_of_docs σ (get_or (cut σ docs) v [])))) (sym (append-nil (placings σ docs))) (h.named v);
+}
 all_single σ docs (suc n) h =
     let a = all_single σ docs n h in
     let L = placings σ docs in
@@ -236,12 +259,14 @@ pairs_within σ docs k h =
     Each-append (all_grown σ docs k h).within (Each-map (λ y w. w.within) (conversions_pack σ docs (length (cut σ docs)) (λ s l. p.room s (omega arith))))
 
 -- but for the count and the tails each is stored at most once
-pub stored_once : (σ : Setting) (docs : List Doc) (p : ℕ) → IsSetting σ → IsLawful σ docs → (p ≡ place σ published → ⊥) → ((s k : ℕ) → s < σ.segments → k < σ.terms → p ≡ place σ (slot s tail_region k) → ⊥) → length (values_at p (all_pairs σ docs)) ≤ 1
+pub stored_once : (σ : Setting) (docs : List Doc) (p : ℕ) → IsSetting σ → IsLawful σ docs → (p ≡ place σ published → ⊥)
+    → ((s k : ℕ) → s < σ.segments → k < σ.terms → p ≡ place σ (slot s tail_region k) → ⊥) → length (values_at p (all_pairs σ docs)) ≤ 1
 stored_once σ docs p k h no_count no_tail =
     let L = placings σ docs ++ conversions σ docs (length (cut σ docs)) in
     let within = pairs_within σ docs k h in
     let single = (all_single σ docs (length (cut σ docs)) (all_grown σ docs k h)).single in
-    let long : length (values_at p (all_pairs σ docs)) ≡ count_by (λ (z : ℕ × ℕ). z.0 == p) (pairs_of σ L) = length-map (filter (λ (z : ℕ × ℕ). z.0 == p) (pairs_of σ L)) (λ (z : ℕ × ℕ). z.1) ∙ length-filter (λ (z : ℕ × ℕ). z.0 == p) (pairs_of σ L) in
+    let long : length (values_at p (all_pairs σ docs)) ≡ count_by (λ (z : ℕ × ℕ). z.0 == p) (pairs_of σ L) =
+    length-map (filter (λ (z : ℕ × ℕ). z.0 == p) (pairs_of σ L)) (λ (z : ℕ × ℕ). z.1) ∙ length-filter (λ (z : ℕ × ℕ). z.0 == p) (pairs_of σ L) in
     elim (stored_place σ p L within) [
       | inl z ↦ omega (arith, long)
       | inr r ↦

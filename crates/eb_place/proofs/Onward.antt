@@ -38,7 +38,8 @@ lawful_push σ docs d h i r = record { documents = limits; rooms = rooms_by σ (
           (subst (λ (w : Doc). has_room σ docs w ≡ true) (sym (ap (λ z. get_or (docs ++ d ∷ []) z e) q ∙ get_or-append_seam docs d [] e)) r)
     ]
 
-begun_if : (σ : Setting) (docs : List Doc) (d : Doc) (i : ℕ) (b : Bool) → ltb (suc i) (length (doc_stores σ docs d)) ≡ b → IsBegun σ (documents_after b docs d (suc i)).accepted (documents_after b docs d (suc i)).current
+begun_if : (σ : Setting) (docs : List Doc) (d : Doc) (i : ℕ) (b : Bool) → ltb (suc i) (length (doc_stores σ docs d)) ≡ b
+    → IsBegun σ (documents_after b docs d (suc i)).accepted (documents_after b docs d (suc i)).current
 begun_if σ docs d i true e = (omega arith, ltb-true _ _ e)
 begun_if σ docs d i false e = tt
 
@@ -65,7 +66,8 @@ moment_stored m d p v is n =
       closed = λ s l. longer s (is.closed s l);
       packs = λ l. (
         longer m.conversions.converted (is.packs l).0,
-        (let k = ap (λ z. length (segment_stores σ z m.conversions.converted)) f ∙ ap length (segment_stays σ (with_current m.documents) more.0 m.conversions.converted (is.packs l).0) in omega (arith, k, (is.packs l).1)),
+        (let k = ap (λ z. length (segment_stores σ z m.conversions.converted)) f ∙ ap length (segment_stays σ (with_current m.documents) more.0 m.conversions.converted (is.packs l).0) in
+            omega (arith, k, (is.packs l).1)),
       );
     }
 
@@ -73,7 +75,8 @@ reaches_stored : (docs : List Doc) (c : Option (Doc × ℕ)) (d : Doc) (b : Bool
 reaches_stored docs None d true is = record { accepted = prefix_self docs; current = tt }
 reaches_stored docs None d false is = record { accepted = prefix_push docs d; current = tt }
 reaches_stored docs (Some c) d true is = record { accepted = prefix_self docs; current = inl (refl, (is, omega arith)) }
-reaches_stored docs (Some c) d false is = record { accepted = prefix_push docs d; current = inr (subst (λ (e : Doc). IsPrefix (docs ++ c.0 ∷ []) (docs ++ e ∷ [])) is (prefix_self (docs ++ c.0 ∷ []))) }
+reaches_stored docs (Some c) d false is =
+    record { accepted = prefix_push docs d; current = inr (subst (λ (e : Doc). IsPrefix (docs ++ c.0 ∷ []) (docs ++ e ∷ [])) is (prefix_self (docs ++ c.0 ∷ []))) }
 
 -- the moment after a store is not before the moment
 pub later_stored : (m : Moment) (d : Doc) → IsCurrent m.documents.current d → IsNotBefore (after_store m d) m

@@ -8,7 +8,8 @@ use Rattle.eb_base.specs.Setting.{Setting}
 use Rattle.eb_place.specs.declared.moment.Conversions.{Conversions}
 use Rattle.eb_place.specs.Layout.{Slot, size}
 use Rattle.eb_place.specs.Layout.Slot.{published, slot}
-use Rattle.eb_place.specs.Layout.Region.{first_region, converted_region, cell_region, text_place_region, tail_region, text_region, id_region, pool_0, pool_1, pool_2, pool_3, directory_region, packed_region}
+use Rattle.eb_place.specs.Layout.Region.{first_region, converted_region, cell_region, text_place_region, tail_region}
+use Rattle.eb_place.specs.Layout.Region.{text_region, id_region, pool_0, pool_1, pool_2, pool_3, directory_region, packed_region}
 use Rattle.eb_place.specs.Postings.{count_of, distinct, postings, terms_of}
 use Rattle.eb_place.specs.Room.{cut}
 use Rattle.eb_place.specs.Packed.{packed, packed_list}
@@ -50,12 +51,14 @@ unfolding size is_packed
 row_packed σ s i [] h l = none
 row_packed σ s i (v ∷ vs) h l = more (record { within = (h, omega arith); packed = refl }) (row_packed σ s (i + 1) vs h (omega arith))
 
-packs : (σ : Setting) (s : ℕ) (seg : List Doc) (start k : ℕ) (ts : List Term) → s < σ.segments → start + sum_by (λ t. length (packed t seg)) ts ≤ 34 * σ.terms → k + length ts ≤ σ.terms → Each (IsPackedStore σ) (pack_stores s seg start k ts)
+packs : (σ : Setting) (s : ℕ) (seg : List Doc) (start k : ℕ) (ts : List Term) → s < σ.segments
+    → start + sum_by (λ t. length (packed t seg)) ts ≤ 34 * σ.terms → k + length ts ≤ σ.terms → Each (IsPackedStore σ) (pack_stores s seg start k ts)
 unfolding pack_stores size is_packed
 packs σ s seg start k [] h l m = none
 packs σ s seg start k (t ∷ ts) h l m =
     let e = sum_by-cons (λ (u : Term). length (packed u seg)) t ts in
-    Each-append (row_packed σ s start (packed t seg) h (omega arith)) (more (record { within = (h, omega arith); packed = refl }) (packs σ s seg (start + length (packed t seg)) (k + 1) ts h (omega arith) (omega arith)))
+    Each-append (row_packed σ s start (packed t seg) h (omega arith))
+    (more (record { within = (h, omega arith); packed = refl }) (packs σ s seg (start + length (packed t seg)) (k + 1) ts h (omega arith) (omega arith)))
 
 packed_few : (t : Term) (seg : List Doc) → length (packed t seg) ≤ count_of t (terms_of seg)
 unfolding packed_list
@@ -73,7 +76,12 @@ segment_packs σ docs s room =
     let fits = room.fits in
     let few = fits.few in
     Each-append (packs σ s seg 0 0 (distinct (terms_of seg)) room.inside
-    (omega (arith, sums (λ t. length (packed t seg)) (λ t. count_of t (terms_of seg)) (λ t. packed_few t seg) (distinct (terms_of seg)), total_count (terms_of seg), postings_few σ (terms_of seg) fits)) (omega arith))
+    (omega (
+      arith,
+      sums (λ t. length (packed t seg)) (λ t. count_of t (terms_of seg)) (λ t. packed_few t seg) (distinct (terms_of seg)),
+      total_count (terms_of seg),
+      postings_few σ (terms_of seg) fits,
+    )) (omega arith))
     (more (record { within = (room.inside, lit< tt); packed = refl }) none)
 
 -- and those of all conversions so far
@@ -83,7 +91,8 @@ conversions_pack σ docs zero h = none
 conversions_pack σ docs (suc n) h = Each-append (conversions_pack σ docs n (λ s l. h s (omega arith))) (segment_packs σ docs n (h n (omega arith)))
 
 -- and those of a conversion part
-pub all_packed : (σ : Setting) (docs : List Doc) (c : Conversions) → ((s : ℕ) → s < c.converted → Room σ s (terms_of (get_or (cut σ docs) s []))) → (1 ≤ c.packed → Room σ c.converted (terms_of (get_or (cut σ docs) c.converted [])))
+pub all_packed : (σ : Setting) (docs : List Doc) (c : Conversions) → ((s : ℕ) → s < c.converted → Room σ s (terms_of (get_or (cut σ docs) s [])))
+    → (1 ≤ c.packed → Room σ c.converted (terms_of (get_or (cut σ docs) c.converted [])))
     → Each (IsPackedStore σ) (conversion_stores σ docs c)
 unfolding conversion_stores
 all_packed σ docs c h k = Each-append (conversions_pack σ docs c.converted h) (some c.packed k)

@@ -24,7 +24,8 @@ more_packed : (σ : Setting) (docs : List Doc) (c : Conversions) (x : Store) →
     → (b : Bool) → ltb (suc c.packed) (length (segment_stores σ docs c.converted)) ≡ b → conversion_stores σ docs (conversions_after b c) ≡ conversion_stores σ docs c ++ x ∷ []
 unfolding conversion_stores conversions
 more_packed σ docs c x next true long =
-    ap (λ (l : List Store). conversions σ docs c.converted ++ l) (take_next _ _ _ next) ∙ sym (append_assoc (conversions σ docs c.converted) (take c.packed (segment_stores σ docs c.converted)) (x ∷ []))
+    ap (λ (l : List Store). conversions σ docs c.converted ++ l) (take_next _ _ _ next)
+    ∙ sym (append_assoc (conversions σ docs c.converted) (take c.packed (segment_stores σ docs c.converted)) (x ∷ []))
 more_packed σ docs c x next false last =
     append-nil _
     ∙ ap (λ (l : List Store). conversions σ docs c.converted ++ l) (sym (take_whole _ _ (ltb-false _ _ last)) ∙ take_next _ _ _ next)
@@ -58,7 +59,8 @@ packed_in_table m p v is n =
     let w = each_at (segment_stores σ docs m.conversions.converted) m.conversions.packed (k.0, v) (segment_packs σ docs m.conversions.converted (a.room m.conversions.converted (omega arith))) k.1 in
     omega (arith, place_in σ k.0 w.within, k.2)
 
-packed_moment : (m : Moment) (b : Bool) → IsMoment m → IsClosed m m.conversions.converted → ltb (suc m.conversions.packed) (length (segment_stores m.setting (with_current m.documents) m.conversions.converted)) ≡ b
+packed_moment : (m : Moment) (b : Bool) → IsMoment m → IsClosed m m.conversions.converted
+    → ltb (suc m.conversions.packed) (length (segment_stores m.setting (with_current m.documents) m.conversions.converted)) ≡ b
     → IsMoment record { setting = m.setting; documents = m.documents; conversions = conversions_after b m.conversions }
 packed_moment m true is c e = record { setting = is.setting; lawful = is.lawful; begun = is.begun; closed = is.closed; packs = λ l. (c, ltb-true _ _ e) }
 packed_moment m false is c e = record { setting = is.setting; lawful = is.lawful; begun = is.begun; closed = λ s l. omega arith; packs = λ l. absurd (omega arith) }

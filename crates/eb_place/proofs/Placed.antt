@@ -1,5 +1,6 @@
 -- The words of each segment at a moment.
-use Rattle.std.proofs.Common.{◌≡◌, ◌≢◌, ℕ, zero, suc, ◌-◌, ◌^◌, ◌<◌, ◌≤◌, ◌||◌, Bool, true, false, List, [], ◌∷◌, ◌++◌, length, take, get_or, refl, ap, sym, ◌∙◌, subst, arith, inl, inr, nat_lt, append-nil, append_assoc, lit<, Option, Some, None}
+use Rattle.std.proofs.Common.{◌≡◌, ◌≢◌, ℕ, zero, suc, ◌-◌, ◌^◌, ◌<◌, ◌≤◌, ◌||◌, Bool, true, false, List, [], ◌∷◌, ◌++◌, length, take, get_or}
+use Rattle.std.proofs.Common.{refl, ap, sym, ◌∙◌, subst, arith, inl, inr, nat_lt, append-nil, append_assoc, lit<, Option, Some, None}
 use Rattle.std.proofs.lemmas.Bool.{ltb-true}
 use Rattle.std.proofs.lemmas.List.{length_push, length-append, take_at, take-append-le, get_or_append_left}
 use Rattle.std.proofs.Math.Seq.{get_or-append_seam}
@@ -73,7 +74,8 @@ placed_nothing σ k =
     let b = setting_terms σ k in
     record {
       short = omega arith;
-      room = λ s h. subst (λ (z : List Doc). Room σ s (terms_of z)) (sym (get_none s)) (record { inside = h; small = b.1; some = b.0; fits = record { few = omega arith; texts = omega arith; slices = λ p l. nothing_begun p } });
+      room = λ s h. subst (λ (z : List Doc). Room σ s (terms_of z)) (sym (get_none s))
+          (record { inside = h; small = b.1; some = b.0; fits = record { few = omega arith; texts = omega arith; slices = λ p l. nothing_begun p } });
       reached = λ s h. subst (λ (z : List Doc). Reached σ s (terms_of z) (posting_numbers z) []) (sym (get_none s)) (record {
         post = λ t f l. absurd (omega (arith, count_of-nil t));
         link = λ t f l b o. absurd (omega (arith, count_of-nil t));
@@ -94,7 +96,8 @@ pub record Fitting (σ : Setting) (docs : List Doc) (d : Doc) : Type 0 where
   pub limits : IsDocument d
   pub there : has_room σ docs d ≡ true
 
-most_segments : (σ : Setting) (segs : List (List Doc)) (d : Doc) → IsSetting σ → length segs ≤ σ.segments → (nat_lt (length segs) σ.segments || fits σ (last_of segs) d) ≡ true → length (with_doc σ segs d) ≤ σ.segments
+most_segments : (σ : Setting) (segs : List (List Doc)) (d : Doc) → IsSetting σ → length segs ≤ σ.segments
+    → (nat_lt (length segs) σ.segments || fits σ (last_of segs) d) ≡ true → length (with_doc σ segs d) ≤ σ.segments
 most_segments σ [] d k short r = k.segments.0
 most_segments σ (x ∷ segs) d k short r = elim (with_doc_last σ x segs d) [
   | inl w ↦ omega (arith, w.1)
@@ -117,7 +120,8 @@ pub record Joins (σ : Setting) (docs : List Doc) (d : Doc) (s : ℕ) (before : 
   pub few : length before < σ.docs
 
 -- which segment a document that has room joins, and what is known of it
-pub joins : (σ : Setting) (docs : List Doc) (d : Doc) → IsSetting σ → length (cut σ docs) ≤ σ.segments → Fitting σ docs d → Joins σ docs d (length (with_doc σ (cut σ docs) d) - 1) (before_in σ (cut σ docs) d)
+pub joins : (σ : Setting) (docs : List Doc) (d : Doc) → IsSetting σ → length (cut σ docs) ≤ σ.segments
+    → Fitting σ docs d → Joins σ docs d (length (with_doc σ (cut σ docs) d) - 1) (before_in σ (cut σ docs) d)
 unfolding has_room doc_stores
 joins σ docs d k short f =
     let segs = cut σ docs in
@@ -167,7 +171,8 @@ placed_push σ docs d k f h = by (length (with_doc σ (cut σ docs) d) - 1) (bef
                 (doc_within σ s before (length docs) d j.room j.few) (doc_apart σ s v before (length docs) d (terms_of (get_or (cut σ docs) v [])) (λ w. q (sym w))) (h.reached v l)))
           ];
           limits = λ v. elim (ℕ_discrete v s) [
-            | yes q ↦ subst (λ z. Each IsDocument (get_or (cut σ new) z [])) (sym q) (subst (Each IsDocument) (sym j.here) (Each-append (subst (Each IsDocument) j.old (h.limits s)) (more f.limits none)))
+            | yes q ↦
+                subst (λ z. Each IsDocument (get_or (cut σ new) z [])) (sym q) (subst (Each IsDocument) (sym j.here) (Each-append (subst (Each IsDocument) j.old (h.limits s)) (more f.limits none)))
             | no q ↦ subst (Each IsDocument) (sym (j.other v q)) (h.limits v)
           ];
           few = λ v. elim (ℕ_discrete v s) [
@@ -191,7 +196,8 @@ placed_after σ ys (z ∷ zs) k h p =
     let here : length ys < length (ys ++ (z ∷ zs)) = omega arith in
     let at : get_or (ys ++ (z ∷ zs)) (length ys) z ≡ z = get_or-append_seam ys z zs z in
     let limits : IsDocument z = subst IsDocument at (h.documents (length ys) z here) in
-    let there : has_room σ ys z ≡ true = subst (λ (w : List Doc). has_room σ w z ≡ true) (take_at ys (z ∷ zs) (length ys) refl) (subst (λ (w : Doc). has_room σ (take (length ys) (ys ++ (z ∷ zs))) w ≡ true) at (rooms_at σ (ys ++ (z ∷ zs)) h (length ys) z here)) in
+    let there : has_room σ ys z ≡ true = subst (λ (w : List Doc). has_room σ w z ≡ true) (take_at ys (z ∷ zs) (length ys) refl)
+    (subst (λ (w : Doc). has_room σ (take (length ys) (ys ++ (z ∷ zs))) w ≡ true) at (rooms_at σ (ys ++ (z ∷ zs)) h (length ys) z here)) in
     subst (Placed σ) e (placed_after σ (ys ++ z ∷ []) zs k (subst (IsLawful σ) (sym e) h) (placed_push σ ys z k (record { limits = limits; there = there }) p))
 
 -- the closed form of a lawful history
@@ -202,7 +208,8 @@ placed_all σ docs k h = placed_after σ [] docs k h (placed_nothing σ k)
 pub lawful_front : (σ : Setting) (xs ys : List Doc) → IsLawful σ (xs ++ ys) → IsLawful σ xs
 lawful_front σ xs ys h = record {
   documents = λ i d l. subst IsDocument (get_or_append_left xs ys d i l) (h.documents i d (omega (arith, length-append xs ys)));
-  rooms = rooms_by σ xs (λ i d l. subst (λ (w : List Doc). has_room σ w (get_or xs i d) ≡ true) (take-append-le i xs ys (omega arith)) (subst (λ (w : Doc). has_room σ (take i (xs ++ ys)) w ≡ true) (get_or_append_left xs ys d i l) (rooms_at σ (xs ++ ys) h i d (omega (arith, length-append xs ys)))));
+  rooms = rooms_by σ xs (λ i d l. subst (λ (w : List Doc). has_room σ w (get_or xs i d) ≡ true) (take-append-le i xs ys (omega arith))
+      (subst (λ (w : Doc). has_room σ (take i (xs ++ ys)) w ≡ true) (get_or_append_left xs ys d i l) (rooms_at σ (xs ++ ys) h i d (omega (arith, length-append xs ys)))));
 }
 
 -- its last document is within the limits and has room
@@ -212,7 +219,8 @@ lawful_last σ xs d h =
     let at : get_or (xs ++ d ∷ []) (length xs) d ≡ d = get_or-append_seam xs d [] d in
     record {
       limits = subst IsDocument at (h.documents (length xs) d here);
-      there = subst (λ (w : List Doc). has_room σ w d ≡ true) (take_at xs (d ∷ []) (length xs) refl) (subst (λ (w : Doc). has_room σ (take (length xs) (xs ++ d ∷ [])) w ≡ true) at (rooms_at σ (xs ++ d ∷ []) h (length xs) d here));
+      there = subst (λ (w : List Doc). has_room σ w d ≡ true) (take_at xs (d ∷ []) (length xs) refl)
+          (subst (λ (w : Doc). has_room σ (take (length xs) (xs ++ d ∷ [])) w ≡ true) at (rooms_at σ (xs ++ d ∷ []) h (length xs) d here));
     }
 
 -- ---- a moment
@@ -236,7 +244,8 @@ words σ docs None s k h l =
       left = [];
       all = sym (append-nil (terms_of (get_or (cut σ (docs ++ [])) s [])));
       room = p.room s l;
-      reached = subst (Reached σ s (terms_of (get_or (cut σ (docs ++ [])) s [])) (posting_numbers (get_or (cut σ (docs ++ [])) s []))) (ap (placings σ) e ∙ sym (append-nil (placings σ docs))) (p.reached s l);
+      reached = subst (Reached σ s (terms_of (get_or (cut σ (docs ++ [])) s [])) (posting_numbers (get_or (cut σ (docs ++ [])) s []))) (ap (placings σ) e
+          ∙ sym (append-nil (placings σ docs))) (p.reached s l);
     }
 words σ docs (Some c) s k h l =
     let p = placed_all σ docs k (lawful_front σ docs (c.0 ∷ []) h) in

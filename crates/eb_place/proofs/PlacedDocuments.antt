@@ -1,5 +1,6 @@
 -- The stores of a document: within the table, and apart from the words of other segments.
-use Rattle.std.proofs.Common.{◌≡◌, ◌≢◌, ℕ, suc, ◌+◌, ◌-◌, ◌<◌, ◌==◌, ◌&&◌, List, [], ◌∷◌, ◌++◌, length, take, refl, ap, sym, ◌∙◌, subst, arith, inl, inr, if◌then◌else◌, nat_le, append-nil, append_assoc, sum_by, lit<}
+use Rattle.std.proofs.Common.{◌≡◌, ◌≢◌, ℕ, suc, ◌+◌, ◌-◌, ◌<◌, ◌==◌, ◌&&◌, List, [], ◌∷◌, ◌++◌, length, take, refl, ap, sym}
+use Rattle.std.proofs.Common.{◌∙◌, subst, arith, inl, inr, if◌then◌else◌, nat_le, append-nil, append_assoc, sum_by, lit<}
 use Rattle.std.proofs.lemmas.Bool.{cases_lt}
 use Rattle.std.proofs.lemmas.List.{take-append-le}
 use Rattle.eb_base.specs.Term.{Term}
@@ -44,7 +45,8 @@ token_elsewhere : (σ : Setting) (s v : ℕ) (ts : List Term) (u : Term) (p : �
 unfolding token_stores enter_stores append_stores
 token_elsewhere σ s v ts u p h =
     Each-append
-    (Each-if (count_of u ts == 0) (λ z. Each-append (row_elsewhere s v (sum_by text_words (distinct ts)) (text_of u) h) (more (elsewhere_at s v text_place_region _ (sum_by text_words (distinct ts)) h) (more (elsewhere_at s v cell_region _ (length (distinct ts) + 1) h) none))))
+    (Each-if (count_of u ts == 0) (λ z. Each-append (row_elsewhere s v (sum_by text_words (distinct ts)) (text_of u) h)
+    (more (elsewhere_at s v text_place_region _ (sum_by text_words (distinct ts)) h) (more (elsewhere_at s v cell_region _ (length (distinct ts) + 1) h) none))))
     (Each-append (Each-if (begins (count_of u ts) && nat_le 1 (pool_at (count_of u ts))) (λ z. more (elsewhere_pool s v _ (address_of u (count_of u ts - 1) ts) h) none))
     (more (elsewhere_pool s v _ p h) (more (elsewhere_at s v tail_region _ (address_of u (count_of u ts) ts + 1) h) none)))
 
@@ -116,7 +118,8 @@ unfolding size
 last_within σ s n count id h l = more (h, l) (more tt none)
 
 -- its stores are the first-document word, those of its tokens, the id and the count
-pub stores_split : (σ : Setting) (s : ℕ) (seg : List Doc) (count : ℕ) (d : Doc) → stores_in σ s seg count d ≡ first_stores s seg count ++ (tokens_stores σ s (length seg) 0 (terms_of seg) d.terms ++ (slot s id_region (length seg), d.id) ∷ (published, count + 1) ∷ [])
+pub stores_split : (σ : Setting) (s : ℕ) (seg : List Doc) (count : ℕ) (d : Doc)
+    → stores_in σ s seg count d ≡ first_stores s seg count ++ (tokens_stores σ s (length seg) 0 (terms_of seg) d.terms ++ (slot s id_region (length seg), d.id) ∷ (published, count + 1) ∷ [])
 unfolding stores_in first_stores
 stores_split σ s seg count d = append_assoc (first_stores s seg count) (tokens_stores σ s (length seg) 0 (terms_of seg) d.terms) ((slot s id_region (length seg), d.id) ∷ (published, count + 1) ∷ [])
 
@@ -162,17 +165,20 @@ doc_begun σ s seg count d P L r room few a h =
                   stored = some.stored;
                   left = some.left;
                   all = some.all;
-                  reached = subst (Reached σ s (ts ++ some.stored) P) (append_assoc L F (take q T) ∙ ap (λ z. L ++ (F ++ z)) (sym (take-append-le q T Z (omega arith))) ∙ ap (λ z. L ++ z) (sym (e ∙ take_over r F (T ++ Z) l))) some.reached;
+                  reached = subst (Reached σ s (ts ++ some.stored) P) (append_assoc L F (take q T)
+                      ∙ ap (λ z. L ++ (F ++ z)) (sym (take-append-le q T Z (omega arith))) ∙ ap (λ z. L ++ z) (sym (e ∙ take_over r F (T ++ Z) l))) some.reached;
                 }
             | inr k ↦
                 let two = tokens_done σ s (length seg) 0 ts d.terms P (L ++ F) room a one in
                 let Y = take (q - length T) Z in
-                let three = reached_keeps σ s (ts ++ d.terms) P ((L ++ F) ++ T) Y room (Each-take (q - length T) (last_within σ s (length seg) count d.id room.inside few)) (Each-take (q - length T) (last_plain s (length seg) count d.id (ts ++ d.terms))) two in
+                let three = reached_keeps σ s (ts ++ d.terms) P ((L ++ F) ++ T) Y room (Each-take (q - length T) (last_within σ s (length seg) count d.id room.inside few))
+                (Each-take (q - length T) (last_plain s (length seg) count d.id (ts ++ d.terms))) two in
                 record {
                   stored = d.terms;
                   left = [];
                   all = sym (append-nil d.terms);
-                  reached = subst (Reached σ s (ts ++ d.terms) P) (append_assoc (L ++ F) T Y ∙ append_assoc L F (T ++ Y) ∙ ap (λ z. L ++ (F ++ z)) (sym (take_over q T Z k)) ∙ ap (λ z. L ++ z) (sym (e ∙ take_over r F (T ++ Z) l))) three;
+                  reached = subst (Reached σ s (ts ++ d.terms) P) (append_assoc (L ++ F) T Y ∙ append_assoc L F (T ++ Y)
+                      ∙ ap (λ z. L ++ (F ++ z)) (sym (take_over q T Z k)) ∙ ap (λ z. L ++ z) (sym (e ∙ take_over r F (T ++ Z) l))) three;
                 }
           ]
     ]

@@ -1,5 +1,6 @@
 -- What the words of a segment are when these tokens are stored.
-use Rattle.std.proofs.Common.{◌≡◌, ℕ, zero, suc, ◌+◌, ◌-◌, ◌^◌, ◌<◌, ◌≤◌, ◌==◌, ◌&&◌, ◌⊎◌, Bool, true, false, cond, List, [], ◌∷◌, ◌++◌, length, take, refl, ap, sym, ◌∙◌, subst, arith, inl, inr, bytes_eq, if◌then◌else◌, nat_le, sum_by, count_by, append_assoc}
+use Rattle.std.proofs.Common.{◌≡◌, ℕ, zero, suc, ◌+◌, ◌-◌, ◌^◌, ◌<◌, ◌≤◌, ◌==◌, ◌&&◌, ◌⊎◌, Bool, true, false, cond, List, [], ◌∷◌, ◌++◌, length}
+use Rattle.std.proofs.Common.{take, refl, ap, sym, ◌∙◌, subst, arith, inl, inr, bytes_eq, if◌then◌else◌, nat_le, sum_by, count_by, append_assoc}
 use Rattle.std.proofs.lemmas.Bool.{cases_Bool, cases_lt, and_parts, false≢true, ne_eqb, eq-eqb}
 use Rattle.std.proofs.lemmas.Bool.Decides.{nat_tests}
 use Rattle.std.proofs.lemmas.List.{map-append}
@@ -8,7 +9,8 @@ use Rattle.eb_base.specs.Term.{Term}
 use Rattle.eb_base.specs.Setting.{Setting}
 use Rattle.eb_place.specs.Layout.{Slot, size, pool_slot, place}
 use Rattle.eb_place.specs.Layout.Slot.{published, slot}
-use Rattle.eb_place.specs.Layout.Region.{first_region, converted_region, cell_region, text_place_region, tail_region, text_region, id_region, pool_0, pool_1, pool_2, pool_3, directory_region, packed_region}
+use Rattle.eb_place.specs.Layout.Region.{first_region, converted_region, cell_region, text_place_region, tail_region}
+use Rattle.eb_place.specs.Layout.Region.{text_region, id_region, pool_0, pool_1, pool_2, pool_3, directory_region, packed_region}
 use Rattle.eb_place.specs.Postings.{count_of, distinct, number_of}
 use Rattle.eb_place.specs.Room.{text_words}
 use Rattle.eb_place.specs.Address.{pool_at, begins, address_of}
@@ -96,16 +98,20 @@ unfolding size
 tail_within σ s k h l = (h, l)
 
 -- stores apart from the words leave all as it is
-pub reached_keeps : (σ : Setting) (s : ℕ) (ts : List Term) (P : Term → ℕ → ℕ) (L M : List Store) → Room σ s ts → Each (IsWithin σ) M → Each (Apart s ts) M → Reached σ s ts P L → Reached σ s ts P (L ++ M)
+pub reached_keeps : (σ : Setting) (s : ℕ) (ts : List Term) (P : Term → ℕ → ℕ) (L M : List Store)
+    → Room σ s ts → Each (IsWithin σ) M → Each (Apart s ts) M → Reached σ s ts P L → Reached σ s ts P (L ++ M)
 reached_keeps σ s ts P L M room all apart h =
     let fits = room.fits in
     let few = fits.few in
     record {
       post = λ t f l. val_keeps σ L M (pool_slot s (address_of t f ts)) (address_within σ s ts t f room.inside room.small fits l) all (Each-map (λ y a. a.post t f l) apart) ∙ h.post t f l;
-      link = λ t f l b o. val_keeps σ L M (pool_slot s (address_of t f ts - 1)) (link_within σ s ts t f room.inside room.small fits l b o) all (Each-map (λ y a. a.link t f l b o) apart) ∙ h.link t f l b o;
-      tail = λ t l. val_keeps σ L M (slot s tail_region (number_of t ts)) (tail_within σ s (number_of t ts) room.inside (omega (arith, number_low t ts l))) all (Each-map (λ y a. a.tail (number_of t ts)) apart) ∙ h.tail t l;
+      link = λ t f l b o. val_keeps σ L M (pool_slot s (address_of t f ts - 1)) (link_within σ s ts t f room.inside room.small fits l b o) all (Each-map (λ y a. a.link t f l b o) apart)
+          ∙ h.link t f l b o;
+      tail = λ t l. val_keeps σ L M (slot s tail_region (number_of t ts))
+          (tail_within σ s (number_of t ts) room.inside (omega (arith, number_low t ts l))) all (Each-map (λ y a. a.tail (number_of t ts)) apart) ∙ h.tail t l;
       bare = λ k l o. val_keeps σ L M (slot s tail_region k) (tail_within σ s k room.inside o) all (Each-map (λ y a. a.tail k) apart) ∙ h.bare k l o;
-      done = λ t l. times_keep σ L M (slot s tail_region (number_of t ts)) (tail_within σ s (number_of t ts) room.inside (omega (arith, number_low t ts l))) all (Each-map (λ y a. a.tail (number_of t ts)) apart) ∙ h.done t l;
+      done = λ t l. times_keep σ L M (slot s tail_region (number_of t ts))
+          (tail_within σ s (number_of t ts) room.inside (omega (arith, number_low t ts l))) all (Each-map (λ y a. a.tail (number_of t ts)) apart) ∙ h.done t l;
       idle = λ k l o. times_keep σ L M (slot s tail_region k) (tail_within σ s k room.inside o) all (Each-map (λ y a. a.tail k) apart) ∙ h.idle k l o;
     }
 
@@ -190,11 +196,13 @@ front_apart σ s ts u p fit =
     let more_of : (t : Term) (f : ℕ) → f < count_of t ts → f < count_of t (ts ++ u ∷ []) = λ t f l. omega (arith, count_of_push t u ts) in
     let new : address_of u c (ts ++ u ∷ []) ≡ address_of u c ts = address_here u ts [] in
     Each-append
-    (Each-if (c == 0) (λ z. Each-append (text_apart s s (sum_by text_words (distinct ts)) ts (text_of u)) (more (plain_apart s ts (slot s text_place_region _, _) refl refl) (more (plain_apart s ts (slot s cell_region _, _) refl refl) none))))
+    (Each-if (c == 0) (λ z. Each-append (text_apart s s (sum_by text_words (distinct ts)) ts (text_of u))
+    (more (plain_apart s ts (slot s text_place_region _, _) refl refl) (more (plain_apart s ts (slot s cell_region _, _) refl refl) none))))
     (Each-append
     (Each-if (begins c && nat_le 1 (pool_at c)) (λ z. let b = and_parts _ _ z in let o = le_from (pool_at c) b.1 in more (record {
       post = λ t f l e. link_fresh s (ts ++ u ∷ []) t u c f fit hc (more_of t f l) b.0 o (ap (λ k. pool_slot s (k - 1)) new ∙ e ∙ ap (pool_slot s) (sym (address_stays t f ts (u ∷ []) l)));
-      link = λ t f l bf of e. let w = link_once s (ts ++ u ∷ []) u t c f fit hc (more_of t f l) o of b.0 bf (ap (λ k. pool_slot s (k - 1)) new ∙ e ∙ ap (λ k. pool_slot s (k - 1)) (sym (address_stays t f ts (u ∷ []) l))) in
+      link = λ t f l bf of e. let w =
+          link_once s (ts ++ u ∷ []) u t c f fit hc (more_of t f l) o of b.0 bf (ap (λ k. pool_slot s (k - 1)) new ∙ e ∙ ap (λ k. pool_slot s (k - 1)) (sym (address_stays t f ts (u ∷ []) l))) in
           omega (arith, w.1, ap (λ z. count_of z ts) w.0);
       tail = λ k e. not_tail s k (pool_slot s (address_of u c ts - 1)) (pool_pool s (address_of u c ts - 1)) e;
     }) none))
@@ -212,7 +220,8 @@ unfolding value_after
 val_stored σ L x v = val-append σ L ((x, v) ∷ []) x ∙ ap (λ (b : Bool). cond b v (val σ L x)) (eq-eqb (place σ x) (place σ x) refl)
 
 times_stored : (σ : Setting) (L : List Store) (x : Slot) (v : ℕ) → times σ (L ++ (x, v) ∷ []) x ≡ times σ L x + 1
-times_stored σ L x v = times-append σ L ((x, v) ∷ []) x ∙ let e = ap one_if (eq-eqb (place σ x) (place σ x) refl) in omega (arith, e, sum_by-cons (λ (z : ℕ × ℕ). one_if (z.0 == place σ x)) (place σ x, v) [])
+times_stored σ L x v = times-append σ L ((x, v) ∷ []) x ∙ let e = ap one_if (eq-eqb (place σ x) (place σ x) refl) in
+    omega (arith, e, sum_by-cons (λ (z : ℕ × ℕ). one_if (z.0 == place σ x)) (place σ x, v) [])
 
 positive : (f : ℕ) → 1 ≤ pool_at f → f - 1 < f
 unfolding pool_at
@@ -238,7 +247,8 @@ pub record Fronted (σ : Setting) (s : ℕ) (ts : List Term) (P : Term → ℕ �
   pub link : begins (count_of u ts) ≡ true → 1 ≤ pool_at (count_of u ts) → val σ L (pool_slot s (address_of u (count_of u ts) ts - 1)) ≡ address_of u (count_of u ts - 1) ts
 
 -- and then that of the tail
-pub tailed : (σ : Setting) (s : ℕ) (ts : List Term) (P : Term → ℕ → ℕ) (u : Term) (L : List Store) → Room σ s (ts ++ u ∷ []) → Fronted σ s ts P u L → Reached σ s (ts ++ u ∷ []) P (L ++ tail_store s ts u ∷ [])
+pub tailed : (σ : Setting) (s : ℕ) (ts : List Term) (P : Term → ℕ → ℕ) (u : Term) (L : List Store)
+    → Room σ s (ts ++ u ∷ []) → Fronted σ s ts P u L → Reached σ s (ts ++ u ∷ []) P (L ++ tail_store s ts u ∷ [])
 tailed σ s ts P u L room h =
     let new = ts ++ u ∷ [] in
     let c = count_of u ts in
@@ -254,9 +264,12 @@ tailed σ s ts P u L room h =
     let stays : (t : Term) (f : ℕ) → f < count_of t ts → address_of t f new ≡ address_of t f ts = λ t f l. address_stays t f ts (u ∷ []) l in
     let pool_kept : (a : ℕ) → InTable σ (pool_slot s a) → val σ (L ++ x ∷ []) (pool_slot s a) ≡ val σ L (pool_slot s a) =
     λ a i. val_keeps σ L (x ∷ []) (pool_slot s a) i (more in_x none) (more (λ q. not_tail s (number_of u ts) (pool_slot s a) (pool_pool s a) (sym q)) none) in
-    let tail_kept : (j : ℕ) → j < σ.terms → (number_of u ts ≡ j → ⊥) → (val σ (L ++ x ∷ []) (slot s tail_region j) ≡ val σ L (slot s tail_region j)) × (times σ (L ++ x ∷ []) (slot s tail_region j) ≡ times σ L (slot s tail_region j)) =
-    λ j l o. (let i = tail_within σ s j room.inside l in
-    (val_keeps σ L (x ∷ []) (slot s tail_region j) i (more in_x none) (more (λ q. o (tail_index s (number_of u ts) j q)) none), times_keep σ L (x ∷ []) (slot s tail_region j) i (more in_x none) (more (λ q. o (tail_index s (number_of u ts) j q)) none))) in
+    let tail_kept : (j : ℕ) → j < σ.terms → (number_of u ts ≡ j → ⊥)
+    → (val σ (L ++ x ∷ []) (slot s tail_region j) ≡ val σ L (slot s tail_region j)) × (times σ (L ++ x ∷ []) (slot s tail_region j) ≡ times σ L (slot s tail_region j)) =
+    λ j l o. (let i = tail_within σ s j room.inside l in (
+      val_keeps σ L (x ∷ []) (slot s tail_region j) i (more in_x none) (more (λ q. o (tail_index s (number_of u ts) j q)) none),
+      times_keep σ L (x ∷ []) (slot s tail_region j) i (more in_x none) (more (λ q. o (tail_index s (number_of u ts) j q)) none),
+    )) in
     let grows = distinct_grows ts u in
     let number : number_of u new ≡ number_of u ts = number_here u ts in
     let number_in : number_of u ts < length (distinct new) = omega (arith, number_low u new (omega arith), number) in
@@ -300,13 +313,15 @@ tailed σ s ts P u L room h =
     }
   where
     linked : (t : Term) (f : ℕ) → (u ≡ t) × (count_of u ts ≡ f) → begins f ≡ true → 1 ≤ pool_at f → val σ L (pool_slot s (address_of t f (ts ++ u ∷ []) - 1)) ≡ address_of t (f - 1) (ts ++ u ∷ [])
-    linked t f w = subst (λ (z : Term × ℕ). begins z.1 ≡ true → 1 ≤ pool_at z.1 → val σ L (pool_slot s (address_of z.0 z.1 (ts ++ u ∷ []) - 1)) ≡ address_of z.0 (z.1 - 1) (ts ++ u ∷ [])) (λ i. (w.0 i, w.1 i))
+    linked t f w =
+        subst (λ (z : Term × ℕ). begins z.1 ≡ true → 1 ≤ pool_at z.1 → val σ L (pool_slot s (address_of z.0 z.1 (ts ++ u ∷ []) - 1)) ≡ address_of z.0 (z.1 - 1) (ts ++ u ∷ [])) (λ i. (w.0 i, w.1 i))
         (λ b o. ap (λ a. val σ L (pool_slot s (a - 1))) (address_here u ts []) ∙ h.link b o ∙ sym (address_stays u (count_of u ts - 1) ts (u ∷ []) (positive (count_of u ts) o)))
 
     differ : (t : Term) → 1 ≤ count_of t ts → bytes_eq t u ≡ false → number_of t ts ≡ number_of u ts → ⊥
     differ t l other e = false≢true (sym other ∙ ap (bytes_eq t) (sym (number_once t u ts l e)) ∙ same_term t)
 
-    tail_here : number_of u (ts ++ u ∷ []) ≡ number_of u ts → address_of u (count_of u ts) (ts ++ u ∷ []) ≡ address_of u (count_of u ts) ts → val σ (L ++ tail_store s ts u ∷ []) (slot s tail_region (number_of u (ts ++ u ∷ []))) ≡ address_of u (count_of u (ts ++ u ∷ []) - 1) (ts ++ u ∷ []) + 1
+    tail_here : number_of u (ts ++ u ∷ []) ≡ number_of u ts → address_of u (count_of u ts) (ts ++ u ∷ []) ≡ address_of u (count_of u ts) ts
+        → val σ (L ++ tail_store s ts u ∷ []) (slot s tail_region (number_of u (ts ++ u ∷ []))) ≡ address_of u (count_of u (ts ++ u ∷ []) - 1) (ts ++ u ∷ []) + 1
     tail_here number here =
         let m = count_of_push u u ts in
         let m1 = ap one_if (same_term u) in
@@ -325,5 +340,7 @@ tailed σ s ts P u L room h =
         before : times σ L (slot s tail_region (number_of u ts)) ≡ count_of u ts
         before = elim (cases_lt 0 (count_of u ts)) [
           | inl some ↦ h.old.done u some
-          | inr z ↦ h.old.idle (number_of u ts) (omega (arith, number_absent u ts (omega arith))) (omega (arith, number_here u ts, number_low u (ts ++ u ∷ []) (omega (arith, count_of_push u u ts, ap one_if (same_term u))), room.fits.few)) ∙ (let e : 0 ≡ count_of u ts = omega arith in e)
+          | inr z ↦ h.old.idle (number_of u ts) (omega (arith, number_absent u ts (omega arith)))
+              (omega (arith, number_here u ts, number_low u (ts ++ u ∷ []) (omega (arith, count_of_push u u ts, ap one_if (same_term u))), room.fits.few))
+              ∙ (let e : 0 ≡ count_of u ts = omega arith in e)
         ]

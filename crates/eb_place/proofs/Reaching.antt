@@ -1,5 +1,6 @@
 -- The walk from a tail word, by the closed forms of the words.
-use Rattle.std.proofs.Common.{◌≡◌, ℕ, zero, suc, ◌+◌, ◌-◌, ◌<◌, ◌≤◌, ◌==◌, ◌&&◌, Bool, true, false, List, [], ◌∷◌, ◌++◌, take, reverse, get_or, refl, ap, sym, ◌∙◌, subst, arith, inl, inr, nat_le, All, if◌then◌else◌}
+use Rattle.std.proofs.Common.{◌≡◌, ℕ, zero, suc, ◌+◌, ◌-◌, ◌<◌, ◌≤◌, ◌==◌, ◌&&◌, Bool, true, false, List, [], ◌∷◌, ◌++◌}
+use Rattle.std.proofs.Common.{take, reverse, get_or, refl, ap, sym, ◌∙◌, subst, arith, inl, inr, nat_le, All, if◌then◌else◌}
 use Rattle.std.proofs.lemmas.Bool.{cases_Bool, cases_lt, eq-eqb, ne_eqb, le-leb, and_from}
 use Rattle.std.proofs.lemmas.List.Elements.{All-cons, All-nil, All-append}
 use Rattle.eb_base.specs.Term.{Term}
@@ -64,7 +65,8 @@ record Step (m n : Moment) (s : ℕ) (t : Term) (f : ℕ) : Type 0 where
   stay : All (λ at. pool_word n s at ≡ pool_word m s at) (reads (address_in m s t f))
 
 -- a seen posting's word stays
-stays : (m n : Moment) (s : ℕ) (t : Term) (f : ℕ) → IsMoment m → IsMoment n → IsNotBefore n m → s < m.setting.segments → f < seen_count m s t → pool_word n s (address_in m s t f) ≡ pool_word m s (address_in m s t f)
+stays : (m n : Moment) (s : ℕ) (t : Term) (f : ℕ) → IsMoment m → IsMoment n → IsNotBefore n m → s < m.setting.segments
+    → f < seen_count m s t → pool_word n s (address_in m s t f) ≡ pool_word m s (address_in m s t f)
 stays m n s t f is js l h r =
     ap (λ (σ : Setting). word n (place σ (pool_slot s (address_in m s t f)))) (sym l.setting) ∙ posting_stays m n s t f (address_in m s t f) is js l (record { inside = h; reached = r; is = refl })
 
@@ -73,11 +75,14 @@ link_stays_too : (m n : Moment) (s : ℕ) (t : Term) (g at : ℕ) → IsMoment m
 link_stays_too m n s t g at is js l h = ap (λ (σ : Setting). word n (place σ (pool_slot s at))) (sym l.setting) ∙ link_stays m n s t g at is js l h
 
 one_read : (m n : Moment) (s a : ℕ) → is_first_linked a ≡ false → pool_word n s a ≡ pool_word m s a → All (λ at. pool_word n s at ≡ pool_word m s at) (reads a)
-one_read m n s a e same = subst (λ (b : Bool). All (λ at. pool_word n s at ≡ pool_word m s at) (a ∷ (if b then ((a - 1) ∷ []) else []))) (sym e) (All-cons (λ at. pool_word n s at ≡ pool_word m s at) a [] same (All-nil (λ at. pool_word n s at ≡ pool_word m s at)))
+one_read m n s a e same = subst (λ (b : Bool). All (λ at. pool_word n s at ≡ pool_word m s at) (a ∷ (if b then ((a - 1) ∷ []) else []))) (sym e)
+    (All-cons (λ at. pool_word n s at ≡ pool_word m s at) a [] same (All-nil (λ at. pool_word n s at ≡ pool_word m s at)))
 
-two_read : (m n : Moment) (s a : ℕ) → is_first_linked a ≡ true → pool_word n s a ≡ pool_word m s a → pool_word n s (a - 1) ≡ pool_word m s (a - 1) → All (λ at. pool_word n s at ≡ pool_word m s at) (reads a)
+two_read : (m n : Moment) (s a : ℕ) → is_first_linked a ≡ true → pool_word n s a ≡ pool_word m s a
+    → pool_word n s (a - 1) ≡ pool_word m s (a - 1) → All (λ at. pool_word n s at ≡ pool_word m s at) (reads a)
 two_read m n s a e same link = subst (λ (b : Bool). All (λ at. pool_word n s at ≡ pool_word m s at) (a ∷ (if b then ((a - 1) ∷ []) else []))) (sym e)
-    (All-cons (λ at. pool_word n s at ≡ pool_word m s at) a ((a - 1) ∷ []) same (All-cons (λ at. pool_word n s at ≡ pool_word m s at) (a - 1) [] link (All-nil (λ at. pool_word n s at ≡ pool_word m s at))))
+    (All-cons (λ at. pool_word n s at ≡ pool_word m s at) a ((a - 1) ∷ []) same
+    (All-cons (λ at. pool_word n s at ≡ pool_word m s at) (a - 1) [] link (All-nil (λ at. pool_word n s at ≡ pool_word m s at))))
 
 step : (m n : Moment) (s : ℕ) (t : Term) (f : ℕ) → IsMoment m → IsMoment n → IsNotBefore n m → s < m.setting.segments → f < seen_count m s t → Step m n s t f
 step m n s t zero is js l h r =

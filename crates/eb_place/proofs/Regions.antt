@@ -1,5 +1,6 @@
 -- The stores that pass a test, among all stores of a history: those of the tokens of one segment.
-use Rattle.std.proofs.Common.{◌≡◌, ℕ, zero, suc, ◌+◌, ◌-◌, ◌==◌, Bool, true, false, List, [], ◌∷◌, ◌++◌, length, take, drop, filter, get_or, refl, ap, sym, ◌∙◌, subst, inl, inr, append-nil, append_assoc, Option, Some, None}
+use Rattle.std.proofs.Common.{◌≡◌, ℕ, zero, suc, ◌+◌, ◌-◌, ◌==◌, Bool, true, false, List, [], ◌∷◌, ◌++◌, length, take, drop}
+use Rattle.std.proofs.Common.{filter, get_or, refl, ap, sym, ◌∙◌, subst, inl, inr, append-nil, append_assoc, Option, Some, None}
 use Rattle.std.proofs.lemmas.Bool.{cases_Bool}
 use Rattle.std.proofs.lemmas.List.{take-append-drop}
 use Rattle.std.proofs.lemmas.List.Elements.{filter-append}
@@ -47,7 +48,8 @@ pub record Picks (σ : Setting) (s : ℕ) (p : Store → Bool) (of : List Term �
   pub elsewhere : (y : Store) → Elsewhere s y → p y ≡ false
 
 -- further tokens
-pub picks_tokens : (σ : Setting) (s : ℕ) (p : Store → Bool) (of : List Term → List Store) → Picks σ s p of → (n q : ℕ) (ts us : List Term) → of (ts ++ us) ≡ of ts ++ filter p (tokens_stores σ s n q ts us)
+pub picks_tokens : (σ : Setting) (s : ℕ) (p : Store → Bool) (of : List Term → List Store) → Picks σ s p of
+    → (n q : ℕ) (ts us : List Term) → of (ts ++ us) ≡ of ts ++ filter p (tokens_stores σ s n q ts us)
 unfolding tokens_stores
 picks_tokens σ s p of k n q ts [] = ap of (append-nil ts) ∙ sym (append-nil (of ts))
 picks_tokens σ s p of k n q ts (u ∷ us) =
@@ -66,7 +68,8 @@ first_none p s seg count h = elim (cases_Bool (length seg == 0)) [
 ]
 
 -- one more document of the segment
-pub picks_doc : (σ : Setting) (s : ℕ) (p : Store → Bool) (of : List Term → List Store) → Picks σ s p of → (seg : List Doc) (count : ℕ) (d : Doc) → of (terms_of seg ++ d.terms) ≡ of (terms_of seg) ++ filter p (stores_in σ s seg count d)
+pub picks_doc : (σ : Setting) (s : ℕ) (p : Store → Bool) (of : List Term → List Store) → Picks σ s p of
+    → (seg : List Doc) (count : ℕ) (d : Doc) → of (terms_of seg ++ d.terms) ≡ of (terms_of seg) ++ filter p (stores_in σ s seg count d)
 picks_doc σ s p of k seg count d =
     let F : List Store = first_stores s seg count in
     let T : List Store = tokens_stores σ s (length seg) 0 (terms_of seg) d.terms in
@@ -86,7 +89,8 @@ pub picks_all : (σ : Setting) (s : ℕ) (p : Store → Bool) (of : List Term �
 unfolding placings_after cut doc_stores
 picks_all σ s p of k = by_push (λ docs. filter p (placings σ docs) ≡ of (terms_of (get_or (cut σ docs) s []))) (sym (ap of (terms_none s) ∙ k.nothing)) step
   where
-    step : (docs : List Doc) (d : Doc) → filter p (placings σ docs) ≡ of (terms_of (get_or (cut σ docs) s [])) → filter p (placings σ (docs ++ d ∷ [])) ≡ of (terms_of (get_or (cut σ (docs ++ d ∷ [])) s []))
+    step : (docs : List Doc) (d : Doc) → filter p (placings σ docs) ≡ of (terms_of (get_or (cut σ docs) s []))
+        → filter p (placings σ (docs ++ d ∷ [])) ≡ of (terms_of (get_or (cut σ (docs ++ d ∷ [])) s []))
     step docs d ih =
         let v = length (with_doc σ (cut σ docs) d) - 1 in
         let before = before_in σ (cut σ docs) d in
@@ -106,7 +110,8 @@ picks_all σ s p of k = by_push (λ docs. filter p (placings σ docs) ≡ of (te
               ∙ ap (λ z. of (terms_of z)) (sym new)
           | no other ↦
               e
-              ∙ ap (λ z. of (terms_of (get_or (cut σ docs) s [])) ++ z) (filter_none p (stores_in σ v before (length docs) d) (Each-map k.elsewhere (doc_elsewhere σ v s before (length docs) d (λ w. other (sym w)))))
+              ∙ ap (λ z. of (terms_of (get_or (cut σ docs) s [])) ++ z)
+              (filter_none p (stores_in σ v before (length docs) d) (Each-map k.elsewhere (doc_elsewhere σ v s before (length docs) d (λ w. other (sym w)))))
               ∙ append-nil (of (terms_of (get_or (cut σ docs) s [])))
               ∙ ap (λ z. of (terms_of z)) (sym (g.other s other))
               ∙ ap (λ z. of (terms_of (get_or z s []))) (sym c)
@@ -117,17 +122,22 @@ picks_all σ s p of k = by_push (λ docs. filter p (placings σ docs) ≡ of (te
 -- what is done is the front of the stores of the whole history
 pub started_stores : (σ : Setting) (docs : List Doc) (c : Option (Doc × ℕ)) → IsPrefix (placings σ docs ++ current_stores σ docs c) (placings σ (docs ++ current_of c))
 started_stores σ docs None = ([], append-nil (placings σ docs ++ []) ∙ append-nil (placings σ docs) ∙ ap (placings σ) (sym (append-nil docs)))
-started_stores σ docs (Some c) =
-    (drop c.1 (doc_stores σ docs c.0), append_assoc (placings σ docs) (take c.1 (doc_stores σ docs c.0)) (drop c.1 (doc_stores σ docs c.0)) ∙ ap (λ z. placings σ docs ++ z) (take-append-drop c.1 (doc_stores σ docs c.0)) ∙ sym (placings_push σ docs c.0))
+started_stores σ docs (Some c) = (
+  drop c.1 (doc_stores σ docs c.0),
+  append_assoc (placings σ docs) (take c.1 (doc_stores σ docs c.0)) (drop c.1 (doc_stores σ docs c.0))
+      ∙ ap (λ z. placings σ docs ++ z) (take-append-drop c.1 (doc_stores σ docs c.0)) ∙ sym (placings_push σ docs c.0),
+)
 
 -- of a front, the kept ones are a front
 pub filter_prefix : {X : Type 0} (p : X → Bool) (xs ys : List X) → IsPrefix xs ys → IsPrefix (filter p xs) (filter p ys)
 filter_prefix p xs ys h = (filter p h.0, sym (filter-append p xs h.0) ∙ ap (filter p) h.1)
 
 -- those that are done of the stores that pass
-pub picks_done : (m : Moment) (s : ℕ) (p : Store → Bool) (of : List Term → List Store) → Picks m.setting s p of → IsPrefix (filter p (document_stores m.setting m.documents)) (of (terms_of (segment m s)))
+pub picks_done : (m : Moment) (s : ℕ) (p : Store → Bool) (of : List Term → List Store) → Picks m.setting s p of
+    → IsPrefix (filter p (document_stores m.setting m.documents)) (of (terms_of (segment m s)))
 unfolding document_stores
-picks_done m s p of k = subst (IsPrefix (filter p (document_stores m.setting m.documents))) (picks_all m.setting s p of k (with_current m.documents)) (filter_prefix p (document_stores m.setting m.documents) (placings m.setting (with_current m.documents)) (started_stores m.setting m.documents.accepted m.documents.current))
+picks_done m s p of k = subst (IsPrefix (filter p (document_stores m.setting m.documents))) (picks_all m.setting s p of k (with_current m.documents))
+    (filter_prefix p (document_stores m.setting m.documents) (placings m.setting (with_current m.documents)) (started_stores m.setting m.documents.accepted m.documents.current))
 
 -- ---- within the table
 

@@ -6,7 +6,8 @@ use Rattle.std.proofs.lemmas.List.Elements.{All-head, All-tail}
 use Rattle.eb_base.specs.Setting.{Setting, words_of}
 use Rattle.eb_place.specs.Layout.{Slot, Region, rank, sizes, starts_at, start, size, segment_words, place}
 use Rattle.eb_place.specs.Layout.Slot.{published, slot}
-use Rattle.eb_place.specs.Layout.Region.{first_region, converted_region, cell_region, text_place_region, tail_region, text_region, id_region, pool_0, pool_1, pool_2, pool_3, directory_region, packed_region}
+use Rattle.eb_place.specs.Layout.Region.{first_region, converted_region, cell_region, text_place_region, tail_region}
+use Rattle.eb_place.specs.Layout.Region.{text_region, id_region, pool_0, pool_1, pool_2, pool_3, directory_region, packed_region}
 use Rattle.eb_place.specs.Placing.{Store, pairs_of}
 use Rattle.eb_place.specs.Moments.{value_after}
 
@@ -93,7 +94,8 @@ untouched σ x v (y ∷ ys) h all other =
     ∙ untouched σ x v ys h (All-tail (λ (z : Store). InTable σ z.0) y ys all) (All-tail (λ (z : Store). z.0 ≡ x → ⊥) y ys other)
 
 -- a word that is stored for the last time keeps the value
-pub stored_last : (σ : Setting) (x : Slot) (v w : ℕ) (xs ys : List Store) → InTable σ x → All (λ y. InTable σ y.0) ys → All (λ y. y.0 ≡ x → ⊥) ys → value_after (place σ x) v (pairs_of σ (xs ++ (x, w) ∷ ys)) ≡ w
+pub stored_last : (σ : Setting) (x : Slot) (v w : ℕ) (xs ys : List Store) → InTable σ x → All (λ y. InTable σ y.0) ys
+    → All (λ y. y.0 ≡ x → ⊥) ys → value_after (place σ x) v (pairs_of σ (xs ++ (x, w) ∷ ys)) ≡ w
 unfolding value_after
 stored_last σ x v w [] ys h all other = ap (λ (b : Bool). value_after (place σ x) (cond b w v) (pairs_of σ ys)) (eq-eqb (place σ x) (place σ x) refl) ∙ untouched σ x w ys h all other
 stored_last σ x v w (z ∷ xs) ys h all other = stored_last σ x (if place σ z.0 == place σ x then z.1 else v) w xs ys h all other

@@ -36,12 +36,16 @@ link_later m n s t f a is l h = let r = h.reached in let more = later_reached m 
     }
 
 -- the word of a reached posting
-pub posting_stays : (m n : Moment) (s : ℕ) (t : Term) (f a : ℕ) → IsMoment m → IsMoment n → IsNotBefore n m → IsAddress m s t f a → word n (place m.setting (pool_slot s a)) ≡ word m (place m.setting (pool_slot s a))
+pub posting_stays : (m n : Moment) (s : ℕ) (t : Term) (f a : ℕ) → IsMoment m → IsMoment n → IsNotBefore n m
+    → IsAddress m s t f a → word n (place m.setting (pool_slot s a)) ≡ word m (place m.setting (pool_slot s a))
 posting_stays m n s t f a is js l h =
-    ap (λ (σ : Setting). word n (place σ (pool_slot s a))) l.setting ∙ word_posting n s t f a js (address_later m n s t f a is l h) ∙ later_posting m n s t f l h.reached ∙ sym (word_posting m s t f a is h)
+    ap (λ (σ : Setting). word n (place σ (pool_slot s a))) l.setting ∙ word_posting n s t f a js (address_later m n s t f a is l h)
+    ∙ later_posting m n s t f l h.reached ∙ sym (word_posting m s t f a is h)
 
 -- the word of a link
-pub link_stays : (m n : Moment) (s : ℕ) (t : Term) (f a : ℕ) → IsMoment m → IsMoment n → IsNotBefore n m → IsLink m s t f a → word n (place m.setting (pool_slot s a)) ≡ word m (place m.setting (pool_slot s a))
+pub link_stays : (m n : Moment) (s : ℕ) (t : Term) (f a : ℕ) → IsMoment m → IsMoment n → IsNotBefore n m
+    → IsLink m s t f a → word n (place m.setting (pool_slot s a)) ≡ word m (place m.setting (pool_slot s a))
 link_stays m n s t f a is js l h =
     let r = h.reached in
-    ap (λ (σ : Setting). word n (place σ (pool_slot s a))) l.setting ∙ word_link n s t f a js (link_later m n s t f a is l h) ∙ later_address m n s t f is l h.inside (omega arith) ∙ sym (word_link m s t f a is h)
+    ap (λ (σ : Setting). word n (place σ (pool_slot s a))) l.setting ∙ word_link n s t f a js (link_later m n s t f a is l h)
+    ∙ later_address m n s t f is l h.inside (omega arith) ∙ sym (word_link m s t f a is h)

@@ -1,5 +1,6 @@
 -- One store more: the next pair of a placing changes one word, and the moment stays one.
-use Rattle.std.proofs.Common.{◌≡◌, ℕ, zero, suc, ◌+◌, ◌<◌, ◌≤◌, ◌==◌, Bool, true, false, cond, ltb, List, [], ◌∷◌, ◌++◌, length, take, refl, ap, sym, ◌∙◌, subst, arith, if◌then◌else◌, append-nil, append_assoc, Option, Some, None}
+use Rattle.std.proofs.Common.{◌≡◌, ℕ, zero, suc, ◌+◌, ◌<◌, ◌≤◌, ◌==◌, Bool, true, false, cond, ltb, List, [], ◌∷◌, ◌++◌, length}
+use Rattle.std.proofs.Common.{take, refl, ap, sym, ◌∙◌, subst, arith, if◌then◌else◌, append-nil, append_assoc, Option, Some, None}
 use Rattle.std.specs.Prelude.{slice_get}
 use Rattle.std.proofs.lemmas.Bool.{ltb-false, eq-eqb, ne_eqb, false≢true}
 use Rattle.std.proofs.lemmas.List.{map-append}
@@ -86,7 +87,8 @@ begun_is σ docs None d is = refl
 begun_is σ docs (Some c) d is = ap (λ (e : Doc). take c.1 (doc_stores σ docs e)) is
 
 stores_stored : (σ : Setting) (docs : List Doc) (c : Option (Doc × ℕ)) (d : Doc) (x : Store) → IsCurrent c d → slice_get (doc_stores σ docs d) (stores_done c) ≡ Some x
-    → (b : Bool) → ltb (suc (stores_done c)) (length (doc_stores σ docs d)) ≡ b → document_stores σ (documents_after b docs d (suc (stores_done c))) ≡ document_stores σ record { accepted = docs; current = c } ++ x ∷ []
+    → (b : Bool) → ltb (suc (stores_done c)) (length (doc_stores σ docs d)) ≡ b
+    → document_stores σ (documents_after b docs d (suc (stores_done c))) ≡ document_stores σ record { accepted = docs; current = c } ++ x ∷ []
 unfolding document_stores
 stores_stored σ docs c d x is next true long =
     ap (λ (l : List Store). placings σ docs ++ l) (take_next _ _ _ next ∙ ap (λ (l : List Store). l ++ x ∷ []) (sym (begun_is σ docs c d is)))
@@ -155,7 +157,8 @@ moment_packs m is =
     (λ l. let c = (is.packs l).0 in p.room m.conversions.converted (omega arith))
 
 -- the conversions are as before
-pub conversions_same : (m : Moment) (d : Doc) (p v : ℕ) → IsMoment m → IsNext m d p v → conversion_stores m.setting (with_current (after_store m d).documents) m.conversions ≡ conversion_stores m.setting (with_current m.documents) m.conversions
+pub conversions_same : (m : Moment) (d : Doc) (p v : ℕ) → IsMoment m → IsNext m d p v
+    → conversion_stores m.setting (with_current (after_store m d).documents) m.conversions ≡ conversion_stores m.setting (with_current m.documents) m.conversions
 unfolding after_store
 conversions_same m d p v is n =
     let docs = m.documents.accepted in
@@ -166,11 +169,13 @@ conversions_same m d p v is n =
     ∙ all_stay m.setting (with_current m.documents) more.0 m.conversions is.closed (λ l. (is.packs l).0)
 
 -- the writer's stores with one more
-pub stored_stores : (m : Moment) (d : Doc) (p v : ℕ) → (n : IsNext m d p v) → document_stores m.setting (after_store m d).documents ≡ document_stores m.setting m.documents ++ ((next_store m d p v n).slot, v) ∷ []
+pub stored_stores : (m : Moment) (d : Doc) (p v : ℕ) → (n : IsNext m d p v)
+    → document_stores m.setting (after_store m d).documents ≡ document_stores m.setting m.documents ++ ((next_store m d p v n).slot, v) ∷ []
 unfolding after_store
 stored_stores m d p v n = stores_stored m.setting m.documents.accepted m.documents.current d ((next_store m d p v n).slot, v) n.current (next_store m d p v n).is _ refl
 
-value_elsewhere : (σ : Setting) (q p w : ℕ) (x : Slot) (xs : List Store) → InTable σ x → p ≡ place σ x → p ≡ q → Each (IsWithin σ) xs → Each (λ (y : Store). y.0 ≡ x → ⊥) xs → value_after q w (pairs_of σ xs) ≡ w
+value_elsewhere : (σ : Setting) (q p w : ℕ) (x : Slot) (xs : List Store) → InTable σ x → p ≡ place σ x → p ≡ q
+    → Each (IsWithin σ) xs → Each (λ (y : Store). y.0 ≡ x → ⊥) xs → value_after q w (pairs_of σ xs) ≡ w
 value_elsewhere σ q p w x xs h e k all other = ap (λ z. value_after z w (pairs_of σ xs)) (sym k ∙ e) ∙ untouched σ x w xs h (All-from_Each all) (All-from_Each other)
 
 -- a store leaves the setting
@@ -192,7 +197,8 @@ word_stored m d p v q is n =
     (λ i. value_after q 0 (pairs_of σ (stored_stores m d p v n i ++ conversions_same m d p v is n i)))
     ∙ ap (value_after q 0) (map-append (λ (y : Store). (place σ y.0, y.1)) (D ++ (k.slot, v) ∷ []) C)
     ∙ value_after-append q 0 (pairs_of σ (D ++ (k.slot, v) ∷ [])) (pairs_of σ C)
-    ∙ ap (λ z. value_after q z (pairs_of σ C)) (ap (value_after q 0) (map-append (λ (y : Store). (place σ y.0, y.1)) D ((k.slot, v) ∷ [])) ∙ value_after-append q 0 (pairs_of σ D) (pairs_of σ ((k.slot, v) ∷ []))) in
+    ∙ ap (λ z. value_after q z (pairs_of σ C))
+    (ap (value_after q 0) (map-append (λ (y : Store). (place σ y.0, y.1)) D ((k.slot, v) ∷ [])) ∙ value_after-append q 0 (pairs_of σ D) (pairs_of σ ((k.slot, v) ∷ []))) in
     let right : word m q ≡ value_after q (value_after q 0 (pairs_of σ D)) (pairs_of σ C) =
     ap (value_after q 0) (map-append (λ (y : Store). (place σ y.0, y.1)) D C) ∙ value_after-append q 0 (pairs_of σ D) (pairs_of σ C) in
     elim (ℕ_discrete p q) [

@@ -9,7 +9,8 @@ use Rattle.eb_base.specs.Document.{Doc}
 use Rattle.eb_base.specs.Setting.{Setting, IsSetting}
 use Rattle.eb_place.specs.Layout.{Slot, Region, place}
 use Rattle.eb_place.specs.Layout.Slot.{published, slot}
-use Rattle.eb_place.specs.Layout.Region.{first_region, converted_region, cell_region, text_place_region, tail_region, text_region, id_region, pool_0, pool_1, pool_2, pool_3, directory_region, packed_region}
+use Rattle.eb_place.specs.Layout.Region.{first_region, converted_region, cell_region, text_place_region, tail_region}
+use Rattle.eb_place.specs.Layout.Region.{text_region, id_region, pool_0, pool_1, pool_2, pool_3, directory_region, packed_region}
 use Rattle.eb_place.specs.Postings.{count_of, terms_of, distinct, postings}
 use Rattle.eb_place.specs.Room.{cut, IsLawful}
 use Rattle.eb_place.specs.Placing.{Store, pairs_of, placing, doc_stores}
@@ -80,7 +81,8 @@ converters_lie σ at published e w = absurd (false≢true w.1)
 converters_lie σ at (slot s r i) e w = record { segment = s; region = r; index = i; inside = w.0.0; within = w.0.1; passes = converters_region s r i w.1; is = e }
 
 -- the stores of a placing
-pub placing_lies : (σ : Setting) (docs : List Doc) (d : Doc) (at v : ℕ) → IsSetting σ → IsLawful σ (docs ++ d ∷ []) → Contains (placing σ docs d) (at, v) → (at ≡ 0) ⊎ LiesIn σ (λ r. not (is_converters r)) at
+pub placing_lies : (σ : Setting) (docs : List Doc) (d : Doc) (at v : ℕ) → IsSetting σ → IsLawful σ (docs ++ d ∷ [])
+    → Contains (placing σ docs d) (at, v) → (at ≡ 0) ⊎ LiesIn σ (λ r. not (is_converters r)) at
 placing_lies σ docs d at v k h c =
     let p = placed_all σ docs k (lawful_front σ docs (d ∷ []) h) in
     let all = pairs_are σ (IsWriters σ) (doc_stores σ docs d) (doc_writers σ docs d _ _ (joins σ docs d k p.short (lawful_last σ docs d h))) in
@@ -93,7 +95,8 @@ conversion_lies σ docs s at v k h l c =
     let p = placed_all σ docs k h in
     let short = p.short in
     let each : Each (λ (z : Store). IsConverters σ z.0) (segment_stores σ docs s) = Each-map (λ z f. (f.within, f.packed)) (segment_packs σ docs s (p.room s (omega arith))) in
-    let x = All-contains (λ (z : ℕ × ℕ). (x : Slot) × (z.0 ≡ place σ x) × IsConverters σ x) (conversion σ docs s) (at, v) (All-from_Each (pairs_are σ (IsConverters σ) (segment_stores σ docs s) each)) c in
+    let x =
+    All-contains (λ (z : ℕ × ℕ). (x : Slot) × (z.0 ≡ place σ x) × IsConverters σ x) (conversion σ docs s) (at, v) (All-from_Each (pairs_are σ (IsConverters σ) (segment_stores σ docs s) each)) c in
     converters_lie σ at x.0 x.1 x.2
 
 -- ---- how many packed words there are
@@ -106,13 +109,19 @@ sums_few : (f g : Term → ℕ) → ((t : Term) → f t ≤ g t) → (ts : List 
 sums_few f g h [] = omega arith
 sums_few f g h (t ∷ ts) = omega (arith, sum_by-cons f t ts, sum_by-cons g t ts, h t, sums_few f g h ts)
 
-pub packs_fit : (σ : Setting) (docs : List Doc) (s : ℕ) → IsSetting σ → IsLawful σ docs → s < length (cut σ docs) → sum_by (λ t. length (packed t (get_or (cut σ docs) s []))) (distinct (terms_of (get_or (cut σ docs) s []))) ≤ 34 * σ.terms
+pub packs_fit : (σ : Setting) (docs : List Doc) (s : ℕ) → IsSetting σ → IsLawful σ docs → s < length (cut σ docs)
+    → sum_by (λ t. length (packed t (get_or (cut σ docs) s []))) (distinct (terms_of (get_or (cut σ docs) s []))) ≤ 34 * σ.terms
 packs_fit σ docs s k h l =
     let p = placed_all σ docs k h in
     let short = p.short in
     let seg = get_or (cut σ docs) s [] in
     let room = p.room s (omega arith) in
-    omega (arith, sums_few (λ t. length (packed t seg)) (λ t. count_of t (terms_of seg)) (λ t. packed_few t seg) (distinct (terms_of seg)), total_count (terms_of seg), postings_few σ (terms_of seg) room.fits)
+    omega (
+      arith,
+      sums_few (λ t. length (packed t seg)) (λ t. count_of t (terms_of seg)) (λ t. packed_few t seg) (distinct (terms_of seg)),
+      total_count (terms_of seg),
+      postings_few σ (terms_of seg) room.fits,
+    )
 
 pub block_few : (xs : List ℕ) → 1 ≤ length xs → length (block xs) ≤ length xs
 unfolding block

@@ -63,17 +63,21 @@ row_from s i [] j h = none
 row_from s i (v ∷ vs) j h = more (λ e. let k = text_index s i j e in omega arith) (row_from s (i + 1) vs j (omega arith))
 
 -- the words of a row are its values
-pub row_stored : (σ : Setting) (s i : ℕ) (vs : List ℕ) (L : List Store) (j : ℕ) → s < σ.segments → i + length vs ≤ 4 * σ.terms → j < length vs → val σ (L ++ in_row s text_region i vs) (slot s text_region (i + j)) ≡ get_or vs j 0
+pub row_stored : (σ : Setting) (s i : ℕ) (vs : List ℕ) (L : List Store) (j : ℕ) → s < σ.segments → i + length vs ≤ 4 * σ.terms
+    → j < length vs → val σ (L ++ in_row s text_region i vs) (slot s text_region (i + j)) ≡ get_or vs j 0
 unfolding size
 row_stored σ s i [] L j h l k = absurd (omega arith)
 row_stored σ s i (v ∷ vs) L zero h l k =
-    let e : L ++ (slot s text_region i, v) ∷ in_row s text_region (i + 1) vs ≡ (L ++ (slot s text_region i, v) ∷ []) ++ in_row s text_region (i + 1) vs = sym (append_assoc L ((slot s text_region i, v) ∷ []) (in_row s text_region (i + 1) vs)) in
+    let e : L ++ (slot s text_region i, v) ∷ in_row s text_region (i + 1) vs ≡ (L ++ (slot s text_region i, v) ∷ []) ++ in_row s text_region (i + 1) vs =
+    sym (append_assoc L ((slot s text_region i, v) ∷ []) (in_row s text_region (i + 1) vs)) in
     ap (λ z. val σ (L ++ (slot s text_region i, v) ∷ in_row s text_region (i + 1) vs) (slot s text_region z)) (let q : i + 0 ≡ i = omega arith in q)
     ∙ ap (λ z. val σ z (slot s text_region i)) e
-    ∙ val_keeps σ (L ++ (slot s text_region i, v) ∷ []) (in_row s text_region (i + 1) vs) (slot s text_region i) (h, omega arith) (row_within σ s (i + 1) vs h (omega arith)) (row_from s (i + 1) vs i (omega arith))
+    ∙ val_keeps σ (L ++ (slot s text_region i, v) ∷ []) (in_row s text_region (i + 1) vs) (slot s text_region i)
+    (h, omega arith) (row_within σ s (i + 1) vs h (omega arith)) (row_from s (i + 1) vs i (omega arith))
     ∙ val_stored σ L (slot s text_region i) v
 row_stored σ s i (v ∷ vs) L (suc j) h l k =
-    let e : L ++ (slot s text_region i, v) ∷ in_row s text_region (i + 1) vs ≡ (L ++ (slot s text_region i, v) ∷ []) ++ in_row s text_region (i + 1) vs = sym (append_assoc L ((slot s text_region i, v) ∷ []) (in_row s text_region (i + 1) vs)) in
+    let e : L ++ (slot s text_region i, v) ∷ in_row s text_region (i + 1) vs ≡ (L ++ (slot s text_region i, v) ∷ []) ++ in_row s text_region (i + 1) vs =
+    sym (append_assoc L ((slot s text_region i, v) ∷ []) (in_row s text_region (i + 1) vs)) in
     ap (λ z. val σ (L ++ (slot s text_region i, v) ∷ in_row s text_region (i + 1) vs) (slot s text_region z)) (let q : i + suc j ≡ i + 1 + j = omega arith in q)
     ∙ ap (λ z. val σ z (slot s text_region (i + 1 + j))) e
     ∙ row_stored σ s (i + 1) vs (L ++ (slot s text_region i, v) ∷ []) j h (omega arith) (omega arith)
@@ -99,7 +103,8 @@ text_ends zero (t ∷ ts) h = omega (arith, sum_by-cons text_words t ts)
 text_ends (suc k) [] h = absurd (omega arith)
 text_ends (suc k) (t ∷ ts) h = omega (arith, sum_by-cons text_words t ts, sum_by-cons text_words t (take k ts), text_ends k ts (omega arith))
 
-texts_kept : (σ : Setting) (s : ℕ) (terms : List Term) (L M : List Store) → HasTerms σ s terms → Each (IsWithin σ) M → ((k : ℕ) → k < length terms → Each (λ (y : Store). y.0 ≡ slot s text_place_region k → ⊥) M) → ((i : ℕ) → i < sum_by text_words terms → Each (λ (y : Store). y.0 ≡ slot s text_region i → ⊥) M)
+texts_kept : (σ : Setting) (s : ℕ) (terms : List Term) (L M : List Store) → HasTerms σ s terms → Each (IsWithin σ) M
+    → ((k : ℕ) → k < length terms → Each (λ (y : Store). y.0 ≡ slot s text_place_region k → ⊥) M) → ((i : ℕ) → i < sum_by text_words terms → Each (λ (y : Store). y.0 ≡ slot s text_region i → ⊥) M)
     → Texts σ s terms L → Texts σ s terms (L ++ M)
 unfolding size
 texts_kept σ s terms L M room all places texts h = record {
@@ -115,10 +120,12 @@ pub texts_keep : (σ : Setting) (s : ℕ) (terms : List Term) (L M : List Store)
 texts_keep σ s terms L M room all behind h = texts_kept σ s terms L M room all (λ k l. Each-map (λ y b. b.at k l) behind) (λ i l. Each-map (λ y b. b.text i l) behind) h
 
 -- and the cells
-pub entered_keep : (σ : Setting) (s : ℕ) (terms : List Term) (L M : List Store) → s < σ.segments → ((k : ℕ) → k < length terms → get_or (cells_of (2 * σ.terms) terms) k 0 < 2 * σ.terms) → Each (IsWithin σ) M → Each (Behind s terms) M → Entered σ s terms L → Entered σ s terms (L ++ M)
+pub entered_keep : (σ : Setting) (s : ℕ) (terms : List Term) (L M : List Store) → s < σ.segments → ((k : ℕ) → k < length terms → get_or (cells_of (2 * σ.terms) terms) k 0 < 2 * σ.terms)
+    → Each (IsWithin σ) M → Each (Behind s terms) M → Entered σ s terms L → Entered σ s terms (L ++ M)
 unfolding size
 entered_keep σ s terms L M inside low all behind h = record {
-  cell = λ k l. val_keeps σ L M (slot s cell_region (get_or (cells_of (2 * σ.terms) terms) k 0)) (inside, low k l) all (Each-map (λ y b. b.cell (get_or (cells_of (2 * σ.terms) terms) k 0)) behind) ∙ h.cell k l;
+  cell = λ k l. val_keeps σ L M (slot s cell_region (get_or (cells_of (2 * σ.terms) terms) k 0)) (inside, low k l) all (Each-map (λ y b. b.cell (get_or (cells_of (2 * σ.terms) terms) k 0)) behind)
+      ∙ h.cell k l;
   free = λ c l o. val_keeps σ L M (slot s cell_region c) (inside, l) all (Each-map (λ y b. b.cell c) behind) ∙ h.free c l o;
 }
 
@@ -136,9 +143,11 @@ text_behind s i terms (v ∷ vs) h = more (record {
 pub text_stores : ℕ → List Term → Term → List Store
 text_stores s terms t = in_row s text_region (sum_by text_words terms) (text_of t) ++ (slot s text_place_region (length terms), sum_by text_words terms) ∷ []
 
-pub enter_split : (σ : Setting) (s : ℕ) (terms : List Term) (t : Term) → enter_stores σ s terms t ≡ text_stores s terms t ++ (slot s cell_region (cell_of_next (2 * σ.terms) terms t), length terms + 1) ∷ []
+pub enter_split : (σ : Setting) (s : ℕ) (terms : List Term) (t : Term)
+    → enter_stores σ s terms t ≡ text_stores s terms t ++ (slot s cell_region (cell_of_next (2 * σ.terms) terms t), length terms + 1) ∷ []
 unfolding enter_stores text_stores
-enter_split σ s terms t = sym (append_assoc (in_row s text_region (sum_by text_words terms) (text_of t)) ((slot s text_place_region (length terms), sum_by text_words terms) ∷ []) ((slot s cell_region (cell_of_next (2 * σ.terms) terms t), length terms + 1) ∷ []))
+enter_split σ s terms t = sym (append_assoc (in_row s text_region (sum_by text_words terms) (text_of t))
+    ((slot s text_place_region (length terms), sum_by text_words terms) ∷ []) ((slot s cell_region (cell_of_next (2 * σ.terms) terms t), length terms + 1) ∷ []))
 
 pub text_stores_behind : (s : ℕ) (terms : List Term) (t : Term) → Each (Behind s terms) (text_stores s terms t)
 unfolding text_stores
@@ -150,7 +159,8 @@ text_stores_behind s terms t = Each-append (text_behind s (sum_by text_words ter
 }) none)
 
 -- one more term
-pub texts_done : (σ : Setting) (s : ℕ) (terms : List Term) (t : Term) (L : List Store) → HasTerms σ s (terms ++ t ∷ []) → Texts σ s terms L → Texts σ s (terms ++ t ∷ []) (L ++ enter_stores σ s terms t)
+pub texts_done : (σ : Setting) (s : ℕ) (terms : List Term) (t : Term) (L : List Store)
+    → HasTerms σ s (terms ++ t ∷ []) → Texts σ s terms L → Texts σ s (terms ++ t ∷ []) (L ++ enter_stores σ s terms t)
 unfolding size text_stores
 texts_done σ s terms t L room h =
     let n = length_push terms t in
@@ -165,13 +175,16 @@ texts_done σ s terms t L room h =
     let R : List Store = in_row s text_region a (text_of t) in
     let x : Store = (slot s text_place_region (length terms), a) in
     let y : Store = (slot s cell_region (cell_of_next (2 * σ.terms) terms t), length terms + 1) in
-    let e : L ++ enter_stores σ s terms t ≡ ((L ++ R) ++ x ∷ []) ++ y ∷ [] = ap (λ z. L ++ z) (enter_split σ s terms t) ∙ sym (append_assoc L (R ++ x ∷ []) (y ∷ [])) ∙ ap (λ z. z ++ y ∷ []) (sym (append_assoc L R (x ∷ []))) in
+    let e : L ++ enter_stores σ s terms t ≡ ((L ++ R) ++ x ∷ []) ++ y ∷ [] = ap (λ z. L ++ z) (enter_split σ s terms t)
+    ∙ sym (append_assoc L (R ++ x ∷ []) (y ∷ [])) ∙ ap (λ z. z ++ y ∷ []) (sym (append_assoc L R (x ∷ []))) in
     let c = cell_within terms t (2 * σ.terms) (omega arith) in
     let cell_in : Each (IsWithin σ) (y ∷ []) = more (inside, c) none in
     let kept : Texts σ s terms (L ++ enter_stores σ s terms t) =
     texts_kept σ s terms L (enter_stores σ s terms t) old all
-    (λ k l. subst (Each (λ (z : Store). z.0 ≡ slot s text_place_region k → ⊥)) (sym (enter_split σ s terms t)) (Each-append (Each-map (λ z b. b.at k l) (text_stores_behind s terms t)) (more (λ e. absurd cc) none)))
-    (λ i l. subst (Each (λ (z : Store). z.0 ≡ slot s text_region i → ⊥)) (sym (enter_split σ s terms t)) (Each-append (Each-map (λ z b. b.text i l) (text_stores_behind s terms t)) (more (λ e. absurd cc) none)))
+    (λ k l. subst (Each (λ (z : Store). z.0 ≡ slot s text_place_region k → ⊥)) (sym (enter_split σ s terms t))
+    (Each-append (Each-map (λ z b. b.at k l) (text_stores_behind s terms t)) (more (λ e. absurd cc) none)))
+    (λ i l. subst (Each (λ (z : Store). z.0 ≡ slot s text_region i → ⊥)) (sym (enter_split σ s terms t))
+    (Each-append (Each-map (λ z b. b.text i l) (text_stores_behind s terms t)) (more (λ e. absurd cc) none)))
     h in
     record {
       at = λ k l. elim (cases_lt k (length terms)) [

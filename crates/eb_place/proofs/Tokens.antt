@@ -1,5 +1,6 @@
 -- The words while tokens are stored, one after the other.
-use Rattle.std.proofs.Common.{◌≡◌, ℕ, zero, suc, ◌+◌, ◌-◌, ◌<◌, ◌≤◌, ◌==◌, ◌&&◌, Bool, cond, List, [], ◌∷◌, ◌++◌, length, take, refl, ap, sym, ◌∙◌, subst, arith, inl, inr, if◌then◌else◌, nat_le, append-nil, append_assoc}
+use Rattle.std.proofs.Common.{◌≡◌, ℕ, zero, suc, ◌+◌, ◌-◌, ◌<◌, ◌≤◌, ◌==◌, ◌&&◌, Bool, cond, List, [], ◌∷◌, ◌++◌, length, take}
+use Rattle.std.proofs.Common.{refl, ap, sym, ◌∙◌, subst, arith, inl, inr, if◌then◌else◌, nat_le, append-nil, append_assoc}
 use Rattle.std.proofs.lemmas.Bool.{cases_lt, and_from, le-leb}
 use Rattle.std.proofs.lemmas.List.{length_push, take_all, take-append-le}
 use Rattle.eb_base.specs.Term.{Term}
@@ -32,7 +33,8 @@ front_within : (σ : Setting) (s : ℕ) (ts : List Term) (u : Term) (p : ℕ) �
 front_within σ s ts u p r = Each-front (front_stores σ s ts u p) (tail_store s ts u ∷ []) (subst (Each (IsWithin σ)) (token_split σ s ts u p) (token_within σ s ts u p r.inside r.small r.some r.fits))
 
 -- all stores but that of the tail
-pub fronted : (σ : Setting) (s : ℕ) (ts : List Term) (P : Term → ℕ → ℕ) (u : Term) (L : List Store) → Room σ s (ts ++ u ∷ []) → Reached σ s ts P L → Fronted σ s ts P u (L ++ front_stores σ s ts u (P u (count_of u ts)))
+pub fronted : (σ : Setting) (s : ℕ) (ts : List Term) (P : Term → ℕ → ℕ) (u : Term) (L : List Store)
+    → Room σ s (ts ++ u ∷ []) → Reached σ s ts P L → Fronted σ s ts P u (L ++ front_stores σ s ts u (P u (count_of u ts)))
 fronted σ s ts P u L room h =
     let c = count_of u ts in
     let p = P u c in
@@ -54,7 +56,8 @@ fronted σ s ts P u L room h =
           (let k : K ≡ (pool_slot s (a - 1), address_of u (c - 1) ts) ∷ [] = ap (λ (z : Bool). cond z ((pool_slot s (a - 1), address_of u (c - 1) ts) ∷ []) []) (and_from _ _ b (le-leb _ _ o)) in
           let w : InTable σ (pool_slot s (a - 1)) = subst (λ z. InTable σ (pool_slot s (z - 1))) here (link_within σ s (ts ++ u ∷ []) u c room.inside room.small room.fits hc b o) in
           ap (λ z. val σ z (pool_slot s (a - 1))) split
-          ∙ val_keeps σ ((L ++ E) ++ K) (y ∷ []) (pool_slot s (a - 1)) w (more in_y none) (more (λ e. link_fresh s (ts ++ u ∷ []) u u c c fit hc hc b o (ap (λ z. pool_slot s (z - 1)) here ∙ sym e ∙ ap (pool_slot s) (sym here))) none)
+          ∙ val_keeps σ ((L ++ E) ++ K) (y ∷ []) (pool_slot s (a - 1)) w (more in_y none)
+          (more (λ e. link_fresh s (ts ++ u ∷ []) u u c c fit hc hc b o (ap (λ z. pool_slot s (z - 1)) here ∙ sym e ∙ ap (pool_slot s) (sym here))) none)
           ∙ ap (λ z. val σ ((L ++ E) ++ z) (pool_slot s (a - 1))) k
           ∙ val_stored σ (L ++ E) (pool_slot s (a - 1)) (address_of u (c - 1) ts));
     }
@@ -64,7 +67,8 @@ pub token_done : (σ : Setting) (s : ℕ) (ts : List Term) (P : Term → ℕ →
     → Reached σ s (ts ++ u ∷ []) P (L ++ token_stores σ s ts u p)
 token_done σ s ts P u p L room e h =
     subst (λ z. Reached σ s (ts ++ u ∷ []) P (L ++ token_stores σ s ts u z)) e
-    (subst (λ z. Reached σ s (ts ++ u ∷ []) P z) (append_assoc L (front_stores σ s ts u (P u (count_of u ts))) (tail_store s ts u ∷ []) ∙ ap (λ z. L ++ z) (sym (token_split σ s ts u (P u (count_of u ts)))))
+    (subst (λ z. Reached σ s (ts ++ u ∷ []) P z)
+    (append_assoc L (front_stores σ s ts u (P u (count_of u ts))) (tail_store s ts u ∷ []) ∙ ap (λ z. L ++ z) (sym (token_split σ s ts u (P u (count_of u ts)))))
     (tailed σ s ts P u (L ++ front_stores σ s ts u (P u (count_of u ts))) room (fronted σ s ts P u L room h)))
 
 -- the first stores of a token
@@ -84,7 +88,8 @@ Agrees P n p ts [] = Unit {0}
 Agrees P n p ts (u ∷ us) = (P u (count_of u ts) ≡ posting_of n p) × Agrees P n (p + 1) (ts ++ u ∷ []) us
 
 -- the closed form with all stores of further tokens
-pub tokens_done : (σ : Setting) (s n p : ℕ) (ts us : List Term) (P : Term → ℕ → ℕ) (L : List Store) → Room σ s (ts ++ us) → Agrees P n p ts us → Reached σ s ts P L → Reached σ s (ts ++ us) P (L ++ tokens_stores σ s n p ts us)
+pub tokens_done : (σ : Setting) (s n p : ℕ) (ts us : List Term) (P : Term → ℕ → ℕ) (L : List Store) → Room σ s (ts ++ us)
+    → Agrees P n p ts us → Reached σ s ts P L → Reached σ s (ts ++ us) P (L ++ tokens_stores σ s n p ts us)
 unfolding tokens_stores
 tokens_done σ s n p ts [] P L room a h = rw (append-nil, append-nil) h
 tokens_done σ s n p ts (u ∷ us) P L room a h =
@@ -109,9 +114,16 @@ pub record Some_stored (σ : Setting) (s : ℕ) (ts us : List Term) (P : Term �
   pub reached : Reached σ s (ts ++ stored) P L
 
 -- the closed form with the first stores of further tokens
-pub tokens_begun : (σ : Setting) (s n p r : ℕ) (ts us : List Term) (P : Term → ℕ → ℕ) (L : List Store) → Room σ s (ts ++ us) → Agrees P n p ts us → Reached σ s ts P L → Some_stored σ s ts us P (L ++ take r (tokens_stores σ s n p ts us))
+pub tokens_begun : (σ : Setting) (s n p r : ℕ) (ts us : List Term) (P : Term → ℕ → ℕ) (L : List Store) → Room σ s (ts ++ us)
+    → Agrees P n p ts us → Reached σ s ts P L → Some_stored σ s ts us P (L ++ take r (tokens_stores σ s n p ts us))
 unfolding tokens_stores
-tokens_begun σ s n p r ts [] P L room a h = record { stored = []; left = []; all = refl; reached = subst (λ z. Reached σ s z P (L ++ take r [])) (sym (append-nil ts)) (subst (λ z. Reached σ s ts P (L ++ z)) (sym (take_all r [] (omega arith))) (subst (Reached σ s ts P) (sym (append-nil L)) h)) }
+tokens_begun σ s n p r ts [] P L room a h = record {
+  stored = [];
+  left = [];
+  all = refl;
+  reached = subst (λ z. Reached σ s z P (L ++ take r [])) (sym (append-nil ts))
+      (subst (λ z. Reached σ s ts P (L ++ z)) (sym (take_all r [] (omega arith))) (subst (Reached σ s ts P) (sym (append-nil L)) h));
+}
 tokens_begun σ s n p r ts (u ∷ us) P L room a h =
     let e = append_assoc ts (u ∷ []) us in
     let room' : Room σ s ((ts ++ u ∷ []) ++ us) = subst (Room σ s) (sym e) room in

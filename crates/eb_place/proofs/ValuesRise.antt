@@ -1,5 +1,6 @@
 -- The values stored to the count and to each tail rise.
-use Rattle.std.proofs.Common.{◌≡◌, ℕ, zero, suc, ◌+◌, ◌-◌, ◌*◌, ◌^◌, ◌<◌, ◌≤◌, ◌==◌, ◌⊎◌, true, List, [], ◌∷◌, ◌++◌, length, get_or, map, filter, slice_index, bytes_eq, refl, ap, sym, ◌∙◌, subst, arith, inl, inr, append-nil}
+use Rattle.std.proofs.Common.{◌≡◌, ℕ, zero, suc, ◌+◌, ◌-◌, ◌*◌, ◌^◌, ◌<◌, ◌≤◌, ◌==◌, ◌⊎◌, true, List, [], ◌∷◌, ◌++◌, length}
+use Rattle.std.proofs.Common.{get_or, map, filter, slice_index, bytes_eq, refl, ap, sym, ◌∙◌, subst, arith, inl, inr, append-nil}
 use Rattle.std.specs.List.Sorted.{IsStrictlyIncreasing}
 use Rattle.std.proofs.lemmas.Bool.{cases_Bool, cases_lt, eq-eqb, ne_eqb}
 use Rattle.std.proofs.lemmas.Bool.Decides.{nat_tests}
@@ -65,8 +66,10 @@ values_none σ x [] i none none = refl
 values_none σ x (y ∷ ys) i (more w all) (more o other) = rw (ne_eqb (place σ y.0) (place σ x) (λ e. o (place_once σ y.0 x w i e))) (values_none σ x ys i all other)
 
 -- stores to other words change nothing
-pub values_keep : (σ : Setting) (x : Slot) (xs ys : List Store) → InTable σ x → Each (IsWithin σ) ys → Each (λ y. y.0 ≡ x → ⊥) ys → values_at (place σ x) (pairs_of σ (xs ++ ys)) ≡ values_at (place σ x) (pairs_of σ xs)
-values_keep σ x xs ys i all other = values-append σ (place σ x) xs ys ∙ ap (λ z. values_at (place σ x) (pairs_of σ xs) ++ z) (values_none σ x ys i all other) ∙ append-nil (values_at (place σ x) (pairs_of σ xs))
+pub values_keep : (σ : Setting) (x : Slot) (xs ys : List Store) → InTable σ x → Each (IsWithin σ) ys
+    → Each (λ y. y.0 ≡ x → ⊥) ys → values_at (place σ x) (pairs_of σ (xs ++ ys)) ≡ values_at (place σ x) (pairs_of σ xs)
+values_keep σ x xs ys i all other =
+    values-append σ (place σ x) xs ys ∙ ap (λ z. values_at (place σ x) (pairs_of σ xs) ++ z) (values_none σ x ys i all other) ∙ append-nil (values_at (place σ x) (pairs_of σ xs))
 
 -- a store to the word adds its value
 pub values_push : (σ : Setting) (x : Slot) (v : ℕ) (xs : List Store) → values_at (place σ x) (pairs_of σ (xs ++ (x, v) ∷ [])) ≡ values_at (place σ x) (pairs_of σ xs) ++ v ∷ []
@@ -101,9 +104,11 @@ in_last_pool : (t : Term) (f : ℕ) (ts : List Term) → count_of t ts ≡ f + 1
 in_last_pool t f ts e new p q =
     let l : slice_start f < count_of t ts = omega (arith, start_le f) in
     let split = front_split t (slice_start f) ts l in
-    let b : begins_in 3 (count_of t (front_of t (slice_start f) ts)) ≡ true = subst (λ (z : ℕ × ℕ). begins_in z.0 z.1 ≡ true) (λ i. (p i, sym (front_count t (slice_start f) ts l) i)) (start_begins f) in
+    let b : begins_in 3 (count_of t (front_of t (slice_start f) ts)) ≡ true =
+    subst (λ (z : ℕ × ℕ). begins_in z.0 z.1 ≡ true) (λ i. (p i, sym (front_count t (slice_start f) ts l) i)) (start_begins f) in
     let fewer = slice_same 3 (front_of t (slice_start f) ts) ts t split.0 b split.1 in
-    let old : address_of t f ts ≡ address_number 3 (slices_begun 3 (front_of t (slice_start f) ts)) (offset_at f) = address_is t f ts ∙ ap (λ z. address_number z (slices_begun z (front_of t (slice_start f) ts)) (offset_at f)) p in
+    let old : address_of t f ts ≡ address_number 3 (slices_begun 3 (front_of t (slice_start f) ts)) (offset_at f) = address_is t f ts
+    ∙ ap (λ z. address_number z (slices_begun z (front_of t (slice_start f) ts)) (offset_at f)) p in
     let o : offset_at f < 2 ^ slice_bits 3 = subst (λ z. offset_at f < 2 ^ slice_bits z) p (offset_in f) in
     let next : address_of t (f + 1) ts ≡ address_number 3 (slices_begun 3 ts) (offset_at (count_of t ts)) =
     ap (λ k. address_of t k ts) (sym e) ∙ address_new t ts (ap begins e ∙ new) ∙ ap (λ z. address_number z (slices_begun z ts) (offset_at (count_of t ts))) (ap pool_at e ∙ q) in
@@ -129,13 +134,15 @@ pub record TailRises (σ : Setting) (s k : ℕ) (ts : List Term) (L : List Store
   pub unused : length (distinct ts) ≤ k → length (values_at (place σ (slot s tail_region k)) (pairs_of σ L)) ≡ 0
 
 -- stores to other words leave it
-pub tail_keeps : (σ : Setting) (s k : ℕ) (ts : List Term) (L M : List Store) → InTable σ (slot s tail_region k) → Each (IsWithin σ) M → Each (λ y. y.0 ≡ slot s tail_region k → ⊥) M → TailRises σ s k ts L → TailRises σ s k ts (L ++ M)
+pub tail_keeps : (σ : Setting) (s k : ℕ) (ts : List Term) (L M : List Store) → InTable σ (slot s tail_region k)
+    → Each (IsWithin σ) M → Each (λ y. y.0 ≡ slot s tail_region k → ⊥) M → TailRises σ s k ts L → TailRises σ s k ts (L ++ M)
 tail_keeps σ s k ts L M i all other h =
     let e = values_keep σ (slot s tail_region k) L M i all other in
     record { top = h.top; rises = subst (λ z. Rises z h.top) (sym e) h.rises; newest = h.newest; unused = λ l. ap length e ∙ h.unused l }
 
 -- the tail store of a further token
-pub tail_adds : (σ : Setting) (s k : ℕ) (ts : List Term) (u : Term) (L : List Store) → InTable σ (slot s tail_region k) → InTable σ (slot s tail_region (number_of u ts)) → SlicesFit ts → TailRises σ s k ts L
+pub tail_adds : (σ : Setting) (s k : ℕ) (ts : List Term) (u : Term) (L : List Store) → InTable σ (slot s tail_region k)
+    → InTable σ (slot s tail_region (number_of u ts)) → SlicesFit ts → TailRises σ s k ts L
     → TailRises σ s k (ts ++ u ∷ []) (L ++ (slot s tail_region (number_of u ts), address_of u (count_of u ts) ts + 1) ∷ [])
 tail_adds σ s k ts u L i j fit h =
     let c = count_of u ts in
@@ -170,12 +177,14 @@ tail_adds σ s k ts u L i j fit h =
         let b = address_rises u f ts (omega arith) fit in
         omega (arith, a, b, ap (λ j. address_of u j ts) (let q : count_of u ts - 1 ≡ f = omega arith in q), ap (λ j. address_of u j ts) (let q : count_of u ts ≡ f + 1 = omega arith in q))
 
-    mine : (t : Term) → 1 ≤ count_of t (ts ++ u ∷ []) → number_of t (ts ++ u ∷ []) ≡ k → number_of u ts ≡ k → address_of u (count_of u ts) ts + 1 ≡ address_of t (count_of t (ts ++ u ∷ []) - 1) (ts ++ u ∷ []) + 1
+    mine : (t : Term) → 1 ≤ count_of t (ts ++ u ∷ []) → number_of t (ts ++ u ∷ []) ≡ k → number_of u ts ≡ k
+        → address_of u (count_of u ts) ts + 1 ≡ address_of t (count_of t (ts ++ u ∷ []) - 1) (ts ++ u ∷ []) + 1
     mine t l number same =
         let it : t ≡ u = number_once t u (ts ++ u ∷ []) l (number ∙ sym same ∙ sym (number_here u ts)) in
         let n = count_of_push u u ts in
         let n1 = ap one_if (same_term u) in
-        sym (ap (λ z. address_of z (count_of z (ts ++ u ∷ []) - 1) (ts ++ u ∷ []) + 1) it ∙ ap (λ j. address_of u j (ts ++ u ∷ []) + 1) (let q : count_of u (ts ++ u ∷ []) - 1 ≡ count_of u ts = omega arith in q) ∙ ap (λ z. z + 1) (address_here u ts []))
+        sym (ap (λ z. address_of z (count_of z (ts ++ u ∷ []) - 1) (ts ++ u ∷ []) + 1) it
+        ∙ ap (λ j. address_of u j (ts ++ u ∷ []) + 1) (let q : count_of u (ts ++ u ∷ []) - 1 ≡ count_of u ts = omega arith in q) ∙ ap (λ z. z + 1) (address_here u ts []))
 
     yours : (t : Term) → 1 ≤ count_of t (ts ++ u ∷ []) → number_of t (ts ++ u ∷ []) ≡ k → (number_of u ts ≡ k → ⊥) → h.top ≡ address_of t (count_of t (ts ++ u ∷ []) - 1) (ts ++ u ∷ []) + 1
     yours t l number other = elim (cases_Bool (bytes_eq t u)) [
@@ -184,5 +193,6 @@ tail_adds σ s k ts u L i j fit h =
           let n = count_of_push t u ts in
           let n1 = ap one_if away in
           let some : 1 ≤ count_of t ts = omega arith in
-          h.newest t some (sym (number_keeps t u ts some) ∙ number) ∙ ap (λ z. z + 1) (sym (ap (λ j. address_of t j (ts ++ u ∷ [])) (let q : count_of t (ts ++ u ∷ []) - 1 ≡ count_of t ts - 1 = omega arith in q) ∙ address_stays t (count_of t ts - 1) ts (u ∷ []) (omega arith)))
+          h.newest t some (sym (number_keeps t u ts some) ∙ number) ∙ ap (λ z. z + 1) (sym
+          (ap (λ j. address_of t j (ts ++ u ∷ [])) (let q : count_of t (ts ++ u ∷ []) - 1 ≡ count_of t ts - 1 = omega arith in q) ∙ address_stays t (count_of t ts - 1) ts (u ∷ []) (omega arith)))
     ]

@@ -27,12 +27,14 @@ words = refl
 
 first_stores : placing small [] first_doc ≡ (1, 1) ∷ (4099, 2) ∷ (4100, 25185) ∷ (2051, 0) ∷ (1060, 1) ∷ (8196, 0) ∷ (3075, 1)
     ∷ (4101, 1) ∷ (4102, 98) ∷ (2052, 2) ∷ (101, 2) ∷ (8198, 1) ∷ (3076, 3) ∷ (8197, 2) ∷ (3075, 2) ∷ (8195, 7) ∷ (0, 1) ∷ []
-unfolding doc_stores place pool_slot start size stores_in tokens_stores token_stores append_stores enter_stores cell_of_next cells_of address_of front_of begun_after count_of cut holds all_slices distinct terms_of pool_at offset_at slice_start
+unfolding doc_stores place pool_slot start size stores_in tokens_stores token_stores append_stores enter_stores cell_of_next
+    cells_of address_of front_of begun_after count_of cut holds all_slices distinct terms_of pool_at offset_at slice_start
 first_stores = refl
 
 -- the second document begins the second segment
 second_stores : take 1 (placing small (first_doc ∷ []) second_doc) ≡ (78852, 2) ∷ []
-unfolding doc_stores place pool_slot start size stores_in tokens_stores token_stores append_stores enter_stores cell_of_next cells_of address_of front_of begun_after count_of cut holds all_slices distinct terms_of pool_at offset_at slice_start
+unfolding doc_stores place pool_slot start size stores_in tokens_stores token_stores append_stores enter_stores cell_of_next
+    cells_of address_of front_of begun_after count_of cut holds all_slices distinct terms_of pool_at offset_at slice_start
 second_stores = refl
 
 -- the first segment is converted once the second is begun

@@ -1,5 +1,6 @@
 -- The stores of one more token are within the table.
-use Rattle.std.proofs.Common.{◌≡◌, ℕ, zero, suc, ◌+◌, ◌-◌, ◌*◌, ◌/◌, ◌%◌, ◌^◌, ◌<◌, ◌≤◌, ◌==◌, ◌&&◌, true, List, [], ◌∷◌, ◌++◌, length, refl, ap, ◌∙◌, subst, arith, inl, inr, bytes_eq, nat_le, sum_by, drop, not}
+use Rattle.std.proofs.Common.{◌≡◌, ℕ, zero, suc, ◌+◌, ◌-◌, ◌*◌, ◌/◌, ◌%◌, ◌^◌, ◌<◌, ◌≤◌, ◌==◌, ◌&&◌, true, List, [], ◌∷◌}
+use Rattle.std.proofs.Common.{◌++◌, length, refl, ap, ◌∙◌, subst, arith, inl, inr, bytes_eq, nat_le, sum_by, drop, not}
 use Rattle.std.specs.List.{list_any}
 use Rattle.std.proofs.lemmas.Bool.{and_parts, eqb-true, lt-ltb}
 use Rattle.std.proofs.lemmas.Bool.Decides.{nat_tests}
@@ -103,7 +104,8 @@ number_in ts u = let d = ap length (distinct_push ts u) in elim (with_term_cases
 ]
 
 -- what a new term takes is there
-new_fits : (σ : Setting) (ts : List Term) (u : Term) → SegmentFits σ (ts ++ u ∷ []) → count_of u ts ≡ 0 → (length (distinct ts) < σ.terms) × (sum_by text_words (distinct ts) + text_words u ≤ 4 * σ.terms)
+new_fits : (σ : Setting) (ts : List Term) (u : Term) → SegmentFits σ (ts ++ u ∷ []) → count_of u ts ≡ 0
+    → (length (distinct ts) < σ.terms) × (sum_by text_words (distinct ts) + text_words u ≤ 4 * σ.terms)
 new_fits σ ts u fit z = let o = once u ts in let d = distinct_push ts u in let few = fit.few in let texts = fit.texts in elim (with_term_cases (distinct ts) u) [
   | inl w ↦ absurd (omega (arith, w.0))
   | inr w ↦ let e = d ∙ w.1 in let l = ap length e in let t = ap (sum_by text_words) e in (omega (arith, length_push (distinct ts) u), omega (arith, sum_by_push text_words (distinct ts) u))
@@ -116,7 +118,8 @@ cell_within terms u cells h = let r = free_from_is cells (cells_of cells terms) 
     omega (arith, r.is, mod-lt (home_cell cells u + r.steps) h)
 
 -- the stores of one more token are within the table
-pub token_within : (σ : Setting) (s : ℕ) (ts : List Term) (u : Term) (posting : ℕ) → s < σ.segments → σ.terms ≤ 2 ^ 20 → 1 ≤ σ.terms → SegmentFits σ (ts ++ u ∷ []) → Each (IsWithin σ) (token_stores σ s ts u posting)
+pub token_within : (σ : Setting) (s : ℕ) (ts : List Term) (u : Term) (posting : ℕ) → s < σ.segments → σ.terms ≤ 2 ^ 20
+    → 1 ≤ σ.terms → SegmentFits σ (ts ++ u ∷ []) → Each (IsWithin σ) (token_stores σ s ts u posting)
 unfolding token_stores append_stores enter_stores size
 token_within σ s ts u posting hs small some fit =
     let c = count_of u ts in
@@ -128,7 +131,8 @@ token_within σ s ts u posting hs small some fit =
     let number : number_of u ts < σ.terms = omega (arith, number_in ts u, fit.few) in
     Each-append
     (Each-if (c == 0) (λ z. let w = new_fits σ ts u fit (eqb-true _ _ z) in
-    Each-append (row_within σ s _ (text_of u) hs (omega (arith, length-eights ((length u + 7) / 8) u, w.1))) (more (hs, w.0) (more (hs, cell_within (distinct ts) u (2 * σ.terms) (omega arith)) none))))
+    Each-append (row_within σ s _ (text_of u) hs (omega (arith, length-eights ((length u + 7) / 8) u, w.1)))
+    (more (hs, w.0) (more (hs, cell_within (distinct ts) u (2 * σ.terms) (omega arith)) none))))
     (Each-append
     (Each-if (begins c && nat_le 1 (pool_at c)) (λ z. let b = and_parts _ _ z in
     more (subst (λ a. InTable σ (pool_slot s (a - 1))) new (link_within σ s (ts ++ u ∷ []) u c hs small fit here b.0 (le_from (pool_at c) b.1))) none))

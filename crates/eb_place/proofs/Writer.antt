@@ -41,7 +41,8 @@ front_here t (suc n) (u ∷ us) ys h = let d = count_of-cons t u us in elim (cas
 ]
 
 -- the first posting of a slice: the next slice of the pool
-pub address_new : (t : Term) (ts : List Term) → begins (count_of t ts) ≡ true → address_of t (count_of t ts) ts ≡ address_number (pool_at (count_of t ts)) (slices_begun (pool_at (count_of t ts)) ts) (offset_at (count_of t ts))
+pub address_new : (t : Term) (ts : List Term) → begins (count_of t ts) ≡ true
+    → address_of t (count_of t ts) ts ≡ address_number (pool_at (count_of t ts)) (slices_begun (pool_at (count_of t ts)) ts) (offset_at (count_of t ts))
 unfolding address_of
 address_new t ts h = let s : slice_start (count_of t ts) ≡ count_of t ts = eqb-true _ _ h in
     ap (λ (z : List Term). address_number (pool_at (count_of t ts)) (slices_begun (pool_at (count_of t ts)) z) (offset_at (count_of t ts))) (front_all t _ ts (omega (arith, s)))
@@ -57,7 +58,8 @@ unfolding address_of
 address_next t f ts h = let w = next_number f h in rw (w.0, w.1, w.2) (omega arith)
 
 -- one more token's stores after those of the tokens before it
-pub tokens_stores-append : (σ : Setting) (s n p : ℕ) (before xs ys : List Term) → tokens_stores σ s n p before (xs ++ ys) ≡ tokens_stores σ s n p before xs ++ tokens_stores σ s n (p + length xs) (before ++ xs) ys
+pub tokens_stores-append : (σ : Setting) (s n p : ℕ) (before xs ys : List Term)
+    → tokens_stores σ s n p before (xs ++ ys) ≡ tokens_stores σ s n p before xs ++ tokens_stores σ s n (p + length xs) (before ++ xs) ys
 unfolding tokens_stores
 tokens_stores-append σ s n p before [] ys = rw append-nil (ap (λ k. tokens_stores σ s n k before ys) (omega arith))
 tokens_stores-append σ s n p before (x ∷ xs) ys =
@@ -65,7 +67,8 @@ tokens_stores-append σ s n p before (x ∷ xs) ys =
     let b : (p + 1) + length xs ≡ p + suc (length xs) = omega arith in
     ap (λ (z : List Store). token_stores σ s before x (posting_of n p) ++ z) (tokens_stores-append σ s n (p + 1) (before ++ x ∷ []) xs ys
     ∙ ap (λ (k : ℕ). tokens_stores σ s n (p + 1) (before ++ x ∷ []) xs ++ tokens_stores σ s n k ((before ++ x ∷ []) ++ xs) ys) b
-    ∙ ap (λ (z : List Term). tokens_stores σ s n (p + 1) (before ++ x ∷ []) xs ++ tokens_stores σ s n (p + suc (length xs)) z ys) a) ∙ sym (append_assoc (token_stores σ s before x (posting_of n p)) (tokens_stores σ s n (p + 1) (before ++ x ∷ []) xs) (tokens_stores σ s n (p + suc (length xs)) (before ++ (x ∷ xs)) ys))
+    ∙ ap (λ (z : List Term). tokens_stores σ s n (p + 1) (before ++ x ∷ []) xs ++ tokens_stores σ s n (p + suc (length xs)) z ys) a)
+    ∙ sym (append_assoc (token_stores σ s before x (posting_of n p)) (tokens_stores σ s n (p + 1) (before ++ x ∷ []) xs) (tokens_stores σ s n (p + suc (length xs)) (before ++ (x ∷ xs)) ys))
 
 -- of a list that goes on with `now` and then `rest` at place i, `rest` stands behind `now`
 pub next_rest : (xs now rest : List Store) (i : ℕ) → drop i xs ≡ now ++ rest → drop (i + length now) xs ≡ rest

@@ -33,7 +33,11 @@ documents_after false docs d i = record { accepted = docs ++ d ∷ []; current =
 
 -- the moment after the next store of the placing of a document
 unfoldable pub after_store : Moment → Doc → Moment
-after_store m d = record { setting = m.setting; documents = documents_after (ltb (suc (stores_done m.documents.current)) (length (doc_stores m.setting m.documents.accepted d))) m.documents.accepted d (suc (stores_done m.documents.current)); conversions = m.conversions }
+after_store m d = record {
+  setting = m.setting;
+  documents = documents_after (ltb (suc (stores_done m.documents.current)) (length (doc_stores m.setting m.documents.accepted d))) m.documents.accepted d (suc (stores_done m.documents.current));
+  conversions = m.conversions;
+}
 
 -- this value at this place is the next store of the next conversion, whose segment is closed
 pub record IsNextPut (m : Moment) (at value : ℕ) : Type 0 where
@@ -47,4 +51,8 @@ conversions_after false c = record { converted = suc c.converted; packed = 0 }
 
 -- the moment after the next store of the next conversion
 unfoldable pub after_put : Moment → Moment
-after_put m = record { setting = m.setting; documents = m.documents; conversions = conversions_after (ltb (suc m.conversions.packed) (length (segment_stores m.setting (with_current m.documents) m.conversions.converted))) m.conversions }
+after_put m = record {
+  setting = m.setting;
+  documents = m.documents;
+  conversions = conversions_after (ltb (suc m.conversions.packed) (length (segment_stores m.setting (with_current m.documents) m.conversions.converted))) m.conversions;
+}

@@ -4,7 +4,8 @@ ghost use Rattle.std.specs.Prelude.{◌≡◌, ◌+◌, ◌*◌, ◌/◌, ◌%�
 ghost use Rattle.eb_base.specs.Setting.{words_of};
 ghost use Rattle.eb_place.specs.Layout.{place, pool_slot, pool_region, start, segment_words, IsInPool};
 ghost use Rattle.eb_place.specs.Layout.Slot.{slot};
-ghost use Rattle.eb_place.specs.Layout.Region.{first_region, converted_region, cell_region, text_place_region, tail_region, text_region, id_region, directory_region, packed_region};
+ghost use Rattle.eb_place.specs.Layout.Region.{first_region, converted_region, cell_region, text_place_region};
+ghost use Rattle.eb_place.specs.Layout.Region.{tail_region, text_region, id_region, directory_region, packed_region};
 
 use crate::slice_addresses::pool_of;
 use eb_base::Config;

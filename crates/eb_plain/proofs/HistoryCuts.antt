@@ -50,7 +50,8 @@ pub cut_new : (σ : Setting) (docs : List Doc) (d : Doc) (closed : List ℕ) (st
     → fits σ (drop start docs) d ≡ false → IsCutAt σ (docs ++ d ∷ []) (closed ++ len ∷ []) (length docs)
 cut_new σ docs d closed start len c l e = record {
   earlier = c.earlier ++ drop start docs ∷ [];
-  cut = cut_push σ docs d ∙ ap (λ x. with_doc σ x d) c.cut ∙ with_doc-new σ c.earlier (drop start docs) d e ∙ ap (λ x. (c.earlier ++ drop start docs ∷ []) ++ x ∷ []) (sym (drop_last docs d (length docs) refl));
+  cut = cut_push σ docs d ∙ ap (λ x. with_doc σ x d) c.cut ∙ with_doc-new σ c.earlier (drop start docs) d e
+      ∙ ap (λ x. (c.earlier ++ drop start docs ∷ []) ++ x ∷ []) (sym (drop_last docs d (length docs) refl));
   lengths = ap (λ x. closed ++ x ∷ []) l ∙ ap (λ x. x ++ length (drop start docs) ∷ []) c.lengths ∙ sym (map-append length c.earlier (drop start docs ∷ []));
 }
 

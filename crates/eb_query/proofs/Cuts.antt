@@ -101,7 +101,9 @@ tilde_digits bs h = rw h refl
 
 -- the place that a test found behind at + 1
 pub cut_within : (p : ℕ → Bool) (line : List ℕ) (at n : ℕ) → at < length line → n ≡ position_or_len p (drop (at + 1) line) → at + 1 + n ≤ length line
-cut_within p line at n h e = let l : position_or_len p (drop (at + 1) line) ≤ length (drop (at + 1) line) = prefix_len-le-length (λ b. not (p b)) (drop (at + 1) line) in omega (arith, length-drop (at + 1) line)
+cut_within p line at n h e =
+    let l : position_or_len p (drop (at + 1) line) ≤ length (drop (at + 1) line) = prefix_len-le-length (λ b. not (p b)) (drop (at + 1) line) in
+    omega (arith, length-drop (at + 1) line)
 
 pub cut_before : (p : ℕ → Bool) (line : List ℕ) (at n : ℕ) → ((b : ℕ) → p b ≡ true → b < 128) → at < length line → n ≡ position_or_len p (drop (at + 1) line) → IsCharBoundary line (at + 1 + n)
 cut_before p line at n small h e = go (nat_lt (at + 1 + n) (length line)) refl
@@ -121,7 +123,8 @@ cut_before p line at n small h e = go (nat_lt (at + 1 + n) (length line)) refl
     go false f = let k = ltb-false _ _ f in (within, λ l. absurd (omega arith))
 
 -- behind the closing quotation mark
-pub quote_boundary : (line : List ℕ) (at n : ℕ) → IsUtf8 line → at < length line → n ≡ position_or_len is_quote (drop (at + 1) line) → n < length (drop (at + 1) line) → IsCharBoundary line (at + 1 + n + 1)
+pub quote_boundary : (line : List ℕ) (at n : ℕ) → IsUtf8 line → at < length line
+    → n ≡ position_or_len is_quote (drop (at + 1) line) → n < length (drop (at + 1) line) → IsCharBoundary line (at + 1 + n + 1)
 quote_boundary line at n u h e k =
     let t : is_quote (get_or (drop (at + 1) line) n 0) ≡ true = rw e (passes_at_first is_quote (drop (at + 1) line) 0 (omega arith)) in
     let s : get_or (drop (at + 1) line) n 0 < 128 = is_quote_small _ t in
@@ -185,7 +188,8 @@ deep line at l s t h b i p q = rw (lexemes_next line at _ h b refl, ← i, p, q)
 pub rest_is : (line : List ℕ) (k : ℕ) → take (length line - k) (drop k line) ≡ drop k line
 rest_is line k = take_all (length line - k) (drop k line) (omega (arith, length-drop k line))
 
-pub found_len : (p : ℕ → Bool) (bytes line : List ℕ) (at n : ℕ) → bytes ≡ line → n ≡ position_or_len p (take (length bytes - (at + 1)) (drop (at + 1) bytes)) → n ≡ position_or_len p (drop (at + 1) line)
+pub found_len : (p : ℕ → Bool) (bytes line : List ℕ) (at n : ℕ) → bytes ≡ line
+    → n ≡ position_or_len p (take (length bytes - (at + 1)) (drop (at + 1) bytes)) → n ≡ position_or_len p (drop (at + 1) line)
 found_len p bytes line at n e h = h ∙ ap (λ (xs : List ℕ). position_or_len p (take (length xs - (at + 1)) (drop (at + 1) xs))) e ∙ ap (position_or_len p) (rest_is line (at + 1))
 
 pub quoted_part : (line part : List ℕ) (at n : ℕ) → part ≡ take (at + 1 + n - (at + 1)) (drop (at + 1) line) → part ≡ take n (drop (at + 1) line)

@@ -114,7 +114,8 @@ opened (or_word ∷ ls) l os i = opened ls l os i
 opened (broken ∷ ls) l os i = opened ls l os i
 
 -- a text that gives a query and doesn't nest too deep has this outcome
-pub reads : (line : List ℕ) (t : Tree) → size t ≤ most_size → (before : List Lexeme) (ps : List Placed) → Gives (before ++ kinds ps) t → NestsWithin (before ++ kinds ps) → IsOutcome line before ps (asks (number_of line) t)
+pub reads : (line : List ℕ) (t : Tree) → size t ≤ most_size → (before : List Lexeme) (ps : List Placed)
+    → Gives (before ++ kinds ps) t → NestsWithin (before ++ kinds ps) → IsOutcome line before ps (asks (number_of line) t)
 reads line t fits before [] g n = complete (subst (λ (ks : List Lexeme). Gives ks t) (append-nil before) g) fits
 reads line t fits before (p ∷ ps) g n =
     let e : before ++ p.lexeme ∷ kinds ps ≡ (before ++ p.lexeme ∷ []) ++ kinds ps = sym (append_assoc before (p.lexeme ∷ []) (kinds ps)) in

@@ -71,7 +71,8 @@ abbrev pub ArePlacedSound : List Placed → Type 0
 ArePlacedSound [] = Unit {0}
 ArePlacedSound (p ∷ ps) = IsSound p.lexeme × ArePlacedSound ps
 
-outcome_formed : {line : List ℕ} {before : List Lexeme} {ps : List Placed} {o : Outcome} → IsOutcome line before ps o → (t : Tree) → o ≡ asks (number_of line) t → AreSound before → ArePlacedSound ps → IsWellFormed t
+outcome_formed : {line : List ℕ} {before : List Lexeme} {ps : List Placed} {o : Outcome} → IsOutcome line before ps o
+    → (t : Tree) → o ≡ asks (number_of line) t → AreSound before → ArePlacedSound ps → IsWellFormed t
 outcome_formed (stands {before} {p} {ps} {o} c n r) t e b s = outcome_formed r t e (sound_append before p.lexeme b s.0) s.1
 outcome_formed (cannot_stand n) t e b s = cc
 outcome_formed (stands_too_deep c o n) t e b s = cc

@@ -5,14 +5,17 @@ use Rattle.eb_query.specs.Grammar.{Lexeme, Gives, Continues}
 use Rattle.eb_query.specs.Lexemes.{Placed}
 use Rattle.eb_query.specs.Nesting.{nesting, IsOpener, most_open}
 use Rattle.eb_query.specs.Number.{number_of, HasNumber, lexemes_of_line}
-use Rattle.eb_query.specs.Reading.{Outcome, asks, bad_query, too_deep, too_many_nodes, IsOutcome, ReadsAs, bad_number, without_number, with_number, stands, cannot_stand, stands_too_deep, incomplete, large, complete}
+use Rattle.eb_query.specs.Reading.{Outcome, asks, bad_query, too_deep, too_many_nodes, IsOutcome, ReadsAs, bad_number}
+use Rattle.eb_query.specs.Reading.{without_number, with_number, stands, cannot_stand, stands_too_deep, incomplete, large, complete}
 use Rattle.eb_query.proofs.Machine.{one_query}
 
 -- what the rules say at one lexeme, and at the end
 At : List ℕ → List Lexeme → List Placed → Outcome → Type 0
-At line before [] o = ((o ≡ bad_query (length line + 1)) × ((t : Tree) → Gives before t → ⊥)) ⊎ (t : Tree) × Gives before t × (((o ≡ too_many_nodes) × (most_size < size t)) ⊎ ((o ≡ asks (number_of line) t) × (size t ≤ most_size)))
+At line before [] o = ((o ≡ bad_query (length line + 1)) × ((t : Tree) → Gives before t → ⊥)) ⊎ (t : Tree) × Gives before t
+    × (((o ≡ too_many_nodes) × (most_size < size t)) ⊎ ((o ≡ asks (number_of line) t) × (size t ≤ most_size)))
 At line before (p ∷ ps) o = ((o ≡ bad_query p.column) × (Continues (before ++ p.lexeme ∷ []) → ⊥))
-    ⊎ (Continues (before ++ p.lexeme ∷ []) × (((o ≡ too_deep) × IsOpener p.lexeme × (most_open ≤ nesting before)) ⊎ ((IsOpener p.lexeme → nesting before < most_open) × IsOutcome line (before ++ p.lexeme ∷ []) ps o)))
+    ⊎ (Continues (before ++ p.lexeme ∷ [])
+    × (((o ≡ too_deep) × IsOpener p.lexeme × (most_open ≤ nesting before)) ⊎ ((IsOpener p.lexeme → nesting before < most_open) × IsOutcome line (before ++ p.lexeme ∷ []) ps o)))
 
 at_outcome : {line : List ℕ} {before : List Lexeme} {ps : List Placed} {o : Outcome} → IsOutcome line before ps o → At line before ps o
 unfolding At
@@ -36,7 +39,8 @@ end_same line before a b (inr h) (inr k) = go h.2 k.2
     s : size h.0 ≡ size k.0
     s = ap size e
 
-    go : ((a ≡ too_many_nodes) × (most_size < size h.0)) ⊎ ((a ≡ asks (number_of line) h.0) × (size h.0 ≤ most_size)) → ((b ≡ too_many_nodes) × (most_size < size k.0)) ⊎ ((b ≡ asks (number_of line) k.0) × (size k.0 ≤ most_size)) → a ≡ b
+    go : ((a ≡ too_many_nodes) × (most_size < size h.0)) ⊎ ((a ≡ asks (number_of line) h.0) × (size h.0 ≤ most_size))
+        → ((b ≡ too_many_nodes) × (most_size < size k.0)) ⊎ ((b ≡ asks (number_of line) k.0) × (size k.0 ≤ most_size)) → a ≡ b
     go (inl x) (inl y) = x.0 ∙ sym y.0
     go (inl x) (inr y) = let i = x.1 in let j = y.1 in absurd (omega (arith, s))
     go (inr x) (inl y) = let i = x.1 in let j = y.1 in absurd (omega (arith, s))

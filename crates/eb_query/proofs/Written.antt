@@ -183,7 +183,8 @@ mutual
   and_more_cut : (ts : Trees) (rest : List ℕ) → AreFormed ts → AllNamed ts → is_run_end rest ≡ true → Cuts (and_more_text ts ++ rest) (and_lexemes ts) rest
   and_more_cut no_trees rest f h end = nothing_cut rest
   and_more_cut (trees t ts) rest f h end =
-      then_cut (32 ∷ (unary_text t ++ and_more_text ts) ++ rest) ((unary_text t ++ and_more_text ts) ++ rest) rest [] (unary_lexemes t ++ and_lexemes ts) (blank_cut ((unary_text t ++ and_more_text ts) ++ rest))
+      then_cut (32 ∷ (unary_text t ++ and_more_text ts) ++ rest) ((unary_text t ++ and_more_text ts) ++ rest) rest [] (unary_lexemes t ++ and_lexemes ts)
+      (blank_cut ((unary_text t ++ and_more_text ts) ++ rest))
       (both_cut (unary_text t) (and_more_text ts) rest (unary_lexemes t) (and_lexemes ts)
       (unary_cut t (and_more_text ts ++ rest) f.0 h.0 (and_more_end ts rest end)) (and_more_cut ts rest f.1 h.1 end))
 

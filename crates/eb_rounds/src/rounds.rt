@@ -1,4 +1,5 @@
-ghost use Rattle.std.specs.Prelude.{◌≡◌, ◌+◌, ◌*◌, ◌<◌, ◌≤◌, ◌^◌, ◌++◌, true, Some, slice_get, ℕ, List, [], length, map, sum_by, vec_len, vec_capacity, IfOk, OnErr, OnOk, IsTrue, ◌↔◌};
+ghost use Rattle.std.specs.Prelude.{◌≡◌, ◌+◌, ◌*◌, ◌<◌, ◌≤◌, ◌^◌, ◌++◌, true, Some, slice_get, ℕ, List, []};
+ghost use Rattle.std.specs.Prelude.{length, map, sum_by, vec_len, vec_capacity, IfOk, OnErr, OnOk, IsTrue, ◌↔◌};
 ghost use Rattle.std.specs.List.{AllZip};
 ghost use mathlib.Core.List.{IsPrefix};
 ghost use Rattle.eb_rounds.specs.Conversions.{AreConverted};
@@ -67,7 +68,8 @@ impl Model for Rounds {
 
     ghost use Rattle.eb_rounds.specs.Kept.{IsKept};
 
-    ghost invariant = { λ r. IsKept r.first.items r.last.items r.queries r.documents r.refused r.greatest (r.counts.documents + (r.counts.queries + r.counts.refused)) };
+    ghost invariant = { λ r. IsKept r.first.items r.last.items r.queries r.documents r.refused r.greatest
+        (r.counts.documents + (r.counts.queries + r.counts.refused)) };
 }
 
 impl Rounds {
@@ -285,7 +287,8 @@ impl Rounds {
         ensures writer { writer.new.index ≡ writer.old.index }
         ensures reader { reader.new.index ≡ reader.old.index }
         ensures converter { converter.new.index ≡ converter.old.index }
-        ensures ok { IfOk result (λ text. WorkedOff index.now.setting self.old.held writer.old.docs writer.new.docs self.old.counts self.new.counts text.items) }
+        ensures ok { IfOk result
+            (λ text. WorkedOff index.now.setting self.old.held writer.old.docs writer.new.docs self.old.counts self.new.counts text.items) }
         ensures held { OnOk result ((self.new.held ≡ []) × (self.new.greatest ≡ self.old.greatest)) }
         ensures told { OnOk result (IsPrefix writer.new.docs converter.new.docs × IsPrefix writer.new.docs reader.new.docs) }
         ensures converted { OnOk result (AreConverted index.now.setting writer.old.docs converter.new.converted) }

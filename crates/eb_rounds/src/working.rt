@@ -104,7 +104,8 @@ fn work_beside<R: Threads + Sync, G: Gate + Sync>(
     ensures room { vec_capacity answers.old ≤ vec_capacity answers.new }
     ensures refusals { vec_len refusals.new ≤ vec_len refusals.old + 68 * length given.now }
     ensures answered { AreAnswered reader.old.docs reader.new.docs (map asked_entry asked.old) answers.old.items answers.new.items result.1.0 result.1.1 }
-    ensures added { AreAdded index.now.setting writer.old.docs writer.new.docs (map given_entry given.now) refusals.old.items refusals.new.items result.0.0 result.0.1 }
+    ensures added { AreAdded index.now.setting writer.old.docs writer.new.docs
+        (map given_entry given.now) refusals.old.items refusals.new.items result.0.0 result.0.1 }
 {
     // The first call goes to the new thread. Adding stays on this one, whose caches know the index.
     let (answered, added) = join_mut(
@@ -137,7 +138,8 @@ fn work_either<R: Threads + Sync, G: Gate + Sync>(
     ensures room { vec_capacity answers.old ≤ vec_capacity answers.new }
     ensures refusals { vec_len refusals.new ≤ vec_len refusals.old + 68 * length given.now }
     ensures answered { AreAnswered reader.old.docs reader.new.docs (map asked_entry asked.old) answers.old.items answers.new.items result.1.0 result.1.1 }
-    ensures added { AreAdded index.now.setting writer.old.docs writer.new.docs (map given_entry given.now) refusals.old.items refusals.new.items result.0.0 result.0.1 }
+    ensures added { AreAdded index.now.setting writer.old.docs writer.new.docs
+        (map given_entry given.now) refusals.old.items refusals.new.items result.0.0 result.0.1 }
 {
     if has_answer(asked) && has_add(given) {
         return work_beside(
@@ -164,7 +166,8 @@ fn work_round<R: Threads + Sync, G: Gate + Sync>(
     requires text { vec_len text.old + (sum_by asked_need asked.old + 68 * length given.now) ≤ vec_capacity text.old }
     requires refusals { (refusals.old.items ≡ []) × (vec_len refusals.old ≡ 0) × (68 * length given.now ≤ vec_capacity refusals.old) }
     ensures index { writer.new.index ≡ writer.old.index }
-    ensures round { IsRound index.now.setting writer.old.docs writer.new.docs (map asked_entry asked.old) (map given_entry given.now) text.old.items text.new.items
+    ensures round { IsRound index.now.setting writer.old.docs writer.new.docs
+        (map asked_entry asked.old) (map given_entry given.now) text.old.items text.new.items
         result.1.0 result.0.0 result.1.1 result.0.1 }
 {
     let mut reader = writer.reader(index);
@@ -204,7 +207,8 @@ fn convert_beside<R: Threads + Sync, G: Gate + Sync>(
     ensures converter { converter.new.index ≡ converter.old.index }
     ensures grown { converter.old.converted ≤ converter.new.converted }
     ensures converted { AreConverted index.now.setting converter.old.docs converter.new.converted }
-    ensures round { IsRound index.now.setting writer.old.docs writer.new.docs (map asked_entry asked.old) (map given_entry given.now) text.old.items text.new.items
+    ensures round { IsRound index.now.setting writer.old.docs writer.new.docs
+        (map asked_entry asked.old) (map given_entry given.now) text.old.items text.new.items
         result.1.0 result.0.0 result.1.1 result.0.1 }
 {
     let ((), counts) = join_mut(
@@ -241,7 +245,8 @@ pub(crate) fn work_and_convert<R: Threads + Sync, G: Gate + Sync>(
     ensures converter { converter.new.index ≡ converter.old.index }
     ensures grown { converter.old.converted ≤ converter.new.converted }
     ensures converted { AreConverted index.now.setting writer.old.docs converter.new.converted }
-    ensures round { IsRound index.now.setting writer.old.docs writer.new.docs (map asked_entry asked.old) (map given_entry given.now) text.old.items text.new.items
+    ensures round { IsRound index.now.setting writer.old.docs writer.new.docs
+        (map asked_entry asked.old) (map given_entry given.now) text.old.items text.new.items
         result.1.0 result.0.0 result.1.1 result.0.1 }
 {
     if !has_waiting(writer, converter) {

@@ -130,7 +130,8 @@ some_later m n docs firsts segment l h = record {
 }
 
 -- one more
-pub some_more : (m : Moment) (docs : List Doc) (firsts : List ℕ) (segment w : ℕ) → segment < length firsts → segment < length (cut m.setting docs) → w ≡ documents_before (cut m.setting docs) segment + 1
+pub some_more : (m : Moment) (docs : List Doc) (firsts : List ℕ) (segment w : ℕ) → segment < length firsts
+    → segment < length (cut m.setting docs) → w ≡ documents_before (cut m.setting docs) segment + 1
     → AreSome m docs firsts segment → AreSome m docs (set firsts segment w) (segment + 1)
 some_more m docs firsts segment w long low e h = record { accepted = h.accepted; few = omega arith; each = each }
   where

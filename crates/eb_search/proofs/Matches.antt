@@ -1,5 +1,6 @@
 -- The matches of one segment, from the newest on.
-use Rattle.std.proofs.Common.{◌≡◌, ℕ, zero, suc, ◌+◌, ◌-◌, ◌<◌, ◌≤◌, inl, inr, false, List, [], ◌∷◌, ◌++◌, length, take, drop, get_or, None, refl, ap, sym, ◌∙◌, subst, arith, append-nil, append_assoc, length-append}
+use Rattle.std.proofs.Common.{◌≡◌, ℕ, zero, suc, ◌+◌, ◌-◌, ◌<◌, ◌≤◌, inl, inr, false, List, [], ◌∷◌, ◌++◌, length, take}
+use Rattle.std.proofs.Common.{drop, get_or, None, refl, ap, sym, ◌∙◌, subst, arith, append-nil, append_assoc, length-append}
 use Rattle.std.proofs.lemmas.Bool.{cases_Bool}
 use Rattle.std.proofs.lemmas.List.{take-append-drop}
 use Rattle.std.proofs.Math.Seq.{drop-length}
@@ -16,7 +17,8 @@ abbrev pub nobody : Doc
 nobody = record { id = 0; terms = [] }
 
 -- nothing matches between two places
-walk_down : (q : Tree) (k : ℕ) (docs : List Doc) (low more : ℕ) (ids : List ℕ) → low + more ≤ length docs → ((n : ℕ) → low ≤ n → n < low + more → MatchesAt q docs n → ⊥) → IsWalk q k docs (low + more) ids → IsWalk q k docs low ids
+walk_down : (q : Tree) (k : ℕ) (docs : List Doc) (low more : ℕ) (ids : List ℕ) → low + more ≤ length docs
+    → ((n : ℕ) → low ≤ n → n < low + more → MatchesAt q docs n → ⊥) → IsWalk q k docs (low + more) ids → IsWalk q k docs low ids
 walk_down q k docs low zero ids le none w = let e : low + 0 ≡ low = omega arith in subst (λ z. IsWalk q k docs z ids) e w
 walk_down q k docs low (suc more) ids le none w =
     let at : ℕ = low + more in
@@ -40,13 +42,15 @@ pub found_nothing : (q : Tree) (k : ℕ) (before : List ℕ) (docs : List Doc) (
 found_nothing q k before docs end ids e i = record { found = []; all = i ∙ sym (append-nil before); walk = walk_start q (k - length before) docs end [] e refl }
 
 -- the greatest match is the next
-pub found_next : (q : Tree) (k : ℕ) (before : List ℕ) (docs : List Doc) (end d id : ℕ) (ids ids' : List ℕ) → 1 ≤ end → end ≤ length docs → length ids < k → (g : IsGreatest q docs (end - 1) d) → id ≡ g.matches.0.id → ids' ≡ ids ++ id ∷ []
+pub found_next : (q : Tree) (k : ℕ) (before : List ℕ) (docs : List Doc) (end d id : ℕ) (ids ids' : List ℕ) → 1 ≤ end
+    → end ≤ length docs → length ids < k → (g : IsGreatest q docs (end - 1) d) → id ≡ g.matches.0.id → ids' ≡ ids ++ id ∷ []
     → HasFound q k before docs end ids → HasFound q k before docs d ids'
 found_next q k before docs end d id ids ids' some le room g i j h =
     let x : Doc = g.matches.0 in
     let low = g.within in
     let e : (d + 1) + (end - (d + 1)) ≡ end = omega arith in
-    let w = walk_down q (k - length before) docs (d + 1) (end - (d + 1)) h.found (omega arith) (λ n a b m. g.greatest n (omega arith) (omega arith) m) (subst (λ z. IsWalk q (k - length before) docs z h.found) (sym e) h.walk) in
+    let w = walk_down q (k - length before) docs (d + 1) (end - (d + 1)) h.found (omega arith)
+    (λ n a b m. g.greatest n (omega arith) (omega arith) m) (subst (λ z. IsWalk q (k - length before) docs z h.found) (sym e) h.walk) in
     let at : x ≡ get_or docs d x = sym (get_or_from_slice_get docs d x x g.matches.1) in
     record {
       found = h.found ++ x.id ∷ [];
@@ -55,7 +59,8 @@ found_next q k before docs end d id ids ids' some le room g i j h =
     }
 
 -- no further match
-pub found_none : (q : Tree) (k : ℕ) (before : List ℕ) (docs : List Doc) (end : ℕ) (ids : List ℕ) → end ≤ length docs → IsGreatestMatch q docs (end - 1) None → HasFound q k before docs end ids → ids ≡ before ++ answer q (k - length before) docs
+pub found_none : (q : Tree) (k : ℕ) (before : List ℕ) (docs : List Doc) (end : ℕ) (ids : List ℕ) → end ≤ length docs
+    → IsGreatestMatch q docs (end - 1) None → HasFound q k before docs end ids → ids ≡ before ++ answer q (k - length before) docs
 found_none q k before docs end ids le g h =
     let e : end ≡ 0 + end = omega arith in
     let w = walk_down q (k - length before) docs 0 end h.found (omega arith) (λ n a b m. g n (omega arith) m) (subst (λ z. IsWalk q (k - length before) docs z h.found) e h.walk) in
@@ -67,7 +72,8 @@ found_all q k before docs end ids e h = h.all ∙ ap (λ (z : List ℕ). before 
 
 -- no more are wanted
 pub found_full : (q : Tree) (k : ℕ) (before : List ℕ) (docs : List Doc) (end : ℕ) (ids : List ℕ) → length ids ≡ k → HasFound q k before docs end ids → ids ≡ before ++ answer q (k - length before) docs
-found_full q k before docs end ids e h = h.all ∙ ap (λ (z : List ℕ). before ++ z) (walk_full q (k - length before) docs end h.found h.walk (omega (arith, ap length h.all, length-append before h.found)))
+found_full q k before docs end ids e h =
+    h.all ∙ ap (λ (z : List ℕ). before ++ z) (walk_full q (k - length before) docs end h.found h.walk (omega (arith, ap length h.all, length-append before h.found)))
 
 -- ---- over all segments
 
@@ -76,7 +82,8 @@ unfolding answer
 answer_none q docs = refl
 
 -- a segment's answer behind that of the newer segments
-pub answer_next : (q : Tree) (k : ℕ) (docs part : List Doc) (start end : ℕ) (ids ids' : List ℕ) → drop start docs ≡ part ++ drop end docs → ids ≡ answer q k (drop end docs) → ids' ≡ ids ++ answer q (k - length ids) part → ids' ≡ answer q k (drop start docs)
+pub answer_next : (q : Tree) (k : ℕ) (docs part : List Doc) (start end : ℕ) (ids ids' : List ℕ) → drop start docs ≡ part ++ drop end docs
+    → ids ≡ answer q k (drop end docs) → ids' ≡ ids ++ answer q (k - length ids) part → ids' ≡ answer q k (drop start docs)
 answer_next q k docs part start end ids ids' e i j =
     j ∙ (λ t. i t ++ answer q (k - length (i t)) part) ∙ sym (ap (answer q k) e ∙ answer-append q k part (drop end docs))
 
@@ -100,7 +107,8 @@ answer_first q k docs end ids e i = i ∙ sym (ap (answer q k) (ap (λ n. drop n
 
 -- ---- the same behind ids that a frame held before
 
-pub more_next : (q : Tree) (k : ℕ) (before : List ℕ) (docs part : List Doc) (start end : ℕ) (ids ids' : List ℕ) → drop start docs ≡ part ++ drop end docs → ids ≡ before ++ answer q (k - length before) (drop end docs) → ids' ≡ ids ++ answer q (k - length ids) part
+pub more_next : (q : Tree) (k : ℕ) (before : List ℕ) (docs part : List Doc) (start end : ℕ) (ids ids' : List ℕ) → drop start docs ≡ part ++ drop end docs
+    → ids ≡ before ++ answer q (k - length before) (drop end docs) → ids' ≡ ids ++ answer q (k - length ids) part
     → ids' ≡ before ++ answer q (k - length before) (drop start docs)
 more_next q k before docs part start end ids ids' e i j =
     let newer : List ℕ = answer q (k - length before) (drop end docs) in
@@ -109,7 +117,8 @@ more_next q k before docs part start end ids ids' e i j =
     j ∙ ap (λ n. ids ++ answer q n part) left ∙ ap (λ (z : List ℕ). z ++ older) i ∙ append_assoc before newer older
     ∙ ap (λ (z : List ℕ). before ++ z) (answer_next q (k - length before) docs part start end newer (newer ++ older) e refl refl)
 
-pub more_full : (q : Tree) (k : ℕ) (before : List ℕ) (docs : List Doc) (end : ℕ) (ids : List ℕ) → length ids ≡ k → ids ≡ before ++ answer q (k - length before) (drop end docs) → ids ≡ before ++ answer q (k - length before) docs
+pub more_full : (q : Tree) (k : ℕ) (before : List ℕ) (docs : List Doc) (end : ℕ) (ids : List ℕ) → length ids ≡ k
+    → ids ≡ before ++ answer q (k - length before) (drop end docs) → ids ≡ before ++ answer q (k - length before) docs
 more_full q k before docs end ids e i =
     let newer : List ℕ = answer q (k - length before) (drop end docs) in
     i ∙ ap (λ (z : List ℕ). before ++ z) (answer_full q (k - length before) docs end newer (omega (arith, ap length i, length-append before newer)) refl)

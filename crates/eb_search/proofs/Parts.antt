@@ -47,7 +47,8 @@ drop_flat (x ∷ xs) (suc s) h =
     ap (λ n. drop n (x ++ flat xs)) a ∙ drop-append-add x (flat xs) (documents_before xs s) ∙ drop_flat xs s (omega arith)
     ∙ ap (λ (z : List Doc). get_or xs s [] ++ z) (sym (ap (λ n. drop n (x ++ flat xs)) b ∙ drop-append-add x (flat xs) (documents_before xs (s + 1))))
 
-pub drop_segment : (σ : Setting) (docs : List Doc) (s : ℕ) → s < length (cut σ docs) → drop (documents_before (cut σ docs) s) docs ≡ get_or (cut σ docs) s [] ++ drop (documents_before (cut σ docs) (s + 1)) docs
+pub drop_segment : (σ : Setting) (docs : List Doc) (s : ℕ) → s < length (cut σ docs)
+    → drop (documents_before (cut σ docs) s) docs ≡ get_or (cut σ docs) s [] ++ drop (documents_before (cut σ docs) (s + 1)) docs
 drop_segment σ docs s h =
     let e = flat_cut σ docs in
     ap (drop (documents_before (cut σ docs) s)) (sym e) ∙ drop_flat (cut σ docs) s h ∙ ap (λ (z : List Doc). get_or (cut σ docs) s [] ++ drop (documents_before (cut σ docs) (s + 1)) z) e

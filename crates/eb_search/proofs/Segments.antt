@@ -52,7 +52,8 @@ pub is_low : (m : Moment) (s i : ℕ) (docs : List Doc) → IsMoment m → i < l
 is_low m s i docs is h p = first_is_low m s i docs is h (are_first m s docs is (omega arith) p)
 
 -- the id word of one of the first accepted documents of a segment
-pub loaded_id : (m : Moment) (s i w : ℕ) (docs : List Doc) (d : Doc) → IsMoment m → IsPrefix docs (accepted_in m s) → slice_get docs i ≡ Some d → i < length docs → w ≡ word m (place m.setting (slot s id_region i)) → w ≡ d.id
+pub loaded_id : (m : Moment) (s i w : ℕ) (docs : List Doc) (d : Doc) → IsMoment m → IsPrefix docs (accepted_in m s)
+    → slice_get docs i ≡ Some d → i < length docs → w ≡ word m (place m.setting (slot s id_region i)) → w ≡ d.id
 loaded_id m s i w docs d is p there h e = loaded_first m s i w docs d is (are_first m s docs is (omega arith) p) there h e
 
 -- a search of a segment goes on: its frame may be asked below the end, for these documents
@@ -62,7 +63,8 @@ pub record IsUnderWay (s : ℕ) (docs : List Doc) (f : Frame) (end : ℕ) (n : M
   pub later : IsNotBefore n asked
   pub asks : (document : ℕ) → document < end → MayAsk asked f docs document
 
-pub under_way : (m n : Moment) (s : ℕ) (docs : List Doc) (f : Frame) (end : ℕ) → IsNotBefore n m → IsPrefix docs (accepted_in m s) → ((document : ℕ) → MayAsk n f docs document) → IsUnderWay s docs f end n
+pub under_way : (m n : Moment) (s : ℕ) (docs : List Doc) (f : Frame) (end : ℕ) → IsNotBefore n m
+    → IsPrefix docs (accepted_in m s) → ((document : ℕ) → MayAsk n f docs document) → IsUnderWay s docs f end n
 under_way m n s docs f end l p asks = record { first = first_later m n s docs l p; asked = n; later = later_self n; asks = λ document h. asks document }
 
 -- the next older segment of a walk
@@ -76,7 +78,8 @@ pub record IsStep (m : Moment) (docs : List Doc) (firsts : List ℕ) (s end : �
   pub first : IsPrefix (get_or (cut m.setting docs) s []) (accepted_in m s)
   pub rest : drop (documents_before (cut m.setting docs) s) docs ≡ get_or (cut m.setting docs) s [] ++ drop end docs
 
-pub is_step : (m : Moment) (docs : List Doc) (firsts : List ℕ) (begun s end : ℕ) → IsMoment m → AreVisible m docs firsts begun → s + 1 ≤ begun → end ≡ documents_before (cut m.setting docs) (s + 1) → IsStep m docs firsts s end
+pub is_step : (m : Moment) (docs : List Doc) (firsts : List ℕ) (begun s end : ℕ) → IsMoment m → AreVisible m docs firsts begun
+    → s + 1 ≤ begun → end ≡ documents_before (cut m.setting docs) (s + 1) → IsStep m docs firsts s end
 is_step m docs firsts begun s end is v le e =
     let here : s < length (cut m.setting docs) = omega (arith, v.words.all) in
     let part = is_part m.setting docs s here in

@@ -1,5 +1,6 @@
 -- What the stores that enter a term change.
-use Rattle.std.proofs.Common.{◌≡◌, ℕ, zero, suc, ◌+◌, ◌*◌, ◌/◌, ◌^◌, ◌<◌, ◌≤◌, Bool, cond, List, [], ◌∷◌, ◌++◌, length, take, drop, filter, get_or, count_by, sum_by, refl, ap, sym, ◌∙◌, subst, arith, slice_get, Some}
+use Rattle.std.proofs.Common.{◌≡◌, ℕ, zero, suc, ◌+◌, ◌*◌, ◌/◌, ◌^◌, ◌<◌, ◌≤◌, Bool, cond, List, [], ◌∷◌, ◌++◌, length, take}
+use Rattle.std.proofs.Common.{drop, filter, get_or, count_by, sum_by, refl, ap, sym, ◌∙◌, subst, arith, slice_get, Some}
 use Rattle.std.proofs.lemmas.List.{length_push, length-append, take_all, take_at}
 use Rattle.std.proofs.lemmas.List.Elements.{filter-append}
 use Rattle.std.proofs.lemmas.List.Sums.{sum_by-append, sum_by_push, length-filter}
@@ -81,7 +82,8 @@ enter_room σ s terms t h =
     record { inside = r.0; few = omega (arith, length_push terms t, b); texts = omega (arith, sum_by_push text_words terms t, r.1) }
 
 -- and its text words are those of the segment
-pub text_room : (m : Moment) (d : Doc) (s start : ℕ) (t : Term) → IsMoment m → IsNextText m d s start t → (s < m.setting.segments) × (start + text_words t ≤ 4 * m.setting.terms) × (m.setting.terms ≤ 2 ^ 20)
+pub text_room : (m : Moment) (d : Doc) (s start : ℕ) (t : Term) → IsMoment m → IsNextText m d s start t
+    → (s < m.setting.segments) × (start + text_words t ≤ 4 * m.setting.terms) × (m.setting.terms ≤ 2 ^ 20)
 text_room m d s start t is n =
     let w = length-text_of t in
     let r = row_room m.setting s start (text_of t) (omega arith) (next_within m d (in_row s text_region start (text_of t)) is n) in
@@ -130,7 +132,8 @@ enter_at σ s terms t =
     let y : Store = (slot s cell_region (cell_of_next (2 * σ.terms) terms t), length terms + 1) in
     get_at R (y ∷ []) x (text_words t) (omega (arith, length-in_row s (sum_by text_words terms) (text_of t), length-text_of t))
 
-pub enter_cell : (σ : Setting) (s : ℕ) (terms : List Term) (t : Term) → slice_get (enter_stores σ s terms t) (text_words t + 1) ≡ Some (slot s cell_region (cell_of_next (2 * σ.terms) terms t), length terms + 1)
+pub enter_cell : (σ : Setting) (s : ℕ) (terms : List Term) (t : Term)
+    → slice_get (enter_stores σ s terms t) (text_words t + 1) ≡ Some (slot s cell_region (cell_of_next (2 * σ.terms) terms t), length terms + 1)
 enter_cell σ s terms t =
     let y : Store = (slot s cell_region (cell_of_next (2 * σ.terms) terms t), length terms + 1) in
     let e = enter_split σ s terms t in
@@ -140,7 +143,8 @@ enter_cell σ s terms t =
 -- its text comes next
 pub next_text : (m : Moment) (d : Doc) (s : ℕ) (t : Term) → IsNextTerm m d s t → IsNextText m d s (sum_by text_words (entered m s)) t
 unfolding enter_stores
-next_text m d s t n = next_front m d (in_row s text_region (sum_by text_words (entered m s)) (text_of t)) ((slot s text_place_region (length (entered m s)), sum_by text_words (entered m s)) ∷ (slot s cell_region (cell_of_next (2 * m.setting.terms) (entered m s) t), length (entered m s) + 1) ∷ []) n
+next_text m d s t n = next_front m d (in_row s text_region (sum_by text_words (entered m s)) (text_of t))
+    ((slot s text_place_region (length (entered m s)), sum_by text_words (entered m s)) ∷ (slot s cell_region (cell_of_next (2 * m.setting.terms) (entered m s) t), length (entered m s) + 1) ∷ []) n
 
 -- ---- what goes by the documents part alone
 
@@ -170,7 +174,8 @@ texts_agree σ s terms x t L h k bx bt =
     let one : (u : Term) → Texts σ s (terms ++ u ∷ []) L → (i : ℕ) → i < text_words u → val σ L (slot s text_region (sum_by text_words terms + i)) ≡ get_or (text_of u) i 0 = λ u w i l.
     (let g : get_or (terms ++ u ∷ []) n [] ≡ u = get_or-append_seam terms u [] [] in
     let words = ap text_words g in
-    ap (λ z. val σ L (slot s text_region (sum_by text_words z + i))) (sym (take_at terms (u ∷ []) n refl)) ∙ w.text n i (omega (arith, length_push terms u)) (omega arith) ∙ ap (λ z. get_or (text_of z) i 0) g) in
+    ap (λ z. val σ L (slot s text_region (sum_by text_words z + i))) (sym (take_at terms (u ∷ []) n refl))
+    ∙ w.text n i (omega (arith, length_push terms u)) (omega arith) ∙ ap (λ z. get_or (text_of z) i 0) g) in
     let same : length x ≡ length t = sym (one x h 0 (omega arith)) ∙ one t k 0 (omega arith) in
     let words : text_words x ≡ text_words t = ap (λ z. 1 + (z + 7) / 8) same in
     text_same x t bx bt same (λ i l. sym (one x h i (omega arith)) ∙ one t k i l)
@@ -183,7 +188,8 @@ enter_one_cell σ s terms t =
     let p = is_in s cell_region in
     let c = cell_of_next (2 * σ.terms) terms t in
     let y : Store = (slot s cell_region c, length terms + 1) in
-    let z : count_by p (text_stores s terms t) ≡ 0 = sym (length-filter p (text_stores s terms t)) ∙ ap length (filter_none p (text_stores s terms t) (Each-map (λ w k. k.test) (text_stores_behind s terms t))) in
+    let z : count_by p (text_stores s terms t) ≡ 0 = sym (length-filter p (text_stores s terms t))
+    ∙ ap length (filter_none p (text_stores s terms t) (Each-map (λ w k. k.test) (text_stores_behind s terms t))) in
     let one : count_by p (y ∷ []) ≡ 1 = rw (in_region s cell_region c (length terms + 1)) refl in
     ap (count_by p) (enter_split σ s terms t) ∙ count_more p (text_stores s terms t) (y ∷ []) ∙ omega (arith, z, one)
 
@@ -193,7 +199,8 @@ one_of (x ∷ []) h = (x, refl)
 one_of (x ∷ y ∷ xs) h = absurd (omega arith)
 
 -- after the stores that enter a term, it is the last entered one
-pub entered_more : (m a : Moment) (d : Doc) (s : ℕ) (t : Term) → IsMoment m → AreBytes t → IsNextTerm m d s t → After m d (enter_stores m.setting s (entered m s) t) (length (enter_stores m.setting s (entered m s) t)) a → entered a s ≡ entered m s ++ t ∷ []
+pub entered_more : (m a : Moment) (d : Doc) (s : ℕ) (t : Term) → IsMoment m → AreBytes t → IsNextTerm m d s t
+    → After m d (enter_stores m.setting s (entered m s) t) (length (enter_stores m.setting s (entered m s) t)) a → entered a s ≡ entered m s ++ t ∷ []
 unfolding stores_in_region
 entered_more m a d s t is bytes n h =
     let σ = m.setting in
@@ -211,7 +218,8 @@ entered_more m a d s t is bytes n h =
     let x = one_of front.0 (omega (arith, ap length front.1, length-append E front.0)) in
     let list : entered a s ≡ E ++ x.0 ∷ [] = sym front.1 ∙ ap (λ z. E ++ z) x.1 in
     let F = filter (is_entry s) M in
-    let kept : F ≡ filter (is_entry s) L ++ X = ap (filter (is_entry s)) whole ∙ filter-append (is_entry s) L X ∙ ap (λ z. filter (is_entry s) L ++ z) (filter_whole (is_entry s) X (enter_entries σ s E t)) in
+    let kept : F ≡ filter (is_entry s) L ++ X = ap (filter (is_entry s)) whole ∙ filter-append (is_entry s) L X
+    ∙ ap (λ z. filter (is_entry s) L ++ z) (filter_whole (is_entry s) X (enter_entries σ s E t)) in
     let inside : s < a.setting.segments = subst (λ (z : Setting). s < z.segments) (sym h.setting) room.inside in
     let new : Texts σ s (E ++ x.0 ∷ []) F = subst (λ z. Texts σ s z F) list (subst (λ (z : Setting). Texts z s (entered a s) F) h.setting (entered_whole a s h.moment inside).texts) in
     let old : Texts σ s (E ++ t ∷ []) F = subst (Texts σ s (E ++ t ∷ [])) (sym kept) (texts_done σ s E t (filter (is_entry s) L) room (entered_whole m s is room.inside).texts) in
@@ -221,7 +229,8 @@ entered_more m a d s t is bytes n h =
     list ∙ ap (λ z. E ++ z ∷ []) (texts_agree σ s E x.0 t F new old bx bytes)
 
 -- and the same tokens are seen
-pub tokens_after : (m a : Moment) (d : Doc) (s : ℕ) (t : Term) → After m d (enter_stores m.setting s (entered m s) t) (length (enter_stores m.setting s (entered m s) t)) a → tokens_seen a s ≡ tokens_seen m s
+pub tokens_after : (m a : Moment) (d : Doc) (s : ℕ) (t : Term)
+    → After m d (enter_stores m.setting s (entered m s) t) (length (enter_stores m.setting s (entered m s) t)) a → tokens_seen a s ≡ tokens_seen m s
 unfolding stores_in_region
 tokens_after m a d s t h =
     let X = enter_stores m.setting s (entered m s) t in
@@ -270,33 +279,41 @@ ready m n d s t u is l f h tells =
     }
 
 -- behind the text comes the text place
-pub place_next : (n : Moment) (d : Doc) (s : ℕ) (t : Term) (u : Used) (p v : ℕ) → IsReady n d s t u → p ≡ place n.setting (slot s text_place_region u.terms) → v ≡ u.text → IsNext (with_placed n d (text_words t)) d p v
+pub place_next : (n : Moment) (d : Doc) (s : ℕ) (t : Term) (u : Used) (p v : ℕ) → IsReady n d s t u
+    → p ≡ place n.setting (slot s text_place_region u.terms) → v ≡ u.text → IsNext (with_placed n d (text_words t)) d p v
 place_next n d s t u p v r e w =
     let E = entered n s in
     let X = enter_stores n.setting s E t in
     let x : Store = (slot s text_place_region (length E), sum_by text_words E) in
-    next_as (with_placed n d (text_words t)) d (place n.setting x.0) p x.1 v (placed_next n d X (text_words t) x r.moment r.next r.more (omega arith) (omega (arith, length-enter_stores n.setting s E t)) (enter_at n.setting s E t))
+    next_as (with_placed n d (text_words t)) d (place n.setting x.0) p x.1 v
+    (placed_next n d X (text_words t) x r.moment r.next r.more (omega arith) (omega (arith, length-enter_stores n.setting s E t)) (enter_at n.setting s E t))
     (e ∙ ap (λ k. place n.setting (slot s text_place_region k)) r.number) (w ∙ r.start)
 
 pub place_stored : (n : Moment) (d : Doc) (s : ℕ) (t : Term) (u : Used) → IsReady n d s t u → after_store (with_placed n d (text_words t)) d ≡ with_placed n d (text_words t + 1)
-place_stored n d s t u r = placed_more n d (enter_stores n.setting s (entered n s) t) (text_words t) r.moment r.next r.more (omega arith) (omega (arith, length-enter_stores n.setting s (entered n s) t))
+place_stored n d s t u r =
+    placed_more n d (enter_stores n.setting s (entered n s) t) (text_words t) r.moment r.next r.more (omega arith) (omega (arith, length-enter_stores n.setting s (entered n s) t))
 
 -- and then the cell
-pub cell_next : (n : Moment) (d : Doc) (s : ℕ) (t : Term) (u : Used) (cell p v : ℕ) → IsReady n d s t u → cell ≡ cell_of_next (cells_in n) (entered n s) t → p ≡ place n.setting (slot s cell_region cell) → v ≡ u.terms + 1 → IsNext (with_placed n d (text_words t + 1)) d p v
+pub cell_next : (n : Moment) (d : Doc) (s : ℕ) (t : Term) (u : Used) (cell p v : ℕ) → IsReady n d s t u → cell ≡ cell_of_next (cells_in n) (entered n s) t
+    → p ≡ place n.setting (slot s cell_region cell) → v ≡ u.terms + 1 → IsNext (with_placed n d (text_words t + 1)) d p v
 cell_next n d s t u cell p v r c e w =
     let E = entered n s in
     let X = enter_stores n.setting s E t in
     let x : Store = (slot s cell_region (cell_of_next (2 * n.setting.terms) E t), length E + 1) in
-    next_as (with_placed n d (text_words t + 1)) d (place n.setting x.0) p x.1 v (placed_next n d X (text_words t + 1) x r.moment r.next r.more (omega arith) (omega (arith, length-enter_stores n.setting s E t)) (enter_cell n.setting s E t))
+    next_as (with_placed n d (text_words t + 1)) d (place n.setting x.0) p x.1 v
+    (placed_next n d X (text_words t + 1) x r.moment r.next r.more (omega arith) (omega (arith, length-enter_stores n.setting s E t)) (enter_cell n.setting s E t))
     (e ∙ ap (λ k. place n.setting (slot s cell_region k)) c) (w ∙ ap (λ k. k + 1) r.number)
 
 pub cell_stored : (n : Moment) (d : Doc) (s : ℕ) (t : Term) (u : Used) → IsReady n d s t u → after_store (with_placed n d (text_words t + 1)) d ≡ with_placed n d (text_words t + 2)
-cell_stored n d s t u r = placed_more n d (enter_stores n.setting s (entered n s) t) (text_words t + 1) r.moment r.next r.more (omega arith) (omega (arith, length-enter_stores n.setting s (entered n s) t)) ∙ ap (with_placed n d) (let e : text_words t + 1 + 1 ≡ text_words t + 2 = omega arith in e)
+cell_stored n d s t u r =
+    placed_more n d (enter_stores n.setting s (entered n s) t) (text_words t + 1) r.moment r.next r.more (omega arith) (omega (arith, length-enter_stores n.setting s (entered n s) t))
+    ∙ ap (with_placed n d) (let e : text_words t + 1 + 1 ≡ text_words t + 2 = omega arith in e)
 
 -- ---- the whole call
 
 -- what `enter` ensures, where it begins at m, loads until n and stores from there on
-pub enters : (m n : Moment) (d : Doc) (s : ℕ) (t : Term) (k : ℕ) → IsMoment n → IsNotBefore n m → n.documents ≡ m.documents → AreBytes t → IsNextTerm n d s t → k ≡ length (entered m s) → HasEntered m (with_placed n d (text_words t + 2)) d s t k
+pub enters : (m n : Moment) (d : Doc) (s : ℕ) (t : Term) (k : ℕ) → IsMoment n → IsNotBefore n m → n.documents ≡ m.documents
+    → AreBytes t → IsNextTerm n d s t → k ≡ length (entered m s) → HasEntered m (with_placed n d (text_words t + 2)) d s t k
 enters m n d s t k is l f bytes next number =
     let e = sym l.setting in
     let X = enter_stores n.setting s (entered n s) t in

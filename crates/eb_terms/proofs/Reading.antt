@@ -38,7 +38,8 @@ pub holds_none : (m : Moment) (s c w : ℕ) → w ≡ word m (place m.setting (s
 holds_none m s c w e z = ap (nat_lt 0) (sym e ∙ z)
 
 -- a cell with a number
-pub holds_number : (m : Moment) (s c w : ℕ) → IsMoment m → s < m.setting.segments → c < cells_in m → w ≡ word m (place m.setting (slot s cell_region c)) → 1 ≤ w → IsNumber m s (w - 1) × (cell_of m s (w - 1) ≡ c)
+pub holds_number : (m : Moment) (s c w : ℕ) → IsMoment m → s < m.setting.segments → c < cells_in m
+    → w ≡ word m (place m.setting (slot s cell_region c)) → 1 ≤ w → IsNumber m s (w - 1) × (cell_of m s (w - 1) ≡ c)
 holds_number m s c w is h l e some =
     let d = dictionary m s is h in
     let E = entered m s in
@@ -76,7 +77,8 @@ pub text_place : (m : Moment) (s k at i : ℕ) → IsMoment m → IsText m s k a
 text_place m s k at i is h l = place_in m.setting (slot s text_region (at + i)) (text_in_table m.setting s (at + i) h.inside (text_low m s k at i is h l))
 
 -- its value
-pub text_is : (m : Moment) (s k at i w : ℕ) → IsMoment m → IsText m s k at → i < text_words (term_at m s k) → w ≡ word m (place m.setting (slot s text_region (at + i))) → w ≡ get_or (text_of (term_at m s k)) i 0
+pub text_is : (m : Moment) (s k at i w : ℕ) → IsMoment m → IsText m s k at → i < text_words (term_at m s k)
+    → w ≡ word m (place m.setting (slot s text_region (at + i))) → w ≡ get_or (text_of (term_at m s k)) i 0
 text_is m s k at i w is h l e = e ∙ ap (λ z. word m (place m.setting (slot s text_region (z + i)))) h.start ∙ (dictionary m s is h.inside).text k i h.number l
 
 -- ---- at later moments
@@ -88,7 +90,9 @@ pub same_term_later : (m n : Moment) (s k : ℕ) → IsNotBefore n m → IsNumbe
 same_term_later m n s k l h = (term_later m n s k l h).1
 
 pub text_later : (m n : Moment) (s k at : ℕ) → IsNotBefore n m → IsText m s k at → IsText n s k at
-text_later m n s k at l h = let low : IsNumber m s k = h.number in record { inside = inside_later m n s l h.inside; number = number_later m n s k l h.number; start = h.start ∙ ap (sum_by text_words) (sym (front_later m n s k l (omega arith))) }
+text_later m n s k at l h =
+    let low : IsNumber m s k = h.number in
+    record { inside = inside_later m n s l h.inside; number = number_later m n s k l h.number; start = h.start ∙ ap (sum_by text_words) (sym (front_later m n s k l (omega arith))) }
 
 -- ---- comparing
 
@@ -130,7 +134,8 @@ at_low t u zero l same = omega arith
 at_low t u (suc i) l same = let w = words_same t u (suc i) (omega arith) same in omega (arith, w.1)
 
 -- a word that differs is the last that is compared
-pub compare_stops : (t u : Term) (i : ℕ) → i < text_words u → AreSame (text_of t) (text_of u) i → (get_or (text_of t) i 0 ≡ get_or (text_of u) i 0 → ⊥) → (t ≡ u → ⊥) × (words_compared (text_of t) (text_of u) ≡ i + 1)
+pub compare_stops : (t u : Term) (i : ℕ) → i < text_words u → AreSame (text_of t) (text_of u) i
+    → (get_or (text_of t) i 0 ≡ get_or (text_of u) i 0 → ⊥) → (t ≡ u → ⊥) × (words_compared (text_of t) (text_of u) ≡ i + 1)
 compare_stops t u i l same differ =
     (λ e. differ (ap (λ z. get_or (text_of z) i 0) e), compared_to (text_of t) (text_of u) i (omega (arith, length-text_of t, at_low t u i l same)) (omega (arith, length-text_of u)) same differ)
 

@@ -1,5 +1,6 @@
 -- Some stores of a placing, one after the other.
-use Rattle.std.proofs.Common.{◌≡◌, ℕ, zero, suc, ◌+◌, ◌-◌, ◌<◌, ◌≤◌, true, ltb, List, [], ◌∷◌, ◌++◌, length, take, drop, refl, ap, sym, ◌∙◌, subst, arith, inl, inr, append-nil, append_assoc, slice_get, Some}
+use Rattle.std.proofs.Common.{◌≡◌, ℕ, zero, suc, ◌+◌, ◌-◌, ◌<◌, ◌≤◌, true, ltb, List, [], ◌∷◌, ◌++◌, length, take, drop}
+use Rattle.std.proofs.Common.{refl, ap, sym, ◌∙◌, subst, arith, inl, inr, append-nil, append_assoc, slice_get, Some}
 use Rattle.std.proofs.lemmas.Bool.{lt-ltb, cases_lt}
 use Rattle.std.proofs.lemmas.List.{length_push, length-append, length-drop}
 use Rattle.eb_base.specs.Document.{Doc}
@@ -89,8 +90,10 @@ after_more m a d stores k n more low h =
     let at : slice_get D (i + k) ≡ Some x.0 = get_behind i D k x.0 (ap (λ z. slice_get z k) (sym n.front.1) ∙ get_front stores n.front.0 k x.0 x.1) in
     let there : slice_get D (i + k) ≡ Some (s.slot, x.0.1) = sym (λ j. slice_get (doc_stores (h.setting j) (h.accepted j) d) (h.done j)) ∙ s.is in
     let same : (s.slot, x.0.1) ≡ x.0 = cc in
-    let long : ltb (suc (stores_done a.documents.current)) (length (doc_stores a.setting a.documents.accepted d)) ≡ true = lt-ltb _ _ (omega (arith, h.done, ap (λ (z : List Store). length z) (λ j. doc_stores (h.setting j) (h.accepted j) d))) in
-    let docs : (after_store a d).documents ≡ record { accepted = a.documents.accepted; current = Some (d, suc (stores_done a.documents.current)) } = ap (λ b. documents_after b a.documents.accepted d (suc (stores_done a.documents.current))) long in
+    let long : ltb (suc (stores_done a.documents.current)) (length (doc_stores a.setting a.documents.accepted d)) ≡ true =
+    lt-ltb _ _ (omega (arith, h.done, ap (λ (z : List Store). length z) (λ j. doc_stores (h.setting j) (h.accepted j) d))) in
+    let docs : (after_store a d).documents ≡ record { accepted = a.documents.accepted; current = Some (d, suc (stores_done a.documents.current)) } =
+    ap (λ b. documents_after b a.documents.accepted d (suc (stores_done a.documents.current))) long in
     record {
       setting = h.setting;
       accepted = ap (λ (z : Documents). z.accepted) docs ∙ h.accepted;
@@ -99,7 +102,8 @@ after_more m a d stores k n more low h =
       conversions = h.conversions;
       moment = moment_stored a d (place m.setting x.0.0) x.0.1 h.moment next;
       later = later_on m a (after_store a d) h.later (later_stored a d h.current);
-      written = stored_stores a d (place m.setting x.0.0) x.0.1 next ∙ ap (λ z. z ++ (s.slot, x.0.1) ∷ []) h.written ∙ append_assoc (document_stores m.setting m.documents) (take k stores) ((s.slot, x.0.1) ∷ [])
+      written = stored_stores a d (place m.setting x.0.0) x.0.1 next ∙ ap (λ z. z ++ (s.slot, x.0.1) ∷ []) h.written
+          ∙ append_assoc (document_stores m.setting m.documents) (take k stores) ((s.slot, x.0.1) ∷ [])
           ∙ ap (λ z. document_stores m.setting m.documents ++ (take k stores ++ z ∷ [])) same ∙ ap (λ z. document_stores m.setting m.documents ++ z) (sym (take_next stores k x.0 x.1));
     }
 
@@ -124,7 +128,8 @@ unfolding after_stores after_store
 after_closed m d stores k is n more low =
     let a = after_stores k m d in
     let h = after_is m d stores k is n more (omega arith) in
-    let long : ltb (suc (stores_done a.documents.current)) (length (doc_stores a.setting a.documents.accepted d)) ≡ true = lt-ltb _ _ (omega (arith, h.done, ap (λ (z : List Store). length z) (λ j. doc_stores (h.setting j) (h.accepted j) d))) in
+    let long : ltb (suc (stores_done a.documents.current)) (length (doc_stores a.setting a.documents.accepted d)) ≡ true =
+    lt-ltb _ _ (omega (arith, h.done, ap (λ (z : List Store). length z) (λ j. doc_stores (h.setting j) (h.accepted j) d))) in
     let number : suc (stores_done a.documents.current) ≡ stores_done m.documents.current + suc k = omega (arith, h.done) in
     (λ j. record { setting = a.setting; documents = documents_after (long j) a.documents.accepted d (suc (stores_done a.documents.current)); conversions = a.conversions })
     ∙ (λ j. record { setting = h.setting j; documents = record { accepted = h.accepted j; current = Some (d, number j) }; conversions = h.conversions j })
@@ -152,12 +157,15 @@ pub placed_after : (m : Moment) (d : Doc) (stores : List Store) (k : ℕ) → Is
 placed_after m d stores k is n more some low = subst (After m d stores k) (placed_is m d stores k is n more some low) (after_is m d stores k is n more low)
 
 -- the next store there
-pub placed_next : (m : Moment) (d : Doc) (stores : List Store) (k : ℕ) (x : Store) → IsMoment m → AreNext m d stores → GoesOn m d stores → 1 ≤ k → k < length stores → slice_get stores k ≡ Some x → IsNext (with_placed m d k) d (place m.setting x.0) x.1
+pub placed_next : (m : Moment) (d : Doc) (stores : List Store) (k : ℕ) (x : Store) → IsMoment m → AreNext m d stores → GoesOn m d stores
+    → 1 ≤ k → k < length stores → slice_get stores k ≡ Some x → IsNext (with_placed m d k) d (place m.setting x.0) x.1
 placed_next m d stores k x is n more some low e = next_of m (with_placed m d k) d stores k x n (placed_after m d stores k is n more some (omega arith)) e
 
 -- and the moment after it
-pub placed_more : (m : Moment) (d : Doc) (stores : List Store) (k : ℕ) → IsMoment m → AreNext m d stores → GoesOn m d stores → 1 ≤ k → k < length stores → after_store (with_placed m d k) d ≡ with_placed m d (k + 1)
-placed_more m d stores k is n more some low = ap (λ z. after_store z d) (sym (placed_is m d stores k is n more some (omega arith))) ∙ sym (after_one m d k) ∙ placed_is m d stores (k + 1) is n more (omega arith) (omega arith)
+pub placed_more : (m : Moment) (d : Doc) (stores : List Store) (k : ℕ) → IsMoment m → AreNext m d stores
+    → GoesOn m d stores → 1 ≤ k → k < length stores → after_store (with_placed m d k) d ≡ with_placed m d (k + 1)
+placed_more m d stores k is n more some low =
+    ap (λ z. after_store z d) (sym (placed_is m d stores k is n more some (omega arith))) ∙ sym (after_one m d k) ∙ placed_is m d stores (k + 1) is n more (omega arith) (omega arith)
 
 -- the same store, given otherwise
 pub next_as : (m : Moment) (d : Doc) (p q v w : ℕ) → IsNext m d p v → q ≡ p → w ≡ v → IsNext m d q w

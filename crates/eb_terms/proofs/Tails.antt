@@ -1,5 +1,6 @@
 -- How many tails of a segment are stored.
-use Rattle.std.proofs.Common.{◌≡◌, ℕ, zero, suc, ◌+◌, ◌-◌, ◌*◌, ◌/◌, ◌%◌, ◌^◌, ◌≤◌, ◌==◌, ◌&&◌, false, List, [], ◌∷◌, ◌++◌, length, take, filter, refl, ap, sym, ◌∙◌, arith, inl, inr, append-nil, append_assoc, nat_le, sum_by}
+use Rattle.std.proofs.Common.{◌≡◌, ℕ, zero, suc, ◌+◌, ◌-◌, ◌*◌, ◌/◌, ◌%◌, ◌^◌, ◌≤◌, ◌==◌, ◌&&◌, false, List, [], ◌∷◌, ◌++◌}
+use Rattle.std.proofs.Common.{length, take, filter, refl, ap, sym, ◌∙◌, arith, inl, inr, append-nil, append_assoc, nat_le, sum_by}
 use Rattle.std.proofs.lemmas.Bool.{cases_Bool, eqb-true}
 use Rattle.std.proofs.lemmas.List.{take-append-le}
 use Rattle.std.proofs.lemmas.List.Elements.{filter-append}
@@ -35,7 +36,8 @@ tail_stores s before (u ∷ us) = tail_store s before u ∷ tail_stores s (befor
 tail_stores_push : (s : ℕ) (before ts : List Term) (u : Term) → tail_stores s before (ts ++ u ∷ []) ≡ tail_stores s before ts ++ tail_store s (before ++ ts) u ∷ []
 unfolding tail_stores
 tail_stores_push s before [] u = ap (λ z. tail_store s z u ∷ []) (sym (append-nil before))
-tail_stores_push s before (v ∷ ts) u = ap (λ z. tail_store s before v ∷ z) (tail_stores_push s (before ++ v ∷ []) ts u ∙ ap (λ z. tail_stores s (before ++ v ∷ []) ts ++ tail_store s z u ∷ []) (append_assoc before (v ∷ []) ts))
+tail_stores_push s before (v ∷ ts) u =
+    ap (λ z. tail_store s before v ∷ z) (tail_stores_push s (before ++ v ∷ []) ts u ∙ ap (λ z. tail_stores s (before ++ v ∷ []) ts ++ tail_store s z u ∷ []) (append_assoc before (v ∷ []) ts))
 
 length-tail_stores : (s : ℕ) (before ts : List Term) → length (tail_stores s before ts) ≡ length ts
 unfolding tail_stores
@@ -68,7 +70,8 @@ row_not_tail s i (v ∷ vs) = more (not_in s s tail_region text_region i v refl)
 -- the stores that enter a term store no tail
 pub enter_not_tail : (σ : Setting) (s : ℕ) (terms : List Term) (t : Term) → Each (λ (y : Store). is_in s tail_region y ≡ false) (enter_stores σ s terms t)
 unfolding enter_stores
-enter_not_tail σ s terms t = Each-append (row_not_tail s (sum_by text_words terms) (text_of t)) (more (not_in s s tail_region text_place_region (length terms) (sum_by text_words terms) refl) (more (not_in s s tail_region cell_region (cell_of_next (2 * σ.terms) terms t) (length terms + 1) refl) none))
+enter_not_tail σ s terms t = Each-append (row_not_tail s (sum_by text_words terms) (text_of t)) (more (not_in s s tail_region text_place_region (length terms) (sum_by text_words terms) refl)
+    (more (not_in s s tail_region cell_region (cell_of_next (2 * σ.terms) terms t) (length terms + 1) refl) none))
 
 front_not_tail : (σ : Setting) (s : ℕ) (ts : List Term) (u : Term) (x : ℕ) → Each (λ (y : Store). is_in s tail_region y ≡ false) (front_stores σ s ts u x)
 front_not_tail σ s ts u x =
@@ -85,7 +88,8 @@ tails_picked σ s = record {
       (let p = is_in s tail_region in
       let kept : filter p (tail_store s ts u ∷ []) ≡ tail_store s ts u ∷ [] = rw (in_region s tail_region (number_of u ts) (address_of u (count_of u ts) ts + 1)) refl in
       tail_stores_push s [] ts u
-      ∙ ap (λ z. tail_stores s [] ts ++ z) (sym (ap (filter p) (token_split σ s ts u x) ∙ filter-append p (front_stores σ s ts u x) (tail_store s ts u ∷ []) ∙ ap (λ z. z ++ filter p (tail_store s ts u ∷ [])) (filter_none p (front_stores σ s ts u x) (front_not_tail σ s ts u x)) ∙ kept)));
+      ∙ ap (λ z. tail_stores s [] ts ++ z) (sym (ap (filter p) (token_split σ s ts u x) ∙ filter-append p (front_stores σ s ts u x) (tail_store s ts u ∷ [])
+      ∙ ap (λ z. z ++ filter p (tail_store s ts u ∷ [])) (filter_none p (front_stores σ s ts u x) (front_not_tail σ s ts u x)) ∙ kept)));
   first = λ v. not_in s s tail_region first_region 0 v refl;
   id = λ i v. not_in s s tail_region id_region i v refl;
   count = λ v. refl;
@@ -97,7 +101,12 @@ pub tails_few : (m : Moment) (s : ℕ) → stores_in_region m s tail_region ≤ 
 unfolding stores_in_region
 tails_few m s =
     let p = picks_done m s (is_in s tail_region) (tail_stores s []) (tails_picked m.setting s) in
-    omega (arith, prefix_length (filter (is_in s tail_region) (document_stores m.setting m.documents)) (tail_stores s [] (terms_of (segment m s))) p, length-tail_stores s [] (terms_of (segment m s)), length-filter (is_in s tail_region) (document_stores m.setting m.documents))
+    omega (
+      arith,
+      prefix_length (filter (is_in s tail_region) (document_stores m.setting m.documents)) (tail_stores s [] (terms_of (segment m s))) p,
+      length-tail_stores s [] (terms_of (segment m s)),
+      length-filter (is_in s tail_region) (document_stores m.setting m.documents),
+    )
 
 -- where no tail is stored between two moments, the same tokens are seen
 pub tokens_same : (m n : Moment) (s : ℕ) → IsNotBefore n m → stores_in_region n s tail_region ≡ stores_in_region m s tail_region → tokens_seen n s ≡ tokens_seen m s

@@ -56,7 +56,8 @@ placing_recorded σ docs d xs ys n e f g =
     let before = placings σ docs in
     let next = doc_stores σ docs d in
     let front : xs ≡ pairs_of σ before = f ∙ ap (pairs_of σ) (append-nil before) in
-    let all : ys ≡ pairs_of σ before ++ pairs_of σ next = g ∙ ap (pairs_of σ) (append-nil (placings σ (docs ++ d ∷ [])) ∙ placings_push σ docs d) ∙ map-append (λ (x : Store). (place σ x.0, x.1)) before next in
+    let all : ys ≡ pairs_of σ before ++ pairs_of σ next = g ∙ ap (pairs_of σ) (append-nil (placings σ (docs ++ d ∷ [])) ∙ placings_push σ docs d)
+    ∙ map-append (λ (x : Store). (place σ x.0, x.1)) before next in
     ap (λ (k : ℕ). drop k ys) (e ∙ ap length front) ∙ ap (drop (length (pairs_of σ before))) all ∙ drop_front (pairs_of σ before) (pairs_of σ next)
 
 -- where these documents are accepted and none is being placed, the placing of one more is left

@@ -42,7 +42,8 @@ next_left m d xs n at value h e = record {
       ∙ e;
 }
 
-left_if : (m : Moment) (d : Doc) (xs : List (ℕ × ℕ)) (n : ℕ) (b : Bool) → ltb (suc (stores_done m.documents.current)) (length (doc_stores m.setting m.documents.accepted d)) ≡ b → AreLeft m d (drop n xs) → suc n < length xs
+left_if : (m : Moment) (d : Doc) (xs : List (ℕ × ℕ)) (n : ℕ) (b : Bool)
+    → ltb (suc (stores_done m.documents.current)) (length (doc_stores m.setting m.documents.accepted d)) ≡ b → AreLeft m d (drop n xs) → suc n < length xs
     → AreLeft record { setting = m.setting; documents = documents_after b m.documents.accepted d (suc (stores_done m.documents.current)); conversions = m.conversions } d (drop (suc n) xs)
 left_if m d xs n true e h l = record {
   limits = h.limits;

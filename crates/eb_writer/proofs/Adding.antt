@@ -1,5 +1,6 @@
 -- Where a document goes, and what a placer keeps.
-use Rattle.std.proofs.Common.{◌≡◌, ℕ, suc, ◌+◌, ◌-◌, ◌*◌, ◌/◌, ◌<◌, ◌≤◌, ◌&&◌, ◌||◌, Bool, true, false, nat_lt, nat_le, List, [], ◌∷◌, ◌++◌, length, take, get_or, sum_by, refl, ap, sym, ◌∙◌, subst, arith, inl, inr, append-nil, IsTrue, lit<, None, if◌then◌else◌}
+use Rattle.std.proofs.Common.{◌≡◌, ℕ, suc, ◌+◌, ◌-◌, ◌*◌, ◌/◌, ◌<◌, ◌≤◌, ◌&&◌, ◌||◌, Bool, true, false, nat_lt, nat_le, List, [], ◌∷◌, ◌++◌, length}
+use Rattle.std.proofs.Common.{take, get_or, sum_by, refl, ap, sym, ◌∙◌, subst, arith, inl, inr, append-nil, IsTrue, lit<, None, if◌then◌else◌}
 use Rattle.std.proofs.lemmas.Bool.{cases_Bool, lt-ltb, le-ltb}
 use Rattle.std.proofs.lemmas.List.{length_push, take_all, get_or_past}
 use Rattle.eb_base.specs.Term.{Term}
@@ -48,7 +49,8 @@ segments_few m is = (placed_all m.setting m.documents.accepted is.setting (lawfu
 last_is : (xs : List (List Doc)) → 1 ≤ length xs → get_or xs (length xs - 1) [] ≡ last_of xs
 last_is [] h = absurd (omega arith)
 last_is (x ∷ []) h = refl
-last_is (x ∷ y ∷ ys) h = ap (λ k. get_or (x ∷ y ∷ ys) k []) (let e : suc (suc (length ys)) - 1 ≡ suc (length ys) = omega arith in e) ∙ ap (λ k. get_or (y ∷ ys) k []) (let e : length ys ≡ suc (length ys) - 1 = omega arith in e) ∙ last_is (y ∷ ys) (omega arith)
+last_is (x ∷ y ∷ ys) h = ap (λ k. get_or (x ∷ y ∷ ys) k []) (let e : suc (suc (length ys)) - 1 ≡ suc (length ys) = omega arith in e)
+    ∙ ap (λ k. get_or (y ∷ ys) k []) (let e : length ys ≡ suc (length ys) - 1 = omega arith in e) ∙ last_is (y ∷ ys) (omega arith)
 
 pub last_at : (p : Progress) (m : Moment) → Stands p m → 1 ≤ p.segments → get_or (cut m.setting m.documents.accepted) (p.segments - 1) [] ≡ last_of (cut m.setting m.documents.accepted)
 last_at p m h some = ap (λ k. get_or (cut m.setting m.documents.accepted) (k - 1) []) h.segments ∙ last_is (cut m.setting m.documents.accepted) (omega (arith, h.segments))
@@ -81,7 +83,8 @@ next_ready p m is h low =
 
 -- the numbers that are tested
 abbrev pub is_room : Setting → Used → Bool
-is_room σ v = nat_le (v.documents + 1) σ.docs && nat_le v.terms σ.terms && nat_le v.text (4 * σ.terms) && nat_le v.pool0 σ.terms && nat_le v.pool1 (σ.terms / 2) && nat_le v.pool2 (σ.terms / 16) && nat_le v.pool3 (σ.terms / 128)
+is_room σ v = nat_le (v.documents + 1) σ.docs && nat_le v.terms σ.terms && nat_le v.text (4 * σ.terms)
+    && nat_le v.pool0 σ.terms && nat_le v.pool1 (σ.terms / 2) && nat_le v.pool2 (σ.terms / 16) && nat_le v.pool3 (σ.terms / 128)
 
 pub fits_is : (σ : Setting) (seg : List Doc) (d : Doc) (v : Used) → IsUsedBy v (terms_of seg ++ d.terms) → v.documents ≡ length seg → is_room σ v ≡ fits σ seg d
 unfolding holds
@@ -95,7 +98,8 @@ fits_is σ seg d v h n =
     let p1 : v.pool1 ≡ all_slices 1 ts = h.pool1 ∙ begun_is 1 (lit< tt) (terms_of seg ++ d.terms) ∙ ap (all_slices 1) e in
     let p2 : v.pool2 ≡ all_slices 2 ts = h.pool2 ∙ begun_is 2 (lit< tt) (terms_of seg ++ d.terms) ∙ ap (all_slices 2) e in
     let p3 : v.pool3 ≡ all_slices 3 ts = h.pool3 ∙ begun_is 3 (lit< tt) (terms_of seg ++ d.terms) ∙ ap (all_slices 3) e in
-    λ i. nat_le (docs i) σ.docs && nat_le (terms i) σ.terms && nat_le (text i) (4 * σ.terms) && nat_le (p0 i) σ.terms && nat_le (p1 i) (σ.terms / 2) && nat_le (p2 i) (σ.terms / 16) && nat_le (p3 i) (σ.terms / 128)
+    λ i. nat_le (docs i) σ.docs && nat_le (terms i) σ.terms && nat_le (text i) (4 * σ.terms) && nat_le (p0 i) σ.terms
+    && nat_le (p1 i) (σ.terms / 2) && nat_le (p2 i) (σ.terms / 16) && nat_le (p3 i) (σ.terms / 128)
 
 or_right : (a b : Bool) → b ≡ true → (a || b) ≡ true
 or_right true b e = refl
@@ -127,7 +131,8 @@ pub record JoinsLast (m : Moment) (d : Doc) (s : ℕ) : Type 0 where
   pub before : before_it m d ≡ get_or (cut m.setting m.documents.accepted) s []
   pub some : 1 ≤ length (before_it m d)
 
-pub joins_last : (p : Progress) (m : Moment) (d : Doc) → IsMoment m → IsDocument d → Stands p m → 1 ≤ p.segments → fits m.setting (last_of (cut m.setting m.documents.accepted)) d ≡ true → JoinsLast m d (p.segments - 1)
+pub joins_last : (p : Progress) (m : Moment) (d : Doc) → IsMoment m → IsDocument d → Stands p m → 1 ≤ p.segments
+    → fits m.setting (last_of (cut m.setting m.documents.accepted)) d ≡ true → JoinsLast m d (p.segments - 1)
 unfolding has_room
 joins_last p m d is limits h some f =
     let σ = m.setting in
@@ -154,7 +159,8 @@ empty_before σ [] d f = elim (cases_Bool (fits σ [] d)) [
 empty_before σ (x ∷ xs) d f = λ i. if f (omega arith) i then last_of (x ∷ xs) else []
 
 -- or begins the next one
-pub begins_next : (p : Progress) (m : Moment) (d : Doc) → IsMoment m → IsDocument d → Stands p m → IsLastFull m d → length (cut m.setting m.documents.accepted) < m.setting.segments → BeginsSegment m d p.segments
+pub begins_next : (p : Progress) (m : Moment) (d : Doc) → IsMoment m → IsDocument d → Stands p m → IsLastFull m d
+    → length (cut m.setting m.documents.accepted) < m.setting.segments → BeginsSegment m d p.segments
 unfolding has_room
 begins_next p m d is limits h f low =
     let σ = m.setting in
@@ -184,20 +190,23 @@ no_room m d is e f =
 -- ---- afterwards
 
 -- what is used tells the segment with the document
-pub tells_accepted : (m k n : Moment) (d : Doc) (s : ℕ) (u v : Used) → IsMoment m → IsMoment n → IsPlaced m d s → HasComeTo k d s (length d.terms) → TellsSegment u k s → before_it k d ≡ before_it m d → IsAccepted m n d → u.documents ≡ length (before_it m d)
+pub tells_accepted : (m k n : Moment) (d : Doc) (s : ℕ) (u v : Used) → IsMoment m → IsMoment n → IsPlaced m d s → HasComeTo k d s (length d.terms)
+    → TellsSegment u k s → before_it k d ≡ before_it m d → IsAccepted m n d → u.documents ≡ length (before_it m d)
     → v ≡ record u { documents = u.documents + 1 } → TellsSegment v n s
 tells_accepted m k n d s u v is last p h tells same a count e =
     let j = joined m d s is p in
     let idle : IsIdle n = ap (λ (x : Documents). x.current) a.documents in
     let seg : get_or (cut n.setting n.documents.accepted) s [] ≡ before_it m d ++ d ∷ [] = (λ i. get_or (cut (sym a.later.setting i) ((a.documents i).accepted)) s []) ∙ j.here in
-    let ts : tokens_until k d (length d.terms) ≡ tokens_in n s = ap (λ (z : List Doc). terms_of z ++ take (length d.terms) d.terms) same ∙ ap (λ z. terms_of (before_it m d) ++ z) (take_all (length d.terms) d.terms (omega arith)) ∙ sym (terms_push (before_it m d) d) ∙ ap terms_of (sym seg) in
+    let ts : tokens_until k d (length d.terms) ≡ tokens_in n s = ap (λ (z : List Doc). terms_of z ++ take (length d.terms) d.terms) same
+    ∙ ap (λ z. terms_of (before_it m d) ++ z) (take_all (length d.terms) d.terms (omega arith)) ∙ sym (terms_push (before_it m d) d) ∙ ap terms_of (sym seg) in
     let used : IsUsedBy u (tokens_in n s) = subst (IsUsedBy u) ts (told_used k s u (tokens_until k d (length d.terms)) h.entered h.seen tells) in
     subst (λ z. TellsSegment z n s) (sym e) (used_tells n s record u { documents = u.documents + 1 } (tokens_in n s) (idle_entered n s last idle) (idle_tokens n s last idle)
     (omega (arith, count, ap length seg, length_push (before_it m d) d))
     (record { terms = used.terms; text = used.text; pool0 = used.pool0; pool1 = used.pool1; pool2 = used.pool2; pool3 = used.pool3 }))
 
 -- and the placer stands there
-pub stands_accepted : (p q : Progress) (m n : Moment) (d : Doc) (s : ℕ) → Stands p m → IsPlaced m d s → IsAccepted m n d → q.setting ≡ p.setting → q.segments ≡ s + 1 → q.documents ≡ p.documents + 1 → TellsSegment q.used n s → Stands q n
+pub stands_accepted : (p q : Progress) (m n : Moment) (d : Doc) (s : ℕ) → Stands p m → IsPlaced m d s → IsAccepted m n d
+    → q.setting ≡ p.setting → q.segments ≡ s + 1 → q.documents ≡ p.documents + 1 → TellsSegment q.used n s → Stands q n
 stands_accepted p q m n d s h placed a e segments documents tells =
     let σ = m.setting in
     let docs = m.documents.accepted in
@@ -245,7 +254,8 @@ before_same m n d l e = λ i. segment_before (sym l.setting i) (e i) d
 -- ---- the document's first token
 
 -- whether the document fits the last segment
-pub fits_last : (p : Progress) (m : Moment) (d : Doc) (plan : Plan) → Stands p m → 1 ≤ p.segments → IsPlan m (p.segments - 1) p.used d plan → is_room p.setting plan.used ≡ fits m.setting (last_of (cut m.setting m.documents.accepted)) d
+pub fits_last : (p : Progress) (m : Moment) (d : Doc) (plan : Plan) → Stands p m → 1 ≤ p.segments → IsPlan m (p.segments - 1) p.used d plan
+    → is_room p.setting plan.used ≡ fits m.setting (last_of (cut m.setting m.documents.accepted)) d
 fits_last p m d plan h some q =
     let seg = get_or (cut m.setting m.documents.accepted) (p.segments - 1) [] in
     (λ i. is_room (h.setting i) plan.used) ∙ fits_is m.setting seg d plan.used q.used (q.documents ∙ h.used.documents) ∙ ap (λ z. fits m.setting z d) (last_at p m h some)
@@ -276,12 +286,14 @@ starts_last p m n d plan is js l e h some q f =
       counted = hn.documents;
     }
 
-pub begins_same : (p : Progress) (m n : Moment) (d : Doc) → IsMoment n → IsNotBefore n m → n.documents ≡ m.documents → IsDocument d → Stands p m → IsLastFull m d → length (cut m.setting m.documents.accepted) < m.setting.segments → BeginsSegment n d p.segments
+pub begins_same : (p : Progress) (m n : Moment) (d : Doc) → IsMoment n → IsNotBefore n m → n.documents ≡ m.documents → IsDocument d
+    → Stands p m → IsLastFull m d → length (cut m.setting m.documents.accepted) < m.setting.segments → BeginsSegment n d p.segments
 begins_same p m n d js l e limits h f low =
     let hn = stands_same p m n l e h in
     begins_next p n d js limits hn (full_same m n d l e f) (subst (λ (σ : Setting). length (cut n.setting n.documents.accepted) < σ.segments) l.setting (omega (arith, low, h.segments, hn.segments)))
 
-pub starts_next : (p : Progress) (m n k : Moment) (d : Doc) (plan : Plan) → IsMoment m → IsMoment n → IsNotBefore n m → n.documents ≡ m.documents → Stands p m → IsLastFull m d → length (cut m.setting m.documents.accepted) < m.setting.segments
+pub starts_next : (p : Progress) (m n k : Moment) (d : Doc) (plan : Plan) → IsMoment m → IsMoment n → IsNotBefore n m
+    → n.documents ≡ m.documents → Stands p m → IsLastFull m d → length (cut m.setting m.documents.accepted) < m.setting.segments
     → IsPlan m p.segments nothing d plan → GoesOn n k → HasComeTo k d p.segments 0 → Starts m k d p.segments nothing plan.found p.documents
 starts_next p m n k d plan is js l e h f low q on come =
     let s = p.segments in
@@ -291,7 +303,8 @@ starts_next p m n k d plan is js l e h f low q on come =
     let none = get_or_past (cut m.setting m.documents.accepted) s [] (omega (arith, h.segments)) in
     let empty : tokens_in m s ≡ [] = no_terms (get_or (cut m.setting m.documents.accepted) s []) none in
     let until : tokens_until k d 0 ≡ [] = append-nil (terms_of (before_it k d)) ∙ no_terms (before_it k d) before in
-    let same : get_or (cut k.setting k.documents.accepted) s [] ≡ [] = (λ i. get_or (cut (sym on.later.setting i) (on.accepted i)) s []) ∙ (λ i. get_or (cut (sym l.setting i) ((e i).accepted)) s []) ∙ none in
+    let same : get_or (cut k.setting k.documents.accepted) s [] ≡ [] = (λ i. get_or (cut (sym on.later.setting i) (on.accepted i)) s [])
+    ∙ (λ i. get_or (cut (sym l.setting i) ((e i).accepted)) s []) ∙ none in
     record {
       room = (begins_next p m d is q.limits h f low).placed.room;
       placed = come.placed;

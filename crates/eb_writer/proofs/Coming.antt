@@ -33,7 +33,8 @@ use Rattle.eb_writer.proofs.Finding.{element}
 pub joined : (m : Moment) (d : Doc) (s : ℕ) → IsMoment m → IsPlaced m d s → Joins m.setting m.documents.accepted d s (before_it m d)
 joined m d s is p =
     let docs = m.documents.accepted in
-    subst (λ z. Joins m.setting docs d z (before_it m d)) (sym p.place) (joins m.setting docs d is.setting (placed_all m.setting docs is.setting (lawful_in m is)).short (record { limits = p.limits; there = p.room }))
+    subst (λ z. Joins m.setting docs d z (before_it m d)) (sym p.place)
+    (joins m.setting docs d is.setting (placed_all m.setting docs is.setting (lawful_in m is)).short (record { limits = p.limits; there = p.room }))
 
 -- ---- a token
 
@@ -62,14 +63,16 @@ left_new : (m : Moment) (d : Doc) (s i : ℕ) → i < length d.terms → count_o
 left_new m d s i low new h =
     let b = tokens_until m d i in
     let t = term_at d.terms i in
-    left_token m d s i low h ∙ (λ j. (if eq-eqb (count_of t b) 0 new j then enter_stores m.setting s (distinct b) t else []) ++ posting_stores m d s i) ∙ ap (λ z. enter_stores m.setting s z t ++ posting_stores m d s i) (sym h.entered)
+    left_token m d s i low h ∙ (λ j. (if eq-eqb (count_of t b) 0 new j then enter_stores m.setting s (distinct b) t else []) ++ posting_stores m d s i)
+    ∙ ap (λ z. enter_stores m.setting s z t ++ posting_stores m d s i) (sym h.entered)
 
 -- where its term is new, the stores that enter it come next
 pub next_term : (m : Moment) (d : Doc) (s i : ℕ) → i < length d.terms → count_of (term_at d.terms i) (tokens_until m d i) ≡ 0 → HasComeTo m d s i → IsNextTerm m d s (term_at d.terms i)
 next_term m d s i low new h = record { limits = h.placed.limits; room = h.placed.room; current = h.placed.current; front = (posting_stores m d s i, sym (left_new m d s i low new h)) }
 
 -- and then its posting
-pub entered_posting : (m n : Moment) (d : Doc) (s i k : ℕ) → i < length d.terms → count_of (term_at d.terms i) (tokens_until m d i) ≡ 0 → HasComeTo m d s i → HasEntered m n d s (term_at d.terms i) k → HasComeToPosting n d s i
+pub entered_posting : (m n : Moment) (d : Doc) (s i k : ℕ) → i < length d.terms → count_of (term_at d.terms i) (tokens_until m d i) ≡ 0
+    → HasComeTo m d s i → HasEntered m n d s (term_at d.terms i) k → HasComeToPosting n d s i
 entered_posting m n d s i k low new h e =
     let E = enter_stores m.setting s (entered m s) (term_at d.terms i) in
     let rest = next_rest (doc_stores m.setting m.documents.accepted d) E (posting_stores m d s i) (stores_done m.documents.current) (left_new m d s i low new h) in
@@ -99,7 +102,8 @@ old_posting m d s i low old h =
       | inr e ↦ e
     ]
 
-pub old_term : (m : Moment) (d : Doc) (s i k : ℕ) → s < m.setting.segments → 1 ≤ count_of (term_at d.terms i) (tokens_until m d i) → HasComeTo m d s i → IsNumbered m d i k → IsTerm m s (term_at d.terms i) k
+pub old_term : (m : Moment) (d : Doc) (s i k : ℕ) → s < m.setting.segments → 1 ≤ count_of (term_at d.terms i) (tokens_until m d i)
+    → HasComeTo m d s i → IsNumbered m d i k → IsTerm m s (term_at d.terms i) k
 old_term m d s i k inside old h e =
     let b = tokens_until m d i in
     let t = term_at d.terms i in
@@ -141,7 +145,8 @@ posting_next m d s i p e h =
     }
 
 -- and after it the next token
-pub next_token : (m n : Moment) (d : Doc) (s i p : ℕ) → IsMoment m → (e : p ≡ posting_of (length (before_it m d)) i) → (h : HasComeToPosting m d s i) → HasAppended m n d s (term_at d.terms i) p → HasComeTo n d s (i + 1)
+pub next_token : (m n : Moment) (d : Doc) (s i p : ℕ) → IsMoment m → (e : p ≡ posting_of (length (before_it m d)) i)
+    → (h : HasComeToPosting m d s i) → HasAppended m n d s (term_at d.terms i) p → HasComeTo n d s (i + 1)
 unfolding entered tokens_seen stores_in_region posting_next
 next_token m n d s i p is e h a =
     let q = posting_next m d s i p e h in
@@ -156,7 +161,8 @@ next_token m n d s i p is e h a =
     let done = done_after σ m.documents d s t p is.setting is.lawful q in
     let rest = next_rest (doc_stores σ docs d) A _ (stores_done m.documents.current) q.left in
     let long = taken_long d.terms i (let l = h.low in omega arith) in
-    let before : b ++ t ∷ [] ≡ tokens_before σ docs d (take (i + 1) d.terms) = append_assoc (terms_of (segment_before σ docs d)) (take i d.terms) (t ∷ []) ∙ ap (λ z. terms_of (segment_before σ docs d) ++ z) (sym (take_one d.terms i t (element d.terms i [] h.low))) in
+    let before : b ++ t ∷ [] ≡ tokens_before σ docs d (take (i + 1) d.terms) = append_assoc (terms_of (segment_before σ docs d)) (take i d.terms) (t ∷ [])
+    ∙ ap (λ z. terms_of (segment_before σ docs d) ++ z) (sym (take_one d.terms i t (element d.terms i [] h.low))) in
     let P : Setting → Documents → Type 0 = λ κ y. HasComeTo record { setting = κ; documents = y; conversions = n.conversions } d s (i + 1) in
     let at : P σ (with_stores m.documents d (length A)) = record {
       placed = record { limits = h.placed.limits; room = h.placed.room; current = refl; place = h.placed.place };

@@ -1,5 +1,6 @@
 -- The first and the last stores of a document.
-use Rattle.std.proofs.Common.{◌≡◌, ℕ, zero, suc, ◌+◌, ◌*◌, ◌<◌, ◌≤◌, ◌==◌, false, ltb, List, [], ◌∷◌, ◌++◌, length, take, drop, get_or, sum_by, refl, ap, sym, ◌∙◌, subst, arith, inl, inr, append-nil, slice_get, Some}
+use Rattle.std.proofs.Common.{◌≡◌, ℕ, zero, suc, ◌+◌, ◌*◌, ◌<◌, ◌≤◌, ◌==◌, false, ltb, List, [], ◌∷◌, ◌++◌, length, take}
+use Rattle.std.proofs.Common.{drop, get_or, sum_by, refl, ap, sym, ◌∙◌, subst, arith, inl, inr, append-nil, slice_get, Some}
 use Rattle.std.proofs.lemmas.Bool.{cases_Bool, eqb-true, ltb-true}
 use Rattle.std.proofs.lemmas.List.{length-append, length-drop}
 use Rattle.std.proofs.lemmas.List.Sums.{sum_by-cons}
@@ -59,7 +60,8 @@ documents_low m d s is p = let j = joined m d s is p in (j.few, is.setting.docs.
 -- ---- the first store
 
 -- all stores of a document
-all_left : (m : Moment) (d : Doc) (s : ℕ) → IsMoment m → IsPlaced m d s → doc_stores m.setting m.documents.accepted d ≡ first_stores s (before_it m d) (length m.documents.accepted) ++ stores_from m.setting m.documents.accepted d s 0 (tokens_until m d 0) d.terms
+all_left : (m : Moment) (d : Doc) (s : ℕ) → IsMoment m → IsPlaced m d s
+    → doc_stores m.setting m.documents.accepted d ≡ first_stores s (before_it m d) (length m.documents.accepted) ++ stores_from m.setting m.documents.accepted d s 0 (tokens_until m d 0) d.terms
 all_left m d s is p =
     let σ = m.setting in
     let docs = m.documents.accepted in
@@ -83,7 +85,10 @@ begin_next m d s is b =
       room = b.placed.room;
       current = b.placed.current;
       later = R;
-      more = omega (arith, length-append (tokens_stores m.setting s (length (before_it m d)) 0 (tokens_until m d 0) d.terms) ((slot s id_region (length (before_it m d)), d.id) ∷ (published, length docs + 1) ∷ []));
+      more = omega (
+        arith,
+        length-append (tokens_stores m.setting s (length (before_it m d)) 0 (tokens_until m d 0) d.terms) ((slot s id_region (length (before_it m d)), d.id) ∷ (published, length docs + 1) ∷ []),
+      );
       left = ap (λ k. drop k (doc_stores m.setting docs d)) (idle_done m b.idle) ∙ all_left m d s is b.placed ∙ ap (λ z. z ++ R) (first_is s (before_it m d) (length docs) b.first);
     }
 
@@ -120,9 +125,23 @@ begun m d s is b =
     let L = placings σ docs ++ take 1 D in
     let stores : L ≡ placings σ docs ++ first_stores s seg (length docs) = ap (λ z. placings σ docs ++ take 1 z) all ∙ ap (λ z. placings σ docs ++ z) (sym (first_is s seg (length docs) b.first)) in
     let cells : count_in s cell_region L ≡ 0 =
-    omega (arith, ap (count_in s cell_region) stores, count_in-append s cell_region (placings σ docs) (first_stores s seg (length docs)), firsts_away s s cell_region seg (length docs) refl, c.cells, ap length (nothing_terms (get_or (cut σ docs) s []) old)) in
+    omega (
+      arith,
+      ap (count_in s cell_region) stores,
+      count_in-append s cell_region (placings σ docs) (first_stores s seg (length docs)),
+      firsts_away s s cell_region seg (length docs) refl,
+      c.cells,
+      ap length (nothing_terms (get_or (cut σ docs) s []) old),
+    ) in
     let tails : count_in s tail_region L ≡ 0 =
-    omega (arith, ap (count_in s tail_region) stores, count_in-append s tail_region (placings σ docs) (first_stores s seg (length docs)), firsts_away s s tail_region seg (length docs) refl, c.tails, ap length (nothing_tokens (get_or (cut σ docs) s []) old)) in
+    omega (
+      arith,
+      ap (count_in s tail_region) stores,
+      count_in-append s tail_region (placings σ docs) (first_stores s seg (length docs)),
+      firsts_away s s tail_region seg (length docs) refl,
+      c.tails,
+      ap length (nothing_tokens (get_or (cut σ docs) s []) old),
+    ) in
     let none : tokens_until m d 0 ≡ [] = append-nil (terms_of seg) ∙ nothing_tokens seg b.first in
     let P : Setting → Documents → Type 0 = λ κ y. HasComeTo record { setting = κ; documents = y; conversions = n.conversions } d s 0 in
     let at : P σ record { accepted = docs; current = Some (d, 1) } = record {
@@ -160,7 +179,8 @@ join_first m d s is idle p some =
 
 -- ---- the last two stores
 
-end_left : (m : Moment) (d : Doc) (s : ℕ) → HasComeTo m d s (length d.terms) → drop (stores_done m.documents.current) (doc_stores m.setting m.documents.accepted d) ≡ (slot s id_region (length (before_it m d)), d.id) ∷ (published, length m.documents.accepted + 1) ∷ []
+end_left : (m : Moment) (d : Doc) (s : ℕ) → HasComeTo m d s (length d.terms)
+    → drop (stores_done m.documents.current) (doc_stores m.setting m.documents.accepted d) ≡ (slot s id_region (length (before_it m d)), d.id) ∷ (published, length m.documents.accepted + 1) ∷ []
 unfolding tokens_stores
 end_left m d s h = h.left ∙ ap (stores_from m.setting m.documents.accepted d s (length d.terms) (tokens_until m d (length d.terms))) (dropped d.terms)
   where
@@ -215,7 +235,8 @@ last m d s value h v =
       next = next;
       accepted = record {
         later = Rattle.eb_place.proofs.Laters.later_on m n (after_store n d) one.later (later_stored n d next.current);
-        documents = (λ j. documents_after (ltb (suc (stores_done ((e j).current))) (length (doc_stores σ ((e j).accepted) d))) ((e j).accepted) d (suc (stores_done ((e j).current)))) ∙ ap (λ b. documents_after b docs d (suc (i + 1))) end;
+        documents = (λ j. documents_after (ltb (suc (stores_done ((e j).current))) (length (doc_stores σ ((e j).accepted) d))) ((e j).accepted) d (suc (stores_done ((e j).current))))
+            ∙ ap (λ b. documents_after b docs d (suc (i + 1))) end;
       };
     }
   where

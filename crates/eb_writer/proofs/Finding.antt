@@ -1,5 +1,6 @@
 -- What is found of the tokens of a document.
-use Rattle.std.proofs.Common.{◌≡◌, ℕ, zero, suc, ◌+◌, ◌-◌, ◌<◌, ◌≤◌, List, [], ◌∷◌, ◌++◌, length, take, drop, get_or, sum_by, refl, ap, sym, ◌∙◌, subst, arith, inl, inr, append_assoc, append-nil, slice_get, slice_set, Some}
+use Rattle.std.proofs.Common.{◌≡◌, ℕ, zero, suc, ◌+◌, ◌-◌, ◌<◌, ◌≤◌, List, [], ◌∷◌, ◌++◌, length, take, drop, get_or, sum_by}
+use Rattle.std.proofs.Common.{refl, ap, sym, ◌∙◌, subst, arith, inl, inr, append_assoc, append-nil, slice_get, slice_set, Some}
 use native.Mathlib.Decide.{ℕ_discrete}
 use Rattle.std.proofs.lemmas.Bool.{cases_lt}
 use Rattle.eb_base.specs.Term.{Term}
@@ -53,17 +54,20 @@ again A ts i p k low st h =
     let e = st.same in
     let F : List Term = A ++ take p ts in
     let r = take_rest ts (suc p) i st.earlier in
-    let all : A ++ take i ts ≡ (F ++ t ∷ []) ++ r.0 = ap (λ z. A ++ z) (r.1 ∙ ap (λ z. z ++ r.0) (take_at_end ts p (let o = st.earlier in omega arith) ∙ ap (λ z. take p ts ++ z ∷ []) e)) ∙ sym (append_assoc A (take p ts ++ t ∷ []) r.0) ∙ ap (λ z. z ++ r.0) (sym (append_assoc A (take p ts) (t ∷ []))) in
+    let all : A ++ take i ts ≡ (F ++ t ∷ []) ++ r.0 = ap (λ z. A ++ z) (r.1 ∙ ap (λ z. z ++ r.0) (take_at_end ts p (let o = st.earlier in omega arith) ∙ ap (λ z. take p ts ++ z ∷ []) e))
+    ∙ sym (append_assoc A (take p ts ++ t ∷ []) r.0) ∙ ap (λ z. z ++ r.0) (sym (append_assoc A (take p ts) (t ∷ []))) in
     let m = count_of_push t t F in
     let o = ap one_if (same_term t) in
     record {
       number = h.number ∙ ap (λ z. number_of z F) e ∙ sym (number_here t F) ∙ sym (number_stays t (F ++ t ∷ []) r.0 (omega arith)) ∙ ap (number_of t) (sym all);
       tail = subst (λ z. IsTailWord (count_of z A) k.tail) e h.tail;
-      earlier = omega (arith, h.earlier, ap (λ z. count_of z (take p ts)) e, st.last, count_take t ts p (let o = st.earlier in omega arith), ap (λ z. one_if (Rattle.std.proofs.Common.bytes_eq t z)) e, o);
+      earlier =
+          omega (arith, h.earlier, ap (λ z. count_of z (take p ts)) e, st.last, count_take t ts p (let o = st.earlier in omega arith), ap (λ z. one_if (Rattle.std.proofs.Common.bytes_eq t z)) e, o);
     }
 
 -- a token whose term doesn't stand earlier
-pub first : (A ts : List Term) (i next : ℕ) (t : Term) (k : Found) → t ≡ term_at ts i → count_of (term_at ts i) (take i ts) ≡ 0 → next ≡ length (distinct (A ++ take i ts)) → IsFirst A t next k → IsFound A ts i k
+pub first : (A ts : List Term) (i next : ℕ) (t : Term) (k : Found) → t ≡ term_at ts i → count_of (term_at ts i) (take i ts) ≡ 0
+    → next ≡ length (distinct (A ++ take i ts)) → IsFirst A t next k → IsFound A ts i k
 first A ts i next t k e z n h' =
     let u = term_at ts i in
     let h : IsFirst A u next k = subst (λ y. IsFirst A y next k) e h' in

@@ -75,7 +75,8 @@ told_used m s u ts e f h = record {
 }
 
 -- and the other way
-pub used_tells : (m : Moment) (s : ℕ) (u : Used) (ts : List Term) → entered m s ≡ distinct ts → tokens_seen m s ≡ ts → u.documents ≡ length (get_or (cut m.setting m.documents.accepted) s []) → IsUsedBy u ts → TellsSegment u m s
+pub used_tells : (m : Moment) (s : ℕ) (u : Used) (ts : List Term) → entered m s ≡ distinct ts → tokens_seen m s ≡ ts
+    → u.documents ≡ length (get_or (cut m.setting m.documents.accepted) s []) → IsUsedBy u ts → TellsSegment u m s
 used_tells m s u ts e f n h = record {
   documents = n;
   terms = h.terms ∙ sym (ap length e);
@@ -162,7 +163,8 @@ tail_word_of t ts f n e q fit =
     subst (λ (z : ℕ × ℕ). IsTailWord z.0 z.1) (λ i. (sym e i, (ap suc (ap (λ k. address_of t k ts) (sym q)) ∙ (let o : suc (address_of t n ts) ≡ address_of t n ts + 1 = omega arith in o)) i)) base
 
 -- its tail's word tells of as many postings as it has there
-pub tail_in : (m : Moment) (s : ℕ) (t : Term) (k : ℕ) → IsMoment m → IsIdle m → s < m.setting.segments → IsKnown m s t k → IsTailWord (count_of t (tokens_in m s)) (word m (place m.setting (slot s tail_region k)))
+pub tail_in : (m : Moment) (s : ℕ) (t : Term) (k : ℕ) → IsMoment m → IsIdle m → s < m.setting.segments
+    → IsKnown m s t k → IsTailWord (count_of t (tokens_in m s)) (word m (place m.setting (slot s tail_region k)))
 tail_in m s t k is h inside known =
     let σ = m.setting in
     let docs = m.documents.accepted in
@@ -171,7 +173,8 @@ tail_in m s t k is h inside known =
     let room = idle_room m s is inside in
     let r = (placed_all σ docs is.setting (lawful_in m is)).reached s inside in
     let word_is : word m (place σ (slot s tail_region k)) ≡ address_of t (count_of t ts - 1) ts + 1 =
-    word_of_writer m (slot s tail_region k) is i.1 (not_packed s k) ∙ ap (λ z. val σ z (slot s tail_region k)) (idle_stores m h) ∙ ap (λ z. val σ (placings σ docs) (slot s tail_region z)) known.number ∙ r.tail t known.some in
+    word_of_writer m (slot s tail_region k) is i.1 (not_packed s k) ∙ ap (λ z. val σ z (slot s tail_region k)) (idle_stores m h)
+    ∙ ap (λ z. val σ (placings σ docs) (slot s tail_region z)) known.number ∙ r.tail t known.some in
     let f = count_of t ts - 1 in
     let some = known.some in
     subst (IsTailWord (count_of t ts)) (sym word_is) (tail_word_of t ts f f (omega arith) refl (slices_fit σ ts room.small room.fits))

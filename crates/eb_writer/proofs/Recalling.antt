@@ -50,7 +50,8 @@ pub record IsSought (ts : List Term) (i next : ℕ) : Type 0 where
 pub sought_first : (ts : List Term) (i last : ℕ) → LeadsBack ts i (bucket (term_at ts i)) last → IsSought ts i last
 sought_first ts i last h = record { back = h.back; there = h.there; passed = h.passed (term_at ts i) refl }
 
-pub sought_more : (ts : List Term) (i p next last : ℕ) → i < length ts → next ≡ suc p → IsSought ts i next → term_at ts i ≢ term_at ts p → LeadsBack ts p (bucket (term_at ts p)) last → IsSought ts i last
+pub sought_more : (ts : List Term) (i p next last : ℕ) → i < length ts → next ≡ suc p → IsSought ts i next
+    → term_at ts i ≢ term_at ts p → LeadsBack ts p (bucket (term_at ts p)) last → IsSought ts i last
 sought_more ts i p next last low e h away l =
     let t = term_at ts i in
     let b = h.there p e in
@@ -106,12 +107,14 @@ remembers_more r ts i b low few e h =
       tokens = length_set r.before i (get_or r.latest b 0) ∙ h.tokens;
       few = omega arith;
       latest = λ c l. elim (ℕ_discrete c b) [
-        | yes q ↦ subst (λ (z : ℕ × ℕ). LeadsBack ts (i + 1) z.0 z.1) (λ j. (sym (q ∙ e) j, sym (ap (λ k. get_or (slice_set r.latest b (i + 1)) k 0) q ∙ set_here r.latest b (i + 1) (omega (arith, h.buckets, e))) j)) (leads_here ts i)
+        | yes q ↦ subst (λ (z : ℕ × ℕ). LeadsBack ts (i + 1) z.0 z.1)
+            (λ j. (sym (q ∙ e) j, sym (ap (λ k. get_or (slice_set r.latest b (i + 1)) k 0) q ∙ set_here r.latest b (i + 1) (omega (arith, h.buckets, e))) j)) (leads_here ts i)
         | no q ↦ subst (LeadsBack ts (i + 1) c) (sym (set_other r.latest b c (i + 1) (λ z. q (sym z)))) (leads_on ts i c (get_or r.latest c 0) low (λ z. q (z ∙ sym e)) (h.latest c l))
       ];
       before = λ p l. elim (ℕ_discrete p i) [
         | yes q ↦ subst (λ k. LeadsBack ts k (bucket (term_at ts k)) (get_or (slice_set r.before i (get_or r.latest b 0)) k 0)) (sym q)
-            (subst (LeadsBack ts i (bucket (term_at ts i))) (sym (set_here r.before i (get_or r.latest b 0) (omega (arith, h.tokens)))) (subst (λ k. LeadsBack ts i k (get_or r.latest b 0)) e (h.latest b (omega (arith, e)))))
+            (subst (LeadsBack ts i (bucket (term_at ts i)))
+            (sym (set_here r.before i (get_or r.latest b 0) (omega (arith, h.tokens)))) (subst (λ k. LeadsBack ts i k (get_or r.latest b 0)) e (h.latest b (omega (arith, e)))))
         | no q ↦ subst (LeadsBack ts p (bucket (term_at ts p))) (sym (set_other r.before i p (get_or r.latest b 0) (λ z. q (sym z)))) (h.before p (below p i l q))
       ];
     }

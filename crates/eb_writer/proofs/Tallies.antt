@@ -1,5 +1,6 @@
 -- Counting what a document needs, token by token.
-use Rattle.std.proofs.Common.{◌≡◌, ℕ, zero, suc, ◌+◌, ◌-◌, ◌<◌, ◌≤◌, Bool, true, false, List, [], ◌∷◌, ◌++◌, length, take, drop, sum_by, refl, ap, sym, ◌∙◌, arith, inl, inr, slice_get, slice_set, Some, lit<}
+use Rattle.std.proofs.Common.{◌≡◌, ℕ, zero, suc, ◌+◌, ◌-◌, ◌<◌, ◌≤◌, Bool, true, false, List, [], ◌∷◌, ◌++◌, length}
+use Rattle.std.proofs.Common.{take, drop, sum_by, refl, ap, sym, ◌∙◌, arith, inl, inr, slice_get, slice_set, Some, lit<}
 use Rattle.std.proofs.lemmas.Bool.{cases_lt}
 use Rattle.std.proofs.lemmas.List.{length_push}
 use Rattle.std.proofs.lemmas.List.Sums.{sum_by_push, sum_by-cons}
@@ -43,7 +44,8 @@ one_low true = omega arith
 one_low false = omega arith
 
 -- the slices of one more token
-pub slice_more : (p f e : ℕ) (t : Term) (before : List Term) (u v a b : ℕ) → f + e ≡ count_of t before → a ≡ b + one_if (begins_in p (f + e)) → v + b ≡ u + a → u ≡ slices_begun p before → v ≡ slices_begun p (before ++ t ∷ [])
+pub slice_more : (p f e : ℕ) (t : Term) (before : List Term) (u v a b : ℕ) → f + e ≡ count_of t before
+    → a ≡ b + one_if (begins_in p (f + e)) → v + b ≡ u + a → u ≡ slices_begun p before → v ≡ slices_begun p (before ++ t ∷ [])
 slice_more p f e t before u v a b c k l h = omega (arith, begun_push p before t, ap (λ n. one_if (begins_in p n)) c)
 
 -- a token whose term is there already, and one whose term is new
@@ -73,7 +75,8 @@ number_tells_old t before e = elim (cases_lt 0 (count_of t before)) [
 ]
 
 pub used_new : (u v : Used) (t : Term) (before : List Term) → count_of t before ≡ 0 → IsUsedBy u before → v.terms ≡ u.terms + 1 → v.text ≡ u.text + text_words t
-    → v.pool0 ≡ slices_begun 0 (before ++ t ∷ []) → v.pool1 ≡ slices_begun 1 (before ++ t ∷ []) → v.pool2 ≡ slices_begun 2 (before ++ t ∷ []) → v.pool3 ≡ slices_begun 3 (before ++ t ∷ []) → IsUsedBy v (before ++ t ∷ [])
+    → v.pool0 ≡ slices_begun 0 (before ++ t ∷ []) → v.pool1 ≡ slices_begun 1 (before ++ t ∷ [])
+    → v.pool2 ≡ slices_begun 2 (before ++ t ∷ []) → v.pool3 ≡ slices_begun 3 (before ++ t ∷ []) → IsUsedBy v (before ++ t ∷ [])
 used_new u v t before z h a b p0 p1 p2 p3 =
     let e = distinct_new t before z in
     record {
@@ -86,7 +89,8 @@ used_new u v t before z h a b p0 p1 p2 p3 =
     }
 
 pub used_old : (u v : Used) (t : Term) (before : List Term) → 1 ≤ count_of t before → IsUsedBy u before → v.terms ≡ u.terms → v.text ≡ u.text
-    → v.pool0 ≡ slices_begun 0 (before ++ t ∷ []) → v.pool1 ≡ slices_begun 1 (before ++ t ∷ []) → v.pool2 ≡ slices_begun 2 (before ++ t ∷ []) → v.pool3 ≡ slices_begun 3 (before ++ t ∷ []) → IsUsedBy v (before ++ t ∷ [])
+    → v.pool0 ≡ slices_begun 0 (before ++ t ∷ []) → v.pool1 ≡ slices_begun 1 (before ++ t ∷ [])
+    → v.pool2 ≡ slices_begun 2 (before ++ t ∷ []) → v.pool3 ≡ slices_begun 3 (before ++ t ∷ []) → IsUsedBy v (before ++ t ∷ [])
 used_old u v t before z h a b p0 p1 p2 p3 =
     let e = distinct_old t before z in
     record {
@@ -119,7 +123,8 @@ small_more u v t before n short h k s =
     grows : (length (distinct (before ++ t ∷ [])) ≤ length (distinct before) + 1) × (sum_by text_words (distinct (before ++ t ∷ [])) ≤ sum_by text_words (distinct before) + most_bytes)
     grows = elim (with_term_cases (distinct before) t) [
       | inl w ↦ let e = distinct_push before t ∙ w.1 in (omega (arith, ap length e), omega (arith, ap (sum_by text_words) e))
-      | inr w ↦ let e = distinct_push before t ∙ w.1 in (omega (arith, ap length e, length_push (distinct before) t), omega (arith, ap (sum_by text_words) e, sum_by_push text_words (distinct before) t))
+      | inr w ↦ let e = distinct_push before t ∙ w.1 in
+          (omega (arith, ap length e, length_push (distinct before) t), omega (arith, ap (sum_by text_words) e, sum_by_push text_words (distinct before) t))
     ]
 
 -- a token is no longer than all of them

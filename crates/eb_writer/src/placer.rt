@@ -162,8 +162,10 @@ impl Placer {
 
     // Adds a document that doesn't fit the last segment to the next one.
     fn begin_next<P: Pen>(&mut self, pen: &mut P, document: &Document) -> u64
-        requires { (m : Moment) × P.stands pen.old m × Stands self.old m × IsLastFull m document.now × (length (cut m.setting m.documents.accepted) < m.setting.segments) }
-        ensures { (m : Moment) → P.stands pen.old m → Stands self.old m → IsLastFull m document.now → length (cut m.setting m.documents.accepted) < m.setting.segments
+        requires { (m : Moment) × P.stands pen.old m × Stands self.old m × IsLastFull m document.now
+            × (length (cut m.setting m.documents.accepted) < m.setting.segments) }
+        ensures { (m : Moment) → P.stands pen.old m → Stands self.old m → IsLastFull m document.now
+            → length (cut m.setting m.documents.accepted) < m.setting.segments
             → (n : Moment) × P.stands pen.new n × P.same pen.old pen.new × HasRoom m.setting m.documents.accepted document.now
             × IsAccepted m n document.now × (result ≡ length m.documents.accepted + 1) × Stands self.new n }
     {
@@ -205,7 +207,8 @@ fn store_rest<P: Pen>(
 // the slices of each pool.
 fn is_within(used: Used, config: Config) -> bool
     ensures { result ≡ (nat_le (used.documents + 1) config.docs && nat_le used.terms config.terms && nat_le used.text (4 * config.terms)
-        && nat_le used.pool0 (pool_slices config 0) && nat_le used.pool1 (pool_slices config 1) && nat_le used.pool2 (pool_slices config 2) && nat_le used.pool3 (pool_slices config 3)) }
+        && nat_le used.pool0 (pool_slices config 0) && nat_le used.pool1 (pool_slices config 1)
+        && nat_le used.pool2 (pool_slices config 2) && nat_le used.pool3 (pool_slices config 3)) }
 {
     let terms = config.terms();
     used.documents < config.docs()

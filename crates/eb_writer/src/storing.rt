@@ -35,7 +35,8 @@ pub(crate) fn store_tokens<P: Pen>(
         × AreFound (terms_of (before_it m document.now)) document.now.terms found.now (length document.now.terms) }
     ensures { (m : Moment) → P.stands pen.old m → HasComeTo m document.now segment 0 → TellsSegment used.old m segment
         → AreFound (terms_of (before_it m document.now)) document.now.terms found.now (length document.now.terms)
-        → (n : Moment) × P.stands pen.new n × P.same pen.old pen.new × GoesOn m n × HasComeTo n document.now segment (length document.now.terms) × TellsSegment used.new n segment }
+        → (n : Moment) × P.stands pen.new n × P.same pen.old pen.new × GoesOn m n
+        × HasComeTo n document.now segment (length document.now.terms) × TellsSegment used.new n segment }
 {
     for at in 0..document.terms().len() {
         store_token(pen, document, segment, used, at, found[at].number);
@@ -55,7 +56,8 @@ fn store_token<P: Pen>(
         × (at < length document.now.terms) × IsNumbered m document.now at number }
     ensures { (m : Moment) → P.stands pen.old m → HasComeTo m document.now segment at → TellsSegment used.old m segment
         → at < length document.now.terms → IsNumbered m document.now at number
-        → (n : Moment) × P.stands pen.new n × P.same pen.old pen.new × GoesOn m n × HasComeTo n document.now segment (at + 1) × TellsSegment used.new n segment }
+        → (n : Moment) × P.stands pen.new n × P.same pen.old pen.new × GoesOn m n
+        × HasComeTo n document.now segment (at + 1) × TellsSegment used.new n segment }
 {
     let number = entered_number(pen, document, segment, used, at, number);
     let value = posting(used.documents, at as u32);

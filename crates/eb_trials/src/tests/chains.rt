@@ -87,7 +87,8 @@ pub(super) fn open<P: Port, L: Ledger>(
     steps: &mut Steps<L>,
 ) -> Option<Chain>
     requires { (m : Moment) × P.stands port.old m }
-    ensures { MatchOption result (Unit {0}) (λ chain. (m : Moment) × (s : ℕ) × (t : List ℕ) × (opened : ℕ) × (rest : List ℕ) × P.stands port.new m × chains.Stands m s t chain opened rest) }
+    ensures { MatchOption result (Unit {0})
+        (λ chain. (m : Moment) × (s : ℕ) × (t : List ℕ) × (opened : ℕ) × (rest : List ℕ) × P.stands port.new m × chains.Stands m s t chain opened rest) }
 {
     if port.config().segments() == 0 {
         return None;

@@ -20,7 +20,8 @@ overflow_cast-result g c =
     let is = g.met.P.Port.lawful c.args.port.now m r.3 in
     let js = g.met.P.Port.lawful c.load.new.self n.0 n.1 in
     let h = link_later m n.0 c.args.segment r.1 r.2 c.args.link is n.2 r.4 in
-    let e : c.posting_at.result ≡ place n.0.setting (pool_slot c.args.segment c.args.link) = c.posting_at.ensures.place ∙ ap (λ (σ : Setting). place σ (pool_slot c.args.segment c.args.link)) (c.new-places.ensures ∙ c.config.ensures m r.3 ∙ n.2.setting) in
+    let e : c.posting_at.result ≡ place n.0.setting (pool_slot c.args.segment c.args.link) = c.posting_at.ensures.place
+    ∙ ap (λ (σ : Setting). place σ (pool_slot c.args.segment c.args.link)) (c.new-places.ensures ∙ c.config.ensures m r.3 ∙ n.2.setting) in
     let w = n.4 ∙ ap (word n.0) e ∙ word_link n.0 c.args.segment r.1 r.2 c.args.link js h in
     let q = h.reached in
     let small = address_small n.0 c.args.segment r.1 r.2 js h.inside (omega arith) in
@@ -32,7 +33,8 @@ returns-clause-told g c m t f st l =
     let is = g.met.P.Port.lawful c.args.port.now m st in
     let js = g.met.P.Port.lawful c.load.new.self n.0 n.1 in
     let h = link_later m n.0 c.args.segment t f c.args.link is n.2 l in
-    let e : c.posting_at.result ≡ place n.0.setting (pool_slot c.args.segment c.args.link) = c.posting_at.ensures.place ∙ ap (λ (σ : Setting). place σ (pool_slot c.args.segment c.args.link)) (c.new-places.ensures ∙ c.config.ensures m st ∙ n.2.setting) in
+    let e : c.posting_at.result ≡ place n.0.setting (pool_slot c.args.segment c.args.link) = c.posting_at.ensures.place
+    ∙ ap (λ (σ : Setting). place σ (pool_slot c.args.segment c.args.link)) (c.new-places.ensures ∙ c.config.ensures m st ∙ n.2.setting) in
     let w = n.4 ∙ ap (word n.0) e ∙ word_link n.0 c.args.segment t f c.args.link js h in
     let q = h.reached in
     (n.0, n.1, n.2, n.3, record { inside = h.inside; reached = omega arith; is = w })

@@ -35,7 +35,8 @@ next_place-next-requires g c =
     let k = c.args.term in
     let same = g.met.P.Pen.pen_keeps _ _ m n.0 n.3 in
     let car = carried m n.0 d v t c.args.posting k c.args.used.now n.2 same term tells q in
-    let at : c.tail-tail.result ≡ place n.0.setting (slot v tail_region k) = c.tail-tail.ensures.place ∙ ap (λ (σ : Setting). place σ (slot v tail_region k)) (c.new.ensures ∙ c.config.ensures m st ∙ n.2.setting) in
+    let at : c.tail-tail.result ≡ place n.0.setting (slot v tail_region k) = c.tail-tail.ensures.place
+    ∙ ap (λ (σ : Setting). place σ (slot v tail_region k)) (c.new.ensures ∙ c.config.ensures m st ∙ n.2.setting) in
     let e : c.load_alone-last.result ≡ word n.0 (place n.0.setting (slot v tail_region k)) = n.4 ∙ ap (word n.0) at in
     let f = found n.0 d v t c.args.posting k c.load_alone-last.result c.args.used.now js car.term car.tells car.next e in
     (before_it n.0 d v t c.args.posting car.next, f.word, f.room)
@@ -56,7 +57,8 @@ store_link-requires g c =
     let k = c.args.term in
     let same = g.met.P.Pen.pen_keeps _ _ m n.0 n.3 in
     let car = carried m n.0 d v t c.args.posting k c.args.used.now n.2 same term tells q in
-    let at : c.tail-tail.result ≡ place n.0.setting (slot v tail_region k) = c.tail-tail.ensures.place ∙ ap (λ (σ : Setting). place σ (slot v tail_region k)) (c.new.ensures ∙ c.config.ensures m st ∙ n.2.setting) in
+    let at : c.tail-tail.result ≡ place n.0.setting (slot v tail_region k) = c.tail-tail.ensures.place
+    ∙ ap (λ (σ : Setting). place σ (slot v tail_region k)) (c.new.ensures ∙ c.config.ensures m st ∙ n.2.setting) in
     let e : c.load_alone-last.result ≡ word n.0 (place n.0.setting (slot v tail_region k)) = n.4 ∙ ap (word n.0) at in
     let f = found n.0 d v t c.args.posting k c.load_alone-last.result c.args.used.now js car.term car.tells car.next e in
     let to = c.next_place-next.result in
@@ -81,7 +83,8 @@ store_posting-requires g c =
     let k = c.args.term in
     let same = g.met.P.Pen.pen_keeps _ _ m n.0 n.3 in
     let car = carried m n.0 d v t c.args.posting k c.args.used.now n.2 same term tells q in
-    let at : c.tail-tail.result ≡ place n.0.setting (slot v tail_region k) = c.tail-tail.ensures.place ∙ ap (λ (σ : Setting). place σ (slot v tail_region k)) (c.new.ensures ∙ c.config.ensures m st ∙ n.2.setting) in
+    let at : c.tail-tail.result ≡ place n.0.setting (slot v tail_region k) = c.tail-tail.ensures.place
+    ∙ ap (λ (σ : Setting). place σ (slot v tail_region k)) (c.new.ensures ∙ c.config.ensures m st ∙ n.2.setting) in
     let e : c.load_alone-last.result ≡ word n.0 (place n.0.setting (slot v tail_region k)) = n.4 ∙ ap (word n.0) at in
     let f = found n.0 d v t c.args.posting k c.load_alone-last.result c.args.used.now js car.term car.tells car.next e in
     let to = c.next_place-next.result in
@@ -100,7 +103,8 @@ returns g c m t st term tells q =
     let k = c.args.term in
     let same = g.met.P.Pen.pen_keeps _ _ m n.0 n.3 in
     let car = carried m n.0 d v t c.args.posting k c.args.used.now n.2 same term tells q in
-    let at : c.tail-tail.result ≡ place n.0.setting (slot v tail_region k) = c.tail-tail.ensures.place ∙ ap (λ (σ : Setting). place σ (slot v tail_region k)) (c.new.ensures ∙ c.config.ensures m st ∙ n.2.setting) in
+    let at : c.tail-tail.result ≡ place n.0.setting (slot v tail_region k) = c.tail-tail.ensures.place
+    ∙ ap (λ (σ : Setting). place σ (slot v tail_region k)) (c.new.ensures ∙ c.config.ensures m st ∙ n.2.setting) in
     let e : c.load_alone-last.result ≡ word n.0 (place n.0.setting (slot v tail_region k)) = n.4 ∙ ap (word n.0) at in
     let f = found n.0 d v t c.args.posting k c.load_alone-last.result c.args.used.now js car.term car.tells car.next e in
     let to = c.next_place-next.result in

@@ -31,13 +31,15 @@ store-requires g c =
     let m = r.0 in
     let d = c.args.document.now in
     let h = subst (λ (l : Option ℕ). AreNext m.setting m.documents d (link_stores c.args.segment c.args.address l ++ r.1)) c.in-Some.is r.4 in
-    let at : c.posting_at-place.result ≡ place m.setting (pool_slot c.args.segment (c.args.address - 1)) = c.posting_at-place.ensures.place ∙ ap (λ (σ : Setting). place σ (pool_slot c.args.segment (c.args.address - 1))) (c.new.ensures ∙ c.config.ensures m r.2) in
+    let at : c.posting_at-place.result ≡ place m.setting (pool_slot c.args.segment (c.args.address - 1)) = c.posting_at-place.ensures.place
+    ∙ ap (λ (σ : Setting). place σ (pool_slot c.args.segment (c.args.address - 1))) (c.new.ensures ∙ c.config.ensures m r.2) in
     (m, r.2, next_at m d (pool_slot c.args.segment (c.args.address - 1), c.in-Some.last) r.1 c.posting_at-place.result c.from.result h at c.from.ensures)
 
 pub returns-in-Some : goal.returns-in-Some
 returns-in-Some g c m now st h =
     let d = c.args.document.now in
     let h' = subst (λ (l : Option ℕ). AreNext m.setting m.documents d (link_stores c.args.segment c.args.address l ++ now)) c.in-Some.is h in
-    let at : c.posting_at-place.result ≡ place m.setting (pool_slot c.args.segment (c.args.address - 1)) = c.posting_at-place.ensures.place ∙ ap (λ (σ : Setting). place σ (pool_slot c.args.segment (c.args.address - 1))) (c.new.ensures ∙ c.config.ensures m st) in
+    let at : c.posting_at-place.result ≡ place m.setting (pool_slot c.args.segment (c.args.address - 1)) = c.posting_at-place.ensures.place
+    ∙ ap (λ (σ : Setting). place σ (pool_slot c.args.segment (c.args.address - 1))) (c.new.ensures ∙ c.config.ensures m st) in
     let k = c.store.ensures m st (next_at m d (pool_slot c.args.segment (c.args.address - 1), c.in-Some.last) now c.posting_at-place.result c.from.result h' at c.from.ensures) in
     (subst (λ (l : Option ℕ). g.P.Port.stands c.store.new.self (after_link m d l)) (sym c.in-Some.is) k.0, k.1)

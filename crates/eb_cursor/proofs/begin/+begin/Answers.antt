@@ -31,7 +31,8 @@ begin-returns-in-Phrase g t c = λ docs same.
     let kept : length c.begin_leaves-all.new.cursors ≡ length c.args.cursors.now = c.begin_leaves-all.auto.cursors in
     let formed : 2 ≤ length ts = subst IsFormed i c.requires.formed in
     told_as g.met.P.Port.lawful (c.begin_leaves-all.ensures docs) (λ m a. a)
-    (λ m n w a begun. begun_phrase n docs (tree c.args.query.now) ts c.begin_leaves-all.new.cursors _ c.end_if-upto.result _ _ (places * length docs + 1 - length ts) c.begin_leaves-all.result i formed (omega (arith, few, c.requires.small.1)) (omega (arith, same, c.requires.small.0)) refl
+    (λ m n w a begun. begun_phrase n docs (tree c.args.query.now) ts c.begin_leaves-all.new.cursors _ c.end_if-upto.result _ _
+    (places * length docs + 1 - length ts) c.begin_leaves-all.result i formed (omega (arith, few, c.requires.small.1)) (omega (arith, same, c.requires.small.0)) refl
     (c.end_if-upto.ensures ∙ ap (λ (k : ℕ). if c.begin_leaves-all.result then k else 0) (omega (arith, same, c.from-end.ensures, c.len.ensures))) (kept ∙ few) a.first.narrow
     (subst (λ (z : List (List ℕ)). BegunLeaves docs z c.begin_leaves-all.new.cursors c.begin_leaves-all.result n) slice begun))
 
@@ -46,20 +47,24 @@ begin-begin_window-requires g t c =
 
 pub begin-returns-in-Window : goal.begin-returns-in-Window
 begin-returns-in-Window g t c = λ docs same.
-    let i : tree c.args.query.now ≡ window c.as_slice-in-Window.result.now c.in-Window.field-1 = ap tree c.in-Window.is ∙ tree_Window c.in-Window.terms c.in-Window.field-1 ∙ ap (λ (z : List (List ℕ)). window z c.in-Window.field-1) (sym c.as_slice-in-Window.ensures) in
+    let i : tree c.args.query.now ≡ window c.as_slice-in-Window.result.now c.in-Window.field-1 = ap tree c.in-Window.is
+    ∙ tree_Window c.in-Window.terms c.in-Window.field-1 ∙ ap (λ (z : List (List ℕ)). window z c.in-Window.field-1) (sym c.as_slice-in-Window.ensures) in
     told_as g.met.P.Port.lawful (c.begin_window.ensures docs c.in-Window.field-1 same) (λ m a. a)
     (λ m n w a begun. subst (λ (x : Tree). Begun docs x c.begin_window.new.cursors c.begin_window.result n) (sym i) begun)
 
 pub begin-returns-in-Since : goal.begin-returns-in-Since
 begin-returns-in-Since g t c = λ docs same.
     let i : tree c.args.query.now ≡ since c.in-Since.field-0 = ap tree c.in-Since.is ∙ tree_Since c.in-Since.field-0 in
-    told_itself g.met.P.Port.keeps_itself (λ m a. begun_since m docs (tree c.args.query.now) c.in-Since.field-0 c.args.cursors.now c.begin_bound.new.cursor i (c.requires.fits ∙ ap size i) (c.begin_bound.ensures m docs c.in-Since.field-0 same a.first))
+    told_itself g.met.P.Port.keeps_itself (λ m a. begun_since m docs (tree c.args.query.now) c.in-Since.field-0 c.args.cursors.now c.begin_bound.new.cursor i
+    (c.requires.fits ∙ ap size i) (c.begin_bound.ensures m docs c.in-Since.field-0 same a.first))
 
 pub begin-returns-in-Some-split_first_mut : goal.begin-returns-in-Some-split_first_mut
 begin-returns-in-Some-split_first_mut g t c = λ docs same.
-    let i : tree c.args.query.now ≡ conjunction (trees_in c.as_slice-in-And.result.now) = ap tree c.in-And.is ∙ tree_And c.in-And.parts ∙ ap (λ (x : List Query). conjunction (trees_in x)) (sym c.as_slice-in-And.ensures) in
+    let i : tree c.args.query.now ≡ conjunction (trees_in c.as_slice-in-And.result.now) = ap tree c.in-And.is
+    ∙ tree_And c.in-And.parts ∙ ap (λ (x : List Query). conjunction (trees_in x)) (sym c.as_slice-in-And.ensures) in
     told_as g.met.P.Port.lawful (c.begin_each-all.ensures docs same) (λ m a. a)
-    (λ m n w a begun. begun_and n docs (tree c.args.query.now) (trees_in c.as_slice-in-And.result.now) _ c.begin_each-all.new.cursors c.from-end.result c.begin_each-all.result i (c.from-end.ensures ∙ sym same) c.end_if-own.ensures begun)
+    (λ m n w a begun. begun_and n docs (tree c.args.query.now) (trees_in c.as_slice-in-And.result.now)
+    _ c.begin_each-all.new.cursors c.from-end.result c.begin_each-all.result i (c.from-end.ensures ∙ sym same) c.end_if-own.ensures begun)
 
 pub begin-returns-in-Some : goal.begin-returns-in-Some
 begin-returns-in-Some g t c = λ docs same.
@@ -71,7 +76,8 @@ begin-returns-in-Some g t c = λ docs same.
 
 pub begin_each-begin-requires : goal.begin_each-begin-requires
 begin_each-begin-requires g t c = λ κs lv.
-    let e = front_of c.args.parts.now c.in-Some.part.now c.in-Some.others.now c.args.cursors.now c.split_at_mut-own.result.0.now c.split_at_mut-own.result.1.now c.size.result c.in-Some.ensures.cases.0 c.size.ensures c.split_at_mut-own.ensures.front c.split_at_mut-own.ensures.back in
+    let e = front_of c.args.parts.now c.in-Some.part.now c.in-Some.others.now c.args.cursors.now c.split_at_mut-own.result.0.now c.split_at_mut-own.result.1.now
+    c.size.result c.in-Some.ensures.cases.0 c.size.ensures c.split_at_mut-own.ensures.front c.split_at_mut-own.ensures.back in
     let formed = subst AreFormed e.parts c.requires.formed in (
       search rules,
       (
@@ -80,7 +86,17 @@ begin_each-begin-requires g t c = λ κs lv.
           search rules,
           (
             omega (arith, c.requires.small.0, c.requires.small.1, c.split_at_mut-own.ensures.front_len, c.split_at_mut-own.ensures.back_len),
-            (omega (arith, c.split_at_mut-own.ensures.front_len, c.size.ensures), (formed.0, (front_clear (trees_in c.args.parts.now) (tree c.in-Some.part.now) (trees_in c.in-Some.others.now) c.args.cursors.now c.split_at_mut-own.result.0.now c.split_at_mut-own.result.1.now e c.requires.clear, c.requires.first))),
+            (
+              omega (arith, c.split_at_mut-own.ensures.front_len, c.size.ensures),
+              (
+                formed.0,
+                (
+                  front_clear (trees_in c.args.parts.now) (tree c.in-Some.part.now)
+                      (trees_in c.in-Some.others.now) c.args.cursors.now c.split_at_mut-own.result.0.now c.split_at_mut-own.result.1.now e c.requires.clear,
+                  c.requires.first,
+                ),
+              ),
+            ),
           ),
         ),
       ),
@@ -88,19 +104,23 @@ begin_each-begin-requires g t c = λ κs lv.
 
 pub begin_each-returns-then-not-begin : goal.begin_each-returns-then-not-begin
 begin_each-returns-then-not-begin g t c = λ docs same.
-    let e = front_of c.args.parts.now c.in-Some.part.now c.in-Some.others.now c.args.cursors.now c.split_at_mut-own.result.0.now c.split_at_mut-own.result.1.now c.size.result c.in-Some.ensures.cases.0 c.size.ensures c.split_at_mut-own.ensures.front c.split_at_mut-own.ensures.back in
+    let e = front_of c.args.parts.now c.in-Some.part.now c.in-Some.others.now c.args.cursors.now c.split_at_mut-own.result.0.now c.split_at_mut-own.result.1.now
+    c.size.result c.in-Some.ensures.cases.0 c.size.ensures c.split_at_mut-own.ensures.front c.split_at_mut-own.ensures.back in
     let formed = subst AreFormed e.parts c.requires.formed in
     let ended : c.begin.result ≡ false = c.if-not-begin.true in
     told_as g.met.P.Port.lawful (c.begin.ensures docs same) (λ m a. a)
-    (λ m n w a begun. each_ends n docs (trees_in c.args.parts.now) (tree c.in-Some.part.now) (trees_in c.in-Some.others.now) c.args.cursors.now c.split_at_mut-own.result.0.now c.split_at_mut-own.result.1.now c.begin.new.cursors e a.first.narrow formed.1
-    (omega (arith, c.split_at_mut-own.ensures.back_len, c.size.ensures, c.requires.fits, ap sizes e.parts)) (back_clear (trees_in c.args.parts.now) (tree c.in-Some.part.now) (trees_in c.in-Some.others.now) c.args.cursors.now c.split_at_mut-own.result.0.now c.split_at_mut-own.result.1.now e c.requires.clear)
+    (λ m n w a begun. each_ends n docs (trees_in c.args.parts.now) (tree c.in-Some.part.now)
+    (trees_in c.in-Some.others.now) c.args.cursors.now c.split_at_mut-own.result.0.now c.split_at_mut-own.result.1.now c.begin.new.cursors e a.first.narrow formed.1
+    (omega (arith, c.split_at_mut-own.ensures.back_len, c.size.ensures, c.requires.fits, ap sizes e.parts)) (back_clear (trees_in c.args.parts.now)
+    (tree c.in-Some.part.now) (trees_in c.in-Some.others.now) c.args.cursors.now c.split_at_mut-own.result.0.now c.split_at_mut-own.result.1.now e c.requires.clear)
     (subst (λ (b : Bool). Begun docs (tree c.in-Some.part.now) c.begin.new.cursors b n) ended begun))
 
 pub begin_each-begin_each-requires : goal.begin_each-begin_each-requires
 begin_each-begin_each-requires g t c = λ κs lv.
     let r = c.requires.first in
     let x = (c.begin.ensures r.1 r.4).told r.0 r.2 r.3 in
-    let e = front_of c.args.parts.now c.in-Some.part.now c.in-Some.others.now c.args.cursors.now c.split_at_mut-own.result.0.now c.split_at_mut-own.result.1.now c.size.result c.in-Some.ensures.cases.0 c.size.ensures c.split_at_mut-own.ensures.front c.split_at_mut-own.ensures.back in
+    let e = front_of c.args.parts.now c.in-Some.part.now c.in-Some.others.now c.args.cursors.now c.split_at_mut-own.result.0.now c.split_at_mut-own.result.1.now
+    c.size.result c.in-Some.ensures.cases.0 c.size.ensures c.split_at_mut-own.ensures.front c.split_at_mut-own.ensures.back in
     let formed = subst AreFormed e.parts c.requires.formed in (
       search rules,
       (
@@ -114,7 +134,8 @@ begin_each-begin_each-requires g t c = λ κs lv.
               (
                 formed.1,
                 (
-                  back_clear (trees_in c.args.parts.now) (tree c.in-Some.part.now) (trees_in c.in-Some.others.now) c.args.cursors.now c.split_at_mut-own.result.0.now c.split_at_mut-own.result.1.now e c.requires.clear,
+                  back_clear (trees_in c.args.parts.now) (tree c.in-Some.part.now)
+                      (trees_in c.in-Some.others.now) c.args.cursors.now c.split_at_mut-own.result.0.now c.split_at_mut-own.result.1.now e c.requires.clear,
                   (x.0, r.1, x.1, read_on r.0 x.0 c.args.segment r.1 c.args.packed x.2 r.3, r.4),
                 ),
               ),
@@ -126,10 +147,12 @@ begin_each-begin_each-requires g t c = λ κs lv.
 
 pub begin_each-returns : goal.begin_each-returns
 begin_each-returns g t c = λ docs same.
-    let e = front_of c.args.parts.now c.in-Some.part.now c.in-Some.others.now c.args.cursors.now c.split_at_mut-own.result.0.now c.split_at_mut-own.result.1.now c.size.result c.in-Some.ensures.cases.0 c.size.ensures c.split_at_mut-own.ensures.front c.split_at_mut-own.ensures.back in
+    let e = front_of c.args.parts.now c.in-Some.part.now c.in-Some.others.now c.args.cursors.now c.split_at_mut-own.result.0.now c.split_at_mut-own.result.1.now
+    c.size.result c.in-Some.ensures.cases.0 c.size.ensures c.split_at_mut-own.ensures.front c.split_at_mut-own.ensures.back in
     told_on g.met.P.Port.lawful g.met.P.Port.keeps_on (c.begin.ensures docs same) (c.begin_each.ensures docs same)
     (λ l a. a) (λ l m w a begun. read_on l m c.args.segment docs c.args.packed w.later a)
-    (λ l m n w1 w2 a begun more. each_goes m n docs (trees_in c.args.parts.now) (tree c.in-Some.part.now) (trees_in c.in-Some.others.now) c.args.cursors.now c.split_at_mut-own.result.0.now c.split_at_mut-own.result.1.now c.begin.new.cursors c.begin_each.new.cursors c.begin.result c.begin_each.result e w2 begun more)
+    (λ l m n w1 w2 a begun more. each_goes m n docs (trees_in c.args.parts.now) (tree c.in-Some.part.now) (trees_in c.in-Some.others.now)
+    c.args.cursors.now c.split_at_mut-own.result.0.now c.split_at_mut-own.result.1.now c.begin.new.cursors c.begin_each.new.cursors c.begin.result c.begin_each.result e w2 begun more)
 
 -- ---- the parts of an or
 
@@ -138,11 +161,13 @@ nil_of [] e = refl
 nil_of (q ∷ qs) e = absurd (omega arith)
 
 pub begin_some-returns-in_default : goal.begin_some-returns-in_default
-begin_some-returns-in_default g t c = λ docs same. told_itself g.met.P.Port.keeps_itself (λ m a. some_none m docs (trees_in c.args.parts.now) c.args.cursors.now (ap trees_in (nil_of _ c.in_default.ensures.cases)) c.requires.fits)
+begin_some-returns-in_default g t c =
+    λ docs same. told_itself g.met.P.Port.keeps_itself (λ m a. some_none m docs (trees_in c.args.parts.now) c.args.cursors.now (ap trees_in (nil_of _ c.in_default.ensures.cases)) c.requires.fits)
 
 pub begin_some-begin-some-requires : goal.begin_some-begin-some-requires
 begin_some-begin-some-requires g t c = λ κs lv.
-    let e = front_of c.args.parts.now c.in-Some.part.now c.in-Some.others.now c.args.cursors.now c.split_at_mut-own.result.0.now c.split_at_mut-own.result.1.now c.size.result c.in-Some.ensures.cases.0 c.size.ensures c.split_at_mut-own.ensures.front c.split_at_mut-own.ensures.back in
+    let e = front_of c.args.parts.now c.in-Some.part.now c.in-Some.others.now c.args.cursors.now c.split_at_mut-own.result.0.now c.split_at_mut-own.result.1.now
+    c.size.result c.in-Some.ensures.cases.0 c.size.ensures c.split_at_mut-own.ensures.front c.split_at_mut-own.ensures.back in
     let formed = subst AreFormed e.parts c.requires.formed in (
       search rules,
       (
@@ -151,7 +176,17 @@ begin_some-begin-some-requires g t c = λ κs lv.
           search rules,
           (
             omega (arith, c.requires.small.0, c.requires.small.1, c.split_at_mut-own.ensures.front_len, c.split_at_mut-own.ensures.back_len),
-            (omega (arith, c.split_at_mut-own.ensures.front_len, c.size.ensures), (formed.0, (front_clear (trees_in c.args.parts.now) (tree c.in-Some.part.now) (trees_in c.in-Some.others.now) c.args.cursors.now c.split_at_mut-own.result.0.now c.split_at_mut-own.result.1.now e c.requires.clear, c.requires.first))),
+            (
+              omega (arith, c.split_at_mut-own.ensures.front_len, c.size.ensures),
+              (
+                formed.0,
+                (
+                  front_clear (trees_in c.args.parts.now) (tree c.in-Some.part.now)
+                      (trees_in c.in-Some.others.now) c.args.cursors.now c.split_at_mut-own.result.0.now c.split_at_mut-own.result.1.now e c.requires.clear,
+                  c.requires.first,
+                ),
+              ),
+            ),
           ),
         ),
       ),
@@ -161,7 +196,8 @@ pub begin_some-begin_some-other-requires : goal.begin_some-begin_some-other-requ
 begin_some-begin_some-other-requires g t c = λ κs lv.
     let r = c.requires.first in
     let x = (c.begin-some.ensures r.1 r.4).told r.0 r.2 r.3 in
-    let e = front_of c.args.parts.now c.in-Some.part.now c.in-Some.others.now c.args.cursors.now c.split_at_mut-own.result.0.now c.split_at_mut-own.result.1.now c.size.result c.in-Some.ensures.cases.0 c.size.ensures c.split_at_mut-own.ensures.front c.split_at_mut-own.ensures.back in
+    let e = front_of c.args.parts.now c.in-Some.part.now c.in-Some.others.now c.args.cursors.now c.split_at_mut-own.result.0.now c.split_at_mut-own.result.1.now
+    c.size.result c.in-Some.ensures.cases.0 c.size.ensures c.split_at_mut-own.ensures.front c.split_at_mut-own.ensures.back in
     let formed = subst AreFormed e.parts c.requires.formed in (
       search rules,
       (
@@ -175,7 +211,8 @@ begin_some-begin_some-other-requires g t c = λ κs lv.
               (
                 formed.1,
                 (
-                  back_clear (trees_in c.args.parts.now) (tree c.in-Some.part.now) (trees_in c.in-Some.others.now) c.args.cursors.now c.split_at_mut-own.result.0.now c.split_at_mut-own.result.1.now e c.requires.clear,
+                  back_clear (trees_in c.args.parts.now) (tree c.in-Some.part.now)
+                      (trees_in c.in-Some.others.now) c.args.cursors.now c.split_at_mut-own.result.0.now c.split_at_mut-own.result.1.now e c.requires.clear,
                   (x.0, r.1, x.1, read_on r.0 x.0 c.args.segment r.1 c.args.packed x.2 r.3, r.4),
                 ),
               ),
@@ -187,16 +224,20 @@ begin_some-begin_some-other-requires g t c = λ κs lv.
 
 pub begin_some-returns-then-some : goal.begin_some-returns-then-some
 begin_some-returns-then-some g t c = λ docs same.
-    let e = front_of c.args.parts.now c.in-Some.part.now c.in-Some.others.now c.args.cursors.now c.split_at_mut-own.result.0.now c.split_at_mut-own.result.1.now c.size.result c.in-Some.ensures.cases.0 c.size.ensures c.split_at_mut-own.ensures.front c.split_at_mut-own.ensures.back in
+    let e = front_of c.args.parts.now c.in-Some.part.now c.in-Some.others.now c.args.cursors.now c.split_at_mut-own.result.0.now c.split_at_mut-own.result.1.now
+    c.size.result c.in-Some.ensures.cases.0 c.size.ensures c.split_at_mut-own.ensures.front c.split_at_mut-own.ensures.back in
     told_on g.met.P.Port.lawful g.met.P.Port.keeps_on (c.begin-some.ensures docs same) (c.begin_some-other.ensures docs same)
     (λ l a. a) (λ l m w a begun. read_on l m c.args.segment docs c.args.packed w.later a)
-    (λ l m n w1 w2 a begun more. some_goes m n docs (trees_in c.args.parts.now) (tree c.in-Some.part.now) (trees_in c.in-Some.others.now) c.args.cursors.now c.split_at_mut-own.result.0.now c.split_at_mut-own.result.1.now c.begin-some.new.cursors c.begin_some-other.new.cursors c.begin-some.result c.begin_some-other.result c.begin-some.result e
+    (λ l m n w1 w2 a begun more. some_goes m n docs (trees_in c.args.parts.now) (tree c.in-Some.part.now) (trees_in c.in-Some.others.now) c.args.cursors.now c.split_at_mut-own.result.0.now
+    c.split_at_mut-own.result.1.now c.begin-some.new.cursors c.begin_some-other.new.cursors c.begin-some.result c.begin_some-other.result c.begin-some.result e
     (λ h. absurd (false≢true (sym h ∙ c.if-some.true))) w2 begun more)
 
 pub begin_some-returns-else-some : goal.begin_some-returns-else-some
 begin_some-returns-else-some g t c = λ docs same.
-    let e = front_of c.args.parts.now c.in-Some.part.now c.in-Some.others.now c.args.cursors.now c.split_at_mut-own.result.0.now c.split_at_mut-own.result.1.now c.size.result c.in-Some.ensures.cases.0 c.size.ensures c.split_at_mut-own.ensures.front c.split_at_mut-own.ensures.back in
+    let e = front_of c.args.parts.now c.in-Some.part.now c.in-Some.others.now c.args.cursors.now c.split_at_mut-own.result.0.now c.split_at_mut-own.result.1.now
+    c.size.result c.in-Some.ensures.cases.0 c.size.ensures c.split_at_mut-own.ensures.front c.split_at_mut-own.ensures.back in
     told_on g.met.P.Port.lawful g.met.P.Port.keeps_on (c.begin-some.ensures docs same) (c.begin_some-other.ensures docs same)
     (λ l a. a) (λ l m w a begun. read_on l m c.args.segment docs c.args.packed w.later a)
-    (λ l m n w1 w2 a begun more. some_goes m n docs (trees_in c.args.parts.now) (tree c.in-Some.part.now) (trees_in c.in-Some.others.now) c.args.cursors.now c.split_at_mut-own.result.0.now c.split_at_mut-own.result.1.now c.begin-some.new.cursors c.begin_some-other.new.cursors c.begin-some.result c.begin_some-other.result c.begin_some-other.result e
+    (λ l m n w1 w2 a begun more. some_goes m n docs (trees_in c.args.parts.now) (tree c.in-Some.part.now) (trees_in c.in-Some.others.now) c.args.cursors.now c.split_at_mut-own.result.0.now
+    c.split_at_mut-own.result.1.now c.begin-some.new.cursors c.begin_some-other.new.cursors c.begin-some.result c.begin_some-other.result c.begin_some-other.result e
     (λ h. (c.if-some.false, h)) w2 begun more)

@@ -8,7 +8,8 @@ use Rattle.eb_cursor.specs.Tops.{top}
 use Rattle.eb_cursor.specs.Posted.{match_at}
 use Rattle.eb_cursor.proofs.Tops.{top_le}
 use Rattle.eb_cursor.proofs.Readies.{ready_lower, ready_later, all_lower, all_size}
-use Rattle.eb_cursor.proofs.Steps.{tree_Word, tree_Phrase, tree_Window, tree_Since, tree_Not, tree_And, tree_Or, not_asks, not_told, not_here, not_past, each_told, each_asks, led_none, led_here, led_there, led_top, round_end, round_step, round_behind, some_end, some_step, some_asks, some_told, front_of, front_asks, others_ask, ended}
+use Rattle.eb_cursor.proofs.Steps.{tree_Word, tree_Phrase, tree_Window, tree_Since, tree_Not, tree_And, tree_Or, not_asks, not_told, not_here, not_past, each_told, each_asks, led_none}
+use Rattle.eb_cursor.proofs.Steps.{led_here, led_there, led_top, round_end, round_step, round_behind, some_end, some_step, some_asks, some_told, front_of, front_asks, others_ask, ended}
 use Rattle.eb_cursor.proofs.LoadsLeft.{loads_split, loads_split_back}
 use Rattle.eb_cursor.proofs.Tellings.{IsLater, gives_later, later_same, told_itself, told_as, told_on}
 use Rattle.eb_cursor.proofs.below.+below.Goals as goal
@@ -16,7 +17,8 @@ use Rattle.eb_cursor.proofs.below.+below.Goals as goal
 -- ---- each kind of query
 
 pub below-returns-then-end-eq0-clause-found : goal.below-returns-then-end-eq0-clause-found
-below-returns-then-end-eq0-clause-found g t c = λ docs last h. told_itself g.met.P.Port.keeps_itself (λ m r. ended (gives m) docs (tree c.args.query.now) c.args.cursors.now c.args.end last c.if-end-eq0.true r)
+below-returns-then-end-eq0-clause-found g t c =
+    λ docs last h. told_itself g.met.P.Port.keeps_itself (λ m r. ended (gives m) docs (tree c.args.query.now) c.args.cursors.now c.args.end last c.if-end-eq0.true r)
 
 pub below-returns-in-Word-clause-found : goal.below-returns-in-Word-clause-found
 below-returns-in-Word-clause-found g t c = λ docs last h.
@@ -52,31 +54,40 @@ below-returns-in-Some-clause-found g t c = λ docs last h.
     let i : tree c.args.query.now ≡ negation (tree c.deref.result.now) = ap tree c.in-Not.is ∙ tree_Not c.in-Not.part ∙ ap (λ (x : Query). negation (tree x)) (sym c.deref.ensures) in
     told_as g.met.P.Port.lawful (c.not_below-found.ensures.found docs s.upto (omega (arith, c.min.ensures)))
     (λ m r. not_asks (gives m) docs (tree c.args.query.now) (tree c.deref.result.now) c.args.cursors.now s c.in-Some.rest.now last i c.in-Some.ensures.cases.0 r)
-    (λ m n later r w. not_told (gives m) (gives n) docs (tree c.args.query.now) (tree c.deref.result.now) c.args.cursors.now s _ c.in-Some.rest.now _ c.min.result c.args.end last c.not_below-found.result
+    (λ m n later r w. not_told (gives m) (gives n) docs (tree c.args.query.now)
+    (tree c.deref.result.now) c.args.cursors.now s _ c.in-Some.rest.now _ c.min.result c.args.end last c.not_below-found.result
     i c.in-Some.ensures.cases.0 refl h c.min.ensures w r)
 
 pub below-led_below-found-requires : goal.below-led_below-found-requires
 below-led_below-found-requires g t c = λ κs lv.
     let r = c.requires.ready in
-    let i : tree c.args.query.now ≡ conjunction (trees_in c.as_slice.result.now) = ap tree c.in-And.is ∙ tree_And c.in-And.parts ∙ ap (λ (x : List Query). conjunction (trees_in x)) (sym c.as_slice.ensures) in
-    let asks = each_asks (gives r.0) r.1 (tree c.args.query.now) (trees_in c.as_slice.result.now) c.args.cursors.now c.in-Some-split_first_mut.own.now c.in-Some-split_first_mut.rest.now r.2 i c.in-Some-split_first_mut.ensures.cases.0 r.5 in
+    let i : tree c.args.query.now ≡ conjunction (trees_in c.as_slice.result.now) = ap tree c.in-And.is
+    ∙ tree_And c.in-And.parts ∙ ap (λ (x : List Query). conjunction (trees_in x)) (sym c.as_slice.ensures) in
+    let asks = each_asks (gives r.0) r.1 (tree c.args.query.now) (trees_in c.as_slice.result.now)
+    c.args.cursors.now c.in-Some-split_first_mut.own.now c.in-Some-split_first_mut.rest.now r.2 i c.in-Some-split_first_mut.ensures.cases.0 r.5 in
     (search rules, (search rules, (search rules, (search rules, (r.0, r.1, c.in-Some-split_first_mut.own.now.upto, r.3, omega (arith, c.min-start.ensures), asks)))))
 
 pub below-returns-in-Some-split_first_mut-clause-found : goal.below-returns-in-Some-split_first_mut-clause-found
 below-returns-in-Some-split_first_mut-clause-found g t c = λ docs last h.
     let s = c.in-Some-split_first_mut.own.now in
-    let i : tree c.args.query.now ≡ conjunction (trees_in c.as_slice.result.now) = ap tree c.in-And.is ∙ tree_And c.in-And.parts ∙ ap (λ (x : List Query). conjunction (trees_in x)) (sym c.as_slice.ensures) in
+    let i : tree c.args.query.now ≡ conjunction (trees_in c.as_slice.result.now) = ap tree c.in-And.is
+    ∙ tree_And c.in-And.parts ∙ ap (λ (x : List Query). conjunction (trees_in x)) (sym c.as_slice.ensures) in
     told_as g.met.P.Port.lawful (c.led_below-found.ensures.found docs s.upto (omega (arith, c.min-start.ensures)))
-    (λ m r. each_asks (gives m) docs (tree c.args.query.now) (trees_in c.as_slice.result.now) c.args.cursors.now s c.in-Some-split_first_mut.rest.now last i c.in-Some-split_first_mut.ensures.cases.0 r)
-    (λ m n later r w. each_told (gives m) (gives n) docs (tree c.args.query.now) (trees_in c.as_slice.result.now) c.args.cursors.now s _ c.in-Some-split_first_mut.rest.now _ c.min-start.result c.args.end last c.led_below-found.result
+    (λ m r. each_asks (gives m) docs (tree c.args.query.now)
+    (trees_in c.as_slice.result.now) c.args.cursors.now s c.in-Some-split_first_mut.rest.now last i c.in-Some-split_first_mut.ensures.cases.0 r)
+    (λ m n later r w. each_told (gives m) (gives n) docs (tree c.args.query.now)
+    (trees_in c.as_slice.result.now) c.args.cursors.now s _ c.in-Some-split_first_mut.rest.now _ c.min-start.result c.args.end last c.led_below-found.result
     i c.in-Some-split_first_mut.ensures.cases.0 refl h c.min-start.ensures w r)
 
 pub below-returns-in-Some-split_first_mut-2-clause-found : goal.below-returns-in-Some-split_first_mut-2-clause-found
 below-returns-in-Some-split_first_mut-2-clause-found g t c = λ docs last h.
-    let i : tree c.args.query.now ≡ disjunction (trees_in c.as_slice-in-Or.result.now) = ap tree c.in-Or.is ∙ tree_Or c.in-Or.parts ∙ ap (λ (x : List Query). disjunction (trees_in x)) (sym c.as_slice-in-Or.ensures) in
+    let i : tree c.args.query.now ≡ disjunction (trees_in c.as_slice-in-Or.result.now) = ap tree c.in-Or.is
+    ∙ tree_Or c.in-Or.parts ∙ ap (λ (x : List Query). disjunction (trees_in x)) (sym c.as_slice-in-Or.ensures) in
     told_as g.met.P.Port.lawful (c.some_below.ensures.found docs last h)
-    (λ m r. some_asks (gives m) docs (tree c.args.query.now) (trees_in c.as_slice-in-Or.result.now) c.args.cursors.now c.in-Some-split_first_mut-2._own.now c.in-Some-split_first_mut-2.rest.now last i c.in-Some-split_first_mut-2.ensures.cases.0 r)
-    (λ m n later r w. some_told (gives n) docs (tree c.args.query.now) (trees_in c.as_slice-in-Or.result.now) c.in-Some-split_first_mut-2._own.now c.some_below.new.cursors c.args.end c.some_below.result i w)
+    (λ m r. some_asks (gives m) docs (tree c.args.query.now) (trees_in c.as_slice-in-Or.result.now)
+    c.args.cursors.now c.in-Some-split_first_mut-2._own.now c.in-Some-split_first_mut-2.rest.now last i c.in-Some-split_first_mut-2.ensures.cases.0 r)
+    (λ m n later r w. some_told (gives n) docs (tree c.args.query.now)
+    (trees_in c.as_slice-in-Or.result.now) c.in-Some-split_first_mut-2._own.now c.some_below.new.cursors c.args.end c.some_below.result i w)
 
 -- ---- what does not match
 
@@ -105,15 +116,22 @@ not_below-loop-place-preserved g t c = record {
       (λ l r. r) (λ l m w r i. i.1)
       (λ l m n w1 w2 r i w.
       let f : ℕ → _ = match_at docs (tree c.args.query.now) in
-      let over : c.loop-place.place ≤ top f c.loop-place.place = omega (arith, w.0) in
-      (i.0 ∙ not_past f c.loop-place.place c.loop-place-test.true over, ready_lower (gives n) docs (tree c.args.query.now) c.below-found.new.cursors (c.loop-place.place - 1) c.loop-place.place (omega arith) w.1));
+      let over : c.loop-place.place ≤ top f c.loop-place.place = omega (arith, w.0) in (
+        i.0 ∙ not_past f c.loop-place.place c.loop-place-test.true over,
+        ready_lower (gives n) docs (tree c.args.query.now) c.below-found.new.cursors (c.loop-place.place - 1) c.loop-place.place (omega arith) w.1,
+      ));
 }
 
 pub not_below-below-found-requires : goal.not_below-below-found-requires
 not_below-below-found-requires g t c = λ κs lv.
     let r = c.requires.ready in
-    let i = (c.loop-place.invariant.found r.1 r.2 r.4).told r.0 r.3 r.5 in
-    (search rules, (search rules, (search rules, (omega (arith, c.requires.small.0, c.requires.small.1, c.loop-place.invariant.falls, c.loop-place.auto.cursors), (i.0, r.1, c.loop-place.place, i.1, omega arith, i.4.1)))))
+    let i = (c.loop-place.invariant.found r.1 r.2 r.4).told r.0 r.3 r.5 in (
+      search rules,
+      (
+        search rules,
+        (search rules, (omega (arith, c.requires.small.0, c.requires.small.1, c.loop-place.invariant.falls, c.loop-place.auto.cursors), (i.0, r.1, c.loop-place.place, i.1, omega arith, i.4.1))),
+      ),
+    )
 
 at_zero : (f : ℕ → Bool) (place : ℕ) → place ≤ 0 → place ≡ top f place
 at_zero f zero h = refl
@@ -136,8 +154,13 @@ all_below-loop-place-init g t c = record {
 pub all_below-round_below-found-requires : goal.all_below-round_below-found-requires
 all_below-round_below-found-requires g t c = λ κs lv.
     let r = c.requires.ready in
-    let i = (c.loop-place.invariant.found r.1 r.2 r.4).told r.0 r.3 r.5 in
-    (search rules, (search rules, (search rules, (omega (arith, c.requires.small.0, c.requires.small.1, c.loop-place.invariant.falls, c.loop-place.auto.cursors), (i.0, r.1, c.loop-place.place, i.1, omega arith, i.4.1)))))
+    let i = (c.loop-place.invariant.found r.1 r.2 r.4).told r.0 r.3 r.5 in (
+      search rules,
+      (
+        search rules,
+        (search rules, (omega (arith, c.requires.small.0, c.requires.small.1, c.loop-place.invariant.falls, c.loop-place.auto.cursors), (i.0, r.1, c.loop-place.place, i.1, omega arith, i.4.1))),
+      ),
+    )
 
 pub all_below-returns-then-found-place-clause-found : goal.all_below-returns-then-found-place-clause-found
 all_below-returns-then-found-place-clause-found g t c = λ docs last h.
@@ -172,7 +195,8 @@ all_below-loop-place-preserved g t c =
 -- ---- the part that leads
 
 pub lead_below-returns-in_default-clause-found : goal.lead_below-returns-in_default-clause-found
-lead_below-returns-in_default-clause-found g t c = λ docs last h. told_itself g.met.P.Port.keeps_itself (λ m r. led_none (gives m) docs (trees_in c.args.parts.now) c.args.cursors.now c.args.end last h r)
+lead_below-returns-in_default-clause-found g t c =
+    λ docs last h. told_itself g.met.P.Port.keeps_itself (λ m r. led_none (gives m) docs (trees_in c.args.parts.now) c.args.cursors.now c.args.end last h r)
 
 pub lead_below-size-requires : goal.lead_below-size-requires
 lead_below-size-requires g t c = let r = c.requires.ready in
@@ -186,33 +210,51 @@ lead_below-split_at_mut-own-requires g t c = let r = c.requires.ready in
 
 pub lead_below-returns-then-lead-eq0-clause-found : goal.lead_below-returns-then-lead-eq0-clause-found
 lead_below-returns-then-lead-eq0-clause-found g t c = λ docs last h.
-    let e = front_of c.args.parts.now c.in-Some.part.now c.in-Some.others.now c.args.cursors.now c.split_at_mut-own.result.0.now c.split_at_mut-own.result.1.now c.size.result c.in-Some.ensures.cases.0 c.size.ensures c.split_at_mut-own.ensures.front c.split_at_mut-own.ensures.back in
+    let e = front_of c.args.parts.now c.in-Some.part.now c.in-Some.others.now c.args.cursors.now c.split_at_mut-own.result.0.now c.split_at_mut-own.result.1.now
+    c.size.result c.in-Some.ensures.cases.0 c.size.ensures c.split_at_mut-own.ensures.front c.split_at_mut-own.ensures.back in
     told_as g.met.P.Port.lawful (c.below.ensures.found docs last h)
-    (λ m r. front_asks (gives m) docs (trees_in c.args.parts.now) (tree c.in-Some.part.now) (trees_in c.in-Some.others.now) c.args.cursors.now c.split_at_mut-own.result.0.now c.split_at_mut-own.result.1.now last e r)
-    (λ m n later r w. led_here (gives n) docs (trees_in c.args.parts.now) (tree c.in-Some.part.now) (trees_in c.in-Some.others.now) c.below.new.cursors c.split_at_mut-own.result.1.now c.args.end c.below.result e.parts w.0 w.1
-    (others_ask (gives m) (gives n) docs (trees_in c.args.parts.now) (tree c.in-Some.part.now) (trees_in c.in-Some.others.now) c.args.cursors.now c.split_at_mut-own.result.0.now c.split_at_mut-own.result.1.now c.args.end last e (gives_later m n later) h r))
+    (λ m r. front_asks (gives m) docs (trees_in c.args.parts.now) (tree c.in-Some.part.now)
+    (trees_in c.in-Some.others.now) c.args.cursors.now c.split_at_mut-own.result.0.now c.split_at_mut-own.result.1.now last e r)
+    (λ m n later r w. led_here (gives n) docs (trees_in c.args.parts.now) (tree c.in-Some.part.now)
+    (trees_in c.in-Some.others.now) c.below.new.cursors c.split_at_mut-own.result.1.now c.args.end c.below.result e.parts w.0 w.1
+    (others_ask (gives m) (gives n) docs (trees_in c.args.parts.now) (tree c.in-Some.part.now)
+    (trees_in c.in-Some.others.now) c.args.cursors.now c.split_at_mut-own.result.0.now c.split_at_mut-own.result.1.now c.args.end last e (gives_later m n later) h r))
 
 pub lead_below-lead_below-requires : goal.lead_below-lead_below-requires
 lead_below-lead_below-requires g t c = λ κs lv.
     let r = c.requires.ready in
-    let e = front_of c.args.parts.now c.in-Some.part.now c.in-Some.others.now c.args.cursors.now c.split_at_mut-own.result.0.now c.split_at_mut-own.result.1.now c.size.result c.in-Some.ensures.cases.0 c.size.ensures c.split_at_mut-own.ensures.front c.split_at_mut-own.ensures.back in
-    let more = others_ask (gives r.0) (gives r.0) r.1 (trees_in c.args.parts.now) (tree c.in-Some.part.now) (trees_in c.in-Some.others.now) c.args.cursors.now c.split_at_mut-own.result.0.now c.split_at_mut-own.result.1.now r.2 r.2 e (later_same (gives r.0)) (omega arith) r.5 in
+    let e = front_of c.args.parts.now c.in-Some.part.now c.in-Some.others.now c.args.cursors.now c.split_at_mut-own.result.0.now c.split_at_mut-own.result.1.now
+    c.size.result c.in-Some.ensures.cases.0 c.size.ensures c.split_at_mut-own.ensures.front c.split_at_mut-own.ensures.back in
+    let more = others_ask (gives r.0) (gives r.0) r.1 (trees_in c.args.parts.now) (tree c.in-Some.part.now)
+    (trees_in c.in-Some.others.now) c.args.cursors.now c.split_at_mut-own.result.0.now c.split_at_mut-own.result.1.now r.2 r.2 e (later_same (gives r.0)) (omega arith) r.5 in
     (search rules, (search rules, (search rules, (search rules, (r.0, r.1, r.2, r.3, r.4, more)))))
 
 pub lead_below-returns-clause-found : goal.lead_below-returns-clause-found
 lead_below-returns-clause-found g t c = λ docs last h.
-    let e = front_of c.args.parts.now c.in-Some.part.now c.in-Some.others.now c.args.cursors.now c.split_at_mut-own.result.0.now c.split_at_mut-own.result.1.now c.size.result c.in-Some.ensures.cases.0 c.size.ensures c.split_at_mut-own.ensures.front c.split_at_mut-own.ensures.back in
+    let e = front_of c.args.parts.now c.in-Some.part.now c.in-Some.others.now c.args.cursors.now c.split_at_mut-own.result.0.now c.split_at_mut-own.result.1.now
+    c.size.result c.in-Some.ensures.cases.0 c.size.ensures c.split_at_mut-own.ensures.front c.split_at_mut-own.ensures.back in
     told_as g.met.P.Port.lawful (c.lead_below.ensures.found docs last h)
-    (λ m r. others_ask (gives m) (gives m) docs (trees_in c.args.parts.now) (tree c.in-Some.part.now) (trees_in c.in-Some.others.now) c.args.cursors.now c.split_at_mut-own.result.0.now c.split_at_mut-own.result.1.now last last e (later_same (gives m)) (omega arith) r)
-    (λ m n later r w. led_there (gives n) docs (trees_in c.args.parts.now) (tree c.in-Some.part.now) (trees_in c.in-Some.others.now) c.split_at_mut-own.result.0.now c.lead_below.new.cursors c.args.end last c.lead_below.result e.parts h
-    (ready_later (gives m) (gives n) (gives_later m n later) docs (tree c.in-Some.part.now) c.split_at_mut-own.result.0.now last (front_asks (gives m) docs (trees_in c.args.parts.now) (tree c.in-Some.part.now) (trees_in c.in-Some.others.now) c.args.cursors.now c.split_at_mut-own.result.0.now c.split_at_mut-own.result.1.now last e r)) w)
+    (λ m r. others_ask (gives m) (gives m) docs (trees_in c.args.parts.now) (tree c.in-Some.part.now)
+    (trees_in c.in-Some.others.now) c.args.cursors.now c.split_at_mut-own.result.0.now c.split_at_mut-own.result.1.now last last e (later_same (gives m)) (omega arith) r)
+    (λ m n later r w. led_there (gives n) docs (trees_in c.args.parts.now) (tree c.in-Some.part.now)
+    (trees_in c.in-Some.others.now) c.split_at_mut-own.result.0.now c.lead_below.new.cursors c.args.end last c.lead_below.result e.parts h
+    (ready_later (gives m) (gives n) (gives_later m n later) docs (tree c.in-Some.part.now) c.split_at_mut-own.result.0.now last (front_asks (gives m) docs (trees_in c.args.parts.now)
+    (tree c.in-Some.part.now) (trees_in c.in-Some.others.now) c.args.cursors.now c.split_at_mut-own.result.0.now c.split_at_mut-own.result.1.now last e r)) w)
 
 pub led_below-all_below-requires : goal.led_below-all_below-requires
 led_below-all_below-requires g t c = λ κs lv.
     let r = c.requires.ready in
     let x = (c.lead_below-start.ensures.found r.1 r.2 r.4).told r.0 r.3 r.5 in
-    let under : c.lead_below-start.result ≤ c.args.end = x.4.falls in
-    (search rules, (search rules, (search rules, ((omega (arith, under, c.requires.small.0), omega (arith, c.requires.small.1, c.lead_below-start.auto.cursors)), (x.0, r.1, c.lead_below-start.result, x.1, omega arith, x.4.ready)))))
+    let under : c.lead_below-start.result ≤ c.args.end = x.4.falls in (
+      search rules,
+      (
+        search rules,
+        (
+          search rules,
+          ((omega (arith, under, c.requires.small.0), omega (arith, c.requires.small.1, c.lead_below-start.auto.cursors)), (x.0, r.1, c.lead_below-start.result, x.1, omega arith, x.4.ready)),
+        ),
+      ),
+    )
 
 pub led_below-returns-clause-found : goal.led_below-returns-clause-found
 led_below-returns-clause-found g t c = λ docs last h.
@@ -227,7 +269,8 @@ nil_of [] e = refl
 nil_of (q ∷ qs) e = absurd (omega arith)
 
 pub round_below-returns-in_default-clause-found : goal.round_below-returns-in_default-clause-found
-round_below-returns-in_default-clause-found g t c = λ docs last h. told_itself g.met.P.Port.keeps_itself (λ m r. round_end (gives m) docs (trees_in c.args.parts.now) c.args.cursors.now c.args.end last (ap trees_in (nil_of _ c.in_default.ensures.cases)) h r)
+round_below-returns-in_default-clause-found g t c = λ docs last h. told_itself g.met.P.Port.keeps_itself
+    (λ m r. round_end (gives m) docs (trees_in c.args.parts.now) c.args.cursors.now c.args.end last (ap trees_in (nil_of _ c.in_default.ensures.cases)) h r)
 
 pub round_below-size-requires : goal.round_below-size-requires
 round_below-size-requires g t c = let r = c.requires.ready in
@@ -242,23 +285,36 @@ round_below-split_at_mut-own-requires g t c = let r = c.requires.ready in
 pub round_below-round_below-requires : goal.round_below-round_below-requires
 round_below-round_below-requires g t c = λ κs lv.
     let r = c.requires.ready in
-    let e = front_of c.args.parts.now c.in-Some.part.now c.in-Some.others.now c.args.cursors.now c.split_at_mut-own.result.0.now c.split_at_mut-own.result.1.now c.size.result c.in-Some.ensures.cases.0 c.size.ensures c.split_at_mut-own.ensures.front c.split_at_mut-own.ensures.back in
-    let x = (c.below-found.ensures.found r.1 r.2 r.4).told r.0 r.3 (front_asks (gives r.0) r.1 (trees_in c.args.parts.now) (tree c.in-Some.part.now) (trees_in c.in-Some.others.now) c.args.cursors.now c.split_at_mut-own.result.0.now c.split_at_mut-own.result.1.now r.2 e r.5) in
+    let e = front_of c.args.parts.now c.in-Some.part.now c.in-Some.others.now c.args.cursors.now c.split_at_mut-own.result.0.now c.split_at_mut-own.result.1.now
+    c.size.result c.in-Some.ensures.cases.0 c.size.ensures c.split_at_mut-own.ensures.front c.split_at_mut-own.ensures.back in
+    let x = (c.below-found.ensures.found r.1 r.2 r.4).told r.0 r.3 (front_asks (gives r.0) r.1 (trees_in c.args.parts.now) (tree c.in-Some.part.now)
+    (trees_in c.in-Some.others.now) c.args.cursors.now c.split_at_mut-own.result.0.now c.split_at_mut-own.result.1.now r.2 e r.5) in
     let w : IsLater r.0 x.0 = record { is = g.met.P.Port.lawful _ r.0 r.3; later = x.2 } in
-    let more = others_ask (gives r.0) (gives x.0) r.1 (trees_in c.args.parts.now) (tree c.in-Some.part.now) (trees_in c.in-Some.others.now) c.args.cursors.now c.split_at_mut-own.result.0.now c.split_at_mut-own.result.1.now c.args.end r.2 e (gives_later r.0 x.0 w) r.4 r.5 in
-    let under : c.below-found.result ≤ c.args.end = omega (arith, x.4.0, top_le (match_at r.1 (tree c.in-Some.part.now)) c.args.end) in
-    (search rules, (search rules, (search rules, ((omega (arith, under, c.requires.small.0), search rules), (x.0, r.1, c.args.end, x.1, omega (arith, x.4.0, top_le (match_at r.1 (tree c.in-Some.part.now)) c.args.end), more)))))
+    let more = others_ask (gives r.0) (gives x.0) r.1 (trees_in c.args.parts.now) (tree c.in-Some.part.now)
+    (trees_in c.in-Some.others.now) c.args.cursors.now c.split_at_mut-own.result.0.now c.split_at_mut-own.result.1.now c.args.end r.2 e (gives_later r.0 x.0 w) r.4 r.5 in
+    let under : c.below-found.result ≤ c.args.end = omega (arith, x.4.0, top_le (match_at r.1 (tree c.in-Some.part.now)) c.args.end) in (
+      search rules,
+      (
+        search rules,
+        (search rules, ((omega (arith, under, c.requires.small.0), search rules), (x.0, r.1, c.args.end, x.1, omega (arith, x.4.0, top_le (match_at r.1 (tree c.in-Some.part.now)) c.args.end), more))),
+      ),
+    )
 
 pub round_below-returns-clause-found : goal.round_below-returns-clause-found
 round_below-returns-clause-found g t c = λ docs last h.
     let r = c.requires.ready in
-    let e = front_of c.args.parts.now c.in-Some.part.now c.in-Some.others.now c.args.cursors.now c.split_at_mut-own.result.0.now c.split_at_mut-own.result.1.now c.size.result c.in-Some.ensures.cases.0 c.size.ensures c.split_at_mut-own.ensures.front c.split_at_mut-own.ensures.back in
-    let x = (c.below-found.ensures.found r.1 r.2 r.4).told r.0 r.3 (front_asks (gives r.0) r.1 (trees_in c.args.parts.now) (tree c.in-Some.part.now) (trees_in c.in-Some.others.now) c.args.cursors.now c.split_at_mut-own.result.0.now c.split_at_mut-own.result.1.now r.2 e r.5) in
+    let e = front_of c.args.parts.now c.in-Some.part.now c.in-Some.others.now c.args.cursors.now c.split_at_mut-own.result.0.now c.split_at_mut-own.result.1.now
+    c.size.result c.in-Some.ensures.cases.0 c.size.ensures c.split_at_mut-own.ensures.front c.split_at_mut-own.ensures.back in
+    let x = (c.below-found.ensures.found r.1 r.2 r.4).told r.0 r.3 (front_asks (gives r.0) r.1 (trees_in c.args.parts.now) (tree c.in-Some.part.now)
+    (trees_in c.in-Some.others.now) c.args.cursors.now c.split_at_mut-own.result.0.now c.split_at_mut-own.result.1.now r.2 e r.5) in
     let under : c.below-found.result ≤ c.args.end = omega (arith, x.4.0, top_le (match_at r.1 (tree c.in-Some.part.now)) c.args.end) in
     told_on g.met.P.Port.lawful g.met.P.Port.keeps_on (c.below-found.ensures.found docs last h) (c.round_below.ensures.found docs c.args.end under)
-    (λ l k. front_asks (gives l) docs (trees_in c.args.parts.now) (tree c.in-Some.part.now) (trees_in c.in-Some.others.now) c.args.cursors.now c.split_at_mut-own.result.0.now c.split_at_mut-own.result.1.now last e k)
-    (λ l m w k i. others_ask (gives l) (gives m) docs (trees_in c.args.parts.now) (tree c.in-Some.part.now) (trees_in c.in-Some.others.now) c.args.cursors.now c.split_at_mut-own.result.0.now c.split_at_mut-own.result.1.now c.args.end last e (gives_later l m w) h k)
-    (λ l m n w1 w2 k i more. round_step (gives m) (gives n) docs (trees_in c.args.parts.now) (tree c.in-Some.part.now) (trees_in c.in-Some.others.now) c.below-found.new.cursors c.round_below.new.cursors c.args.end c.below-found.result c.round_below.result
+    (λ l k. front_asks (gives l) docs (trees_in c.args.parts.now) (tree c.in-Some.part.now)
+    (trees_in c.in-Some.others.now) c.args.cursors.now c.split_at_mut-own.result.0.now c.split_at_mut-own.result.1.now last e k)
+    (λ l m w k i. others_ask (gives l) (gives m) docs (trees_in c.args.parts.now) (tree c.in-Some.part.now)
+    (trees_in c.in-Some.others.now) c.args.cursors.now c.split_at_mut-own.result.0.now c.split_at_mut-own.result.1.now c.args.end last e (gives_later l m w) h k)
+    (λ l m n w1 w2 k i more. round_step (gives m) (gives n) docs (trees_in c.args.parts.now) (tree c.in-Some.part.now)
+    (trees_in c.in-Some.others.now) c.below-found.new.cursors c.round_below.new.cursors c.args.end c.below-found.result c.round_below.result
     e.parts (gives_later m n w2) i.0 i.1 more)
 
 -- ---- a bound on the id is asked behind the parts that follow it
@@ -266,33 +322,43 @@ round_below-returns-clause-found g t c = λ docs last h.
 pub round_below-below-requires : goal.round_below-below-requires
 round_below-below-requires g t c = λ κs lv.
     let r = c.requires.ready in
-    let e = front_of c.args.parts.now c.in-Some.part.now c.in-Some.others.now c.args.cursors.now c.split_at_mut-own.result.0.now c.split_at_mut-own.result.1.now c.size.result c.in-Some.ensures.cases.0 c.size.ensures c.split_at_mut-own.ensures.front c.split_at_mut-own.ensures.back in
-    let more = others_ask (gives r.0) (gives r.0) r.1 (trees_in c.args.parts.now) (tree c.in-Some.part.now) (trees_in c.in-Some.others.now) c.args.cursors.now c.split_at_mut-own.result.0.now c.split_at_mut-own.result.1.now r.2 r.2 e (later_same (gives r.0)) (omega arith) r.5 in
+    let e = front_of c.args.parts.now c.in-Some.part.now c.in-Some.others.now c.args.cursors.now c.split_at_mut-own.result.0.now c.split_at_mut-own.result.1.now
+    c.size.result c.in-Some.ensures.cases.0 c.size.ensures c.split_at_mut-own.ensures.front c.split_at_mut-own.ensures.back in
+    let more = others_ask (gives r.0) (gives r.0) r.1 (trees_in c.args.parts.now) (tree c.in-Some.part.now)
+    (trees_in c.in-Some.others.now) c.args.cursors.now c.split_at_mut-own.result.0.now c.split_at_mut-own.result.1.now r.2 r.2 e (later_same (gives r.0)) (omega arith) r.5 in
     let x = (c.round_below-found.ensures.found r.1 r.2 r.4).told r.0 r.3 more in
     let w : IsLater r.0 x.0 = record { is = g.met.P.Port.lawful _ r.0 r.3; later = x.2 } in
-    let own = ready_later (gives r.0) (gives x.0) (gives_later r.0 x.0 w) r.1 (tree c.in-Some.part.now) c.split_at_mut-own.result.0.now r.2 (front_asks (gives r.0) r.1 (trees_in c.args.parts.now) (tree c.in-Some.part.now) (trees_in c.in-Some.others.now) c.args.cursors.now c.split_at_mut-own.result.0.now c.split_at_mut-own.result.1.now r.2 e r.5) in
+    let own = ready_later (gives r.0) (gives x.0) (gives_later r.0 x.0 w) r.1 (tree c.in-Some.part.now) c.split_at_mut-own.result.0.now r.2 (front_asks (gives r.0) r.1
+    (trees_in c.args.parts.now) (tree c.in-Some.part.now) (trees_in c.in-Some.others.now) c.args.cursors.now c.split_at_mut-own.result.0.now c.split_at_mut-own.result.1.now r.2 e r.5) in
     (search rules, (search rules, (search rules, ((omega (arith, x.4.falls, c.requires.small.0), search rules), (x.0, r.1, r.2, x.1, omega (arith, x.4.falls, r.4), own)))))
 
 pub round_below-returns-then-is_bound-clause-found : goal.round_below-returns-then-is_bound-clause-found
 round_below-returns-then-is_bound-clause-found g t c = λ docs last h.
     let r = c.requires.ready in
-    let e = front_of c.args.parts.now c.in-Some.part.now c.in-Some.others.now c.args.cursors.now c.split_at_mut-own.result.0.now c.split_at_mut-own.result.1.now c.size.result c.in-Some.ensures.cases.0 c.size.ensures c.split_at_mut-own.ensures.front c.split_at_mut-own.ensures.back in
-    let more = others_ask (gives r.0) (gives r.0) r.1 (trees_in c.args.parts.now) (tree c.in-Some.part.now) (trees_in c.in-Some.others.now) c.args.cursors.now c.split_at_mut-own.result.0.now c.split_at_mut-own.result.1.now r.2 r.2 e (later_same (gives r.0)) (omega arith) r.5 in
+    let e = front_of c.args.parts.now c.in-Some.part.now c.in-Some.others.now c.args.cursors.now c.split_at_mut-own.result.0.now c.split_at_mut-own.result.1.now
+    c.size.result c.in-Some.ensures.cases.0 c.size.ensures c.split_at_mut-own.ensures.front c.split_at_mut-own.ensures.back in
+    let more = others_ask (gives r.0) (gives r.0) r.1 (trees_in c.args.parts.now) (tree c.in-Some.part.now)
+    (trees_in c.in-Some.others.now) c.args.cursors.now c.split_at_mut-own.result.0.now c.split_at_mut-own.result.1.now r.2 r.2 e (later_same (gives r.0)) (omega arith) r.5 in
     let x = (c.round_below-found.ensures.found r.1 r.2 r.4).told r.0 r.3 more in
     let under : c.round_below-found.result ≤ last = omega (arith, x.4.falls, h) in
     told_on g.met.P.Port.lawful g.met.P.Port.keeps_on (c.round_below-found.ensures.found docs last h) (c.below.ensures.found docs last under)
-    (λ l k. others_ask (gives l) (gives l) docs (trees_in c.args.parts.now) (tree c.in-Some.part.now) (trees_in c.in-Some.others.now) c.args.cursors.now c.split_at_mut-own.result.0.now c.split_at_mut-own.result.1.now last last e (later_same (gives l)) (omega arith) k)
-    (λ l m w k i. ready_later (gives l) (gives m) (gives_later l m w) docs (tree c.in-Some.part.now) c.split_at_mut-own.result.0.now last (front_asks (gives l) docs (trees_in c.args.parts.now) (tree c.in-Some.part.now) (trees_in c.in-Some.others.now) c.args.cursors.now c.split_at_mut-own.result.0.now c.split_at_mut-own.result.1.now last e k))
-    (λ l m n w1 w2 k i own. round_behind (gives m) (gives n) docs (trees_in c.args.parts.now) (tree c.in-Some.part.now) (trees_in c.in-Some.others.now) c.below.new.cursors c.round_below-found.new.cursors c.args.end c.round_below-found.result c.below.result e.parts (gives_later m n w2) i own.0 own.1)
+    (λ l k. others_ask (gives l) (gives l) docs (trees_in c.args.parts.now) (tree c.in-Some.part.now)
+    (trees_in c.in-Some.others.now) c.args.cursors.now c.split_at_mut-own.result.0.now c.split_at_mut-own.result.1.now last last e (later_same (gives l)) (omega arith) k)
+    (λ l m w k i. ready_later (gives l) (gives m) (gives_later l m w) docs (tree c.in-Some.part.now) c.split_at_mut-own.result.0.now last (front_asks (gives l) docs
+    (trees_in c.args.parts.now) (tree c.in-Some.part.now) (trees_in c.in-Some.others.now) c.args.cursors.now c.split_at_mut-own.result.0.now c.split_at_mut-own.result.1.now last e k))
+    (λ l m n w1 w2 k i own. round_behind (gives m) (gives n) docs (trees_in c.args.parts.now) (tree c.in-Some.part.now)
+    (trees_in c.in-Some.others.now) c.below.new.cursors c.round_below-found.new.cursors c.args.end c.round_below-found.result c.below.result e.parts (gives_later m n w2) i own.0 own.1)
 
 pub round_below-returns-then-is_bound-clause-loads : goal.round_below-returns-then-is_bound-clause-loads
-round_below-returns-then-is_bound-clause-loads g t c = loads_split_back c.args.cursors.now c.split_at_mut-own.result.0.now c.split_at_mut-own.result.1.now c.below.new.cursors c.round_below-found.new.cursors c.args.steps.now c.round_below-found.new.steps c.below.new.steps
+round_below-returns-then-is_bound-clause-loads g t c = loads_split_back c.args.cursors.now c.split_at_mut-own.result.0.now
+    c.split_at_mut-own.result.1.now c.below.new.cursors c.round_below-found.new.cursors c.args.steps.now c.round_below-found.new.steps c.below.new.steps
     c.split_at_mut-own.ensures.value c.round_below-found.ensures.loads c.below.ensures.loads
 
 -- ---- what some part matches
 
 pub some_below-returns-in_default-clause-found : goal.some_below-returns-in_default-clause-found
-some_below-returns-in_default-clause-found g t c = λ docs last h. told_itself g.met.P.Port.keeps_itself (λ m r. some_end (gives m) docs (trees_in c.args.parts.now) c.args.cursors.now c.args.end last (ap trees_in (nil_of _ c.in_default.ensures.cases)) h r)
+some_below-returns-in_default-clause-found g t c = λ docs last h. told_itself g.met.P.Port.keeps_itself
+    (λ m r. some_end (gives m) docs (trees_in c.args.parts.now) c.args.cursors.now c.args.end last (ap trees_in (nil_of _ c.in_default.ensures.cases)) h r)
 
 pub some_below-size-requires : goal.some_below-size-requires
 some_below-size-requires g t c = let r = c.requires.ready in
@@ -307,35 +373,46 @@ some_below-split_at_mut-own-requires g t c = let r = c.requires.ready in
 pub some_below-some_below-other-requires : goal.some_below-some_below-other-requires
 some_below-some_below-other-requires g t c = λ κs lv.
     let r = c.requires.ready in
-    let e = front_of c.args.parts.now c.in-Some.part.now c.in-Some.others.now c.args.cursors.now c.split_at_mut-own.result.0.now c.split_at_mut-own.result.1.now c.size.result c.in-Some.ensures.cases.0 c.size.ensures c.split_at_mut-own.ensures.front c.split_at_mut-own.ensures.back in
-    let x = (c.below-found.ensures.found r.1 r.2 r.4).told r.0 r.3 (front_asks (gives r.0) r.1 (trees_in c.args.parts.now) (tree c.in-Some.part.now) (trees_in c.in-Some.others.now) c.args.cursors.now c.split_at_mut-own.result.0.now c.split_at_mut-own.result.1.now r.2 e r.5) in
+    let e = front_of c.args.parts.now c.in-Some.part.now c.in-Some.others.now c.args.cursors.now c.split_at_mut-own.result.0.now c.split_at_mut-own.result.1.now
+    c.size.result c.in-Some.ensures.cases.0 c.size.ensures c.split_at_mut-own.ensures.front c.split_at_mut-own.ensures.back in
+    let x = (c.below-found.ensures.found r.1 r.2 r.4).told r.0 r.3 (front_asks (gives r.0) r.1 (trees_in c.args.parts.now) (tree c.in-Some.part.now)
+    (trees_in c.in-Some.others.now) c.args.cursors.now c.split_at_mut-own.result.0.now c.split_at_mut-own.result.1.now r.2 e r.5) in
     let w : IsLater r.0 x.0 = record { is = g.met.P.Port.lawful _ r.0 r.3; later = x.2 } in
-    let more = others_ask (gives r.0) (gives x.0) r.1 (trees_in c.args.parts.now) (tree c.in-Some.part.now) (trees_in c.in-Some.others.now) c.args.cursors.now c.split_at_mut-own.result.0.now c.split_at_mut-own.result.1.now c.args.end r.2 e (gives_later r.0 x.0 w) r.4 r.5 in
+    let more = others_ask (gives r.0) (gives x.0) r.1 (trees_in c.args.parts.now) (tree c.in-Some.part.now)
+    (trees_in c.in-Some.others.now) c.args.cursors.now c.split_at_mut-own.result.0.now c.split_at_mut-own.result.1.now c.args.end r.2 e (gives_later r.0 x.0 w) r.4 r.5 in
     (search rules, (search rules, (search rules, (search rules, (x.0, r.1, c.args.end, x.1, omega arith, more)))))
 
 pub some_below-returns-clause-found : goal.some_below-returns-clause-found
 some_below-returns-clause-found g t c = λ docs last h.
-    let e = front_of c.args.parts.now c.in-Some.part.now c.in-Some.others.now c.args.cursors.now c.split_at_mut-own.result.0.now c.split_at_mut-own.result.1.now c.size.result c.in-Some.ensures.cases.0 c.size.ensures c.split_at_mut-own.ensures.front c.split_at_mut-own.ensures.back in
+    let e = front_of c.args.parts.now c.in-Some.part.now c.in-Some.others.now c.args.cursors.now c.split_at_mut-own.result.0.now c.split_at_mut-own.result.1.now
+    c.size.result c.in-Some.ensures.cases.0 c.size.ensures c.split_at_mut-own.ensures.front c.split_at_mut-own.ensures.back in
     told_on g.met.P.Port.lawful g.met.P.Port.keeps_on (c.below-found.ensures.found docs last h) (c.some_below-other.ensures.found docs c.args.end (omega arith))
-    (λ l k. front_asks (gives l) docs (trees_in c.args.parts.now) (tree c.in-Some.part.now) (trees_in c.in-Some.others.now) c.args.cursors.now c.split_at_mut-own.result.0.now c.split_at_mut-own.result.1.now last e k)
-    (λ l m w k i. others_ask (gives l) (gives m) docs (trees_in c.args.parts.now) (tree c.in-Some.part.now) (trees_in c.in-Some.others.now) c.args.cursors.now c.split_at_mut-own.result.0.now c.split_at_mut-own.result.1.now c.args.end last e (gives_later l m w) h k)
-    (λ l m n w1 w2 k i more. some_step (gives m) (gives n) docs (trees_in c.args.parts.now) (tree c.in-Some.part.now) (trees_in c.in-Some.others.now) c.below-found.new.cursors c.some_below-other.new.cursors c.args.end c.below-found.result c.some_below-other.result c.max.result
+    (λ l k. front_asks (gives l) docs (trees_in c.args.parts.now) (tree c.in-Some.part.now)
+    (trees_in c.in-Some.others.now) c.args.cursors.now c.split_at_mut-own.result.0.now c.split_at_mut-own.result.1.now last e k)
+    (λ l m w k i. others_ask (gives l) (gives m) docs (trees_in c.args.parts.now) (tree c.in-Some.part.now)
+    (trees_in c.in-Some.others.now) c.args.cursors.now c.split_at_mut-own.result.0.now c.split_at_mut-own.result.1.now c.args.end last e (gives_later l m w) h k)
+    (λ l m n w1 w2 k i more. some_step (gives m) (gives n) docs (trees_in c.args.parts.now) (tree c.in-Some.part.now)
+    (trees_in c.in-Some.others.now) c.below-found.new.cursors c.some_below-other.new.cursors c.args.end c.below-found.result c.some_below-other.result c.max.result
     e.parts (gives_later m n w2) c.max.ensures i.0 i.1 more.0 more.1)
 
 -- ---- the loads
 
 pub lead_below-returns-then-lead-eq0-clause-loads : goal.lead_below-returns-then-lead-eq0-clause-loads
-lead_below-returns-then-lead-eq0-clause-loads g t c = loads_split c.args.cursors.now c.split_at_mut-own.result.0.now c.split_at_mut-own.result.1.now c.below.new.cursors c.split_at_mut-own.result.1.now c.args.steps.now c.below.new.steps c.below.new.steps
+lead_below-returns-then-lead-eq0-clause-loads g t c = loads_split c.args.cursors.now c.split_at_mut-own.result.0.now
+    c.split_at_mut-own.result.1.now c.below.new.cursors c.split_at_mut-own.result.1.now c.args.steps.now c.below.new.steps c.below.new.steps
     c.split_at_mut-own.ensures.value c.below.ensures.loads (omega arith)
 
 pub lead_below-returns-clause-loads : goal.lead_below-returns-clause-loads
-lead_below-returns-clause-loads g t c = loads_split c.args.cursors.now c.split_at_mut-own.result.0.now c.split_at_mut-own.result.1.now c.split_at_mut-own.result.0.now c.lead_below.new.cursors c.args.steps.now c.args.steps.now c.lead_below.new.steps
+lead_below-returns-clause-loads g t c = loads_split c.args.cursors.now c.split_at_mut-own.result.0.now c.split_at_mut-own.result.1.now
+    c.split_at_mut-own.result.0.now c.lead_below.new.cursors c.args.steps.now c.args.steps.now c.lead_below.new.steps
     c.split_at_mut-own.ensures.value (omega arith) c.lead_below.ensures.loads
 
 pub round_below-returns-clause-loads : goal.round_below-returns-clause-loads
-round_below-returns-clause-loads g t c = loads_split c.args.cursors.now c.split_at_mut-own.result.0.now c.split_at_mut-own.result.1.now c.below-found.new.cursors c.round_below.new.cursors c.args.steps.now c.below-found.new.steps c.round_below.new.steps
+round_below-returns-clause-loads g t c = loads_split c.args.cursors.now c.split_at_mut-own.result.0.now c.split_at_mut-own.result.1.now
+    c.below-found.new.cursors c.round_below.new.cursors c.args.steps.now c.below-found.new.steps c.round_below.new.steps
     c.split_at_mut-own.ensures.value c.below-found.ensures.loads c.round_below.ensures.loads
 
 pub some_below-returns-clause-loads : goal.some_below-returns-clause-loads
-some_below-returns-clause-loads g t c = loads_split c.args.cursors.now c.split_at_mut-own.result.0.now c.split_at_mut-own.result.1.now c.below-found.new.cursors c.some_below-other.new.cursors c.args.steps.now c.below-found.new.steps c.some_below-other.new.steps
+some_below-returns-clause-loads g t c = loads_split c.args.cursors.now c.split_at_mut-own.result.0.now c.split_at_mut-own.result.1.now
+    c.below-found.new.cursors c.some_below-other.new.cursors c.args.steps.now c.below-found.new.steps c.some_below-other.new.steps
     c.split_at_mut-own.ensures.value c.below-found.ensures.loads c.some_below-other.ensures.loads

@@ -14,8 +14,10 @@ returns-then-start-eq0-clause-found g c = λ docs last h.
       | then-start-eq0-via-then-start-eq0 w ↦ λ some. absurd (omega (arith, some, w.if-start-eq0.true))
       | then-start-eq0-via-else-start-eq0+then-place_after-start w ↦ λ some. omega (arith, w.place_after.ensures, w.if-place_after-start.true)
     ] in
-    told_itself g.met.P.Port.keeps_itself (λ m r.
-    (bound_known (gives m) docs c.args.bound c.args.cursor.now c.min-start.result c.args.end last c.min-start.ensures h low r, bound_lower (gives m) docs c.args.bound c.args.cursor.now c.args.end last h r))
+    told_itself g.met.P.Port.keeps_itself (λ m r. (
+      bound_known (gives m) docs c.args.bound c.args.cursor.now c.min-start.result c.args.end last c.min-start.ensures h low r,
+      bound_lower (gives m) docs c.args.bound c.args.cursor.now c.args.end last h r,
+    ))
 
 pub place_after-requires : goal.place_after-requires
 place_after-requires g c = omega (arith, c.requires.ready.5.low)
@@ -33,6 +35,7 @@ returns-clause-found g c = λ docs last h. record {
         x.1,
         x.2,
         x.3,
-        bound_found (gives m) (gives x.0) docs c.args.bound c.args.cursor.now _ c.min-start.result c.args.end last c.ids_below-found.result c.min-start.ensures h x.4 refl refl (c.last_before-cursor.ensures ∙ c.saturating_sub.ensures) now r,
+        bound_found (gives m) (gives x.0) docs c.args.bound c.args.cursor.now _ c.min-start.result c.args.end last c.ids_below-found.result c.min-start.ensures h x.4 refl refl
+            (c.last_before-cursor.ensures ∙ c.saturating_sub.ensures) now r,
       );
 }

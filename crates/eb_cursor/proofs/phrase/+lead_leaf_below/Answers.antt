@@ -25,7 +25,8 @@ returns-then-lead-eq0-clause-found g t c = λ docs ts last h. record {
         x.1,
         x.2,
         x.3,
-        led_run_here (gives x.0) docs ts a.0 a.1 c.leaf_below.new.cursor c.in-Some.rest.now c.args.at c.args.end last c.leaf_below.result c.saturating_sub.result a.2 h w.0 c.saturating_sub.ensures w.1 rest,
+        led_run_here (gives x.0) docs ts a.0 a.1 c.leaf_below.new.cursor c.in-Some.rest.now c.args.at c.args.end
+            last c.leaf_below.result c.saturating_sub.result a.2 h w.0 c.saturating_sub.ensures w.1 rest,
       );
 }
 

@@ -16,12 +16,20 @@ loop-place-init g c = record {
 }
 
 pub leaves_below-found-requires-clause-small : goal.leaves_below-found-requires-clause-small
-leaves_below-found-requires-clause-small g c = omega (arith, c.room_below-room.ensures, top_le (has_room (length c.args.cursors.now)) c.loop-place.place, c.loop-place.invariant.falls, c.loop-place.auto.cursors)
+leaves_below-found-requires-clause-small g c =
+    omega (arith, c.room_below-room.ensures, top_le (has_room (length c.args.cursors.now)) c.loop-place.place, c.loop-place.invariant.falls, c.loop-place.auto.cursors)
 
 pub leaves_below-found-requires-clause-ready : goal.leaves_below-found-requires-clause-ready
 leaves_below-found-requires-clause-ready g c = let r = c.requires.ready in
-    let i = (c.loop-place.invariant.found r.1 r.2 r.3 r.5).told r.0 r.4 (leaves_of (gives r.0) r.1 r.2 c.args.cursors.now r.3 r.6) in
-    (i.0, r.1, r.2, c.loop-place.place, i.1, omega (arith, c.room_below-room.ensures, top_le (has_room (length c.args.cursors.now)) c.loop-place.place), leaves_at (gives i.0) r.1 r.2 c.loop-place.cursors c.loop-place.place i.4.1)
+    let i = (c.loop-place.invariant.found r.1 r.2 r.3 r.5).told r.0 r.4 (leaves_of (gives r.0) r.1 r.2 c.args.cursors.now r.3 r.6) in (
+      i.0,
+      r.1,
+      r.2,
+      c.loop-place.place,
+      i.1,
+      omega (arith, c.room_below-room.ensures, top_le (has_room (length c.args.cursors.now)) c.loop-place.place),
+      leaves_at (gives i.0) r.1 r.2 c.loop-place.cursors c.loop-place.place i.4.1,
+    )
 
 pub returns-then-found-place-clause-found : goal.returns-then-found-place-clause-found
 returns-then-found-place-clause-found g c = λ docs ts last h.
@@ -29,7 +37,8 @@ returns-then-found-place-clause-found g c = λ docs ts last h.
     told_on g.met.P.Port.lawful g.met.P.Port.keeps_on (c.loop-place.invariant.found docs ts last h) (c.leaves_below-found.ensures.found docs ts c.loop-place.place under)
     (λ l r. r) (λ l m w r i. leaves_at (gives m) docs ts c.loop-place.cursors c.loop-place.place i.1)
     (λ l m n w1 w2 r i run.
-    let v = start_round_of (gives m) (gives n) docs ts c.loop-place.cursors c.leaves_below-found.new.cursors (length c.args.cursors.now) c.loop-place.place c.room_below-room.result c.leaves_below-found.result c.loop-place.place (sym c.loop-place.auto.cursors) c.room_below-room.ensures i.1 run in
+    let v = start_round_of (gives m) (gives n) docs ts c.loop-place.cursors c.leaves_below-found.new.cursors
+    (length c.args.cursors.now) c.loop-place.place c.room_below-room.result c.leaves_below-found.result c.loop-place.place (sym c.loop-place.auto.cursors) c.room_below-room.ensures i.1 run in
     (sym (i.0 ∙ v.2 c.if-found-place.true), subst (λ y. AllLeaves (gives n) docs ts c.leaves_below-found.new.cursors y) c.if-found-place.true v.3))
 
 pub loop-place-smaller : goal.loop-place-smaller
@@ -38,7 +47,8 @@ loop-place-smaller g c =
     let under : c.room_below-room.result ≤ c.loop-place.place = omega (arith, c.room_below-room.ensures, top_le (has_room (length c.args.cursors.now)) c.loop-place.place) in
     let i = (c.loop-place.invariant.found r.1 r.2 r.3 r.5).told r.0 r.4 (leaves_of (gives r.0) r.1 r.2 c.args.cursors.now r.3 r.6) in
     let x = (c.leaves_below-found.ensures.found r.1 r.2 c.loop-place.place under).told i.0 i.1 (leaves_at (gives i.0) r.1 r.2 c.loop-place.cursors c.loop-place.place i.4.1) in
-    let w = start_round_of (gives i.0) (gives x.0) r.1 r.2 c.loop-place.cursors c.leaves_below-found.new.cursors (length c.args.cursors.now) c.loop-place.place c.room_below-room.result c.leaves_below-found.result c.loop-place.place (sym c.loop-place.auto.cursors) c.room_below-room.ensures i.4.1 x.4 in
+    let w = start_round_of (gives i.0) (gives x.0) r.1 r.2 c.loop-place.cursors c.leaves_below-found.new.cursors
+    (length c.args.cursors.now) c.loop-place.place c.room_below-room.result c.leaves_below-found.result c.loop-place.place (sym c.loop-place.auto.cursors) c.room_below-room.ensures i.4.1 x.4 in
     let le : c.leaves_below-found.result ≤ c.loop-place.place = w.0 in
     let ne : c.leaves_below-found.result ≢ c.loop-place.place = c.if-found-place.false in
     omega arith
@@ -55,6 +65,7 @@ loop-place-preserved g c =
       found = λ docs ts last h. told_on g.met.P.Port.lawful g.met.P.Port.keeps_on (c.loop-place.invariant.found docs ts last h) (c.leaves_below-found.ensures.found docs ts c.loop-place.place under)
           (λ l r. r) (λ l m w r i. leaves_at (gives m) docs ts c.loop-place.cursors c.loop-place.place i.1)
           (λ l m n w1 w2 r i run.
-          let v = start_round_of (gives m) (gives n) docs ts c.loop-place.cursors c.leaves_below-found.new.cursors (length c.args.cursors.now) c.loop-place.place c.room_below-room.result c.leaves_below-found.result c.loop-place.place (sym c.loop-place.auto.cursors) c.room_below-room.ensures i.1 run in
+          let v = start_round_of (gives m) (gives n) docs ts c.loop-place.cursors c.leaves_below-found.new.cursors (length c.args.cursors.now)
+          c.loop-place.place c.room_below-room.result c.leaves_below-found.result c.loop-place.place (sym c.loop-place.auto.cursors) c.room_below-room.ensures i.1 run in
           (i.0 ∙ v.1, v.3));
     }

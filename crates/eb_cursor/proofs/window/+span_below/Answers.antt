@@ -37,8 +37,14 @@ returns-then-behind-eq0-clause-found g t c = λ docs ts last h. record {
   told = λ m st r.
       let a = behind_asks (gives m) docs ts c.args.cursors.now c.in-Some.own.now c.in-Some.rest.now last c.in-Some.ensures.cases.0 r in
       let x = (c.span_below-behind.ensures.found docs a.1 last h).told m st a.4 in
-      let w : IsLater m x.0 = record { is = g.met.P.Port.lawful _ m st; later = x.2 } in
-      (x.0, x.1, x.2, x.3, span_none (gives m) (gives x.0) (gives_later m x.0 w) docs ts a.1 a.0 c.in-Some.own.now c.span_below-behind.new.cursors c.args.end last _ _ a.2 (omega (arith, c.span_below-behind.auto.cursors, some_of (length c.in-Some.rest.now) (sym c.is_empty.ensures ∙ c.if-is_empty.false))) h c.if-behind-eq0.true x.4 a.3);
+      let w : IsLater m x.0 = record { is = g.met.P.Port.lawful _ m st; later = x.2 } in (
+        x.0,
+        x.1,
+        x.2,
+        x.3,
+        span_none (gives m) (gives x.0) (gives_later m x.0 w) docs ts a.1 a.0 c.in-Some.own.now c.span_below-behind.new.cursors c.args.end last _ _ a.2
+            (omega (arith, c.span_below-behind.auto.cursors, some_of (length c.in-Some.rest.now) (sym c.is_empty.ensures ∙ c.if-is_empty.false))) h c.if-behind-eq0.true x.4 a.3,
+      );
 }
 
 pub leaf_below-first-requires : goal.leaf_below-first-requires
@@ -54,12 +60,14 @@ returns-clause-found g t c = λ docs ts last h. record {
       let a = behind_asks (gives m) docs ts c.args.cursors.now c.in-Some.own.now c.in-Some.rest.now last c.in-Some.ensures.cases.0 r in
       let x = (c.span_below-behind.ensures.found docs a.1 last h).told m st a.4 in
       let w : IsLater m x.0 = record { is = g.met.P.Port.lawful _ m st; later = x.2 } in
-      let y = (c.leaf_below-first.ensures.found (is_posting docs a.0)).told x.0 x.1 (front_asked (gives m) (gives x.0) (gives_later m x.0 w) docs a.1 a.0 c.in-Some.own.now c.args.end last _ h x.4.0 a.3) in
+      let y = (c.leaf_below-first.ensures.found (is_posting docs a.0)).told x.0 x.1
+      (front_asked (gives m) (gives x.0) (gives_later m x.0 w) docs a.1 a.0 c.in-Some.own.now c.args.end last _ h x.4.0 a.3) in
       let v : IsLater x.0 y.0 = record { is = g.met.P.Port.lawful _ x.0 x.1; later = y.2 } in (
         y.0,
         y.1,
         later_on m x.0 y.0 x.2 y.2,
         g.met.P.Port.keeps_on _ _ _ m x.0 y.0 x.3 y.3,
-        span_step (gives x.0) (gives y.0) (gives_later x.0 y.0 v) docs ts a.1 a.0 c.leaf_below-first.new.cursor c.span_below-behind.new.cursors c.args.end _ _ c.leaf_below-first.result a.2 (omega (arith, c.span_below-behind.auto.cursors, some_of (length c.in-Some.rest.now) (sym c.is_empty.ensures ∙ c.if-is_empty.false))) x.4 (y.4.0, y.4.1),
+        span_step (gives x.0) (gives y.0) (gives_later x.0 y.0 v) docs ts a.1 a.0 c.leaf_below-first.new.cursor c.span_below-behind.new.cursors c.args.end _ _ c.leaf_below-first.result a.2
+            (omega (arith, c.span_below-behind.auto.cursors, some_of (length c.in-Some.rest.now) (sym c.is_empty.ensures ∙ c.if-is_empty.false))) x.4 (y.4.0, y.4.1),
       );
 }

@@ -55,10 +55,12 @@ loop-place-preserved g c = let r = c.requires.ready in
     record {
       falls = omega (arith, falls, c.loop-place.invariant.falls);
       loads = omega (arith, c.span_below-span.ensures.loads, c.loop-place.invariant.loads);
-      found = λ docs ts last h. told_on g.met.P.Port.lawful g.met.P.Port.keeps_on (c.loop-place.invariant.found docs ts last h) (c.span_below-span.ensures.found docs ts c.loop-place.place (omega arith))
+      found =
+          λ docs ts last h. told_on g.met.P.Port.lawful g.met.P.Port.keeps_on (c.loop-place.invariant.found docs ts last h) (c.span_below-span.ensures.found docs ts c.loop-place.place (omega arith))
           (λ l r. r) (λ l m w r i. i.1)
           (λ l m n w1 w2 r i x.
-          let reached : c.end_of_reach-reached.result ≡ reach_end c.args.reach (first_below docs ts c.loop-place.place) = subst (λ (k : ℕ). c.end_of_reach-reached.result ≡ reach_end c.args.reach k) x.0 c.end_of_reach-reached.ensures in (
+          let reached : c.end_of_reach-reached.result ≡ reach_end c.args.reach (first_below docs ts c.loop-place.place) =
+          subst (λ (k : ℕ). c.end_of_reach-reached.result ≡ reach_end c.args.reach k) x.0 c.end_of_reach-reached.ensures in (
             i.0 ∙ window_falls docs ts c.args.reach c.loop-place.place c.end_of_reach-reached.result reached falls,
             behind_lower (gives n) docs ts c.span_below-span.new.cursors c.end_of_reach-reached.result c.loop-place.place falls x.2,
           ));

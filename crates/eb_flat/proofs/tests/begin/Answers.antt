@@ -12,8 +12,12 @@ use Rattle.eb_flat.proofs.tests.begin.Goals as goal
 pub store-requires : goal.store-requires
 store-requires g c =
     let r = c.requires in
-    let m = r.0 in
-    (m, r.1, next_at m c.args.document.now c.new.result c.first-place.result r.2 (g.met.P.Port.lawful c.args.pen.now m r.1) c.terms-terms.ensures.document (c.new.ensures ∙ c.config.ensures m r.1) c.first-place.ensures.place)
+    let m = r.0 in (
+      m,
+      r.1,
+      next_at m c.args.document.now c.new.result c.first-place.result r.2 (g.met.P.Port.lawful c.args.pen.now m r.1) c.terms-terms.ensures.document
+          (c.new.ensures ∙ c.config.ensures m r.1) c.first-place.ensures.place,
+    )
 
 pub load-requires : goal.load-requires
 load-requires g c =

@@ -14,6 +14,7 @@ loop-at-preserved g c =
     let within = c.in_ok-at.ensures.count.1 in
     let len = ap length rest in (
       omega (arith, within, len, length-drop c.loop-at.at bytes, c.loop-at-test.true),
-      c.in_ok-at.ensures.taken ∙ (ap (λ t. grown (g.K.Sink.taken c.loop-at.sink) (take n t)) rest ∙ (ap (λ t. grown t part) c.loop-at.invariant.1 ∙ (grown-grown _ _ part ∙ ap (grown _) (sym (take-add c.loop-at.at n bytes))))),
+      c.in_ok-at.ensures.taken ∙ (ap (λ t. grown (g.K.Sink.taken c.loop-at.sink) (take n t)) rest
+          ∙ (ap (λ t. grown t part) c.loop-at.invariant.1 ∙ (grown-grown _ _ part ∙ ap (grown _) (sym (take-add c.loop-at.at n bytes))))),
       le_trans c.loop-at.invariant.2 c.in_ok-at.ensures.later,
     )

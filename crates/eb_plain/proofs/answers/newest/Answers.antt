@@ -8,8 +8,10 @@ pub returns : goal.returns
 returns c =
     let walk = c.loop-place.invariant.walk in
     elim c.loop-place-test.branch [
-      | then-loop-place-test+else-len-k w ↦ walk_full (tree c.args.query.now) c.args.k c.args.documents.now c.loop-place.place c.loop-place.ids.items walk (omega (arith, walk.few, w.len.ensures, w.if-len-k.false, c.loop-place.ids.ok))
+      | then-loop-place-test+else-len-k w ↦
+          walk_full (tree c.args.query.now) c.args.k c.args.documents.now c.loop-place.place c.loop-place.ids.items walk (omega (arith, walk.few, w.len.ensures, w.if-len-k.false, c.loop-place.ids.ok))
       | else-loop-place-test w ↦
           let first : c.loop-place.place ≡ 0 = omega (arith, w.loop-place-test.false) in
-          walk_end (tree c.args.query.now) c.args.k c.args.documents.now c.loop-place.ids.items (subst (λ p. IsWalk (tree c.args.query.now) c.args.k c.args.documents.now p c.loop-place.ids.items) first walk)
+          walk_end (tree c.args.query.now) c.args.k c.args.documents.now c.loop-place.ids.items
+          (subst (λ p. IsWalk (tree c.args.query.now) c.args.k c.args.documents.now p c.loop-place.ids.items) first walk)
     ]

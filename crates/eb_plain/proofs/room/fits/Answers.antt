@@ -23,7 +23,8 @@ loop-earlier-preserved c =
     let own = c.in_ok-put_terms.ensures.document.limits in
     let more = limits_push c.loop-earlier.terms c.earlier-item.result.terms c.loop-earlier.earlier-index inv.few inv.short own.tokens own.bytes in
     record {
-      terms = put ∙ ap (λ ts. ts ++ c.earlier-item.result.terms) inv.terms ∙ sym (terms_next c.args.segment.now c.loop-earlier.earlier-index c.earlier-item.result c.loop-earlier-test.true c.earlier-item.is);
+      terms = put ∙ ap (λ ts. ts ++ c.earlier-item.result.terms) inv.terms
+          ∙ sym (terms_next c.args.segment.now c.loop-earlier.earlier-index c.earlier-item.result c.loop-earlier-test.true c.earlier-item.is);
       few = omega (arith, ap length put, more.0);
       short = omega (arith, ap (sum_by length) put, more.1);
     }
@@ -45,7 +46,8 @@ has_room_for-requires-clause-short c =
 pub returns : goal.returns
 returns c =
     let all = c.in_ok-put_terms-2.ensures.terms
-    ∙ ap (λ ts. ts ++ c.args.document.now.terms) (c.loop-earlier.invariant.terms ∙ terms_all c.args.segment.now c.loop-earlier.earlier-index c.loop-earlier.auto.earlier-index-end c.loop-earlier-test.false) in
+    ∙ ap (λ ts. ts ++ c.args.document.now.terms) (c.loop-earlier.invariant.terms
+    ∙ terms_all c.args.segment.now c.loop-earlier.earlier-index c.loop-earlier.auto.earlier-index-end c.loop-earlier-test.false) in
     let is = ap (holds_terms c.args.config.now) all ∙ sym (fits_is c.args.config.now c.args.segment.now c.args.document.now (omega (arith, c.docs.ensures, c.if-segment-docs.false))) in
     let P : Bool → Type 0 = λ b. IfOk c.has_room_for.result (λ answer. answer ≡ b) in
     subst P is c.has_room_for.ensures

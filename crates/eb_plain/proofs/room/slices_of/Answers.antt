@@ -23,4 +23,5 @@ unfolding all_slices
 returns c =
     let ts = c.args.terms.now in
     let f : List ℕ → ℕ = λ t. slices c.args.pool (count_of t ts) in
-    c.loop-term.invariant ∙ ap (sum_by f) (all_taken c.as_slice-term-items.result.now c.loop-term.term-index c.loop-term.auto.term-index-end c.loop-term-test.false ∙ c.as_slice-term-items.ensures ∙ c.requires.distinct)
+    c.loop-term.invariant
+    ∙ ap (sum_by f) (all_taken c.as_slice-term-items.result.now c.loop-term.term-index c.loop-term.auto.term-index-end c.loop-term-test.false ∙ c.as_slice-term-items.ensures ∙ c.requires.distinct)

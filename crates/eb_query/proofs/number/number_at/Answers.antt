@@ -2,7 +2,8 @@ use Rattle.std.proofs.Common.{◌≡◌, ◌+◌, ℕ, arith, ◌∙◌, sym, ap
 use Rattle.eb_query.specs.Number.{digits_len, is_blank_or_end}
 use Rattle.eb_query.proofs.Values.{digits_is, number_is, digits_within}
 use Rattle.eb_query.proofs.number.number_at.Goals as goal
-use Rattle.eb_query.proofs.number.number_at.Goals.{then-digits-eq0-via-then-digits-eq0, then-digits-eq0-via-else-digits-eq0+then-digits-gt4, then-value-eq0-via-then-value-eq0, then-value-eq0-via-else-value-eq0+then-value-gt-MAX_NUMBER}
+use Rattle.eb_query.proofs.number.number_at.Goals.{then-digits-eq0-via-then-digits-eq0, then-digits-eq0-via-else-digits-eq0+then-digits-gt4}
+use Rattle.eb_query.proofs.number.number_at.Goals.{then-value-eq0-via-then-value-eq0, then-value-eq0-via-else-value-eq0+then-value-gt-MAX_NUMBER}
 
 pub returns-then-digits-eq0-clause-none : goal.returns-then-digits-eq0-clause-none
 returns-then-digits-eq0-clause-none c = λ h.

@@ -10,7 +10,8 @@ use Rattle.eb_query.proofs.read.read_text.Goals as goal
 
 pub loop-at-preserved-then-is_blank_byte : goal.loop-at-preserved-then-is_blank_byte
 loop-at-preserved-then-is_blank_byte c =
-    let b : is_blank (get_or c.args.line.now c.loop-at.at 0) ≡ true = ap (λ (xs : List ℕ). is_blank (get_or xs c.loop-at.at 0)) (sym c.as_bytes.ensures.value) ∙ sym c.is_blank_byte.ensures ∙ c.if-is_blank_byte.true in
+    let b : is_blank (get_or c.args.line.now c.loop-at.at 0) ≡ true = ap (λ (xs : List ℕ). is_blank (get_or xs c.loop-at.at 0)) (sym c.as_bytes.ensures.value)
+    ∙ sym c.is_blank_byte.ensures ∙ c.if-is_blank_byte.true in
     record {
       told = ap (λ (ps : List Placed). outcome c.args.line.now ps (state_of c.loop-at.reader)) (sym (lexemes_blank c.args.line.now c.loop-at.at c.loop-at-test.true b)) ∙ c.loop-at.invariant.told;
       counted = c.loop-at.invariant.counted;
@@ -19,19 +20,22 @@ loop-at-preserved-then-is_blank_byte c =
 
 pub returns-in-Misplaced : goal.returns-in-Misplaced
 returns-in-Misplaced c =
-    let b : is_blank (get_or c.args.line.now c.loop-at.at 0) ≡ false = ap (λ (xs : List ℕ). is_blank (get_or xs c.loop-at.at 0)) (sym c.as_bytes.ensures.value) ∙ sym c.is_blank_byte.ensures ∙ c.if-is_blank_byte.false in
+    let b : is_blank (get_or c.args.line.now c.loop-at.at 0) ≡ false = ap (λ (xs : List ℕ). is_blank (get_or xs c.loop-at.at 0)) (sym c.as_bytes.ensures.value)
+    ∙ sym c.is_blank_byte.ensures ∙ c.if-is_blank_byte.false in
     let s = rw c.in-Misplaced.is at c.in_ok-read.ensures.steps in
     sym c.loop-at.invariant.told ∙ misplaced c.args.line.now c.loop-at.at (lexeme_of c.in_ok-found.found.lexeme) (state_of c.loop-at.reader) c.loop-at-test.true b c.in_ok-found.ensures.lexeme s
 
 pub returns-in-Deep : goal.returns-in-Deep
 returns-in-Deep c =
-    let b : is_blank (get_or c.args.line.now c.loop-at.at 0) ≡ false = ap (λ (xs : List ℕ). is_blank (get_or xs c.loop-at.at 0)) (sym c.as_bytes.ensures.value) ∙ sym c.is_blank_byte.ensures ∙ c.if-is_blank_byte.false in
+    let b : is_blank (get_or c.args.line.now c.loop-at.at 0) ≡ false = ap (λ (xs : List ℕ). is_blank (get_or xs c.loop-at.at 0)) (sym c.as_bytes.ensures.value)
+    ∙ sym c.is_blank_byte.ensures ∙ c.if-is_blank_byte.false in
     let s = rw c.in-Deep.is at c.in_ok-read.ensures.steps in
     sym c.loop-at.invariant.told ∙ deep c.args.line.now c.loop-at.at (lexeme_of c.in_ok-found.found.lexeme) (state_of c.loop-at.reader) s.0 c.loop-at-test.true b c.in_ok-found.ensures.lexeme s.1 s.2
 
 pub loop-at-preserved : goal.loop-at-preserved
 loop-at-preserved c =
-    let b : is_blank (get_or c.args.line.now c.loop-at.at 0) ≡ false = ap (λ (xs : List ℕ). is_blank (get_or xs c.loop-at.at 0)) (sym c.as_bytes.ensures.value) ∙ sym c.is_blank_byte.ensures ∙ c.if-is_blank_byte.false in
+    let b : is_blank (get_or c.args.line.now c.loop-at.at 0) ≡ false = ap (λ (xs : List ℕ). is_blank (get_or xs c.loop-at.at 0)) (sym c.as_bytes.ensures.value)
+    ∙ sym c.is_blank_byte.ensures ∙ c.if-is_blank_byte.false in
     let s = rw c.in-Stood.is at c.in_ok-read.ensures.steps in
     record {
       told = sym (stood c.args.line.now c.loop-at.at c.in_ok-found.found.end (lexeme_of c.in_ok-found.found.lexeme) (state_of c.loop-at.reader) (state_of c.read.new.self)

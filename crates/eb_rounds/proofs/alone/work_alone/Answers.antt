@@ -7,7 +7,8 @@ use Rattle.eb_rounds.proofs.alone.work_alone.Goals as goal
 
 pub returns-in-DocumentLine-clause-ok : goal.returns-in-DocumentLine-clause-ok
 returns-in-DocumentLine-clause-ok g c =
-    let W : Input → Type 0 = λ line. IfOk c.work_document_line.result (λ counts. WorksOff c.args.index.now.setting (alone c.args.number line) c.args.writer.now.docs c.work_document_line.new.writer.docs
+    let W : Input → Type 0 =
+    λ line. IfOk c.work_document_line.result (λ counts. WorksOff c.args.index.now.setting (alone c.args.number line) c.args.writer.now.docs c.work_document_line.new.writer.docs
     c.args.text.now.items c.work_document_line.new.text.items counts.documents counts.queries counts.refused) in
     subst W (sym c.in-DocumentLine.is) c.work_document_line.ensures.ok
 

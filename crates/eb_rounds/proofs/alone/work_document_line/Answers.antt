@@ -7,4 +7,5 @@ pub returns-clause-ok : goal.returns-clause-ok
 returns-clause-ok g c =
     let W : List ℕ → Type 0 = λ text. WorksOff c.args.index.now.setting (held_line c.args.number (document_line c.args.bytes.now)) c.args.writer.now.docs c.work_given-documents.new.writer.docs
     text c.work_given-documents.new.text.items c.work_given-documents.result.0 0 c.work_given-documents.result.1 in
-    subst W c.reserve.ensures.items (c.work_given-documents.ensures.off (record { number = c.args.number; input = document_line c.args.bytes.now }) (record { number = refl; reading = c.in_ok-work.ensures }))
+    subst W c.reserve.ensures.items
+    (c.work_given-documents.ensures.off (record { number = c.args.number; input = document_line c.args.bytes.now }) (record { number = refl; reading = c.in_ok-work.ensures }))

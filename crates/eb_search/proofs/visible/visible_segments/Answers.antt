@@ -46,7 +46,8 @@ returns-then-first-eq0-clause-words g c = λ docs same.
             later_on m x.0 y.0 x.2 y.2,
             g.met.P.Port.keeps_on _ _ _ m x.0 y.0 x.3 y.3,
             some_all y.0 docs c.loop-segment.firsts c.loop-segment.segment
-                (unseen_segment y.0 docs c.loop-segment.segment c.load-first.result (g.met.P.Port.lawful _ y.0 y.1) some.accepted inside (y.4 ∙ ap (word y.0) at) (subst (λ n. IsHidden n c.load-first.result) (sym same) hidden))
+                (unseen_segment y.0 docs c.loop-segment.segment c.load-first.result (g.met.P.Port.lawful _ y.0 y.1) some.accepted inside
+                (y.4 ∙ ap (word y.0) at) (subst (λ n. IsHidden n c.load-first.result) (sym same) hidden))
                 some,
           );
     }
@@ -69,7 +70,8 @@ loop-segment-preserved g c = record {
           y.1,
           later_on m x.0 y.0 x.2 y.2,
           g.met.P.Port.keeps_on _ _ _ m x.0 y.0 x.3 y.3,
-          some_more y.0 docs c.loop-segment.firsts c.loop-segment.segment c.load-first.result (omega (arith, c.loop-segment.invariant.long, inside, is.setting.segments.1)) here (visible_word y.0 docs c.loop-segment.segment c.load-first.result is some.accepted inside value here) some,
+          some_more y.0 docs c.loop-segment.firsts c.loop-segment.segment c.load-first.result (omega (arith, c.loop-segment.invariant.long, inside, is.setting.segments.1)) here
+              (visible_word y.0 docs c.loop-segment.segment c.load-first.result is some.accepted inside value here) some,
         );
   };
   loads = omega (arith, c.loop-segment.invariant.loads, c.load-first.ensures.step);
@@ -85,7 +87,8 @@ returns-clause-words g c = λ docs same. record {
         x.1,
         x.2,
         x.3,
-        some_all x.0 docs c.loop-segment.firsts c.loop-segment.segment (omega (arith, cut_short x.0 docs (g.met.P.Port.lawful _ x.0 x.1) x.4.accepted, c.loop-segment-test.false, c.segments.ensures, ap (λ (σ : Setting). σ.segments) setting)) x.4,
+        some_all x.0 docs c.loop-segment.firsts c.loop-segment.segment
+            (omega (arith, cut_short x.0 docs (g.met.P.Port.lawful _ x.0 x.1) x.4.accepted, c.loop-segment-test.false, c.segments.ensures, ap (λ (σ : Setting). σ.segments) setting)) x.4,
       );
 }
 

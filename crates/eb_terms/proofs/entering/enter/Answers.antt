@@ -124,7 +124,8 @@ returns g c m st tells h =
     let at = c.text_place.ensures.place ∙ ap (λ (σ : Setting). place σ (slot s text_place_region u.terms)) e in
     let p = c.store.ensures (with_placed n.0 d (text_words t)) o.0 (place_next n.0 d s t u c.text_place.result c.from.result k at c.from.ensures) in
     let cell = c.cell.ensures.place ∙ ap (λ (σ : Setting). place σ (slot s cell_region c.free_cell_alone-cell.result)) e in
-    let q = c.store-2.ensures (with_placed n.0 d (text_words t + 1)) (subst (λ z. g.P.Port.stands c.store.new.self z) (place_stored n.0 d s t u k) p.0) (cell_next n.0 d s t u c.free_cell_alone-cell.result c.cell.result (c.from-2.result + 1) k n.4 cell (ap (λ z. z + 1) c.from-2.ensures)) in
+    let q = c.store-2.ensures (with_placed n.0 d (text_words t + 1)) (subst (λ z. g.P.Port.stands c.store.new.self z) (place_stored n.0 d s t u k) p.0)
+    (cell_next n.0 d s t u c.free_cell_alone-cell.result c.cell.result (c.from-2.result + 1) k n.4 cell (ap (λ z. z + 1) c.from-2.ensures)) in
     let same = g.met.P.Port.keeps_same c.args.pen.now c.free_cell_alone-cell.new.port m n.0 n.3 in
     let same1 = g.met.P.Port.same_on c.args.pen.now c.free_cell_alone-cell.new.port c.store_text.new.pen same o.1 in
     let same2 = g.met.P.Port.same_on c.args.pen.now c.store_text.new.pen c.store.new.self same1 p.1 in (

@@ -80,7 +80,8 @@ loop-step-preserved g c = (
         o.1,
         later_on m k.0 o.0 k.2 later,
         g.met.P.Port.keeps_on c.args.port.now c.number_in.new.port c.is_term.new.port m n.0 o.0 (g.met.P.Port.keeps_on c.args.port.now c.loop-step.port c.number_in.new.port m k.0 n.0 k.3 n.3) o.3,
-        passed_more o.0 s t i c.in-Some.number (all_passed_later k.0 o.0 s t i later k.4) o.4 (cell_of_later n.0 o.0 s c.in-Some.number o.2 n.4.0 ∙ n.4.1 ∙ at ∙ sym (probe_later k.0 o.0 t i later)) (λ e. false≢true (o.5.1 e)),
+        passed_more o.0 s t i c.in-Some.number (all_passed_later k.0 o.0 s t i later k.4) o.4
+            (cell_of_later n.0 o.0 s c.in-Some.number o.2 n.4.0 ∙ n.4.1 ∙ at ∙ sym (probe_later k.0 o.0 t i later)) (λ e. false≢true (o.5.1 e)),
       )),
   (let r = c.requires in
       let s = c.args.segment in

@@ -20,10 +20,12 @@ pub returns-then-word_of_text-text_word : goal.returns-then-word_of_text-text_wo
 returns-then-word_of_text-text_word g c = record {
   told = λ m st inside low.
       (let k = c.loop-at.invariant.0 m st inside low in
-      let n = c.word_of_text.ensures.told k.0 c.args.number k.1 k.4 (at_low (term_at k.0 c.args.segment c.args.number) c.args.term.now c.loop-at.at (omega (arith, c.count_words-at-end.ensures.count, c.loop-at-test.true)) k.5) in
+      let n = c.word_of_text.ensures.told k.0 c.args.number k.1 k.4
+      (at_low (term_at k.0 c.args.segment c.args.number) c.args.term.now c.loop-at.at (omega (arith, c.count_words-at-end.ensures.count, c.loop-at-test.true)) k.5) in
       let same = same_term_later k.0 n.0 c.args.segment c.args.number n.2 k.4.number in
       let front = subst (λ t. AreSame (text_of t) (text_of c.args.term.now) c.loop-at.at) (sym same) k.5 in
-      let stop = compare_stops (term_at n.0 c.args.segment c.args.number) c.args.term.now c.loop-at.at (omega (arith, c.count_words-at-end.ensures.count, c.loop-at-test.true)) front (λ e. c.if-word_of_text-text_word.true (n.4 ∙ e ∙ sym c.text_word.ensures)) in (
+      let stop = compare_stops (term_at n.0 c.args.segment c.args.number) c.args.term.now c.loop-at.at
+      (omega (arith, c.count_words-at-end.ensures.count, c.loop-at-test.true)) front (λ e. c.if-word_of_text-text_word.true (n.4 ∙ e ∙ sym c.text_word.ensures)) in (
         n.0,
         n.1,
         later_on m k.0 n.0 k.2 n.2,
@@ -38,7 +40,8 @@ pub loop-at-preserved : goal.loop-at-preserved
 loop-at-preserved g c = (
   λ m st inside low.
       (let k = c.loop-at.invariant.0 m st inside low in
-      let n = c.word_of_text.ensures.told k.0 c.args.number k.1 k.4 (at_low (term_at k.0 c.args.segment c.args.number) c.args.term.now c.loop-at.at (omega (arith, c.count_words-at-end.ensures.count, c.loop-at-test.true)) k.5) in
+      let n = c.word_of_text.ensures.told k.0 c.args.number k.1 k.4
+      (at_low (term_at k.0 c.args.segment c.args.number) c.args.term.now c.loop-at.at (omega (arith, c.count_words-at-end.ensures.count, c.loop-at-test.true)) k.5) in
       let same = same_term_later k.0 n.0 c.args.segment c.args.number n.2 k.4.number in
       let front = subst (λ t. AreSame (text_of t) (text_of c.args.term.now) c.loop-at.at) (sym same) k.5 in (
         n.0,
@@ -57,6 +60,7 @@ returns g c = record {
       (let k = c.loop-at.invariant.0 m st inside low in
       let end : c.loop-at.at ≡ text_words c.args.term.now = omega (arith, c.count_words-at-end.ensures.count, c.loop-at-test.false, c.loop-at.auto.at-end) in
       let front = subst (λ i. AreSame (text_of (term_at k.0 c.args.segment c.args.number)) (text_of c.args.term.now) i) end k.5 in
-      let all = compare_ends (term_at k.0 c.args.segment c.args.number) c.args.term.now (entered_bytes k.0 c.args.segment c.args.number (g.met.P.Port.lawful c.loop-at.port k.0 k.1) k.4.number) c.count_words-at-end.ensures.bytes front in
+      let all = compare_ends (term_at k.0 c.args.segment c.args.number) c.args.term.now
+      (entered_bytes k.0 c.args.segment c.args.number (g.met.P.Port.lawful c.loop-at.port k.0 k.1) k.4.number) c.count_words-at-end.ensures.bytes front in
       (k.0, k.1, k.2, k.3, k.4.number, ((λ e. all.0), (λ e. refl)), omega (arith, c.loop-at.invariant.1, all.1, end)));
 }

@@ -20,7 +20,8 @@ overflow_cast-result g c =
     let n = c.load.ensures.told r.0 r.1 in
     let is = g.met.P.Port.lawful c.load.new.self n.0 n.1 in
     let s = c.args.segment in
-    let at : c.text_place.result ≡ place n.0.setting (slot s text_place_region c.args.number) = c.text_place.ensures.place ∙ ap (λ (σ : Setting). place σ (slot s text_place_region c.args.number)) (c.new-places.ensures ∙ c.config.ensures r.0 r.1 ∙ n.2.setting) in
+    let at : c.text_place.result ≡ place n.0.setting (slot s text_place_region c.args.number) = c.text_place.ensures.place
+    ∙ ap (λ (σ : Setting). place σ (slot s text_place_region c.args.number)) (c.new-places.ensures ∙ c.config.ensures r.0 r.1 ∙ n.2.setting) in
     let h = start_is n.0 s c.args.number c.load.result is (inside_later r.0 n.0 s n.2 r.2) (number_later r.0 n.0 s c.args.number n.2 r.3) (n.4 ∙ ap (word n.0) at) in
     omega (arith, start_small n.0 s c.args.number c.load.result is h)
 
@@ -29,5 +30,6 @@ returns-clause-told g c m st inside low =
     let n = c.load.ensures.told m st in
     let is = g.met.P.Port.lawful c.load.new.self n.0 n.1 in
     let s = c.args.segment in
-    let at : c.text_place.result ≡ place n.0.setting (slot s text_place_region c.args.number) = c.text_place.ensures.place ∙ ap (λ (σ : Setting). place σ (slot s text_place_region c.args.number)) (c.new-places.ensures ∙ c.config.ensures m st ∙ n.2.setting) in
+    let at : c.text_place.result ≡ place n.0.setting (slot s text_place_region c.args.number) = c.text_place.ensures.place
+    ∙ ap (λ (σ : Setting). place σ (slot s text_place_region c.args.number)) (c.new-places.ensures ∙ c.config.ensures m st ∙ n.2.setting) in
     (n.0, n.1, n.2, n.3, start_is n.0 s c.args.number c.load.result is (inside_later m n.0 s n.2 inside) (number_later m n.0 s c.args.number n.2 low) (n.4 ∙ ap (word n.0) at))

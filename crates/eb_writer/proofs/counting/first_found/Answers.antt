@@ -39,13 +39,15 @@ returns-in-Some g c m st idle inside =
     let there = known_later n.0 o.0 s t k o.2 h known in
     let l = later_on m n.0 o.0 n.2 o.2 in
     let at = c.tail-place.ensures.place ∙ ap (λ (σ : Setting). place σ (slot s tail_region k)) (c.new.ensures ∙ c.config.ensures n.0 n.1 ∙ o.2.setting) in
-    let tail = subst (IsTailWord (count_of t (tokens_in o.0 s))) (sym (o.4 ∙ ap (word o.0) at)) (tail_in o.0 s t k (g.met.P.Port.lawful _ o.0 o.1) (idle_same n.0 o.0 h idle_n) (inside_same n.0 o.0 s o.2 in_n) there) in
+    let tail = subst (IsTailWord (count_of t (tokens_in o.0 s))) (sym (o.4 ∙ ap (word o.0) at))
+    (tail_in o.0 s t k (g.met.P.Port.lawful _ o.0 o.1) (idle_same n.0 o.0 h idle_n) (inside_same n.0 o.0 s o.2 in_n) there) in
     let some = there.some in (
       o.0,
       o.1,
       l,
       g.met.P.Port.keeps_on _ _ _ m n.0 o.0 n.3 o.3,
-      subst (λ (z : List Term). IsFirst z t c.args.next record { number = k; tail = c.load.result; earlier = 0 }) (tokens_same m o.0 s l (h ∙ f)) (record { known = λ x. there.number; new = λ z. absurd (omega arith); tail = tail; earlier = refl }),
+      subst (λ (z : List Term). IsFirst z t c.args.next record { number = k; tail = c.load.result; earlier = 0 })
+          (tokens_same m o.0 s l (h ∙ f)) (record { known = λ x. there.number; new = λ z. absurd (omega arith); tail = tail; earlier = refl }),
     )
 
 pub returns-in-None : goal.returns-in-None

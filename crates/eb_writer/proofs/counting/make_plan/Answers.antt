@@ -43,8 +43,13 @@ found_at-token-requires-clause-ready g c =
     let r = c.requires.ready in
     let s = c.args.segment in
     let k = c.loop-at.invariant.0 r.0 r.1 r.2 in
-    let f = g.met.P.Pen.pen_keeps _ _ r.0 k.0 k.3 in
-    (k.0, k.1, idle_same r.0 k.0 f r.2.idle, inside_same r.0 k.0 s k.2 r.2.inside, subst (λ (z : List Term). AreFound z c.terms-terms.result.now c.loop-at.found c.loop-at.at) (sym (tokens_same r.0 k.0 s k.2 f)) k.4)
+    let f = g.met.P.Pen.pen_keeps _ _ r.0 k.0 k.3 in (
+      k.0,
+      k.1,
+      idle_same r.0 k.0 f r.2.idle,
+      inside_same r.0 k.0 s k.2 r.2.inside,
+      subst (λ (z : List Term). AreFound z c.terms-terms.result.now c.loop-at.found c.loop-at.at) (sym (tokens_same r.0 k.0 s k.2 f)) k.4,
+    )
 
 pub with_token-used-requires-clause-tail : goal.with_token-used-requires-clause-tail
 with_token-used-requires-clause-tail g c =
@@ -149,7 +154,8 @@ loop-at-preserved g c = (
       let u = c.with_token-used.ensures.used (count_of (term_at ts i) A) (A ++ take i ts) token.tail
       (omega (arith, token.earlier, count_of-append (term_at ts i) A (take i ts), ap (λ z. count_of z (A ++ take i ts)) at)) (token.number ∙ ap (λ z. number_of z (A ++ take i ts)) at) k.5 in
       let bytes = c.terms-terms.ensures.document.limits.bytes in
-      small_more c.loop-at.used c.with_token-used.result t (A ++ take i ts) i (omega (arith, bytes, ap (sum_by length) c.terms-terms.ensures.terms, token_short ts i t c.get.ensures)) k.5 u c.loop-at.invariant.2),
+      small_more c.loop-at.used c.with_token-used.result t (A ++ take i ts) i
+      (omega (arith, bytes, ap (sum_by length) c.terms-terms.ensures.terms, token_short ts i t c.get.ensures)) k.5 u c.loop-at.invariant.2),
   c.with_token-used.ensures.documents ∙ c.loop-at.invariant.3,
 )
 

@@ -8,5 +8,6 @@ use Rattle.eb_writer.proofs.counting.make_plan.Given as goal
 abbrev pub invariant-loop-at : goal.invariant-loop-at
 invariant-loop-at g l =
     ((m : Moment) → g.P.Port.stands l.fn.pen m → IsReady m l.segment l.fn.used
-    → (n : Moment) × g.P.Port.stands l.pen n × IsNotBefore n m × g.P.Port.keeps l.fn.pen m l.pen n × AreFound (tokens_in m l.segment) l.terms l.found l.at × IsUsedBy l.used (tokens_in m l.segment ++ take l.at l.terms))
+    → (n : Moment) × g.P.Port.stands l.pen n × IsNotBefore n m × g.P.Port.keeps l.fn.pen m l.pen n
+    × AreFound (tokens_in m l.segment) l.terms l.found l.at × IsUsedBy l.used (tokens_in m l.segment ++ take l.at l.terms))
     × Remembers l.recall l.terms l.at × IsSmall l.used l.at × (l.used.documents ≡ l.fn.used.documents)

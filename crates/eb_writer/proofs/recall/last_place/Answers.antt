@@ -44,4 +44,5 @@ loop-next-preserved c =
     (λ e. false≢true (sym c.if-eq.false ∙ c.eq.ensures ∙ (bytes_eq-Decides c.get.result.now c.get-term.result.now).1 (sym u ∙ sym e ∙ t))) l
 
 pub returns : goal.returns
-returns c = sought_none c.args.terms.now c.args.at (subst (λ k. IsSought c.args.terms.now c.args.at k) (let e : c.loop-next.next ≡ 0 = omega (arith, c.loop-next-test.false) in e) c.loop-next.invariant)
+returns c =
+    sought_none c.args.terms.now c.args.at (subst (λ k. IsSought c.args.terms.now c.args.at k) (let e : c.loop-next.next ≡ 0 = omega (arith, c.loop-next-test.false) in e) c.loop-next.invariant)

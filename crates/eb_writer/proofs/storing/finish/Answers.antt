@@ -22,7 +22,8 @@ id-place-requires-clause-document g c =
 pub store-requires : goal.store-requires
 store-requires g c =
     let r = c.requires in
-    let at = c.id-place.ensures.place ∙ ap (λ (σ : Setting). place σ (slot c.args.segment id_region c.args.number)) (c.new.ensures ∙ c.config.ensures r.0 r.1) ∙ ap (λ k. place r.0.setting (slot c.args.segment id_region k)) r.3 in
+    let at = c.id-place.ensures.place ∙ ap (λ (σ : Setting). place σ (slot c.args.segment id_region c.args.number)) (c.new.ensures ∙ c.config.ensures r.0 r.1)
+    ∙ ap (λ k. place r.0.setting (slot c.args.segment id_region k)) r.3 in
     (r.0, r.1, id_is r.0 c.args.document.now c.args.segment c.id-place.result c.id.result r.2 at c.id.ensures)
 
 pub overflow_add-count : goal.overflow_add-count
@@ -32,14 +33,16 @@ pub store-requires-2 : goal.store-requires-2
 store-requires-2 g c =
     let r = c.requires in
     let d = c.args.document.now in
-    let at = c.id-place.ensures.place ∙ ap (λ (σ : Setting). place σ (slot c.args.segment id_region c.args.number)) (c.new.ensures ∙ c.config.ensures r.0 r.1) ∙ ap (λ k. place r.0.setting (slot c.args.segment id_region k)) r.3 in
+    let at = c.id-place.ensures.place ∙ ap (λ (σ : Setting). place σ (slot c.args.segment id_region c.args.number)) (c.new.ensures ∙ c.config.ensures r.0 r.1)
+    ∙ ap (λ k. place r.0.setting (slot c.args.segment id_region k)) r.3 in
     let o = c.store.ensures r.0 r.1 (id_is r.0 d c.args.segment c.id-place.result c.id.result r.2 at c.id.ensures) in
     (after_store r.0 d, o.0, (last r.0 d c.args.segment (c.args.count + 1) r.2 (ap (λ k. k + 1) r.4)).next)
 
 pub returns : goal.returns
 returns g c m st h n k =
     let d = c.args.document.now in
-    let at = c.id-place.ensures.place ∙ ap (λ (σ : Setting). place σ (slot c.args.segment id_region c.args.number)) (c.new.ensures ∙ c.config.ensures m st) ∙ ap (λ z. place m.setting (slot c.args.segment id_region z)) n in
+    let at = c.id-place.ensures.place ∙ ap (λ (σ : Setting). place σ (slot c.args.segment id_region c.args.number)) (c.new.ensures ∙ c.config.ensures m st)
+    ∙ ap (λ z. place m.setting (slot c.args.segment id_region z)) n in
     let o = c.store.ensures m st (id_is m d c.args.segment c.id-place.result c.id.result h at c.id.ensures) in
     let l = last m d c.args.segment (c.args.count + 1) h (ap (λ z. z + 1) k) in
     let p = c.store-2.ensures (after_store m d) o.0 l.next in

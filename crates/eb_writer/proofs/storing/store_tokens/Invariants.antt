@@ -8,5 +8,6 @@ use Rattle.eb_writer.proofs.storing.store_tokens.Given as goal
 
 abbrev pub invariant-loop-at : goal.invariant-loop-at
 invariant-loop-at g l =
-    (m : Moment) → g.P.Port.stands l.fn.pen m → HasComeTo m l.document l.segment 0 → TellsSegment l.fn.used m l.segment → AreFound (terms_of (before_it m l.document)) l.document.terms l.found (length l.document.terms)
+    (m : Moment) → g.P.Port.stands l.fn.pen m → HasComeTo m l.document l.segment 0 → TellsSegment l.fn.used m l.segment
+    → AreFound (terms_of (before_it m l.document)) l.document.terms l.found (length l.document.terms)
     → (n : Moment) × g.P.Port.stands l.pen n × g.P.Port.same l.fn.pen l.pen × GoesOn m n × HasComeTo n l.document l.segment l.at × TellsSegment l.used n l.segment

@@ -19,4 +19,5 @@ returns-clause-loads g c = λ t is.
     let told = ap (λ (t : Token). t.docs) (sym (c.meet.ensures.this ∙ c.reader-reader.ensures.this ∙ sym c.reader-reader.ensures.reader)) in
     let front = subst (λ (docs : List Doc). IsPrefix docs c.search-count.new.self.docs) told c.search-count.ensures.known in
     let same = same_fronts _ _ c.meet.ensures.reader front in
-    subst (λ (x : List Doc × List Doc). IsBounded c.args.index.now.setting x.0 x.1 t (length (ids_of c.search-count.new.frame)) c.args.steps.now c.search-count.new.steps) (λ i. (told i, same i)) (c.search-count.ensures.loads t is)
+    subst (λ (x : List Doc × List Doc). IsBounded c.args.index.now.setting x.0 x.1 t (length (ids_of c.search-count.new.frame)) c.args.steps.now c.search-count.new.steps)
+    (λ i. (told i, same i)) (c.search-count.ensures.loads t is)

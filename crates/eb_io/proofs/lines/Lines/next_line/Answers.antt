@@ -3,7 +3,8 @@ use Rattle.std.proofs.lemmas.List.{take-append-drop}
 use Rattle.eb_io.specs.Source.{after}
 use Rattle.eb_io.specs.Held.{Held}
 use Rattle.eb_io.proofs.Bytes.{after-after}
-use Rattle.eb_io.proofs.Given.{lf_held, comes_first, reads_first, comes_joined, comes_all, comes_filled, reads_filled, none_held, has_given_so_far, lf_next, tells_whole, tells_last, has_all_lines, has_no_line}
+use Rattle.eb_io.proofs.Given.{lf_held, comes_first, reads_first, comes_joined, comes_all, comes_filled, reads_filled}
+use Rattle.eb_io.proofs.Given.{none_held, has_given_so_far, lf_next, tells_whole, tells_last, has_all_lines, has_no_line}
 use Rattle.eb_io.proofs.lines.Lines.next_line.Goals as goal
 
 pub pieces-init : goal.pieces-init
@@ -29,7 +30,8 @@ pub returns-then-has_part-clause-told : goal.returns-then-has_part-clause-told
 returns-then-has_part-clause-told g c = λ before given has.
     let inv = c.pieces.invariant in
     let joined = c.join-in-pieces.new.self in
-    let comes = comes_all c.args.self.now c.pieces.self joined inv.seen inv.before _ inv.comes c.rest_len-all.ensures c.in_default.ensures.place c.join-in-pieces.ensures.held c.join-in-pieces.ensures.part in
+    let comes =
+    comes_all c.args.self.now c.pieces.self joined inv.seen inv.before _ inv.comes c.rest_len-all.ensures c.in_default.ensures.place c.join-in-pieces.ensures.held c.join-in-pieces.ensures.part in
     let give = c.give-then-has_part in (
       inv.seen,
       inv.reads.left,
@@ -41,7 +43,8 @@ pub returns-else-has_part-clause-told : goal.returns-else-has_part-clause-told
 returns-else-has_part-clause-told g c = λ before given has.
     let inv = c.pieces.invariant in
     let joined = c.join-in-pieces.new.self in
-    let comes = comes_all c.args.self.now c.pieces.self joined inv.seen inv.before _ inv.comes c.rest_len-all.ensures c.in_default.ensures.place c.join-in-pieces.ensures.held c.join-in-pieces.ensures.part in
+    let comes =
+    comes_all c.args.self.now c.pieces.self joined inv.seen inv.before _ inv.comes c.rest_len-all.ensures c.in_default.ensures.place c.join-in-pieces.ensures.held c.join-in-pieces.ensures.part in
     let so_far = has_given_so_far _ _ before inv.seen _ given has comes.0 in
     let ended = sym c.is_ended.ensures.ended ∙ c.if-is_ended.true in (
       inv.seen,
@@ -57,7 +60,8 @@ pub returns-then-is_full-clause-told : goal.returns-then-is_full-clause-told
 returns-then-is_full-clause-told g c = λ before given has.
     let inv = c.pieces.invariant in
     let joined = c.join-in-pieces.new.self in
-    let comes = comes_all c.args.self.now c.pieces.self joined inv.seen inv.before _ inv.comes c.rest_len-all.ensures c.in_default.ensures.place c.join-in-pieces.ensures.held c.join-in-pieces.ensures.part in
+    let comes =
+    comes_all c.args.self.now c.pieces.self joined inv.seen inv.before _ inv.comes c.rest_len-all.ensures c.in_default.ensures.place c.join-in-pieces.ensures.held c.join-in-pieces.ensures.part in
     let so_far = has_given_so_far _ _ before inv.seen _ given has comes.0 in (
       inv.seen,
       inv.reads.left,

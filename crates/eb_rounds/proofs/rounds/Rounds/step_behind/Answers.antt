@@ -11,7 +11,8 @@ pub overflow_add-refused : goal.overflow_add-refused
 overflow_add-refused g c =
     let asked = c.in_ok-asked.asked.items in
     let given = c.in_ok-asked.given.items in
-    let r = same_round _ _ _ asked _ given _ c.args.text.now.items _ _ _ _ _ _ c.as_mut_slice.ensures.value c.as_slice.ensures.value c.in_ok-asked.ensures.text c.work_and_convert-documents.ensures.round in
+    let r = same_round _ _ _ asked _ given _ c.args.text.now.items _ _ _ _ _ _ c.as_mut_slice.ensures.value
+    c.as_slice.ensures.value c.in_ok-asked.ensures.text c.work_and_convert-documents.ensures.round in
     let few = round_few _ c.args.self.now.held _ _ _ _ _ _ _ _ _ _ c.in_ok-asked.ensures.read (each_asked asked) (each_given given) r in
     omega (arith, few, c.in_ok-asked.ensures.few)
 
@@ -19,7 +20,8 @@ pub close-requires : goal.close-requires
 close-requires g c =
     let asked = c.in_ok-asked.asked.items in
     let given = c.in_ok-asked.given.items in
-    let r = same_round _ _ _ asked _ given _ c.args.text.now.items _ _ _ _ _ _ c.as_mut_slice.ensures.value c.as_slice.ensures.value c.in_ok-asked.ensures.text c.work_and_convert-documents.ensures.round in
+    let r = same_round _ _ _ asked _ given _ c.args.text.now.items _ _ _ _ _ _ c.as_mut_slice.ensures.value
+    c.as_slice.ensures.value c.in_ok-asked.ensures.text c.work_and_convert-documents.ensures.round in
     round_few _ c.args.self.now.held _ _ _ _ _ _ _ _ _ _ c.in_ok-asked.ensures.read (each_asked asked) (each_given given) r
 
 pub returns-clause-ok : goal.returns-clause-ok
@@ -31,7 +33,8 @@ returns-clause-ok g c =
     let last = ap (λ (t : Token). t.docs) (sym c.reader-2.ensures.this) in
     let D : List Doc → List Doc → Type 0 = λ old new. IsRound σ old new (map asked_entry asked) (map given_entry given) c.args.text.now.items c.work_and_convert-documents.new.text.items
     c.work_and_convert-documents.result.1.0 c.work_and_convert-documents.result.0.0 c.work_and_convert-documents.result.1.1 c.work_and_convert-documents.result.0.1 in
-    let round = same_round _ _ _ asked _ given _ c.args.text.now.items _ _ _ _ _ _ c.as_mut_slice.ensures.value c.as_slice.ensures.value c.in_ok-asked.ensures.text c.work_and_convert-documents.ensures.round in
+    let round = same_round _ _ _ asked _ given _ c.args.text.now.items _ _ _ _ _ _ c.as_mut_slice.ensures.value
+    c.as_slice.ensures.value c.in_ok-asked.ensures.text c.work_and_convert-documents.ensures.round in
     let r = subst (D c.args.writer.now.docs) last (subst (λ old. D old c.work_and_convert-documents.new.writer.docs) first round) in
     let counts = ap (λ (s : Standing). s.counts) c.close.ensures in
     worked_off σ c.args.self.now.held c.args.writer.now.docs c.reader-2.new.self.docs c.args.self.now.counts c.close.new.self.counts _ _ _ _ _ _ _ _

@@ -21,7 +21,8 @@ begin_next-requires g c =
     let n = N.1 r.0 r.1 r.2 in
     let hn = stands_same _ r.0 n.0 n.4 n.5 r.2 in
     let h' = subst (λ z. Stands z n.0) (sym (c.self.view_is ∙ N.0)) hn in
-    let low : length (cut n.0.setting n.0.documents.accepted) < n.0.setting.segments = omega (arith, c.if-self-segments.false, c.segments.ensures, h'.segments, ap (λ (σ : Setting). σ.segments) h'.setting, segments_few n.0 (g.met.P.Port.lawful _ n.0 n.1)) in
+    let low : length (cut n.0.setting n.0.documents.accepted) < n.0.setting.segments =
+    omega (arith, c.if-self-segments.false, c.segments.ensures, h'.segments, ap (λ (σ : Setting). σ.segments) h'.setting, segments_few n.0 (g.met.P.Port.lawful _ n.0 n.1)) in
     (n.0, n.1, subst (λ z. Stands z n.0) (sym N.0) hn, full_same r.0 n.0 c.args.document.now n.4 n.5 n.3, low)
 
 pub returns-clause-ok : goal.returns-clause-ok
@@ -31,7 +32,8 @@ returns-clause-ok g c m st h =
     let n = N.1 m st h in
     let hn = stands_same _ m n.0 n.4 n.5 h in
     let h' = subst (λ z. Stands z n.0) (sym (c.self.view_is ∙ N.0)) hn in
-    let low : length (cut n.0.setting n.0.documents.accepted) < n.0.setting.segments = omega (arith, c.if-self-segments.false, c.segments.ensures, h'.segments, ap (λ (σ : Setting). σ.segments) h'.setting, segments_few n.0 (g.met.P.Port.lawful _ n.0 n.1)) in
+    let low : length (cut n.0.setting n.0.documents.accepted) < n.0.setting.segments =
+    omega (arith, c.if-self-segments.false, c.segments.ensures, h'.segments, ap (λ (σ : Setting). σ.segments) h'.setting, segments_few n.0 (g.met.P.Port.lawful _ n.0 n.1)) in
     let o = c.begin_next.ensures n.0 n.1 (subst (λ z. Stands z n.0) (sym N.0) hn) (full_same m n.0 d n.4 n.5 n.3) low in (
       o.0,
       o.1,
