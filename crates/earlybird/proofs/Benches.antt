@@ -1,5 +1,6 @@
 -- The figures of some lines, with one line more.
-use Rattle.std.proofs.Common.{◌≡◌, ℕ, suc, ◌+◌, ◌-◌, ◌*◌, ◌<◌, ◌≤◌, ◌^◌, List, [], ◌∷◌, ◌++◌, length, take, drop, Option, Some, inl, inr, map, filter, reverse, flat_map, refl, sym, ap, ap₂, subst, ◌∙◌, arith, append_assoc, append-nil, length-append}
+use Rattle.std.proofs.Common.{◌≡◌, ℕ, suc, ◌+◌, ◌-◌, ◌*◌, ◌<◌, ◌≤◌, ◌^◌, List, [], ◌∷◌, ◌++◌, length, take, drop, Option, Some, inl, inr}
+use Rattle.std.proofs.Common.{map, filter, reverse, flat_map, refl, sym, ap, ap₂, subst, ◌∙◌, arith, append_assoc, append-nil, length-append}
 use Rattle.std.specs.Prelude.{sum}
 use Rattle.std.proofs.lemmas.List.{take-append-drop, length-map, length-take, length-reverse}
 use Rattle.std.proofs.lemmas.List.Sums.{length-filter, sum_by-append, count_by-le-length}
@@ -32,7 +33,8 @@ answers-push : (docs : List Doc) (rs : List Reading) (r : Reading) → answers_f
 unfolding answers_from accepted
 answers-push docs [] r = append-nil (answer_in docs r) ∙ ap (λ ds. answer_in ds r) (sym (append-nil docs))
 answers-push docs (s ∷ rs) r =
-    ap (λ xs. answer_in docs s ++ xs) (answers-push (docs ++ documents_in s) rs r ∙ ap (λ ds. answers_from (docs ++ documents_in s) rs ++ answer_in ds r) (append_assoc docs (documents_in s) (accepted rs)))
+    ap (λ xs. answer_in docs s ++ xs) (answers-push (docs ++ documents_in s) rs r
+    ∙ ap (λ ds. answers_from (docs ++ documents_in s) rs ++ answer_in ds r) (append_assoc docs (documents_in s) (accepted rs)))
     ∙ sym (append_assoc (answer_in docs s) (answers_from (docs ++ documents_in s) rs) (answer_in (docs ++ (documents_in s ++ accepted rs)) r))
 
 all_answers-push : (rs : List Reading) (r : Reading) → all_answers (rs ++ r ∷ []) ≡ all_answers rs ++ answer_in (accepted rs) r
@@ -176,7 +178,8 @@ figures_told status.ReadFault start count old new before f sink = absurd f.2
 figures_told status.TooLong start count old new before f sink = absurd f.2
 figures_told status.BadImage start count old new before f sink = absurd f.2
 
-pub figures_mean : (ending : Status) (start count : ℕ) (printed_old printed_new : Option (List ℕ)) → PrintsFigures ending (lines_of (made start count)) printed_old printed_new → MeansBench ending start count
+pub figures_mean : (ending : Status) (start count : ℕ) (printed_old printed_new : Option (List ℕ))
+    → PrintsFigures ending (lines_of (made start count)) printed_old printed_new → MeansBench ending start count
 figures_mean status.Done start count old new f = (f.0, f.1, f.2.0)
 figures_mean status.Refused start count old new f = (f.0, f.1, f.2.0)
 figures_mean status.WriteFault start count old new f = tt

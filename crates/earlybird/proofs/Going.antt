@@ -1,5 +1,6 @@
 -- From one round to the next.
-use Rattle.std.proofs.Common.{◌≡◌, ℕ, zero, suc, ◌+◌, ◌<◌, ◌≤◌, Bool, true, false, List, [], ◌∷◌, ◌++◌, length, take, map, count_by, refl, sym, ap, ap₂, subst, ◌∙◌, arith, append_assoc, append-nil, length-append, le_trans, zero-add}
+use Rattle.std.proofs.Common.{◌≡◌, ℕ, zero, suc, ◌+◌, ◌<◌, ◌≤◌, Bool, true, false, List, [], ◌∷◌, ◌++◌, length, take, map, count_by}
+use Rattle.std.proofs.Common.{refl, sym, ap, ap₂, subst, ◌∙◌, arith, append_assoc, append-nil, length-append, le_trans, zero-add}
 use Rattle.std.specs.List.{AllZip}
 use Rattle.std.proofs.lemmas.List.{take-append-le}
 use Rattle.std.proofs.lemmas.List.Sums.{sum_by-append}
@@ -130,10 +131,12 @@ failed_entries k (query j q ∷ rs) = sum_by-append (λ x. one_if (fails x)) (re
 failed_entries k (refused y ∷ rs) = sum_by-append (λ x. one_if (fails x)) (record { number = k + 1; reading = refused y } ∷ []) (entries_from (k + 1) rs)
     ∙ ap (λ n. 1 + n) (failed_entries (k + 1) rs) ∙ sym (sum_by-append (λ x. one_if (is_refused x)) (refused y ∷ []) rs)
 
-counts_append : (rs ss : List Reading) (c d : Counted) → c ≡ counts_of rs → d.documents ≡ c.documents + length (accepted ss) → d.queries ≡ c.queries + queries ss → d.refused ≡ c.refused + refusals ss → d ≡ counts_of (rs ++ ss)
+counts_append : (rs ss : List Reading) (c d : Counted) → c ≡ counts_of rs → d.documents ≡ c.documents + length (accepted ss)
+    → d.queries ≡ c.queries + queries ss → d.refused ≡ c.refused + refusals ss → d ≡ counts_of (rs ++ ss)
 unfolding queries refusals
 counts_append rs ss c d e f g h =
-    let docs : d.documents ≡ length (accepted (rs ++ ss)) = f ∙ ap (λ (x : Counted). x.documents + length (accepted ss)) e ∙ sym (ap length (accepted-append rs ss) ∙ length-append (accepted rs) (accepted ss)) in
+    let docs : d.documents ≡ length (accepted (rs ++ ss)) = f ∙ ap (λ (x : Counted). x.documents + length (accepted ss)) e
+    ∙ sym (ap length (accepted-append rs ss) ∙ length-append (accepted rs) (accepted ss)) in
     let qs : d.queries ≡ queries (rs ++ ss) = g ∙ ap (λ (x : Counted). x.queries + queries ss) e ∙ sym (sum_by-append (λ x. one_if (is_query x)) rs ss) in
     let fs : d.refused ≡ refusals (rs ++ ss) = h ∙ ap (λ (x : Counted). x.refused + refusals ss) e ∙ sym (sum_by-append (λ x. one_if (is_refused x)) rs ss) in
     ap₂ (λ x y. record { documents = x; queries = y; refused = d.refused }) docs qs ∙ ap (λ z. record { documents = length (accepted (rs ++ ss)); queries = queries (rs ++ ss); refused = z }) fs

@@ -66,7 +66,8 @@ reads_free long_line r e h = rw h refl
 documents_cons : (number : ℕ) (o : Option HeldInput) (hs : List HeldLine) → documents_held (before_held number o hs) ≡ one_if (gives_document o) + documents_held hs
 unfolding documents_held
 documents_cons number None hs = sym (zero-add _)
-documents_cons number (Some i) hs = sum_by-append (λ (x : HeldLine). one_if (is_document_input x.input)) (record { number = number; input = i } ∷ []) hs ∙ ap (λ n. n + documents_held hs) (zero-add (one_if (is_document_input i)))
+documents_cons number (Some i) hs =
+    sum_by-append (λ (x : HeldLine). one_if (is_document_input x.input)) (record { number = number; input = i } ∷ []) hs ∙ ap (λ n. n + documents_held hs) (zero-add (one_if (is_document_input i)))
 
 none_given : (b : Bool) (n : ℕ) → one_if b + n ≡ 0 → (b ≡ false) × (n ≡ 0)
 none_given true n e = absurd (omega (arith, e))

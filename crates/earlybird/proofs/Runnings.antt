@@ -53,7 +53,8 @@ stays r text = λ σ overlap given so_far h. ([], subst (HasRun r σ overlap giv
 pub running_on : (old new : Running) (t0 t1 : List ℕ) → IsRunning old → WorksOn old new t0 t1 → IsRunning new
 running_on old new t0 t1 r w = let a = w r.0 r.1 r.2 r.3 r.4 in (r.0, r.1, r.2, r.3 ++ a.0, a.1)
 
-pub goes_quiet : (old new : Running) (l : Line) → ((σ : Setting) (overlap : Bool) (given : List Line) (so_far : List ℕ) → HasRun old σ overlap given so_far → HasRun new σ overlap (given ++ l ∷ []) so_far)
+pub goes_quiet : (old new : Running) (l : Line)
+    → ((σ : Setting) (overlap : Bool) (given : List Line) (so_far : List ℕ) → HasRun old σ overlap given so_far → HasRun new σ overlap (given ++ l ∷ []) so_far)
     → (text : List ℕ) → GoesOn old new text text l
 goes_quiet old new l f text = λ σ overlap given so_far h. ([], subst (HasRun new σ overlap (given ++ l ∷ [])) (sym (append-nil so_far)) (f σ overlap given so_far h), sym (append-nil text))
 
@@ -66,7 +67,8 @@ goes_after old mid new t0 t1 t2 l w g = λ σ overlap given so_far h.
     let b = g σ overlap given (so_far ++ a.0) a.1 in
     (a.0 ++ b.0, subst (HasRun new σ overlap (given ++ l ∷ [])) (append_assoc so_far a.0 b.0) b.1, b.2 ∙ ap (λ t. t ++ b.0) a.2 ∙ append_assoc t0 a.0 b.0)
 
-module _ (old new : Running) (σ : Setting) (overlap : Bool) (given : List Line) (so_far : List ℕ) (h : HasRun old σ overlap given so_far) (mode : new.overlap ≡ old.overlap) (index : new.index ≡ old.index)
+module _ (old new : Running) (σ : Setting) (overlap : Bool) (given : List Line) (so_far : List ℕ)
+    (h : HasRun old σ overlap given so_far) (mode : new.overlap ≡ old.overlap) (index : new.index ≡ old.index)
     (writer : new.writer.index ≡ old.writer.index) (converter : new.converter.index ≡ old.converter.index) where
   setting_is : old.index.setting ≡ σ
   setting_is = ap (λ (x : Words). x.setting) h.index ∙ h.setting
@@ -156,7 +158,8 @@ module _ (old new : Running) (σ : Setting) (overlap : Bool) (given : List Line)
       converter = converter ∙ h.converter;
       mode = mode ∙ h.mode;
       number = number_is;
-      worked = subst (λ ds. HasWorked σ overlap (given ++ l ∷ []) ds new.rounds so_far) (sym docs) (one_more σ overlap given l old.writer.docs old.rounds new.rounds so_far h.worked round lines counts greatest);
+      worked = subst (λ ds. HasWorked σ overlap (given ++ l ∷ []) ds new.rounds so_far) (sym docs)
+          (one_more σ overlap given l old.writer.docs old.rounds new.rounds so_far h.worked round lines counts greatest);
       order = order;
     }
 

@@ -1,5 +1,6 @@
 -- A run, from one line to the next, and how it ends.
-use Rattle.std.proofs.Common.{◌≡◌, ℕ, zero, suc, ◌+◌, ◌<◌, ◌≤◌, ◌⊎◌, inl, inr, Bool, true, false, List, [], ◌∷◌, ◌++◌, length, take, drop, Option, Some, None, refl, sym, ap, ap₂, subst, ◌∙◌, arith, append_assoc, append-nil, length-append}
+use Rattle.std.proofs.Common.{◌≡◌, ℕ, zero, suc, ◌+◌, ◌<◌, ◌≤◌, ◌⊎◌, inl, inr, Bool, true, false, List, [], ◌∷◌, ◌++◌, length, take}
+use Rattle.std.proofs.Common.{drop, Option, Some, None, refl, sym, ap, ap₂, subst, ◌∙◌, arith, append_assoc, append-nil, length-append}
 use Rattle.std.specs.Prelude.{◌==◌, Result, Ok, Err, OnOk, OnErr}
 use Rattle.std.proofs.lemmas.List.{take-append-drop, length-map}
 use Rattle.std.proofs.lemmas.Bool.{cases_Bool}
@@ -85,7 +86,8 @@ worked_none σ overlap held e =
     let s = subst (λ c. HasSettled σ overlap [] [] c []) (sym (ap (λ (h : Standing). h.counts) e)) (settled_none σ overlap) in
     of_settled σ overlap [] [] held [] s (ap (λ (h : Standing). h.held) e) (omega (arith, ap (λ (h : Standing). h.greatest) e))
 
-pub at_start : (σ : Setting) (overlap : Bool) (left printed : Option (List ℕ)) (h : Held) (run : Running) (text : List ℕ) → HasGiven [] [] h → h.limit ≡ longest_input → h.taken ≡ 0 → h.is_ended ≡ false
+pub at_start : (σ : Setting) (overlap : Bool) (left printed : Option (List ℕ)) (h : Held) (run : Running) (text : List ℕ)
+    → HasGiven [] [] h → h.limit ≡ longest_input → h.taken ≡ 0 → h.is_ended ≡ false
     → HasRun run σ overlap [] [] → text ≡ [] → IsAt σ overlap left left printed printed h run text
 at_start σ overlap left printed h run text g limit none open_end works empty = record {
   taken = [];
@@ -218,10 +220,12 @@ module _ (σ : Setting) (overlap : Bool) (l0 l1 p0 p1 : Option (List ℕ)) (h : 
     parts = a.parts ∙ ap (λ t. a.written ++ t) split ∙ sym (append_assoc a.written front t);
   }
 
-pub stop_on : (σ : Setting) (overlap : Bool) (l0 l1 p0 p1 : Option (List ℕ)) (h : Held) (run new : Running) (text t : List ℕ) → IsAt σ overlap l0 l1 p0 p1 h run text → WorksOn run new text t → MayStop σ overlap l0 l1 p0 p1 t
+pub stop_on : (σ : Setting) (overlap : Bool) (l0 l1 p0 p1 : Option (List ℕ)) (h : Held) (run new : Running) (text t : List ℕ)
+    → IsAt σ overlap l0 l1 p0 p1 h run text → WorksOn run new text t → MayStop σ overlap l0 l1 p0 p1 t
 stop_on σ overlap l0 l1 p0 p1 h run new text t a on = may_stop σ overlap l0 l1 p0 p1 h new t (at_on σ overlap l0 l1 p0 p1 h run text a new t on)
 
-module _ (σ : Setting) (overlap : Bool) (l0 l1 l2 p0 p1 : Option (List ℕ)) (h g : Held) (run : Running) (text : List ℕ) (a : IsAt σ overlap l0 l1 p0 p1 h run text) (seen : List ℕ) (left : l1 ≡ after seen l2)
+module _ (σ : Setting) (overlap : Bool) (l0 l1 l2 p0 p1 : Option (List ℕ)) (h g : Held) (run : Running) (text : List ℕ)
+    (a : IsAt σ overlap l0 l1 p0 p1 h run text) (seen : List ℕ) (left : l1 ≡ after seen l2)
     (ended : g.is_ended ≡ true → (h.is_ended ≡ true) ⊎ IsEmpty l2) (same : h.is_ended ≡ true → l2 ≡ l1) (limit : g.limit ≡ h.limit) (within : g.taken ≤ g.limit) where
   left_all : l0 ≡ after (a.taken ++ seen) l2
   left_all = a.left ∙ ap (after a.taken) left ∙ after-after a.taken seen l2
@@ -362,7 +366,8 @@ module _ (σ : Setting) (overlap : Bool) (l0 l1 p0 p1 p2 : Option (List ℕ)) (h
 
   -- ---- the end of the input
 
-  module _ (s : IsAtEnd σ overlap l0 l1 p0 p1 h run text) (documents answers refused : ℕ) (d : documents ≡ new.rounds.counts.documents) (q : answers ≡ new.rounds.counts.queries) (r : refused ≡ new.rounds.counts.refused)
+  module _ (s : IsAtEnd σ overlap l0 l1 p0 p1 h run text)
+      (documents answers refused : ℕ) (d : documents ≡ new.rounds.counts.documents) (q : answers ≡ new.rounds.counts.queries) (r : refused ≡ new.rounds.counts.refused)
       (stats : Bool) (begun converted : ℕ) (b : begun ≡ length (cut new.index.setting new.writer.docs)) (k : converted ≡ converted_of (length (cut new.index.setting new.writer.docs)))
       (whole : List ℕ) (summed : whole ≡ t ++ (summary_of documents answers refused ++ stats_line stats begun converted)) where
     abbrev rs : List Reading
@@ -481,7 +486,8 @@ all_told bytes taken rest l1 still all empty =
     let none : rest ≡ [] = subst E still empty in
     (still ∙ ap Some none, sym (append-nil taken) ∙ ap (λ r. taken ++ r) (sym none) ∙ all)
 
-wrote : (σ : Setting) (overlap stats : Bool) (status : Status) (bytes taken rest printed : List ℕ) (l1 : Option (List ℕ)) → l1 ≡ Some rest → taken ++ rest ≡ bytes → EndsAs σ overlap stats status taken l1 printed
+wrote : (σ : Setting) (overlap stats : Bool) (status : Status) (bytes taken rest printed : List ℕ) (l1 : Option (List ℕ))
+    → l1 ≡ Some rest → taken ++ rest ≡ bytes → EndsAs σ overlap stats status taken l1 printed
     → Wrote σ overlap stats status bytes l1 printed
 wrote σ overlap stats Done bytes taken rest printed l1 still all e =
     let whole = all_told bytes taken rest l1 still all e.0 in
@@ -496,7 +502,8 @@ wrote σ overlap stats NoMemory bytes taken rest printed l1 still all e = part_t
 wrote σ overlap stats Usage bytes taken rest printed l1 still all e = absurd e
 wrote σ overlap stats BadImage bytes taken rest printed l1 still all e = absurd e
 
-pub ends_told : (σ : Setting) (overlap stats : Bool) (status : Status) (l0 l1 p0 p1 : Option (List ℕ)) (bytes before : List ℕ) → Ends σ overlap stats status l0 l1 p0 p1 → l0 ≡ Some bytes → p0 ≡ Some before
+pub ends_told : (σ : Setting) (overlap stats : Bool) (status : Status) (l0 l1 p0 p1 : Option (List ℕ)) (bytes before : List ℕ)
+    → Ends σ overlap stats status l0 l1 p0 p1 → l0 ≡ Some bytes → p0 ≡ Some before
     → (printed : List ℕ) × (p1 ≡ Some (before ++ printed)) × Wrote σ overlap stats status bytes l1 printed
 ends_told σ overlap stats status l0 l1 p0 p1 bytes before e source sink =
     let d = drop_told bytes e.taken l1 (sym e.left ∙ source) in
@@ -519,7 +526,8 @@ meant σ overlap stats NoMemory bytes taken rest printed l1 still all e = (taken
 meant σ overlap stats Usage bytes taken rest printed l1 still all e = absurd e
 meant σ overlap stats BadImage bytes taken rest printed l1 still all e = absurd e
 
-pub ends_mean : (σ : Setting) (overlap stats : Bool) (status : Status) (l0 l1 p0 p1 : Option (List ℕ)) (bytes : List ℕ) → Ends σ overlap stats status l0 l1 p0 p1 → l0 ≡ Some bytes → Means σ status bytes l1
+pub ends_mean : (σ : Setting) (overlap stats : Bool) (status : Status) (l0 l1 p0 p1 : Option (List ℕ)) (bytes : List ℕ)
+    → Ends σ overlap stats status l0 l1 p0 p1 → l0 ≡ Some bytes → Means σ status bytes l1
 ends_mean σ overlap stats status l0 l1 p0 p1 bytes e source =
     let d = drop_told bytes e.taken l1 (sym e.left ∙ source) in
     meant σ overlap stats status bytes e.taken d.0 e.printed l1 d.1 d.2 e.ends

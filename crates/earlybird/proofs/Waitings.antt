@@ -1,5 +1,6 @@
 -- A round of waiting lines is worked off.
-use Rattle.std.proofs.Common.{◌≡◌, ℕ, zero, suc, ◌+◌, ◌≤◌, Bool, true, false, List, [], ◌∷◌, ◌++◌, map, Option, Some, None, Ok, Err, refl, sym, ap, ap₂, subst, ◌∙◌, arith, append-nil, le_refl, le_trans}
+use Rattle.std.proofs.Common.{◌≡◌, ℕ, zero, suc, ◌+◌, ◌≤◌, Bool, true, false, List, [], ◌∷◌, ◌++◌, map, Option, Some}
+use Rattle.std.proofs.Common.{None, Ok, Err, refl, sym, ap, ap₂, subst, ◌∙◌, arith, append-nil, le_refl, le_trans}
 use Rattle.std.specs.Prelude.{Result}
 use Rattle.std.specs.List.{AllZip}
 use Rattle.eb_base.specs.Document.{Doc}
@@ -139,7 +140,8 @@ seen_same number n m docs (document d) h = refl
 seen_same number n m docs (query k q) h = ap (λ x. output_of number x docs (query k q)) (sym (h refl))
 seen_same number n m docs (refused x) h = refl
 
-one_text : (s : Shown) (number : ℕ) (r : Reading) (m : ℕ) (docs : List Doc) → s.line ≡ record { number = number; reading = r } → (is_query r ≡ true → m ≡ s.seen) → output_in docs s ≡ output_of number m docs r
+one_text : (s : Shown) (number : ℕ) (r : Reading) (m : ℕ) (docs : List Doc) → s.line ≡ record { number = number; reading = r }
+    → (is_query r ≡ true → m ≡ s.seen) → output_in docs s ≡ output_of number m docs r
 one_text s number r m docs e h = ap (λ (x : Entry). output_of x.number s.seen docs x.reading) e ∙ seen_same number s.seen m docs r h
 
 further : (rs : List Reading) (ss : List Shown) (r : Reading) (k : ℕ) (n f : ℕ → ℕ) → ((i : ℕ) → IsAsked (r ∷ rs) i → n (k + i) ≡ f i) → (i : ℕ) → IsAsked rs i → n (k + 1 + i) ≡ f (suc i)
@@ -207,7 +209,8 @@ bounds k low high (refused x ∷ rs) (s ∷ ss) e h (suc i) a =
     let rest : map line_of ss ≡ entries_from (k + 1) rs = cc e in
     let b = bounds (k + 1) (least_after low s) high rs ss rest h.1 i a in (le_trans h.0 b.0, b.1)
 
-order : (k low high : ℕ) (rs : List Reading) (ss : List Shown) → map line_of ss ≡ entries_from k rs → Rises low ss high → (i j : ℕ) → i ≤ j → IsAsked rs i → IsAsked rs j → seen_in rs ss i ≤ seen_in rs ss j
+order : (k low high : ℕ) (rs : List Reading) (ss : List Shown) → map line_of ss ≡ entries_from k rs
+    → Rises low ss high → (i j : ℕ) → i ≤ j → IsAsked rs i → IsAsked rs j → seen_in rs ss i ≤ seen_in rs ss j
 order k low high [] ss e h i j le a b = absurd (cc a)
 order k low high (r ∷ rs) ss e h zero zero le a b = le_refl _
 order k low high (r ∷ rs) ss e h (suc i) zero le a b = absurd (omega (arith, le))

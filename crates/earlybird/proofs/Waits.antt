@@ -36,7 +36,8 @@ none_round : AreRound []
 none_round [] h = tt
 none_round (r ∷ rs) h = absurd h
 
-pub of_settled : (σ : Setting) (overlap : Bool) (given : List Line) (docs : List Doc) (held : Standing) (so_far : List ℕ) → HasSettled σ overlap given docs held.counts so_far → held.held ≡ [] → held.greatest ≤ length given
+pub of_settled : (σ : Setting) (overlap : Bool) (given : List Line) (docs : List Doc) (held : Standing) (so_far : List ℕ)
+    → HasSettled σ overlap given docs held.counts so_far → held.held ≡ [] → held.greatest ≤ length given
     → HasWorked σ overlap given docs held so_far
 of_settled σ overlap given docs held so_far s none le = record {
   done = given;
@@ -71,10 +72,11 @@ settled σ overlap given docs held so_far a none =
 
 held_push : (k : ℕ) (ls : List Line) (l : Line) → held_from k (ls ++ l ∷ []) ≡ held_from k ls ++ before_held (k + length ls + 1) (held_as l) []
 held_push k [] l = ap (λ n. before_held (n + 1) (held_as l) []) (let same : k ≡ k + 0 = omega arith in same)
-held_push k (x ∷ ls) l = one _ (held_from (k + 1) ls) (before_held (k + suc (length ls) + 1) (held_as l) []) (held_as x) (held_push (k + 1) ls l ∙ ap (λ n. held_from (k + 1) ls ++ before_held (n + 1) (held_as l) []) (let same : k + 1 + length ls ≡ k + suc (length ls) = omega arith in same)) where
-  one : (hs gs more : List HeldLine) (o : Option HeldInput) → hs ≡ gs ++ more → before_held (k + 1) o hs ≡ before_held (k + 1) o gs ++ more
-  one hs gs more None e = e
-  one hs gs more (Some i) e = ap (λ l. record { number = k + 1; input = i } ∷ l) e
+held_push k (x ∷ ls) l = one _ (held_from (k + 1) ls) (before_held (k + suc (length ls) + 1) (held_as l) []) (held_as x) (held_push (k + 1) ls l
+    ∙ ap (λ n. held_from (k + 1) ls ++ before_held (n + 1) (held_as l) []) (let same : k + 1 + length ls ≡ k + suc (length ls) = omega arith in same)) where
+      one : (hs gs more : List HeldLine) (o : Option HeldInput) → hs ≡ gs ++ more → before_held (k + 1) o hs ≡ before_held (k + 1) o gs ++ more
+      one hs gs more None e = e
+      one hs gs more (Some i) e = ap (λ l. record { number = k + 1; input = i } ∷ l) e
 
 zip_split : {A B : Type 0} (R : A → B → Type 0) (xs : List A) (x : A) (ys : List B) → AllZip R (xs ++ x ∷ []) ys → (zs : List B) × (y : B) × (ys ≡ zs ++ y ∷ []) × AllZip R xs zs × R x y
 zip_split R [] x [] h = absurd h

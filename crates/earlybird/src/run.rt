@@ -1,4 +1,5 @@
-ghost use Rattle.std.specs.Prelude.{◌≡◌, ◌⊎◌, ◌+◌, ◌<◌, ◌≤◌, ◌++◌, Bool, List, [], ℕ, Option, None, Some, length, map, string_bytes, take, ⊤, MatchResult, OnErr, OnOk};
+ghost use Rattle.std.specs.Prelude.{◌≡◌, ◌⊎◌, ◌+◌, ◌<◌, ◌≤◌, ◌++◌, Bool, List, [], ℕ, Option, None};
+ghost use Rattle.std.specs.Prelude.{Some, length, map, string_bytes, take, ⊤, MatchResult, OnErr, OnOk};
 ghost use Rattle.eb_io.specs.Faults.{HasRisen};
 ghost use Rattle.eb_io.specs.Held.{Held};
 ghost use Rattle.eb_io.specs.Sink.{grown};
@@ -69,13 +70,15 @@ where
         → (bytes before : List ℕ) → S.left source.old ≡ Some bytes → K.taken out.old ≡ Some before
         → (printed : List ℕ) × (K.taken out.new ≡ Some (before ++ printed)) × Wrote σ overlap stats result bytes (S.left source.new) printed }
     // What the status says of the input holds whatever becomes of the output.
-    ensures means { (overlap stats : Bool) (σ : Setting) → AsksRun (map string_bytes words.now.items) overlap stats σ → (bytes : List ℕ) → S.left source.old ≡ Some bytes
+    ensures means { (overlap stats : Bool) (σ : Setting) → AsksRun (map string_bytes words.now.items) overlap stats σ
+        → (bytes : List ℕ) → S.left source.old ≡ Some bytes
         → Means σ result bytes (S.left source.new) }
     // Where they ask to run with workers, `out` took a text in which each query sees at least the documents before its line.
     ensures workers { (n : ℕ) (stats : Bool) (σ : Setting) → AsksWorkers (map string_bytes words.now.items) n stats σ
         → (bytes before : List ℕ) → S.left source.old ≡ Some bytes → K.taken out.old ≡ Some before
         → (printed : List ℕ) × (K.taken out.new ≡ Some (before ++ printed)) × WroteWorkers (asked σ stats) result bytes (S.left source.new) printed }
-    ensures workers_means { (n : ℕ) (stats : Bool) (σ : Setting) → AsksWorkers (map string_bytes words.now.items) n stats σ → (bytes : List ℕ) → S.left source.old ≡ Some bytes
+    ensures workers_means { (n : ℕ) (stats : Bool) (σ : Setting)
+        → AsksWorkers (map string_bytes words.now.items) n stats σ → (bytes : List ℕ) → S.left source.old ≡ Some bytes
         → MeansWorkers (asked σ stats) result bytes (S.left source.new) }
     ensures workers_complete { (n : ℕ) (stats : Bool) (σ : Setting) → AsksWorkers (map string_bytes words.now.items) n stats σ
         → (HasRisen (S.faults source.old) (S.faults source.new) → ⊥) → (HasRisen (K.faults out.old) (K.faults out.new) → ⊥)
@@ -85,7 +88,8 @@ where
         → (bytes before : List ℕ) → S.left source.old ≡ Some bytes → K.taken out.old ≡ Some before
         → (printed : List ℕ) × (K.taken out.new ≡ Some (before ++ printed))
         × WroteInParts (record { parts = n; setting = σ; stats = stats }) result bytes (S.left source.new) printed }
-    ensures parts_mean { (n : ℕ) (stats : Bool) (σ : Setting) → AsksParts (map string_bytes words.now.items) n stats σ → (bytes : List ℕ) → S.left source.old ≡ Some bytes
+    ensures parts_mean { (n : ℕ) (stats : Bool) (σ : Setting)
+        → AsksParts (map string_bytes words.now.items) n stats σ → (bytes : List ℕ) → S.left source.old ≡ Some bytes
         → MeansInParts (record { parts = n; setting = σ; stats = stats }) result bytes (S.left source.new) }
     ensures parts_complete { (n : ℕ) (stats : Bool) (σ : Setting) → AsksParts (map string_bytes words.now.items) n stats σ
         → (HasRisen (S.faults source.old) (S.faults source.new) → ⊥) → (HasRisen (K.faults out.old) (K.faults out.new) → ⊥)
@@ -117,7 +121,8 @@ where
         → (σ : Setting) (docs : List Doc) (rest : List ℕ) → IsSetting σ → IsLawful σ docs → S.left source.old ≡ Some (image_of σ docs ++ rest)
         → MeansLoaded (record { setting = σ; documents = docs; stats = stats }) result rest (S.left source.new) }
     ensures bad_image { (stats : Bool) → AsksLoad (map string_bytes words.now.items) stats → result ≡ Status.BadImage
-        → (K.taken out.new ≡ K.taken out.old) × ((taken : List ℕ) × (S.left source.old ≡ after taken (S.left source.new)) × IsBad IsImage taken (S.left source.new)) }
+        → (K.taken out.new ≡ K.taken out.old)
+        × ((taken : List ℕ) × (S.left source.old ≡ after taken (S.left source.new)) × IsBad IsImage taken (S.left source.new)) }
     ensures loaded_completes { (stats : Bool) → AsksLoad (map string_bytes words.now.items) stats
         → (HasRisen (S.faults source.old) (S.faults source.new) → ⊥) → (HasRisen (K.faults out.old) (K.faults out.new) → ⊥)
         → (σ : Setting) (docs : List Doc) (rest : List ℕ) → IsSetting σ → IsLawful σ docs → S.left source.old ≡ Some (image_of σ docs ++ rest)
@@ -163,7 +168,8 @@ fn run_words<R: Threads + Wait + Sync, S: Source, K: Sink, G: Gate + Sync>(
     ensures loaded { (stats : Bool) → AsksLoad (map string_bytes words.now.items) stats
         → EndsLoad stats result (S.left source.old) (S.left source.new) (K.taken out.old) (K.taken out.new) }
     ensures saved { (σ : Setting) → AsksSave (map string_bytes words.now.items) σ
-        → passing.Ends (AreParts σ) (IsSaved σ) (HasUnsaved σ) (HasNoUnsaved σ) result (S.left source.old) (S.left source.new) (K.taken out.old) (K.taken out.new) }
+        → passing.Ends (AreParts σ) (IsSaved σ) (HasUnsaved σ) (HasNoUnsaved σ) result
+        (S.left source.old) (S.left source.new) (K.taken out.old) (K.taken out.new) }
     ensures read_fault { result ≡ Status.ReadFault → HasRisen (S.faults source.old) (S.faults source.new) }
     ensures write_fault { result ≡ Status.WriteFault → HasRisen (K.faults out.old) (K.faults out.new) }
 {

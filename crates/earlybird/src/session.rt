@@ -83,8 +83,10 @@ impl Session {
     // Adds a document to the index, where there is room.
     fn add<G: Gate>(&mut self, document: &Document, gate: &G) -> Outcome
         requires { (σ : Setting) × (p : Progress) × HasCome self.old σ p × (p.lines + 1 < 2 ^ 64) }
-        ensures session { (σ : Setting) (p : Progress) → HasCome self.old σ p → HasCome self.new σ (with_line p (admit σ p.documents (reads_document document.now))) }
-        ensures outcome { (σ : Setting) (p : Progress) → HasCome self.old σ p → IsOutcome p.documents (admit σ p.documents (reads_document document.now)) result }
+        ensures session { (σ : Setting) (p : Progress) → HasCome self.old σ p
+            → HasCome self.new σ (with_line p (admit σ p.documents (reads_document document.now))) }
+        ensures outcome { (σ : Setting) (p : Progress) → HasCome self.old σ p
+            → IsOutcome p.documents (admit σ p.documents (reads_document document.now)) result }
     {
         if self.place(document, gate) {
             self.pass()

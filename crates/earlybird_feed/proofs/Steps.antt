@@ -60,7 +60,8 @@ feeding_of f a given so_far h = (a.setting, a.keep, h.readings, h.fed)
 
 -- the summary behind what the lines print
 pub finishes : {P : Type 0} (p : P) (has_run : P → Asked → List Line → List ℕ → Type 0) (f : Feeding) (a : Asked) (given : List Line) (so_far : List ℕ) (h : HasRun f a given so_far) (d q x k : ℕ)
-    → d ≡ length (accepted h.readings) → q ≡ queries h.readings → x ≡ refusals h.readings → k ≡ length (kept a.setting a.keep (accepted h.readings)) → (t whole : List ℕ) → whole ≡ t ++ summary_of d q x k
+    → d ≡ length (accepted h.readings) → q ≡ queries h.readings → x ≡ refusals h.readings
+    → k ≡ length (kept a.setting a.keep (accepted h.readings)) → (t whole : List ℕ) → whole ≡ t ++ summary_of d q x k
     → Finishes has_run (λ b. IsTextOf b.setting b.keep) (λ b. HasRefusal) (λ b. HasNoRefusal) p t whole x a given so_far
 finishes p has_run f a given so_far h d q x k de qe xe ke t whole e =
     let sum : summary_of d q x k ≡ summary a.setting a.keep h.readings =

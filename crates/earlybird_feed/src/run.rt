@@ -95,7 +95,8 @@ fn run_lines<S: Source, K: Sink, G: Gate>(
     gate: &G,
 ) -> Status
     requires { (2 ≤ keep) × (keep ≤ 64) }
-    ensures ends { Ends (IsBodyOf config keep) (IsTextOf config keep) HasRefusal HasNoRefusal result (S.left source.old) (S.left source.new) (K.taken out.old) (K.taken out.new) }
+    ensures ends { Ends (IsBodyOf config keep) (IsTextOf config keep) HasRefusal HasNoRefusal result
+        (S.left source.old) (S.left source.new) (K.taken out.old) (K.taken out.new) }
     ensures read_fault { result ≡ Status.ReadFault → HasRisen (S.faults source.old) (S.faults source.new) }
     ensures write_fault { result ≡ Status.WriteFault → HasRisen (K.faults out.old) (K.faults out.new) }
 {

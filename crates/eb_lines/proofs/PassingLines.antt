@@ -1,5 +1,6 @@
 -- A program over lines, from one line to the next, and how it ends.
-use Rattle.std.proofs.Common.{◌≡◌, ℕ, zero, suc, ◌+◌, ◌<◌, ◌≤◌, ◌⊎◌, inl, inr, true, false, List, [], ◌∷◌, ◌++◌, length, take, drop, Option, Some, None, refl, sym, ap, ap₂, subst, ◌∙◌, arith, append_assoc, append-nil, length-append}
+use Rattle.std.proofs.Common.{◌≡◌, ℕ, zero, suc, ◌+◌, ◌<◌, ◌≤◌, ◌⊎◌, inl, inr, true, false, List, [], ◌∷◌, ◌++◌, length, take, drop}
+use Rattle.std.proofs.Common.{Option, Some, None, refl, sym, ap, ap₂, subst, ◌∙◌, arith, append_assoc, append-nil, length-append}
 use Rattle.std.specs.Prelude.{◌==◌, Result, Ok, Err, OnOk, OnErr}
 use Rattle.std.proofs.lemmas.List.{take-append-drop, length-map}
 use Rattle.std.proofs.lemmas.Bool.{cases_Bool}
@@ -99,7 +100,8 @@ module _ (prints ends_with : List Line → List ℕ → Type 0) (refuses accepts
   }
 
 -- no memory for the first line
-pub ends_at_once : (prints ends_with : List Line → List ℕ → Type 0) (refuses accepts : List Line → Type 0) (first : ComesFirst prints ends_with) (left printed : Option (List ℕ)) (text : List ℕ) → prints [] text
+pub ends_at_once : (prints ends_with : List Line → List ℕ → Type 0) (refuses accepts : List Line
+    → Type 0) (first : ComesFirst prints ends_with) (left printed : Option (List ℕ)) (text : List ℕ) → prints [] text
     → Ends prints ends_with refuses accepts NoMemory left left printed printed
 ends_at_once prints ends_with refuses accepts first left printed text none =
     let m : MayStop prints left left printed printed [] = record {
@@ -330,7 +332,8 @@ running_on has_run old new t0 t1 r f = let w = f r.0 r.1 r.2 r.3 in (r.0, r.1, r
 -- ---- the last lines are worked off
 
 module _ {P A : Type 0} (has_run : P → A → List Line → List ℕ → Type 0) (prints ends_with : A → List Line → List ℕ → Type 0) (refuses accepts : A → List Line → Type 0) (a : A)
-    (l0 l1 p0 p1 p2 : Option (List ℕ)) (h : Held) (run new : P) (text t : List ℕ) (on : WorksOn has_run run new text t) (all : (a : A) (given : List Line) (so_far : List ℕ) → has_run new a given so_far → prints a given so_far) where
+    (l0 l1 p0 p1 p2 : Option (List ℕ)) (h : Held) (run new : P) (text t : List ℕ) (on : WorksOn has_run run new text t)
+    (all : (a : A) (given : List Line) (so_far : List ℕ) → has_run new a given so_far → prints a given so_far) where
   module _ (at : IsAt has_run a l0 l1 p0 p1 h run text) where
     abbrev goes : (printed : List ℕ) × has_run new a at.given (at.so_far ++ printed) × (t ≡ text ++ printed)
     goes = on a at.given at.so_far at.works
@@ -388,7 +391,8 @@ module _ {P A : Type 0} (has_run : P → A → List Line → List ℕ → Type 0
     empty : IsEmpty l1
     empty = s.0.ended s.1.ended
 
-    pub ends_closed : (status : Status) → (0 < refused → status ≡ Refused) → (refused ≡ 0 → status ≡ Done) → p2 ≡ grown p1 whole → Ends (prints a) (ends_with a) (refuses a) (accepts a) status l0 l1 p0 p2
+    pub ends_closed : (status : Status) → (0 < refused → status ≡ Refused) → (refused ≡ 0 → status ≡ Done)
+        → p2 ≡ grown p1 whole → Ends (prints a) (ends_with a) (refuses a) (accepts a) status l0 l1 p0 p2
     ends_closed status some none e = step refused refl
       where
         step : (n : ℕ) → refused ≡ n → Ends (prints a) (ends_with a) (refuses a) (accepts a) status l0 l1 p0 p2

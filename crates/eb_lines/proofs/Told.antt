@@ -75,7 +75,8 @@ module _ (prints ends_with : List Line → List ℕ → Type 0) (refuses accepts
         meant status bytes e.taken d.0 e.printed l1 d.1 d.2 e.ends
 
   -- a program ends in time
-  pub completes : (status : Status) (l0 l1 p0 p1 : Option (List ℕ)) (read_rose write_rose : Type 0) (bytes : List ℕ) → Ends prints ends_with refuses accepts status l0 l1 p0 p1 → (status ≡ ReadFault → read_rose) → (status ≡ WriteFault → write_rose)
+  pub completes : (status : Status) (l0 l1 p0 p1 : Option (List ℕ)) (read_rose write_rose : Type 0) (bytes : List ℕ)
+      → Ends prints ends_with refuses accepts status l0 l1 p0 p1 → (status ≡ ReadFault → read_rose) → (status ≡ WriteFault → write_rose)
       → (read_rose → ⊥) → (write_rose → ⊥) → l0 ≡ Some bytes → length bytes < longest_input → IsWorkedOff status
   completes Done l0 l1 p0 p1 read_rose write_rose bytes e f g no_read no_write source short = inl refl
   completes Refused l0 l1 p0 p1 read_rose write_rose bytes e f g no_read no_write source short = inr (inl refl)

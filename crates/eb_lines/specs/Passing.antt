@@ -16,7 +16,8 @@ AreFirst lines taken left = (rest : List ℕ) → left ≡ Some rest → (more :
 
 -- between two lines: the lines given are those of the bytes taken, and what those that are worked off print is written or
 -- gathered
-pub record IsAt {P A : Type 0} (has_run : P → A → List Line → List ℕ → Type 0) (a : A) (left_old left_new printed_old printed_new : Option (List ℕ)) (held : Held) (run : P) (gathered : List ℕ) : Type 0 where
+pub record IsAt {P A : Type 0} (has_run : P → A → List Line → List ℕ → Type 0)
+    (a : A) (left_old left_new printed_old printed_new : Option (List ℕ)) (held : Held) (run : P) (gathered : List ℕ) : Type 0 where
   pub taken : List ℕ
   pub given : List Line
   pub so_far : List ℕ

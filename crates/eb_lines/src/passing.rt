@@ -106,7 +106,8 @@ fn stop<P: LineProgram, K: Sink>(
     status: Status,
 ) -> Status
     requires { (held : Held) × (l1 : Option (List ℕ)) × IsSomewhere P.has_run l1 (K.taken out.old) held program.old text.old.items }
-    ensures ends { (a : P.Asked) (l0 l1 p0 : Option (List ℕ)) (held : Held) → IsStopped P.has_run status a l0 l1 p0 (K.taken out.old) held program.old text.old.items
+    ensures ends { (a : P.Asked) (l0 l1 p0 : Option (List ℕ)) (held : Held)
+        → IsStopped P.has_run status a l0 l1 p0 (K.taken out.old) held program.old text.old.items
         → Ends (P.prints a) (P.ends_with a) (P.refuses a) (P.accepts a) result l0 l1 p0 (K.taken out.new) }
     ensures read { (status ≡ Status.ReadFault → ⊥) → result ≡ Status.ReadFault → ⊥ }
     ensures write_fault { (status ≡ Status.WriteFault → ⊥) → result ≡ Status.WriteFault → HasRisen (K.faults out.old) (K.faults out.new) }

@@ -79,7 +79,8 @@ all_but_one (suc m) l f g = elim (cases_lt (suc m + 1) l) [
   | inr le ↦ let more = g m (omega arith) in omega (arith, le, more)
 ]
 
-by_numbers : (σ : Setting) (ns : List ℕ) (hs : List (List Doc)) → length ns ≡ length hs → ((p : ℕ) → p < length hs → get_or ns p 0 ≡ length (cut σ (history hs p)) - 1) → ns ≡ map converted_of (begun σ hs)
+by_numbers : (σ : Setting) (ns : List ℕ) (hs : List (List Doc)) → length ns ≡ length hs
+    → ((p : ℕ) → p < length hs → get_or ns p 0 ≡ length (cut σ (history hs p)) - 1) → ns ≡ map converted_of (begun σ hs)
 by_numbers σ [] [] e f = refl
 by_numbers σ [] (h ∷ hs) e f = absurd (omega (arith, e))
 by_numbers σ (n ∷ ns) [] e f = absurd (omega (arith, e))

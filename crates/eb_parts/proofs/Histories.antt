@@ -1,5 +1,6 @@
 -- The parts of a history, with one document more.
-use Rattle.std.proofs.Common.{◌≡◌, ℕ, zero, suc, ◌+◌, ◌-◌, ◌%◌, ◌<◌, ◌≤◌, inl, inr, Bool, true, false, List, [], ◌∷◌, ◌++◌, length, map, get_or, set, Some, refl, ap, ap₂, sym, ◌∙◌, subst, arith, length-append, zero-add}
+use Rattle.std.proofs.Common.{◌≡◌, ℕ, zero, suc, ◌+◌, ◌-◌, ◌%◌, ◌<◌, ◌≤◌, inl, inr, Bool, true, false, List, [], ◌∷◌, ◌++◌}
+use Rattle.std.proofs.Common.{length, map, get_or, set, Some, refl, ap, ap₂, sym, ◌∙◌, subst, arith, length-append, zero-add}
 use Rattle.std.specs.Prelude.{min, ◌^◌, nat_lt, ◌||◌}
 use Rattle.std.specs.List.{All, range_with_len}
 use Rattle.std.proofs.lemmas.Bool.{ltb-true}
@@ -104,7 +105,8 @@ or_first : (a b : Bool) → (a || b) ≡ true → b ≡ false → a ≡ true
 or_first true b r e = refl
 or_first false b r e = sym e ∙ r
 
-grows_short : (σ : Setting) (segs : List (List Doc)) (d : Doc) → σ.segments ≤ 64 → length segs ≤ 64 → (nat_lt (length segs) σ.segments || fits σ (last_of segs) d) ≡ true → length (with_doc σ segs d) ≤ 64
+grows_short : (σ : Setting) (segs : List (List Doc)) (d : Doc) → σ.segments ≤ 64 → length segs ≤ 64
+    → (nat_lt (length segs) σ.segments || fits σ (last_of segs) d) ≡ true → length (with_doc σ segs d) ≤ 64
 grows_short σ [] d few short room = omega arith
 grows_short σ (s ∷ segs) d few short room = elim (with_doc_last σ s segs d) [
   | inl w ↦ omega (arith, w.1, short)
@@ -126,6 +128,7 @@ pub counts_push : (parts : ℕ) (docs : List Doc) (d : Doc) → 1 ≤ parts → 
 counts_push parts docs d some e =
     let long = cut_length parts docs in
     let more = counted_more (cut_into parts docs) d (min (length docs) (2 ^ 64 - 1)) (omega (arith, some, long)) (sym e) in
-    let here : counted (lengths_of (cut_into parts (docs ++ d ∷ []))) ≡ counted (lengths_of (with_document (cut_into parts docs) d)) = ap (λ hs. counted (lengths_of hs)) (histories_push parts docs d some) in
+    let here : counted (lengths_of (cut_into parts (docs ++ d ∷ []))) ≡ counted (lengths_of (with_document (cut_into parts docs) d)) =
+    ap (λ hs. counted (lengths_of hs)) (histories_push parts docs d some) in
     let grown : length (docs ++ d ∷ []) ≡ length docs + 1 = length-append docs (d ∷ []) in
     omega (arith, more, here, grown)

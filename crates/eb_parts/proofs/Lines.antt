@@ -32,7 +32,8 @@ use Rattle.eb_parts.proofs.Admissions.{queries-push, refusals-push, read_none, r
 -- a line that came to this was taken
 one_more : (old new : LineRun) (a : Asked) (given : List Line) (so_far printed : List ℕ) (l : Line) (r s : Reading) (h : HasTaken old a given so_far) → Reads l r
     → s ≡ admit_in_parts a.parts a.setting (accepted h.readings) r → Holds new.store a.parts a.setting (accepted h.readings ++ documents_in s)
-    → new.parts ≡ old.parts → new.stats ≡ old.stats → new.number ≡ old.number + 1 → old.number ≤ 2 ^ 40 → new.queries ≡ old.queries + one_if (is_query s) → new.refused ≡ old.refused + one_if (is_refused s)
+    → new.parts ≡ old.parts → new.stats ≡ old.stats → new.number ≡ old.number + 1 → old.number ≤ 2 ^ 40
+    → new.queries ≡ old.queries + one_if (is_query s) → new.refused ≡ old.refused + one_if (is_refused s)
     → printed ≡ output_of new.number (length (accepted h.readings)) (accepted h.readings) s → HasTaken new a (given ++ l ∷ []) (so_far ++ printed)
 one_more old new a given so_far printed l r s h reads is store parts stats number few asked failed shown =
     let rs = h.readings in
@@ -85,8 +86,10 @@ taken_none s a store parts stats number asked failed = record {
 }
 
 -- a line that changes no part
-pub takes_quiet : (old new : LineRun) (r : Reading) (t0 t1 printed : List ℕ) → ((parts : ℕ) (σ : Setting) (docs : List Doc) → admit_in_parts parts σ docs r ≡ r) → documents_in r ≡ [] → new.store ≡ old.store
-    → new.parts ≡ old.parts → new.stats ≡ old.stats → new.number ≡ old.number + 1 → old.number ≤ 2 ^ 40 → new.queries ≡ old.queries + one_if (is_query r) → new.refused ≡ old.refused + one_if (is_refused r)
+pub takes_quiet : (old new : LineRun) (r : Reading) (t0 t1 printed : List ℕ)
+    → ((parts : ℕ) (σ : Setting) (docs : List Doc) → admit_in_parts parts σ docs r ≡ r) → documents_in r ≡ [] → new.store ≡ old.store
+    → new.parts ≡ old.parts → new.stats ≡ old.stats → new.number ≡ old.number + 1 → old.number ≤ 2 ^ 40
+    → new.queries ≡ old.queries + one_if (is_query r) → new.refused ≡ old.refused + one_if (is_refused r)
     → ((a : Asked) (given : List Line) (so_far : List ℕ) (h : HasTaken old a given so_far) → printed ≡ output_of new.number (length (accepted h.readings)) (accepted h.readings) r)
     → t1 ≡ t0 ++ printed → TakesLine old new t0 t1 r
 takes_quiet old new r t0 t1 printed same none store parts stats number few asked failed shown put = λ a given so_far l h reads.
@@ -105,7 +108,8 @@ pub takes_document : (old new : LineRun) (d : Doc) (x : Option Refusal) (t0 t1 p
 takes_document old new d x t0 t1 printed placed parts stats number few asked failed shown put = λ a given so_far l h reads.
     let p = placed a.parts a.setting (accepted h.readings) h.store in (
       printed,
-      one_more old new a given so_far printed l (document d) (outcome d x) h reads (sym p.admitted) p.holds parts stats number few (asked_none x) failed (shown (length (accepted h.readings)) (accepted h.readings)),
+      one_more old new a given so_far printed l (document d) (outcome d x) h reads (sym p.admitted) p.holds parts stats number few
+          (asked_none x) failed (shown (length (accepted h.readings)) (accepted h.readings)),
       put,
     )
   where
@@ -114,7 +118,8 @@ takes_document old new d x t0 t1 printed placed parts stats number few asked fai
     asked_none (Some r) = omega (arith, asked)
 
 -- what a query prints
-pub query_shown : (number n k : ℕ) (q : Tree) (found : List ℕ) (docs : List Doc) → n ≡ length docs → found ≡ answer q k docs → answer_line number n found ≡ output_of number (length docs) docs (query k q)
+pub query_shown : (number n k : ℕ) (q : Tree) (found : List ℕ) (docs : List Doc) → n ≡ length docs
+    → found ≡ answer q k docs → answer_line number n found ≡ output_of number (length docs) docs (query k q)
 query_shown number n k q found docs count is =
     ap₂ (λ m ids. answer_line number m ids) count (is ∙ ap (answer q k) (sym (take-length docs)))
 

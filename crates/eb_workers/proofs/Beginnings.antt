@@ -22,7 +22,8 @@ pub new_side : (q : Queues) (w : Words) (o : Option Side) (s : Side) → IsNewSi
     → (s.clerk ≡ new_clerk q w) × (s.writer.index ≡ w) × (s.writer.docs ≡ []) × (s.converter.index ≡ w)
 new_side q w o s h e = subst (IsNewSide q w) (sym e) h
 
-pub served_none : (s : Serving) (o : Office) (stats : _) → s.office ≡ o → o.clerk ≡ new_clerk o.desk.now.queues o.index.now → o.writer.index ≡ o.index.now → o.writer.docs ≡ [] → o.converter.index ≡ o.index.now
+pub served_none : (s : Serving) (o : Office) (stats : _) → s.office ≡ o → o.clerk ≡ new_clerk o.desk.now.queues o.index.now
+    → o.writer.index ≡ o.index.now → o.writer.docs ≡ [] → o.converter.index ≡ o.index.now
     → s.stats ≡ stats → (s.number ≡ 0) × (s.queries ≡ 0) × (s.refused ≡ 0) → s.waiting.items ≡ [] → HasServed s (asked o.index.now.setting stats) [] []
 unfolding accepted queries refusals
 served_none s o stats office clerk writer docs converter told counts items =

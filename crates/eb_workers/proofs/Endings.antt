@@ -25,7 +25,8 @@ none_left [] e = refl
 none_left (x ∷ xs) e = absurd (omega (arith, e))
 
 -- all is printed where no line waits
-pub body_over : (s : Serving) (a : Asked) (given : List Line) (so_far : List ℕ) (h : HasServed s a given so_far) → s.waiting.items ≡ [] → so_far ≡ body (numbers_all s a given so_far h) (h.done ++ h.ahead)
+pub body_over : (s : Serving) (a : Asked) (given : List Line) (so_far : List ℕ) (h : HasServed s a given so_far)
+    → s.waiting.items ≡ [] → so_far ≡ body (numbers_all s a given so_far h) (h.done ++ h.ahead)
 body_over s a given so_far h none =
     let rs = h.done ++ h.ahead in
     let n = numbers_all s a given so_far h in
@@ -35,7 +36,8 @@ body_over s a given so_far h none =
 
 -- where no line waits, what was printed is what all lines print
 pub served_body : (s : Serving) (a : Asked) (given : List Line) (so_far : List ℕ) → HasServed s a given so_far → s.waiting.items ≡ [] → IsWorkersBody a given so_far
-served_body s a given so_far h none = record { readings = h.done ++ h.ahead; numbers = numbers_all s a given so_far h; read = h.read; sees = sees_all s a given so_far h; bytes = body_over s a given so_far h none }
+served_body s a given so_far h none =
+    record { readings = h.done ++ h.ahead; numbers = numbers_all s a given so_far h; read = h.read; sees = sees_all s a given so_far h; bytes = body_over s a given so_far h none }
 
 summary_is : (rs : List Reading) (d q r : ℕ) → d ≡ length (accepted rs) → q ≡ queries rs → r ≡ refusals rs → summary_of d q r ≡ summary (progress_after rs)
 unfolding progress_after
@@ -53,7 +55,8 @@ served_ends s t0 t1 documents begun converted a given so_far put count segments 
     (ap₂ (λ x y. stats_line s.stats x y) (segments ∙ cuts) (packed ∙ ap converted_of cuts) ∙ ap (λ x. stats_of x a.setting (accepted rs)) h.stats) in
     record {
       printed = end_of a rs;
-      whole = body_text a given so_far (record { readings = rs; numbers = numbers_all s a given so_far h; read = h.read; sees = sees_all s a given so_far h; bytes = body_over s a given so_far h none });
+      whole =
+          body_text a given so_far (record { readings = rs; numbers = numbers_all s a given so_far h; read = h.read; sees = sees_all s a given so_far h; bytes = body_over s a given so_far h none });
       text = put ∙ ap (λ x. t0 ++ x) same;
       some = λ n e. (rs, h.read, omega (arith, e, h.refused));
       none = λ e. (rs, h.read, sym h.refused ∙ e);
@@ -61,7 +64,8 @@ served_ends s t0 t1 documents begun converted a given so_far put count segments 
 
 -- a program that has such a run in it
 pub finishes_program : {P E : Type 0} (r : Result ℕ E) (serving : P → Serving) (p : P) (t0 t1 : List ℕ)
-    → IfOk r (λ refused. (a : Asked) (given : List Line) (so_far : List ℕ) → HasServed (serving p) a given so_far → Finishes HasServed IsWorkersText HasRefusal HasNoRefusal (serving p) t0 t1 refused a given so_far)
+    → IfOk r (λ refused. (a : Asked) (given : List Line) (so_far : List ℕ) → HasServed (serving p) a given so_far
+    → Finishes HasServed IsWorkersText HasRefusal HasNoRefusal (serving p) t0 t1 refused a given so_far)
     → MatchResult r (λ refused. (a : Asked) (given : List Line) (so_far : List ℕ) → HasServed (serving p) a given so_far
     → Finishes (λ q. HasServed (serving q)) IsWorkersText HasRefusal HasNoRefusal p t0 t1 refused a given so_far) (λ e. ⊤)
 finishes_program (Ok n) serving p t0 t1 f = λ a given so_far h.

@@ -97,7 +97,8 @@ further_trans old mid new f g =
     }
 
 -- an answer is taken in
-pub further_in : (old new : Serving) (at seen : ℕ) (frame : Frame) (known : List Doc) → Keeps old.office new.office → new.office.writer ≡ old.office.writer → new.office.clerk.put ≡ old.office.clerk.put
+pub further_in : (old new : Serving) (at seen : ℕ) (frame : Frame) (known : List Doc) → Keeps old.office new.office
+    → new.office.writer ≡ old.office.writer → new.office.clerk.put ≡ old.office.clerk.put
     → new.stats ≡ old.stats → new.number ≡ old.number → new.queries ≡ old.queries → new.refused ≡ old.refused → AwaitsAt old.waiting.items at frame seen
     → new.waiting.items ≡ set old.waiting.items at (waits.Answered seen frame) → ids_of frame ≡ answer (query_of frame) (k_of frame) known → seen ≡ length known
     → IsPrefix known new.office.writer.docs → IsFurther old new
@@ -167,7 +168,8 @@ module _ (old new : Serving) (w : Waiting) (ws : List Waiting) (text text_new : 
 -- ---- a line is taken
 
 module _ (old new : Serving) (r : Reading) (w : Waiting) (own : Reading) (is : admit old.office.index.now.setting old.office.writer.docs r ≡ own) (keeps : Keeps old.office new.office)
-    (docs : new.office.writer.docs ≡ old.office.writer.docs ++ documents_in own) (stats : new.stats ≡ old.stats) (number : new.number ≡ old.number + 1) (asks : new.queries ≡ old.queries + one_if (is_query own))
+    (docs : new.office.writer.docs ≡ old.office.writer.docs ++ documents_in own)
+    (stats : new.stats ≡ old.stats) (number : new.number ≡ old.number + 1) (asks : new.queries ≡ old.queries + one_if (is_query own))
     (fails : new.refused ≡ old.refused + one_if (is_refused own)) (low : (one_if (is_query own) ≤ 1) × (one_if (is_refused own) ≤ 1)) (above : IsAbove (new.number + 1) new.office.clerk.put)
     (items : new.waiting.items ≡ old.waiting.items ++ w ∷ []) (stands : WaitsAs (old.office.writer.docs ++ documents_in own) (length old.office.writer.docs) own w) where
   pub served_line : TakesLine old new r
@@ -179,7 +181,8 @@ module _ (old new : Serving) (r : Reading) (w : Waiting) (own : Reading) (is : a
       let all : readings ++ own ∷ [] ≡ h.done ++ (h.ahead ++ own ∷ []) = append_assoc h.done h.ahead (own ∷ []) in
       let read : AreRead a.setting (given ++ l ∷ []) (readings ++ own ∷ []) =
       subst (λ (x : Reading). AreRead a.setting (given ++ l ∷ []) (readings ++ x ∷ [])) own_is (read_push a.setting given readings l r h.read reads) in
-      let told : length (accepted h.done) + length (accepted h.ahead) ≡ length before = sym (length-append (accepted h.done) (accepted h.ahead)) ∙ ap length (sym (accepted-append h.done h.ahead) ∙ sym h.documents) in
+      let told : length (accepted h.done) + length (accepted h.ahead) ≡ length before = sym (length-append (accepted h.done) (accepted h.ahead))
+      ∙ ap length (sym (accepted-append h.done h.ahead) ∙ sym h.documents) in
       let grown = waiting_grown before more (length (accepted h.done)) h.ahead old.waiting.items h.waiting in
       record {
         staffed = keeps.staffed;
@@ -241,7 +244,8 @@ same_text s text t e = subst (λ x. WorksOn HasServed s s text x) (sym e) (same_
 pub next_is : (items : List Waiting) (need : ℕ) (w : Waiting) (ws : List Waiting) → NextNeeds items need → items ≡ w ∷ ws → IsReady w × (need ≡ need_of w)
 next_is items need w ws h e = subst (λ (xs : List Waiting). NextNeeds xs need) e h
 
-pub room_on : (old mid new : Serving) (t0 t1 : List ℕ) → IsRunning HasServed old → WorksOn HasServed old mid t0 t1 → new.office ≡ mid.office → new.stats ≡ mid.stats → new.number ≡ mid.number → new.queries ≡ mid.queries
+pub room_on : (old mid new : Serving) (t0 t1 : List ℕ) → IsRunning HasServed old → WorksOn HasServed old mid t0 t1
+    → new.office ≡ mid.office → new.stats ≡ mid.stats → new.number ≡ mid.number → new.queries ≡ mid.queries
     → new.refused ≡ mid.refused → new.waiting.items ≡ mid.waiting.items → WorksOn HasServed old new t0 t1
 room_on old mid new t0 t1 r f office stats number asks fails items =
     on_on old mid new t0 t1 t1 f (further_on mid new t1 (further_items mid new (goes_running old mid t0 t1 r f).3.staffed office stats number asks fails items))

@@ -33,7 +33,8 @@ fn pass_and_stop<R: Threads + Wait + Sync, S: Source, K: Sink, G: Gate + Sync>(
     requires { (a : Asked) × HasServed program.serving a [] [] }
     ensures stops { result.1.stops ≡ workers }
     ensures ends { (a : Asked) → HasServed program.entry.serving a [] []
-        → Ends (IsWorkersBody a) (IsWorkersText a) (HasRefusal a) (HasNoRefusal a) result.0 (S.left source.old) (S.left source.new) (K.taken out.old) (K.taken out.new) }
+        → Ends (IsWorkersBody a) (IsWorkersText a) (HasRefusal a) (HasNoRefusal a) result.0
+        (S.left source.old) (S.left source.new) (K.taken out.old) (K.taken out.new) }
     ensures read_fault { result.0 ≡ Status.ReadFault → HasRisen (S.faults source.old) (S.faults source.new) }
     ensures write_fault { result.0 ≡ Status.WriteFault → HasRisen (K.faults out.old) (K.faults out.new) }
 {

@@ -23,10 +23,12 @@ pub returns-in_default-write_gathered-clause-ends : goal.returns-in_default-writ
 returns-in_default-write_gathered-clause-ends g c = λ σ overlap l0 l1 p0 held s.
     let x = c.in_default-write_gathered.ensures.err in
     ends_unclosed σ overlap l0 l1 p0 _ _ held c.args.running.now c.work_held.new.self c.args.text.now.items c.work_held.new.text.items c.work_held.ensures.on c.in-Ok.ensures.none s
-    _ _ _ c.counts-counts.ensures.0 c.counts-counts.ensures.1 c.counts-counts.ensures.2 c.args.stats _ _ c.finish-segments.ensures.segments c.finish-segments.ensures.converted c.put_end.new.text.items c.in-Ok-put_end.ensures.ok x.0 x.1
+    _ _ _ c.counts-counts.ensures.0 c.counts-counts.ensures.1 c.counts-counts.ensures.2 c.args.stats _ _
+    c.finish-segments.ensures.segments c.finish-segments.ensures.converted c.put_end.new.text.items c.in-Ok-put_end.ensures.ok x.0 x.1
 
 pub returns-clause-ends : goal.returns-clause-ends
 returns-clause-ends g c = λ σ overlap l0 l1 p0 held s.
     ends_closed σ overlap l0 l1 p0 _ _ held c.args.running.now c.work_held.new.self c.args.text.now.items c.work_held.new.text.items c.work_held.ensures.on c.in-Ok.ensures.none s
-    _ _ _ c.counts-counts.ensures.0 c.counts-counts.ensures.1 c.counts-counts.ensures.2 c.args.stats _ _ c.finish-segments.ensures.segments c.finish-segments.ensures.converted c.put_end.new.text.items c.in-Ok-put_end.ensures.ok c.status_of.result
+    _ _ _ c.counts-counts.ensures.0 c.counts-counts.ensures.1 c.counts-counts.ensures.2 c.args.stats _ _ c.finish-segments.ensures.segments
+    c.finish-segments.ensures.converted c.put_end.new.text.items c.in-Ok-put_end.ensures.ok c.status_of.result
     c.status_of.ensures.some c.status_of.ensures.none c.in-Ok-write_gathered.ensures.ok.0

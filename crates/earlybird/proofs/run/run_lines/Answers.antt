@@ -20,10 +20,12 @@ lines-init g c =
     }
 
 pub settle-requires-after_bounds : goal.settle-requires-after_bounds
-settle-requires-after_bounds g c = λ κs bounds. (g.S.Source.left c.lines.source, (c.args.config, c.args.overlap, g.S.Source.left c.args.source.now, g.K.Sink.taken c.args.out.now, c.lines.invariant.at))
+settle-requires-after_bounds g c =
+    λ κs bounds. (g.S.Source.left c.lines.source, (c.args.config, c.args.overlap, g.S.Source.left c.args.source.now, g.K.Sink.taken c.args.out.now, c.lines.invariant.at))
 
 pub returns-in-Err-clause-ends : goal.returns-in-Err-clause-ends
-returns-in-Err-clause-ends g c = c.in-Err.ensures.next c.args.config c.args.overlap c.args.stats (g.S.Source.left c.args.source.now) (g.S.Source.left c.lines.source) (g.K.Sink.taken c.args.out.now) c.lines.invariant.at
+returns-in-Err-clause-ends g c =
+    c.in-Err.ensures.next c.args.config c.args.overlap c.args.stats (g.S.Source.left c.args.source.now) (g.S.Source.left c.lines.source) (g.K.Sink.taken c.args.out.now) c.lines.invariant.at
 
 pub take_next-requires-after_bounds : goal.take_next-requires-after_bounds
 take_next-requires-after_bounds g c = λ κs bounds.
@@ -91,7 +93,8 @@ returns-in_default-write_much-clause-ends g c =
     let at = c.in_default-settle.ensures.next c.args.config c.args.overlap c.args.stats l0 (g.S.Source.left c.lines.source) p0 c.lines.invariant.at in
     let x = c.in_default-write_much.ensures.err in
     let now = c.in-Line.ensures.next c.args.config c.args.overlap l0 p0 _ at in
-    ends_unwritten c.args.config c.args.overlap c.args.stats l0 _ p0 _ _ c.take_next.new.text.items x.0 (may_stop c.args.config c.args.overlap l0 _ p0 _ c.take_next.new.lines c.take_next.new.running c.take_next.new.text.items now) x.1
+    ends_unwritten c.args.config c.args.overlap c.args.stats l0 _ p0 _ _ c.take_next.new.text.items x.0
+    (may_stop c.args.config c.args.overlap l0 _ p0 _ c.take_next.new.lines c.take_next.new.running c.take_next.new.text.items now) x.1
 
 pub lines-preserved : goal.lines-preserved
 lines-preserved g c =

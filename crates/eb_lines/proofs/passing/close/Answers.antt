@@ -14,14 +14,16 @@ finish-requires-clause-running g c =
 
 pub returns-in_default-clause-ends : goal.returns-in_default-clause-ends
 returns-in_default-clause-ends g c = λ a l0 l1 p0 held s. c.give_up.ensures.ends a l0 l1 p0
-    (stop_on g.P.LineProgram.has_run g.P.LineProgram.prints g.met.P.LineProgram.printed_first a l0 l1 p0 _ held c.args.program.now c.settle_all.new.self c.args.text.now.items c.settle_all.new.text.items s.0
+    (stop_on g.P.LineProgram.has_run g.P.LineProgram.prints g.met.P.LineProgram.printed_first a l0 l1 p0 _
+    held c.args.program.now c.settle_all.new.self c.args.text.now.items c.settle_all.new.text.items s.0
     c.settle_all.ensures.on)
 
 pub returns-in_default-finish-clause-ends : goal.returns-in_default-finish-clause-ends
 returns-in_default-finish-clause-ends g c = λ a l0 l1 p0 held s.
     let M : List ℕ → Type 0 = λ t. MayStop (g.P.LineProgram.prints a) l0 l1 p0 (g.K.Sink.taken c.args.out.now) t in
     c.give_up-in_default-finish.ensures.ends a l0 l1 p0 (subst M (sym c.in_default-finish.ensures.err)
-    (stop_on g.P.LineProgram.has_run g.P.LineProgram.prints g.met.P.LineProgram.printed_first a l0 l1 p0 _ held c.args.program.now c.settle_all.new.self c.args.text.now.items c.settle_all.new.text.items s.0
+    (stop_on g.P.LineProgram.has_run g.P.LineProgram.prints g.met.P.LineProgram.printed_first a l0 l1 p0 _
+    held c.args.program.now c.settle_all.new.self c.args.text.now.items c.settle_all.new.text.items s.0
     c.settle_all.ensures.on))
 
 pub returns-in_default-write_gathered-clause-ends : goal.returns-in_default-write_gathered-clause-ends

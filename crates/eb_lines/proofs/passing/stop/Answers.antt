@@ -6,7 +6,8 @@ settle_all-requires g c = let r = c.requires.2 in let s = r.3 in (r.0, s.given, 
 
 pub returns-in_default-clause-ends : goal.returns-in_default-clause-ends
 returns-in_default-clause-ends g c = λ a l0 l1 p0 held s. c.give_up.ensures.ends a l0 l1 p0
-    (stop_on g.P.LineProgram.has_run g.P.LineProgram.prints g.met.P.LineProgram.printed_first a l0 l1 p0 _ held c.args.program.now c.settle_all.new.self c.args.text.now.items c.settle_all.new.text.items
+    (stop_on g.P.LineProgram.has_run g.P.LineProgram.prints g.met.P.LineProgram.printed_first a l0 l1 p0
+    _ held c.args.program.now c.settle_all.new.self c.args.text.now.items c.settle_all.new.text.items
     (at_of g.P.LineProgram.has_run g.P.LineProgram.prints g.met.P.LineProgram.printed_first a c.args.status l0 l1 p0 _ held c.args.program.now c.args.text.now.items s) c.settle_all.ensures.on)
 
 pub returns-in-Ok-write_gathered-clause-ends : goal.returns-in-Ok-write_gathered-clause-ends

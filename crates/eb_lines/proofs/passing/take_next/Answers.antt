@@ -51,8 +51,10 @@ returns-in-Line-clause-number g c = λ e.
     let run = c.args.program.now in
     let new = c.take_line.new.self in
     let runs = g.P.LineProgram.has_run in
-    took_number runs g.P.LineProgram.number g.met.P.LineProgram.counts c.take_line.result run new (GoesOn runs run new c.args.text.now.items c.take_line.new.text.items (line c.line.result.now)) c.take_line.ensures.ok
-    (λ goes. goes_number runs g.P.LineProgram.number g.met.P.LineProgram.counts run new c.args.text.now.items c.take_line.new.text.items (line c.line.result.now) (r.0, s.given, s.so_far, s.works) goes)
+    took_number runs g.P.LineProgram.number g.met.P.LineProgram.counts c.take_line.result run new
+    (GoesOn runs run new c.args.text.now.items c.take_line.new.text.items (line c.line.result.now)) c.take_line.ensures.ok
+    (λ goes. goes_number runs g.P.LineProgram.number g.met.P.LineProgram.counts run new c.args.text.now.items c.take_line.new.text.items
+    (line c.line.result.now) (r.0, s.given, s.so_far, s.works) goes)
     (sym c.say_taken.ensures ∙ e)
 
 pub returns-in-LongLine-clause-next : goal.returns-in-LongLine-clause-next
@@ -81,7 +83,8 @@ returns-in-LongLine-clause-number g c = λ e.
     let run = c.args.program.now in
     let new = c.take_long.new.self in
     let runs = g.P.LineProgram.has_run in
-    took_number runs g.P.LineProgram.number g.met.P.LineProgram.counts c.take_long.result run new (GoesOn runs run new c.args.text.now.items c.take_long.new.text.items long_line) c.take_long.ensures.ok
+    took_number runs g.P.LineProgram.number g.met.P.LineProgram.counts c.take_long.result run new
+    (GoesOn runs run new c.args.text.now.items c.take_long.new.text.items long_line) c.take_long.ensures.ok
     (λ goes. goes_number runs g.P.LineProgram.number g.met.P.LineProgram.counts run new c.args.text.now.items c.take_long.new.text.items long_line (r.0, s.given, s.so_far, s.works) goes)
     (sym c.say_taken-in-LongLine.ensures ∙ e)
 
@@ -89,19 +92,22 @@ pub returns-in-End-clause-next : goal.returns-in-End-clause-next
 returns-in-End-clause-next g c = λ a l0 p0 p1 at.
     let n = c.in-End.ensures in
     let t = n.told at.taken at.given at.lines in
-    at_end g.P.LineProgram.has_run g.P.LineProgram.prints g.met.P.LineProgram.printed_first a l0 _ _ p0 p1 c.args.lines.now c.next_line.new.self c.args.program.now c.args.text.now.items at t.0 t.1 n.end
+    at_end g.P.LineProgram.has_run g.P.LineProgram.prints g.met.P.LineProgram.printed_first a l0 _ _ p0
+    p1 c.args.lines.now c.next_line.new.self c.args.program.now c.args.text.now.items at t.0 t.1 n.end
     (λ e. ap g.S.Source.left (n.ended e)) n.limit n.within t.2.0 t.2.1
 
 pub returns-in-ReadFault-clause-next : goal.returns-in-ReadFault-clause-next
 returns-in-ReadFault-clause-next g c = λ a l0 p0 p1 at.
     let n = c.in-ReadFault.ensures in
     let t = n.told at.taken at.given at.lines in
-    at_fault g.P.LineProgram.has_run g.P.LineProgram.prints g.met.P.LineProgram.printed_first a l0 _ _ p0 p1 c.args.lines.now c.next_line.new.self c.args.program.now c.args.text.now.items at t.0 t.1 n.end
+    at_fault g.P.LineProgram.has_run g.P.LineProgram.prints g.met.P.LineProgram.printed_first a l0 _ _ p0
+    p1 c.args.lines.now c.next_line.new.self c.args.program.now c.args.text.now.items at t.0 t.1 n.end
     (λ e. ap g.S.Source.left (n.ended e)) n.limit n.within t.2.0 t.2.1
 
 pub returns-in-TooLong-clause-next : goal.returns-in-TooLong-clause-next
 returns-in-TooLong-clause-next g c = λ a l0 p0 p1 at.
     let n = c.in-TooLong.ensures in
     let t = n.told at.taken at.given at.lines in
-    at_limit g.P.LineProgram.has_run g.P.LineProgram.prints g.met.P.LineProgram.printed_first a l0 _ _ p0 p1 c.args.lines.now c.next_line.new.self c.args.program.now c.args.text.now.items at t.0 t.1 n.end
+    at_limit g.P.LineProgram.has_run g.P.LineProgram.prints g.met.P.LineProgram.printed_first a l0 _ _ p0
+    p1 c.args.lines.now c.next_line.new.self c.args.program.now c.args.text.now.items at t.0 t.1 n.end
     (λ e. ap g.S.Source.left (n.ended e)) n.limit n.within t.2.0 t.2.1

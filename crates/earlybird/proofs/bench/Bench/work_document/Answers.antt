@@ -45,7 +45,8 @@ returns g c =
     let h = c.in_ok-work_line.ensures (lines_until start docs n) c.requires.before low in
     let one = lines_until start docs n ++ line c.as_slice.result.now ∷ [] in
     let H : List Line → Type 0 = HasCounted c.work_line-2.new.self in
-    let next : H (one ++ line c.as_slice-2.result.now ∷ []) = c.in_ok-work_line-2.ensures one h (omega (arith, few, c.requires.small.0, c.requires.small.1, length-append (lines_until start docs n) (line c.as_slice.result.now ∷ []))) in
+    let next : H (one ++ line c.as_slice-2.result.now ∷ []) =
+    c.in_ok-work_line-2.ensures one h (omega (arith, few, c.requires.small.0, c.requires.small.1, length-append (lines_until start docs n) (line c.as_slice.result.now ∷ []))) in
     let some : query_lines start docs n ≡ line (made_query start n) ∷ [] = elim c.else-number-ne0.branch [
       | else-number-ne0-via-then-number-ne0+else-number-docs w ↦ query_some start docs n (inr (omega (arith, w.if-number-docs.false)))
       | else-number-ne0-via-else-number-ne0 w ↦ query_some start docs n (inl (omega (arith, w.if-number-ne0.false)))

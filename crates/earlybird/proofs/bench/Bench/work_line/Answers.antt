@@ -28,4 +28,5 @@ pub returns : goal.returns
 returns g c = λ lines h few.
     let C : Session → Type 0 = λ s. HasCome s usual (with_line (progress_after h.readings) (admit usual (progress_after h.readings).documents (reading_of c.in_ok-work.work))) in
     counted_push c.args.self.now lines h few (line c.args.bytes.now) (reading_of c.in_ok-work.work) c.work_off-outcome.result c.in_ok-work.ensures
-    (c.work_off-outcome.ensures.outcome usual (progress_after h.readings) h.session) c.count.new.self (subst C (sym c.count.ensures.session) (c.work_off-outcome.ensures.session usual (progress_after h.readings) h.session)) c.count.ensures.ids c.count.ensures.sum c.count.ensures.small
+    (c.work_off-outcome.ensures.outcome usual (progress_after h.readings) h.session) c.count.new.self
+    (subst C (sym c.count.ensures.session) (c.work_off-outcome.ensures.session usual (progress_after h.readings) h.session)) c.count.ensures.ids c.count.ensures.sum c.count.ensures.small

@@ -7,4 +7,5 @@ pub returns-clause-ok : goal.returns-clause-ok
 returns-clause-ok c = λ l is.
     let old = c.args.self.now in
     let new : Running = record { overlap = old.overlap; index = old.index; writer = old.writer; converter = old.converter; rounds = c.put.new.self; number = old.number + 1 } in
-    goes_quiet old new l (λ σ overlap given so_far h. run_held old new σ overlap given so_far h refl refl refl refl l refl c.args.input refl c.requires.overlap c.requires.takes is c.in_ok-put.ensures.ok)
+    goes_quiet old new l
+    (λ σ overlap given so_far h. run_held old new σ overlap given so_far h refl refl refl refl l refl c.args.input refl c.requires.overlap c.requires.takes is c.in_ok-put.ensures.ok)

@@ -14,13 +14,16 @@ returns-then-add g c =
     let r = c.requires.running in
     let d = c.args.document.now in
     let p = subst (WithPlaced c.args.self.now.office c.add.new.self d) c.if-add.true c.add.ensures.placed in
-    served_line c.args.self.now _ (document d) waits.Nothing (document d) (ap (λ b. if b then document d else refused Full) p.0) c.add.ensures.keeps p.1 refl refl (omega arith) (omega arith) (omega arith, omega arith)
-    (above_more _ _ (subst (λ (k : ClerkBook). IsAbove (c.args.self.now.number + 1) k.put) (sym c.add.ensures.clerk) r.3.above)) c.push.ensures (record { asks = refl; nothing = λ number seen docs. refl })
+    served_line c.args.self.now _ (document d) waits.Nothing (document d)
+    (ap (λ b. if b then document d else refused Full) p.0) c.add.ensures.keeps p.1 refl refl (omega arith) (omega arith) (omega arith, omega arith)
+    (above_more _ _ (subst (λ (k : ClerkBook). IsAbove (c.args.self.now.number + 1) k.put) (sym c.add.ensures.clerk) r.3.above)) c.push.ensures
+    (record { asks = refl; nothing = λ number seen docs. refl })
 
 pub returns-else-add : goal.returns-else-add
 returns-else-add g c =
     let r = c.requires.running in
     let d = c.args.document.now in
     let p = subst (WithPlaced c.args.self.now.office c.add.new.self d) c.if-add.false c.add.ensures.placed in
-    served_line c.args.self.now _ (document d) (waits.Refused Full) (refused Full) (ap (λ b. if b then document d else refused Full) p.0) c.add.ensures.keeps (p.1 ∙ sym (append-nil _)) refl refl (omega arith) refl (omega arith, omega arith)
+    served_line c.args.self.now _ (document d) (waits.Refused Full) (refused Full) (ap (λ b. if b then document d else refused Full) p.0) c.add.ensures.keeps
+    (p.1 ∙ sym (append-nil _)) refl refl (omega arith) refl (omega arith, omega arith)
     (above_more _ _ (subst (λ (k : ClerkBook). IsAbove (c.args.self.now.number + 1) k.put) (sym c.add.ensures.clerk) r.3.above)) c.push-else-add.ensures refl

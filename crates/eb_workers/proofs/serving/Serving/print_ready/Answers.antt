@@ -8,7 +8,8 @@ pub print_next-requires : goal.print_next-requires
 print_next-requires c = record { running = goes_running c.args.self.now c.ready.self c.args.text.now.items c.ready.text.items c.requires.running c.ready.invariant }
 
 pub returns-in_err-print_next : goal.returns-in_err-print_next
-returns-in_err-print_next c = record { on = on_on c.args.self.now c.ready.self c.print_next.new.self c.args.text.now.items c.ready.text.items c.print_next.new.text.items c.ready.invariant c.print_next.ensures.on }
+returns-in_err-print_next c =
+    record { on = on_on c.args.self.now c.ready.self c.print_next.new.self c.args.text.now.items c.ready.text.items c.print_next.new.text.items c.ready.invariant c.print_next.ensures.on }
 
 pub ready-preserved : goal.ready-preserved
 ready-preserved c = on_on c.args.self.now c.ready.self c.print_next.new.self c.args.text.now.items c.ready.text.items c.print_next.new.text.items c.ready.invariant c.print_next.ensures.on

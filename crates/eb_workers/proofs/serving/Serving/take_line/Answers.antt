@@ -17,7 +17,8 @@ take_work-requires-clause-number g c =
 
 pub returns-clause-ok : goal.returns-clause-ok
 returns-clause-ok g c = ok_on c.take_work.result c.take_work.ensures.ok (λ f.
-    on_line c.args.self.now c.make_room.new.self c.take_work.new.self c.args.text.now.items c.make_room.new.text.items (line c.args.bytes.now) (reading_of c.in_ok-work.work) c.make_room.ensures.on f c.in_ok-work.ensures)
+    on_line c.args.self.now c.make_room.new.self c.take_work.new.self c.args.text.now.items c.make_room.new.text.items
+    (line c.args.bytes.now) (reading_of c.in_ok-work.work) c.make_room.ensures.on f c.in_ok-work.ensures)
 
 pub returns-clause-err : goal.returns-clause-err
 returns-clause-err g c = err_on c.take_work.result c.take_work.ensures.err (λ e.

@@ -14,4 +14,5 @@ refuse-requires-clause-number g c =
     omega (arith, same, c.requires.number)
 
 pub returns-clause-ok : goal.returns-clause-ok
-returns-clause-ok g c = on_line c.args.self.now c.make_room.new.self c.refuse.new.self c.args.text.now.items c.make_room.new.text.items long_line (refused LongLine) c.make_room.ensures.on c.refuse.ensures refl
+returns-clause-ok g c =
+    on_line c.args.self.now c.make_room.new.self c.refuse.new.self c.args.text.now.items c.make_room.new.text.items long_line (refused LongLine) c.make_room.ensures.on c.refuse.ensures refl

@@ -8,10 +8,12 @@ pub print_ready-requires : goal.print_ready-requires
 print_ready-requires g c = record { running = goes_running c.args.self.now c.loop.self c.args.text.now.items c.loop.text.items c.requires.running c.loop.invariant }
 
 pub returns-in_err-print_ready-clause-on : goal.returns-in_err-print_ready-clause-on
-returns-in_err-print_ready-clause-on g c = on_on c.args.self.now c.loop.self c.print_ready.new.self c.args.text.now.items c.loop.text.items c.print_ready.new.text.items c.loop.invariant c.print_ready.ensures.on
+returns-in_err-print_ready-clause-on g c =
+    on_on c.args.self.now c.loop.self c.print_ready.new.self c.args.text.now.items c.loop.text.items c.print_ready.new.text.items c.loop.invariant c.print_ready.ensures.on
 
 pub returns-then-len-unprinted-clause-on : goal.returns-then-len-unprinted-clause-on
-returns-then-len-unprinted-clause-on g c = on_on c.args.self.now c.loop.self c.print_ready.new.self c.args.text.now.items c.loop.text.items c.print_ready.new.text.items c.loop.invariant c.print_ready.ensures.on
+returns-then-len-unprinted-clause-on g c =
+    on_on c.args.self.now c.loop.self c.print_ready.new.self c.args.text.now.items c.loop.text.items c.print_ready.new.text.items c.loop.invariant c.print_ready.ensures.on
 
 pub wait-requires : goal.wait-requires
 wait-requires g c =
