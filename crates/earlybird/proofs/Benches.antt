@@ -1,6 +1,6 @@
 -- The figures of some lines, with one line more.
 use Rattle.std.proofs.Common.{◌≡◌, ℕ, suc, ◌+◌, ◌-◌, ◌*◌, ◌<◌, ◌≤◌, ◌^◌, List, [], ◌∷◌, ◌++◌, length, take, drop, Option, Some, inl, inr}
-use Rattle.std.proofs.Common.{map, filter, reverse, flat_map, refl, sym, ap, ap₂, subst, ◌∙◌, arith, append_assoc, append-nil, length-append}
+use Rattle.std.proofs.Common.{map, filter, refl, sym, ap, subst, ◌∙◌, arith, append_assoc, append-nil, length-append}
 use Rattle.std.specs.Prelude.{sum}
 use Rattle.std.proofs.lemmas.List.{take-append-drop, length-map, length-take, length-reverse}
 use Rattle.std.proofs.lemmas.List.Sums.{length-filter, sum_by-append, count_by-le-length}

@@ -1,11 +1,11 @@
 -- The words ask for nothing out of range.
-use Rattle.std.proofs.Common.{◌≡◌, ℕ, ◌≤◌, List, [], ◌∷◌, Option, None, Some, refl, sym, ap, subst, ◌∙◌, arith}
+use Rattle.std.proofs.Common.{◌≡◌, ℕ, ◌≤◌, List, [], ◌∷◌, Option, None, Some, refl, subst, ◌∙◌}
 use Rattle.std.specs.Prelude.{◌&&◌, ◌*◌, ◌^◌, Bool, true, false, codes, nat_le, if◌then◌else◌, option_map, option_and_then}
 use Rattle.std.specs.Str.{bytes_eq}
 use Rattle.std.proofs.lemmas.Bool.{and_parts, leb-true}
 use Rattle.eb_base.specs.Setting.{Setting, words_of}
 use Rattle.eb_options.specs.Numbers.{number}
-use Rattle.eb_options.specs.Items.{Items, has, items_of, number_of}
+use Rattle.eb_options.specs.Items.{has, items_of, number_of}
 use Rattle.eb_options.specs.Settings.{setting_of, setting_options}
 use Rattle.earlybird.specs.declared.command.Command.{Command}
 use Rattle.earlybird.specs.declared.command.Command.TheVariants.{Run, RunWorkers, RunParts, Bench, Save, Load}

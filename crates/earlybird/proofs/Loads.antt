@@ -2,7 +2,7 @@
 use Rattle.std.proofs.Common.{◌≡◌, ℕ, Bool, List, [], ◌++◌, Option, inl, inr, refl, sym, ap, ◌∙◌, subst}
 use Rattle.eb_archive.specs.Loaded.{EndsLoad, IsImage}
 use Rattle.eb_archive.proofs.Images.{none_head}
-use Rattle.eb_image.specs.Image.{head_of, IsFront}
+use Rattle.eb_image.specs.Image.{head_of}
 use Rattle.eb_image.specs.Reading.{IsHead, HasNone, IsBad}
 use Rattle.eb_io.specs.Source.{after}
 use Rattle.eb_io.proofs.Bytes.{after-nil}

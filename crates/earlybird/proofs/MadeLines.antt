@@ -1,17 +1,17 @@
 -- The lines of a made input.
 use Rattle.std.proofs.Common.{◌≡◌, ◌≢◌, ℕ, zero, suc, ◌+◌, ◌-◌, ◌*◌, ◌<◌, ◌≤◌, ◌^◌, ◌%◌, ◌⊎◌, ◌==◌, ◌&&◌, ◌||◌, Bool, true, false, List, [], ◌∷◌}
 use Rattle.std.proofs.Common.{◌++◌, length, refl, sym, ap, ap₂, ◌∙◌, arith, append_assoc, append-nil, length-append, inl, inr, if◌then◌else◌}
-use Rattle.std.specs.Prelude.{codes, nat_le, nat_lt, slice_index, slice_index_or}
+use Rattle.std.specs.Prelude.{codes, nat_le, nat_lt, slice_index}
 use Rattle.std.specs.List.{list_all}
 use Rattle.std.specs.Fmt.{decimal}
 use Rattle.std.specs.Str.Parse.{AllDigits}
-use Rattle.std.specs.Io.BufRead.{strip_last, ends_with_byte}
+use Rattle.std.specs.Io.BufRead.{ends_with_byte}
 use Rattle.std.proofs.lemmas.Bool.{cases_Bool}
 use Rattle.std.proofs.lemmas.List.Sums.{AllPass-from_list_all}
 use Rattle.std.proofs.lemmas.List.Folds.{list_all-append}
 use Rattle.std.proofs.lemmas.Fmt.{decimal_is_IsNumeral, length-decimal-le}
 use Rattle.std.proofs.lemmas.Str.Parse.{digit_from_value}
-use Rattle.eb_gen.specs.Made.{mixed, word_number, word_text, words_to, made_line, made_query, has_query, made_from, made}
+use Rattle.eb_gen.specs.Made.{word_number, word_text, words_to, made_line, made_query, has_query, made_from, made}
 use Rattle.eb_io.specs.Lines.{Line, line, line_from, lines_of, are_too_many, without_cr, IsUncut}
 use Rattle.eb_io.proofs.Pieces.{lines_of-cut}
 use Rattle.earlybird.specs.Bench.{query_lines, lines_until}

@@ -1,28 +1,15 @@
 -- An input has exactly one text.
-use Rattle.std.proofs.Common.{◌≡◌, ℕ, zero, suc, ◌+◌, ◌<◌, ◌≤◌, ◌||◌, Bool, true, false, List, [], ◌∷◌, ◌++◌, length, take, Option, Some, None, refl, sym, ap, ap₂, subst, ◌∙◌, arith, inl, inr}
-use Rattle.std.specs.Prelude.{Result, Ok, Err, nat_lt, if◌then◌else◌}
-use Rattle.std.specs.List.{AllZip}
-use Rattle.std.proofs.lemmas.Bool.{cases_Bool}
-use Rattle.eb_base.specs.Document.{Doc, bytes_of}
+use Rattle.std.proofs.Common.{◌≡◌, ℕ, zero, suc, ◌+◌, ◌<◌, ◌≤◌, ◌||◌, Bool, true, false, List, [], ◌∷◌, ◌++◌, take, refl, sym, ap, ◌∙◌, arith}
+use Rattle.std.specs.Prelude.{if◌then◌else◌}
 use Rattle.eb_base.specs.Setting.{Setting}
-use Rattle.eb_io.specs.Lines.{Line, line, long_line, lines_of}
-use Rattle.eb_doc.specs.DocumentLine.{document_of}
-use Rattle.eb_doc.proofs.Reading.{document_of-no_memory}
-use Rattle.eb_doc.specs.declared.LineFault.{LineFault}
+use Rattle.eb_io.specs.Lines.{Line}
 use Rattle.eb_doc.specs.declared.LineFault.TheVariants as fault
-use Rattle.eb_query.specs.Reading.{Outcome, ReadsAs}
-use Rattle.eb_query.proofs.OneOutcome.{one_outcome}
-use Rattle.eb_query.proofs.SomeOutcome.{some_outcome}
-use Rattle.eb_lines.specs.declared.refusal.Refusal.TheVariants.{BadLine, LongLine, BadJson, BadDocument, TooLong}
-use Rattle.eb_lines.specs.Kinds.{Kind, blank_line, document_line, query_line, bad_line, kind_of}
-use Rattle.eb_lines.specs.Reading.{Reading, blank, document, query, refused}
+use Rattle.eb_lines.specs.Reading.{Reading}
 use Rattle.eb_lines.proofs.OneReading.{raw_same, some_read}
-use Rattle.eb_lines.specs.Reads.{IsOfDocument, of_query}
 use Rattle.earlybird.specs.Reads.{AreRead}
-use Rattle.eb_lines.specs.Reads.{Reads, ReadsByKind}
 use Rattle.eb_lines.specs.Progress.{accepted, told, progress_after}
 use Rattle.eb_rounds.specs.Admitted.{admitted}
-use Rattle.eb_rounds.specs.Text.{body, text, summary}
+use Rattle.eb_rounds.specs.Text.{text, summary}
 use Rattle.eb_rounds.specs.Rows.{count}
 use Rattle.eb_rounds.specs.Sees.{Sees, SeesInOrder, SeesBetween}
 use Rattle.earlybird.specs.Output.{IsTextOf, stats_of}

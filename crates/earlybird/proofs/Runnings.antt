@@ -15,7 +15,7 @@ use Rattle.eb_rounds.specs.declared.input.Kind.TheVariants as kind
 use Rattle.eb_rounds.specs.Standing.{Standing, documents_held, queries_held, refused_held, with_held}
 use Rattle.eb_rounds.specs.Takes.{takes_kind}
 use Rattle.earlybird.specs.declared.running.Running.{Running}
-use Rattle.earlybird.specs.Holding.{held_as, before_held, held_from}
+use Rattle.earlybird.specs.Holding.{held_as, before_held}
 use Rattle.earlybird.specs.Waiting.{HasWorked, AreRound}
 use Rattle.earlybird.specs.Running.{HasRun, IsRunning, WorksOn, GoesOn}
 use Rattle.earlybird.proofs.LineReadings.{asks_query, reads_quiet, free_of}

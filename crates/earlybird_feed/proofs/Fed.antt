@@ -1,5 +1,5 @@
 -- A run over a feed takes a line.
-use Rattle.std.proofs.Common.{◌≡◌, ℕ, ◌+◌, ◌<◌, ◌≤◌, ◌^◌, List, [], ◌∷◌, ◌++◌, length, take, refl, sym, ap, subst, ◌∙◌, arith, append-nil, length-append}
+use Rattle.std.proofs.Common.{◌≡◌, ℕ, ◌+◌, ◌<◌, ◌≤◌, ◌^◌, List, [], ◌∷◌, ◌++◌, length, sym, ap, subst, ◌∙◌, arith, append-nil, length-append}
 use Rattle.std.proofs.Math.Seq.{take-length}
 use Rattle.eb_base.specs.Document.{Doc}
 use Rattle.eb_base.specs.Match.{answer}
@@ -10,12 +10,12 @@ use Rattle.eb_feed.specs.declared.feed.Feed.{Feed}
 use Rattle.eb_feed.specs.Held.{HasTaken}
 use Rattle.eb_lines.specs.declared.refusal.Refusal.{Refusal}
 use Rattle.eb_lines.specs.Reading.{Reading, blank, document, query, refused}
-use Rattle.eb_lines.specs.Progress.{documents_in, is_query, is_refused, accepted, queries, refusals, one_if}
+use Rattle.eb_lines.specs.Progress.{documents_in, is_query, is_refused, accepted, queries, one_if}
 use Rattle.eb_lines.specs.Text.{answer_line, refusal_line}
 use Rattle.eb_lines.proofs.Advancing.{accepted-push}
 use Rattle.earlybird_feed.proofs.Counting.{queries-push, refusals-push, accepted-nil, queries-nil, refusals-nil, accepted_few, queries_few, refusals_few}
 use Rattle.earlybird_feed.specs.declared.feeding.Feeding.{Feeding}
-use Rattle.earlybird_feed.specs.Feeding.{HasFed, IsFeeding, GoesOn, output_behind}
+use Rattle.earlybird_feed.specs.Feeding.{HasFed, GoesOn}
 
 pub fed_none : (f : Feeding) (σ : Setting) (keep : ℕ) → HasTaken f.feed σ keep [] → f.number ≡ 0 → f.queries ≡ 0 → f.refused ≡ 0 → HasFed f σ keep []
 fed_none f σ keep taken n q r = record {

@@ -10,7 +10,7 @@ use Rattle.eb_doc.specs.declared.LineFault.TheVariants as fault
 use Rattle.eb_query.specs.Reading.{Outcome, asks, bad_number, bad_query, too_deep, too_many_nodes}
 use Rattle.eb_lines.specs.declared.refusal.Refusal.TheVariants.{Full}
 use Rattle.eb_lines.specs.Kinds.{Kind, blank_line, document_line, query_line, bad_line, kind_of}
-use Rattle.eb_lines.specs.Reading.{Reading, refused}
+use Rattle.eb_lines.specs.Reading.{refused}
 use Rattle.eb_lines.specs.Reads.{IsOfDocument, of_query, ReadsByKind, Reads}
 use Rattle.eb_lines.proofs.OneReading.{raw_same, some_read}
 use Rattle.earlybird_feed.specs.Text.{text}

@@ -1,6 +1,5 @@
 -- A run over a feed takes lines one by one, and ends.
-use Rattle.std.proofs.Common.{◌≡◌, ℕ, ◌+◌, ◌<◌, List, [], ◌∷◌, ◌++◌, length, refl, sym, ap, ap₂, subst, ◌∙◌, arith, append-nil}
-use Rattle.std.specs.List.{AllZip}
+use Rattle.std.proofs.Common.{◌≡◌, ℕ, ◌+◌, ◌<◌, List, [], ◌∷◌, ◌++◌, length, sym, ap, ap₂, subst, ◌∙◌, arith, append-nil}
 use Rattle.std.specs.Prelude.{Option, Result, Ok, Err, OnOk, OnErr}
 use Rattle.eb_base.specs.Setting.{Setting}
 use Rattle.eb_feed.specs.Generations.{kept}
@@ -17,7 +16,7 @@ use Rattle.earlybird_feed.specs.declared.feeding.Feeding.{Feeding}
 use Rattle.earlybird_feed.specs.Asked.{Asked, HasRun, body_of, comes_first}
 use Rattle.earlybird_feed.specs.Feeding.{HasFed, IsFeeding, GoesOn, output_behind}
 use Rattle.earlybird_feed.specs.Output.{AreRead, IsBodyOf, IsTextOf, HasRefusal, HasNoRefusal}
-use Rattle.earlybird_feed.specs.Text.{body, summary, summary_of}
+use Rattle.earlybird_feed.specs.Text.{summary, summary_of}
 use Rattle.earlybird_feed.proofs.Texts.{body-push, body-nil}
 
 read_push : (ls : List Line) (rs : List Reading) (l : Line) (r : Reading) → AreRead ls rs → Reads l r → AreRead (ls ++ l ∷ []) (rs ++ r ∷ [])

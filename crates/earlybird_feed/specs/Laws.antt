@@ -3,7 +3,7 @@ use Rattle.std.specs.Prelude.{◌≡◌, ℕ, List}
 use Rattle.eb_base.specs.Setting.{Setting}
 use Rattle.eb_io.specs.Lines.{Line}
 use Rattle.eb_lines.specs.declared.refusal.Refusal.TheVariants.{Full}
-use Rattle.eb_lines.specs.Reading.{Reading, refused}
+use Rattle.eb_lines.specs.Reading.{refused}
 use Rattle.eb_lines.specs.Reads.{Reads}
 use Rattle.earlybird_feed.specs.Output.{IsOutput}
 

@@ -12,7 +12,7 @@ use Rattle.eb_query.proofs.OneOutcome.{one_outcome}
 use Rattle.eb_query.proofs.SomeOutcome.{some_outcome}
 use Rattle.eb_lines.specs.declared.refusal.Refusal.TheVariants.{BadLine, LongLine, BadJson, BadDocument, TooLong}
 use Rattle.eb_lines.specs.Kinds.{Kind, blank_line, document_line, query_line, bad_line, kind_of}
-use Rattle.eb_lines.specs.Reading.{Reading, blank, document, query, refused}
+use Rattle.eb_lines.specs.Reading.{Reading, blank, document, refused}
 use Rattle.eb_lines.specs.Reads.{IsOfDocument, of_query, ReadsByKind, Reads}
 
 -- ---- a line has one reading

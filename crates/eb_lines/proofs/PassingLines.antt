@@ -1,10 +1,9 @@
 -- A program over lines, from one line to the next, and how it ends.
 use Rattle.std.proofs.Common.{◌≡◌, ℕ, zero, suc, ◌+◌, ◌<◌, ◌≤◌, ◌⊎◌, inl, inr, true, false, List, [], ◌∷◌, ◌++◌, length, take, drop}
-use Rattle.std.proofs.Common.{Option, Some, None, refl, sym, ap, ap₂, subst, ◌∙◌, arith, append_assoc, append-nil, length-append}
+use Rattle.std.proofs.Common.{Option, refl, sym, ap, ap₂, subst, ◌∙◌, arith, append_assoc, append-nil, length-append}
 use Rattle.std.specs.Prelude.{◌==◌, Result, Ok, Err, OnOk, OnErr}
 use Rattle.std.proofs.lemmas.List.{take-append-drop, length-map}
 use Rattle.std.proofs.lemmas.Bool.{cases_Bool}
-use Rattle.std.proofs.Math.Seq.{take-append_seam}
 use Rattle.eb_io.specs.Lines.{Line, longest_input, lines_of, whole_lines, pieces, begun_by, line_from}
 use Rattle.eb_io.specs.Held.{Held, HasGiven, HasNoLine, HasAllLines}
 use Rattle.eb_io.specs.Source.{after, IsEmpty}
@@ -15,8 +14,7 @@ use Rattle.eb_lines.specs.declared.status.Status.{Status}
 use Rattle.eb_lines.specs.declared.status.Status.TheVariants.{Done, Refused, Usage, ReadFault, WriteFault, NoMemory, TooLong, BadImage}
 use Rattle.eb_lines.specs.declared.passing.Upcoming.TheVariants as next
 use Rattle.eb_lines.specs.Programs.{IsRunning, WorksOn, GoesOn, PrintsFront, Finishes}
-use Rattle.eb_lines.specs.Outcomes.{IsPartOfOutput, Wrote, Means, IsWorkedOff}
-use Rattle.eb_lines.specs.Passing.{IsAt, IsAtEnd, IsStopped, MayStop, AreFirst, IsPart, EndsAs, Ends, Comes, upcoming_of}
+use Rattle.eb_lines.specs.Passing.{IsAt, IsAtEnd, IsStopped, MayStop, AreFirst, IsPart, Ends, Comes, upcoming_of}
 
 -- ---- how many lines there are
 

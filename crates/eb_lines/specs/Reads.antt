@@ -6,7 +6,6 @@ use Rattle.eb_doc.specs.DocumentLine.{document_of}
 use Rattle.eb_doc.specs.declared.LineFault.{LineFault}
 use Rattle.eb_doc.specs.declared.LineFault.TheVariants as fault
 use Rattle.eb_query.specs.Reading.{Outcome, asks, bad_number, bad_query, too_deep, too_many_nodes, ReadsAs}
-use Rattle.eb_lines.specs.declared.refusal.Refusal.{Refusal}
 use Rattle.eb_lines.specs.declared.refusal.Refusal.TheVariants.{BadLine, LongLine, BadJson, BadDocument, TooLong, BadNumber, BadQuery, TooManyNodes, TooDeep}
 use Rattle.eb_lines.specs.Reading.{Reading, blank, document, query, refused}
 use Rattle.eb_lines.specs.Kinds.{Kind, blank_line, document_line, query_line, bad_line, kind_of}

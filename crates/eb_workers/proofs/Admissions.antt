@@ -9,7 +9,7 @@ use Rattle.eb_lines.specs.Reading.{Reading}
 use Rattle.eb_lines.specs.Reads.{Reads}
 use Rattle.eb_lines.specs.Progress.{documents_in, accepted, refusals, queries, is_query, is_refused, one_if}
 use Rattle.eb_lines.proofs.Advancing.{count_push}
-use Rattle.eb_rounds.specs.Admitted.{admit, admitted_from, admitted}
+use Rattle.eb_rounds.specs.Admitted.{admit, admitted_from}
 use Rattle.eb_workers.specs.Output.{AreRead}
 
 push_from : (σ : Setting) (docs : List Doc) (rs : List Reading) (r : Reading)

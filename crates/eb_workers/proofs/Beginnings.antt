@@ -1,11 +1,10 @@
 -- Before the first line.
-use Rattle.std.proofs.Common.{◌≡◌, ℕ, ◌+◌, List, [], refl, sym, ap, subst, ◌∙◌, arith}
-use Rattle.std.specs.Prelude.{Option, Some, None}
+use Rattle.std.proofs.Common.{◌≡◌, ℕ, ◌+◌, List, [], sym, ap, subst, ◌∙◌, arith}
+use Rattle.std.specs.Prelude.{Option, Some}
 use Rattle.std.proofs.lemmas.List.Elements.{All-nil}
 use Rattle.eb_lines.specs.Progress.{accepted, queries, refusals}
 use Rattle.eb_serve.specs.Desk.{Queues, ClerkBook, new_clerk}
 use Rattle.eb_serve.specs.Rule.{IsAbove}
-use Rattle.eb_serve.specs.declared.rule.Pair.{Pair}
 use Rattle.eb_table.specs.Known.{Words}
 use Rattle.eb_workers.specs.declared.office.Office.{Office}
 use Rattle.eb_workers.specs.declared.office.Side.{Side}

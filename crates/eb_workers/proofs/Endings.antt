@@ -1,20 +1,16 @@
 -- Where no line waits, a run has printed all that its lines print.
-use Rattle.std.proofs.Common.{◌≡◌, ℕ, ◌+◌, ◌-◌, ◌<◌, ◌≤◌, inl, inr, List, [], ◌∷◌, ◌++◌, length, refl, sym, ap, ap₂, subst, ◌∙◌, arith, append_assoc, append-nil}
+use Rattle.std.proofs.Common.{◌≡◌, ℕ, ◌+◌, ◌-◌, ◌<◌, ◌≤◌, List, [], ◌∷◌, ◌++◌, length, refl, sym, ap, ap₂, ◌∙◌, arith, append-nil}
 use Rattle.std.specs.Prelude.{Result, Ok, Err, IfOk, MatchResult, ⊤}
-use Rattle.eb_base.specs.Document.{Doc}
-use Rattle.eb_base.specs.Setting.{Setting}
 use Rattle.eb_io.specs.Lines.{Line}
 use Rattle.eb_lines.specs.Programs.{Finishes}
 use Rattle.eb_lines.specs.Reading.{Reading}
-use Rattle.eb_lines.specs.Progress.{accepted, queries, refusals, told, progress_after}
+use Rattle.eb_lines.specs.Progress.{accepted, queries, refusals, progress_after}
 use Rattle.eb_lines.specs.Text.{summary_of}
-use Rattle.eb_lines.proofs.Advancing.{told_within}
 use Rattle.eb_place.specs.Room.{cut}
 use Rattle.eb_rounds.specs.Conversions.{converted_of}
-use Rattle.eb_rounds.specs.Rows.{joined}
 use Rattle.eb_rounds.specs.Text.{body, body_from, summary}
 use Rattle.eb_workers.specs.declared.serving.Serving.{Serving}
-use Rattle.eb_workers.specs.Output.{Asked, AreRead, SeesTold, IsWorkersBody, IsWorkersText, HasRefusal, HasNoRefusal, stats_line, stats_of}
+use Rattle.eb_workers.specs.Output.{Asked, IsWorkersBody, IsWorkersText, HasRefusal, HasNoRefusal, stats_line, stats_of}
 use Rattle.eb_workers.specs.Serving.{HasServed}
 use Rattle.eb_workers.specs.Bodies.{body_none}
 use Rattle.eb_workers.specs.ServingLaws.{numbers_all, sees_all, body_all, end_of, body_text}

@@ -1,21 +1,16 @@
 -- What a run has printed is a front of a whole text.
-use Rattle.std.proofs.Common.{◌≡◌, ℕ, ◌+◌, ◌-◌, ◌<◌, ◌≤◌, inl, inr, List, [], ◌∷◌, ◌++◌, length, refl, sym, ap, ap₂, subst, ◌∙◌, arith, append_assoc, append-nil}
-use Rattle.eb_base.specs.Document.{Doc}
-use Rattle.eb_base.specs.Setting.{Setting}
+use Rattle.std.proofs.Common.{◌≡◌, ℕ, ◌+◌, ◌-◌, ◌<◌, ◌≤◌, inl, inr, List, [], ◌∷◌, ◌++◌, length, refl, sym, ap, ◌∙◌, arith, append_assoc, append-nil}
 use Rattle.eb_io.specs.Lines.{Line}
 use Rattle.eb_lines.specs.Programs.{PrintsFront}
 use Rattle.eb_lines.specs.Reading.{Reading}
-use Rattle.eb_lines.specs.Progress.{accepted, queries, refusals, told, progress_after}
-use Rattle.eb_lines.specs.Text.{summary_of}
+use Rattle.eb_lines.specs.Progress.{accepted, told, progress_after}
 use Rattle.eb_lines.proofs.Advancing.{told_within}
-use Rattle.eb_place.specs.Room.{cut}
-use Rattle.eb_rounds.specs.Conversions.{converted_of}
 use Rattle.eb_rounds.specs.Rows.{joined}
 use Rattle.eb_rounds.specs.Text.{body, body_from, summary}
 use Rattle.eb_workers.specs.declared.serving.Serving.{Serving}
-use Rattle.eb_workers.specs.Output.{Asked, AreRead, SeesTold, IsWorkersBody, IsWorkersText, HasRefusal, HasNoRefusal, stats_line, stats_of}
+use Rattle.eb_workers.specs.Output.{Asked, SeesTold, IsWorkersBody, IsWorkersText, stats_of}
 use Rattle.eb_workers.specs.Serving.{HasServed}
-use Rattle.eb_workers.specs.Bodies.{body_append, body_none, joined_front, joined_back, joined_body, side, asked_front, told_front}
+use Rattle.eb_workers.specs.Bodies.{body_append, joined_front, joined_back, joined_body, side, asked_front, told_front}
 
 module _ (s : Serving) (a : Asked) (given : List Line) (so_far : List ℕ) (h : HasServed s a given so_far) where
   abbrev pub all_readings : List Reading

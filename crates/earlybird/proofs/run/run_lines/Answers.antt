@@ -1,6 +1,6 @@
 use Rattle.std.proofs.Common.{refl, ap, le_refl, le_trans, arith}
 use Rattle.eb_io.specs.Held.{Held}
-use Rattle.earlybird.proofs.Runs.{at_start, at_few, at_of, at_written, may_stop, ends_at_once, ends_unwritten}
+use Rattle.earlybird.proofs.Runs.{at_start, at_few, at_written, may_stop, ends_at_once, ends_unwritten}
 use Rattle.earlybird.proofs.run.run_lines.Goals as goal
 
 pub returns-in_default-clause-ends : goal.returns-in_default-clause-ends

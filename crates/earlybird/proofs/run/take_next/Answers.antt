@@ -4,7 +4,6 @@ use Rattle.earlybird.specs.Running.{IsRunning, GoesOn, WorksOn}
 use Rattle.earlybird.specs.declared.run.Upcoming.{Upcoming}
 use Rattle.earlybird.specs.declared.run.Upcoming.TheVariants as next
 use Rattle.earlybird.specs.Worked.{Comes}
-use Rattle.earlybird.proofs.Runnings.{ok_on}
 use Rattle.earlybird.proofs.Runs.{at_few, at_line, stop_line, at_end, at_fault, at_limit, took, took_number, goes_number}
 use Rattle.earlybird.proofs.run.take_next.Goals as goal
 

@@ -1,6 +1,6 @@
 use Rattle.std.proofs.Common.{List, ℕ, sym, subst}
 use Rattle.eb_lines.specs.Passing.{MayStop}
-use Rattle.eb_lines.proofs.PassingLines.{stop_on, running_on, ends_unwritten, ends_closed, ends_unclosed}
+use Rattle.eb_lines.proofs.PassingLines.{stop_on, running_on, ends_closed, ends_unclosed}
 use Rattle.eb_lines.proofs.passing.close.Goals as goal
 
 pub settle_all-requires : goal.settle_all-requires

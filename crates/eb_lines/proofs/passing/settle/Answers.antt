@@ -1,6 +1,5 @@
 use Rattle.std.proofs.Common.{◌++◌, sym, ap, ◌∙◌, append-nil}
-use Rattle.eb_lines.specs.Programs.{IsRunning}
-use Rattle.eb_lines.proofs.PassingLines.{at_on, at_written, stop_on, ends_unwritten, works_number}
+use Rattle.eb_lines.proofs.PassingLines.{at_on, at_written, stop_on, ends_unwritten}
 use Rattle.eb_lines.proofs.passing.settle.Goals as goal
 
 pub settle-requires : goal.settle-requires

@@ -1,6 +1,6 @@
 use Rattle.std.proofs.Common.{◌≡◌, List, ℕ, OnOk, sym, ap, subst, ◌∙◌, arith}
 use Rattle.eb_io.specs.Lines.{line, long_line}
-use Rattle.eb_lines.specs.Programs.{IsRunning, GoesOn, WorksOn}
+use Rattle.eb_lines.specs.Programs.{GoesOn, WorksOn}
 use Rattle.eb_lines.specs.declared.passing.Upcoming.{Upcoming}
 use Rattle.eb_lines.specs.Passing.{Comes}
 use Rattle.eb_lines.proofs.PassingLines.{few_lines, at_line, stop_line, at_end, at_fault, at_limit, took, took_number, goes_number}

@@ -1,7 +1,5 @@
 use Rattle.std.proofs.Common.{◌≡◌, []}
-use Rattle.eb_serve.specs.Desk.{new_clerk}
 use Rattle.eb_workers.specs.Output.{asked}
-use Rattle.eb_workers.specs.Serving.{HasServed}
 use Rattle.eb_workers.proofs.Beginnings.{new_side, served_none}
 use Rattle.eb_workers.proofs.run.serve.Goals as goal
 

@@ -1,7 +1,7 @@
 use Rattle.std.proofs.Common.{sym, subst}
 use Rattle.earlybird.specs.declared.running.Running.{Running}
 use Rattle.earlybird.specs.Running.{WorksOn}
-use Rattle.earlybird.proofs.Runnings.{ok_on, err_on, err_any, goes_after, running_on}
+use Rattle.earlybird.proofs.Runnings.{ok_on, err_on, goes_after, running_on}
 use Rattle.earlybird.proofs.running.Running.hold.Goals as goal
 
 pub put-requires-clause-state : goal.put-requires-clause-state

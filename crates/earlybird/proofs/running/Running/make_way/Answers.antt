@@ -1,4 +1,4 @@
-use Rattle.std.proofs.Common.{◌≡◌, true, ◌∙◌, ap}
+use Rattle.std.proofs.Common.{◌≡◌, ◌∙◌, ap}
 use Rattle.eb_rounds.specs.Takes.{takes_kind}
 use Rattle.earlybird.proofs.Runnings.{ok_on, stays, takes_none}
 use Rattle.earlybird.proofs.running.Running.make_way.Goals as goal

@@ -1,6 +1,5 @@
 use Rattle.std.proofs.Common.{List, [], refl, ap, sym, subst}
 use Rattle.eb_base.specs.Document.{Doc}
-use Rattle.eb_engine.specs.Tokens.{Token}
 use Rattle.earlybird.specs.Waiting.{HasWorked}
 use Rattle.earlybird.proofs.Runs.{worked_none}
 use Rattle.earlybird.proofs.running.Running.new.Goals as goal

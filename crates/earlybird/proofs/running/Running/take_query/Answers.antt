@@ -1,4 +1,4 @@
-use Rattle.std.proofs.Common.{Some, refl, sym, ap, ◌∙◌}
+use Rattle.std.proofs.Common.{Some, sym, ap, ◌∙◌}
 use Rattle.eb_io.specs.Lines.{line}
 use Rattle.eb_rounds.specs.Inputs.{query_line}
 use Rattle.earlybird.specs.Holding.{input_by}

@@ -1,5 +1,5 @@
 use Rattle.std.proofs.Common.{Bool, true, subst}
-use Rattle.earlybird.specs.Session.{HasCome, WithPlaced}
+use Rattle.earlybird.specs.Session.{WithPlaced}
 use Rattle.earlybird.proofs.session.Session.add.Goals as goal
 
 pub pass-requires : goal.pass-requires

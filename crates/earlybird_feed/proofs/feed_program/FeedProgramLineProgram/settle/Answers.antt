@@ -1,5 +1,5 @@
 use Rattle.std.proofs.Common.{refl}
-use Rattle.earlybird_feed.proofs.Steps.{stays, body_of_run}
+use Rattle.earlybird_feed.proofs.Steps.{stays}
 use Rattle.earlybird_feed.proofs.feed_program.FeedProgramLineProgram.settle.Goals as goal
 
 pub returns : goal.returns

@@ -1,4 +1,4 @@
-use Rattle.std.proofs.Common.{refl, sym, ap, ◌∙◌, ◌++◌, ◌-◌, arith}
+use Rattle.std.proofs.Common.{refl, ap, ◌∙◌, ◌++◌, ◌-◌}
 use Rattle.eb_workers.specs.Waiting.{printed_by}
 use Rattle.eb_workers.proofs.Servings.{same_on, same_text, next_is, printed_on}
 use Rattle.eb_workers.proofs.serving.Serving.print_next.Goals as goal
