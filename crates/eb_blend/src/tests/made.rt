@@ -4,17 +4,17 @@ ghost use Rattle.eb_base.specs.Query.{Tree, tree, IsWellFormed};
 ghost use Rattle.eb_blend.specs.Frames.{Asks};
 
 use crate::{Blend, BlendFrame, BlendReader, BlendRefusal, BlendWriter};
-use eb_base::{Document, NoMemory, OpenGate, Query, Term, Terms};
+use eb_base::{Document, NoMemory, OpenGate, Queries, Query, Term, Terms};
 use eb_place::Steps;
 use std::alloc::Global;
 use std::marker::Brand;
 use std::sync::ledger::{Blank, Ledger};
 use std::test::Fail;
 
-// A document of the term `a`, and of `b` or `c` where 2 or 3 divides its id.
+// A document of the term `a`, and of `b`, `c` or `d` where 2, 3 or 5 divides its id.
 pub(super) fn document(alloc: Global, id: u64) -> Result<Document, Fail> {
     let mut terms = Terms::new(alloc);
-    for (divisor, term) in [(1, b"a"), (2, b"b"), (3, b"c")] {
+    for (divisor, term) in [(1, b"a"), (2, b"b"), (3, b"c"), (5, b"d")] {
         if id % divisor == 0 {
             terms.push(Term::new(alloc, term)?)?;
         }
@@ -25,6 +25,14 @@ pub(super) fn document(alloc: Global, id: u64) -> Result<Document, Fail> {
 // A word.
 pub(super) fn word(alloc: Global, term: &[u8]) -> Result<Query, Fail> {
     Ok(Query::Word(Term::new(alloc, term)?))
+}
+
+// The documents with `c` and not `d`.
+pub(super) fn c_without_d(alloc: Global) -> Result<Query, Fail> {
+    let mut parts = Queries::new(alloc);
+    parts.push(word(alloc, b"c")?)?;
+    parts.push(Query::Not(Box::new(alloc, word(alloc, b"d")?)?))?;
+    Ok(Query::And(parts))
 }
 
 // Adds a made document.
@@ -50,17 +58,19 @@ fn search_alone<L: Ledger>(
     requires blank { (blank.name ≡ L.name) × (blank.parts ≡ L.parts) × (0 < blank.parts) }
     requires made { reader.old.indexes ≡ blend.now.indexes }
     requires frame { (q : Tree) × (k : ℕ) × Asks frame.old q k (length blend.now.indexes) }
-    ensures { reader.new.indexes ≡ reader.old.indexes }
+    ensures indexes { reader.new.indexes ≡ reader.old.indexes }
+    ensures asks { (q : Tree) (k parts : ℕ) → Asks frame.old q k parts → Asks frame.new q k parts }
 {
     let mut steps = Steps::<L>::new(blank);
     reader.search(blend, frame, &OpenGate, &mut steps)
 }
 
 // A search with a counter of its own.
-fn searched(reader: &mut BlendReader, blend: &Blend, frame: &mut BlendFrame) -> u64
+pub(super) fn searched(reader: &mut BlendReader, blend: &Blend, frame: &mut BlendFrame) -> u64
     requires made { reader.old.indexes ≡ blend.now.indexes }
     requires frame { (q : Tree) × (k : ℕ) × Asks frame.old q k (length blend.now.indexes) }
-    ensures { reader.new.indexes ≡ reader.old.indexes }
+    ensures indexes { reader.new.indexes ≡ reader.old.indexes }
+    ensures asks { (q : Tree) (k parts : ℕ) → Asks frame.old q k parts → Asks frame.new q k parts }
 {
     search_alone::<Brand>(reader, blend, frame, Blank::new(1))
 }
