@@ -1,9 +1,10 @@
 ghost use Rattle.std.specs.Prelude.{◌≡◌, Some, None, IfOk, IsErrOf, map, string_bytes};
-ghost use Rattle.earlybird.specs.Command.{run_by, run_of, over_parts, with_workers};
+ghost use Rattle.eb_options.specs.Items.{items_of};
+ghost use Rattle.earlybird.specs.Command.{run_by, run_flags, run_of, run_options, run_with, over_parts, with_workers};
 
 use crate::command::{Command, CommandFault};
 use eb_base::{Config, MAX_WORDS};
-use eb_options::{OptionFault, read_options, read_setting};
+use eb_options::{Items, OptionFault, read_options, read_setting};
 use std::alloc::Global;
 
 // The flags and the options of `run`.
@@ -64,22 +65,38 @@ fn run_in_way(
     }
 }
 
+// What the items behind `run` ask for.
+fn read_way(items: &Items) -> Option<Command>
+    ensures { result ≡ run_with items.now }
+{
+    let config = read_setting(items)?;
+    let overlap = items.has("overlap");
+    let workers = items.number("workers");
+    let parts = items.number("parts");
+    let stats = items.has("stats");
+    run_in_way(overlap, workers, parts, stats, config)
+}
+
+// The items that the words behind `run` are.
+fn read_items(alloc: Global, words: &[String]) -> Result<Items, CommandFault>
+    ensures items { IfOk result (λ items. items_of run_flags run_options (map string_bytes words.now) ≡ Some items) }
+    ensures usage { IsErrOf result CommandFault.Usage → items_of run_flags run_options (map string_bytes words.now) ≡ None }
+{
+    match read_options(alloc, words, &RUN_FLAGS, &RUN_OPTIONS) {
+        Ok(items) => Ok(items),
+        Err(OptionFault::Usage) => Err(CommandFault::Usage),
+        Err(OptionFault::NoMemory) => Err(CommandFault::NoMemory),
+    }
+}
+
 // What the words behind `run` ask for.
 pub(super) fn read_run(alloc: Global, words: &[String]) -> Result<Command, CommandFault>
     ensures command { IfOk result (λ command. run_of (map string_bytes words.now) ≡ Some command) }
     ensures usage { IsErrOf result CommandFault.Usage → run_of (map string_bytes words.now) ≡ None }
 {
-    let items = match read_options(alloc, words, &RUN_FLAGS, &RUN_OPTIONS) {
-        Ok(items) => items,
-        Err(OptionFault::Usage) => return Err(CommandFault::Usage),
-        Err(OptionFault::NoMemory) => return Err(CommandFault::NoMemory),
-    };
-    let Some(config) = read_setting(&items) else {
-        return Err(CommandFault::Usage);
-    };
-    let overlap = items.has("overlap");
-    let stats = items.has("stats");
-    let workers = items.number("workers");
-    let parts = items.number("parts");
-    run_in_way(overlap, workers, parts, stats, config).ok_or(CommandFault::Usage)
+    let items = read_items(alloc, words)?;
+    match read_way(&items) {
+        Some(command) => Ok(command),
+        None => Err(CommandFault::Usage),
+    }
 }

@@ -1,18 +1,25 @@
-//! Documents, queries and frames.
-ghost use Rattle.std.specs.Prelude.{◌≡◌};
-
-use eb_base::{Document, OpenGate, Queries, Query, Term, Terms};
-use eb_cursor::Frame;
-use eb_engine::{Index, Writer};
+//! Documents and queries, each as a line and as what it says.
+use eb_base::{Document, Queries, Query, Term, Terms};
 use std::alloc::Global;
+use std::fmt::Write;
 use std::test::Fail;
 
-// A document of the term `d`, and of `a`, `b` or `c` where 2, 3 or 5 divides its id.
+// The words of a document: `d`, and `a`, `b` or `c` where 2, 3 or 5 divides its id.
+fn words(id: u64) -> [&'static str; 4] {
+    [
+        if id % 2 == 0 { "a" } else { "" },
+        if id % 3 == 0 { "b" } else { "" },
+        if id % 5 == 0 { "c" } else { "" },
+        "d",
+    ]
+}
+
+// The document of an id.
 fn document(alloc: Global, id: u64) -> Result<Document, Fail> {
     let mut terms = Terms::new(alloc);
-    for (divisor, term) in [(2, b"a"), (3, b"b"), (5, b"c"), (1, b"d")] {
-        if id % divisor == 0 {
-            terms.push(Term::new(alloc, term)?)?;
+    for word in words(id) {
+        if !word.is_empty() {
+            terms.push(Term::new(alloc, word.as_bytes())?)?;
         }
     }
     Ok(Document::new(id, terms)?)
@@ -49,22 +56,20 @@ pub(super) fn query(alloc: Global, number: u64) -> Result<Query, Fail> {
     }
 }
 
-// A frame for the query of a number, with room for ten ids.
-pub(super) fn frame(alloc: Global, number: u64) -> Result<Frame, Fail> {
-    let query = query(alloc, number)?;
-    if !query.is_well_formed() {
-        return Err(Fail::new("no such query"));
+// The lines of so many documents, and behind each of them the query of its id, for ten ids.
+pub(super) fn lines(alloc: Global, count: u64) -> Result<String, Fail> {
+    let mut text = String::new(alloc);
+    for id in 0..count {
+        let [a, b, c, d] = words(id);
+        let asked = match id % 3 {
+            0 => "d",
+            1 => "c",
+            _ => "a -b",
+        };
+        write!(
+            text,
+            "{{\"id\":{id},\"text\":\"{a} {b} {c} {d}\"}}\n?10 {asked}\n"
+        )?;
     }
-    Ok(Frame::new(alloc, query, 10)?)
-}
-
-// Adds the document of a number, where there is one: whether there was room.
-pub(super) fn add(writer: &mut Writer, index: &Index, documents: &[Document], number: usize) -> bool
-    requires { writer.old.index ≡ index.now }
-    ensures { writer.new.index ≡ writer.old.index }
-{
-    match documents.get(number) {
-        None => true,
-        Some(document) => writer.add(index, document, &OpenGate).is_ok(),
-    }
+    Ok(text)
 }

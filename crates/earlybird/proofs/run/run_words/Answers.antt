@@ -36,9 +36,10 @@ returns-in-Err-NoMemory-clause-parts g c = λ n stats σ is.
     let a : Asked = record { parts = n; setting = σ; stats = stats } in
     passing.ends_at_once _ _ _ _ (line_runs.body_first a) _ _ [] (record { readings = []; read = read_none a; bytes = sym body-nil })
 
-pub run_workers-requires : goal.run_workers-requires
-run_workers-requires g c =
-    few_workers (map string_bytes c.args.words.now.items) c.in-RunWorkers.workers c.in-RunWorkers.stats c.in-RunWorkers.config (c.in-Ok.ensures.command ∙ ap Some c.in-RunWorkers.is)
+pub run_workers-requires-after_bounds : goal.run_workers-requires-after_bounds
+run_workers-requires-after_bounds g c = λ κs bounds.
+    few_workers (map string_bytes c.args.words.now.items) c.in-RunWorkers.workers c.in-RunWorkers.stats c.in-RunWorkers.config
+    (c.in-Ok.ensures.command ∙ ap Some c.in-RunWorkers.is)
 
 pub run_parts-requires : goal.run_parts-requires
 run_parts-requires g c =
