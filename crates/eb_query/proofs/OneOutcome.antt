@@ -4,9 +4,11 @@ use Rattle.eb_base.specs.Query.{Tree, size, most_size}
 use Rattle.eb_query.specs.Grammar.{Lexeme, Gives, Continues}
 use Rattle.eb_query.specs.Lexemes.{Placed}
 use Rattle.eb_query.specs.Nesting.{nesting, IsOpener, most_open}
-use Rattle.eb_query.specs.Number.{number_of, HasNumber, lexemes_of_line}
+use Rattle.eb_query.specs.Number.{number_of, HasNumber, HasWatchNumber, lexemes_of_line}
 use Rattle.eb_query.specs.Reading.{Outcome, asks, bad_query, too_deep, too_many_nodes, IsOutcome, ReadsAs, bad_number}
 use Rattle.eb_query.specs.Reading.{without_number, with_number, stands, cannot_stand, stands_too_deep, incomplete, large, complete}
+use Rattle.eb_query.specs.WatchLine as watch
+use Rattle.eb_query.specs.WatchLine.{WatchOutcome, ReadsWatchAs, removes, reads, alone, with_text}
 use Rattle.eb_query.proofs.Machine.{one_query}
 
 -- what the rules say at one lexeme, and at the end
@@ -83,3 +85,28 @@ one_read line a b (inr x) (inr y) = same line (lexemes_of_line line) [] a b x.1 
 
 pub one_outcome : (line : List ℕ) (a b : Outcome) → ReadsAs line a → ReadsAs line b → a ≡ b
 one_outcome line a b h k = one_read line a b (read_as h) (read_as k)
+
+-- what the rules say of a watch line
+WatchRead : List ℕ → WatchOutcome → Type 0
+WatchRead line o = ((o ≡ reads bad_number) × (HasWatchNumber line → ⊥))
+    ⊎ (HasWatchNumber line × (((lexemes_of_line line ≡ []) × (o ≡ removes (number_of line)))
+    ⊎ ((q : Outcome) × (lexemes_of_line line ≡ [] → ⊥) × IsOutcome line [] (lexemes_of_line line) q × (o ≡ reads q))))
+
+watch_read_as : {line : List ℕ} {o : WatchOutcome} → ReadsWatchAs line o → WatchRead line o
+unfolding WatchRead
+watch_read_as (watch.without_number n) = inl (refl, n)
+watch_read_as (alone h e) = inr (h, inl (e, refl))
+watch_read_as (with_text {o} h n r) = inr (h, inr (o, n, r, refl))
+
+one_watch_read : (line : List ℕ) (a b : WatchOutcome) → WatchRead line a → WatchRead line b → a ≡ b
+unfolding WatchRead
+one_watch_read line a b (inl x) (inl y) = x.0 ∙ sym y.0
+one_watch_read line a b (inl x) (inr y) = absurd (x.1 y.0)
+one_watch_read line a b (inr x) (inl y) = absurd (y.1 x.0)
+one_watch_read line a b (inr (h, inl x)) (inr (k, inl y)) = x.1 ∙ sym y.1
+one_watch_read line a b (inr (h, inl x)) (inr (k, inr y)) = absurd (y.1 x.0)
+one_watch_read line a b (inr (h, inr x)) (inr (k, inl y)) = absurd (x.1 y.0)
+one_watch_read line a b (inr (h, inr x)) (inr (k, inr y)) = x.3 ∙ ap reads (same line (lexemes_of_line line) [] x.0 y.0 x.2 y.2) ∙ sym y.3
+
+pub one_watch_outcome : (line : List ℕ) (a b : WatchOutcome) → ReadsWatchAs line a → ReadsWatchAs line b → a ≡ b
+one_watch_outcome line a b h k = one_watch_read line a b (watch_read_as h) (watch_read_as k)

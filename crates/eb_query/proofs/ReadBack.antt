@@ -32,7 +32,10 @@ module _ (k : ℕ) (ds text : List ℕ) (d : IsDecimal 4 k ds) where
 
   line_has : 1 ≤ k → k ≤ most_matches → HasNumber (63 ∷ ds ++ 32 ∷ text)
   line_has h i = let e = line_digits in let n = line_number in let s = d.some in let f = d.few in
-      record { some = omega arith; few = omega arith; positive = omega arith; within = omega arith; apart = ap is_blank_or_end line_rest }
+      record {
+        up_to = record { some = omega arith; few = omega arith; within = omega arith; apart = ap is_blank_or_end line_rest };
+        positive = omega arith;
+      }
 
   line_lexemes : (c : ℕ) × (lexemes_of_line (63 ∷ ds ++ 32 ∷ text) ≡ lexemes 0 c text)
   unfolding lexemes_of_line

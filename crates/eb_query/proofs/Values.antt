@@ -1,5 +1,5 @@
 -- The value of a few digits.
-use Rattle.std.proofs.Common.{◌≡◌, ℕ, zero, suc, ◌+◌, ◌-◌, ◌*◌, ◌<◌, ◌≤◌, List, length, drop, get_or, arith, drop-cons, add-one, lit≤, refl, sym, ap, ◌∙◌}
+use Rattle.std.proofs.Common.{◌≡◌, ℕ, zero, suc, ◌+◌, ◌-◌, ◌*◌, ◌^◌, ◌<◌, ◌≤◌, List, length, drop, get_or, arith, drop-cons, add-one, lit≤, refl, sym, ap, ◌∙◌}
 use Rattle.std.proofs.Common.{take, nat_lt, Bool, true, false, length-drop, ltb-false}
 use Rattle.std.proofs.lemmas.Bool.{ltb-true}
 use Rattle.std.proofs.lemmas.List.Sums.{prefix_len-le-length}
@@ -20,13 +20,17 @@ pub cap_next : (i : ℕ) → cap (i + 1) ≡ 10 * cap i + 300
 unfolding cap
 cap_next i = rw add-one refl
 
-pub cap_small : (i : ℕ) → i < 4 → cap i ≤ 40000
+cap_rises : (i k : ℕ) → cap i ≤ cap (k + i)
 unfolding cap
-cap_small zero h = lit≤ tt
-cap_small (suc zero) h = lit≤ tt
-cap_small (suc (suc zero)) h = lit≤ tt
-cap_small (suc (suc (suc zero))) h = lit≤ tt
-cap_small (suc (suc (suc (suc i)))) h = absurd (omega arith)
+cap_rises i zero = let e : 0 + i ≡ i = omega arith in rw e (omega arith)
+cap_rises i (suc k) = let h = cap_rises i k in let e = cap_next (k + i) in let s : suc k + i ≡ k + i + 1 = omega arith in rw s (omega arith)
+
+cap_fifteen : cap 15 ≤ 10 ^ 17
+unfolding cap
+cap_fifteen = lit≤ tt
+
+pub cap_small : (i : ℕ) → i < 16 → cap i ≤ 10 ^ 17
+cap_small i h = let e : 15 - i + i ≡ 15 = omega arith in let r : cap i ≤ cap 15 = rw e at (cap_rises i (15 - i)) in let f = cap_fifteen in omega arith
 
 pub value_next : (ds : List ℕ) (i v d : ℕ) → i < length ds → d ≡ get_or ds i 0 → value_after v (drop i ds) ≡ value_after (10 * v + (d - 48)) (drop (i + 1) ds)
 value_next ds i v d h e = rw (add-one, drop-cons ds i 0 h, ← e) refl

@@ -4,6 +4,7 @@ pub mod Digits
 pub mod Lexemes
 pub mod Number
 pub mod Reading
+pub mod WatchLine
 pub mod Refusal
 pub mod Writing
 pub mod Gaps

@@ -1,11 +1,11 @@
--- The number of a query line, which follows its question mark.
+-- The number of a line, which follows its first byte.
 use Rattle.std.specs.Prelude.{◌≡◌, ℕ, ◌+◌, ◌≤◌, Bool, true, List, [], ◌∷◌, take, drop}
 use Rattle.std.specs.List.{position_or_len}
 use Rattle.eb_query.specs.Digits.{is_no_digit, value_after}
 use Rattle.eb_query.specs.Lexemes.{Placed, is_blank, lexemes}
 use Rattle.eb_base.specs.Match.{most_matches}
 
--- how many digits follow the question mark
+-- how many digits follow the first byte
 unfoldable pub digits_len : List ℕ → ℕ
 digits_len line = position_or_len is_no_digit (drop 1 line)
 
@@ -18,13 +18,21 @@ abbrev pub is_blank_or_end : List ℕ → Bool
 is_blank_or_end [] = true
 is_blank_or_end (b ∷ bs) = is_blank b
 
--- one to four digits of a value from 1 to the most matches, and after them a blank or the end
-pub record HasNumber (line : List ℕ) : Type 0 where
+-- a digit and at most so many of them, of a value that isn't over the most, and after them a blank or the end
+pub record HasNumberUpTo (most_digits most : ℕ) (line : List ℕ) : Type 0 where
   pub some : 1 ≤ digits_len line
-  pub few : digits_len line ≤ 4
-  pub positive : 1 ≤ number_of line
-  pub within : number_of line ≤ most_matches
+  pub few : digits_len line ≤ most_digits
+  pub within : number_of line ≤ most
   pub apart : is_blank_or_end (drop (1 + digits_len line) line) ≡ true
+
+-- the number of a query line: one to four digits of a value from 1 to the most matches
+pub record HasNumber (line : List ℕ) : Type 0 where
+  pub up_to : HasNumberUpTo 4 most_matches line
+  pub positive : 1 ≤ number_of line
+
+-- the number of a watch line: one to ten digits of a value that 32 bits hold
+abbrev pub HasWatchNumber : List ℕ → Type 0
+HasWatchNumber line = HasNumberUpTo 10 4294967295 line
 
 -- the lexemes of the query text, which is all behind the digits
 unfoldable pub lexemes_of_line : List ℕ → List Placed

@@ -21,14 +21,14 @@ pub fn digits_at(bytes: &[u8]) -> usize
     bytes.len()
 }
 
-/// The value of a few digits.
-pub fn value_of(digits: &[u8]) -> u32
-    requires { length digits.now ≤ 4 }
+/// The value of at most 16 digits.
+pub fn value_of(digits: &[u8]) -> u64
+    requires { length digits.now ≤ 16 }
     ensures { result ≡ value_after 0 digits.now }
 {
-    let mut value: u32 = 0;
+    let mut value: u64 = 0;
     for digit in digits {
-        value = 10 * value + u32::from(digit.saturating_sub(b'0'));
+        value = 10 * value + u64::from(digit.saturating_sub(b'0'));
     }
     value
 }

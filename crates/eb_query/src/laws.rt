@@ -1,4 +1,4 @@
-ghost use Rattle.eb_query.specs.Laws.{SomeReading, OneReading, ReadsBack};
+ghost use Rattle.eb_query.specs.Laws.{SomeReading, OneReading, SomeWatchReading, OneWatchReading, ReadsBack};
 
 /// The rules of reading leave no line out: each has an outcome, which asks something or is a
 /// refusal. The call does nothing.
@@ -13,6 +13,20 @@ pub fn some_reading()
 /// [`read_query`]: crate::read_query
 pub fn one_reading()
     ensures { OneReading }
+{}
+
+/// The rules of watch lines leave no line out: each sets or removes a watch or is a refusal. The call
+/// does nothing.
+pub fn some_watch_reading()
+    ensures { SomeWatchReading }
+{}
+
+/// The law of reading for watch lines: the rules give a line at most one outcome, and so settle what
+/// [`read_watch`] answers. The call does nothing.
+///
+/// [`read_watch`]: crate::read_watch
+pub fn one_watch_reading()
+    ensures { OneWatchReading }
 {}
 
 /// The law of writing: the line that [`write_query`] gives for `k` and a well-formed query reads

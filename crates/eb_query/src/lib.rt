@@ -1,8 +1,10 @@
 //! Query lines: `?`, how many matches are wanted, and a query of words, phrases, windows, bounds on
-//! ids, `OR`, `-` and parentheses (this project's profile, docs/FORMATS.md). [`read_query`] reads a line and
-//! [`write_query`] writes one. What a line asks, and where and why another is refused, is told by
-//! the rules in `specs/`. That they give each line a reading, and one alone, and that what is
-//! written reads back, are the laws [`some_reading`], [`one_reading`] and [`reads_back`].
+//! ids, `OR`, `-` and parentheses; and watch lines: `!`, the number of a watch, and the query that it is set
+//! to, or nothing where it is removed (this project's profile, docs/FORMATS.md). [`read_query`] reads a query
+//! line, [`write_query`] writes one, and [`read_watch`] reads a watch line. What a line asks, and where and why
+//! another is refused, is told by the rules in `specs/`. That they give each line a reading, and one alone, and
+//! that what is written reads back, are the laws [`some_reading`], [`one_reading`], [`some_watch_reading`],
+//! [`one_watch_reading`] and [`reads_back`].
 #![tactic(auto)]
 
 mod bound;
@@ -13,12 +15,14 @@ mod number;
 mod quoted;
 mod read;
 mod reader;
+mod watch;
 mod write;
 
-pub use laws::{one_reading, reads_back, some_reading};
+pub use laws::{one_reading, one_watch_reading, reads_back, some_reading, some_watch_reading};
 pub use number::MAX_NUMBER;
 pub use read::{QueryFault, read_query};
 pub use reader::MAX_NESTING;
+pub use watch::read_watch;
 pub use write::write_query;
 
 #[cfg(test)]

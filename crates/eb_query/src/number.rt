@@ -1,5 +1,5 @@
 ghost use Rattle.std.specs.Prelude.{◌≡◌, ◌+◌, ◌<◌, ◌≤◌, length, drop, IfSome, IfNone};
-ghost use Rattle.eb_query.specs.Number.{is_blank_or_end, digits_len, number_of, HasNumber};
+ghost use Rattle.eb_query.specs.Number.{is_blank_or_end, digits_len, number_of, HasNumberUpTo, HasNumber};
 
 use crate::digits::{digits_at, value_of};
 use crate::lexeme::is_blank_byte;
@@ -7,10 +7,10 @@ use crate::lexeme::is_blank_byte;
 /// The most matches that a query may ask for (this project's profile, docs/FORMATS.md).
 pub const MAX_NUMBER: u32 = 1000;
 
-/// The number of a query line.
+/// The number of a line.
 #[derive(Clone, Copy, Drop)]
 pub struct Number {
-    /// Its value, 1 to [`MAX_NUMBER`].
+    /// Its value.
     pub value: u32,
     /// The place of the byte behind its last digit, counted from 0.
     pub end: usize,
@@ -24,6 +24,35 @@ fn is_apart(line: &[u8], from: usize) -> bool
     from == line.len() || is_blank_byte(line[from])
 }
 
+/// The number behind the first byte of a line, if it has one: at least one digit and at most so many, of a value that
+/// isn't over the most, and behind them a blank or the end. Takes no memory.
+pub fn number_up_to(line: &[u8], most_digits: usize, most: u32) -> Option<Number>
+    requires first { 0 < length line.now }
+    requires few { most_digits ≤ 16 }
+    ensures none { IfNone result (HasNumberUpTo most_digits most line.now → ⊥) }
+    ensures some { IfSome result (λ number. HasNumberUpTo most_digits most line.now) }
+    ensures value { IfSome result (λ number. number.value ≡ number_of line.now) }
+    ensures end { IfSome result (λ number. number.end ≡ 1 + digits_len line.now) }
+{
+    let digits = digits_at(&line[1..]);
+    if digits == 0 || digits > most_digits {
+        return None;
+    }
+    let end = digits + 1;
+    let value = value_of(&line[1..end]);
+    if value > u64::from(most) {
+        return None;
+    }
+    if is_apart(line, end) {
+        Some(Number {
+            value: value as u32,
+            end,
+        })
+    } else {
+        None
+    }
+}
+
 /// The number of a line that begins with a question mark, if it has one: one to four digits of a
 /// value from 1 to [`MAX_NUMBER`], and behind them a blank or the end. Takes no memory.
 pub fn number_at(line: &[u8]) -> Option<Number>
@@ -33,18 +62,9 @@ pub fn number_at(line: &[u8]) -> Option<Number>
     ensures value { IfSome result (λ number. number.value ≡ number_of line.now) }
     ensures end { IfSome result (λ number. number.end ≡ 1 + digits_len line.now) }
 {
-    let digits = digits_at(&line[1..]);
-    if digits == 0 || digits > 4 {
+    let number = number_up_to(line, 4, MAX_NUMBER)?;
+    if number.value == 0 {
         return None;
     }
-    let end = digits + 1;
-    let value = value_of(&line[1..end]);
-    if value == 0 || value > MAX_NUMBER {
-        return None;
-    }
-    if is_apart(line, end) {
-        Some(Number { value, end })
-    } else {
-        None
-    }
+    Some(number)
 }

@@ -51,10 +51,10 @@ fn reach_at(bytes: &[u8], digits: usize) -> Option<u32>
         return None;
     }
     let reach = value_of(&bytes[..digits]);
-    if reach == 0 || reach > MAX_REACH {
+    if reach == 0 || reach > u64::from(MAX_REACH) {
         return None;
     }
-    Some(reach)
+    Some(reach as u32)
 }
 
 // The leaf of a window text, by its tokens and its reach.

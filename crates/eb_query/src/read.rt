@@ -14,17 +14,17 @@ use crate::reader::{Reader, Step};
 use eb_base::{NoMemory, Query};
 use std::alloc::Global;
 
-/// Why a line is no query. Where several hold, the number comes first, then the first lexeme from
+/// Why a line is no query, or no watch. Where several hold, the number comes first, then the first lexeme from
 /// the left that fails, then the end of the line, and last the size.
 #[derive(Clone, Copy, Debug, PartialEq, Eq)]
 pub enum QueryFault {
-    /// The question mark isn't followed by one to four digits of a value from 1 to 1,000 with a
-    /// blank or the end of the line behind them.
+    /// The question mark isn't followed by one to four digits of a value from 1 to 1,000, or the exclamation mark by
+    /// one to ten of a value that 32 bits hold, with a blank or the end of the line behind them.
     BadNumber,
     /// A lexeme can't stand at its place, is a quote that isn't closed, has no token, or is a window
     /// text without a reach or a bound without an id; or the line ends before the query is complete.
     BadQuery {
-        /// The place of the lexeme's first byte in the line, counted from 1 with the question mark
+        /// The place of the lexeme's first byte in the line, counted from 1 with the mark in front
         /// as 1; at the end of the line its length plus 1.
         column: u64,
     },
@@ -49,7 +49,7 @@ impl From<NoMemory> for QueryFault {
 }
 
 // What the text that begins at this place asks.
-fn read_text(alloc: Global, line: &str, from: usize) -> Result<Query, QueryFault>
+pub(crate) fn read_text(alloc: Global, line: &str, from: usize) -> Result<Query, QueryFault>
     requires boundary { IsCharBoundary line.now from }
     requires within { from ≤ length line.now }
     ensures { Finds line.now

@@ -1,7 +1,29 @@
-use crate::{QueryFault, read_query, write_query};
+use crate::{QueryFault, read_query, read_watch, write_query};
 use eb_base::{NoMemory, Queries, Query, Term, Terms};
 use std::alloc::Global;
 use std::test::Fail;
+
+// The text of a fault.
+fn fault_text(alloc: Global, fault: QueryFault) -> Result<String, Fail> {
+    match fault {
+        QueryFault::BadNumber => Ok(String::from_str(alloc, "bad number")?),
+        QueryFault::BadQuery { column } => Ok(format!(in alloc; "bad query at {column}")?),
+        QueryFault::TooDeep => Ok(String::from_str(alloc, "query too deep")?),
+        QueryFault::TooManyNodes => Ok(String::from_str(alloc, "query too large")?),
+        QueryFault::NoMemory => Ok(String::from_str(alloc, "no memory")?),
+    }
+}
+
+// The line that is written for the query.
+fn written(alloc: Global, k: u32, query: &Query) -> Result<String, Fail> {
+    if k == 0 || k > 1000 || !query.is_well_formed() {
+        return Ok(String::from_str(alloc, "no query")?);
+    }
+    match write_query(alloc, k, query) {
+        Ok(bytes) => Ok(String::from_utf8(bytes).unwrap_or(String::new(alloc))),
+        Err(_) => Ok(String::from_str(alloc, "no memory")?),
+    }
+}
 
 // What the line reads as: the line that is written for it, or the fault.
 fn reading(alloc: Global, line: &str) -> Result<String, Fail> {
@@ -9,15 +31,23 @@ fn reading(alloc: Global, line: &str) -> Result<String, Fail> {
         return Ok(String::from_str(alloc, "no query line")?);
     }
     match read_query(alloc, line) {
-        Ok((k, query)) => match write_query(alloc, k, &query) {
-            Ok(bytes) => Ok(String::from_utf8(bytes).unwrap_or(String::new(alloc))),
-            Err(_) => Ok(String::from_str(alloc, "no memory")?),
-        },
-        Err(QueryFault::BadNumber) => Ok(String::from_str(alloc, "bad number")?),
-        Err(QueryFault::BadQuery { column }) => Ok(format!(in alloc; "bad query at {column}")?),
-        Err(QueryFault::TooDeep) => Ok(String::from_str(alloc, "query too deep")?),
-        Err(QueryFault::TooManyNodes) => Ok(String::from_str(alloc, "query too large")?),
-        Err(QueryFault::NoMemory) => Ok(String::from_str(alloc, "no memory")?),
+        Ok((k, query)) => written(alloc, k, &query),
+        Err(fault) => fault_text(alloc, fault),
+    }
+}
+
+// What the watch line reads as: the number to remove, the number and the query to set, or the fault.
+fn watch_reading(alloc: Global, line: &str) -> Result<String, Fail> {
+    if !line.starts_with('!') {
+        return Ok(String::from_str(alloc, "no watch line")?);
+    }
+    match read_watch(alloc, line) {
+        Ok((number, None)) => Ok(format!(in alloc; "remove {number}")?),
+        Ok((number, Some(query))) => {
+            let text = written(alloc, 1, &query)?;
+            Ok(format!(in alloc; "set {number}: {text}")?)
+        }
+        Err(fault) => fault_text(alloc, fault),
     }
 }
 
@@ -180,5 +210,59 @@ fn sizes_of_windows_and_bounds(rt: HostRuntime) -> Result<(), Fail> {
     assert!(rt; reading(alloc, line.as_str())? == line);
     line.push_str(" since:2")?;
     assert_eq!(rt; reading(alloc, line.as_str())?.as_str(), "query too large");
+    Ok(())
+}
+
+#[test]
+fn watch_lines(rt: HostRuntime) -> Result<(), Fail> {
+    let alloc = rt.alloc();
+    for (line, want) in [
+        // A text sets a watch, and blanks alone remove one.
+        ("!1 a", "set 1: ?1 \"a\""),
+        ("!2 b", "set 2: ?1 \"b\""),
+        ("!0007 a", "set 7: ?1 \"a\""),
+        ("!3\t\"a b\"~2 -since:9", "set 3: ?1 \"a b\"~2 -since:9"),
+        ("!1", "remove 1"),
+        ("!1  \t", "remove 1"),
+        ("!0", "remove 0"),
+        // Numbers.
+        ("!4294967295", "remove 4294967295"),
+        ("!4294967295 a", "set 4294967295: ?1 \"a\""),
+        ("!0000000001 a", "set 1: ?1 \"a\""),
+        ("!4294967296", "bad number"),
+        ("!4294967297 a", "bad number"),
+        ("!9999999999 a", "bad number"),
+        ("!00000000001 a", "bad number"),
+        ("!18446744073709551617 a", "bad number"),
+        ("!", "bad number"),
+        ("! a", "bad number"),
+        ("! 1 a", "bad number"),
+        ("!x", "bad number"),
+        ("!-1 a", "bad number"),
+        ("!1a", "bad number"),
+        ("!1\"a\"", "bad number"),
+        ("!1(a)", "bad number"),
+        // What can't stand.
+        ("!3 (", "bad query at 5"),
+        ("!1 !", "bad query at 4"),
+        ("!12 a )", "bad query at 7"),
+        ("!3 a OR ", "bad query at 9"),
+        // Nesting.
+        ("!5 -(-(-(-(-(-(-(-(a))))))))", "set 5: ?1 --------\"a\""),
+        ("!5 -(-(-(-(-(-(-(-(-(a)))))))))", "query too deep"),
+    ] {
+        assert_eq!(rt; watch_reading(alloc, line)?.as_str(), want, "{line}");
+    }
+    // Sizes: 63 words side by side are of size 64, and of 65 words the size is 66.
+    let mut line = String::from_str(alloc, "!9")?;
+    for _ in 0..63 {
+        line.push_str(" a")?;
+    }
+    assert!(rt; watch_reading(alloc, line.as_str())?.starts_with("set 9: ?1 "));
+    line.push_str(" a a")?;
+    assert_eq!(rt;
+        watch_reading(alloc, line.as_str())?.as_str(),
+        "query too large"
+    );
     Ok(())
 }

@@ -3,6 +3,7 @@ use Rattle.std.proofs.lemmas.Option.{slice_get_within}
 use Rattle.eb_base.specs.Query.{tree}
 use Rattle.eb_query.specs.Number.{is_blank_or_end}
 use Rattle.eb_query.specs.Reading.{without_number}
+use Rattle.eb_query.specs.Refusal.{IsRefused}
 use Rattle.eb_query.proofs.Values.{digits_within, apart_boundary}
 use Rattle.eb_query.proofs.Asks.{asked, faulted, handed_on}
 use Rattle.eb_query.proofs.Formed.{given_formed}
@@ -21,13 +22,13 @@ read_text-requires-clause-boundary c =
     let h = rw c.as_bytes.ensures.value at c.in-Some.ensures.some in
     let e = rw c.as_bytes.ensures.value at c.in-Some.ensures.end in
     let w = digits_within c.args.line.now (slice_get_within c.args.line.now 0 63 c.requires.question_mark) in
-    apart_boundary c.args.line.now c.in-Some.number.end (omega arith) (ap (λ (k : ℕ). is_blank_or_end (drop k c.args.line.now)) e ∙ h.apart)
+    apart_boundary c.args.line.now c.in-Some.number.end (omega arith) (ap (λ (k : ℕ). is_blank_or_end (drop k c.args.line.now)) e ∙ h.up_to.apart)
 
 pub returns-in_err-query-clause-refused : goal.returns-in_err-query-clause-refused
 returns-in_err-query-clause-refused c =
     let h = rw c.as_bytes.ensures.value at c.in-Some.ensures.some in
     let e = rw c.as_bytes.ensures.value at c.in-Some.ensures.end in
-    handed_on c.args.line.now c.in_err-query.field-0.0 c.from_residual.result c.from_residual.ensures.1
+    handed_on (IsRefused c.args.line.now) c.in_err-query.field-0.0 c.from_residual.result c.from_residual.ensures.1
     (faulted c.args.line.now c.in-Some.number.end h e c.in_err-query.field-0.0 c.in_err-query.ensures)
 
 pub returns-clause-asks : goal.returns-clause-asks
