@@ -20,9 +20,8 @@ use Rattle.eb_lines.specs.Reads.{Reads}
 use Rattle.eb_lines.specs.Progress.{documents_in, accepted, queries, refusals, progress_after, with_line, nothing}
 use Rattle.eb_rounds.specs.Admitted.{admit, admitted}
 use Rattle.earlybird.specs.Session.{HasCome, IsOutcome}
-use Rattle.earlybird.specs.Bench.{usual, answer_in, answers_from, all_answers, ids_in, bench_line, figures, PrintsFigures, WroteBench, MeansBench, HasCounted}
-use Rattle.earlybird.specs.Output.{IsWorkedOff}
-use Rattle.earlybird.specs.Worked.{Closes}
+use Rattle.earlybird.specs.Bench.{usual, answer_in, answers_from, all_answers, ids_in, bench_line, figures, Closes, PrintsFigures, WroteBench, MeansBench, HasCounted}
+use Rattle.eb_lines.specs.Outcomes.{IsWorkedOff}
 use Rattle.eb_lines.proofs.OneReading.{some_read}
 use Rattle.eb_lines.proofs.Advancing.{progress_after-push, progress_after-nil}
 use Rattle.earlybird.proofs.Admissions.{read_none, read_push, read_long}

@@ -1,5 +1,5 @@
 -- The words ask for nothing out of range.
-use Rattle.std.proofs.Common.{◌≡◌, ℕ, ◌≤◌, List, [], ◌∷◌, Option, None, Some, refl, subst, ◌∙◌}
+use Rattle.std.proofs.Common.{◌≡◌, ℕ, ◌≤◌, List, [], ◌∷◌, Option, None, Some, refl, subst}
 use Rattle.std.specs.Prelude.{◌&&◌, ◌*◌, ◌^◌, Bool, true, false, codes, nat_le, if◌then◌else◌, option_map, option_and_then}
 use Rattle.std.specs.Str.{bytes_eq}
 use Rattle.std.proofs.lemmas.Bool.{and_parts, leb-true}
@@ -8,7 +8,7 @@ use Rattle.eb_options.specs.Numbers.{number}
 use Rattle.eb_options.specs.Items.{has, items_of, number_of}
 use Rattle.eb_options.specs.Settings.{setting_of, setting_options}
 use Rattle.earlybird.specs.declared.command.Command.{Command}
-use Rattle.earlybird.specs.declared.command.Command.TheVariants.{Run, RunWorkers, RunParts, Bench, Save, Load}
+use Rattle.earlybird.specs.declared.command.Command.TheVariants.{Run, RunWorkers, RunParts, RunWatches, Bench, Save, Load}
 use Rattle.earlybird.specs.Command.{run_flags, run_options, is_few, with_workers, over_parts, run_by, run_with, run_of, bench_docs, bench_of, save_with, save_of, load_with, load_of, command_of}
 
 -- what is asked for is in range: a made input of at most 40,000 documents, 1 to 16 workers, 1 to 16 parts
@@ -17,6 +17,7 @@ IsInRange None = Unit {0}
 IsInRange (Some (Run overlap stats σ)) = Unit {0}
 IsInRange (Some (RunWorkers n stats σ)) = (1 ≤ n) × (n ≤ 16)
 IsInRange (Some (RunParts n stats σ)) = (1 ≤ n) × (n ≤ 16)
+IsInRange (Some (RunWatches stats σ)) = Unit {0}
 IsInRange (Some (Bench start docs)) = docs ≤ 40000
 IsInRange (Some (Save σ)) = Unit {0}
 IsInRange (Some (Load stats)) = Unit {0}
@@ -47,19 +48,29 @@ workers_in n stats σ = where_in (is_few n) (RunWorkers n stats σ) (few_is n)
 parts_in : (n : ℕ) (stats : Bool) (σ : Setting) → IsInRange (over_parts n stats σ)
 parts_in n stats σ = where_in (is_few n && nat_le (n * words_of σ) (2 ^ 27)) (RunParts n stats σ) (λ e. few_is n (and_parts (is_few n) (nat_le (n * words_of σ) (2 ^ 27)) e).0)
 
-by_in : (overlap : Bool) (workers parts : Option ℕ) (stats : Bool) (σ : Setting) → IsInRange (run_by overlap workers parts stats σ)
-by_in true None None stats σ = tt
-by_in false None None stats σ = tt
-by_in false (Some n) None stats σ = workers_in n stats σ
-by_in false None (Some n) stats σ = parts_in n stats σ
-by_in false (Some n) (Some p) stats σ = tt
-by_in true (Some n) parts stats σ = tt
-by_in true None (Some p) stats σ = tt
+by_in : (overlap watch : Bool) (workers parts : Option ℕ) (stats : Bool) (σ : Setting) → IsInRange (run_by overlap watch workers parts stats σ)
+by_in true false None None stats σ = tt
+by_in false false None None stats σ = tt
+by_in false true None None stats σ = tt
+by_in true true None None stats σ = tt
+by_in false false (Some n) None stats σ = workers_in n stats σ
+by_in true false (Some n) None stats σ = tt
+by_in false true (Some n) None stats σ = tt
+by_in true true (Some n) None stats σ = tt
+by_in false false None (Some n) stats σ = parts_in n stats σ
+by_in true false None (Some n) stats σ = tt
+by_in false true None (Some n) stats σ = tt
+by_in true true None (Some n) stats σ = tt
+by_in false false (Some n) (Some p) stats σ = tt
+by_in true false (Some n) (Some p) stats σ = tt
+by_in false true (Some n) (Some p) stats σ = tt
+by_in true true (Some n) (Some p) stats σ = tt
 
 run_in : (words : List (List ℕ)) → IsInRange (run_of words)
 run_in words =
-    then_in run_with (λ items. then_in (λ σ. run_by (has (codes "overlap") items) (number_of (codes "workers") items) (number_of (codes "parts") items) (has (codes "stats") items) σ)
-    (λ σ. by_in (has (codes "overlap") items) (number_of (codes "workers") items) (number_of (codes "parts") items) (has (codes "stats") items) σ) (setting_of items))
+    then_in run_with (λ items. then_in
+    (λ σ. run_by (has (codes "overlap") items) (has (codes "watch") items) (number_of (codes "workers") items) (number_of (codes "parts") items) (has (codes "stats") items) σ)
+    (λ σ. by_in (has (codes "overlap") items) (has (codes "watch") items) (number_of (codes "workers") items) (number_of (codes "parts") items) (has (codes "stats") items) σ) (setting_of items))
     (items_of run_flags run_options words)
 
 save_in : (words : List (List ℕ)) → IsInRange (save_of words)

@@ -22,7 +22,7 @@ use Rattle.eb_rounds.specs.Rows.{count, NoQueryLine, QueriesFirst, joined, SeesW
 use Rattle.eb_rounds.specs.Standing.{Standing}
 use Rattle.eb_rounds.proofs.Seeing.{accepted-append, sees_on, front_is, back_is, next_within, told_front, told_back, told_none, told-rest}
 use Rattle.eb_rounds.proofs.Rounded.{long_in}
-use Rattle.earlybird.specs.Reads.{AreRead}
+use Rattle.eb_rounds.specs.LinesRead.{AreRead}
 use Rattle.eb_lines.specs.Reads.{Reads}
 use Rattle.earlybird.specs.Holding.{entries_from}
 use Rattle.earlybird.specs.Waiting.{HasWorked, HasSettled, counts_of}

@@ -4,9 +4,9 @@ pub mod Waitings
 pub mod Going
 pub mod Waits
 pub mod Runnings
+pub mod OneOutput
 pub mod Runs
 pub mod Loads
-pub mod OneOutput
 pub mod Benches
 pub mod Commands
 pub mod MadeLines

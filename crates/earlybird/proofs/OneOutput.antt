@@ -1,18 +1,17 @@
 -- An input has exactly one text.
-use Rattle.std.proofs.Common.{◌≡◌, ℕ, zero, suc, ◌+◌, ◌<◌, ◌≤◌, ◌||◌, Bool, true, false, List, [], ◌∷◌, ◌++◌, take, refl, sym, ap, ◌∙◌, arith}
-use Rattle.std.specs.Prelude.{if◌then◌else◌}
+use Rattle.std.proofs.Common.{◌≡◌, ℕ, zero, suc, ◌+◌, ◌≤◌, Bool, true, false, List, [], ◌∷◌, ◌++◌, take, refl, sym, ap, ◌∙◌, arith}
 use Rattle.eb_base.specs.Setting.{Setting}
 use Rattle.eb_io.specs.Lines.{Line}
-use Rattle.eb_doc.specs.declared.LineFault.TheVariants as fault
 use Rattle.eb_lines.specs.Reading.{Reading}
 use Rattle.eb_lines.proofs.OneReading.{raw_same, some_read}
-use Rattle.earlybird.specs.Reads.{AreRead}
+use Rattle.eb_rounds.specs.LinesRead.{AreRead}
 use Rattle.eb_lines.specs.Progress.{accepted, told, progress_after}
 use Rattle.eb_rounds.specs.Admitted.{admitted}
 use Rattle.eb_rounds.specs.Text.{text, summary}
 use Rattle.eb_rounds.specs.Rows.{count}
 use Rattle.eb_rounds.specs.Sees.{Sees, SeesInOrder, SeesBetween}
-use Rattle.earlybird.specs.Output.{IsTextOf, stats_of}
+use Rattle.eb_rounds.specs.Ending.{stats_of}
+use Rattle.earlybird.specs.Output.{IsTextOf, asked}
 use Rattle.eb_rounds.proofs.Texts.{body_same}
 use Rattle.eb_rounds.proofs.Seeing.{told-count, count-cons}
 
@@ -25,7 +24,7 @@ all_read σ ls rs ss e f = e.2 ∙ ap (admitted σ) (raw_same ls e.0 f.0 e.1 f.1
 in_order : (n : ℕ → ℕ) (rs : List Reading) → SeesInOrder rs n → text n rs ≡ text (told rs) rs
 in_order n rs order = ap (λ b. b ++ summary (progress_after rs)) (body_same n (told rs) (accepted rs) (accepted rs) 0 rs (λ i low high. (order i, refl)))
 
-pub one_text_of : (σ : Setting) (stats : Bool) (lines : List Line) (a b : List ℕ) → IsTextOf σ false stats lines a → IsTextOf σ false stats lines b → a ≡ b
+pub one_text_of : (σ : Setting) (stats : Bool) (lines : List Line) (a b : List ℕ) → IsTextOf (asked σ false stats) lines a → IsTextOf (asked σ false stats) lines b → a ≡ b
 one_text_of σ stats lines a b p q =
     let same = all_read σ lines p.readings q.readings p.read q.read in
     let of_p = p.bytes ∙ ap (λ t. t ++ stats_of stats σ (accepted p.readings)) (in_order p.numbers p.readings p.sees) in
@@ -58,14 +57,14 @@ between rs n order = record {
   rises = λ i j le e f. omega (arith, told_next rs i j le, order i, order j);
 }
 
-pub order_text_of : (σ : Setting) (stats : Bool) (lines : List Line) (printed : List ℕ) → IsTextOf σ false stats lines printed → IsTextOf σ true stats lines printed
+pub order_text_of : (σ : Setting) (stats : Bool) (lines : List Line) (printed : List ℕ) → IsTextOf (asked σ false stats) lines printed → IsTextOf (asked σ true stats) lines printed
 order_text_of σ stats lines printed t = record { readings = t.readings; numbers = t.numbers; read = t.read; sees = between t.readings t.numbers t.sees; bytes = t.bytes }
 
 pub sees_told : (overlap : Bool) (rs : List Reading) → Sees overlap rs (told rs)
 sees_told false rs = λ j. refl
 sees_told true rs = between rs (told rs) (λ j. refl)
 
-pub some_text_of : (σ : Setting) (overlap stats : Bool) (lines : List Line) → (printed : List ℕ) × IsTextOf σ overlap stats lines printed
+pub some_text_of : (σ : Setting) (overlap stats : Bool) (lines : List Line) → (printed : List ℕ) × IsTextOf (asked σ overlap stats) lines printed
 some_text_of σ overlap stats lines =
     let raw = some_read lines in
     let rs = admitted σ raw.0 in

@@ -1,8 +1,9 @@
 -- A run takes lines, and works them off.
-use Rattle.std.proofs.Common.{◌≡◌, ℕ, ◌+◌, ◌≤◌, Bool, true, false, true≢false, List, [], ◌∷◌, ◌++◌, length, Some, None, refl, sym, ap, ap₂, subst, ◌∙◌, arith, append_assoc, append-nil, length-append}
+use Rattle.std.proofs.Common.{◌≡◌, ℕ, ◌+◌, ◌≤◌, true, false, true≢false, List, [], ◌∷◌, ◌++◌, length, Some, None, refl, sym, ap, ap₂, subst, ◌∙◌, arith, append_assoc, append-nil, length-append}
 use Rattle.std.specs.Prelude.{Result, Ok, Err, OnOk, OnErr}
 use Rattle.std.proofs.lemmas.Bool.Decides.{nat_tests}
 use Rattle.eb_base.specs.Setting.{Setting}
+use Rattle.eb_engine.specs.Tokens.{Token, ConverterToken}
 use Rattle.eb_io.specs.Lines.{Line}
 use Rattle.eb_table.specs.Known.{Words}
 use Rattle.eb_rounds.specs.declared.input.Input.{Input}
@@ -17,19 +18,16 @@ use Rattle.eb_rounds.specs.Takes.{takes_kind}
 use Rattle.earlybird.specs.declared.running.Running.{Running}
 use Rattle.earlybird.specs.Holding.{held_as, before_held}
 use Rattle.earlybird.specs.Waiting.{HasWorked, AreRound}
-use Rattle.earlybird.specs.Running.{HasRun, IsRunning, WorksOn, GoesOn}
+use Rattle.eb_lines.specs.Programs.{WorksOn, GoesOn}
+use Rattle.earlybird.specs.Output.{Asked}
+use Rattle.earlybird.specs.Running.{HasRun}
 use Rattle.earlybird.proofs.LineReadings.{asks_query, reads_quiet, free_of}
 use Rattle.earlybird.proofs.Waits.{off, of_settled, one_more, round_quiet, round_free}
 
--- ---- results
-
-pub ok_on : {T E P Q : Type 0} (r : Result T E) → OnOk r P → (P → Q) → OnOk r Q
-ok_on (Ok x) p f = f p
-ok_on (Err e) p f = tt
-
-pub err_on : {T E P Q : Type 0} (r : Result T E) → OnErr r P → (P → Q) → OnErr r Q
-err_on (Ok x) p f = tt
-err_on (Err e) p f = f p
+-- the run with these in place of its own
+abbrev pub with_parts : Running → Token → ConverterToken → Standing → ℕ → Running
+with_parts r writer converter rounds number =
+    record { overlap = r.overlap; stats = r.stats; index = r.index; writer = writer; converter = converter; rounds = rounds; number = number }
 
 pub err_any : {T E P : Type 0} (r : Result T E) → P → OnErr r P
 err_any (Ok x) p = tt
@@ -47,38 +45,40 @@ queries_none held e = ap queries_held e
 
 -- ---- one after another
 
-pub stays : (r : Running) (text : List ℕ) → WorksOn r r text text
-stays r text = λ σ overlap given so_far h. ([], subst (HasRun r σ overlap given) (sym (append-nil so_far)) h, sym (append-nil text))
+pub stays : (r : Running) (text : List ℕ) → WorksOn HasRun r r text text
+stays r text = λ a given so_far h. ([], subst (HasRun r a given) (sym (append-nil so_far)) h, sym (append-nil text))
 
-pub running_on : (old new : Running) (t0 t1 : List ℕ) → IsRunning old → WorksOn old new t0 t1 → IsRunning new
-running_on old new t0 t1 r w = let a = w r.0 r.1 r.2 r.3 r.4 in (r.0, r.1, r.2, r.3 ++ a.0, a.1)
+pub goes_quiet : (old new : Running) (l : Line) → ((a : Asked) (given : List Line) (so_far : List ℕ) → HasRun old a given so_far → HasRun new a (given ++ l ∷ []) so_far)
+    → (text : List ℕ) → GoesOn HasRun old new text text l
+goes_quiet old new l f text = λ a given so_far h. ([], subst (HasRun new a (given ++ l ∷ [])) (sym (append-nil so_far)) (f a given so_far h), sym (append-nil text))
 
-pub goes_quiet : (old new : Running) (l : Line)
-    → ((σ : Setting) (overlap : Bool) (given : List Line) (so_far : List ℕ) → HasRun old σ overlap given so_far → HasRun new σ overlap (given ++ l ∷ []) so_far)
-    → (text : List ℕ) → GoesOn old new text text l
-goes_quiet old new l f text = λ σ overlap given so_far h. ([], subst (HasRun new σ overlap (given ++ l ∷ [])) (sym (append-nil so_far)) (f σ overlap given so_far h), sym (append-nil text))
+pub goes_after : (old mid new : Running) (t0 t1 t2 : List ℕ) (l : Line) → WorksOn HasRun old mid t0 t1 → GoesOn HasRun mid new t1 t2 l → GoesOn HasRun old new t0 t2 l
+goes_after old mid new t0 t1 t2 l w g = λ a given so_far h.
+    let x = w a given so_far h in
+    let y = g a given (so_far ++ x.0) x.1 in
+    (x.0 ++ y.0, subst (HasRun new a (given ++ l ∷ [])) (append_assoc so_far x.0 y.0) y.1, y.2 ∙ ap (λ t. t ++ y.0) x.2 ∙ append_assoc t0 x.0 y.0)
 
-pub stays_at : (old new : Running) (t0 t1 : List ℕ) → new ≡ old → t1 ≡ t0 → WorksOn old new t0 t1
-stays_at old new t0 t1 e f = subst (λ r. WorksOn old r t0 t1) (sym e) (subst (λ t. WorksOn old old t0 t) (sym f) (stays old t0))
+-- what holds throughout stays beside
+pub on_beside : (T : Type 0) (old new : Running) (t0 t1 : List ℕ) → WorksOn HasRun old new t0 t1
+    → (a : Asked) (given : List Line) (so_far : List ℕ) → T × HasRun old a given so_far → (printed : List ℕ) × (T × HasRun new a given (so_far ++ printed)) × (t1 ≡ t0 ++ printed)
+on_beside T old new t0 t1 on a given so_far h = let w = on a given so_far h.1 in (w.0, (h.0, w.1), w.2)
 
-pub goes_after : (old mid new : Running) (t0 t1 t2 : List ℕ) (l : Line) → WorksOn old mid t0 t1 → GoesOn mid new t1 t2 l → GoesOn old new t0 t2 l
-goes_after old mid new t0 t1 t2 l w g = λ σ overlap given so_far h.
-    let a = w σ overlap given so_far h in
-    let b = g σ overlap given (so_far ++ a.0) a.1 in
-    (a.0 ++ b.0, subst (HasRun new σ overlap (given ++ l ∷ [])) (append_assoc so_far a.0 b.0) b.1, b.2 ∙ ap (λ t. t ++ b.0) a.2 ∙ append_assoc t0 a.0 b.0)
+pub goes_beside : (T : Type 0) (old new : Running) (t0 t1 : List ℕ) (l : Line) → GoesOn HasRun old new t0 t1 l
+    → (a : Asked) (given : List Line) (so_far : List ℕ) → T × HasRun old a given so_far → (printed : List ℕ) × (T × HasRun new a (given ++ l ∷ []) (so_far ++ printed)) × (t1 ≡ t0 ++ printed)
+goes_beside T old new t0 t1 l goes a given so_far h = let w = goes a given so_far h.1 in (w.0, (h.0, w.1), w.2)
 
-module _ (old new : Running) (σ : Setting) (overlap : Bool) (given : List Line) (so_far : List ℕ)
-    (h : HasRun old σ overlap given so_far) (mode : new.overlap ≡ old.overlap) (index : new.index ≡ old.index)
+module _ (old new : Running) (a : Asked) (given : List Line) (so_far : List ℕ)
+    (h : HasRun old a given so_far) (mode : new.overlap ≡ old.overlap) (stats : new.stats ≡ old.stats) (index : new.index ≡ old.index)
     (writer : new.writer.index ≡ old.writer.index) (converter : new.converter.index ≡ old.converter.index) where
-  setting_is : old.index.setting ≡ σ
+  setting_is : old.index.setting ≡ a.setting
   setting_is = ap (λ (x : Words). x.setting) h.index ∙ h.setting
 
   -- the held lines are worked off
   pub run_off : (printed : List ℕ) → new.number ≡ old.number → WorkedOff old.index.setting old.rounds.held old.writer.docs new.writer.docs old.rounds.counts new.rounds.counts printed
-      → new.rounds.held ≡ [] → new.rounds.greatest ≡ old.rounds.greatest → HasRun new σ overlap given (so_far ++ printed)
+      → new.rounds.held ≡ [] → new.rounds.greatest ≡ old.rounds.greatest → HasRun new a given (so_far ++ printed)
   run_off printed number w none greatest =
       let worked = subst (λ (s : Setting). WorkedOff s old.rounds.held old.writer.docs new.writer.docs old.rounds.counts new.rounds.counts printed) setting_is w in
-      let s = off σ overlap given old.writer.docs new.writer.docs old.rounds new.rounds.counts so_far printed h.worked worked (λ e. omega (arith, ap length (h.order e))) in
+      let s = off a.setting a.overlap given old.writer.docs new.writer.docs old.rounds new.rounds.counts so_far printed h.worked worked (λ e. omega (arith, ap length (h.order e))) in
       record {
         words = h.words;
         index = index ∙ h.index;
@@ -86,13 +86,14 @@ module _ (old new : Running) (σ : Setting) (overlap : Bool) (given : List Line)
         writer = writer ∙ h.writer;
         converter = converter ∙ h.converter;
         mode = mode ∙ h.mode;
+        stats = stats ∙ h.stats;
         number = number ∙ h.number;
-        worked = of_settled σ overlap given new.writer.docs new.rounds (so_far ++ printed) s none (omega (arith, greatest, h.worked.greatest));
+        worked = of_settled a.setting a.overlap given new.writer.docs new.rounds (so_far ++ printed) s none (omega (arith, greatest, h.worked.greatest));
         order = λ e. none;
       }
 
   -- nothing is done
-  pub run_same : new.number ≡ old.number → new.writer.docs ≡ old.writer.docs → new.rounds ≡ old.rounds → HasRun new σ overlap given so_far
+  pub run_same : new.number ≡ old.number → new.writer.docs ≡ old.writer.docs → new.rounds ≡ old.rounds → HasRun new a given so_far
   run_same number docs rounds = record {
     words = h.words;
     index = index ∙ h.index;
@@ -100,8 +101,9 @@ module _ (old new : Running) (σ : Setting) (overlap : Bool) (given : List Line)
     writer = writer ∙ h.writer;
     converter = converter ∙ h.converter;
     mode = mode ∙ h.mode;
+    stats = stats ∙ h.stats;
     number = number ∙ h.number;
-    worked = subst (λ s. HasWorked σ overlap given new.writer.docs s so_far) (sym rounds) (subst (λ ds. HasWorked σ overlap given ds old.rounds so_far) (sym docs) h.worked);
+    worked = subst (λ s. HasWorked a.setting a.overlap given new.writer.docs s so_far) (sym rounds) (subst (λ ds. HasWorked a.setting a.overlap given ds old.rounds so_far) (sym docs) h.worked);
     order = λ e. ap (λ (s : Standing). s.held) rounds ∙ h.order e;
   }
 
@@ -125,16 +127,16 @@ module _ (old new : Running) (σ : Setting) (overlap : Bool) (given : List Line)
     -- in order mode the line is worked off
     pub run_line : (i : HeldInput) (printed : List ℕ) → old.overlap ≡ false → held_as l ≡ Some i
         → WorkedOff old.index.setting (held_line (old.number + 1) i) old.writer.docs new.writer.docs old.rounds.counts new.rounds.counts printed
-        → new.rounds.held ≡ old.rounds.held → new.rounds.greatest ≡ old.number + 1 → HasRun new σ overlap (given ++ l ∷ []) (so_far ++ printed)
+        → new.rounds.held ≡ old.rounds.held → new.rounds.greatest ≡ old.number + 1 → HasRun new a (given ++ l ∷ []) (so_far ++ printed)
     run_line i printed in_order is w same greatest =
         let none : old.rounds.held ≡ [] = h.order (sym h.mode ∙ in_order) in
         let at : old.number + 1 ≡ length given + 1 = ap (λ n. n + 1) h.number in
         let v : Standing = record { held = held_line (length given + 1) i; counts = old.rounds.counts; greatest = length given + 1 } in
         let lines : v.held ≡ old.rounds.held ++ before_held (length given + 1) (held_as l) [] = ap₂ (λ hs o. hs ++ before_held (length given + 1) o []) (sym none) (sym is) in
-        let a = one_more σ overlap given l old.writer.docs old.rounds v so_far h.worked (free_round (ap documents_held none ∙ no_documents)) lines refl (omega arith) in
+        let x = one_more a.setting a.overlap given l old.writer.docs old.rounds v so_far h.worked (free_round (ap documents_held none ∙ no_documents)) lines refl (omega arith) in
         let W : Setting → List HeldLine → Type 0 = λ s held. WorkedOff s held old.writer.docs new.writer.docs old.rounds.counts new.rounds.counts printed in
-        let worked = subst (λ n. W σ (held_line n i)) at (subst (λ s. W s (held_line (old.number + 1) i)) setting_is w) in
-        let s = off σ overlap (given ++ l ∷ []) old.writer.docs new.writer.docs v new.rounds.counts so_far printed a worked (λ e. omega arith) in
+        let worked = subst (λ n. W a.setting (held_line n i)) at (subst (λ s. W s (held_line (old.number + 1) i)) setting_is w) in
+        let s = off a.setting a.overlap (given ++ l ∷ []) old.writer.docs new.writer.docs v new.rounds.counts so_far printed x worked (λ e. omega arith) in
         record {
           words = h.words;
           index = index ∙ h.index;
@@ -142,14 +144,15 @@ module _ (old new : Running) (σ : Setting) (overlap : Bool) (given : List Line)
           writer = writer ∙ h.writer;
           converter = converter ∙ h.converter;
           mode = mode ∙ h.mode;
+          stats = stats ∙ h.stats;
           number = number_is;
-          worked = of_settled σ overlap (given ++ l ∷ []) new.writer.docs new.rounds (so_far ++ printed) s (same ∙ none) (omega (arith, greatest, h.number, given_long));
+          worked = of_settled a.setting a.overlap (given ++ l ∷ []) new.writer.docs new.rounds (so_far ++ printed) s (same ∙ none) (omega (arith, greatest, h.number, given_long));
           order = λ e. same ∙ none;
         }
 
     -- the line is held, or passed over
     more : (docs : new.writer.docs ≡ old.writer.docs) → AreRound (h.worked.waiting ++ l ∷ []) → new.rounds.held ≡ old.rounds.held ++ before_held (length given + 1) (held_as l) []
-        → new.rounds.counts ≡ old.rounds.counts → new.rounds.greatest ≤ length given + 1 → (overlap ≡ false → new.rounds.held ≡ []) → HasRun new σ overlap (given ++ l ∷ []) so_far
+        → new.rounds.counts ≡ old.rounds.counts → new.rounds.greatest ≤ length given + 1 → (a.overlap ≡ false → new.rounds.held ≡ []) → HasRun new a (given ++ l ∷ []) so_far
     more docs round lines counts greatest order = record {
       words = h.words;
       index = index ∙ h.index;
@@ -157,9 +160,10 @@ module _ (old new : Running) (σ : Setting) (overlap : Bool) (given : List Line)
       writer = writer ∙ h.writer;
       converter = converter ∙ h.converter;
       mode = mode ∙ h.mode;
+      stats = stats ∙ h.stats;
       number = number_is;
-      worked = subst (λ ds. HasWorked σ overlap (given ++ l ∷ []) ds new.rounds so_far) (sym docs)
-          (one_more σ overlap given l old.writer.docs old.rounds new.rounds so_far h.worked round lines counts greatest);
+      worked = subst (λ ds. HasWorked a.setting a.overlap (given ++ l ∷ []) ds new.rounds so_far) (sym docs)
+          (one_more a.setting a.overlap given l old.writer.docs old.rounds new.rounds so_far h.worked round lines counts greatest);
       order = order;
     }
 
@@ -169,7 +173,7 @@ module _ (old new : Running) (σ : Setting) (overlap : Bool) (given : List Line)
     input_round (passed.RefusedLine r) takes is = quiet_round (ap asks_query is)
 
     pub run_held : (input : Input) → new.writer.docs ≡ old.writer.docs → old.overlap ≡ true → takes_kind old.rounds.held (kind_of input) ≡ true → held_as l ≡ Some (input_of input)
-        → new.rounds ≡ with_held old.rounds (old.number + 1) (input_of input) → HasRun new σ overlap (given ++ l ∷ []) so_far
+        → new.rounds ≡ with_held old.rounds (old.number + 1) (input_of input) → HasRun new a (given ++ l ∷ []) so_far
     run_held input docs overlaps takes is rounds =
         let held = ap (λ (s : Standing). s.held) rounds in
         let counts = ap (λ (s : Standing). s.counts) rounds in
@@ -178,7 +182,7 @@ module _ (old new : Running) (σ : Setting) (overlap : Bool) (given : List Line)
         held ∙ ap₂ (λ n o. old.rounds.held ++ before_held (n + 1) o []) h.number (sym is) in
         more docs (input_round input takes is) lines counts (omega (arith, greatest, h.number)) (λ e. absurd (true≢false (sym overlaps ∙ h.mode ∙ e)))
 
-    pub run_blank : new.writer.docs ≡ old.writer.docs → held_as l ≡ None → new.rounds ≡ old.rounds → HasRun new σ overlap (given ++ l ∷ []) so_far
+    pub run_blank : new.writer.docs ≡ old.writer.docs → held_as l ≡ None → new.rounds ≡ old.rounds → HasRun new a (given ++ l ∷ []) so_far
     run_blank docs is rounds =
         let held = ap (λ (s : Standing). s.held) rounds in
         let lines : new.rounds.held ≡ old.rounds.held ++ before_held (length given + 1) (held_as l) [] =
@@ -187,14 +191,14 @@ module _ (old new : Running) (σ : Setting) (overlap : Bool) (given : List Line)
 
 -- ---- the held lines, worked off or not
 
-module _ (old new : Running) (t0 t1 : List ℕ) (mode : new.overlap ≡ old.overlap) (index : new.index ≡ old.index) (writer : new.writer.index ≡ old.writer.index)
+module _ (old new : Running) (t0 t1 : List ℕ) (mode : new.overlap ≡ old.overlap) (stats : new.stats ≡ old.stats) (index : new.index ≡ old.index) (writer : new.writer.index ≡ old.writer.index)
     (converter : new.converter.index ≡ old.converter.index) (number : new.number ≡ old.number) where
-  pub unchanged_on : new.rounds ≡ old.rounds → new.writer.docs ≡ old.writer.docs → t1 ≡ t0 → WorksOn old new t0 t1
-  unchanged_on rounds docs text = λ σ overlap given so_far h.
-      ([], subst (HasRun new σ overlap given) (sym (append-nil so_far)) (run_same old new σ overlap given so_far h mode index writer converter number docs rounds), text ∙ sym (append-nil t0))
+  pub unchanged_on : new.rounds ≡ old.rounds → new.writer.docs ≡ old.writer.docs → t1 ≡ t0 → WorksOn HasRun old new t0 t1
+  unchanged_on rounds docs text = λ a given so_far h.
+      ([], subst (HasRun new a given) (sym (append-nil so_far)) (run_same old new a given so_far h mode stats index writer converter number docs rounds), text ∙ sym (append-nil t0))
 
   pub held_on : {T E : Type 0} (r : Result T E)
       → OnOk r ((printed : List ℕ) × WorkedOff old.index.setting old.rounds.held old.writer.docs new.writer.docs old.rounds.counts new.rounds.counts printed × (t1 ≡ t0 ++ printed))
-      → OnOk r ((new.rounds.held ≡ []) × (new.rounds.greatest ≡ old.rounds.greatest)) → OnErr r (WorksOn old new t0 t1) → WorksOn old new t0 t1
-  held_on (Ok x) done held err = λ σ overlap given so_far h. (done.0, run_off old new σ overlap given so_far h mode index writer converter done.0 number done.1 held.0 held.1, done.2)
+      → OnOk r ((new.rounds.held ≡ []) × (new.rounds.greatest ≡ old.rounds.greatest)) → OnErr r (WorksOn HasRun old new t0 t1) → WorksOn HasRun old new t0 t1
+  held_on (Ok x) done held err = λ a given so_far h. (done.0, run_off old new a given so_far h mode stats index writer converter done.0 number done.1 held.0 held.1, done.2)
   held_on (Err e) done held err = err

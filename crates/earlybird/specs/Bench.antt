@@ -1,5 +1,5 @@
 -- What `bench` prints: the figures of a made input.
-use Rattle.std.specs.Prelude.{◌≡◌, ℕ, zero, suc, ◌+◌, ◌*◌, ◌%◌, ◌^◌, ◌≤◌, ◌==◌, ◌||◌, List, [], ◌∷◌, ◌++◌, length, sum, Option, codes, if◌then◌else◌}
+use Rattle.std.specs.Prelude.{◌≡◌, ℕ, zero, suc, ◌+◌, ◌*◌, ◌%◌, ◌^◌, ◌<◌, ◌≤◌, ◌==◌, ◌||◌, List, [], ◌∷◌, ◌++◌, length, sum, take, Option, codes, if◌then◌else◌}
 use Rattle.std.specs.Fmt.{decimal}
 use Rattle.eb_base.specs.Document.{Doc}
 use Rattle.eb_base.specs.Match.{answer}
@@ -7,6 +7,7 @@ use Rattle.eb_base.specs.Setting.{Setting}
 use Rattle.eb_cursor.specs.Frames.{ids_of}
 use Rattle.eb_gen.specs.Made.{made, made_line, made_query}
 use Rattle.eb_io.specs.Lines.{Line, line, lines_of}
+use Rattle.eb_io.specs.Sink.{grown}
 use Rattle.earlybird.specs.declared.bench.Bench.{Bench}
 use Rattle.earlybird.specs.declared.session.Outcome.{Outcome}
 use Rattle.earlybird.specs.declared.session.Outcome.TheVariants.{Nothing, Answered, Refused}
@@ -14,10 +15,8 @@ use Rattle.eb_lines.specs.declared.status.Status.{Status}
 use Rattle.eb_lines.specs.declared.status.Status.TheVariants as status
 use Rattle.eb_lines.specs.Reading.{Reading, blank, document, query, refused}
 use Rattle.eb_lines.specs.Progress.{documents_in, accepted, queries, refusals, progress_after}
+use Rattle.eb_rounds.specs.LinesRead.{AreRead, HasRefusal, HasNoRefusal}
 use Rattle.earlybird.specs.Session.{HasCome}
-use Rattle.earlybird.specs.Reads.{AreRead}
-use Rattle.earlybird.specs.Output.{HasRefusal, HasNoRefusal}
-use Rattle.earlybird.specs.Worked.{Closes}
 
 -- the setting that an index has where none is asked for
 abbrev pub usual : Setting
@@ -83,6 +82,17 @@ MeansBench status.Usage start count = ⊥
 MeansBench status.ReadFault start count = ⊥
 MeansBench status.TooLong start count = ⊥
 MeansBench status.BadImage start count = ⊥
+
+-- what printing the last line leaves, where so many lines are refused
+abbrev pub Closes : Status → ℕ → List ℕ → Option (List ℕ) → Option (List ℕ) → Type 0
+Closes status.Done count last printed_old printed_new = (count ≡ 0) × (printed_new ≡ grown printed_old last)
+Closes status.Refused count last printed_old printed_new = (0 < count) × (printed_new ≡ grown printed_old last)
+Closes status.WriteFault count last printed_old printed_new = (n : ℕ) × (printed_new ≡ grown printed_old (take n last))
+Closes status.NoMemory count last printed_old printed_new = printed_new ≡ printed_old
+Closes status.Usage count last printed_old printed_new = ⊥
+Closes status.BadImage count last printed_old printed_new = ⊥
+Closes status.ReadFault count last printed_old printed_new = ⊥
+Closes status.TooLong count last printed_old printed_new = ⊥
 
 -- what printing the line of figures of these lines leaves
 abbrev pub PrintsFigures : Status → List Line → Option (List ℕ) → Option (List ℕ) → Type 0

@@ -6,13 +6,13 @@ use Rattle.eb_options.specs.Numbers.{number}
 use Rattle.eb_options.specs.Items.{Items, has, items_of, number_of}
 use Rattle.eb_options.specs.Settings.{setting_of, setting_options}
 use Rattle.earlybird.specs.declared.command.Command.{Command}
-use Rattle.earlybird.specs.declared.command.Command.TheVariants.{Run, RunWorkers, RunParts, Bench, Save, Load}
+use Rattle.earlybird.specs.declared.command.Command.TheVariants.{Run, RunWorkers, RunParts, RunWatches, Bench, Save, Load}
 
 -- ---- `run`
 
 -- its flags and its options
 abbrev pub run_flags : List (List ℕ)
-run_flags = codes "overlap" ∷ codes "stats" ∷ []
+run_flags = codes "overlap" ∷ codes "watch" ∷ codes "stats" ∷ []
 
 abbrev pub run_options : List (List ℕ)
 run_options = codes "workers" ∷ codes "parts" ∷ setting_options
@@ -29,18 +29,17 @@ with_workers n stats σ = if is_few n then Some (RunWorkers n stats σ) else Non
 abbrev pub over_parts : ℕ → Bool → Setting → Option Command
 over_parts n stats σ = if is_few n && nat_le (n * words_of σ) (2 ^ 27) then Some (RunParts n stats σ) else None
 
--- at most one of overlap, workers and parts
-abbrev pub run_by : Bool → Option ℕ → Option ℕ → Bool → Setting → Option Command
-run_by overlap None None stats σ = Some (Run overlap stats σ)
-run_by false (Some n) None stats σ = with_workers n stats σ
-run_by false None (Some n) stats σ = over_parts n stats σ
-run_by false (Some n) (Some p) stats σ = None
-run_by true (Some n) parts stats σ = None
-run_by true None (Some p) stats σ = None
+-- at most one of overlap, watches, workers and parts
+abbrev pub run_by : Bool → Bool → Option ℕ → Option ℕ → Bool → Setting → Option Command
+run_by overlap false None None stats σ = Some (Run overlap stats σ)
+run_by false true None None stats σ = Some (RunWatches stats σ)
+run_by false false (Some n) None stats σ = with_workers n stats σ
+run_by false false None (Some n) stats σ = over_parts n stats σ
+run_by overlap watch workers parts stats σ = None
 
 -- what the items behind `run` ask for
 abbrev pub run_with : Items → Option Command
-run_with items = option_and_then (λ σ. run_by (has (codes "overlap") items) (number_of (codes "workers") items) (number_of (codes "parts") items)
+run_with items = option_and_then (λ σ. run_by (has (codes "overlap") items) (has (codes "watch") items) (number_of (codes "workers") items) (number_of (codes "parts") items)
     (has (codes "stats") items) σ) (setting_of items)
 
 -- what the words behind `run` ask for: its flags and options, in any order, each at most once
@@ -97,6 +96,10 @@ AsksWorkers words n stats σ = command_of words ≡ Some (RunWorkers n stats σ)
 
 abbrev pub AsksParts : List (List ℕ) → ℕ → Bool → Setting → Type 0
 AsksParts words n stats σ = command_of words ≡ Some (RunParts n stats σ)
+
+-- to run with watches
+abbrev pub AsksWatches : List (List ℕ) → Bool → Setting → Type 0
+AsksWatches words stats σ = command_of words ≡ Some (RunWatches stats σ)
 
 -- the words ask to work off a made input
 abbrev pub AsksBench : List (List ℕ) → ℕ → ℕ → Type 0

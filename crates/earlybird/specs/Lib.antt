@@ -1,9 +1,7 @@
-pub mod Reads
 pub mod Holding
 pub mod Waiting
 pub mod Session
 pub mod Output
-pub mod Worked
 pub mod Running
 pub mod Command
 pub mod Bench

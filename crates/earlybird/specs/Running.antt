@@ -1,34 +1,66 @@
--- What the index of a run holds, and which lines of the input wait.
-use Rattle.std.specs.Prelude.{◌≡◌, ℕ, Bool, false, List, [], ◌∷◌, ◌++◌, length}
-use Rattle.eb_base.specs.Setting.{Setting}
+-- What the index of a run holds, and which lines of the input wait; and that what a run printed is a front of a whole text.
+use Rattle.std.specs.Prelude.{◌≡◌, ℕ, false, List, [], ◌++◌, length, Result, OnOk}
+use Rattle.std.specs.declared.vec.Vec.{Vec}
+use denote.MutBor.{MutBor}
+use Rattle.std.proofs.Common.{sym, ap, ◌∙◌, append_assoc, append-nil}
 use Rattle.eb_io.specs.Lines.{Line}
+use Rattle.eb_lines.specs.Programs.{IsRunning, WorksOn, PrintsFront}
+use Rattle.eb_lines.specs.Progress.{accepted, progress_after}
+use Rattle.eb_lines.specs.Reading.{Reading}
+use Rattle.eb_rounds.specs.Ending.{stats_of}
+use Rattle.eb_rounds.specs.Text.{body, summary}
 use Rattle.eb_table.specs.Known.{Words}
 use Rattle.earlybird.specs.declared.running.Running.{Running}
+use Rattle.earlybird.specs.Output.{Asked, IsBodyOf, IsTextOf}
 use Rattle.earlybird.specs.Waiting.{HasWorked}
 
--- of these lines the run has worked off some, in an index of this setting, and they printed this text: the history of the
--- index's writer is the documents that the run accepted; in order mode none of the lines is held
-pub record HasRun (r : Running) (σ : Setting) (overlap : Bool) (given : List Line) (so_far : List ℕ) : Type 0 where
+-- of these lines the run has worked off some, as it was asked, and they printed this text: the history of the index's writer
+-- is the documents that the run accepted; in order mode none of the lines is held
+pub record HasRun (r : Running) (a : Asked) (given : List Line) (so_far : List ℕ) : Type 0 where
   pub words : Words
   pub index : r.index ≡ words
-  pub setting : words.setting ≡ σ
+  pub setting : words.setting ≡ a.setting
   pub writer : r.writer.index ≡ words
   pub converter : r.converter.index ≡ words
-  pub mode : r.overlap ≡ overlap
+  pub mode : r.overlap ≡ a.overlap
+  pub stats : r.stats ≡ a.stats
   pub number : r.number ≡ length given
-  pub worked : HasWorked σ overlap given r.writer.docs r.rounds so_far
-  pub order : overlap ≡ false → r.rounds.held ≡ []
+  pub worked : HasWorked a.setting a.overlap given r.writer.docs r.rounds so_far
+  pub order : a.overlap ≡ false → r.rounds.held ≡ []
 
--- some lines were given
-abbrev pub IsRunning : Running → Type 0
-IsRunning r = (σ : Setting) × (overlap : Bool) × (given : List Line) × (so_far : List ℕ) × HasRun r σ overlap given so_far
+-- what may be called between two lines, and works off the held lines, if memory suffices
+pub record IsWorker {W Z E : Type 0} (pre : W → MutBor Running → MutBor (Vec ℕ Z) → Type 0)
+    (post : W → MutBor Running → MutBor (Vec ℕ Z) → Result (Unit {0}) E → MutBor Running → MutBor (Vec ℕ Z) → Type 0) (worker : W) : Type 0 where
+  pub may : (old : MutBor Running) (text : MutBor (Vec ℕ Z)) → IsRunning HasRun old.now → pre worker old text
+  pub on : (old new : MutBor Running) (text more : MutBor (Vec ℕ Z)) (r : Result (Unit {0}) E) → post worker old text r new more → WorksOn HasRun old.now new.now text.now.items more.now.items
+  pub none : (old new : MutBor Running) (text more : MutBor (Vec ℕ Z)) (r : Result (Unit {0}) E) → post worker old text r new more → OnOk r (new.now.rounds.held ≡ [])
+  pub same : (old new : MutBor Running) (text more : MutBor (Vec ℕ Z)) (r : Result (Unit {0}) E) → post worker old text r new more
+      → (new.now.overlap ≡ old.now.overlap) × (new.now.number ≡ old.now.number)
 
--- the run worked off lines that it held, if any, and put what they print behind the text
-abbrev pub WorksOn : Running → Running → List ℕ → List ℕ → Type 0
-WorksOn old new text_old text_new = (σ : Setting) (overlap : Bool) (given : List Line) (so_far : List ℕ) → HasRun old σ overlap given so_far
-    → (printed : List ℕ) × HasRun new σ overlap given (so_far ++ printed) × (text_new ≡ text_old ++ printed)
+-- a run that is worked by such a worker
+abbrev pub HasRunBy : {W Z E : Type 0} → (W → MutBor Running → MutBor (Vec ℕ Z) → Type 0)
+    → (W → MutBor Running → MutBor (Vec ℕ Z) → Result (Unit {0}) E → MutBor Running → MutBor (Vec ℕ Z) → Type 0) → W → Running → Asked → List Line → List ℕ → Type 0
+HasRunBy pre post worker r a given so_far = IsWorker pre post worker × HasRun r a given so_far
 
--- and this line was given more
-abbrev pub GoesOn : Running → Running → List ℕ → List ℕ → Line → Type 0
-GoesOn old new text_old text_new l = (σ : Setting) (overlap : Bool) (given : List Line) (so_far : List ℕ) → HasRun old σ overlap given so_far
-    → (printed : List ℕ) × HasRun new σ overlap (given ++ l ∷ []) (so_far ++ printed) × (text_new ≡ text_old ++ printed)
+-- the lines that are worked off are the first ones, and printed this
+pub run_first : (r : Running) (a : Asked) (given : List Line) (so_far : List ℕ) → HasRun r a given so_far → PrintsFront IsBodyOf a given so_far
+run_first r a given so_far h =
+    let w = h.worked in
+    (w.done, w.waiting, [], w.parts, record { readings = w.readings; numbers = w.numbers; read = w.read; sees = w.sees; bytes = append-nil so_far ∙ w.printed })
+
+-- what stands behind the body in the whole text of lines of these readings
+abbrev pub end_of : Asked → List Reading → List ℕ
+end_of a rs = summary (progress_after rs) ++ stats_of a.stats a.setting (accepted rs)
+
+pub body_text : (a : Asked) (lines : List Line) (printed : List ℕ) (b : IsBodyOf a lines printed) → IsTextOf a lines (printed ++ end_of a b.readings)
+body_text a lines printed b = record {
+  readings = b.readings;
+  numbers = b.numbers;
+  read = b.read;
+  sees = b.sees;
+  bytes = ap (λ x. x ++ end_of a b.readings) b.bytes ∙ sym (append_assoc (body b.numbers b.readings) (summary (progress_after b.readings)) (stats_of a.stats a.setting (accepted b.readings)));
+}
+
+-- what lines print comes first in their whole text
+pub body_first : (a : Asked) (lines : List Line) (printed : List ℕ) → IsBodyOf a lines printed → (more : List ℕ) × IsTextOf a lines (printed ++ more)
+body_first a lines printed b = (end_of a b.readings, body_text a lines printed b)

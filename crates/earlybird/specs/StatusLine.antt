@@ -5,7 +5,7 @@ use Rattle.eb_lines.specs.StatusLine.{line_of}
 
 -- how the program is called
 abbrev pub usage : List ℕ
-usage = codes "earlybird: usage: run [--overlap | --workers N | --parts N] [--stats] [--segments N] [--docs N] [--terms N] | bench START DOCS | save [--segments N] [--docs N] [--terms N] | load [--stats]\n"
+usage = codes "earlybird: usage: run [--overlap | --workers N | --parts N | --watch] [--stats] [--segments N] [--docs N] [--terms N] | bench START DOCS | save [--segments N] [--docs N] [--terms N] | load [--stats]\n"
 
 -- the line of a status, with its LF; Done and Refused say nothing
 abbrev pub status_line : Status → List ℕ

@@ -11,7 +11,7 @@ use Rattle.eb_rounds.specs.Sees.{Sees}
 use Rattle.eb_rounds.specs.Rows.{QueriesFirst}
 use Rattle.eb_rounds.specs.Shown.{Counted}
 use Rattle.eb_rounds.specs.Standing.{Standing}
-use Rattle.earlybird.specs.Reads.{AreRead}
+use Rattle.eb_rounds.specs.LinesRead.{AreRead}
 use Rattle.eb_lines.specs.Reads.{Reads}
 use Rattle.earlybird.specs.Holding.{held_from}
 

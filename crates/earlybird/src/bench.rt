@@ -1,10 +1,9 @@
 //! `bench`: works off a made input and prints its line of figures.
 ghost use Rattle.std.specs.Prelude.{◌≡◌, ◌+◌, ◌*◌, ◌<◌, ◌≤◌, ◌++◌, ◌∷◌, ◌^◌, List, [], length, sum, IfOk, OnOk};
 ghost use Rattle.eb_gen.specs.Made.{made};
-ghost use Rattle.earlybird.specs.Worked.{Closes};
 ghost use Rattle.eb_io.specs.Faults.{HasRisen};
 ghost use Rattle.eb_io.specs.Lines.{Line, line, lines_of};
-ghost use Rattle.earlybird.specs.Bench.{HasCounted, lines_until, ids_in, bench_line, PrintsFigures};
+ghost use Rattle.earlybird.specs.Bench.{Closes, HasCounted, lines_until, ids_in, bench_line, PrintsFigures};
 
 use crate::printed::print_last;
 use crate::printing::put_figures;

@@ -41,6 +41,13 @@ pub enum Command {
         /// The setting of each of them, that the options give, as of `Run`.
         config: Config,
     },
+    /// `run --watch`: read lines, those that set and remove watches among them.
+    RunWatches {
+        /// Whether the segments are told behind the summary (`--stats`).
+        stats: bool,
+        /// The setting that the options give, as of `Run`.
+        config: Config,
+    },
     /// `bench START DOCS`: work off made input.
     Bench {
         /// Where the made input starts, any 64-bit number.
@@ -71,11 +78,11 @@ pub enum CommandFault {
 
 /// The command that the words ask for; they are without the program's name.
 ///
-/// - `run`, and then items in any order, each option at most once: `--overlap`, `--stats`, and for x of `workers`, `parts`,
-///   `segments`, `docs` and `terms` the two words `--x V` or the one word `--x=V`. V is one to nine digits, leading zeros
-///   allowed; what isn't named of a setting is as in `Config::usual`. `Config::new` has to allow the setting. At most one of
-///   `--overlap`, `--workers` and `--parts` stands there, the latter two with a number from 1 to 16, and the words of all
-///   parts together are at most 134,217,728.
+/// - `run`, and then items in any order, each option at most once: `--overlap`, `--watch`, `--stats`, and for x of `workers`,
+///   `parts`, `segments`, `docs` and `terms` the two words `--x V` or the one word `--x=V`. V is one to nine digits, leading
+///   zeros allowed; what isn't named of a setting is as in `Config::usual`. `Config::new` has to allow the setting. At most
+///   one of `--overlap`, `--workers`, `--parts` and `--watch` stands there; the number of workers and of parts is from 1 to
+///   16, and the words of all parts together are at most 134,217,728.
 /// - `bench START DOCS`: one to twenty digits of value at most 18446744073709551615, and one to nine
 ///   digits of value 1 to 40,000; leading zeros allowed.
 /// - `save`, and then the options of a setting as behind `run`.

@@ -9,6 +9,7 @@ mod command;
 mod laws;
 mod printed;
 mod printing;
+mod program;
 mod run;
 mod running;
 mod searching;

@@ -1,6 +1,6 @@
 ghost use Rattle.std.specs.Prelude.{◌≡◌, ◌≤◌, string_bytes};
 ghost use Rattle.eb_io.specs.Faults.{HasRisen};
-ghost use Rattle.earlybird.specs.Worked.{Closes};
+ghost use Rattle.earlybird.specs.Bench.{Closes};
 
 use eb_io::{Sink, write_all};
 use eb_lines::Status;

@@ -1,11 +1,10 @@
-ghost use Rattle.std.specs.Prelude.{◌≡◌, ◌⊎◌, ◌+◌, ◌<◌, ◌≤◌, ◌++◌, Bool, List, [], ℕ, Option, None};
-ghost use Rattle.std.specs.Prelude.{Some, length, map, string_bytes, take, ⊤, MatchResult, OnErr, OnOk};
+ghost use Rattle.std.specs.Prelude.{◌≡◌, ◌⊎◌, ◌<◌, ◌++◌, Bool, List, [], ℕ, None, Some, OnOk, length, map, string_bytes};
 ghost use Rattle.eb_io.specs.Faults.{HasRisen};
-ghost use Rattle.eb_io.specs.Held.{Held};
-ghost use Rattle.eb_io.specs.Sink.{grown};
 ghost use Rattle.eb_base.specs.Setting.{Setting};
-ghost use Rattle.earlybird.specs.Command.{command_of, AsksRun, AsksWorkers, AsksParts, AsksBench, AsksSave, AsksLoad};
-ghost use Rattle.eb_workers.specs.Output.{asked, IsWorkersBody, IsWorkersText, HasRefusal, HasNoRefusal, WroteWorkers, MeansWorkers};
+ghost use Rattle.earlybird.specs.Command.{command_of, AsksRun, AsksWorkers, AsksParts, AsksWatches, AsksBench, AsksSave, AsksLoad};
+ghost use Rattle.eb_rounds.specs.LinesRead.{HasRefusal, HasNoRefusal};
+ghost use Rattle.eb_workers.specs.Output.{asked, IsWorkersBody, IsWorkersText, WroteWorkers, MeansWorkers};
+ghost use Rattle.eb_watching.specs.Texts as watching;
 ghost use Rattle.eb_parts.specs.Texts.{Asked as AskedParts, IsBodyInParts, IsTextInParts, HasRefusalInParts, HasNoRefusalInParts, WroteInParts, MeansInParts};
 ghost use Rattle.eb_archive.specs.Loaded.{EndsLoad, IsImage, WroteLoaded, MeansLoaded};
 ghost use Rattle.eb_image.specs.Reading.{IsBad};
@@ -15,25 +14,27 @@ ghost use Rattle.eb_base.specs.Setting.{IsSetting};
 ghost use Rattle.eb_image.specs.Image.{image_of};
 ghost use Rattle.eb_place.specs.Room.{IsLawful};
 ghost use Rattle.eb_archive.specs.Saved.{AreParts, IsSaved, HasUnsaved, HasNoUnsaved, WroteSaved, MeansSaved};
-ghost use Rattle.eb_lines.specs.Outcomes as outcomes;
+ghost use Rattle.eb_lines.specs.Outcomes.{IsWorkedOff};
 ghost use Rattle.eb_lines.specs.Passing as passing;
 ghost use Rattle.earlybird.specs.Bench.{WroteBench, MeansBench, PrintsFigures};
 ghost use Rattle.eb_gen.specs.Made.{made};
 ghost use Rattle.eb_io.specs.Lines.{longest_input, lines_of};
-ghost use Rattle.earlybird.specs.Output.{Wrote, Means, IsWorkedOff};
+ghost use Rattle.eb_lines.specs.Programs.{IsRunning, WorksOn};
+ghost use Rattle.earlybird.specs.Output.{Ends, Wrote, Means};
+ghost use Rattle.earlybird.specs.Running.{HasRun};
 ghost use Rattle.earlybird.specs.StatusLine.{status_line};
-ghost use Rattle.earlybird.specs.Worked.{IsAt, IsAtEnd, IsStopped, IsSomewhere, MayStop, Comes, Ends, upcoming_of};
 
 use crate::bench::run_bench;
 use crate::command::{Command, CommandFault, read_command};
-use crate::printing::put_end;
+use crate::program::RunProgram;
 use crate::running::Running;
 use crate::usage::USAGE;
 use eb_archive::{load_lines, save_lines};
 use eb_base::{Config, Gate, NoMemory};
-use eb_io::{Lines, Next, Sink, SinkFailed, Source, write_all};
-use eb_lines::{MAX_INPUT, Status, write_gathered, write_much};
+use eb_io::{Sink, Source, write_all};
+use eb_lines::{Status, pass_lines};
 use eb_parts::run_parts;
+use eb_watching::run_watches;
 use eb_workers::run_workers;
 use std::alloc::Global;
 use std::sync::Wait;
@@ -43,7 +44,7 @@ use std::thread::Threads;
 /// source and prints answers and refusals on `out`. With `--overlap` documents are added while queries
 /// are answered, by two threads, and lines are read by several; with `--workers N` queries are answered by workers that live
 /// for the whole run, and the call may wait: its promise holds if its waits end; with `--parts N` documents go to several
-/// indexes by their ids. What is printed goes out in one write before the source
+/// indexes by their ids; with `--watch` lines also set and remove watches, and documents tell which they match. What is printed goes out in one write before the source
 /// is asked again, or once 64 KiB are gathered. What the status has to say goes to `err`; a fault there changes no status.
 pub fn run<R, S, K, E, G>(
     rt: &R,
@@ -82,7 +83,7 @@ where
         → MeansWorkers (asked σ stats) result bytes (S.left source.new) }
     ensures workers_complete { (n : ℕ) (stats : Bool) (σ : Setting) → AsksWorkers (map string_bytes words.now.items) n stats σ
         → (HasRisen (S.faults source.old) (S.faults source.new) → ⊥) → (HasRisen (K.faults out.old) (K.faults out.new) → ⊥)
-        → (bytes : List ℕ) → S.left source.old ≡ Some bytes → length bytes < longest_input → outcomes.IsWorkedOff result }
+        → (bytes : List ℕ) → S.left source.old ≡ Some bytes → length bytes < longest_input → IsWorkedOff result }
     // Where they ask to run over parts, `out` took the text of the input in these parts.
     ensures parts { (n : ℕ) (stats : Bool) (σ : Setting) → AsksParts (map string_bytes words.now.items) n stats σ
         → (bytes before : List ℕ) → S.left source.old ≡ Some bytes → K.taken out.old ≡ Some before
@@ -93,7 +94,17 @@ where
         → MeansInParts (record { parts = n; setting = σ; stats = stats }) result bytes (S.left source.new) }
     ensures parts_complete { (n : ℕ) (stats : Bool) (σ : Setting) → AsksParts (map string_bytes words.now.items) n stats σ
         → (HasRisen (S.faults source.old) (S.faults source.new) → ⊥) → (HasRisen (K.faults out.old) (K.faults out.new) → ⊥)
-        → (bytes : List ℕ) → S.left source.old ≡ Some bytes → length bytes < longest_input → outcomes.IsWorkedOff result }
+        → (bytes : List ℕ) → S.left source.old ≡ Some bytes → length bytes < longest_input → IsWorkedOff result }
+    // Where they ask to run with watches, `out` took the text of the input with what its documents tell the watches.
+    ensures watches { (stats : Bool) (σ : Setting) → AsksWatches (map string_bytes words.now.items) stats σ
+        → (bytes before : List ℕ) → S.left source.old ≡ Some bytes → K.taken out.old ≡ Some before
+        → (printed : List ℕ) × (K.taken out.new ≡ Some (before ++ printed))
+        × watching.WroteWatches (watching.asked σ stats) result bytes (S.left source.new) printed }
+    ensures watches_mean { (stats : Bool) (σ : Setting) → AsksWatches (map string_bytes words.now.items) stats σ
+        → (bytes : List ℕ) → S.left source.old ≡ Some bytes → watching.MeansWatches (watching.asked σ stats) result bytes (S.left source.new) }
+    ensures watches_complete { (stats : Bool) (σ : Setting) → AsksWatches (map string_bytes words.now.items) stats σ
+        → (HasRisen (S.faults source.old) (S.faults source.new) → ⊥) → (HasRisen (K.faults out.old) (K.faults out.new) → ⊥)
+        → (bytes : List ℕ) → S.left source.old ≡ Some bytes → length bytes < longest_input → IsWorkedOff result }
     // Where they ask to work off a made input, the source isn't read, and the run printed the figures of that input.
     ensures bench_unread { (start count : ℕ) → AsksBench (map string_bytes words.now.items) start count → source.new ≡ source.old }
     ensures bench { (start count : ℕ) → AsksBench (map string_bytes words.now.items) start count → (before : List ℕ) → K.taken out.old ≡ Some before
@@ -109,7 +120,7 @@ where
         → MeansSaved σ result bytes (S.left source.new) }
     ensures saved_completes { (σ : Setting) → AsksSave (map string_bytes words.now.items) σ
         → (HasRisen (S.faults source.old) (S.faults source.new) → ⊥) → (HasRisen (K.faults out.old) (K.faults out.new) → ⊥)
-        → (bytes : List ℕ) → S.left source.old ≡ Some bytes → length bytes < longest_input → outcomes.IsWorkedOff result }
+        → (bytes : List ℕ) → S.left source.old ≡ Some bytes → length bytes < longest_input → IsWorkedOff result }
     // Where they ask to load, and the source tells an image and then lines, `out` took what the status says of the lines; where what
     // was read begins no image, nothing was printed. An image, and then lines with an end in time, are worked off.
     ensures loaded { (stats : Bool) → AsksLoad (map string_bytes words.now.items) stats
@@ -126,7 +137,7 @@ where
     ensures loaded_completes { (stats : Bool) → AsksLoad (map string_bytes words.now.items) stats
         → (HasRisen (S.faults source.old) (S.faults source.new) → ⊥) → (HasRisen (K.faults out.old) (K.faults out.new) → ⊥)
         → (σ : Setting) (docs : List Doc) (rest : List ℕ) → IsSetting σ → IsLawful σ docs → S.left source.old ≡ Some (image_of σ docs ++ rest)
-        → length rest < longest_input → outcomes.IsWorkedOff result }
+        → length rest < longest_input → IsWorkedOff result }
     // Faults come only from outside.
     ensures read_fault { result ≡ Status.ReadFault → HasRisen (S.faults source.old) (S.faults source.new) }
     ensures write_fault { result ≡ Status.WriteFault → HasRisen (K.faults out.old) (K.faults out.new) }
@@ -157,10 +168,14 @@ fn run_words<R: Threads + Wait + Sync, S: Source, K: Sink, G: Gate + Sync>(
     ensures ends { (overlap stats : Bool) (σ : Setting) → AsksRun (map string_bytes words.now.items) overlap stats σ
         → Ends σ overlap stats result (S.left source.old) (S.left source.new) (K.taken out.old) (K.taken out.new) }
     ensures workers { (n : ℕ) (stats : Bool) (σ : Setting) → AsksWorkers (map string_bytes words.now.items) n stats σ → let a = asked σ stats in
-        passing.Ends (IsWorkersBody a) (IsWorkersText a) (HasRefusal a) (HasNoRefusal a) result (S.left source.old) (S.left source.new) (K.taken out.old) (K.taken out.new) }
+        passing.Ends (IsWorkersBody a) (IsWorkersText a) (HasRefusal a.setting) (HasNoRefusal a.setting) result
+        (S.left source.old) (S.left source.new) (K.taken out.old) (K.taken out.new) }
     ensures parts { (n : ℕ) (stats : Bool) (σ : Setting) → AsksParts (map string_bytes words.now.items) n stats σ
         → let a : AskedParts = record { parts = n; setting = σ; stats = stats } in
         passing.Ends (IsBodyInParts a) (IsTextInParts a) (HasRefusalInParts a) (HasNoRefusalInParts a) result
+        (S.left source.old) (S.left source.new) (K.taken out.old) (K.taken out.new) }
+    ensures watches { (stats : Bool) (σ : Setting) → AsksWatches (map string_bytes words.now.items) stats σ → let a = watching.asked σ stats in
+        passing.Ends (watching.IsWatchBody a) (watching.IsWatchText a) (watching.HasWatchRefusal a) (watching.HasNoWatchRefusal a) result
         (S.left source.old) (S.left source.new) (K.taken out.old) (K.taken out.new) }
     ensures bench_unread { (start count : ℕ) → AsksBench (map string_bytes words.now.items) start count → source.new ≡ source.old }
     ensures bench { (start count : ℕ) → AsksBench (map string_bytes words.now.items) start count
@@ -194,177 +209,13 @@ fn run_words<R: Threads + Wait + Sync, S: Source, K: Sink, G: Gate + Sync>(
             stats,
             config,
         } => run_parts(alloc, parts, stats, config, source, out, gate),
+        Command::RunWatches { stats, config } => {
+            run_watches(alloc, stats, config, source, out, gate)
+        }
         Command::Bench { start, docs } => run_bench(alloc, start, docs, out, gate),
         Command::Save { config } => save_lines(alloc, config, source, out),
         Command::Load { stats } => load_lines(alloc, stats, source, out, gate),
     }
-}
-
-// How a run ends for want of memory: what is gathered is written before.
-fn give_up<K: Sink>(text: &mut Vec<u8>, out: &mut K) -> Status
-    ensures ends { (σ : Setting) (overlap stats : Bool) (l0 l1 p0 : Option (List ℕ)) → MayStop σ overlap l0 l1 p0 (K.taken out.old) text.old.items
-        → Ends σ overlap stats result l0 l1 p0 (K.taken out.new) }
-    ensures read { result ≡ Status.ReadFault → ⊥ }
-    ensures write_fault { result ≡ Status.WriteFault → HasRisen (K.faults out.old) (K.faults out.new) }
-    ensures later { K.faults out.old ≤ K.faults out.new }
-{
-    match write_gathered(text, out) {
-        Ok(()) => Status::NoMemory,
-        Err(SinkFailed) => Status::WriteFault,
-    }
-}
-
-// Before the next line: where the source is asked for it, no answer waits. A held query is answered, and what is gathered is
-// written.
-fn settle<R: Threads + Sync, K: Sink, G: Gate + Sync>(
-    rt: &R,
-    alloc: Global,
-    running: &mut Running,
-    lines: &Lines,
-    gate: &G,
-    text: &mut Vec<u8>,
-    out: &mut K,
-) -> Result<(), Status>
-    requires { (l1 : Option (List ℕ)) × IsSomewhere l1 (K.taken out.old) lines.now running.old text.old.items }
-    ensures next { (σ : Setting) (overlap stats : Bool) (l0 l1 p0 : Option (List ℕ))
-        → IsAt σ overlap l0 l1 p0 (K.taken out.old) lines.now running.old text.old.items
-        → MatchResult result (λ _. IsAt σ overlap l0 l1 p0 (K.taken out.new) lines.now running.new text.new.items)
-        (λ status. Ends σ overlap stats status l0 l1 p0 (K.taken out.new)) }
-    ensures number { running.new.number ≡ running.old.number }
-    ensures read { MatchResult result (λ _. ⊤) (λ status. status ≡ Status.ReadFault → ⊥) }
-    ensures write_fault { MatchResult result (λ _. ⊤) (λ status. status ≡ Status.WriteFault → HasRisen (K.faults out.old) (K.faults out.new)) }
-    ensures later { K.faults out.old ≤ K.faults out.new }
-{
-    if lines.has_line() {
-        return Ok(());
-    }
-    let Ok(()) = running.answer_held(rt, alloc, gate, text) else {
-        return Err(give_up(text, out));
-    };
-    match write_gathered(text, out) {
-        Ok(()) => Ok(()),
-        Err(SinkFailed) => Err(Status::WriteFault),
-    }
-}
-
-// What comes next in an input.
-#[derive(Clone, Copy, Debug, PartialEq, Eq)]
-pub(crate) enum Upcoming {
-    // A line, which was taken.
-    Line,
-    End,
-    ReadFault,
-    TooLong,
-    // A line, for which there was no memory.
-    NoMemory,
-}
-
-// A line came, and was taken or not.
-fn say_taken(taken: Result<(), NoMemory>) -> Upcoming
-    ensures { result ≡ upcoming_of taken }
-{
-    match taken {
-        Ok(()) => Upcoming::Line,
-        Err(NoMemory) => Upcoming::NoMemory,
-    }
-}
-
-// Asks for the next line, and takes it.
-fn take_next<R: Threads + Sync, S: Source, G: Gate + Sync>(
-    rt: &R,
-    alloc: Global,
-    running: &mut Running,
-    lines: &mut Lines,
-    source: &mut S,
-    gate: &G,
-    text: &mut Vec<u8>,
-) -> Upcoming
-    requires { (p1 : Option (List ℕ)) × IsSomewhere (S.left source.old) p1 lines.old running.old text.old.items }
-    ensures next { (σ : Setting) (overlap : Bool) (l0 p0 p1 : Option (List ℕ))
-        → IsAt σ overlap l0 (S.left source.old) p0 p1 lines.old running.old text.old.items
-        → Comes result σ overlap l0 (S.left source.new) p0 p1 lines.new running.new text.new.items }
-    ensures number { result ≡ Upcoming.Line → running.new.number ≡ running.old.number + 1 }
-    ensures fault { result ≡ Upcoming.ReadFault → HasRisen (S.faults source.old) (S.faults source.new) }
-    ensures later { S.faults source.old ≤ S.faults source.new }
-{
-    match lines.next_line(source) {
-        Next::Line => say_taken(running.take_line(rt, alloc, lines.line(), gate, text)),
-        Next::LongLine => say_taken(running.take_long(rt, alloc, gate, text)),
-        Next::End => Upcoming::End,
-        Next::ReadFault => Upcoming::ReadFault,
-        Next::TooLong => Upcoming::TooLong,
-    }
-}
-
-// How a run ends where reading does, by this status: the lines that are held are worked off before, and what is gathered is
-// written.
-fn stop<R: Threads + Sync, K: Sink, G: Gate + Sync>(
-    rt: &R,
-    alloc: Global,
-    running: &mut Running,
-    gate: &G,
-    text: &mut Vec<u8>,
-    out: &mut K,
-    status: Status,
-) -> Status
-    requires { (held : Held) × (l1 : Option (List ℕ)) × IsSomewhere l1 (K.taken out.old) held running.old text.old.items }
-    ensures ends { (σ : Setting) (overlap stats : Bool) (l0 l1 p0 : Option (List ℕ)) (held : Held)
-        → IsStopped status σ overlap l0 l1 p0 (K.taken out.old) held running.old text.old.items
-        → Ends σ overlap stats result l0 l1 p0 (K.taken out.new) }
-    ensures read { (status ≡ Status.ReadFault → ⊥) → result ≡ Status.ReadFault → ⊥ }
-    ensures write_fault { (status ≡ Status.WriteFault → ⊥) → result ≡ Status.WriteFault → HasRisen (K.faults out.old) (K.faults out.new) }
-{
-    let Ok(()) = running.work_held(rt, alloc, gate, text) else {
-        return give_up(text, out);
-    };
-    match write_gathered(text, out) {
-        Ok(()) => status,
-        Err(SinkFailed) => Status::WriteFault,
-    }
-}
-
-// The status at the end of an input of which so many lines are refused.
-fn status_of(refused: u64) -> Status
-    ensures some { 0 < refused → result ≡ Status.Refused }
-    ensures none { refused ≡ 0 → result ≡ Status.Done }
-{
-    if refused > 0 {
-        Status::Refused
-    } else {
-        Status::Done
-    }
-}
-
-// How a run ends where its input does: the lines that are held are worked off before, what can be is converted, and the
-// summary is printed, with the segments where they are asked for.
-fn close<R: Threads + Sync, K: Sink, G: Gate + Sync>(
-    rt: &R,
-    alloc: Global,
-    stats: bool,
-    running: &mut Running,
-    gate: &G,
-    text: &mut Vec<u8>,
-    out: &mut K,
-) -> Status
-    requires { (held : Held) × (l1 : Option (List ℕ)) × IsSomewhere l1 (K.taken out.old) held running.old text.old.items }
-    ensures ends { (σ : Setting) (overlap : Bool) (l0 l1 p0 : Option (List ℕ)) (held : Held)
-        → IsAtEnd σ overlap l0 l1 p0 (K.taken out.old) held running.old text.old.items
-        → Ends σ overlap stats result l0 l1 p0 (K.taken out.new) }
-    ensures read { result ≡ Status.ReadFault → ⊥ }
-    ensures write_fault { result ≡ Status.WriteFault → HasRisen (K.faults out.old) (K.faults out.new) }
-{
-    let Ok(()) = running.work_held(rt, alloc, gate, text) else {
-        return give_up(text, out);
-    };
-    let counts = running.counts();
-    let segments = running.finish();
-    let Ok(()) = put_end(alloc, text, counts, stats, segments) else {
-        return give_up(text, out);
-    };
-    let Ok(()) = write_gathered(text, out) else {
-        return Status::WriteFault;
-    };
-    status_of(counts.refused)
 }
 
 fn run_lines<R: Threads + Sync, S: Source, K: Sink, G: Gate + Sync>(
@@ -381,46 +232,19 @@ fn run_lines<R: Threads + Sync, S: Source, K: Sink, G: Gate + Sync>(
     ensures read_fault { result ≡ Status.ReadFault → HasRisen (S.faults source.old) (S.faults source.new) }
     ensures write_fault { result ≡ Status.WriteFault → HasRisen (K.faults out.old) (K.faults out.new) }
 {
-    let Ok(mut lines) = Lines::new(alloc, MAX_INPUT) else {
+    let Ok(running) = Running::new(alloc, overlap, stats, config) else {
         return Status::NoMemory;
     };
-    let Ok(mut running) = Running::new(alloc, overlap, config) else {
-        return Status::NoMemory;
+    let mut program = RunProgram {
+        alloc,
+        gate,
+        worker: |running: &mut Running, text: &mut Vec<u8>| -> Result<(), NoMemory>
+            requires { IsRunning HasRun running.old }
+            ensures on { WorksOn HasRun running.old running.new text.old.items text.new.items }
+            ensures none { OnOk result (running.new.rounds.held ≡ []) }
+            ensures same { (running.new.overlap ≡ running.old.overlap) × (running.new.number ≡ running.old.number) }
+        { running.work_held(rt, alloc, gate, text) },
+        running,
     };
-    let mut text = Vec::new(alloc);
-    'lines: loop {
-        if let Err(status) = settle(rt, alloc, &mut running, &lines, gate, &mut text, out) {
-            return status;
-        }
-        match take_next(rt, alloc, &mut running, &mut lines, source, gate, &mut text) {
-            Upcoming::Line => {}
-            Upcoming::End => return close(rt, alloc, stats, &mut running, gate, &mut text, out),
-            Upcoming::ReadFault => {
-                return stop(
-                    rt,
-                    alloc,
-                    &mut running,
-                    gate,
-                    &mut text,
-                    out,
-                    Status::ReadFault,
-                );
-            }
-            Upcoming::TooLong => {
-                return stop(
-                    rt,
-                    alloc,
-                    &mut running,
-                    gate,
-                    &mut text,
-                    out,
-                    Status::TooLong,
-                );
-            }
-            Upcoming::NoMemory => return give_up(&mut text, out),
-        }
-        let Ok(()) = write_much(&mut text, out) else {
-            return Status::WriteFault;
-        };
-    }
+    pass_lines(alloc, &mut program, Vec::new(alloc), source, out)
 }

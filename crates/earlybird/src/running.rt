@@ -6,7 +6,9 @@ ghost use Rattle.eb_rounds.specs.Takes.{takes_kind};
 ghost use Rattle.eb_place.specs.Room.{cut};
 ghost use Rattle.eb_rounds.specs.Conversions.{converted_of};
 ghost use Rattle.earlybird.specs.Holding.{held_as};
-ghost use Rattle.earlybird.specs.Running.{HasRun, IsRunning, WorksOn, GoesOn};
+ghost use Rattle.eb_lines.specs.Programs.{IsRunning, WorksOn, GoesOn};
+ghost use Rattle.earlybird.specs.Output.{asked};
+ghost use Rattle.earlybird.specs.Running.{HasRun, IsWorker};
 
 use eb_base::{Config, Gate, NoMemory};
 use eb_engine::{Converter, Index, Writer};
@@ -16,11 +18,12 @@ use std::alloc::Global;
 use std::str;
 use std::thread::Threads;
 
-// A run between two lines: the index of the accepted documents, the lines that are held, and the number of the last line
-// given.
+// A run between two lines: whether documents are added while queries are answered and whether the segments are told, the
+// index of the accepted documents, the lines that are held, and the number of the last line given.
 #[derive(Drop)]
 pub(crate) struct Running {
     overlap: bool,
+    pub(crate) stats: bool,
     index: Index,
     writer: Writer,
     converter: Converter,
@@ -30,25 +33,24 @@ pub(crate) struct Running {
 
 impl Running {
     // A run with an empty index. Takes all the memory of the index.
-    pub(crate) fn new(alloc: Global, overlap: bool, config: Config) -> Result<Running, NoMemory>
-        ensures { IfOk result (λ running. HasRun running config overlap [] []) }
+    pub(crate) fn new(
+        alloc: Global,
+        overlap: bool,
+        stats: bool,
+        config: Config,
+    ) -> Result<Running, NoMemory>
+        ensures { IfOk result (λ running. HasRun running (asked config overlap stats) [] []) }
     {
         let (index, writer, converter) = Index::open(alloc, config)?;
         Ok(Running {
             overlap,
+            stats,
             index,
             writer,
             converter,
             rounds: Rounds::new(alloc),
             number: 0,
         })
-    }
-
-    // The number of the last line given.
-    pub(crate) fn number(&self) -> u64
-        ensures { result ≡ self.now.number }
-    {
-        self.number
     }
 
     // What was worked off so far.
@@ -61,7 +63,7 @@ impl Running {
 
     // Converts what can be of an input that is over, and gives how many segments are begun, and how many converted.
     pub(crate) fn finish(&mut self) -> SegmentCounts
-        requires { IsRunning self.old }
+        requires { IsRunning HasRun self.old }
         ensures segments { result.segments ≡ length (cut self.old.index.setting self.old.writer.docs) }
         ensures converted { result.converted ≡ converted_of (length (cut self.old.index.setting self.old.writer.docs)) }
     {
@@ -76,8 +78,8 @@ impl Running {
         gate: &G,
         text: &mut Vec<u8>,
     ) -> Result<(), NoMemory>
-        requires { IsRunning self.old }
-        ensures on { WorksOn self.old self.new text.old.items text.new.items }
+        requires { IsRunning HasRun self.old }
+        ensures on { WorksOn HasRun self.old self.new text.old.items text.new.items }
         ensures none { OnOk result (self.new.rounds.held ≡ []) }
         ensures mode { self.new.overlap ≡ self.old.overlap }
         ensures number { self.new.number ≡ self.old.number }
@@ -94,36 +96,34 @@ impl Running {
     }
 
     // Works off the held lines where a query waits among them.
-    pub(crate) fn answer_held<R: Threads + Sync, G: Gate + Sync>(
+    pub(crate) fn answer_held<W: Fn(&mut Running, &mut Vec<u8>) -> Result<(), NoMemory>>(
         &mut self,
-        rt: &R,
-        alloc: Global,
-        gate: &G,
+        worker: &W,
         text: &mut Vec<u8>,
     ) -> Result<(), NoMemory>
-        requires { IsRunning self.old }
-        ensures on { WorksOn self.old self.new text.old.items text.new.items }
+        requires state { IsRunning HasRun self.old }
+        requires worker { IsWorker W.pre W.post worker.now }
+        ensures on { WorksOn HasRun self.old self.new text.old.items text.new.items }
         ensures answered { OnOk result (queries_held self.new.rounds.held ≡ 0) }
         ensures number { self.new.number ≡ self.old.number }
     {
         if self.rounds.has_query() {
-            self.work_held(rt, alloc, gate, text)
+            worker(self, text)
         } else {
             Ok(())
         }
     }
 
     // Works off the held lines where no line of this kind goes behind them.
-    fn make_way<R: Threads + Sync, G: Gate + Sync>(
+    fn make_way<W: Fn(&mut Running, &mut Vec<u8>) -> Result<(), NoMemory>>(
         &mut self,
-        rt: &R,
-        alloc: Global,
         kind: Kind,
-        gate: &G,
+        worker: &W,
         text: &mut Vec<u8>,
     ) -> Result<(), NoMemory>
-        requires { IsRunning self.old }
-        ensures on { WorksOn self.old self.new text.old.items text.new.items }
+        requires state { IsRunning HasRun self.old }
+        requires worker { IsWorker W.pre W.post worker.now }
+        ensures on { WorksOn HasRun self.old self.new text.old.items text.new.items }
         ensures takes { OnOk result (takes_kind self.new.rounds.held kind ≡ true) }
         ensures mode { self.new.overlap ≡ self.old.overlap }
         ensures number { self.new.number ≡ self.old.number }
@@ -131,18 +131,18 @@ impl Running {
         if self.rounds.takes(kind) {
             Ok(())
         } else {
-            self.work_held(rt, alloc, gate, text)
+            worker(self, text)
         }
     }
 
     // Holds the next line, where one of its kind goes behind those that are held.
     fn put(&mut self, input: Input<'_>) -> Result<(), NoMemory>
-        requires state { IsRunning self.old }
+        requires state { IsRunning HasRun self.old }
         requires overlap { self.old.overlap ≡ true }
         requires number { self.old.number + 1 < 2 ^ 64 }
         requires takes { takes_kind self.old.rounds.held (kind_of input) ≡ true }
         requires question_mark { HasMark input }
-        ensures ok { OnOk result ((l : Line) → held_as l ≡ Some (input_of input.entry) → (text : List ℕ) → GoesOn self.old self.new text text l) }
+        ensures ok { OnOk result ((l : Line) → held_as l ≡ Some (input_of input.entry) → (text : List ℕ) → GoesOn HasRun self.old self.new text text l) }
         ensures err { OnErr result (self.new ≡ self.old) }
     {
         let number = self.number + 1;
@@ -152,22 +152,21 @@ impl Running {
     }
 
     // Holds the next line, and works off the held lines before where it doesn't go behind them.
-    fn hold<R: Threads + Sync, G: Gate + Sync>(
+    fn hold<W: Fn(&mut Running, &mut Vec<u8>) -> Result<(), NoMemory>>(
         &mut self,
-        rt: &R,
-        alloc: Global,
         input: Input<'_>,
-        gate: &G,
+        worker: &W,
         text: &mut Vec<u8>,
     ) -> Result<(), NoMemory>
-        requires state { IsRunning self.old }
+        requires state { IsRunning HasRun self.old }
+        requires worker { IsWorker W.pre W.post worker.now }
         requires overlap { self.old.overlap ≡ true }
         requires number { self.old.number + 1 < 2 ^ 64 }
         requires question_mark { HasMark input }
-        ensures ok { OnOk result ((l : Line) → held_as l ≡ Some (input_of input.entry) → GoesOn self.old self.new text.old.items text.new.items l) }
-        ensures err { OnErr result (WorksOn self.old self.new text.old.items text.new.items) }
+        ensures ok { OnOk result ((l : Line) → held_as l ≡ Some (input_of input.entry) → GoesOn HasRun self.old self.new text.old.items text.new.items l) }
+        ensures err { OnErr result (WorksOn HasRun self.old self.new text.old.items text.new.items) }
     {
-        self.make_way(rt, alloc, input.kind(), gate, text)?;
+        self.make_way(input.kind(), worker, text)?;
         self.put(input)
     }
 
@@ -179,12 +178,12 @@ impl Running {
         gate: &G,
         text: &mut Vec<u8>,
     ) -> Result<(), NoMemory>
-        requires state { IsRunning self.old }
+        requires state { IsRunning HasRun self.old }
         requires order { self.old.overlap ≡ false }
         requires number { self.old.number + 1 < 2 ^ 64 }
         requires question_mark { HasMark input }
-        ensures ok { OnOk result ((l : Line) → held_as l ≡ Some (input_of input.entry) → GoesOn self.old self.new text.old.items text.new.items l) }
-        ensures err { OnErr result (WorksOn self.old self.new text.old.items text.new.items) }
+        ensures ok { OnOk result ((l : Line) → held_as l ≡ Some (input_of input.entry) → GoesOn HasRun self.old self.new text.old.items text.new.items l) }
+        ensures err { OnErr result (WorksOn HasRun self.old self.new text.old.items text.new.items) }
     {
         let number = self.number + 1;
         self.rounds.work_line(
@@ -202,22 +201,23 @@ impl Running {
     }
 
     // Takes the next line: holds it with overlap, and works it off else.
-    fn take<R: Threads + Sync, G: Gate + Sync>(
+    fn take<G: Gate, W: Fn(&mut Running, &mut Vec<u8>) -> Result<(), NoMemory>>(
         &mut self,
-        rt: &R,
         alloc: Global,
         input: Input<'_>,
         gate: &G,
+        worker: &W,
         text: &mut Vec<u8>,
     ) -> Result<(), NoMemory>
-        requires state { IsRunning self.old }
+        requires state { IsRunning HasRun self.old }
+        requires worker { IsWorker W.pre W.post worker.now }
         requires number { self.old.number + 1 < 2 ^ 64 }
         requires question_mark { HasMark input }
-        ensures ok { OnOk result ((l : Line) → held_as l ≡ Some (input_of input.entry) → GoesOn self.old self.new text.old.items text.new.items l) }
-        ensures err { OnErr result (WorksOn self.old self.new text.old.items text.new.items) }
+        ensures ok { OnOk result ((l : Line) → held_as l ≡ Some (input_of input.entry) → GoesOn HasRun self.old self.new text.old.items text.new.items l) }
+        ensures err { OnErr result (WorksOn HasRun self.old self.new text.old.items text.new.items) }
     {
         if self.overlap {
-            self.hold(rt, alloc, input, gate, text)
+            self.hold(input, worker, text)
         } else {
             self.work(alloc, input, gate, text)
         }
@@ -225,72 +225,93 @@ impl Running {
 
     // Passes over a blank line.
     fn pass(&mut self)
-        requires state { IsRunning self.old }
+        requires state { IsRunning HasRun self.old }
         requires number { self.old.number + 1 < 2 ^ 64 }
-        ensures { (l : Line) → held_as l ≡ None → (text : List ℕ) → GoesOn self.old self.new text text l }
+        ensures { (l : Line) → held_as l ≡ None → (text : List ℕ) → GoesOn HasRun self.old self.new text text l }
     {
         self.number += 1;
     }
 
     // Takes the next line, which is a long one.
-    pub(crate) fn take_long<R: Threads + Sync, G: Gate + Sync>(
+    pub(crate) fn take_long<G: Gate, W: Fn(&mut Running, &mut Vec<u8>) -> Result<(), NoMemory>>(
         &mut self,
-        rt: &R,
         alloc: Global,
         gate: &G,
+        worker: &W,
         text: &mut Vec<u8>,
     ) -> Result<(), NoMemory>
-        requires state { IsRunning self.old }
+        requires state { IsRunning HasRun self.old }
+        requires worker { IsWorker W.pre W.post worker.now }
         requires number { self.old.number + 1 < 2 ^ 64 }
-        ensures ok { OnOk result (GoesOn self.old self.new text.old.items text.new.items long_line) }
-        ensures err { OnErr result (WorksOn self.old self.new text.old.items text.new.items) }
+        ensures ok { OnOk result (GoesOn HasRun self.old self.new text.old.items text.new.items long_line) }
+        ensures err { OnErr result (WorksOn HasRun self.old self.new text.old.items text.new.items) }
     {
-        self.take(rt, alloc, Input::RefusedLine(Refusal::LongLine), gate, text)
+        self.take(
+            alloc,
+            Input::RefusedLine(Refusal::LongLine),
+            gate,
+            worker,
+            text,
+        )
     }
 
     // Takes the next line, which begins with a question mark.
-    fn take_query<R: Threads + Sync, G: Gate + Sync>(
+    fn take_query<G: Gate, W: Fn(&mut Running, &mut Vec<u8>) -> Result<(), NoMemory>>(
         &mut self,
-        rt: &R,
         alloc: Global,
         bytes: &[u8],
         gate: &G,
+        worker: &W,
         text: &mut Vec<u8>,
     ) -> Result<(), NoMemory>
-        requires state { IsRunning self.old }
+        requires state { IsRunning HasRun self.old }
+        requires worker { IsWorker W.pre W.post worker.now }
         requires number { self.old.number + 1 < 2 ^ 64 }
         requires question_mark { slice_get bytes.now 0 ≡ Some 63 }
-        ensures ok { OnOk result (GoesOn self.old self.new text.old.items text.new.items (line bytes.now)) }
-        ensures err { OnErr result (WorksOn self.old self.new text.old.items text.new.items) }
+        ensures ok { OnOk result (GoesOn HasRun self.old self.new text.old.items text.new.items (line bytes.now)) }
+        ensures err { OnErr result (WorksOn HasRun self.old self.new text.old.items text.new.items) }
     {
         match str::from_utf8(bytes) {
-            Ok(query) => self.take(rt, alloc, Input::QueryLine(query), gate, text),
-            Err(_) => self.take(rt, alloc, Input::RefusedLine(Refusal::BadLine), gate, text),
+            Ok(query) => self.take(alloc, Input::QueryLine(query), gate, worker, text),
+            Err(_) => self.take(
+                alloc,
+                Input::RefusedLine(Refusal::BadLine),
+                gate,
+                worker,
+                text,
+            ),
         }
     }
 
     // Takes the next line, which isn't a long one.
-    pub(crate) fn take_line<R: Threads + Sync, G: Gate + Sync>(
+    pub(crate) fn take_line<G: Gate, W: Fn(&mut Running, &mut Vec<u8>) -> Result<(), NoMemory>>(
         &mut self,
-        rt: &R,
         alloc: Global,
         bytes: &[u8],
         gate: &G,
+        worker: &W,
         text: &mut Vec<u8>,
     ) -> Result<(), NoMemory>
-        requires state { IsRunning self.old }
+        requires state { IsRunning HasRun self.old }
+        requires worker { IsWorker W.pre W.post worker.now }
         requires number { self.old.number + 1 < 2 ^ 64 }
-        ensures ok { OnOk result (GoesOn self.old self.new text.old.items text.new.items (line bytes.now)) }
-        ensures err { OnErr result (WorksOn self.old self.new text.old.items text.new.items) }
+        ensures ok { OnOk result (GoesOn HasRun self.old self.new text.old.items text.new.items (line bytes.now)) }
+        ensures err { OnErr result (WorksOn HasRun self.old self.new text.old.items text.new.items) }
     {
         match bytes.first() {
             None => {
                 self.pass();
                 Ok(())
             }
-            Some(b'{') => self.take(rt, alloc, Input::DocumentLine(bytes), gate, text),
-            Some(b'?') => self.take_query(rt, alloc, bytes, gate, text),
-            Some(_) => self.take(rt, alloc, Input::RefusedLine(Refusal::BadLine), gate, text),
+            Some(b'{') => self.take(alloc, Input::DocumentLine(bytes), gate, worker, text),
+            Some(b'?') => self.take_query(alloc, bytes, gate, worker, text),
+            Some(_) => self.take(
+                alloc,
+                Input::RefusedLine(Refusal::BadLine),
+                gate,
+                worker,
+                text,
+            ),
         }
     }
 }

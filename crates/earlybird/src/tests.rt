@@ -318,7 +318,7 @@ fn refuses_other_words(rt: HostRuntime) -> Result<(), Fail> {
         assert!(rt; left.printed.is_empty());
         assert_eq!(rt;
             left.said.as_slice(),
-            b"earlybird: usage: run [--overlap | --workers N | --parts N] [--stats] [--segments N] [--docs N] [--terms N] | bench START DOCS | save [--segments N] [--docs N] [--terms N] | load [--stats]\n".as_slice()
+            b"earlybird: usage: run [--overlap | --workers N | --parts N | --watch] [--stats] [--segments N] [--docs N] [--terms N] | bench START DOCS | save [--segments N] [--docs N] [--terms N] | load [--stats]\n".as_slice()
         );
     }
     Ok(())

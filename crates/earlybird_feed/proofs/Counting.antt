@@ -1,19 +1,8 @@
--- What some lines add, ask and are refused.
+-- No more is added, asked and refused than there are lines.
 use Rattle.std.proofs.Common.{◌≡◌, ℕ, ◌+◌, ◌≤◌, List, [], ◌∷◌, ◌++◌, length, flat_map, refl, arith, length-append}
 use Rattle.std.proofs.lemmas.List.Sums.{count_by-le-length}
 use Rattle.eb_lines.specs.Reading.{Reading, blank, document, query, refused}
-use Rattle.eb_lines.specs.Progress.{documents_in, is_query, is_refused, accepted, queries, refusals, one_if}
-use Rattle.eb_lines.proofs.Advancing.{count_push}
-
-pub queries-push : (rs : List Reading) (r : Reading) → queries (rs ++ r ∷ []) ≡ queries rs + one_if (is_query r)
-unfolding queries
-queries-push rs r = count_push is_query rs r
-
-pub refusals-push : (rs : List Reading) (r : Reading) → refusals (rs ++ r ∷ []) ≡ refusals rs + one_if (is_refused r)
-unfolding refusals
-refusals-push rs r = count_push is_refused rs r
-
--- ---- there are no more of each than lines
+use Rattle.eb_lines.specs.Progress.{documents_in, is_query, is_refused, accepted, queries, refusals}
 
 short : (r : Reading) → length (documents_in r) ≤ 1
 short blank = omega arith

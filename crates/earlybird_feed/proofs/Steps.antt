@@ -1,6 +1,6 @@
 -- A run over a feed takes lines one by one, and ends.
 use Rattle.std.proofs.Common.{◌≡◌, ℕ, ◌+◌, ◌<◌, List, [], ◌∷◌, ◌++◌, length, sym, ap, ap₂, subst, ◌∙◌, arith, append-nil}
-use Rattle.std.specs.Prelude.{Option, Result, Ok, Err, OnOk, OnErr}
+use Rattle.std.specs.Prelude.{Option}
 use Rattle.eb_base.specs.Setting.{Setting}
 use Rattle.eb_feed.specs.Generations.{kept}
 use Rattle.eb_io.specs.Lines.{Line}
@@ -11,6 +11,7 @@ use Rattle.eb_lines.specs.Programs.{Finishes}
 use Rattle.eb_lines.specs.Progress.{accepted, queries, refusals}
 use Rattle.eb_lines.specs.Reading.{Reading}
 use Rattle.eb_lines.specs.Reads.{Reads}
+use Rattle.eb_lines.proofs.OneReading.{raw_push}
 use Rattle.eb_lines.proofs.PassingLines.{ends_at_once}
 use Rattle.earlybird_feed.specs.declared.feeding.Feeding.{Feeding}
 use Rattle.earlybird_feed.specs.Asked.{Asked, HasRun, body_of, comes_first}
@@ -18,12 +19,6 @@ use Rattle.earlybird_feed.specs.Feeding.{HasFed, IsFeeding, GoesOn, output_behin
 use Rattle.earlybird_feed.specs.Output.{AreRead, IsBodyOf, IsTextOf, HasRefusal, HasNoRefusal}
 use Rattle.earlybird_feed.specs.Text.{summary, summary_of}
 use Rattle.earlybird_feed.proofs.Texts.{body-push, body-nil}
-
-read_push : (ls : List Line) (rs : List Reading) (l : Line) (r : Reading) → AreRead ls rs → Reads l r → AreRead (ls ++ l ∷ []) (rs ++ r ∷ [])
-read_push [] [] l r h k = (k, tt)
-read_push [] (s ∷ rs) l r h k = absurd h
-read_push (m ∷ ls) [] l r h k = absurd h
-read_push (m ∷ ls) (s ∷ rs) l r h k = (h.0, read_push ls rs l r h.1 k)
 
 -- before the first line
 pub run_none : (f : Feeding) (σ : Setting) (keep : ℕ) → HasFed f σ keep [] → HasRun f record { setting = σ; keep = keep } [] []
@@ -41,18 +36,12 @@ goes old new t0 t1 l g a given so_far h =
       output_behind a.setting a.keep h.readings g.0,
       record {
         readings = h.readings ++ g.0 ∷ [];
-        read = read_push given h.readings l g.0 h.read g.1;
+        read = raw_push Reads given h.readings l g.0 h.read g.1;
         fed = w.0;
         printed = ap (λ b. b ++ output_behind a.setting a.keep h.readings g.0) h.printed ∙ sym (body-push a.setting a.keep h.readings g.0);
       },
       w.1,
     )
-
--- or nothing is done
-pub stays : (old new : Feeding) (t0 t1 : List ℕ) → new ≡ old → t1 ≡ t0 → (a : Asked) (given : List Line) (so_far : List ℕ) → HasRun old a given so_far
-    → (printed : List ℕ) × HasRun new a given (so_far ++ printed) × (t1 ≡ t0 ++ printed)
-stays old new t0 t1 same text a given so_far h =
-    ([], subst (HasRun new a given) (sym (append-nil so_far)) (subst (λ f. HasRun f a given so_far) (sym same) h), text ∙ sym (append-nil t0))
 
 pub feeding_of : (f : Feeding) (a : Asked) (given : List Line) (so_far : List ℕ) → HasRun f a given so_far → IsFeeding f
 feeding_of f a given so_far h = (a.setting, a.keep, h.readings, h.fed)
@@ -72,16 +61,3 @@ finishes p has_run f a given so_far h d q x k de qe xe ke t whole e =
       some = λ n is. (h.readings, h.read, omega (arith, is, xe));
       none = λ is. (h.readings, h.read, sym xe ∙ is);
     }
-
-pub body_of_run : (f : Feeding) (a : Asked) (given : List Line) (so_far : List ℕ) → HasRun f a given so_far → IsBodyOf a.setting a.keep given so_far
-body_of_run f a given so_far h = body_of f a given so_far h
-
--- ---- results
-
-pub ok_on : {T E P Q : Type 0} (r : Result T E) → OnOk r P → (P → Q) → OnOk r Q
-ok_on (Ok x) p f = f p
-ok_on (Err e) p f = tt
-
-pub err_on : {T E P Q : Type 0} (r : Result T E) → OnErr r P → (P → Q) → OnErr r Q
-err_on (Ok x) p f = tt
-err_on (Err e) p f = f p

@@ -1,4 +1,3 @@
-pub mod Admissions
 pub mod Savings
 pub mod Loadings
 pub mod Images

@@ -1,31 +1,28 @@
 -- `save` takes a line more.
-use Rattle.std.proofs.Common.{◌≡◌, ℕ, ◌+◌, ◌≤◌, true, false, List, [], ◌∷◌, ◌++◌, Some, None, inl, inr, refl}
-use Rattle.std.proofs.Common.{sym, ap, subst, eqb→eq, ◌∙◌, arith, append_assoc, append-nil, length-append}
-use Rattle.std.specs.Prelude.{T, ◌==◌, ◌&&◌, slice_get, Result, Ok, Err, IfOk, OnOk, OnErr, MatchResult, ⊤, if◌then◌else◌}
-use Rattle.std.specs.Str.{is_utf8}
-use Rattle.std.proofs.lemmas.Bool.{cases_Bool, false_from_ne_true}
+use Rattle.std.proofs.Common.{◌≡◌, ℕ, ◌+◌, ◌≤◌, true, false, List, [], ◌∷◌, ◌++◌, refl}
+use Rattle.std.proofs.Common.{sym, ap, subst, ◌∙◌, arith, append_assoc, append-nil, length-append}
+use Rattle.std.specs.Prelude.{if◌then◌else◌}
 use Rattle.std.specs.List.{flat_map}
 use Rattle.std.proofs.lemmas.Grind.{flat_map-append}
 use Rattle.eb_base.specs.Document.{Doc}
 use Rattle.eb_base.specs.Setting.{Setting}
 use Rattle.eb_image.specs.Image.{head_of, part_of, image_of, last_byte}
 use Rattle.eb_io.specs.Lines.{Line, line}
-use Rattle.eb_doc.specs.DocumentLine.{document_of}
 use Rattle.eb_place.specs.Room.{has_room, HasRoom}
 use Rattle.eb_table.specs.Known.{Words}
 use Rattle.eb_engine.specs.Tokens.{Token}
-use Rattle.eb_lines.specs.Reading.{Reading, blank, document, refused}
-use Rattle.eb_lines.specs.declared.refusal.Refusal.TheVariants.{Full, BadLine}
+use Rattle.eb_lines.specs.Reading.{Reading, document, refused}
+use Rattle.eb_lines.specs.declared.refusal.Refusal.TheVariants.{Full}
 use Rattle.eb_lines.specs.Progress.{documents_in, accepted, refusals, is_refused, one_if}
-use Rattle.eb_lines.specs.Programs.{WorksOn, GoesOn, Finishes}
-use Rattle.eb_lines.specs.Kinds.{Kind, document_line, query_line, bad_line, kind_of}
-use Rattle.eb_lines.specs.Reads.{IsOfDocument, ReadsByKind}
-use Rattle.eb_lines.proofs.Advancing.{accepted-push}
+use Rattle.eb_lines.specs.Programs.{Finishes}
+use Rattle.eb_lines.specs.Kinds.{Kind, kind_of}
+use Rattle.eb_lines.specs.Reads.{ReadsByKind}
+use Rattle.eb_lines.proofs.Advancing.{accepted-push, refusals-push}
 use Rattle.eb_rounds.specs.Admitted.{admit}
+use Rattle.eb_rounds.proofs.LinesRead.{read_none, read_push}
 use Rattle.eb_archive.specs.declared.saving.Saving.{Saving}
 use Rattle.eb_archive.specs.Saved.{kind_to_save, ReadsToSave, AreReadToSave, AreParts, IsSaved, HasUnsaved, HasNoUnsaved}
 use Rattle.eb_archive.specs.Saving.{HasSaved, TakesLine}
-use Rattle.eb_archive.proofs.Admissions.{read_none, read_push, refusals-push}
 
 -- a line of this reading is taken: what it comes to, a, is that of the documents before it
 module _ (old new : Saving) (σ : Setting) (given : List Line) (so_far : List ℕ) (l : Line) (r a : Reading) (h : HasSaved old σ given so_far)
@@ -55,7 +52,7 @@ module _ (old new : Saving) (σ : Setting) (given : List Line) (so_far : List �
 pub takes_quiet : (old new : Saving) (r a : Reading) → ((σ : Setting) → old.index.setting ≡ σ → admit σ old.writer.docs r ≡ a) → documents_in a ≡ []
     → new.index ≡ old.index → new.writer ≡ old.writer → new.number ≡ old.number + 1 → new.refused ≡ old.refused + one_if (is_refused a)
     → one_if (is_refused a) ≤ 1 → (text : List ℕ) → TakesLine old new text text r
-takes_quiet old new r a is none index writer number more low text = λ σ given so_far l h reads.
+takes_quiet old new r a is none index writer number more low text = λ l reads σ given so_far h.
     let setting : old.index.setting ≡ σ = ap (λ (w : Words). w.setting) h.index ∙ h.setting in
     let docs : new.writer.docs ≡ old.writer.docs ++ documents_in a =
     ap (λ (t : Token). t.docs) writer ∙ sym (append-nil old.writer.docs) ∙ ap (λ ds. old.writer.docs ++ ds) (sym none) in (
@@ -68,7 +65,7 @@ takes_quiet old new r a is none index writer number more low text = λ σ given 
 pub takes_document : (old new : Saving) (d : Doc) (text part text_new : List ℕ) → HasRoom old.index.setting old.writer.docs d → new.index ≡ old.index
     → new.writer ≡ (let t : Token = record { index = old.writer.index; docs = old.writer.docs ++ d ∷ [] } in t)
     → new.number ≡ old.number + 1 → new.refused ≡ old.refused → part ≡ part_of d → text_new ≡ text ++ part → TakesLine old new text text_new (document d)
-takes_document old new d text part text_new room index writer number refused_same is put = λ σ given so_far l h reads.
+takes_document old new d text part text_new room index writer number refused_same is put = λ l reads σ given so_far h.
     let setting : old.index.setting ≡ σ = ap (λ (w : Words). w.setting) h.index ∙ h.setting in
     let fits : has_room σ old.writer.docs d ≡ true = subst (λ (s : Setting). HasRoom s old.writer.docs d) setting room in
     let admitted : document d ≡ admit σ old.writer.docs (document d) = sym (ap (λ b. if b then document d else refused Full) fits) in (
@@ -104,48 +101,9 @@ saved_none s w σ index setting writer number refused_none = record {
   written = sym (append-nil (head_of σ));
 }
 
--- nothing waits
-pub saving_on : (s : Saving) (text : List ℕ) → WorksOn HasSaved s s text text
-saving_on s text = λ σ given so_far h. ([], subst (HasSaved s σ given) (sym (append-nil so_far)) h, sym (append-nil text))
-
-pub saving_at : (old new : Saving) (t0 t1 : List ℕ) → new ≡ old → t1 ≡ t0 → WorksOn HasSaved old new t0 t1
-saving_at old new t0 t1 e f = subst (λ (s : Saving). WorksOn HasSaved old s t0 t1) (sym e) (subst (λ t. WorksOn HasSaved old old t0 t) (sym f) (saving_on old t0))
-
--- a line of a known reading
-pub saving_line : (old new : Saving) (t0 t1 : List ℕ) (l : Line) (r : Reading) → ReadsToSave l r → TakesLine old new t0 t1 r → GoesOn HasSaved old new t0 t1 l
-saving_line old new t0 t1 l r reads takes = λ σ given so_far h. takes σ given so_far l h reads
-
--- ---- how a line is read
-
-pub reads_document : (bytes : List ℕ) (r : Reading) → kind_of bytes ≡ document_line → IsOfDocument (document_of bytes) r → ReadsToSave (line bytes) r
-reads_document bytes r e h = subst (λ (k : Kind). ReadsByKind (kind_to_save k) bytes r) (sym e) h
-
-pub reads_blank : (bytes : List ℕ) → slice_get bytes 0 ≡ None → ReadsToSave (line bytes) blank
-reads_blank [] e = refl
-reads_blank (b ∷ bs) e = absurd (cc e)
-
-pub reads_bad : (bytes : List ℕ) (b : ℕ) → slice_get bytes 0 ≡ Some b → (b ≡ 123 → ⊥) → ReadsToSave (line bytes) (refused BadLine)
-reads_bad [] b e other = absurd (cc e)
-reads_bad (x ∷ xs) b e other =
-    let same : x ≡ b = cc in
-    let first : (x == 123) ≡ false = false_from_ne_true _ (λ h. other (sym same ∙ eqb→eq x 123 (subst T (sym h) tt))) in
-    let kind : kind_of (x ∷ xs) ≡ (if x == 63 && is_utf8 (x ∷ xs) then query_line else bad_line) = rw first refl in
-    let R : Kind → Type 0 = λ k. ReadsByKind (kind_to_save k) (x ∷ xs) (refused BadLine) in
-    subst R (sym kind) (elim (cases_Bool (x == 63 && is_utf8 (x ∷ xs))) [ inl yes_is ↦ rw yes_is refl | inr no_is ↦ rw no_is refl ])
-
--- ---- results
-
-pub ok_on : {T E P Q : Type 0} (r : Result T E) → OnOk r P → (P → Q) → OnOk r Q
-ok_on (Ok x) p f = f p
-ok_on (Err e) p f = tt
-
-pub err_on : {T E P Q : Type 0} (r : Result T E) → OnErr r P → (P → Q) → OnErr r Q
-err_on (Ok x) p f = tt
-err_on (Err e) p f = f p
-
-pub ok_match : {T E : Type 0} {P Q : T → Type 0} (r : Result T E) → IfOk r P → ((x : T) → P x → Q x) → MatchResult r Q (λ e. ⊤)
-ok_match (Ok x) p f = f x p
-ok_match (Err e) p f = tt
+-- a line is read by its kind
+pub reads_to_save : (bytes : List ℕ) (k : Kind) (r : Reading) → kind_of bytes ≡ k → ReadsByKind (kind_to_save k) bytes r → ReadsToSave (line bytes) r
+reads_to_save bytes k r is h = subst (λ (x : Kind). ReadsByKind (kind_to_save x) bytes r) (sym is) h
 
 -- ---- the end
 

@@ -1,4 +1,3 @@
-pub mod Behind
 pub mod Saved
 pub mod Saving
 pub mod SavingLaws

@@ -1,5 +1,5 @@
 -- What `load` makes of an image and of the lines behind it.
-use Rattle.std.specs.Prelude.{◌≡◌, ℕ, ◌+◌, ◌<◌, ◌⊎◌, Bool, true, false, List, [], ◌++◌, length, Option}
+use Rattle.std.specs.Prelude.{◌≡◌, ℕ, ◌+◌, ◌⊎◌, Bool, List, [], ◌++◌, length, Option}
 use Rattle.eb_base.specs.Document.{Doc}
 use Rattle.eb_base.specs.Setting.{Setting, IsSetting}
 use Rattle.eb_image.specs.Image.{image_of}
@@ -14,10 +14,10 @@ use Rattle.eb_lines.specs.Progress.{accepted, queries, refusals, told}
 use Rattle.eb_lines.specs.Reading.{Reading}
 use Rattle.eb_lines.specs.Reads.{Reads}
 use Rattle.eb_lines.specs.Text.{summary_of}
-use Rattle.eb_place.specs.Room.{cut, IsLawful}
-use Rattle.eb_rounds.specs.Conversions.{converted_of}
-use Rattle.eb_rounds.specs.Text.{body_from, segments_line}
-use Rattle.eb_archive.specs.Behind.{AreReadBehind}
+use Rattle.eb_place.specs.Room.{IsLawful}
+use Rattle.eb_rounds.specs.Ending.{stats_of}
+use Rattle.eb_rounds.specs.LinesRead.{AreReadBehind, SomeRefused, NoneRefused}
+use Rattle.eb_rounds.specs.Text.{body_from}
 
 -- an index of this setting is loaded with these documents, and whether the segments are told
 pub record Loaded : Type 0 where
@@ -46,15 +46,6 @@ body_behind docs rs = body_from (λ j. length docs + told rs j) (docs ++ accepte
 abbrev pub summary_behind : List Doc → List Reading → List ℕ
 summary_behind docs rs = summary_of (length (docs ++ accepted rs)) (queries rs) (refusals rs)
 
--- where the segments are told, the line of the segments begun and converted
-abbrev pub stats_line : Bool → ℕ → ℕ → List ℕ
-stats_line false begun converted = []
-stats_line true begun converted = segments_line begun converted
-
--- all segments but the last one are converted at the end of an input
-abbrev pub stats_of : Bool → Setting → List Doc → List ℕ
-stats_of stats σ docs = stats_line stats (length (cut σ docs)) (converted_of (length (cut σ docs)))
-
 -- the lines are these behind the loaded documents
 abbrev pub AreReadLoaded : Loaded → List Line → List Reading → Type 0
 AreReadLoaded a = AreReadBehind Reads a.setting a.documents
@@ -73,10 +64,10 @@ pub record IsTextBehind (a : Loaded) (lines : List Line) (printed : List ℕ) : 
 
 -- some line is refused; none is
 abbrev pub HasRefusalBehind : Loaded → List Line → Type 0
-HasRefusalBehind a lines = (rs : List Reading) × AreReadLoaded a lines rs × (0 < refusals rs)
+HasRefusalBehind a = SomeRefused (AreReadLoaded a)
 
 abbrev pub HasNoRefusalBehind : Loaded → List Line → Type 0
-HasNoRefusalBehind a lines = (rs : List Reading) × AreReadLoaded a lines rs × (refusals rs ≡ 0)
+HasNoRefusalBehind a = NoneRefused (AreReadLoaded a)
 
 -- why no image was read, where these bytes were taken and this is left: no image comes first in them and none can come;
 -- or none came yet

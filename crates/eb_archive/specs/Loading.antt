@@ -1,13 +1,14 @@
 -- How far a load has come between two lines, and that what it printed is a front of a whole text.
-use Rattle.std.specs.Prelude.{◌≡◌, ℕ, ◌≤◌, List, [], ◌∷◌, ◌++◌, length}
+use Rattle.std.specs.Prelude.{◌≡◌, ℕ, ◌≤◌, List, ◌++◌, length}
 use Rattle.std.proofs.Common.{ap}
 use Rattle.eb_io.specs.Lines.{Line}
-use Rattle.eb_lines.specs.Programs.{PrintsFront, prints_all}
+use Rattle.eb_lines.specs.Programs.{GoesOn, PrintsFront, prints_all}
 use Rattle.eb_lines.specs.Progress.{accepted, queries, refusals}
 use Rattle.eb_lines.specs.Reading.{Reading}
 use Rattle.eb_lines.specs.Reads.{Reads}
 use Rattle.eb_archive.specs.declared.loading.Loading.{Loading}
-use Rattle.eb_archive.specs.Loaded.{Loaded, AreReadLoaded, IsBodyBehind, IsTextBehind, body_behind, summary_behind, stats_of}
+use Rattle.eb_archive.specs.Loaded.{Loaded, AreReadLoaded, IsBodyBehind, IsTextBehind, body_behind, summary_behind}
+use Rattle.eb_rounds.specs.Ending.{stats_of}
 use Rattle.eb_archive.specs.Stores.{Holds}
 
 -- these lines were taken behind the loaded documents, and they printed this
@@ -25,8 +26,7 @@ pub record HasLoaded (s : Loading) (a : Loaded) (given : List Line) (so_far : Li
 
 -- a line of this reading was taken, and what it prints was put behind the text
 abbrev pub TakesLine : Loading → Loading → List ℕ → List ℕ → Reading → Type 0
-TakesLine old new text_old text_new r = (a : Loaded) (given : List Line) (so_far : List ℕ) (l : Line) → HasLoaded old a given so_far → Reads l r
-    → (printed : List ℕ) × HasLoaded new a (given ++ l ∷ []) (so_far ++ printed) × (text_new ≡ text_old ++ printed)
+TakesLine old new text_old text_new r = (l : Line) → Reads l r → GoesOn HasLoaded old new text_old text_new l
 
 -- the lines given are those that printed
 pub loaded_first : (s : Loading) (a : Loaded) (given : List Line) (so_far : List ℕ) → HasLoaded s a given so_far

@@ -1,5 +1,5 @@
 -- What `save` makes of the lines of an input: the image of the documents that they add.
-use Rattle.std.specs.Prelude.{◌≡◌, ℕ, ◌<◌, List, [], ◌++◌, Option}
+use Rattle.std.specs.Prelude.{◌≡◌, ℕ, List, [], ◌++◌, Option}
 use Rattle.std.specs.List.{flat_map}
 use Rattle.eb_base.specs.Setting.{Setting}
 use Rattle.eb_io.specs.Lines.{Line, line, long_line}
@@ -8,10 +8,10 @@ use Rattle.eb_lines.specs.declared.refusal.Refusal.TheVariants.{LongLine}
 use Rattle.eb_lines.specs.declared.status.Status.{Status}
 use Rattle.eb_lines.specs.Kinds.{Kind, blank_line, document_line, query_line, bad_line, kind_of}
 use Rattle.eb_lines.specs.Outcomes.{Wrote, Means}
-use Rattle.eb_lines.specs.Progress.{accepted, refusals}
+use Rattle.eb_lines.specs.Progress.{accepted}
 use Rattle.eb_lines.specs.Reading.{Reading, refused}
 use Rattle.eb_lines.specs.Reads.{ReadsByKind}
-use Rattle.eb_archive.specs.Behind.{AreReadBehind}
+use Rattle.eb_rounds.specs.LinesRead.{AreReadBehind, SomeRefused, NoneRefused}
 
 -- a query line is a bad line to `save`
 abbrev pub kind_to_save : Kind → Kind
@@ -43,10 +43,10 @@ pub record IsSaved (σ : Setting) (lines : List Line) (printed : List ℕ) : Typ
 
 -- some line is refused; none is
 abbrev pub HasUnsaved : Setting → List Line → Type 0
-HasUnsaved σ lines = (rs : List Reading) × AreReadToSave σ lines rs × (0 < refusals rs)
+HasUnsaved σ = SomeRefused (AreReadToSave σ)
 
 abbrev pub HasNoUnsaved : Setting → List Line → Type 0
-HasNoUnsaved σ lines = (rs : List Reading) × AreReadToSave σ lines rs × (refusals rs ≡ 0)
+HasNoUnsaved σ = NoneRefused (AreReadToSave σ)
 
 -- what a `save` that ends so has written, of an input of these bytes of which this is left
 abbrev pub WroteSaved : Setting → Status → List ℕ → Option (List ℕ) → List ℕ → Type 0

@@ -1,9 +1,10 @@
 -- How far `save` has come between two lines.
-use Rattle.std.specs.Prelude.{◌≡◌, ℕ, ◌≤◌, List, [], ◌∷◌, ◌++◌, length}
+use Rattle.std.specs.Prelude.{◌≡◌, ℕ, ◌≤◌, List, ◌++◌, length}
 use Rattle.std.specs.List.{flat_map}
 use Rattle.eb_base.specs.Setting.{Setting}
 use Rattle.eb_image.specs.Image.{head_of, part_of}
 use Rattle.eb_io.specs.Lines.{Line}
+use Rattle.eb_lines.specs.Programs.{GoesOn}
 use Rattle.eb_lines.specs.Progress.{accepted, refusals}
 use Rattle.eb_lines.specs.Reading.{Reading}
 use Rattle.eb_table.specs.Known.{Words}
@@ -27,5 +28,4 @@ pub record HasSaved (s : Saving) (σ : Setting) (given : List Line) (so_far : Li
 
 -- a line of this reading was taken, and its part was put behind the text
 abbrev pub TakesLine : Saving → Saving → List ℕ → List ℕ → Reading → Type 0
-TakesLine old new text_old text_new r = (σ : Setting) (given : List Line) (so_far : List ℕ) (l : Line) → HasSaved old σ given so_far → ReadsToSave l r
-    → (part : List ℕ) × HasSaved new σ (given ++ l ∷ []) (so_far ++ part) × (text_new ≡ text_old ++ part)
+TakesLine old new text_old text_new r = (l : Line) → ReadsToSave l r → GoesOn HasSaved old new text_old text_new l

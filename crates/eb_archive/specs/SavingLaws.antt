@@ -1,5 +1,5 @@
 -- What `save` wrote is a front of an image.
-use Rattle.std.specs.Prelude.{◌≡◌, ℕ, List, [], ◌++◌}
+use Rattle.std.specs.Prelude.{ℕ, List, ◌++◌}
 use Rattle.std.specs.List.{flat_map}
 use Rattle.std.proofs.Common.{ap, ◌∙◌, append_assoc}
 use Rattle.eb_base.specs.Setting.{Setting}

@@ -6,7 +6,6 @@ mod image;
 mod load;
 mod load_program;
 mod loading;
-mod printing;
 mod save;
 mod saving;
 mod store;

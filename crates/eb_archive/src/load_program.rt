@@ -2,10 +2,8 @@
 ghost use Rattle.eb_io.specs.Lines.{line, long_line};
 
 use crate::loading::Loading;
-use crate::printing::put_end;
 use eb_base::{Gate, NoMemory};
 use eb_lines::LineProgram;
-use eb_rounds::Counts;
 use std::alloc::Global;
 
 // A load, with the allocator and the gate that it works by.

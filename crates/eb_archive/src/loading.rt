@@ -9,12 +9,11 @@ ghost use Rattle.eb_archive.specs.Loaded.{Loaded, IsTextBehind, HasRefusalBehind
 ghost use Rattle.eb_archive.specs.Loading.{HasLoaded, TakesLine};
 ghost use Rattle.eb_archive.specs.Stores.{Holds};
 
-use crate::printing::put_end;
 use crate::store::Store;
 use eb_base::{Document, Gate, NoMemory};
 use eb_cursor::Frame;
 use eb_lines::{Refusal, Work, put_answer, put_refusal, read_line};
-use eb_rounds::Counts;
+use eb_rounds::{Counts, put_end};
 use std::alloc::Global;
 
 // The index, the number of the last line, and how many queries were answered and lines refused.

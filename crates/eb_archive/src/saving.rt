@@ -10,7 +10,7 @@ ghost use Rattle.eb_archive.specs.Saving.{HasSaved, TakesLine};
 use eb_base::{Config, Document, NoMemory, OpenGate};
 use eb_engine::{Index, Writer};
 use eb_image::write_part;
-use eb_lines::{LineProgram, Refusal, read_document_line};
+use eb_lines::{LineKind, LineProgram, Refusal, line_kind, read_document_line};
 use eb_writer::Full;
 use std::alloc::Global;
 
@@ -132,10 +132,11 @@ impl LineProgram for Saving {
     ghost number = { λ p. p.number };
 
     fn take_line(&mut self, bytes: &[u8], text: &mut Vec<u8>) -> Result<(), NoMemory> {
-        match bytes.first() {
-            None => self.pass(),
-            Some(b'{') => return self.take_document(bytes, text),
-            Some(_) => self.refuse(Refusal::BadLine),
+        match line_kind(bytes) {
+            LineKind::Blank => self.pass(),
+            LineKind::Document => return self.take_document(bytes, text),
+            LineKind::Query(_) => self.refuse(Refusal::BadLine),
+            LineKind::Bad => self.refuse(Refusal::BadLine),
         }
         Ok(())
     }

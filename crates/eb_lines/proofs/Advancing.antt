@@ -1,32 +1,39 @@
 -- How far some lines come, with one line more.
-use Rattle.std.proofs.Common.{◌≡◌, ℕ, ◌+◌, ◌≤◌, Bool, List, [], ◌∷◌, ◌++◌, length, take, drop, count_by, flat_map, refl, sym, ap, ◌∙◌, arith, append_assoc, append-nil, zero-add, length-append}
+use Rattle.std.proofs.Common.{◌≡◌, ℕ, ◌+◌, ◌≤◌, Bool, List, [], ◌∷◌, ◌++◌, length, take, drop, count_by, flat_map, refl, sym, ap, ◌∙◌, arith, append-nil, zero-add, length-append}
+use Rattle.std.proofs.lemmas.Grind.{flat_map-append}
 use Rattle.std.proofs.lemmas.List.{take-append-le, take-append-drop}
 use Rattle.std.proofs.lemmas.List.Sums.{sum_by-append}
 use Rattle.std.proofs.Math.Seq.{take-length}
 use Rattle.eb_lines.specs.Reading.{Reading}
 use Rattle.eb_lines.specs.Progress.{documents_in, is_query, is_refused, accepted, queries, refusals, told, progress_after, one_if, with_line, nothing}
 
-flat_map-push : (rs : List Reading) (r : Reading) → flat_map documents_in (rs ++ r ∷ []) ≡ flat_map documents_in rs ++ documents_in r
-flat_map-push [] r = append-nil (documents_in r)
-flat_map-push (s ∷ rs) r = ap (λ ds. documents_in s ++ ds) (flat_map-push rs r) ∙ sym (append_assoc (documents_in s) (flat_map documents_in rs) (documents_in r))
+pub flat_map-push : {A B : Type 0} (f : A → List B) (xs : List A) (x : A) → flat_map f (xs ++ x ∷ []) ≡ flat_map f xs ++ f x
+flat_map-push f xs x = flat_map-append f xs (x ∷ []) ∙ ap (λ ys. flat_map f xs ++ ys) (append-nil (f x))
 
 pub accepted-push : (rs : List Reading) (r : Reading) → accepted (rs ++ r ∷ []) ≡ accepted rs ++ documents_in r
 unfolding accepted
-accepted-push rs r = flat_map-push rs r
+accepted-push rs r = flat_map-push documents_in rs r
 
 pub accepted-append : (rs ss : List Reading) → accepted (rs ++ ss) ≡ accepted rs ++ accepted ss
 unfolding accepted
-accepted-append [] ss = refl
-accepted-append (r ∷ rs) ss = ap (λ ds. documents_in r ++ ds) (accepted-append rs ss) ∙ sym (append_assoc (documents_in r) (flat_map documents_in rs) (flat_map documents_in ss))
+accepted-append rs ss = flat_map-append documents_in rs ss
 
-pub count_push : (p : Reading → Bool) (rs : List Reading) (r : Reading) → count_by p (rs ++ r ∷ []) ≡ count_by p rs + one_if (p r)
-count_push p rs r = sum_by-append (λ x. one_if (p x)) rs (r ∷ []) ∙ ap (λ n. count_by p rs + n) (zero-add (one_if (p r)))
+pub count_push : {A : Type 0} (p : A → Bool) (xs : List A) (x : A) → count_by p (xs ++ x ∷ []) ≡ count_by p xs + one_if (p x)
+count_push p xs x = sum_by-append (λ y. one_if (p y)) xs (x ∷ []) ∙ ap (λ n. count_by p xs + n) (zero-add (one_if (p x)))
+
+pub queries-push : (rs : List Reading) (r : Reading) → queries (rs ++ r ∷ []) ≡ queries rs + one_if (is_query r)
+unfolding queries
+queries-push rs r = count_push is_query rs r
+
+pub refusals-push : (rs : List Reading) (r : Reading) → refusals (rs ++ r ∷ []) ≡ refusals rs + one_if (is_refused r)
+unfolding refusals
+refusals-push rs r = count_push is_refused rs r
 
 pub progress_after-push : (rs : List Reading) (r : Reading) → progress_after (rs ++ r ∷ []) ≡ with_line (progress_after rs) r
-unfolding progress_after queries refusals
+unfolding progress_after
 progress_after-push rs r =
     let counted : length (rs ++ r ∷ []) ≡ length rs + 1 = length-append rs (r ∷ []) in
-    rw (counted, accepted-push rs r, count_push is_query rs r, count_push is_refused rs r) refl
+    rw (counted, accepted-push rs r, queries-push rs r, refusals-push rs r) refl
 
 pub progress_after-nil : progress_after [] ≡ nothing
 unfolding progress_after accepted queries refusals

@@ -3,3 +3,5 @@ pub mod Advancing
 pub mod OneReading
 pub mod PassingLines
 pub mod Told
+pub mod Results
+pub mod Runs

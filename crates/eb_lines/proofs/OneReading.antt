@@ -1,5 +1,5 @@
--- Each line has one reading.
-use Rattle.std.proofs.Common.{◌≡◌, ℕ, List, [], ◌∷◌, refl, sym, ap, ap₂, ◌∙◌}
+-- Each line has one reading, and lines are read one by one.
+use Rattle.std.proofs.Common.{◌≡◌, ℕ, List, [], ◌∷◌, ◌++◌, refl, sym, ap, ap₂, ◌∙◌}
 use Rattle.std.specs.Prelude.{Result, Ok, Err}
 use Rattle.std.specs.List.{AllZip}
 use Rattle.eb_base.specs.Document.{Doc}
@@ -64,3 +64,11 @@ some_reading long_line = (refused LongLine, refl)
 pub some_read : (ls : List Line) → (rs : List Reading) × AllZip Reads ls rs
 some_read [] = ([], tt)
 some_read (l ∷ ls) = let r = some_reading l in let rs = some_read ls in (r.0 ∷ rs.0, (r.1, rs.1))
+
+-- ---- lines that are read, with one more
+
+pub raw_push : (reads : Line → Reading → Type 0) (ls : List Line) (rs : List Reading) (l : Line) (r : Reading) → AllZip reads ls rs → reads l r → AllZip reads (ls ++ l ∷ []) (rs ++ r ∷ [])
+raw_push reads [] [] l r h e = (e, tt)
+raw_push reads [] (s ∷ rs) l r h e = absurd h
+raw_push reads (k ∷ ls) [] l r h e = absurd h
+raw_push reads (k ∷ ls) (s ∷ rs) l r h e = (h.0, raw_push reads ls rs l r h.1 e)

@@ -1,6 +1,7 @@
 pub mod Reading
 pub mod Progress
 pub mod Kinds
+pub mod LineKinds
 pub mod Reads
 pub mod Works
 pub mod Text

@@ -1,6 +1,6 @@
 -- How far a program over lines has come between two of them, and how it ends, also over a source or a sink that tells no
 -- bytes.
-use Rattle.std.specs.Prelude.{◌≡◌, ℕ, ◌<◌, ◌≤◌, true, List, [], ◌∷◌, ◌++◌, length, Option, Some, Result, Ok, Err}
+use Rattle.std.specs.Prelude.{◌≡◌, ℕ, ◌<◌, ◌≤◌, true, List, ◌++◌, length, Option, Some, Result, Ok, Err}
 use Rattle.eb_io.specs.Lines.{Line, longest_input, lines_of, whole_lines}
 use Rattle.eb_io.specs.Held.{Held, HasGiven, HasNoLine, HasAllLines}
 use Rattle.eb_io.specs.Source.{after, IsEmpty}

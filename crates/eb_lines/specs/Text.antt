@@ -2,7 +2,8 @@
 use Rattle.std.specs.Prelude.{ℕ, List, [], ◌∷◌, ◌++◌, codes, flat_map}
 use Rattle.std.specs.Fmt.{decimal}
 use Rattle.eb_lines.specs.declared.refusal.Refusal.{Refusal}
-use Rattle.eb_lines.specs.declared.refusal.Refusal.TheVariants.{BadLine, LongLine, BadJson, BadDocument, TooLong, NotRising, Full, BadNumber, BadQuery, TooManyNodes, TooDeep}
+use Rattle.eb_lines.specs.declared.refusal.Refusal.TheVariants.{BadLine, LongLine, BadJson, BadDocument, TooLong}
+use Rattle.eb_lines.specs.declared.refusal.Refusal.TheVariants.{NotRising, Full, BadNumber, BadQuery, TooManyNodes, TooDeep, NoWatch, WatchTaken, WatchesFull}
 
 -- each id, with a space before it
 abbrev pub spaced : List ℕ → List ℕ
@@ -11,6 +12,11 @@ spaced ids = flat_map (λ id. 32 ∷ decimal id) ids
 -- the answer to a query in line `number`: how many accepted documents it saw, and the ids
 abbrev pub answer_line : ℕ → ℕ → List ℕ → List ℕ
 answer_line number seen ids = decimal number ++ codes " seen " ++ decimal seen ++ codes ":" ++ spaced ids ++ 10 ∷ []
+
+-- the numbers of the watches that the document in line `number` matches, where there are any
+abbrev pub watch_line : ℕ → List ℕ → List ℕ
+watch_line number [] = []
+watch_line number (n ∷ ns) = decimal number ++ codes " watch:" ++ spaced (n ∷ ns) ++ 10 ∷ []
 
 -- the name of a refusal
 abbrev pub refusal_name : Refusal → List ℕ
@@ -25,6 +31,9 @@ refusal_name BadNumber = codes "bad number"
 refusal_name (BadQuery column) = codes "bad query at " ++ decimal column
 refusal_name TooManyNodes = codes "query too large"
 refusal_name TooDeep = codes "query too deep"
+refusal_name NoWatch = codes "no watch"
+refusal_name WatchTaken = codes "watch taken"
+refusal_name WatchesFull = codes "watches full"
 
 -- the refusal of line `number`
 abbrev pub refusal_line : ℕ → Refusal → List ℕ

@@ -3,6 +3,7 @@
 #![tactic(auto)]
 
 mod gathered;
+mod kind;
 mod passing;
 mod program;
 mod refusal;
@@ -11,9 +12,10 @@ mod work;
 mod writing;
 
 pub use gathered::{write_gathered, write_much};
+pub use kind::{LineKind, line_kind};
 pub use passing::pass_lines;
 pub use program::LineProgram;
 pub use refusal::Refusal;
 pub use status::{MAX_INPUT, Status};
 pub use work::{Work, read_document_line, read_line, read_query_text};
-pub use writing::{put_answer, put_refusal, put_summary};
+pub use writing::{put_answer, put_refusal, put_summary, put_watches};

@@ -1,17 +1,17 @@
 ghost use Rattle.std.specs.Prelude.{◌≡◌, Some, IfOk, slice_get};
 ghost use Rattle.eb_doc.specs.DocumentLine.{document_of};
 ghost use Rattle.eb_io.specs.Lines.{line};
-ghost use Rattle.eb_lines.specs.Kinds.{kind_of, query_line};
+ghost use Rattle.eb_lines.specs.Kinds.{query_line};
 ghost use Rattle.eb_lines.specs.Reads.{IsOfDocument, Reads, ReadsByKind};
 ghost use Rattle.eb_lines.specs.Works.{document_reading, query_reading, reading_of};
 
+use crate::kind::{LineKind, line_kind};
 use crate::refusal::Refusal;
 use eb_base::{Document, NoMemory};
 use eb_cursor::Frame;
 use eb_doc::{LineFault, read_document};
 use eb_query::{QueryFault, read_query};
 use std::alloc::Global;
-use std::str;
 
 /// What is to be done for a line.
 #[derive(Drop)]
@@ -79,25 +79,14 @@ fn text_work(alloc: Global, text: &str) -> Result<Work, NoMemory>
     }
 }
 
-// The work of a line that begins with `?`.
-fn query_work(alloc: Global, bytes: &[u8]) -> Result<Work, NoMemory>
-    requires { slice_get bytes.now 0 ≡ Some 63 }
-    ensures { IfOk result (λ work. ReadsByKind (kind_of bytes.now) bytes.now (reading_of work)) }
-{
-    let Ok(text) = str::from_utf8(bytes) else {
-        return Ok(Work::Refuse(Refusal::BadLine));
-    };
-    text_work(alloc, text)
-}
-
-/// The work of a line that isn't long: its first byte says what kind of line it is. Takes the memory that the work needs.
+/// The work of a line that isn't long. Takes the memory that the work needs.
 pub fn read_line(alloc: Global, bytes: &[u8]) -> Result<Work, NoMemory>
     ensures { IfOk result (λ work. Reads (line bytes.now) (reading_of work)) }
 {
-    match bytes.first() {
-        None => Ok(Work::Nothing),
-        Some(b'{') => document_work(alloc, bytes),
-        Some(b'?') => query_work(alloc, bytes),
-        Some(_) => Ok(Work::Refuse(Refusal::BadLine)),
+    match line_kind(bytes) {
+        LineKind::Blank => Ok(Work::Nothing),
+        LineKind::Document => document_work(alloc, bytes),
+        LineKind::Query(text) => text_work(alloc, text),
+        LineKind::Bad => Ok(Work::Refuse(Refusal::BadLine)),
     }
 }

@@ -1,24 +1,19 @@
 -- What one line more does to a run over parts.
-use Rattle.std.proofs.Common.{◌≡◌, ℕ, ◌+◌, ◌≤◌, List, [], ◌∷◌, ◌++◌, length, Option, Some, None, refl, sym, ap, ap₂, subst, ◌∙◌, arith, append_assoc, append-nil, length-append, eqb→eq}
-use Rattle.std.specs.Prelude.{Result, Ok, Err, OnOk, OnErr, IfOk, MatchResult, ⊤, ◌^◌, slice_get, IsUtf8, ◌==◌, T, Bool, false, true}
+use Rattle.std.proofs.Common.{◌≡◌, ℕ, ◌+◌, ◌≤◌, List, [], ◌∷◌, ◌++◌, length, Option, Some, None, sym, ap, ap₂, subst, ◌∙◌, arith, append_assoc, append-nil, length-append}
+use Rattle.std.specs.Prelude.{◌^◌, Bool, false, true}
 use Rattle.std.proofs.Math.Seq.{take-length}
-use Rattle.std.proofs.lemmas.Bool.{false_from_ne_true}
 use Rattle.eb_base.specs.Document.{Doc}
 use Rattle.eb_base.specs.Match.{answer}
 use Rattle.eb_base.specs.Query.{Tree}
 use Rattle.eb_base.specs.Setting.{Setting}
-use Rattle.eb_doc.specs.DocumentLine.{document_of}
-use Rattle.eb_io.specs.Lines.{Line, line}
+use Rattle.eb_io.specs.Lines.{Line}
 use Rattle.eb_lines.specs.declared.refusal.Refusal.{Refusal}
-use Rattle.eb_lines.specs.declared.refusal.Refusal.TheVariants.{BadLine}
-use Rattle.eb_lines.specs.Kinds.{Kind, document_line, query_line, bad_line, kind_of}
-use Rattle.eb_lines.specs.Programs.{WorksOn, GoesOn, Finishes}
+use Rattle.eb_lines.specs.Programs.{Finishes}
 use Rattle.eb_lines.specs.Progress.{documents_in, accepted, queries, refusals, told, progress_after, is_query, is_refused, one_if}
 use Rattle.eb_lines.specs.Reading.{Reading, blank, document, query, refused}
-use Rattle.eb_lines.specs.Reads.{IsOfDocument, ReadsByKind, Reads}
+use Rattle.eb_lines.specs.Reads.{Reads}
 use Rattle.eb_lines.specs.Text.{answer_line, summary_of}
-use Rattle.eb_lines.proofs.Advancing.{accepted-push}
-use Rattle.eb_lines.proofs.LineKinds.{kind_query, kind_bad}
+use Rattle.eb_lines.proofs.Advancing.{accepted-push, queries-push, refusals-push}
 use Rattle.eb_rounds.specs.Text.{output_of, body, summary}
 use Rattle.eb_rounds.proofs.Texts.{body-push, body-nil}
 use Rattle.eb_parts.specs.declared.line_run.LineRun.{LineRun}
@@ -27,7 +22,7 @@ use Rattle.eb_parts.specs.AcceptedInParts.{admit_in_parts}
 use Rattle.eb_parts.specs.LineRuns.{HasTaken, TakesLine}
 use Rattle.eb_parts.specs.Stores.{Holds, outcome, WithPlaced}
 use Rattle.eb_parts.specs.Texts.{Asked, AreReadInParts, IsTextInParts, HasRefusalInParts, HasNoRefusalInParts, parts_line, segments_in}
-use Rattle.eb_parts.proofs.Admissions.{queries-push, refusals-push, read_none, read_push, read_long}
+use Rattle.eb_parts.proofs.Admissions.{read_none, read_push, read_long}
 
 -- a line that came to this was taken
 one_more : (old new : LineRun) (a : Asked) (given : List Line) (so_far printed : List ℕ) (l : Line) (r s : Reading) (h : HasTaken old a given so_far) → Reads l r
@@ -92,7 +87,7 @@ pub takes_quiet : (old new : LineRun) (r : Reading) (t0 t1 printed : List ℕ)
     → new.queries ≡ old.queries + one_if (is_query r) → new.refused ≡ old.refused + one_if (is_refused r)
     → ((a : Asked) (given : List Line) (so_far : List ℕ) (h : HasTaken old a given so_far) → printed ≡ output_of new.number (length (accepted h.readings)) (accepted h.readings) r)
     → t1 ≡ t0 ++ printed → TakesLine old new t0 t1 r
-takes_quiet old new r t0 t1 printed same none store parts stats number few asked failed shown put = λ a given so_far l h reads.
+takes_quiet old new r t0 t1 printed same none store parts stats number few asked failed shown put = λ l reads a given so_far h.
     let held : Holds new.store a.parts a.setting (accepted h.readings ++ documents_in r) =
     subst (λ (z : Store × List Doc). Holds z.0 a.parts a.setting z.1) (λ i. (sym store i, sym (ap (λ ds. accepted h.readings ++ ds) none ∙ append-nil (accepted h.readings)) i)) h.store in (
       printed,
@@ -105,7 +100,7 @@ pub takes_document : (old new : LineRun) (d : Doc) (x : Option Refusal) (t0 t1 p
     → ((parts : ℕ) (σ : Setting) (docs : List Doc) → Holds old.store parts σ docs → WithPlaced new.store parts σ docs d x)
     → new.parts ≡ old.parts → new.stats ≡ old.stats → new.number ≡ old.number + 1 → old.number ≤ 2 ^ 40 → new.queries ≡ old.queries → new.refused ≡ old.refused + one_if (is_refused (outcome d x))
     → ((n : ℕ) (docs : List Doc) → printed ≡ output_of new.number n docs (outcome d x)) → t1 ≡ t0 ++ printed → TakesLine old new t0 t1 (document d)
-takes_document old new d x t0 t1 printed placed parts stats number few asked failed shown put = λ a given so_far l h reads.
+takes_document old new d x t0 t1 printed placed parts stats number few asked failed shown put = λ l reads a given so_far h.
     let p = placed a.parts a.setting (accepted h.readings) h.store in (
       printed,
       one_more old new a given so_far printed l (document d) (outcome d x) h reads (sym p.admitted) p.holds parts stats number few
@@ -122,52 +117,6 @@ pub query_shown : (number n k : ℕ) (q : Tree) (found : List ℕ) (docs : List 
     → found ≡ answer q k docs → answer_line number n found ≡ output_of number (length docs) docs (query k q)
 query_shown number n k q found docs count is =
     ap₂ (λ m ids. answer_line number m ids) count (is ∙ ap (answer q k) (sym (take-length docs)))
-
--- ---- nothing waits
-
-pub run_on : (s : LineRun) (text : List ℕ) → WorksOn HasTaken s s text text
-run_on s text = λ a given so_far h. ([], subst (HasTaken s a given) (sym (append-nil so_far)) h, sym (append-nil text))
-
-pub run_at : (old new : LineRun) (t0 t1 : List ℕ) → new ≡ old → t1 ≡ t0 → WorksOn HasTaken old new t0 t1
-run_at old new t0 t1 e f = subst (λ (s : LineRun). WorksOn HasTaken old s t0 t1) (sym e) (subst (λ t. WorksOn HasTaken old old t0 t) (sym f) (run_on old t0))
-
--- a line of a known reading
-pub run_line : (old new : LineRun) (t0 t1 : List ℕ) (l : Line) (r : Reading) → Reads l r → TakesLine old new t0 t1 r → GoesOn HasTaken old new t0 t1 l
-run_line old new t0 t1 l r reads takes = λ a given so_far h. takes a given so_far l h reads
-
--- ---- how a line is read
-
-pub reads_document : (bytes : List ℕ) (r : Reading) → kind_of bytes ≡ document_line → IsOfDocument (document_of bytes) r → Reads (line bytes) r
-reads_document bytes r e h = subst (λ (k : Kind). ReadsByKind k bytes r) (sym e) h
-
-pub reads_query : (bytes : List ℕ) (r : Reading) → slice_get bytes 0 ≡ Some 63 → IsUtf8 bytes → ReadsByKind query_line bytes r → Reads (line bytes) r
-reads_query bytes r first utf8 h = subst (λ (k : Kind). ReadsByKind k bytes r) (sym (kind_query bytes first utf8)) h
-
-pub reads_not_utf8 : (bytes : List ℕ) → slice_get bytes 0 ≡ Some 63 → (IsUtf8 bytes → ⊥) → Reads (line bytes) (refused BadLine)
-reads_not_utf8 bytes first other = subst (λ (k : Kind). ReadsByKind k bytes (refused BadLine)) (sym (kind_bad bytes first other)) refl
-
-pub reads_blank : (bytes : List ℕ) → slice_get bytes 0 ≡ None → Reads (line bytes) blank
-reads_blank [] e = refl
-reads_blank (b ∷ bs) e = absurd (cc e)
-
-pub reads_bad : (bytes : List ℕ) (b : ℕ) → slice_get bytes 0 ≡ Some b → (b ≡ 123 → ⊥) → (b ≡ 63 → ⊥) → Reads (line bytes) (refused BadLine)
-reads_bad [] b e first second = absurd (cc e)
-reads_bad (x ∷ xs) b e first second =
-    let same : x ≡ b = cc in
-    let one : (x == 123) ≡ false = false_from_ne_true _ (λ h. first (sym same ∙ eqb→eq x 123 (subst T (sym h) tt))) in
-    let two : (x == 63) ≡ false = false_from_ne_true _ (λ h. second (sym same ∙ eqb→eq x 63 (subst T (sym h) tt))) in
-    let kind : kind_of (x ∷ xs) ≡ bad_line = rw (one, two) refl in
-    subst (λ (k : Kind). ReadsByKind k (x ∷ xs) (refused BadLine)) (sym kind) refl
-
--- ---- results
-
-pub ok_on : {T E P Q : Type 0} (r : Result T E) → OnOk r P → (P → Q) → OnOk r Q
-ok_on (Ok x) p f = f p
-ok_on (Err e) p f = tt
-
-pub err_on : {T E P Q : Type 0} (r : Result T E) → OnErr r P → (P → Q) → OnErr r Q
-err_on (Ok x) p f = tt
-err_on (Err e) p f = f p
 
 -- ---- the end
 
@@ -192,7 +141,3 @@ run_ends s t0 t1 documents asked failed a given so_far h count asks fails put =
       some = λ n e. (rs, h.read, (let all = fails ∙ h.refused in omega (arith, e, all)));
       none = λ e. (rs, h.read, sym (fails ∙ h.refused) ∙ e);
     }
-
-pub ok_match : {T E : Type 0} {P Q : T → Type 0} (r : Result T E) → IfOk r P → ((x : T) → P x → Q x) → MatchResult r Q (λ e. ⊤)
-ok_match (Ok x) p f = f x p
-ok_match (Err e) p f = tt

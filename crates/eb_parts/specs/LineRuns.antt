@@ -1,8 +1,8 @@
 -- How far a run over parts has come between two lines, and that what it printed is a front of a whole text.
-use Rattle.std.specs.Prelude.{◌≡◌, ℕ, ◌+◌, ◌^◌, ◌≤◌, List, [], ◌∷◌, ◌++◌, length}
+use Rattle.std.specs.Prelude.{◌≡◌, ℕ, ◌+◌, ◌^◌, ◌≤◌, List, ◌++◌, length}
 use Rattle.std.proofs.Common.{sym, ap, ◌∙◌, append_assoc}
 use Rattle.eb_io.specs.Lines.{Line}
-use Rattle.eb_lines.specs.Programs.{PrintsFront, prints_all}
+use Rattle.eb_lines.specs.Programs.{GoesOn, PrintsFront, prints_all}
 use Rattle.eb_lines.specs.Progress.{accepted, queries, refusals, told, progress_after}
 use Rattle.eb_lines.specs.Reading.{Reading}
 use Rattle.eb_lines.specs.Reads.{Reads}
@@ -29,8 +29,7 @@ pub record HasTaken (s : LineRun) (a : Asked) (given : List Line) (so_far : List
 
 -- a line of this reading was taken, and what it prints was put behind the text
 abbrev pub TakesLine : LineRun → LineRun → List ℕ → List ℕ → Reading → Type 0
-TakesLine old new text_old text_new r = (a : Asked) (given : List Line) (so_far : List ℕ) (l : Line) → HasTaken old a given so_far → Reads l r
-    → (printed : List ℕ) × HasTaken new a (given ++ l ∷ []) (so_far ++ printed) × (text_new ≡ text_old ++ printed)
+TakesLine old new text_old text_new r = (l : Line) → Reads l r → GoesOn HasTaken old new text_old text_new l
 
 -- the lines given are those that printed
 pub taken_first : (s : LineRun) (a : Asked) (given : List Line) (so_far : List ℕ) → HasTaken s a given so_far

@@ -1,18 +1,19 @@
 -- What a run over parts prints.
-use Rattle.std.specs.Prelude.{◌≡◌, ℕ, ◌<◌, Bool, true, false, List, [], ◌++◌, map, sum, length, Option}
-use Rattle.std.specs.List.{AllZip}
+use Rattle.std.specs.Prelude.{◌≡◌, ℕ, Bool, List, ◌++◌, map, sum, length, Option}
 use Rattle.eb_base.specs.Document.{Doc}
 use Rattle.eb_base.specs.Setting.{Setting}
 use Rattle.eb_blend.specs.Laws.{cut_into}
 use Rattle.eb_io.specs.Lines.{Line}
 use Rattle.eb_lines.specs.declared.status.Status.{Status}
 use Rattle.eb_lines.specs.Outcomes.{Wrote, Means}
-use Rattle.eb_lines.specs.Progress.{accepted, refusals, told}
+use Rattle.eb_lines.specs.Progress.{accepted, told}
 use Rattle.eb_lines.specs.Reading.{Reading}
 use Rattle.eb_lines.specs.Reads.{Reads}
 use Rattle.eb_place.specs.Room.{cut}
 use Rattle.eb_rounds.specs.Conversions.{converted_of}
-use Rattle.eb_rounds.specs.Text.{body, text, segments_line}
+use Rattle.eb_rounds.specs.Ending.{stats_line}
+use Rattle.eb_rounds.specs.LinesRead.{ComeTo, SomeRefused, NoneRefused}
+use Rattle.eb_rounds.specs.Text.{body, text}
 use Rattle.eb_parts.specs.AcceptedInParts.{admitted_in_parts}
 
 -- over so many parts of this setting, and whether the segments are told
@@ -23,18 +24,13 @@ pub record Asked : Type 0 where
 
 -- the lines are read one by one, and come to these in the parts
 abbrev pub AreReadInParts : Asked → List Line → List Reading → Type 0
-AreReadInParts a lines rs = (raw : List Reading) × AllZip Reads lines raw × (rs ≡ admitted_in_parts a.parts a.setting raw)
+AreReadInParts a = ComeTo Reads (admitted_in_parts a.parts a.setting)
 
 -- the segments begun of each part
 abbrev pub segments_in : Asked → List Doc → List ℕ
 segments_in a docs = map (λ h. length (cut a.setting h)) (cut_into a.parts docs)
 
--- where the segments are told, the line of the segments begun and converted
-abbrev pub stats_line : Bool → ℕ → ℕ → List ℕ
-stats_line false begun converted = []
-stats_line true begun converted = segments_line begun converted
-
--- the same of parts with so many segments each: of each part all but the last one are converted
+-- where the segments are told, their line, of parts with so many segments each: of each part all but the last one are converted
 abbrev pub parts_line : Bool → List ℕ → List ℕ
 parts_line stats begun = stats_line stats (sum begun) (sum (map converted_of begun))
 
@@ -52,10 +48,10 @@ pub record IsTextInParts (a : Asked) (lines : List Line) (printed : List ℕ) : 
 
 -- some line is refused; none is
 abbrev pub HasRefusalInParts : Asked → List Line → Type 0
-HasRefusalInParts a lines = (rs : List Reading) × AreReadInParts a lines rs × (0 < refusals rs)
+HasRefusalInParts a = SomeRefused (AreReadInParts a)
 
 abbrev pub HasNoRefusalInParts : Asked → List Line → Type 0
-HasNoRefusalInParts a lines = (rs : List Reading) × AreReadInParts a lines rs × (refusals rs ≡ 0)
+HasNoRefusalInParts a = NoneRefused (AreReadInParts a)
 
 -- what a run that ends so has written, of an input of these bytes of which this is left
 abbrev pub WroteInParts : Asked → Status → List ℕ → Option (List ℕ) → List ℕ → Type 0

@@ -4,7 +4,6 @@
 
 mod line_run;
 mod parts_program;
-mod printing;
 mod question;
 mod run;
 mod store;

@@ -11,14 +11,12 @@ ghost use Rattle.eb_parts.specs.Questions.{IsAsked};
 ghost use Rattle.eb_parts.specs.Stores.{Holds};
 ghost use Rattle.eb_parts.specs.Texts.{Asked, IsTextInParts, HasRefusalInParts, HasNoRefusalInParts};
 
-use crate::printing::put_end;
 use crate::question::{Question, read_question};
 use crate::store::Store;
 use eb_base::{Document, Gate, NoMemory};
-use eb_lines::{Refusal, put_answer, put_refusal, read_document_line};
-use eb_rounds::Counts;
+use eb_lines::{LineKind, Refusal, line_kind, put_answer, put_refusal, read_document_line};
+use eb_rounds::{Counts, put_end};
 use std::alloc::Global;
-use std::str;
 
 // The parts, the number of the last line, and how many queries were answered and lines refused.
 #[derive(Drop)]
@@ -136,7 +134,7 @@ impl LineRun {
     }
 
     // Takes a query line.
-    fn take_text<G: Gate>(
+    fn take_query<G: Gate>(
         &mut self,
         alloc: Global,
         query: &str,
@@ -155,26 +153,6 @@ impl LineRun {
         }
     }
 
-    // Takes a line that begins with `?`.
-    fn take_query<G: Gate>(
-        &mut self,
-        alloc: Global,
-        bytes: &[u8],
-        gate: &G,
-        text: &mut Vec<u8>,
-    ) -> Result<(), NoMemory>
-        requires state { IsRunning HasTaken self.old }
-        requires number { self.old.number ≤ 2 ^ 40 }
-        requires mark { slice_get bytes.now 0 ≡ Some 63 }
-        ensures ok { OnOk result (GoesOn HasTaken self.old self.new text.old.items text.new.items (line bytes.now)) }
-        ensures err { OnErr result ((self.new ≡ self.old) × (text.new.items ≡ text.old.items)) }
-    {
-        let Ok(query) = str::from_utf8(bytes) else {
-            return self.refuse(Refusal::BadLine, text);
-        };
-        self.take_text(alloc, query, gate, text)
-    }
-
     // Takes the next line, which isn't a long one: works it off, with what it prints behind the text. Where memory doesn't
     // suffice, nothing is done.
     pub(crate) fn take_line<G: Gate>(
@@ -189,14 +167,14 @@ impl LineRun {
         ensures ok { OnOk result (GoesOn HasTaken self.old self.new text.old.items text.new.items (line bytes.now)) }
         ensures err { OnErr result ((self.new ≡ self.old) × (text.new.items ≡ text.old.items)) }
     {
-        match bytes.first() {
-            None => {
+        match line_kind(bytes) {
+            LineKind::Blank => {
                 self.pass();
                 Ok(())
             }
-            Some(b'{') => self.take_document(alloc, bytes, gate, text),
-            Some(b'?') => self.take_query(alloc, bytes, gate, text),
-            Some(_) => self.refuse(Refusal::BadLine, text),
+            LineKind::Document => self.take_document(alloc, bytes, gate, text),
+            LineKind::Query(query) => self.take_query(alloc, query, gate, text),
+            LineKind::Bad => self.refuse(Refusal::BadLine, text),
         }
     }
 

@@ -6,3 +6,4 @@ pub mod Keeping
 pub mod Seeing
 pub mod OneLine
 pub mod Conversions
+pub mod LinesRead

@@ -10,3 +10,5 @@ pub mod Kept
 pub mod Takes
 pub mod Passed
 pub mod Conversions
+pub mod Ending
+pub mod LinesRead

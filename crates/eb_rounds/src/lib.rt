@@ -8,6 +8,7 @@ mod adding;
 mod alone;
 mod answering;
 mod converting;
+mod ending;
 mod held;
 mod input;
 mod reading;
@@ -16,5 +17,6 @@ mod tasks;
 mod working;
 
 pub use converting::{SegmentCounts, close};
+pub use ending::put_end;
 pub use input::{Input, Kind};
 pub use rounds::{Counts, Rounds};

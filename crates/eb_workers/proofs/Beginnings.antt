@@ -1,8 +1,11 @@
 -- Before the first line.
-use Rattle.std.proofs.Common.{◌≡◌, ℕ, ◌+◌, List, [], sym, ap, subst, ◌∙◌, arith}
+use Rattle.std.proofs.Common.{◌≡◌, ◌+◌, List, [], sym, ap, subst, ◌∙◌, arith}
 use Rattle.std.specs.Prelude.{Option, Some}
 use Rattle.std.proofs.lemmas.List.Elements.{All-nil}
 use Rattle.eb_lines.specs.Progress.{accepted, queries, refusals}
+use Rattle.eb_lines.specs.Reads.{Reads}
+use Rattle.eb_rounds.proofs.LinesRead.{read_none}
+use Rattle.eb_rounds.proofs.Texts.{body_none}
 use Rattle.eb_serve.specs.Desk.{Queues, ClerkBook, new_clerk}
 use Rattle.eb_serve.specs.Rule.{IsAbove}
 use Rattle.eb_table.specs.Known.{Words}
@@ -13,9 +16,8 @@ use Rattle.eb_workers.specs.declared.waiting.Waiting.{Waiting}
 use Rattle.eb_workers.specs.Offices.{IsStaffed, IsNewSide}
 use Rattle.eb_workers.specs.Output.{Asked, asked, IsWorkersBody}
 use Rattle.eb_workers.specs.Serving.{HasServed}
-use Rattle.eb_workers.specs.Bodies.{body_none, get_behind}
+use Rattle.eb_workers.specs.Bodies.{get_behind}
 use Rattle.eb_workers.specs.Waiting.{AreWaiting}
-use Rattle.eb_workers.proofs.Admissions.{read_none}
 
 pub new_side : (q : Queues) (w : Words) (o : Option Side) (s : Side) → IsNewSide q w o → Some s ≡ o
     → (s.clerk ≡ new_clerk q w) × (s.writer.index ≡ w) × (s.writer.docs ≡ []) × (s.converter.index ≡ w)
@@ -40,7 +42,7 @@ served_none s o stats office clerk writer docs converter told counts items =
       done = [];
       ahead = [];
       numbers = λ j. 0;
-      read = read_none o.index.now.setting;
+      read = read_none Reads o.index.now.setting [];
       documents = none;
       number = counts.0;
       queries = counts.1;
@@ -59,7 +61,7 @@ unfolding accepted
 body_none_given a = record {
   readings = [];
   numbers = λ j. 0;
-  read = read_none a.setting;
+  read = read_none Reads a.setting [];
   sees = record { least = λ j e. (let no : ⊥ = cc (get_behind [] j (omega arith), e) in absurd no); most = λ j e. omega arith };
   bytes = sym (body_none (λ j. 0) (accepted []) 0);
 }

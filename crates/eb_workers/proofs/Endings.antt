@@ -1,6 +1,5 @@
 -- Where no line waits, a run has printed all that its lines print.
-use Rattle.std.proofs.Common.{◌≡◌, ℕ, ◌+◌, ◌-◌, ◌<◌, ◌≤◌, List, [], ◌∷◌, ◌++◌, length, refl, sym, ap, ap₂, ◌∙◌, arith, append-nil}
-use Rattle.std.specs.Prelude.{Result, Ok, Err, IfOk, MatchResult, ⊤}
+use Rattle.std.proofs.Common.{◌≡◌, ℕ, List, [], ◌∷◌, ◌++◌, length, refl, sym, ap, ap₂, ◌∙◌, arith, append-nil}
 use Rattle.eb_io.specs.Lines.{Line}
 use Rattle.eb_lines.specs.Programs.{Finishes}
 use Rattle.eb_lines.specs.Reading.{Reading}
@@ -8,11 +7,13 @@ use Rattle.eb_lines.specs.Progress.{accepted, queries, refusals, progress_after}
 use Rattle.eb_lines.specs.Text.{summary_of}
 use Rattle.eb_place.specs.Room.{cut}
 use Rattle.eb_rounds.specs.Conversions.{converted_of}
+use Rattle.eb_rounds.specs.Ending.{stats_line, stats_of}
+use Rattle.eb_rounds.specs.LinesRead.{HasRefusal, HasNoRefusal}
 use Rattle.eb_rounds.specs.Text.{body, body_from, summary}
+use Rattle.eb_rounds.proofs.Texts.{body_none}
 use Rattle.eb_workers.specs.declared.serving.Serving.{Serving}
-use Rattle.eb_workers.specs.Output.{Asked, IsWorkersBody, IsWorkersText, HasRefusal, HasNoRefusal, stats_line, stats_of}
+use Rattle.eb_workers.specs.Output.{Asked, IsWorkersBody, IsWorkersText}
 use Rattle.eb_workers.specs.Serving.{HasServed}
-use Rattle.eb_workers.specs.Bodies.{body_none}
 use Rattle.eb_workers.specs.ServingLaws.{numbers_all, sees_all, body_all, end_of, body_text}
 use Rattle.eb_workers.proofs.Waits.{waiting_long}
 
@@ -42,7 +43,7 @@ summary_is rs d q r e f g = ap₂ (λ x y. summary_of x y r) e f ∙ ap (summary
 pub served_ends : (s : Serving) (t0 t1 : List ℕ) (documents begun converted : ℕ) (a : Asked) (given : List Line) (so_far : List ℕ)
     → t1 ≡ t0 ++ (summary_of documents s.queries s.refused ++ stats_line s.stats begun converted) → documents ≡ length s.office.writer.docs
     → begun ≡ length (cut s.office.index.now.setting s.office.writer.docs) → converted ≡ converted_of (length (cut s.office.index.now.setting s.office.writer.docs)) → s.waiting.items ≡ []
-    → HasServed s a given so_far → Finishes HasServed IsWorkersText HasRefusal HasNoRefusal s t0 t1 s.refused a given so_far
+    → HasServed s a given so_far → Finishes HasServed IsWorkersText (λ x. HasRefusal x.setting) (λ x. HasNoRefusal x.setting) s t0 t1 s.refused a given so_far
 served_ends s t0 t1 documents begun converted a given so_far put count segments packed none h =
     let rs = h.done ++ h.ahead in
     let cuts : length (cut s.office.index.now.setting s.office.writer.docs) ≡ length (cut a.setting (accepted rs)) = ap₂ (λ σ ds. length (cut σ ds)) h.setting h.documents in
@@ -57,14 +58,3 @@ served_ends s t0 t1 documents begun converted a given so_far put count segments 
       some = λ n e. (rs, h.read, omega (arith, e, h.refused));
       none = λ e. (rs, h.read, sym h.refused ∙ e);
     }
-
--- a program that has such a run in it
-pub finishes_program : {P E : Type 0} (r : Result ℕ E) (serving : P → Serving) (p : P) (t0 t1 : List ℕ)
-    → IfOk r (λ refused. (a : Asked) (given : List Line) (so_far : List ℕ) → HasServed (serving p) a given so_far
-    → Finishes HasServed IsWorkersText HasRefusal HasNoRefusal (serving p) t0 t1 refused a given so_far)
-    → MatchResult r (λ refused. (a : Asked) (given : List Line) (so_far : List ℕ) → HasServed (serving p) a given so_far
-    → Finishes (λ q. HasServed (serving q)) IsWorkersText HasRefusal HasNoRefusal p t0 t1 refused a given so_far) (λ e. ⊤)
-finishes_program (Ok n) serving p t0 t1 f = λ a given so_far h.
-    let x = f a given so_far h in
-    record { printed = x.printed; whole = x.whole; text = x.text; some = x.some; none = x.none }
-finishes_program (Err e) serving p t0 t1 f = tt

@@ -1,5 +1,4 @@
 pub mod Waits
-pub mod Admissions
 pub mod NextLines
 pub mod Servings
 pub mod Endings

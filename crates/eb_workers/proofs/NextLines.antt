@@ -1,5 +1,5 @@
 -- The next line is printed.
-use Rattle.std.proofs.Common.{◌≡◌, ℕ, ◌+◌, ◌-◌, ◌<◌, ◌≤◌, ◌⊎◌, inl, inr, true, List, [], ◌∷◌, ◌++◌, length, refl, sym, ap, ap₂, subst, ◌∙◌, arith, length-append}
+use Rattle.std.proofs.Common.{◌≡◌, ℕ, ◌+◌, ◌<◌, ◌≤◌, ◌⊎◌, inl, inr, true, List, [], ◌∷◌, ◌++◌, length, refl, sym, ap, ap₂, subst, ◌∙◌, arith, length-append}
 use Rattle.eb_base.specs.Document.{Doc}
 use Rattle.eb_lines.specs.Reading.{Reading}
 use Rattle.eb_lines.specs.Progress.{documents_in, accepted, told, is_query}
@@ -8,10 +8,12 @@ use Rattle.eb_lines.proofs.Advancing.{told-length}
 use Rattle.eb_rounds.specs.Sees.{is_asked, IsAsked}
 use Rattle.eb_rounds.specs.Rows.{joined}
 use Rattle.eb_rounds.specs.Text.{output_of, body_from}
+use Rattle.eb_rounds.proofs.Seeing.{told_front}
+use Rattle.eb_rounds.proofs.Texts.{body_append, body_one}
 use Rattle.eb_workers.specs.declared.waiting.Waiting.{Waiting}
 use Rattle.eb_workers.specs.declared.waiting.Waiting.TheVariants as waits
 use Rattle.eb_workers.specs.Waiting.{IsReady, WaitsAs, AreWaiting, printed_by}
-use Rattle.eb_workers.specs.Bodies.{body_append, body_one, joined_front, joined_back, joined_body, side, get_here, get_behind, asked_front, told_front}
+use Rattle.eb_workers.specs.Bodies.{joined_front, joined_back, joined_body, side, get_here, get_behind, asked_front}
 
 -- how many documents an answer saw
 abbrev pub seen_by : Waiting → ℕ

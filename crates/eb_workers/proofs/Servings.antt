@@ -1,7 +1,6 @@
 -- A run with workers goes on.
 use Rattle.std.proofs.Common.{◌≡◌, ℕ, ◌+◌, ◌-◌, ◌<◌, ◌≤◌, List, [], ◌∷◌, ◌++◌, length, take, set, refl, sym, ap, ap₂, subst, ◌∙◌, arith, append_assoc, append-nil, length-append}
 use Rattle.std.proofs.lemmas.List.Elements.{All-weaker}
-use Rattle.std.specs.Prelude.{Result, Ok, Err, OnOk, OnErr}
 use Rattle.std.proofs.Math.Seq.{take-append_seam}
 use mathlib.Core.List.{IsPrefix}
 use Rattle.eb_base.specs.Document.{Doc}
@@ -14,10 +13,13 @@ use Rattle.eb_lines.specs.Programs.{IsRunning, WorksOn, GoesOn}
 use Rattle.eb_lines.specs.Reading.{Reading}
 use Rattle.eb_lines.specs.Reads.{Reads}
 use Rattle.eb_lines.specs.Progress.{documents_in, accepted, queries, refusals, is_query, is_refused, one_if}
-use Rattle.eb_lines.proofs.Advancing.{accepted-push, accepted-append}
+use Rattle.eb_lines.proofs.Advancing.{accepted-push, accepted-append, queries-push, refusals-push}
 use Rattle.eb_lines.proofs.PassingLines.{works_number}
 use Rattle.eb_rounds.specs.Admitted.{admit}
+use Rattle.eb_rounds.specs.LinesRead.{AreRead}
 use Rattle.eb_rounds.specs.Text.{body_from}
+use Rattle.eb_rounds.proofs.LinesRead.{read_push, read_long}
+use Rattle.eb_rounds.proofs.Texts.{body_grown}
 use Rattle.eb_serve.specs.Rule.{IsAbove}
 use Rattle.eb_serve.specs.declared.rule.Pair.{Pair}
 use Rattle.eb_table.specs.Known.{Words}
@@ -26,11 +28,9 @@ use Rattle.eb_workers.specs.declared.serving.Serving.{Serving}
 use Rattle.eb_workers.specs.declared.waiting.Waiting.{Waiting}
 use Rattle.eb_workers.specs.declared.waiting.Waiting.TheVariants as waits
 use Rattle.eb_workers.specs.Offices.{IsStaffed, Keeps}
-use Rattle.eb_workers.specs.Output.{Asked, AreRead}
+use Rattle.eb_workers.specs.Output.{Asked}
 use Rattle.eb_workers.specs.Serving.{HasServed, IsFurther, TakesLine}
 use Rattle.eb_workers.specs.Waiting.{IsReady, WaitsAs, AreWaiting, AwaitsAt, NextNeeds, need_of, printed_by}
-use Rattle.eb_workers.specs.Bodies.{body_grown}
-use Rattle.eb_workers.proofs.Admissions.{read_push, read_long, queries-push, refusals-push}
 use Rattle.eb_workers.proofs.Waits.{waiting_grown, waiting_push, waiting_long, waiting_set, as_answered}
 use Rattle.eb_workers.proofs.NextLines.{split_waiting, numbers_on, least_on, most_on, body_on}
 
@@ -62,9 +62,6 @@ served_further old new a given so_far f h =
 
 pub further_on : (old new : Serving) (text : List ℕ) → IsFurther old new → WorksOn HasServed old new text text
 further_on old new text f = λ a given so_far h. ([], subst (HasServed new a given) (sym (append-nil so_far)) (served_further old new a given so_far f h), sym (append-nil text))
-
-pub same_on : (s : Serving) (text : List ℕ) → WorksOn HasServed s s text text
-same_on s text = λ a given so_far h. ([], subst (HasServed s a given) (sym (append-nil so_far)) h, sym (append-nil text))
 
 pub on_on : (old mid new : Serving) (t0 t1 t2 : List ℕ) → WorksOn HasServed old mid t0 t1 → WorksOn HasServed mid new t1 t2 → WorksOn HasServed old new t0 t2
 on_on old mid new t0 t1 t2 f g = λ a given so_far h.
@@ -133,7 +130,7 @@ module _ (old new : Serving) (w : Waiting) (ws : List Waiting) (text text_new : 
       let r = s.0 in
       let all : (h.done ++ r ∷ []) ++ s.1 ≡ h.done ++ h.ahead = append_assoc h.done (r ∷ []) s.1 ∙ ap (λ x. h.done ++ x) (sym s.2) in
       let long = waiting_long docs (length (accepted h.done) + length (documents_in r)) s.1 ws s.4 in
-      let lines : length (h.done ++ h.ahead) ≡ length given = read_long a.setting given (h.done ++ h.ahead) h.read in
+      let lines : length (h.done ++ h.ahead) ≡ length given = read_long Reads a.setting [] given (h.done ++ h.ahead) h.read in
       let at : n ≡ length h.done + 1 = omega (arith, is, h.number, lines, length-append h.done h.ahead, ap length s.2, long) in
       let told : length (accepted (h.done ++ r ∷ [])) ≡ length (accepted h.done) + length (documents_in r) = ap length (accepted-push h.done r) ∙ length-append (accepted h.done) (documents_in r) in
       record {
@@ -179,7 +176,7 @@ module _ (old new : Serving) (r : Reading) (w : Waiting) (own : Reading) (is : a
       let own_is : admit a.setting (accepted readings) r ≡ own = ap₂ (λ s ds. admit s ds r) (sym h.setting) (sym h.documents) ∙ is in
       let all : readings ++ own ∷ [] ≡ h.done ++ (h.ahead ++ own ∷ []) = append_assoc h.done h.ahead (own ∷ []) in
       let read : AreRead a.setting (given ++ l ∷ []) (readings ++ own ∷ []) =
-      subst (λ (x : Reading). AreRead a.setting (given ++ l ∷ []) (readings ++ x ∷ [])) own_is (read_push a.setting given readings l r h.read reads) in
+      subst (λ (x : Reading). AreRead a.setting (given ++ l ∷ []) (readings ++ x ∷ [])) own_is (read_push Reads a.setting [] given readings l r h.read reads) in
       let told : length (accepted h.done) + length (accepted h.ahead) ≡ length before = sym (length-append (accepted h.done) (accepted h.ahead))
       ∙ ap length (sym (accepted-append h.done h.ahead) ∙ sym h.documents) in
       let grown = waiting_grown before more (length (accepted h.done)) h.ahead old.waiting.items h.waiting in
@@ -207,15 +204,7 @@ module _ (old new : Serving) (r : Reading) (w : Waiting) (own : Reading) (is : a
         printed = h.printed ∙ body_grown h.numbers before more 0 h.done h.most ∙ ap (λ ds. body_from h.numbers ds 0 h.done) (sym docs);
       }
 
--- ---- results
-
-pub ok_on : {T E P Q : Type 0} (r : Result T E) → OnOk r P → (P → Q) → OnOk r Q
-ok_on (Ok x) p f = f p
-ok_on (Err e) p f = tt
-
-pub err_on : {T E P Q : Type 0} (r : Result T E) → OnErr r P → (P → Q) → OnErr r Q
-err_on (Ok x) p f = tt
-err_on (Err e) p f = f p
+-- ---- the lines that wait
 
 pub above_more : (n : ℕ) (ps : List Pair) → IsAbove n ps → IsAbove (n + 1) ps
 above_more n ps a = All-weaker (λ (q : Pair). q.number < n) (λ q. q.number < n + 1) (λ q h. omega (arith, h)) ps a
@@ -236,9 +225,6 @@ further_items old new staffed office stats number asks fails items = record {
 
 pub further_same : (s : Serving) → IsStaffed s.office → IsFurther s s
 further_same s staffed = further_items s s staffed refl refl refl refl refl refl
-
-pub same_text : (s : Serving) (text t : List ℕ) → t ≡ text → WorksOn HasServed s s text t
-same_text s text t e = subst (λ x. WorksOn HasServed s s text x) (sym e) (same_on s text)
 
 pub next_is : (items : List Waiting) (need : ℕ) (w : Waiting) (ws : List Waiting) → NextNeeds items need → items ≡ w ∷ ws → IsReady w × (need ≡ need_of w)
 next_is items need w ws h e = subst (λ (xs : List Waiting). NextNeeds xs need) e h

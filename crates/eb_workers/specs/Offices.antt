@@ -1,5 +1,5 @@
 -- A desk with its clerk, beside the writer and the converter of its index.
-use Rattle.std.specs.Prelude.{◌≡◌, ℕ, ◌+◌, Bool, true, false, [], ◌∷◌, ◌++◌, Option, Some, None}
+use Rattle.std.specs.Prelude.{◌≡◌, Bool, true, false, [], ◌∷◌, ◌++◌, Option, Some, None}
 use Rattle.eb_base.specs.Document.{Doc}
 use Rattle.eb_place.specs.Room.{has_room, HasRoom}
 use Rattle.eb_serve.specs.Desk.{Queues, IsOpen, new_clerk}

@@ -1,19 +1,15 @@
 -- What a run with workers prints for the lines of an input.
-use Rattle.std.specs.Prelude.{◌≡◌, ℕ, ◌<◌, ◌≤◌, Bool, true, false, List, [], ◌∷◌, ◌++◌, length, Option}
-use Rattle.std.specs.List.{AllZip}
-use Rattle.eb_base.specs.Document.{Doc}
+use Rattle.std.specs.Prelude.{◌≡◌, ℕ, ◌≤◌, Bool, List, ◌++◌, length, Option}
 use Rattle.eb_base.specs.Setting.{Setting}
 use Rattle.eb_io.specs.Lines.{Line, lines_of}
 use Rattle.eb_lines.specs.Outcomes.{Wrote, Means}
 use Rattle.eb_lines.specs.declared.status.Status.{Status}
-use Rattle.eb_lines.specs.Progress.{accepted, refusals, told}
+use Rattle.eb_lines.specs.Progress.{accepted, told}
 use Rattle.eb_lines.specs.Reading.{Reading}
-use Rattle.eb_lines.specs.Reads.{Reads}
-use Rattle.eb_place.specs.Room.{cut}
-use Rattle.eb_rounds.specs.Admitted.{admitted}
-use Rattle.eb_rounds.specs.Conversions.{converted_of}
+use Rattle.eb_rounds.specs.Ending.{stats_of}
+use Rattle.eb_rounds.specs.LinesRead.{AreRead, HasRefusal, HasNoRefusal}
 use Rattle.eb_rounds.specs.Sees.{IsAsked}
-use Rattle.eb_rounds.specs.Text.{body, text, segments_line}
+use Rattle.eb_rounds.specs.Text.{body, text}
 
 -- the setting of the index, and whether the segments are told
 pub record Asked : Type 0 where
@@ -22,10 +18,6 @@ pub record Asked : Type 0 where
 
 abbrev pub asked : Setting → Bool → Asked
 asked σ stats = record { setting = σ; stats = stats }
-
--- the lines are read one by one, and come to these in an index of this setting
-abbrev pub AreRead : Setting → List Line → List Reading → Type 0
-AreRead σ lines rs = (raw : List Reading) × AllZip Reads lines raw × (rs ≡ admitted σ raw)
 
 -- each query sees at least the documents accepted before its line, and no more than all
 pub record SeesTold (rs : List Reading) (n : ℕ → ℕ) : Type 0 where
@@ -40,15 +32,6 @@ pub record IsWorkersBody (a : Asked) (lines : List Line) (printed : List ℕ) : 
   pub sees : SeesTold readings numbers
   pub bytes : printed ≡ body numbers readings
 
--- where the segments are told, the line of the segments begun and converted
-abbrev pub stats_line : Bool → ℕ → ℕ → List ℕ
-stats_line false begun converted = []
-stats_line true begun converted = segments_line begun converted
-
--- all segments but the last one are converted at the end of an input
-abbrev pub stats_of : Bool → Setting → List Doc → List ℕ
-stats_of stats σ docs = stats_line stats (length (cut σ docs)) (converted_of (length (cut σ docs)))
-
 -- the whole text of these lines
 pub record IsWorkersText (a : Asked) (lines : List Line) (printed : List ℕ) : Type 0 where
   pub readings : List Reading
@@ -61,17 +44,10 @@ pub record IsWorkersText (a : Asked) (lines : List Line) (printed : List ℕ) : 
 abbrev pub IsWorkersOutput : Setting → Bool → List ℕ → List ℕ → Type 0
 IsWorkersOutput σ stats bytes printed = IsWorkersText (asked σ stats) (lines_of bytes) printed
 
--- some line is refused; none is
-abbrev pub HasRefusal : Asked → List Line → Type 0
-HasRefusal a lines = (rs : List Reading) × AreRead a.setting lines rs × (0 < refusals rs)
-
-abbrev pub HasNoRefusal : Asked → List Line → Type 0
-HasNoRefusal a lines = (rs : List Reading) × AreRead a.setting lines rs × (refusals rs ≡ 0)
-
 -- what a run with workers that ends so has printed, of an input of these bytes of which this is left
 abbrev pub WroteWorkers : Asked → Status → List ℕ → Option (List ℕ) → List ℕ → Type 0
-WroteWorkers a = Wrote (IsWorkersBody a) (IsWorkersText a) (HasRefusal a) (HasNoRefusal a)
+WroteWorkers a = Wrote (IsWorkersBody a) (IsWorkersText a) (HasRefusal a.setting) (HasNoRefusal a.setting)
 
 -- what its status says of the input
 abbrev pub MeansWorkers : Asked → Status → List ℕ → Option (List ℕ) → Type 0
-MeansWorkers a = Means (HasRefusal a) (HasNoRefusal a)
+MeansWorkers a = Means (HasRefusal a.setting) (HasNoRefusal a.setting)

@@ -1,16 +1,19 @@
 -- What a run has printed is a front of a whole text.
-use Rattle.std.proofs.Common.{◌≡◌, ℕ, ◌+◌, ◌-◌, ◌<◌, ◌≤◌, inl, inr, List, [], ◌∷◌, ◌++◌, length, refl, sym, ap, ◌∙◌, arith, append_assoc, append-nil}
+use Rattle.std.proofs.Common.{◌≡◌, ℕ, ◌+◌, ◌-◌, ◌≤◌, inl, inr, List, [], ◌++◌, length, refl, sym, ap, ◌∙◌, arith, append_assoc, append-nil}
 use Rattle.eb_io.specs.Lines.{Line}
 use Rattle.eb_lines.specs.Programs.{PrintsFront}
 use Rattle.eb_lines.specs.Reading.{Reading}
 use Rattle.eb_lines.specs.Progress.{accepted, told, progress_after}
 use Rattle.eb_lines.proofs.Advancing.{told_within}
 use Rattle.eb_rounds.specs.Rows.{joined}
+use Rattle.eb_rounds.specs.Ending.{stats_of}
 use Rattle.eb_rounds.specs.Text.{body, body_from, summary}
+use Rattle.eb_rounds.proofs.Seeing.{told_front}
+use Rattle.eb_rounds.proofs.Texts.{body_append}
 use Rattle.eb_workers.specs.declared.serving.Serving.{Serving}
-use Rattle.eb_workers.specs.Output.{Asked, SeesTold, IsWorkersBody, IsWorkersText, stats_of}
+use Rattle.eb_workers.specs.Output.{Asked, SeesTold, IsWorkersBody, IsWorkersText}
 use Rattle.eb_workers.specs.Serving.{HasServed}
-use Rattle.eb_workers.specs.Bodies.{body_append, joined_front, joined_back, joined_body, side, asked_front, told_front}
+use Rattle.eb_workers.specs.Bodies.{joined_front, joined_back, joined_body, side, asked_front}
 
 module _ (s : Serving) (a : Asked) (given : List Line) (so_far : List ℕ) (h : HasServed s a given so_far) where
   abbrev pub all_readings : List Reading

@@ -3,7 +3,6 @@
 #![tactic(auto)]
 
 mod office;
-mod printing;
 mod program;
 mod run;
 mod serving;

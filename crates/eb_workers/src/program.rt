@@ -18,7 +18,8 @@ pub(crate) struct WorkersProgram<'a, R: Wait, G: Gate> {
 
 impl<R: Wait, G: Gate> LineProgram for WorkersProgram<'_, R, G> {
     ghost use Rattle.std.specs.Prelude.{◌≡◌, []};
-    ghost use Rattle.eb_workers.specs.Output.{Asked as AskedRun, IsWorkersBody, IsWorkersText, HasRefusal, HasNoRefusal};
+    ghost use Rattle.eb_rounds.specs.LinesRead.{HasRefusal, HasNoRefusal};
+    ghost use Rattle.eb_workers.specs.Output.{Asked as AskedRun, IsWorkersBody, IsWorkersText};
     ghost use Rattle.eb_workers.specs.Serving.{HasServed};
     ghost use Rattle.eb_workers.specs.ServingLaws.{served_first, body_first};
 
@@ -30,9 +31,9 @@ impl<R: Wait, G: Gate> LineProgram for WorkersProgram<'_, R, G> {
 
     ghost ends_with = { IsWorkersText };
 
-    ghost refuses = { HasRefusal };
+    ghost refuses = { λ a. HasRefusal a.setting };
 
-    ghost accepts = { HasNoRefusal };
+    ghost accepts = { λ a. HasNoRefusal a.setting };
 
     ghost settled = { λ p. p.serving.waiting.items ≡ [] };
 

@@ -5,7 +5,8 @@ ghost use Rattle.eb_io.specs.Lines.{longest_input};
 ghost use Rattle.eb_lines.specs.Outcomes.{IsWorkedOff};
 ghost use Rattle.eb_lines.specs.Passing.{Ends};
 ghost use Rattle.eb_serve.specs.Desk.{IsReady};
-ghost use Rattle.eb_workers.specs.Output.{Asked, asked, IsWorkersBody, IsWorkersText, HasRefusal, HasNoRefusal, WroteWorkers, MeansWorkers};
+ghost use Rattle.eb_rounds.specs.LinesRead.{HasRefusal, HasNoRefusal};
+ghost use Rattle.eb_workers.specs.Output.{Asked, asked, IsWorkersBody, IsWorkersText, WroteWorkers, MeansWorkers};
 ghost use Rattle.eb_workers.specs.Offices.{IsNewSide};
 ghost use Rattle.eb_workers.specs.Serving.{HasServed};
 
@@ -33,7 +34,7 @@ fn pass_and_stop<R: Threads + Wait + Sync, S: Source, K: Sink, G: Gate + Sync>(
     requires { (a : Asked) × HasServed program.serving a [] [] }
     ensures stops { result.1.stops ≡ workers }
     ensures ends { (a : Asked) → HasServed program.entry.serving a [] []
-        → Ends (IsWorkersBody a) (IsWorkersText a) (HasRefusal a) (HasNoRefusal a) result.0
+        → Ends (IsWorkersBody a) (IsWorkersText a) (HasRefusal a.setting) (HasNoRefusal a.setting) result.0
         (S.left source.old) (S.left source.new) (K.taken out.old) (K.taken out.new) }
     ensures read_fault { result.0 ≡ Status.ReadFault → HasRisen (S.faults source.old) (S.faults source.new) }
     ensures write_fault { result.0 ≡ Status.WriteFault → HasRisen (K.faults out.old) (K.faults out.new) }
@@ -61,7 +62,8 @@ fn serve<'a, R: Threads + Wait + Sync, S: Source, K: Sink, G: Gate + Sync>(
     requires { IsNewSide desk.now.queues index.now side.old }
     ensures stops { result.1.stops ≡ workers }
     ensures ends { let a = asked index.now.setting stats in
-        Ends (IsWorkersBody a) (IsWorkersText a) (HasRefusal a) (HasNoRefusal a) result.0 (S.left source.old) (S.left source.new) (K.taken out.old) (K.taken out.new) }
+        Ends (IsWorkersBody a) (IsWorkersText a) (HasRefusal a.setting) (HasNoRefusal a.setting) result.0
+        (S.left source.old) (S.left source.new) (K.taken out.old) (K.taken out.new) }
     ensures read_fault { result.0 ≡ Status.ReadFault → HasRisen (S.faults source.old) (S.faults source.new) }
     ensures write_fault { result.0 ≡ Status.WriteFault → HasRisen (K.faults out.old) (K.faults out.new) }
 {
@@ -108,7 +110,8 @@ fn serve_beside<R: Threads + Wait + Sync, S: Source, K: Sink, G: Gate + Sync>(
     requires workers { All (λ w. IsReady desk.now.queues index.now w) workers.old }
     requires side { IsNewSide desk.now.queues index.now side.old }
     ensures ends { let a = asked index.now.setting stats in
-        Ends (IsWorkersBody a) (IsWorkersText a) (HasRefusal a) (HasNoRefusal a) result (S.left source.old) (S.left source.new) (K.taken out.old) (K.taken out.new) }
+        Ends (IsWorkersBody a) (IsWorkersText a) (HasRefusal a.setting) (HasNoRefusal a.setting) result
+        (S.left source.old) (S.left source.new) (K.taken out.old) (K.taken out.new) }
     ensures read_fault { result ≡ Status.ReadFault → HasRisen (S.faults source.old) (S.faults source.new) }
     ensures write_fault { result ≡ Status.WriteFault → HasRisen (K.faults out.old) (K.faults out.new) }
 {
@@ -140,7 +143,8 @@ fn pass_at_desk<R: Threads + Wait + Sync, S: Source, K: Sink, G: Gate + Sync>(
 ) -> Status
     requires { (1 ≤ workers) × (workers ≤ 16) }
     ensures ends { let a = asked config stats in
-        Ends (IsWorkersBody a) (IsWorkersText a) (HasRefusal a) (HasNoRefusal a) result (S.left source.old) (S.left source.new) (K.taken out.old) (K.taken out.new) }
+        Ends (IsWorkersBody a) (IsWorkersText a) (HasRefusal a.setting) (HasNoRefusal a.setting) result
+        (S.left source.old) (S.left source.new) (K.taken out.old) (K.taken out.new) }
     ensures read_fault { result ≡ Status.ReadFault → HasRisen (S.faults source.old) (S.faults source.new) }
     ensures write_fault { result ≡ Status.WriteFault → HasRisen (K.faults out.old) (K.faults out.new) }
 {
@@ -195,7 +199,8 @@ where
     G: Gate + Sync,
     requires { (1 ≤ workers) × (workers ≤ 16) }
     ensures ends { let a = asked config stats in
-        Ends (IsWorkersBody a) (IsWorkersText a) (HasRefusal a) (HasNoRefusal a) result (S.left source.old) (S.left source.new) (K.taken out.old) (K.taken out.new) }
+        Ends (IsWorkersBody a) (IsWorkersText a) (HasRefusal a.setting) (HasNoRefusal a.setting) result
+        (S.left source.old) (S.left source.new) (K.taken out.old) (K.taken out.new) }
     // Where source and `out` tell their bytes, `out` took what the status says, of the lines of the input.
     ensures output { (bytes before : List ℕ) → S.left source.old ≡ Some bytes → K.taken out.old ≡ Some before
         → (printed : List ℕ) × (K.taken out.new ≡ Some (before ++ printed)) × WroteWorkers (asked config stats) result bytes (S.left source.new) printed }

@@ -9,17 +9,17 @@ ghost use Rattle.eb_base.specs.Query.{tree};
 ghost use Rattle.eb_lines.specs.Works.{reading_of};
 ghost use Rattle.eb_serve.specs.Jobs.{answerer};
 ghost use Rattle.eb_workers.specs.Offices.{IsStaffed};
-ghost use Rattle.eb_workers.specs.Output.{Asked, IsWorkersBody, IsWorkersText, HasRefusal, HasNoRefusal};
+ghost use Rattle.eb_rounds.specs.LinesRead.{HasRefusal, HasNoRefusal};
+ghost use Rattle.eb_workers.specs.Output.{Asked, IsWorkersText};
 ghost use Rattle.eb_workers.specs.Waiting.{AwaitsAt, NextNeeds};
 ghost use Rattle.eb_workers.specs.Serving.{HasServed, TakesLine, IsFurther};
 
 use crate::office::Office;
-use crate::printing::put_end;
 use crate::waiting::{Waiting, push, replace};
 use eb_base::{Document, Gate, NoMemory, Query};
 use eb_cursor::Frame;
 use eb_lines::{Refusal, Work, read_line};
-use eb_rounds::Counts;
+use eb_rounds::{Counts, put_end};
 use eb_serve::{Answer, Clerk};
 use std::alloc::Global;
 use std::collections::VecDeque;
@@ -372,7 +372,8 @@ impl<'a> Serving<'a> {
         requires settled { self.old.waiting.items ≡ [] }
         ensures staffed { IsStaffed self.new.office }
         ensures ok { IfOk result (λ refused. (a : Asked) (given : List Line) (so_far : List ℕ) → HasServed self.old a given so_far
-            → Finishes HasServed IsWorkersText HasRefusal HasNoRefusal self.old text.old.items text.new.items refused a given so_far) }
+            → Finishes HasServed IsWorkersText (λ x. HasRefusal x.setting) (λ x. HasNoRefusal x.setting)
+            self.old text.old.items text.new.items refused a given so_far) }
         ensures err { OnErr result (text.new.items ≡ text.old.items) }
     {
         let counts = Counts {

@@ -8,7 +8,7 @@ use eb_options::{Items, OptionFault, read_options, read_setting};
 use std::alloc::Global;
 
 // The flags and the options of `run`.
-const RUN_FLAGS: [&str; 2] = ["overlap", "stats"];
+const RUN_FLAGS: [&str; 3] = ["overlap", "watch", "stats"];
 
 const RUN_OPTIONS: [&str; 5] = ["workers", "parts", "segments", "docs", "terms"];
 
@@ -46,21 +46,23 @@ fn run_over_parts(parts: u32, stats: bool, config: Config) -> Option<Command>
 // To run in one of these ways, at most one of which is asked for.
 fn run_in_way(
     overlap: bool,
+    watch: bool,
     workers: Option<u32>,
     parts: Option<u32>,
     stats: bool,
     config: Config,
 ) -> Option<Command>
-    ensures { result ≡ run_by overlap workers parts stats config }
+    ensures { result ≡ run_by overlap watch workers parts stats config }
 {
     match (workers, parts) {
-        (None, None) => Some(Command::Run {
+        (None, None) if !watch => Some(Command::Run {
             overlap,
             stats,
             config,
         }),
-        (Some(workers), None) if !overlap => run_with_workers(workers, stats, config),
-        (None, Some(parts)) if !overlap => run_over_parts(parts, stats, config),
+        (None, None) if !overlap => Some(Command::RunWatches { stats, config }),
+        (Some(workers), None) if !overlap && !watch => run_with_workers(workers, stats, config),
+        (None, Some(parts)) if !overlap && !watch => run_over_parts(parts, stats, config),
         _ => None,
     }
 }
@@ -71,10 +73,11 @@ fn read_way(items: &Items) -> Option<Command>
 {
     let config = read_setting(items)?;
     let overlap = items.has("overlap");
+    let watch = items.has("watch");
     let workers = items.number("workers");
     let parts = items.number("parts");
     let stats = items.has("stats");
-    run_in_way(overlap, workers, parts, stats, config)
+    run_in_way(overlap, watch, workers, parts, stats, config)
 }
 
 // The items that the words behind `run` are.

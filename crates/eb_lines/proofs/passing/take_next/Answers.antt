@@ -1,4 +1,4 @@
-use Rattle.std.proofs.Common.{◌≡◌, List, ℕ, OnOk, sym, ap, subst, ◌∙◌, arith}
+use Rattle.std.proofs.Common.{List, ℕ, OnOk, sym, ap, subst, ◌∙◌, arith}
 use Rattle.eb_io.specs.Lines.{line, long_line}
 use Rattle.eb_lines.specs.Programs.{GoesOn, WorksOn}
 use Rattle.eb_lines.specs.declared.passing.Upcoming.{Upcoming}

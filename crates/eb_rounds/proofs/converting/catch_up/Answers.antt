@@ -1,4 +1,3 @@
-use Rattle.std.proofs.Common.{ap, subst, sym}
 use Rattle.eb_rounds.proofs.Conversions.{converted_front}
 use Rattle.eb_rounds.proofs.converting.catch_up.Goals as goal
 

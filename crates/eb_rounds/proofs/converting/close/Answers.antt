@@ -1,4 +1,4 @@
-use Rattle.std.proofs.Common.{ap, ◌∙◌, sym}
+use Rattle.std.proofs.Common.{ap, ◌∙◌}
 use Rattle.eb_engine.specs.Tokens.{ConverterToken}
 use Rattle.eb_rounds.proofs.Conversions.{all_converted}
 use Rattle.eb_rounds.proofs.converting.close.Goals as goal

@@ -1,4 +1,3 @@
-use mathlib.Core.List.{IsPrefix}
 use Rattle.eb_place.proofs.Prefixes.{prefix_trans}
 use Rattle.eb_rounds.proofs.Conversions.{few_left, nothing_left}
 use Rattle.eb_rounds.proofs.converting.convert_all.Goals as goal

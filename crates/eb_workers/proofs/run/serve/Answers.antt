@@ -1,4 +1,3 @@
-use Rattle.std.proofs.Common.{◌≡◌, []}
 use Rattle.eb_workers.specs.Output.{asked}
 use Rattle.eb_workers.proofs.Beginnings.{new_side, served_none}
 use Rattle.eb_workers.proofs.run.serve.Goals as goal

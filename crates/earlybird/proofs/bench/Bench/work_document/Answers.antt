@@ -1,4 +1,4 @@
-use Rattle.std.proofs.Common.{◌≡◌, ◌+◌, ◌<◌, ◌^◌, ℕ, List, [], ◌∷◌, ◌++◌, length, subst, sym, ap, ◌∙◌, arith, length-append, append-nil, inl, inr}
+use Rattle.std.proofs.Common.{◌≡◌, ◌<◌, ◌^◌, ℕ, List, [], ◌∷◌, ◌++◌, length, subst, sym, ap, ◌∙◌, arith, length-append, append-nil, inl, inr}
 use Rattle.eb_gen.specs.Made.{made_line, made_query}
 use Rattle.eb_io.specs.Lines.{Line, line}
 use Rattle.earlybird.specs.Bench.{HasCounted, lines_until, query_lines}

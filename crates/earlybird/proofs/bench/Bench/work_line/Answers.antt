@@ -1,4 +1,4 @@
-use Rattle.std.proofs.Common.{◌≤◌, sym, subst, arith}
+use Rattle.std.proofs.Common.{sym, subst, arith}
 use Rattle.eb_io.specs.Lines.{line}
 use Rattle.earlybird.specs.Bench.{usual}
 use Rattle.eb_lines.specs.Progress.{progress_after, with_line}

@@ -14,6 +14,7 @@ returns c =
       writer = ap (λ t. t.index) c.in_ok-index.ensures.writer;
       converter = ap (λ t. t.index) c.in_ok-index.ensures.converter;
       mode = refl;
+      stats = refl;
       number = refl;
       worked = subst W (sym (ap (λ t. t.docs) c.in_ok-index.ensures.writer)) (worked_none c.args.config c.args.overlap c.new.result c.new.ensures);
       order = λ e. ap (λ s. s.held) c.new.ensures;

@@ -3,7 +3,7 @@ use Rattle.eb_io.specs.Lines.{line}
 use Rattle.eb_rounds.specs.Inputs.{query_line}
 use Rattle.earlybird.specs.Holding.{input_by}
 use Rattle.eb_lines.proofs.LineKinds.{kind_query, kind_bad}
-use Rattle.earlybird.proofs.Runnings.{ok_on}
+use Rattle.eb_lines.proofs.Results.{ok_on}
 use Rattle.earlybird.proofs.running.Running.take_query.Goals as goal
 
 pub returns-in-Ok-clause-ok : goal.returns-in-Ok-clause-ok

@@ -1,4 +1,4 @@
-use Rattle.std.proofs.Common.{Bool, true, subst}
+use Rattle.std.proofs.Common.{Bool, subst}
 use Rattle.earlybird.specs.Session.{WithPlaced}
 use Rattle.earlybird.proofs.session.Session.add.Goals as goal
 

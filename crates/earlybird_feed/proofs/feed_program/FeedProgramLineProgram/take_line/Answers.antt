@@ -1,5 +1,8 @@
 use Rattle.eb_io.specs.Lines.{line}
-use Rattle.earlybird_feed.proofs.Steps.{goes, stays, feeding_of, ok_on, err_on}
+use Rattle.eb_lines.proofs.Results.{ok_on, err_on}
+use Rattle.eb_lines.proofs.Runs.{stays_at}
+use Rattle.earlybird_feed.specs.Asked.{HasRun}
+use Rattle.earlybird_feed.proofs.Steps.{goes, feeding_of}
 use Rattle.earlybird_feed.proofs.feed_program.FeedProgramLineProgram.take_line.Goals as goal
 
 pub take_line-requires-clause-state : goal.take_line-requires-clause-state
@@ -11,4 +14,4 @@ returns-clause-ok g c =
 
 pub returns-clause-err : goal.returns-clause-err
 returns-clause-err g c =
-    err_on c.take_line.result c.take_line.ensures.err (λ w. stays c.args.self.now.feeding c.take_line.new.self c.args.text.now.items c.take_line.new.text.items w.0 w.1)
+    err_on c.take_line.result c.take_line.ensures.err (λ w. stays_at HasRun c.args.self.now.feeding c.take_line.new.self c.args.text.now.items c.take_line.new.text.items w.0 w.1)

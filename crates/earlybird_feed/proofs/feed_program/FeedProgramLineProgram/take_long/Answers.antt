@@ -1,5 +1,8 @@
 use Rattle.eb_io.specs.Lines.{long_line}
-use Rattle.earlybird_feed.proofs.Steps.{goes, stays, feeding_of, ok_on, err_on}
+use Rattle.eb_lines.proofs.Results.{ok_on, err_on}
+use Rattle.eb_lines.proofs.Runs.{stays_at}
+use Rattle.earlybird_feed.specs.Asked.{HasRun}
+use Rattle.earlybird_feed.proofs.Steps.{goes, feeding_of}
 use Rattle.earlybird_feed.proofs.feed_program.FeedProgramLineProgram.take_long.Goals as goal
 
 pub take_long-requires-clause-state : goal.take_long-requires-clause-state
@@ -11,4 +14,4 @@ returns-clause-ok g c =
 
 pub returns-clause-err : goal.returns-clause-err
 returns-clause-err g c =
-    err_on c.take_long.result c.take_long.ensures.err (λ w. stays c.args.self.now.feeding c.take_long.new.self c.args.text.now.items c.take_long.new.text.items w.0 w.1)
+    err_on c.take_long.result c.take_long.ensures.err (λ w. stays_at HasRun c.args.self.now.feeding c.take_long.new.self c.args.text.now.items c.take_long.new.text.items w.0 w.1)

@@ -1,14 +1,17 @@
 use Rattle.eb_io.specs.Lines.{line}
 use Rattle.eb_lines.specs.Reading.{document, refused}
-use Rattle.eb_archive.proofs.Savings.{reads_document, saving_line, ok_on}
+use Rattle.eb_lines.proofs.Results.{ok_on}
+use Rattle.eb_archive.proofs.Savings.{reads_to_save}
 use Rattle.eb_archive.proofs.saving.Saving.take_document.Goals as goal
 
 pub returns-in-Ok-clause-ok : goal.returns-in-Ok-clause-ok
 returns-in-Ok-clause-ok c =
-    let reads = reads_document c.args.bytes.now (document c.in-Ok.document) c.requires.document (rw c.in-Ok.is at c.in_ok-document.ensures) in
-    ok_on c.save.result c.save.ensures.ok (saving_line c.args.self.now c.save.new.self _ _ (line c.args.bytes.now) (document c.in-Ok.document) reads)
+    let bytes = c.args.bytes.now in
+    let reads = reads_to_save bytes _ (document c.in-Ok.document) c.requires.document (rw c.in-Ok.is at c.in_ok-document.ensures) in
+    ok_on c.save.result c.save.ensures.ok (λ takes. takes (line bytes) reads)
 
 pub returns-in-Err-clause-ok : goal.returns-in-Err-clause-ok
 returns-in-Err-clause-ok c =
-    let reads = reads_document c.args.bytes.now (refused c.in-Err.refusal) c.requires.document (rw c.in-Err.is at c.in_ok-document.ensures) in
-    saving_line c.args.self.now c.refuse.new.self _ _ (line c.args.bytes.now) (refused c.in-Err.refusal) reads (c.refuse.ensures _)
+    let bytes = c.args.bytes.now in
+    let reads = reads_to_save bytes _ (refused c.in-Err.refusal) c.requires.document (rw c.in-Err.is at c.in_ok-document.ensures) in
+    c.refuse.ensures _ (line bytes) reads

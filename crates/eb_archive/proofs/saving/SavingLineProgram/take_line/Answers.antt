@@ -1,15 +1,21 @@
-use Rattle.std.proofs.Common.{sym}
+use Rattle.std.proofs.Common.{refl}
 use Rattle.eb_io.specs.Lines.{line}
-use Rattle.eb_archive.proofs.Savings.{saving_line, saving_at, reads_blank, reads_bad, err_on}
+use Rattle.eb_lines.specs.declared.refusal.Refusal.TheVariants.{BadLine}
+use Rattle.eb_lines.specs.Reading.{blank, refused}
+use Rattle.eb_lines.proofs.Results.{err_on}
+use Rattle.eb_lines.proofs.Runs.{stays_at}
+use Rattle.eb_archive.specs.Saving.{HasSaved}
+use Rattle.eb_archive.proofs.Savings.{reads_to_save}
 use Rattle.eb_archive.proofs.saving.SavingLineProgram.take_line.Goals as goal
 
-pub returns-in-Some-eq123-clause-err : goal.returns-in-Some-eq123-clause-err
-returns-in-Some-eq123-clause-err c = err_on c.take_document.result c.take_document.ensures.err (λ e. saving_at c.args.self.now c.take_document.new.self _ _ e.0 e.1)
+pub returns-in-Document-clause-err : goal.returns-in-Document-clause-err
+returns-in-Document-clause-err c = err_on c.take_document.result c.take_document.ensures.err (λ e. stays_at HasSaved c.args.self.now c.take_document.new.self _ _ e.0 e.1)
 
-pub returns-in-None-clause-ok : goal.returns-in-None-clause-ok
-returns-in-None-clause-ok c = saving_line c.args.self.now c.pass.new.self _ _ (line c.args.bytes.now) _ (reads_blank c.args.bytes.now (sym c.in-None.ensures.value)) (c.pass.ensures _)
+pub returns-in-Blank-clause-ok : goal.returns-in-Blank-clause-ok
+returns-in-Blank-clause-ok c = let bytes = c.args.bytes.now in c.pass.ensures _ (line bytes) (reads_to_save bytes _ blank c.in-Blank.ensures refl)
 
-pub returns-in-Some-clause-ok : goal.returns-in-Some-clause-ok
-returns-in-Some-clause-ok c =
-    let reads = reads_bad c.args.bytes.now c.in-Some.field-0.now (sym c.in-Some.ensures.value) c.in-Some.field-0-test.1 in
-    saving_line c.args.self.now c.refuse.new.self _ _ (line c.args.bytes.now) _ reads (c.refuse.ensures _)
+pub returns-in-Query-clause-ok : goal.returns-in-Query-clause-ok
+returns-in-Query-clause-ok c = let bytes = c.args.bytes.now in c.refuse.ensures _ (line bytes) (reads_to_save bytes _ (refused BadLine) c.in-Query.ensures.0 refl)
+
+pub returns-in-Bad-clause-ok : goal.returns-in-Bad-clause-ok
+returns-in-Bad-clause-ok c = let bytes = c.args.bytes.now in c.refuse-in-Bad.ensures _ (line bytes) (reads_to_save bytes _ (refused BadLine) c.in-Bad.ensures refl)

@@ -2,7 +2,7 @@ use Rattle.std.proofs.Common.{◌<◌, ◌++◌, length, refl, ◌∙◌, arith}
 use Rattle.std.specs.Prelude.{◌^◌}
 use Rattle.eb_lines.specs.Progress.{accepted}
 use Rattle.eb_lines.specs.Text.{summary_of}
-use Rattle.eb_parts.specs.Texts.{stats_line}
+use Rattle.eb_rounds.specs.Ending.{stats_line}
 use Rattle.eb_parts.proofs.Lines.{run_ends}
 use Rattle.eb_parts.proofs.line_run.LineRun.finish.Goals as goal
 

@@ -1,7 +1,7 @@
 use Rattle.std.proofs.Common.{refl}
 use Rattle.eb_io.specs.Lines.{long_line}
-use Rattle.eb_parts.proofs.Lines.{run_line, ok_on}
+use Rattle.eb_lines.proofs.Results.{ok_on}
 use Rattle.eb_parts.proofs.line_run.LineRun.take_long.Goals as goal
 
 pub returns-clause-ok : goal.returns-clause-ok
-returns-clause-ok c = ok_on c.refuse.result c.refuse.ensures.ok (run_line c.args.self.now c.refuse.new.self _ _ long_line _ refl)
+returns-clause-ok c = ok_on c.refuse.result c.refuse.ensures.ok (λ takes. takes long_line refl)

@@ -1,21 +1,22 @@
-use Rattle.std.proofs.Common.{subst}
-use Rattle.eb_io.specs.Lines.{line}
-use Rattle.eb_lines.specs.declared.refusal.Refusal.TheVariants.{BadLine}
-use Rattle.eb_lines.specs.Kinds.{query_line}
-use Rattle.eb_lines.specs.Reading.{refused}
-use Rattle.eb_lines.specs.Reads.{ReadsByKind}
-use Rattle.eb_parts.proofs.Lines.{reads_query, reads_not_utf8, run_line, ok_on}
+use Rattle.std.proofs.Common.{Ok, Err, subst, arith}
+use Rattle.eb_lines.specs.Reading.{query, refused}
+use Rattle.eb_lines.proofs.Results.{ok_on}
+use Rattle.eb_parts.specs.Questions.{IsQuestion}
 use Rattle.eb_parts.proofs.line_run.LineRun.take_query.Goals as goal
 
-pub returns-in_default-clause-ok : goal.returns-in_default-clause-ok
-returns-in_default-clause-ok g c =
-    let bytes = c.args.bytes.now in
-    ok_on c.refuse.result c.refuse.ensures.ok
-    (run_line c.args.self.now c.refuse.new.self _ _ (line bytes) (refused BadLine) (reads_not_utf8 bytes c.requires.mark c.in_default.ensures.cases.0))
+pub read_question-requires-clause-parts : goal.read_question-requires-clause-parts
+read_question-requires-clause-parts g c =
+    let h = c.requires.state.3 in
+    let some = h.store.some in
+    let most = h.store.most in
+    (omega (arith, some, h.parts), omega (arith, most, h.parts))
 
-pub returns-clause-ok : goal.returns-clause-ok
-returns-clause-ok g c =
-    let bytes = c.args.bytes.now in
-    ok_on c.take_text.result c.take_text.ensures.ok (λ x.
-    run_line c.args.self.now c.take_text.new.self _ _ (line bytes) x.0
-    (reads_query bytes x.0 c.requires.mark c.in-Ok.ensures.cases.1 (subst (λ b. ReadsByKind query_line b x.0) c.in-Ok.ensures.cases.0 x.1)) x.2)
+pub returns-in-Ok-clause-ok : goal.returns-in-Ok-clause-ok
+returns-in-Ok-clause-ok g c =
+    let x : IsQuestion c.args.query.now c.args.self.now.parts (Ok c.in-Ok.question) = subst (IsQuestion c.args.query.now c.args.self.now.parts) c.in-Ok.is c.in_ok-question.ensures in
+    ok_on c.answer.result c.answer.ensures.ok (λ takes. (query x.0 x.1, x.3, takes x.0 x.1 x.2))
+
+pub returns-in-Err-clause-ok : goal.returns-in-Err-clause-ok
+returns-in-Err-clause-ok g c =
+    let x : IsQuestion c.args.query.now c.args.self.now.parts (Err c.in-Err.refusal) = subst (IsQuestion c.args.query.now c.args.self.now.parts) c.in-Err.is c.in_ok-question.ensures in
+    ok_on c.refuse.result c.refuse.ensures.ok (λ takes. (refused c.in-Err.refusal, x, takes))

@@ -1,4 +1,4 @@
-use Rattle.eb_workers.proofs.Servings.{ok_on}
+use Rattle.eb_lines.proofs.Results.{ok_on}
 use Rattle.eb_workers.proofs.Endings.{served_body}
 use Rattle.eb_workers.proofs.program.WorkersProgramLineProgram.settle_all.Goals as goal
 

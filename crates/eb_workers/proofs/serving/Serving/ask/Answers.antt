@@ -2,7 +2,6 @@ use Rattle.std.proofs.Common.{refl, sym, ap, ◌∙◌, arith, append-nil}
 use Rattle.eb_cursor.specs.Frames.{query_of, k_of}
 use Rattle.eb_engine.specs.Tokens.{Token}
 use Rattle.eb_lines.specs.Reading.{query}
-use Rattle.eb_workers.specs.declared.waiting.Waiting.TheVariants as waits
 use Rattle.eb_workers.proofs.Servings.{served_line}
 use Rattle.eb_workers.proofs.serving.Serving.ask.Goals as goal
 

@@ -1,13 +1,15 @@
 use Rattle.std.proofs.Common.{refl, ap, ◌∙◌, ◌++◌, ◌-◌}
 use Rattle.eb_workers.specs.Waiting.{printed_by}
-use Rattle.eb_workers.proofs.Servings.{same_on, same_text, next_is, printed_on}
+use Rattle.eb_lines.proofs.Runs.{stays, stays_at}
+use Rattle.eb_workers.specs.Serving.{HasServed}
+use Rattle.eb_workers.proofs.Servings.{next_is, printed_on}
 use Rattle.eb_workers.proofs.serving.Serving.print_next.Goals as goal
 
 pub returns-in_default-clause-on : goal.returns-in_default-clause-on
-returns-in_default-clause-on c = same_on c.args.self.now c.args.text.now.items
+returns-in_default-clause-on c = stays HasServed c.args.self.now c.args.text.now.items
 
 pub returns-in_err-reserve-clause-on : goal.returns-in_err-reserve-clause-on
-returns-in_err-reserve-clause-on c = same_text c.args.self.now c.args.text.now.items _ c.in_err-reserve.ensures.items
+returns-in_err-reserve-clause-on c = stays_at HasServed c.args.self.now c.args.self.now _ _ refl c.in_err-reserve.ensures.items
 
 pub returns-clause-on : goal.returns-clause-on
 returns-clause-on c =

@@ -1,8 +1,10 @@
-use Rattle.eb_workers.proofs.Servings.{same_on, on_on, goes_running}
+use Rattle.eb_lines.proofs.Runs.{stays}
+use Rattle.eb_workers.specs.Serving.{HasServed}
+use Rattle.eb_workers.proofs.Servings.{on_on, goes_running}
 use Rattle.eb_workers.proofs.serving.Serving.print_ready.Goals as goal
 
 pub ready-init : goal.ready-init
-ready-init c = same_on c.args.self.now c.args.text.now.items
+ready-init c = stays HasServed c.args.self.now c.args.text.now.items
 
 pub print_next-requires : goal.print_next-requires
 print_next-requires c = record { running = goes_running c.args.self.now c.ready.self c.args.text.now.items c.ready.text.items c.requires.running c.ready.invariant }

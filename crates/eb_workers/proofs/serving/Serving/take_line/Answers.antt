@@ -4,7 +4,8 @@ use Rattle.eb_lines.specs.Programs.{WorksOn}
 use Rattle.eb_lines.specs.Works.{reading_of}
 use Rattle.eb_workers.specs.declared.serving.Serving.{Serving}
 use Rattle.eb_workers.specs.Serving.{HasServed}
-use Rattle.eb_workers.proofs.Servings.{goes_running, same_number, on_line, ok_on, err_on}
+use Rattle.eb_lines.proofs.Results.{ok_on, err_on}
+use Rattle.eb_workers.proofs.Servings.{goes_running, same_number, on_line}
 use Rattle.eb_workers.proofs.serving.Serving.take_line.Goals as goal
 
 pub take_work-requires-clause-running : goal.take_work-requires-clause-running

@@ -1,8 +1,10 @@
-use Rattle.eb_workers.proofs.Servings.{same_on, on_on, goes_running, further_on}
+use Rattle.eb_lines.proofs.Runs.{stays}
+use Rattle.eb_workers.specs.Serving.{HasServed}
+use Rattle.eb_workers.proofs.Servings.{on_on, goes_running, further_on}
 use Rattle.eb_workers.proofs.serving.Serving.wait_down.Goals as goal
 
 pub loop-init : goal.loop-init
-loop-init g c = same_on c.args.self.now c.args.text.now.items
+loop-init g c = stays HasServed c.args.self.now c.args.text.now.items
 
 pub print_ready-requires : goal.print_ready-requires
 print_ready-requires g c = record { running = goes_running c.args.self.now c.loop.self c.args.text.now.items c.loop.text.items c.requires.running c.loop.invariant }

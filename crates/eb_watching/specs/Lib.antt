@@ -1,0 +1,4 @@
+pub mod Readings
+pub mod Admitted
+pub mod Texts
+pub mod Watching

@@ -1,0 +1,72 @@
+ghost use Rattle.std.specs.Prelude.{◌≡◌, ◌<◌, ◌++◌, ℕ, List, Some, length};
+ghost use Rattle.eb_io.specs.Faults.{HasRisen};
+ghost use Rattle.eb_io.specs.Lines.{longest_input};
+ghost use Rattle.eb_lines.specs.Outcomes.{IsWorkedOff};
+ghost use Rattle.eb_lines.specs.Passing.{Ends};
+ghost use Rattle.eb_watching.specs.Texts.{asked, IsWatchBody, IsWatchText, HasWatchRefusal, HasNoWatchRefusal, WroteWatches, MeansWatches};
+
+use crate::program::WatchProgram;
+use crate::watching::Watching;
+use eb_base::{Config, Gate};
+use eb_io::{Sink, Source};
+use eb_lines::{Status, pass_lines};
+use std::alloc::Global;
+
+/// Works off the lines that the source gives, in order, with an index of this setting; prints answers, what watches are
+/// told, refusals and the summary on `out`. Lines are numbered from 1. A line `!N QUERY` sets the watch N, and `!N` takes it
+/// away (this project's profile, docs/FORMATS.md); a document that is accepted tells the numbers of the set watches whose
+/// query it matches, where there are any. A query sees all documents that were accepted before its line. With `stats` the
+/// line of the segments follows the summary.
+///
+/// What lines print is written before the source is asked for a line that it hasn't given yet. The gate is told of each add
+/// and each search. Takes the memory of the index at once, and that of each watch while it is set.
+pub fn run_watches<S: Source, K: Sink, G: Gate>(
+    alloc: Global,
+    stats: bool,
+    config: Config,
+    source: &mut S,
+    out: &mut K,
+    gate: &G,
+) -> Status
+    ensures ends { let a = asked config stats in
+        Ends (IsWatchBody a) (IsWatchText a) (HasWatchRefusal a) (HasNoWatchRefusal a) result
+        (S.left source.old) (S.left source.new) (K.taken out.old) (K.taken out.new) }
+    // Where source and `out` tell their bytes, `out` took what the status says of the input.
+    ensures output { (bytes before : List ℕ) → S.left source.old ≡ Some bytes → K.taken out.old ≡ Some before
+        → (printed : List ℕ) × (K.taken out.new ≡ Some (before ++ printed)) × WroteWatches (asked config stats) result bytes (S.left source.new) printed }
+    // What the status says of the input holds whatever becomes of the output.
+    ensures means { (bytes : List ℕ) → S.left source.old ≡ Some bytes → MeansWatches (asked config stats) result bytes (S.left source.new) }
+    // Faults come only from outside.
+    ensures read_fault { result ≡ Status.ReadFault → HasRisen (S.faults source.old) (S.faults source.new) }
+    ensures write_fault { result ≡ Status.WriteFault → HasRisen (K.faults out.old) (K.faults out.new) }
+    // Without a fault and with an end in time, the input is worked off.
+    ensures completes { (HasRisen (S.faults source.old) (S.faults source.new) → ⊥) → (HasRisen (K.faults out.old) (K.faults out.new) → ⊥)
+        → (bytes : List ℕ) → S.left source.old ≡ Some bytes → length bytes < longest_input → IsWorkedOff result }
+{
+    pass_watched(alloc, stats, config, source, out, gate)
+}
+
+fn pass_watched<S: Source, K: Sink, G: Gate>(
+    alloc: Global,
+    stats: bool,
+    config: Config,
+    source: &mut S,
+    out: &mut K,
+    gate: &G,
+) -> Status
+    ensures ends { let a = asked config stats in
+        Ends (IsWatchBody a) (IsWatchText a) (HasWatchRefusal a) (HasNoWatchRefusal a) result
+        (S.left source.old) (S.left source.new) (K.taken out.old) (K.taken out.new) }
+    ensures read_fault { result ≡ Status.ReadFault → HasRisen (S.faults source.old) (S.faults source.new) }
+    ensures write_fault { result ≡ Status.WriteFault → HasRisen (K.faults out.old) (K.faults out.new) }
+{
+    let Ok(watching) = Watching::new(alloc, stats, config) else {
+        return Status::NoMemory;
+    };
+    let mut program = WatchProgram {
+        alloc,
+        gate,
+        watching,
+    };
+    pass_lines(alloc, &mut program, Vec::new(alloc), source, out)
+}
