@@ -41,7 +41,8 @@ abbrev pub set_of : List WatchedReading → List Watched
 set_of rs = watches_from [] rs
 
 -- the same is held where index, writer, converter and watches are the same
-pub holds_on : (old new : Watching) (σ : Setting) (docs more : List Doc) (ws vs : List Watched) → new.index ≡ old.index → new.writer.index ≡ old.writer.index → new.writer.docs ≡ old.writer.docs ++ more
+pub holds_on : (old new : Watching) (σ : Setting) (docs more : List Doc) (ws vs : List Watched) → new.index ≡ old.index → new.writer.index ≡ old.writer.index
+    → new.writer.docs ≡ old.writer.docs ++ more
     → new.converter.index ≡ old.converter.index → (watches_of old.watches ≡ ws → watches_of new.watches ≡ vs) → Holds old σ docs ws → Holds new σ (docs ++ more) vs
 holds_on old new σ docs more ws vs index writer added converter watches h = record {
   words = h.words;

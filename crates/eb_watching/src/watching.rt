@@ -1,5 +1,6 @@
 //! What a run with watches does with each line.
-ghost use Rattle.std.specs.Prelude.{false, ◌≡◌, ◌+◌, ◌<◌, ◌≤◌, ◌++◌, ◌∷◌, ◌^◌, ℕ, List, [], Some, length, slice_get, vec_len, vec_capacity, IfOk, IfSome, IfNone, IsNone, OnErr, OnOk};
+ghost use Rattle.std.specs.Prelude.{false, ◌≡◌, ◌+◌, ◌<◌, ◌≤◌, ◌++◌, ◌∷◌, ◌^◌, ℕ, List, [], Some, length, slice_get, vec_len, vec_capacity};
+ghost use Rattle.std.specs.Prelude.{IfOk, IfSome, IfNone, IsNone, OnErr, OnOk};
 ghost use Rattle.eb_base.specs.Match.{answer};
 ghost use Rattle.eb_base.specs.Query.{tree, IsWellFormed};
 ghost use Rattle.eb_cursor.specs.Frames.{query_of, k_of, ids_of};

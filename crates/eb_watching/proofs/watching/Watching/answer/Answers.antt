@@ -12,7 +12,8 @@ search_all-seen-requires-clause-writer g c = writer_here c.args.self.now c.requi
 pub returns-clause-ok : goal.returns-clause-ok
 returns-clause-ok g c =
     let found = c.search_all-seen.ensures in
-    takes_query c.args.self.now _ _ _ c.search_all-seen.result c.ids.result.now _ _ (found.count ∙ (λ i. length (found.writer i).docs)) (c.ids.ensures ∙ found.ids ∙ ap (λ (t : Token). answer (query_of c.args.frame) (k_of c.args.frame) t.docs) found.writer)
+    takes_query c.args.self.now _ _ _ c.search_all-seen.result c.ids.result.now _ _ (found.count ∙ (λ i. length (found.writer i).docs))
+    (c.ids.ensures ∙ found.ids ∙ ap (λ (t : Token). answer (query_of c.args.frame) (k_of c.args.frame) t.docs) found.writer)
     (record { index = refl; writer = found.writer; converter = refl; watches = refl }) refl refl refl refl
     (c.put_answer.ensures.text ∙ ap (λ (t : List ℕ). t ++ answer_line (c.args.self.now.number + 1) c.search_all-seen.result c.ids.result.now) c.in_ok-reserve.ensures.items)
 
