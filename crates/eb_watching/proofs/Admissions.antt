@@ -1,12 +1,12 @@
 -- Lines among which some set watches, with one line more.
-use Rattle.std.proofs.Common.{◌≡◌, ℕ, ◌+◌, suc, List, [], ◌∷◌, ◌++◌, length, map, refl, sym, ap, ◌∙◌, arith, append_assoc, append-nil}
+use Rattle.std.proofs.Common.{◌≡◌, ℕ, ◌+◌, suc, List, [], ◌∷◌, ◌++◌, length, refl, sym, ap, ◌∙◌, arith, append_assoc, append-nil}
 use Rattle.std.specs.List.{AllZip}
 use Rattle.std.proofs.lemmas.List.{map-append}
 use Rattle.std.proofs.lemmas.Slice.Zip.{AllZip-long}
 use Rattle.eb_base.specs.Document.{Doc}
 use Rattle.eb_base.specs.Setting.{Setting}
 use Rattle.eb_io.specs.Lines.{Line}
-use Rattle.eb_lines.specs.Progress.{documents_in, accepted}
+use Rattle.eb_lines.specs.Progress.{accepted}
 use Rattle.eb_lines.proofs.Advancing.{accepted-push}
 use Rattle.eb_watch.specs.Watches.{Watched}
 use Rattle.eb_watching.specs.Readings.{WatchedReading, plain_of, ReadsWatched}

@@ -1,6 +1,6 @@
 -- How a line that begins with an exclamation mark is read, and one that doesn't.
-use Rattle.std.proofs.Common.{◌≡◌, ℕ, Bool, false, true, List, [], ◌∷◌, Some, refl, sym, ap, subst, eqb→eq, ◌∙◌}
-use Rattle.std.specs.Prelude.{T, ◌==◌, ◌&&◌, slice_get, IsUtf8}
+use Rattle.std.proofs.Common.{◌≡◌, ℕ, Bool, false, List, [], ◌∷◌, Some, refl, sym, ap, subst, eqb→eq, ◌∙◌}
+use Rattle.std.specs.Prelude.{T, ◌==◌, slice_get, IsUtf8}
 use Rattle.std.specs.Str.{is_utf8}
 use Rattle.std.proofs.lemmas.Bool.{false_from_ne_true}
 use Rattle.std.proofs.lemmas.Str.{IsUtf8-from_is_utf8, is_utf8-from_IsUtf8}
@@ -10,7 +10,7 @@ use Rattle.eb_lines.specs.Kinds.{Kind, bad_line, kind_of}
 use Rattle.eb_lines.specs.Reading.{Reading, refused}
 use Rattle.eb_lines.specs.Reads.{Reads, ReadsByKind}
 use Rattle.eb_query.specs.WatchLine.{WatchOutcome, ReadsWatchAs}
-use Rattle.eb_watching.specs.Readings.{WatchedReading, plain, is_watch_line, of_watch_line, ReadsWatchedBy, ReadsWatched}
+use Rattle.eb_watching.specs.Readings.{plain, is_watch_line, of_watch_line, ReadsWatchedBy, ReadsWatched}
 
 by_mark : (b : ℕ) (bs : List ℕ) → b ≡ 33 → is_watch_line (b ∷ bs) ≡ is_utf8 (b ∷ bs)
 by_mark b bs e = rw e refl

@@ -14,20 +14,19 @@ use Rattle.eb_io.specs.Lines.{Line}
 use Rattle.eb_place.specs.Room.{cut, has_room}
 use Rattle.eb_rounds.specs.Conversions.{converted_of}
 use Rattle.eb_rounds.specs.Ending.{stats_line, stats_of}
-use Rattle.eb_lines.specs.Reading.{Reading, blank, document, query, refused}
+use Rattle.eb_lines.specs.Reading.{blank, document, query, refused}
 use Rattle.eb_lines.specs.declared.refusal.Refusal.{Refusal}
 use Rattle.eb_lines.specs.declared.refusal.Refusal.TheVariants.{Full, NoWatch, WatchTaken, WatchesFull}
 use Rattle.eb_lines.specs.Progress.{accepted, queries, refusals, is_query, is_refused, one_if, progress_after}
 use Rattle.eb_lines.specs.Programs.{IsRunning, WorksOn, GoesOn, Finishes}
 use Rattle.eb_lines.specs.Text.{answer_line, refusal_line, watch_line, summary_of}
 use Rattle.eb_lines.proofs.Advancing.{count_push}
-use Rattle.eb_rounds.specs.Text.{summary}
 use Rattle.eb_watch.specs.Seen.{watches_of}
 use Rattle.eb_watch.specs.Watches.{Watched, is_set, numbers_of, matching, with_watch, without_watch}
 use Rattle.eb_watching.specs.declared.watching.Watching.{Watching}
 use Rattle.eb_watching.specs.Readings.{WatchedReading, plain, set_watch, remove_watch, plain_of, ReadsWatched}
 use Rattle.eb_watching.specs.Admitted.{admit_set, admit_removal, admit_watched, documents_of, watches_after, watches_from, plains}
-use Rattle.eb_watching.specs.Texts.{Asked, AreReadWatched, IsWatchText, HasWatchRefusal, HasNoWatchRefusal, watched_output, watch_body, watch_end, watch_body_from}
+use Rattle.eb_watching.specs.Texts.{Asked, AreReadWatched, IsWatchText, HasWatchRefusal, HasNoWatchRefusal, watched_output, watch_end, watch_body_from}
 use Rattle.eb_watching.specs.Watching.{Holds, HasWatched, TakesLine, with_refusal}
 use Rattle.eb_watching.proofs.Admissions.{plains-push, documents-push, watches-push, body-push, read_none, read_push, read_long}
 

@@ -3,7 +3,7 @@ use Rattle.std.specs.Prelude.{◌≡◌, ℕ, ◌==◌, ◌&&◌, Bool, true, fa
 use Rattle.std.specs.Str.{is_utf8}
 use Rattle.eb_base.specs.Query.{Tree}
 use Rattle.eb_io.specs.Lines.{Line, line, long_line}
-use Rattle.eb_lines.specs.Reading.{Reading, blank, document, query, refused}
+use Rattle.eb_lines.specs.Reading.{Reading, blank, refused}
 use Rattle.eb_lines.specs.Reads.{Reads}
 use Rattle.eb_lines.specs.declared.refusal.Refusal.TheVariants.{LongLine, BadNumber, BadQuery, TooManyNodes, TooDeep}
 use Rattle.eb_query.specs.Reading.{Outcome, asks, bad_number, bad_query, too_deep, too_many_nodes}

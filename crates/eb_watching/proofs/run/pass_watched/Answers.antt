@@ -1,4 +1,4 @@
-use Rattle.std.proofs.Common.{ℕ, List, [], refl, sym, subst}
+use Rattle.std.proofs.Common.{ℕ, List, [], sym, subst}
 use Rattle.eb_lines.proofs.PassingLines.{ends_at_once}
 use Rattle.eb_watching.specs.Watching.{HasWatched, body_first}
 use Rattle.eb_watching.specs.Texts.{Asked, asked}

@@ -3,7 +3,7 @@ use Rattle.eb_base.specs.Match.{answer}
 use Rattle.eb_cursor.specs.Frames.{query_of, k_of}
 use Rattle.eb_engine.specs.Tokens.{Token}
 use Rattle.eb_lines.specs.Text.{answer_line}
-use Rattle.eb_watching.proofs.Watchings.{stays_err, takes_query, writer_here, few_answers}
+use Rattle.eb_watching.proofs.Watchings.{stays_err, takes_query, writer_here}
 use Rattle.eb_watching.proofs.watching.Watching.answer.Goals as goal
 
 pub search_all-seen-requires-clause-writer : goal.search_all-seen-requires-clause-writer

@@ -1,4 +1,4 @@
-use Rattle.std.proofs.Common.{refl, ap, ◌∙◌}
+use Rattle.std.proofs.Common.{refl, ap}
 use Rattle.eb_engine.specs.Tokens.{Token, ConverterToken}
 use Rattle.eb_watching.proofs.Watchings.{watched_none}
 use Rattle.eb_watching.proofs.watching.Watching.new.Goals as goal
