@@ -330,12 +330,3 @@ watching_ends s t0 t1 documents begun converted a given so_far h count put is_be
 
 pub writer_here : (s : Watching) → IsRunning HasWatched s → s.writer.index ≡ s.index
 writer_here s r = let h = r.3 in h.holds.writer ∙ sym h.holds.index
-
-pub converter_here : (s : Watching) → IsRunning HasWatched s → s.converter.index ≡ s.index
-converter_here s r = let h = r.3 in h.holds.converter ∙ sym h.holds.index
-
-pub few_refusals : (s : Watching) → IsRunning HasWatched s → s.refused ≤ s.number
-few_refusals s r = let h = r.3 in h.few_refused
-
-pub few_answers : (s : Watching) → IsRunning HasWatched s → s.queries ≤ s.number
-few_answers s r = let h = r.3 in h.few_queries
