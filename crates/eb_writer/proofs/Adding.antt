@@ -24,8 +24,8 @@ use Rattle.eb_place.proofs.Firsts.{cut_nonempty}
 use Rattle.eb_place.proofs.Placed.{placed_all}
 use Rattle.eb_place.proofs.Laters.{later_on}
 use Rattle.eb_place.proofs.Telling.{tells_nothing}
-use Rattle.eb_writer.specs.declared.counting.Found.{Found}
-use Rattle.eb_writer.specs.declared.counting.Plan.{Plan}
+use Rattle.eb_writer.specs.declared.plan.Found.{Found}
+use Rattle.eb_writer.specs.declared.plan.Plan.{Plan}
 use Rattle.eb_writer.specs.Counting.{IsIdle, tokens_in, IsUsedBy, IsReady, AreFound, IsPlan}
 use Rattle.eb_writer.specs.Storing.{before_it, tokens_until, IsPlaced, HasComeTo, IsAccepted, GoesOn, BeginsSegment, with_document}
 use Rattle.eb_writer.specs.Progress.{Progress, Stands, IsLastFull, HasNoRoom}

@@ -11,7 +11,7 @@ use Rattle.eb_place.proofs.Counts.{one_if, same_term, count_of-nil, count_of-app
 use Rattle.eb_place.proofs.Numbers.{number_here, number_stays, number_absent}
 use Rattle.eb_place.proofs.Grows.{later_term}
 use Rattle.eb_chain.specs.Needs.{IsTailWord}
-use Rattle.eb_writer.specs.declared.counting.Found.{Found}
+use Rattle.eb_writer.specs.declared.plan.Found.{Found}
 use Rattle.eb_writer.specs.Recall.{term_at, StoodAt}
 use Rattle.eb_writer.specs.Counting.{tokens_in, IsFound, AreFound, IsFirst}
 use Rattle.eb_writer.proofs.Recalling.{count_take}

@@ -10,8 +10,8 @@ use Rattle.eb_place.specs.Room.{cut, text_words}
 use Rattle.eb_place.specs.Address.{slices_begun}
 use Rattle.eb_place.specs.Tells.{TellsSegment}
 use Rattle.eb_chain.specs.Needs.{IsTailWord}
-use Rattle.eb_writer.specs.declared.counting.Found.{Found}
-use Rattle.eb_writer.specs.declared.counting.Plan.{Plan}
+use Rattle.eb_writer.specs.declared.plan.Found.{Found}
+use Rattle.eb_writer.specs.declared.plan.Plan.{Plan}
 use Rattle.eb_writer.specs.Recall.{term_at}
 
 -- no document is being placed

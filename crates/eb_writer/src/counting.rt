@@ -9,6 +9,7 @@ ghost use Rattle.eb_chain.specs.Needs.{IsTailWord};
 ghost use Rattle.eb_writer.specs.Recall.{Remembers, term_at};
 ghost use Rattle.eb_writer.specs.Counting.{IsIdle, tokens_in, IsUsedBy, IsFound, AreFound, IsFirst, IsReady, IsPlan, IsSmall};
 
+use crate::plan::{Found, Plan};
 use crate::recall::{Recall, last_place, recall_nothing, remember};
 use eb_base::{Document, MAX_TOKENS, Term, Terms};
 use eb_chain::{NewSlices, needs};
@@ -16,57 +17,40 @@ use eb_place::{Pen, Places, Steps, Used};
 use eb_terms::find;
 use std::sync::ledger::{Blank, Ledger};
 
-// What is found of a token before the document is placed.
-#[derive(Clone, Copy)]
-pub(crate) struct Found {
-    // The number that its term has in the segment, or will get.
-    pub number: u32,
-    // The term's tail word before the document.
-    pub tail: u64,
-    // How often the term stands earlier in the document.
-    pub earlier: u32,
-}
-
-// What the placing of a document in a segment will do.
-#[derive(Drop)]
-pub(crate) struct Plan {
-    // Its tokens, in order.
-    pub found: [Found; MAX_TOKENS],
-    // What is used of the segment with them.
-    pub used: Used,
-}
-
 // Counts what a document needs of a segment, token by token, before anything is stored of it.
 pub(crate) fn make_plan<P: Pen, L: Ledger>(
     pen: &mut P,
     document: &Document,
     segment: u32,
     used: Used,
+    plan: &mut Plan,
     blank: Blank,
-) -> Plan
+)
     requires blank { (blank.name ≡ L.name) × (blank.parts ≡ L.parts) × (0 < blank.parts) }
     requires ready { (m : Moment) × P.stands pen.old m × IsReady m segment used }
     ensures { (m : Moment) → P.stands pen.old m → IsReady m segment used
-        → (n : Moment) × P.stands pen.new n × IsNotBefore n m × P.keeps pen.old m pen.new n × IsPlan m segment used document.now result }
+        → (n : Moment) × P.stands pen.new n × IsNotBefore n m × P.keeps pen.old m pen.new n × IsPlan m segment used document.now plan.new }
 {
     let terms = document.terms();
     let mut steps = Steps::<L>::new(blank);
     let mut recall = recall_nothing(terms);
-    let mut found = [Found {
-        number: 0,
-        tail: 0,
-        earlier: 0,
-    }; MAX_TOKENS];
-    let mut used = used;
+    plan.used = used;
     for at in 0..terms.len() {
+        let next = plan.used.terms;
         let token = found_at(
-            pen, segment, terms, at, &recall, &found, used.terms, &mut steps,
+            pen,
+            segment,
+            terms,
+            at,
+            &recall,
+            &plan.found,
+            next,
+            &mut steps,
         );
-        used = with_token(used, terms.get(at), token);
-        found[at] = token;
+        plan.used = with_token(plan.used, terms.get(at), token);
+        plan.found[at] = token;
         remember(&mut recall, terms, at);
     }
-    Plan { found, used }
 }
 
 // What is found of the token at a place: that of the same term's last token in the document, with one more

@@ -5,6 +5,7 @@
 mod counting;
 mod laws;
 mod placer;
+mod plan;
 mod recall;
 mod storing;
 

@@ -11,7 +11,8 @@ ghost use Rattle.eb_writer.specs.Counting.{AreFound};
 ghost use Rattle.eb_writer.specs.Storing.{HasComeTo, IsAccepted, before_it};
 ghost use Rattle.eb_writer.specs.Progress.{Stands, IsLastFull, HasNoRoom};
 
-use crate::counting::{Found, make_plan};
+use crate::counting::make_plan;
+use crate::plan::{Found, Plan, plan_nothing};
 use crate::storing::{begin, finish, store_tokens};
 use eb_base::{Config, Document, MAX_TOKENS};
 use eb_place::{Pen, Used};
@@ -36,12 +37,14 @@ const NOTHING: Used = Used {
 
 /// Adds documents to an index, for its one writer: it knows how many segments are begun, and how much of
 /// the last one is used. The relation `Stands` of `specs/` says when it stands at a moment of the words.
-#[derive(Debug, Drop)]
+#[derive(Drop)]
 pub struct Placer {
     config: Config,
     segments: u32,
     documents: u64,
     used: Used,
+    // Where a document is planned.
+    plan: Plan,
 }
 
 impl Model for Placer {
@@ -62,6 +65,7 @@ impl Placer {
             segments: 0,
             documents: 0,
             used: NOTHING,
+            plan: plan_nothing(NOTHING),
         }
     }
 
@@ -77,6 +81,7 @@ impl Placer {
             segments,
             documents,
             used,
+            plan: plan_nothing(NOTHING),
         }
     }
 
@@ -150,12 +155,19 @@ impl Placer {
             return None;
         }
         let segment = self.segments - 1;
-        let plan = make_plan::<P, Brand>(pen, document, segment, self.used, Blank::new(1));
-        if !is_within(plan.used, self.config) {
+        let used = self.used;
+        make_plan::<P, Brand>(pen, document, segment, used, &mut self.plan, Blank::new(1));
+        if !is_within(self.plan.used, self.config) {
             return None;
         }
-        let used = self.used;
-        self.used = store_rest(pen, document, segment, used, &plan.found, self.documents);
+        self.used = store_rest(
+            pen,
+            document,
+            segment,
+            used,
+            &self.plan.found,
+            self.documents,
+        );
         self.documents += 1;
         Some(self.documents)
     }
@@ -170,9 +182,23 @@ impl Placer {
             × IsAccepted m n document.now × (result ≡ length m.documents.accepted + 1) × Stands self.new n }
     {
         let segment = self.segments;
-        let plan = make_plan::<P, Brand>(pen, document, segment, NOTHING, Blank::new(1));
+        make_plan::<P, Brand>(
+            pen,
+            document,
+            segment,
+            NOTHING,
+            &mut self.plan,
+            Blank::new(1),
+        );
         begin(pen, document, segment, self.documents);
-        self.used = store_rest(pen, document, segment, NOTHING, &plan.found, self.documents);
+        self.used = store_rest(
+            pen,
+            document,
+            segment,
+            NOTHING,
+            &self.plan.found,
+            self.documents,
+        );
         self.segments += 1;
         self.documents += 1;
         self.documents

@@ -7,7 +7,7 @@ ghost use Rattle.eb_writer.specs.Recall.{term_at};
 ghost use Rattle.eb_writer.specs.Counting.{AreFound};
 ghost use Rattle.eb_writer.specs.Storing.{HasComeTo, HasComeToPosting, GoesOn, IsNumbered, IsAccepted, BeginsSegment, before_it};
 
-use crate::counting::Found;
+use crate::plan::Found;
 use eb_base::{Document, MAX_TOKENS};
 use eb_chain::append;
 use eb_place::{Pen, Places, Used, posting};

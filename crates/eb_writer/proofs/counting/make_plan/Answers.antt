@@ -5,7 +5,7 @@ use Rattle.eb_base.specs.Document.{most_tokens}
 use Rattle.eb_place.specs.Postings.{distinct, count_of, number_of}
 use Rattle.eb_place.proofs.Laters.{later_self, later_on}
 use Rattle.eb_place.proofs.Counts.{count_of-append}
-use Rattle.eb_writer.specs.declared.counting.Found.{Found}
+use Rattle.eb_writer.specs.declared.plan.Found.{Found}
 use Rattle.eb_writer.specs.Recall.{term_at}
 use Rattle.eb_writer.specs.Counting.{tokens_in, IsUsedBy, IsFound, AreFound}
 use Rattle.eb_writer.proofs.Recalling.{at_place}
@@ -23,7 +23,7 @@ loop-at-init g c =
         st,
         later_self m,
         g.met.P.Port.keeps_itself _ m st,
-        record { places = length-replicate {A = Found} most_tokens record { number = 0; tail = 0; earlier = 0 }; each = λ i k l e. absurd (omega arith) },
+        record { places = c.args.plan.now.places; each = λ i k l e. absurd (omega arith) },
         subst (IsUsedBy c.args.used) (sym (append-nil (tokens_in m c.args.segment))) (ready_used m c.args.segment c.args.used (g.met.P.Port.lawful _ m st) ready),
       ),
       c.recall_nothing-recall.ensures,
@@ -48,11 +48,11 @@ found_at-token-requires-clause-ready g c =
       k.1,
       idle_same r.0 k.0 f r.2.idle,
       inside_same r.0 k.0 s k.2 r.2.inside,
-      subst (λ (z : List Term). AreFound z c.terms-terms.result.now c.loop-at.found c.loop-at.at) (sym (tokens_same r.0 k.0 s k.2 f)) k.4,
+      subst (λ (z : List Term). AreFound z c.terms-terms.result.now c.loop-at.plan.found c.loop-at.at) (sym (tokens_same r.0 k.0 s k.2 f)) k.4,
     )
 
-pub with_token-used-requires-clause-tail : goal.with_token-used-requires-clause-tail
-with_token-used-requires-clause-tail g c =
+pub with_token-plan-requires-clause-tail : goal.with_token-plan-requires-clause-tail
+with_token-plan-requires-clause-tail g c =
     let r = c.requires.ready in
     let m = r.0 in
     let st = r.1 in
@@ -63,13 +63,13 @@ with_token-used-requires-clause-tail g c =
     let k = c.loop-at.invariant.0 m st ready in
     let f = g.met.P.Pen.pen_keeps _ _ m k.0 k.3 in
     let q = tokens_same m k.0 s k.2 f in
-    let o = c.found_at-token.ensures k.0 k.1 (idle_same m k.0 f ready.idle) (inside_same m k.0 s k.2 ready.inside) (subst (λ (z : List Term). AreFound z ts c.loop-at.found i) (sym q) k.4)
+    let o = c.found_at-token.ensures k.0 k.1 (idle_same m k.0 f ready.idle) (inside_same m k.0 s k.2 ready.inside) (subst (λ (z : List Term). AreFound z ts c.loop-at.plan.found i) (sym q) k.4)
     (k.5.terms ∙ ap (λ (z : List Term). length (distinct (z ++ take i ts))) (sym q)) in
     let token = subst (λ (z : List Term). IsFound z ts i c.found_at-token.result) q o.4 in
     (count_of (term_at ts i) (tokens_in m s), token.tail)
 
-pub with_token-used-requires-clause-few : goal.with_token-used-requires-clause-few
-with_token-used-requires-clause-few g c =
+pub with_token-plan-requires-clause-few : goal.with_token-plan-requires-clause-few
+with_token-plan-requires-clause-few g c =
     let r = c.requires.ready in
     let m = r.0 in
     let st = r.1 in
@@ -80,7 +80,7 @@ with_token-used-requires-clause-few g c =
     let k = c.loop-at.invariant.0 m st ready in
     let f = g.met.P.Pen.pen_keeps _ _ m k.0 k.3 in
     let q = tokens_same m k.0 s k.2 f in
-    let o = c.found_at-token.ensures k.0 k.1 (idle_same m k.0 f ready.idle) (inside_same m k.0 s k.2 ready.inside) (subst (λ (z : List Term). AreFound z ts c.loop-at.found i) (sym q) k.4)
+    let o = c.found_at-token.ensures k.0 k.1 (idle_same m k.0 f ready.idle) (inside_same m k.0 s k.2 ready.inside) (subst (λ (z : List Term). AreFound z ts c.loop-at.plan.found i) (sym q) k.4)
     (k.5.terms ∙ ap (λ (z : List Term). length (distinct (z ++ take i ts))) (sym q)) in
     let token = subst (λ (z : List Term). IsFound z ts i c.found_at-token.result) q o.4 in
     let doc = c.terms-terms.ensures.document in
@@ -88,16 +88,16 @@ with_token-used-requires-clause-few g c =
     let same = ap length c.terms-terms.ensures.terms in
     omega (arith, token.earlier, count_few (term_at ts i) ts i (omega (arith, c.loop-at-test.true, c.len-at-end.ensures)), c.loop-at-test.true, c.len-at-end.ensures, tokens, same)
 
-pub with_token-used-requires-clause-short : goal.with_token-used-requires-clause-short
-with_token-used-requires-clause-short g c =
+pub with_token-plan-requires-clause-short : goal.with_token-plan-requires-clause-short
+with_token-plan-requires-clause-short g c =
     let doc = c.terms-terms.ensures.document in
     let tokens = doc.limits.tokens in
     let same = ap length c.terms-terms.ensures.terms in
     let bytes = doc.limits.bytes in
     omega (arith, bytes, ap (sum_by length) c.terms-terms.ensures.terms, token_short c.terms-terms.result.now c.loop-at.at c.get.result.now c.get.ensures)
 
-pub with_token-used-requires-clause-small : goal.with_token-used-requires-clause-small
-with_token-used-requires-clause-small g c =
+pub with_token-plan-requires-clause-small : goal.with_token-plan-requires-clause-small
+with_token-plan-requires-clause-small g c =
     let doc = c.terms-terms.ensures.document in
     let tokens = doc.limits.tokens in
     let same = ap length c.terms-terms.ensures.terms in
@@ -119,20 +119,20 @@ loop-at-preserved g c = (
       let k = c.loop-at.invariant.0 m st ready in
       let f = g.met.P.Pen.pen_keeps _ _ m k.0 k.3 in
       let q = tokens_same m k.0 s k.2 f in
-      let o = c.found_at-token.ensures k.0 k.1 (idle_same m k.0 f ready.idle) (inside_same m k.0 s k.2 ready.inside) (subst (λ (z : List Term). AreFound z ts c.loop-at.found i) (sym q) k.4)
+      let o = c.found_at-token.ensures k.0 k.1 (idle_same m k.0 f ready.idle) (inside_same m k.0 s k.2 ready.inside) (subst (λ (z : List Term). AreFound z ts c.loop-at.plan.found i) (sym q) k.4)
       (k.5.terms ∙ ap (λ (z : List Term). length (distinct (z ++ take i ts))) (sym q)) in
       let token = subst (λ (z : List Term). IsFound z ts i c.found_at-token.result) q o.4 in
       let t = c.get.result.now in
       let at = at_place ts i t [] c.get.ensures in
       let A = tokens_in m s in
-      let u = c.with_token-used.ensures.used (count_of (term_at ts i) A) (A ++ take i ts) token.tail
+      let u = c.with_token-plan.ensures.used (count_of (term_at ts i) A) (A ++ take i ts) token.tail
       (omega (arith, token.earlier, count_of-append (term_at ts i) A (take i ts), ap (λ z. count_of z (A ++ take i ts)) at)) (token.number ∙ ap (λ z. number_of z (A ++ take i ts)) at) k.5 in (
         o.0,
         o.1,
         later_on m k.0 o.0 k.2 o.2,
         g.met.P.Port.keeps_on _ _ _ m k.0 o.0 k.3 o.3,
-        found_more A ts c.loop-at.found i c.found_at-token.result k.4 token,
-        subst (IsUsedBy c.with_token-used.result) (append_assoc A (take i ts) (t ∷ []) ∙ ap (λ (z : List Term). A ++ z) (sym (take_one ts i t c.get.ensures))) u,
+        found_more A ts c.loop-at.plan.found i c.found_at-token.result k.4 token,
+        subst (IsUsedBy c.with_token-plan.result) (append_assoc A (take i ts) (t ∷ []) ∙ ap (λ (z : List Term). A ++ z) (sym (take_one ts i t c.get.ensures))) u,
       )),
   c.remember.ensures,
   (let r = c.requires.ready in
@@ -145,18 +145,18 @@ loop-at-preserved g c = (
       let k = c.loop-at.invariant.0 m st ready in
       let f = g.met.P.Pen.pen_keeps _ _ m k.0 k.3 in
       let q = tokens_same m k.0 s k.2 f in
-      let o = c.found_at-token.ensures k.0 k.1 (idle_same m k.0 f ready.idle) (inside_same m k.0 s k.2 ready.inside) (subst (λ (z : List Term). AreFound z ts c.loop-at.found i) (sym q) k.4)
+      let o = c.found_at-token.ensures k.0 k.1 (idle_same m k.0 f ready.idle) (inside_same m k.0 s k.2 ready.inside) (subst (λ (z : List Term). AreFound z ts c.loop-at.plan.found i) (sym q) k.4)
       (k.5.terms ∙ ap (λ (z : List Term). length (distinct (z ++ take i ts))) (sym q)) in
       let token = subst (λ (z : List Term). IsFound z ts i c.found_at-token.result) q o.4 in
       let t = c.get.result.now in
       let at = at_place ts i t [] c.get.ensures in
       let A = tokens_in m s in
-      let u = c.with_token-used.ensures.used (count_of (term_at ts i) A) (A ++ take i ts) token.tail
+      let u = c.with_token-plan.ensures.used (count_of (term_at ts i) A) (A ++ take i ts) token.tail
       (omega (arith, token.earlier, count_of-append (term_at ts i) A (take i ts), ap (λ z. count_of z (A ++ take i ts)) at)) (token.number ∙ ap (λ z. number_of z (A ++ take i ts)) at) k.5 in
       let bytes = c.terms-terms.ensures.document.limits.bytes in
-      small_more c.loop-at.used c.with_token-used.result t (A ++ take i ts) i
+      small_more c.loop-at.plan.used c.with_token-plan.result t (A ++ take i ts) i
       (omega (arith, bytes, ap (sum_by length) c.terms-terms.ensures.terms, token_short ts i t c.get.ensures)) k.5 u c.loop-at.invariant.2),
-  c.with_token-used.ensures.documents ∙ c.loop-at.invariant.3,
+  c.with_token-plan.ensures.documents ∙ c.loop-at.invariant.3,
 )
 
 pub returns : goal.returns
@@ -172,8 +172,8 @@ returns g c m st ready =
       k.3,
       record {
         limits = c.terms-terms.ensures.document;
-        found = subst (λ (z : List Term). AreFound A z c.loop-at.found (length z)) e (subst (AreFound A ts c.loop-at.found) end k.4);
-        used = subst (λ (z : List Term). IsUsedBy c.loop-at.used (A ++ z)) (take_all c.loop-at.at ts (omega arith) ∙ e) k.5;
+        found = subst (λ (z : List Term). AreFound A z c.loop-at.plan.found (length z)) e (subst (AreFound A ts c.loop-at.plan.found) end k.4);
+        used = subst (λ (z : List Term). IsUsedBy c.loop-at.plan.used (A ++ z)) (take_all c.loop-at.at ts (omega arith) ∙ e) k.5;
         documents = c.loop-at.invariant.3;
       },
     )

@@ -9,5 +9,5 @@ abbrev pub invariant-loop-at : goal.invariant-loop-at
 invariant-loop-at g l =
     ((m : Moment) → g.P.Port.stands l.fn.pen m → IsReady m l.segment l.fn.used
     → (n : Moment) × g.P.Port.stands l.pen n × IsNotBefore n m × g.P.Port.keeps l.fn.pen m l.pen n
-    × AreFound (tokens_in m l.segment) l.terms l.found l.at × IsUsedBy l.used (tokens_in m l.segment ++ take l.at l.terms))
-    × Remembers l.recall l.terms l.at × IsSmall l.used l.at × (l.used.documents ≡ l.fn.used.documents)
+    × AreFound (tokens_in m l.segment) l.terms l.plan.found l.at × IsUsedBy l.plan.used (tokens_in m l.segment ++ take l.at l.terms))
+    × Remembers l.recall l.terms l.at × IsSmall l.plan.used l.at × (l.plan.used.documents ≡ l.fn.used.documents)

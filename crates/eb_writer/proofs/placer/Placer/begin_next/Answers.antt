@@ -4,8 +4,8 @@ use Rattle.eb_writer.proofs.Ends.{documents_few}
 use Rattle.eb_writer.proofs.Adding.{next_ready, starts_next, begins_same, stands_same, stands_accepted, accepted_same, accepted_on}
 use Rattle.eb_writer.proofs.placer.Placer.begin_next.Goals as goal
 
-pub make_plan-plan-requires-clause-ready : goal.make_plan-plan-requires-clause-ready
-make_plan-plan-requires-clause-ready g c =
+pub make_plan-requires-clause-ready : goal.make_plan-requires-clause-ready
+make_plan-requires-clause-ready g c =
     let r = c.requires in
     let h = subst (λ z. Stands z r.0) (sym c.self.view_is) r.2 in
     (r.0, r.1, next_ready _ r.0 (g.met.P.Port.lawful _ r.0 r.1) h r.4)
@@ -16,7 +16,7 @@ begin-requires g c =
     let m = r.0 in
     let h = subst (λ z. Stands z m) (sym c.self.view_is) r.2 in
     let is = g.met.P.Port.lawful _ m r.1 in
-    let n = c.make_plan-plan.ensures m r.1 (next_ready _ m is h r.4) in
+    let n = c.make_plan.ensures m r.1 (next_ready _ m is h r.4) in
     let e = g.met.P.Pen.pen_keeps _ _ m n.0 n.3 in
     (n.0, n.1, begins_same _ m n.0 c.args.document.now (g.met.P.Port.lawful _ n.0 n.1) n.2 e n.4.limits h r.3 r.4, (stands_same _ m n.0 n.2 e h).documents)
 
@@ -26,11 +26,11 @@ store_rest-self-inside-requires g c =
     let m = r.0 in
     let h = subst (λ z. Stands z m) (sym c.self.view_is) r.2 in
     let is = g.met.P.Port.lawful _ m r.1 in
-    let n = c.make_plan-plan.ensures m r.1 (next_ready _ m is h r.4) in
+    let n = c.make_plan.ensures m r.1 (next_ready _ m is h r.4) in
     let js = g.met.P.Port.lawful _ n.0 n.1 in
     let e = g.met.P.Pen.pen_keeps _ _ m n.0 n.3 in
     let k = c.begin.ensures n.0 n.1 (begins_same _ m n.0 c.args.document.now js n.2 e n.4.limits h r.3 r.4) (stands_same _ m n.0 n.2 e h).documents in
-    let b = starts_next _ m n.0 k.0 c.args.document.now c.make_plan-plan.result is js n.2 e h r.3 r.4 n.4 k.3 k.4 in
+    let b = starts_next _ m n.0 k.0 c.args.document.now c.make_plan.new.plan is js n.2 e h r.3 r.4 n.4 k.3 k.4 in
     (k.0, k.1, b.come, b.tells, b.tokens, b.counted)
 
 pub overflow_add-self-2 : goal.overflow_add-self-2
@@ -44,11 +44,11 @@ returns g c m st hh f low =
     let h = subst (λ z. Stands z m) (sym c.self.view_is) hh in
     let d = c.args.document.now in
     let is = g.met.P.Port.lawful _ m st in
-    let n = c.make_plan-plan.ensures m st (next_ready _ m is h low) in
+    let n = c.make_plan.ensures m st (next_ready _ m is h low) in
     let js = g.met.P.Port.lawful _ n.0 n.1 in
     let e = g.met.P.Pen.pen_keeps _ _ m n.0 n.3 in
     let k = c.begin.ensures n.0 n.1 (begins_same _ m n.0 d js n.2 e n.4.limits h f low) (stands_same _ m n.0 n.2 e h).documents in
-    let b = starts_next _ m n.0 k.0 d c.make_plan-plan.result is js n.2 e h f low n.4 k.3 k.4 in
+    let b = starts_next _ m n.0 k.0 d c.make_plan.new.plan is js n.2 e h f low n.4 k.3 k.4 in
     let o = c.store_rest-self-inside.ensures k.0 k.1 b.come b.tells b.tokens b.counted in
     let a = accepted_on n.0 k.0 o.0 d k.3 o.3 in
     let p : Progress = record { setting = c.self.inside.config; segments = c.self.inside.segments; documents = c.self.inside.documents; used = c.self.inside.used } in
