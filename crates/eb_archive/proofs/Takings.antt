@@ -11,7 +11,7 @@ use Rattle.eb_image.specs.declared.fault.ImageFault.{ImageFault}
 use Rattle.eb_io.specs.Source.{after}
 use Rattle.eb_io.proofs.Bytes.{after-after}
 use Rattle.eb_place.specs.Room.{has_room, HasRoom}
-use Rattle.eb_place.proofs.Onward.{lawful_push}
+use Rattle.eb_place.proofs.AfterStore.{lawful_push}
 use Rattle.eb_archive.specs.declared.store.Store.{Store}
 use Rattle.eb_archive.specs.Stores.{Holds}
 use Rattle.eb_archive.specs.Reading.{HasRead, IsFilled, IsStopped}

@@ -6,7 +6,7 @@ use mathlib.Core.List.{IsPrefix}
 use Rattle.eb_base.specs.Document.{Doc}
 use Rattle.eb_base.specs.Setting.{Setting}
 use Rattle.eb_place.specs.Room.{cut}
-use Rattle.eb_place.proofs.Cuts.{closed_stays}
+use Rattle.eb_place.proofs.CutSegments.{closed_stays}
 use Rattle.eb_convert.specs.declared.conversion.Converted.{Converted}
 use Rattle.eb_convert.specs.declared.conversion.Converted.TheVariants.{One, Nothing}
 use Rattle.eb_engine.specs.Tokens.{Token, ConverterToken, Converts, AreClosed}

@@ -12,7 +12,7 @@ use Rattle.eb_base.specs.Document.{Doc}
 use Rattle.eb_base.specs.Query.{Tree}
 use Rattle.eb_base.specs.Match.{answer, is_match}
 use Rattle.eb_base.proofs.Answering.{answer-append}
-use Rattle.eb_place.proofs.Counts.{by_push}
+use Rattle.eb_place.proofs.TermCounts.{by_push}
 use Rattle.eb_blend.specs.Blended.{answers, blended, falling}
 use Rattle.eb_blend.specs.Laws.{part, HasRisingIds, BlendIsAnswer}
 use Rattle.eb_blend.proofs.Sorting.{Below, below-append, falling_greatest}

@@ -7,7 +7,7 @@ use Rattle.std.proofs.Math.Pow.{pow_mono}
 use Rattle.eb_place.specs.Packed.{differences, width_of}
 use Rattle.eb_place.specs.Falling.{IsFalling, AllBelow}
 use Rattle.eb_place.specs.Postings.{posting_bits}
-use Rattle.eb_place.proofs.Falling.{falls_at, below_at, below_more}
+use Rattle.eb_place.proofs.FallingLists.{falls_at, below_at, below_more}
 
 pub length-differences : (xs : List ℕ) → length (differences xs) ≡ length xs - 1
 length-differences [] = refl

@@ -9,7 +9,7 @@ use Rattle.eb_block.specs.Fields.{IsHeld, HoldsFields, DrawsFrom, Poured}
 use Rattle.eb_place.specs.Postings.{posting_bits}
 use Rattle.eb_block.specs.Blocks.{most_words, IsPackable, BeginsWith}
 use Rattle.eb_block.specs.declared.bits.Bits.{Bits}
-use Rattle.eb_place.proofs.Blocks.{length-lowest_words}
+use Rattle.eb_place.proofs.BlockFields.{length-lowest_words}
 use Rattle.eb_block.proofs.Numbers.{fields_below, number_back}
 use Rattle.eb_block.proofs.Differences.{length-differences, is_width}
 
@@ -102,5 +102,5 @@ pub block_few : (n : ℕ) (into xs : List ℕ) → take n into ≡ block xs → 
 block_few n into xs e l p =
     let w = is_width xs p.small in
     let narrow = w.few in
-    let s = Rattle.eb_place.proofs.Blocks.block_short (width_in xs) xs (omega arith) p.some in
+    let s = Rattle.eb_place.proofs.BlockFields.block_short (width_in xs) xs (omega arith) p.some in
     omega (arith, length-take n into, ap length (e ∙ block_is xs), s)

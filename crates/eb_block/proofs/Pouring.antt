@@ -3,7 +3,7 @@ use Rattle.std.proofs.Common.{◌≡◌, ℕ, ◌+◌, ◌*◌, ◌/◌, ◌^◌
 use Rattle.std.proofs.lemmas.List.{length_push, take_more_set}
 use Rattle.std.proofs.lemmas.Nat.{pow-add}
 use Rattle.eb_place.specs.Packed.{fields, lowest_words}
-use Rattle.eb_place.proofs.Blocks.{fields_push}
+use Rattle.eb_place.proofs.BlockFields.{fields_push}
 use Rattle.eb_place.specs.Falling.{AllBelow}
 use Rattle.eb_block.specs.Fields.{IsHeld, Poured}
 use Rattle.eb_block.specs.declared.bits.Bits.{Bits}

@@ -11,7 +11,7 @@ use Rattle.eb_block.specs.Blocks.{IsPackable, most_words}
 use Rattle.eb_block.specs.Reading.{ReadsWords, loaded, up_to, HasPassed}
 use Rattle.eb_block.specs.declared.packed_list.PackedList.{PackedList}
 use Rattle.eb_place.specs.Postings.{posting_bits}
-use Rattle.eb_place.proofs.Blocks.{length-lowest_words}
+use Rattle.eb_place.proofs.BlockFields.{length-lowest_words}
 use Rattle.eb_block.proofs.Drawing.{hold_first, hold_over, hold_more, next_of}
 use Rattle.eb_block.proofs.Opening.{header_in, body_in, width_in, block_is, header_read, IsHeader, body_holds}
 

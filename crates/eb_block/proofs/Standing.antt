@@ -14,16 +14,16 @@ use Rattle.eb_place.specs.Moments.{word, IsMoment}
 use Rattle.eb_place.specs.Later.{IsNotBefore}
 use Rattle.eb_place.specs.Seen.{segment}
 use Rattle.eb_place.specs.Walk.{IsTerm}
-use Rattle.eb_place.proofs.Grows.{later_term}
+use Rattle.eb_place.proofs.ReachedLater.{later_term}
 use Rattle.eb_place.proofs.TermNumbers.{count_at_most}
-use Rattle.eb_place.proofs.Enough.{postings_few, length-postings}
-use Rattle.eb_place.proofs.Placed.{setting_terms}
+use Rattle.eb_place.proofs.EnoughPackedWords.{postings_few, length-postings}
+use Rattle.eb_place.proofs.WordsAtMoment.{setting_terms}
 use Rattle.eb_block.specs.Fields.{IsHeld, IsField}
 use Rattle.eb_place.specs.PackedLists.{IsConverted, list_start, newest_first, packed_words}
 use Rattle.eb_block.specs.Reading.{IsPackedAt, ReadsWords, ListStands, ListGives, loaded, HasPassed, IsNear, up_to}
 use Rattle.eb_block.specs.declared.packed_list.PackedList.{PackedList}
-use Rattle.eb_place.proofs.Converted.{word_packed_list, word_directory, list_fits, later_converted, converted_segment, closed_room}
-use Rattle.eb_place.proofs.Rising.{newest_falls, newest_small}
+use Rattle.eb_place.proofs.ConverterWords.{word_packed_list, word_directory, list_fits, later_converted, converted_segment, closed_room}
+use Rattle.eb_place.proofs.PostingsFall.{newest_falls, newest_small}
 use Rattle.eb_block.proofs.Reading.{peek_at, step_over, step_first, HasStepped, can_enter, IsIn, given, nothing, next_first}
 
 -- ---- packed words

@@ -4,7 +4,7 @@ use Rattle.eb_base.specs.Document.{Doc}
 use Rattle.eb_base.specs.Setting.{IsSetting, words_of}
 use Rattle.eb_place.specs.Postings.{terms_of}
 use Rattle.eb_place.specs.Room.{cut, last_of}
-use Rattle.eb_place.proofs.Images.{length-image}
+use Rattle.eb_place.proofs.ImagesOfMoments.{length-image}
 use Rattle.eb_writer.specs.Counting.{tokens_in, IsUsedBy}
 use Rattle.eb_writer.proofs.Idle.{told_used, idle_entered, idle_tokens}
 use Rattle.eb_c.specs.declared.index.Index.{Index}

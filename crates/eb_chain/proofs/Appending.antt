@@ -14,16 +14,16 @@ use Rattle.eb_place.specs.Room.{cut, IsLawful}
 use Rattle.eb_place.specs.Placing.{Store, append_stores, token_stores, tokens_stores, stores_in, doc_stores, segment_before}
 use Rattle.eb_place.specs.Moments.{with_current, current_of, current_stores, placings, document_stores}
 use Rattle.eb_place.specs.NextStores.{stores_done, IsCurrent}
-use Rattle.eb_place.proofs.Counts.{one_if, same_term, count_of_push, distinct_push, with_term_cases, once}
-use Rattle.eb_place.proofs.Writer.{tokens_stores-append}
-use Rattle.eb_place.proofs.Fresh.{Each}
-use Rattle.eb_place.proofs.Within.{IsWithin, slices_fit, token_within}
-use Rattle.eb_place.proofs.Numbers.{number_here, number_stays}
-use Rattle.eb_place.proofs.Reached.{Reached, Room, reached_keeps, front_stores, tail_store, token_split, front_apart}
-use Rattle.eb_place.proofs.Tokens.{Each-front, Agrees, tokens_done, room_before}
-use Rattle.eb_place.proofs.Histories.{posting_numbers, agrees_doc, posting_front, terms_push}
-use Rattle.eb_place.proofs.PlacedDocuments.{first_stores, first_within, first_plain, stores_split}
-use Rattle.eb_place.proofs.Placed.{placed_all, reached_same, Joins, joins, lawful_front}
+use Rattle.eb_place.proofs.TermCounts.{one_if, same_term, count_of_push, distinct_push, with_term_cases, once}
+use Rattle.eb_place.proofs.NextAddresses.{tokens_stores-append}
+use Rattle.eb_place.proofs.FreshPoolWords.{Each}
+use Rattle.eb_place.proofs.StoresWithinTable.{IsWithin, slices_fit, token_within}
+use Rattle.eb_place.proofs.TermNumbersStay.{number_here, number_stays}
+use Rattle.eb_place.proofs.WordsOfTokens.{Reached, Room, reached_keeps, front_stores, tail_store, token_split, front_apart}
+use Rattle.eb_place.proofs.StoringTokens.{Each-front, Agrees, tokens_done, room_before}
+use Rattle.eb_place.proofs.WordsOfHistories.{posting_numbers, agrees_doc, posting_front, terms_push}
+use Rattle.eb_place.proofs.StoresOfDocuments.{first_stores, first_within, first_plain, stores_split}
+use Rattle.eb_place.proofs.WordsAtMoment.{placed_all, reached_same, Joins, joins, lawful_front}
 use Rattle.eb_chain.specs.Appends.{tokens_before, IsPostingNext, with_stores}
 use Rattle.eb_chain.proofs.RegionCounts.{count_in, count_in-append, enters, enters_tails, enters_cells, appends_tails, appends_cells}
 use Rattle.eb_chain.proofs.RegionCounts.{tokens_tails, tokens_cells, distinct_one, distinct_more, firsts_away, Counts, counts_placed}

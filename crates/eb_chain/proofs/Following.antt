@@ -5,7 +5,7 @@ use Rattle.std.proofs.lemmas.Bool.Decides.{nat_tests}
 use Rattle.eb_place.specs.declared.used.Used.{Used}
 use Rattle.eb_place.specs.Layout.{address_number, address_pool, address_offset, slice_bits}
 use Rattle.eb_place.specs.Address.{pool_at, offset_at, slice_start, begins}
-use Rattle.eb_place.proofs.Addresses.{pool_low}
+use Rattle.eb_place.proofs.AddressesDiffer.{pool_low}
 use Rattle.eb_chain.specs.declared.next_place.NextPlace.{NextPlace}
 use Rattle.eb_chain.specs.Needs.{IsTailWord}
 use Rattle.eb_chain.specs.NextPlaces.{slices_of, with_slice, HasAddress, IsNextPlace}

@@ -13,15 +13,15 @@ use Rattle.eb_place.specs.Moments.{IsMoment, with_current}
 use Rattle.eb_place.specs.Later.{IsNotBefore}
 use Rattle.eb_place.specs.Seen.{segment}
 use Rattle.eb_place.specs.Walk.{IsAddress, posting_in}
-use Rattle.eb_place.proofs.Addresses.{start_le}
-use Rattle.eb_place.proofs.Closed.{Parts, address_parts, address_small}
-use Rattle.eb_place.proofs.Fresh.{Each}
-use Rattle.eb_place.proofs.Fresh.Each.{more}
-use Rattle.eb_place.proofs.Histories.{postings_in, postings_append}
-use Rattle.eb_place.proofs.Placed.{placed_all}
-use Rattle.eb_place.proofs.Stays.{address_later, later_posting}
-use Rattle.eb_place.proofs.Rising.{RisesFrom, postings_rise}
-use Rattle.eb_place.proofs.WayBack.{told, reverse_take}
+use Rattle.eb_place.proofs.AddressesDiffer.{start_le}
+use Rattle.eb_place.proofs.ReaderWords.{Parts, address_parts, address_small}
+use Rattle.eb_place.proofs.FreshPoolWords.{Each}
+use Rattle.eb_place.proofs.FreshPoolWords.Each.{more}
+use Rattle.eb_place.proofs.WordsOfHistories.{postings_in, postings_append}
+use Rattle.eb_place.proofs.WordsAtMoment.{placed_all}
+use Rattle.eb_place.proofs.ReachedWordsStay.{address_later, later_posting}
+use Rattle.eb_place.proofs.PostingsFall.{RisesFrom, postings_rise}
+use Rattle.eb_place.proofs.WayBackFromPosting.{told, reverse_take}
 use Rattle.eb_chain.specs.declared.leaps.Bounds.{Bounds}
 use Rattle.eb_chain.specs.declared.leaps.Found.{Found}
 use Rattle.eb_chain.specs.Chains.{next_loads}

@@ -11,8 +11,8 @@ use Rattle.eb_place.specs.Moments.{IsMoment}
 use Rattle.eb_place.specs.Later.{IsNotBefore}
 use Rattle.eb_place.specs.Seen.{segment, seen_count}
 use Rattle.eb_place.specs.Walk.{IsAddress, posting_in}
-use Rattle.eb_place.proofs.Addresses.{start_le}
-use Rattle.eb_place.proofs.Closed.{reached_few, posting_small, Parts, address_parts}
+use Rattle.eb_place.proofs.AddressesDiffer.{start_le}
+use Rattle.eb_place.proofs.ReaderWords.{reached_few, posting_small, Parts, address_parts}
 use Rattle.eb_chain.specs.declared.chain.Way.{Way}
 use Rattle.eb_chain.specs.declared.chain.Way.TheVariants.{End, At, Link}
 use Rattle.eb_chain.specs.declared.chain.Chain.{Chain}
@@ -21,9 +21,9 @@ use Rattle.eb_chain.specs.declared.leaps.Look.TheVariants.{Within}
 use Rattle.eb_chain.specs.Chains.{IsWay, way_loads, next_loads, IsWayBefore, Stands, Given}
 use Rattle.eb_chain.specs.Leaps.{at_most, slices_in_use, walk_loads, lead_loads, LeadsTo, IsRow, IsOldest, IsNewest, IsLookLoads, IsLeap, IsShort}
 use Rattle.eb_place.specs.Layout.{address_pool, address_offset}
-use Rattle.eb_place.proofs.Laters.{later_on}
-use Rattle.eb_place.proofs.Rising.{postings_rise}
-use Rattle.eb_place.proofs.WayBack.{reverse_take, told}
+use Rattle.eb_place.proofs.LaterMoments.{later_on}
+use Rattle.eb_place.proofs.PostingsFall.{postings_rise}
+use Rattle.eb_place.proofs.WayBackFromPosting.{reverse_take, told}
 use Rattle.eb_chain.proofs.Walks.{stands_later, way_back}
 use Rattle.eb_chain.proofs.Leaping.{passes, at_most_in, rises_get, row_first, row_of, row_later, row_stays, row_head, newest_as}
 use Rattle.eb_chain.proofs.Leaping.{span_is, slices_before, slices_same, walk_more, walk_first, power_next, power_some}

@@ -8,9 +8,9 @@ use Rattle.eb_place.specs.declared.moment.Moment.{Moment}
 use Rattle.eb_place.specs.Moments.{IsMoment}
 use Rattle.eb_place.specs.Seen.{seen_count}
 use Rattle.eb_place.specs.Walk.{address_in, tail_value}
-use Rattle.eb_place.proofs.Addresses.{pool_low}
-use Rattle.eb_place.proofs.Closed.{address_parts}
-use Rattle.eb_place.proofs.WayBack.{told}
+use Rattle.eb_place.proofs.AddressesDiffer.{pool_low}
+use Rattle.eb_place.proofs.ReaderWords.{address_parts}
+use Rattle.eb_place.proofs.WayBackFromPosting.{told}
 use Rattle.eb_chain.specs.Needs.{IsPlaceOf, IsTailWord, HasLike}
 
 -- a tail word that isn't 0 is one more than the address of the last posting

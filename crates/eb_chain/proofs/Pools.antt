@@ -7,8 +7,8 @@ use Rattle.eb_place.specs.Layout.{slice_bits, address_pool}
 use Rattle.eb_place.specs.Address.{pool_at, offset_at}
 use Rattle.eb_place.specs.Moments.{IsMoment}
 use Rattle.eb_place.specs.Walk.{address_in}
-use Rattle.eb_place.proofs.Closed.{Parts, address_parts}
-use Rattle.eb_place.proofs.WayBack.{told, linked_at}
+use Rattle.eb_place.proofs.ReaderWords.{Parts, address_parts}
+use Rattle.eb_place.proofs.WayBackFromPosting.{told, linked_at}
 use Rattle.eb_chain.specs.declared.chain.Way.TheVariants.{End, At, Link}
 use Rattle.eb_chain.specs.declared.chain.Chain.{Chain}
 use Rattle.eb_chain.specs.Chains.{Stands}

@@ -22,23 +22,23 @@ use Rattle.eb_place.specs.NextStores.{stores_done, after_store}
 use Rattle.eb_place.specs.Seen.{segment, stores_in_region, entered, tokens_seen}
 use Rattle.eb_place.specs.Tells.{TellsSegment}
 use Rattle.eb_place.specs.Walk.{IsTerm}
-use Rattle.eb_place.proofs.Counts.{one_if, same_term, count_of_push, begun_push}
-use Rattle.eb_place.proofs.Addresses.{SlicesFit, pool_low, slice_in}
-use Rattle.eb_place.proofs.Writer.{front_all, front_here, address_new, address_next}
-use Rattle.eb_place.proofs.Within.{slices_fit}
-use Rattle.eb_place.proofs.Numbers.{number_absent}
-use Rattle.eb_place.proofs.Reached.{val}
-use Rattle.eb_place.proofs.Tokens.{room_before}
+use Rattle.eb_place.proofs.TermCounts.{one_if, same_term, count_of_push, begun_push}
+use Rattle.eb_place.proofs.AddressesDiffer.{SlicesFit, pool_low, slice_in}
+use Rattle.eb_place.proofs.NextAddresses.{front_all, front_here, address_new, address_next}
+use Rattle.eb_place.proofs.StoresWithinTable.{slices_fit}
+use Rattle.eb_place.proofs.TermNumbersStay.{number_absent}
+use Rattle.eb_place.proofs.WordsOfTokens.{val}
+use Rattle.eb_place.proofs.StoringTokens.{room_before}
 use Rattle.eb_place.proofs.PackedStores.{is_packed}
-use Rattle.eb_place.proofs.Laters.{later_on}
-use Rattle.eb_place.proofs.Stored.{setting_stored}
-use Rattle.eb_place.proofs.Grows.{later_term}
-use Rattle.eb_place.proofs.Closed.{Parts, word_of_writer, tail_in_table}
+use Rattle.eb_place.proofs.LaterMoments.{later_on}
+use Rattle.eb_place.proofs.NextStore.{setting_stored}
+use Rattle.eb_place.proofs.ReachedLater.{later_term}
+use Rattle.eb_place.proofs.ReaderWords.{Parts, word_of_writer, tail_in_table}
 use Rattle.eb_chain.specs.declared.next_place.NextPlace.{NextPlace}
 use Rattle.eb_chain.specs.Needs.{IsTailWord}
 use Rattle.eb_chain.specs.Appends.{tokens_before, IsPostingNext, with_stores, HasAppended}
 use Rattle.eb_chain.specs.NextPlaces.{slices_of, with_slice, HasAddress, IsNextPlace, AreNext, link_stores, after_link}
-use Rattle.eb_place.proofs.WayBack.{told}
+use Rattle.eb_place.proofs.WayBackFromPosting.{told}
 use Rattle.eb_chain.proofs.RegionCounts.{count_in}
 use Rattle.eb_chain.proofs.Appending.{stores_before, Here, here, Done, done_after}
 use Rattle.eb_chain.proofs.Storing.{one_stored}

@@ -17,13 +17,13 @@ use Rattle.eb_place.specs.Address.{pool_at, begins, address_of}
 use Rattle.eb_place.specs.Placing.{Store, in_row, text_of, enter_stores, append_stores, token_stores, tokens_stores, stores_in}
 use Rattle.eb_place.specs.Moments.{placings, placings_after}
 use Rattle.eb_place.specs.Seen.{is_in}
-use Rattle.eb_place.proofs.Counts.{one_if, by_push, once, distinct_push, with_term_cases}
-use Rattle.eb_place.proofs.Fresh.{Each, Each-append, Each-if}
-use Rattle.eb_place.proofs.Fresh.Each.{none, more}
-use Rattle.eb_place.proofs.Reached.{Each-map}
-use Rattle.eb_place.proofs.Histories.{before_in, terms_push}
-use Rattle.eb_place.proofs.PlacedDocuments.{Elsewhere, doc_elsewhere, first_stores, stores_split}
-use Rattle.eb_place.proofs.Placed.{placed_all, Joins, joins, placings_push, lawful_front, lawful_last}
+use Rattle.eb_place.proofs.TermCounts.{one_if, by_push, once, distinct_push, with_term_cases}
+use Rattle.eb_place.proofs.FreshPoolWords.{Each, Each-append, Each-if}
+use Rattle.eb_place.proofs.FreshPoolWords.Each.{none, more}
+use Rattle.eb_place.proofs.WordsOfTokens.{Each-map}
+use Rattle.eb_place.proofs.WordsOfHistories.{before_in, terms_push}
+use Rattle.eb_place.proofs.StoresOfDocuments.{Elsewhere, doc_elsewhere, first_stores, stores_split}
+use Rattle.eb_place.proofs.WordsAtMoment.{placed_all, Joins, joins, placings_push, lawful_front, lawful_last}
 
 -- how many of the stores go to a region of segment s
 abbrev pub count_in : ℕ → Region → List Store → ℕ

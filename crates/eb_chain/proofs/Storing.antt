@@ -14,10 +14,10 @@ use Rattle.eb_place.specs.Placing.{Store, pairs_of, doc_stores}
 use Rattle.eb_place.specs.Moments.{current_of, IsMoment}
 use Rattle.eb_place.specs.Later.{IsNotBefore}
 use Rattle.eb_place.specs.NextStores.{stores_done, IsNext, after_store, documents_after}
-use Rattle.eb_place.proofs.Slots.{InTable}
-use Rattle.eb_place.proofs.Placed.{placed_all, joins, lawful_front}
-use Rattle.eb_place.proofs.Stored.{each_at, doc_writers}
-use Rattle.eb_place.proofs.Onward.{later_stored}
+use Rattle.eb_place.proofs.PlacesOfSlots.{InTable}
+use Rattle.eb_place.proofs.WordsAtMoment.{placed_all, joins, lawful_front}
+use Rattle.eb_place.proofs.NextStore.{each_at, doc_writers}
+use Rattle.eb_place.proofs.AfterStore.{later_stored}
 use Rattle.eb_chain.specs.Appends.{with_stores}
 use Rattle.eb_chain.specs.NextPlaces.{AreNext}
 

@@ -11,11 +11,11 @@ use Rattle.eb_place.specs.Moments.{IsMoment}
 use Rattle.eb_place.specs.Later.{IsNotBefore}
 use Rattle.eb_place.specs.Seen.{segment, seen, seen_count}
 use Rattle.eb_place.specs.Walk.{IsAddress, IsLink, address_in, tail_value}
-use Rattle.eb_place.proofs.Writer.{address_next}
-use Rattle.eb_place.proofs.Closed.{reached_few, seen_is, Parts, address_parts, address_small}
-use Rattle.eb_place.proofs.Grows.{later_reached, later_postings}
-use Rattle.eb_place.proofs.Stays.{address_later, link_later}
-use Rattle.eb_place.proofs.WayBack.{told, first_at, within_at, second_at, linked_at, reverse_take}
+use Rattle.eb_place.proofs.NextAddresses.{address_next}
+use Rattle.eb_place.proofs.ReaderWords.{reached_few, seen_is, Parts, address_parts, address_small}
+use Rattle.eb_place.proofs.ReachedLater.{later_reached, later_postings}
+use Rattle.eb_place.proofs.ReachedWordsStay.{address_later, link_later}
+use Rattle.eb_place.proofs.WayBackFromPosting.{told, first_at, within_at, second_at, linked_at, reverse_take}
 use Rattle.eb_chain.specs.declared.chain.Way.{Way}
 use Rattle.eb_chain.specs.declared.chain.Way.TheVariants.{End, At, Link}
 use Rattle.eb_chain.specs.declared.chain.Chain.{Chain}

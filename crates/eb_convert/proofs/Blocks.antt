@@ -10,11 +10,11 @@ use Rattle.eb_place.specs.Placing.{Store, in_row}
 use Rattle.eb_place.specs.Conversion.{segment_stores}
 use Rattle.eb_place.specs.Moments.{with_current, IsMoment}
 use Rattle.eb_place.specs.Later.{IsNotBefore}
-use Rattle.eb_place.proofs.Fresh.{Each}
-use Rattle.eb_place.proofs.Fresh.Each.{none, more}
-use Rattle.eb_place.proofs.Reached.{Each-map}
-use Rattle.eb_place.proofs.Within.{IsWithin}
-use Rattle.eb_place.proofs.Tokens.{Each-front}
+use Rattle.eb_place.proofs.FreshPoolWords.{Each}
+use Rattle.eb_place.proofs.FreshPoolWords.Each.{none, more}
+use Rattle.eb_place.proofs.WordsOfTokens.{Each-map}
+use Rattle.eb_place.proofs.StoresWithinTable.{IsWithin}
+use Rattle.eb_place.proofs.StoringTokens.{Each-front}
 use Rattle.eb_place.proofs.PackedStores.{segment_packs}
 use Rattle.eb_chain.specs.Chains.{Stands}
 use Rattle.eb_chain.specs.declared.chain.Chain.{Chain}
@@ -24,7 +24,7 @@ use Rattle.eb_place.specs.Falling.{IsFalling, AllBelow}
 use Rattle.eb_block.specs.Blocks.{IsPackable}
 use Rattle.eb_block.proofs.Opening.{block_is}
 use Rattle.eb_block.proofs.Reading.{first_packable, list_more, list_none, falls_back}
-use Rattle.eb_place.proofs.Converted.{closed_room}
+use Rattle.eb_place.proofs.ConverterWords.{closed_room}
 use Rattle.eb_convert.specs.Progress.{IsLeft, IsBlockNext, IsBlockDone, AreBlocksDone}
 use Rattle.eb_convert.proofs.Putting.{row-append, left_later}
 

@@ -13,11 +13,11 @@ use Rattle.eb_place.specs.Conversion.{segment_stores}
 use Rattle.eb_place.specs.Moments.{with_current, IsMoment, IsClosed}
 use Rattle.eb_place.specs.Later.{IsNotBefore}
 use Rattle.eb_place.specs.NextStores.{IsNextPut, conversions_after, after_put}
-use Rattle.eb_place.proofs.Slots.{InTable}
-use Rattle.eb_place.proofs.Stored.{each_at}
+use Rattle.eb_place.proofs.PlacesOfSlots.{InTable}
+use Rattle.eb_place.proofs.NextStore.{each_at}
 use Rattle.eb_place.proofs.PackedStores.{segment_packs}
-use Rattle.eb_place.proofs.Packing.{later_packed, moment_packed}
-use Rattle.eb_place.proofs.Converted.{closed_room, closed_later}
+use Rattle.eb_place.proofs.NextPackedStore.{later_packed, moment_packed}
+use Rattle.eb_place.proofs.ConverterWords.{closed_room, closed_later}
 use Rattle.eb_place.proofs.NextPuts.{next_pair, left_after, segment_stores_later}
 use Rattle.eb_convert.specs.Progress.{IsLeft}
 

@@ -18,17 +18,17 @@ use Rattle.eb_place.specs.Moments.{IsMoment, IsClosed, with_current, word}
 use Rattle.eb_place.specs.Later.{IsNotBefore}
 use Rattle.eb_place.specs.Seen.{segment, seen, seen_count}
 use Rattle.eb_place.specs.Walk.{IsTerm}
-use Rattle.eb_place.proofs.Enough.{postings_few, length-postings}
-use Rattle.eb_place.proofs.Grows.{later_term}
+use Rattle.eb_place.proofs.EnoughPackedWords.{postings_few, length-postings}
+use Rattle.eb_place.proofs.ReachedLater.{later_term}
 use Rattle.eb_chain.specs.Chains.{Stands}
 use Rattle.eb_chain.specs.declared.chain.Chain.{Chain}
-use Rattle.eb_place.proofs.Converted.{closed_room, closed_segment}
-use Rattle.eb_place.proofs.Rising.{newest_falls, newest_small}
+use Rattle.eb_place.proofs.ConverterWords.{closed_room, closed_segment}
+use Rattle.eb_place.proofs.PostingsFall.{newest_falls, newest_small}
 use Rattle.eb_place.proofs.TermNumbers.{count_at_most, number_of_term}
 use Rattle.eb_convert.specs.Progress.{IsBegunAt, IsLeft, IsBlockNext, term_stores, terms_left, HasTerm, HasNoTerm}
-use Rattle.eb_place.proofs.Converted.{closed_later}
+use Rattle.eb_place.proofs.ConverterWords.{closed_later}
 use Rattle.eb_convert.proofs.Putting.{left_later, left_begin}
-use Rattle.eb_place.proofs.Closing.{closed_seen, tail_none, tail_some}
+use Rattle.eb_place.proofs.ClosedSegments.{closed_seen, tail_none, tail_some}
 
 -- the chain of a term of a closed segment, opened: its blocks come next, then its directory word
 pub term_next : (m n : Moment) (s : ℕ) (t : Term) (k at : ℕ) (others : List Store) (c : Chain) → IsMoment m → IsMoment n → IsNotBefore n m → n.conversions ≡ m.conversions

@@ -19,18 +19,18 @@ use Rattle.eb_place.specs.Moments.{IsMoment, current_of, document_stores, placin
 use Rattle.eb_place.specs.Later.{IsNotBefore, ReachesPacked}
 use Rattle.eb_place.specs.Seen.{segment, tails_done, seen_count, is_in, entered, IsEntered}
 use Rattle.std.proofs.lemmas.Slice.Eq.{bytes_eq-Decides}
-use Rattle.eb_place.proofs.Numbers.{number_low}
-use Rattle.eb_place.proofs.Enough.{length-postings}
-use Rattle.eb_place.proofs.Fresh.{Each}
-use Rattle.eb_place.proofs.Fresh.Each.{none, more}
-use Rattle.eb_place.proofs.Texts.{Behind}
-use Rattle.eb_place.proofs.Entries.{is_entry, entries, entries_picked}
-use Rattle.eb_place.proofs.Regions.{picks_all}
-use Rattle.eb_place.proofs.Dictionary.{entered_done_is, cells_counted}
-use Rattle.eb_place.proofs.Placed.{placed_all, lawful_front}
+use Rattle.eb_place.proofs.TermNumbersStay.{number_low}
+use Rattle.eb_place.proofs.EnoughPackedWords.{length-postings}
+use Rattle.eb_place.proofs.FreshPoolWords.{Each}
+use Rattle.eb_place.proofs.FreshPoolWords.Each.{none, more}
+use Rattle.eb_place.proofs.DictionaryOfTerms.{Behind}
+use Rattle.eb_place.proofs.EntryStores.{is_entry, entries, entries_picked}
+use Rattle.eb_place.proofs.RegionStores.{picks_all}
+use Rattle.eb_place.proofs.DictionaryAtMoment.{entered_done_is, cells_counted}
+use Rattle.eb_place.proofs.WordsAtMoment.{placed_all, lawful_front}
 use Rattle.eb_place.proofs.Prefixes.{prefix_self}
 use Rattle.eb_place.proofs.EnteredTerms.{is_entered_later}
-use Rattle.eb_place.proofs.Grows.{later_reached}
+use Rattle.eb_place.proofs.ReachedLater.{later_reached}
 
 -- the moment at which the last accepted document was whole
 abbrev pub whole_moment : Moment → Moment

@@ -11,8 +11,8 @@ use Rattle.eb_place.specs.Layout.{place}
 use Rattle.eb_place.specs.Layout.Slot.{slot}
 use Rattle.eb_place.specs.Layout.Region.{id_region}
 use Rattle.eb_place.specs.Moments.{IsMoment, word}
-use Rattle.eb_place.proofs.Ids.{word_id}
-use Rattle.eb_place.proofs.Placed.{placed_all}
+use Rattle.eb_place.proofs.IdWords.{word_id}
+use Rattle.eb_place.proofs.WordsAtMoment.{placed_all}
 use Rattle.eb_place.proofs.Prefixes.{prefix_get, prefix_length}
 use Rattle.eb_cursor.specs.Accepted.{accepted_in, AreFirst}
 use Rattle.eb_cursor.specs.Lists.{Gives}

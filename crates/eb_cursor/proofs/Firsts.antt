@@ -4,7 +4,7 @@ use Rattle.eb_base.specs.Document.{Doc}
 use Rattle.eb_place.specs.declared.moment.Moment.{Moment}
 use Rattle.eb_place.specs.Room.{cut}
 use Rattle.eb_place.specs.Later.{IsNotBefore}
-use Rattle.eb_place.proofs.Grows.{segments_grow}
+use Rattle.eb_place.proofs.ReachedLater.{segments_grow}
 use Rattle.eb_cursor.specs.Accepted.{accepted_in, AreFirst}
 
 -- the segment is one of a later moment too

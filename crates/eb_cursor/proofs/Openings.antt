@@ -12,14 +12,14 @@ use Rattle.eb_place.specs.Moments.{IsMoment, with_current, word}
 use Rattle.eb_place.specs.Later.{IsNotBefore}
 use Rattle.eb_place.specs.Seen.{segment, seen, seen_count, IsEntered}
 use Rattle.eb_place.specs.Walk.{IsTerm}
-use Rattle.eb_place.proofs.Counts.{count_of-append}
-use Rattle.eb_place.proofs.Closed.{seen_is, reached_few}
-use Rattle.eb_place.proofs.Enough.{length-postings}
+use Rattle.eb_place.proofs.TermCounts.{count_of-append}
+use Rattle.eb_place.proofs.ReaderWords.{seen_is, reached_few}
+use Rattle.eb_place.proofs.EnoughPackedWords.{length-postings}
 use Rattle.eb_place.proofs.EnteredTerms.{number_found, entered_is_term}
-use Rattle.eb_place.proofs.Grows.{later_segment}
-use Rattle.eb_place.proofs.Histories.{terms_more, postings_more}
-use Rattle.eb_place.proofs.Laters.{later_on}
-use Rattle.eb_place.proofs.Placed.{placed_all}
+use Rattle.eb_place.proofs.ReachedLater.{later_segment}
+use Rattle.eb_place.proofs.WordsOfHistories.{terms_more, postings_more}
+use Rattle.eb_place.proofs.LaterMoments.{later_on}
+use Rattle.eb_place.proofs.WordsAtMoment.{placed_all}
 use Rattle.eb_terms.specs.Finding.{HasNumber}
 use Rattle.eb_place.specs.PackedLists.{newest_first}
 use Rattle.std.specs.Bool.{MatchBool}
@@ -27,7 +27,7 @@ use Rattle.eb_place.specs.PackedLists.{IsConverted}
 use Rattle.eb_place.specs.Layout.{place}
 use Rattle.eb_place.specs.Layout.Slot.{slot}
 use Rattle.eb_place.specs.Layout.Region.{converted_region}
-use Rattle.eb_place.proofs.Converted.{later_converted, word_converted, word_not_converted}
+use Rattle.eb_place.proofs.ConverterWords.{later_converted, word_converted, word_not_converted}
 use Rattle.eb_block.specs.Reading.{ListStands}
 use Rattle.eb_block.specs.declared.packed_list.PackedList.{PackedList}
 use Rattle.eb_chain.specs.Chains.{Stands}

@@ -7,9 +7,9 @@ use Rattle.std.proofs.Math.Seq.{drop-append_seam}
 use Rattle.eb_base.specs.Term.{Term}
 use Rattle.eb_base.specs.Document.{Doc, IsDocument}
 use Rattle.eb_place.specs.Postings.{places, posting_of, tokens_from, segment_from, tokens, postings}
-use Rattle.eb_place.proofs.Histories.{postings_in, postings_append}
-use Rattle.eb_place.proofs.Fresh.{Each}
-use Rattle.eb_place.proofs.Fresh.Each.{none, more}
+use Rattle.eb_place.proofs.WordsOfHistories.{postings_in, postings_append}
+use Rattle.eb_place.proofs.FreshPoolWords.{Each}
+use Rattle.eb_place.proofs.FreshPoolWords.Each.{none, more}
 use Rattle.eb_cursor.specs.Tops.{below}
 use Rattle.eb_cursor.specs.Lists.{from_below, IsFalling, IsUnder}
 use Rattle.eb_cursor.specs.Posted.{terms_at, is_term, is_posting, Narrow}

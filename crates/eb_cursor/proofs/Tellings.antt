@@ -4,10 +4,10 @@ use Rattle.eb_base.specs.Document.{Doc}
 use Rattle.eb_place.specs.declared.moment.Moment.{Moment}
 use Rattle.eb_place.specs.Moments.{IsMoment}
 use Rattle.eb_place.specs.Later.{IsNotBefore}
-use Rattle.eb_place.proofs.Laters.{later_self, later_on}
+use Rattle.eb_place.proofs.LaterMoments.{later_self, later_on}
 use Rattle.eb_chain.proofs.Walks.{stands_later}
 use Rattle.eb_block.proofs.Standing.{list_stands_later}
-use Rattle.eb_cursor.specs.Told.{Told}
+use Rattle.eb_place.specs.Told.{Told}
 use Rattle.eb_cursor.specs.Lists.{Gives, gives, list_gives}
 use Rattle.eb_cursor.proofs.Firsts.{first_on}
 use Rattle.eb_cursor.specs.declared.posting_list.PostingList.{PostingList}

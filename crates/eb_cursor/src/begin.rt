@@ -4,7 +4,7 @@ ghost use Rattle.eb_base.specs.Document.{Doc};
 ghost use Rattle.eb_base.specs.Query.{tree, word, window, size, sizes, IsFormed, AreFormed};
 ghost use Rattle.eb_place.specs.Postings.{places};
 ghost use Rattle.eb_place.specs.declared.moment.Moment.{Moment};
-ghost use Rattle.eb_cursor.specs.Told.{Told};
+ghost use Rattle.eb_place.specs.Told.{Told};
 ghost use Rattle.eb_cursor.specs.Lists.{gives};
 ghost use Rattle.eb_cursor.specs.Accepted.{AreFirst};
 ghost use Rattle.eb_cursor.specs.Opened.{CanRead};

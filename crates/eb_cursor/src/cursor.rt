@@ -1,7 +1,7 @@
 //! What a part of a query remembers.
 ghost use Rattle.std.specs.Prelude.{◌≡◌, ℕ, ◌+◌, ◌*◌, ◌<◌, ◌≤◌, ◌^◌, Bool, List};
 ghost use Rattle.eb_place.specs.declared.moment.Moment.{Moment};
-ghost use Rattle.eb_cursor.specs.Told.{Told};
+ghost use Rattle.eb_place.specs.Told.{Told};
 ghost use Rattle.eb_cursor.specs.Lists.{gives};
 ghost use Rattle.eb_cursor.specs.Ready.{IsLeaf};
 ghost use Rattle.eb_cursor.specs.Loads.{ahead};

@@ -3,7 +3,7 @@ ghost use Rattle.std.specs.Prelude.{◌≡◌, ℕ, ◌+◌, ◌-◌, ◌*◌, �
 ghost use Rattle.std.specs.Bool.{MatchBool};
 ghost use Rattle.eb_base.specs.Document.{Doc};
 ghost use Rattle.eb_place.specs.declared.moment.Moment.{Moment};
-ghost use Rattle.eb_cursor.specs.Told.{Told};
+ghost use Rattle.eb_place.specs.Told.{Told};
 ghost use Rattle.eb_cursor.specs.Costs.{Costs, Spans, leap_loads, IsPaid, IsReading, word_loads};
 ghost use Rattle.eb_cursor.specs.Lists.{list_gives, Gave, from_below};
 ghost use Rattle.eb_cursor.specs.Opened.{CanRead, Opened};

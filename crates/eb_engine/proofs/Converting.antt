@@ -8,9 +8,9 @@ use Rattle.eb_place.specs.declared.moment.Conversions.{Conversions}
 use Rattle.eb_place.specs.declared.moment.Moment.{Moment}
 use Rattle.eb_place.specs.Room.{cut}
 use Rattle.eb_place.specs.Moments.{current_of, with_current, IsMoment}
-use Rattle.eb_place.proofs.Cuts.{cut_push, with_doc_keeps}
-use Rattle.eb_place.proofs.Firsts.{first_in, word_first}
-use Rattle.eb_place.proofs.Placed.{placed_all}
+use Rattle.eb_place.proofs.CutSegments.{cut_push, with_doc_keeps}
+use Rattle.eb_place.proofs.FirstDocumentWords.{first_in, word_first}
+use Rattle.eb_place.proofs.WordsAtMoment.{placed_all}
 use Rattle.eb_convert.specs.Converting.{first_word}
 use Rattle.eb_engine.specs.Tokens.{IsClosing}
 

@@ -11,7 +11,7 @@ use Rattle.eb_place.specs.Room.{cut}
 use Rattle.eb_place.specs.Moments.{with_current, IsMoment}
 use Rattle.eb_place.specs.Later.{ReachesPacked, IsNotBefore}
 use Rattle.eb_place.proofs.Prefixes.{prefix_length, prefix_shorter, prefix_whole}
-use Rattle.eb_place.proofs.Laters.{later_on}
+use Rattle.eb_place.proofs.LaterMoments.{later_on}
 use Rattle.eb_search.specs.Searched.{Searched}
 use Rattle.eb_table.specs.Known.{Known}
 use Rattle.eb_writer.specs.Progress.{Progress, Stands}

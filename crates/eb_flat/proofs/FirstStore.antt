@@ -11,7 +11,7 @@ use Rattle.eb_place.specs.Room.{cut, has_room, fits}
 use Rattle.eb_place.specs.Placing.{doc_stores, stores_in, segment_before, pairs_of}
 use Rattle.eb_place.specs.Moments.{word, with_current, empty_moment, IsMoment}
 use Rattle.eb_place.specs.NextStores.{IsNext, after_store, documents_after}
-use Rattle.eb_place.proofs.Firsts.{word_first, first_in}
+use Rattle.eb_place.proofs.FirstDocumentWords.{word_first, first_in}
 
 before_none : (σ : Setting) (d : Doc) → segment_before σ [] d ≡ []
 unfolding cut

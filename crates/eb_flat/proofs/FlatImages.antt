@@ -6,10 +6,10 @@ use Rattle.eb_base.specs.Setting.{Setting, IsSetting, words_of}
 use Rattle.eb_place.specs.declared.moment.Moment.{Moment}
 use Rattle.eb_place.specs.Moments.{word, empty_moment}
 use Rattle.eb_place.specs.NextStores.{IsNext, after_store, IsNextPut, after_put}
-use Rattle.eb_place.proofs.Images.{length-image, get_or-image, image_nothing, image_changed}
-use Rattle.eb_place.proofs.Stored.{word_stored, next_in_table, setting_stored}
-use Rattle.eb_place.proofs.Packing.{word_packed, packed_in_table, moment_packed, setting_packed}
-use Rattle.eb_place.proofs.Onward.{moment_nothing, moment_stored}
+use Rattle.eb_place.proofs.ImagesOfMoments.{length-image, get_or-image, image_nothing, image_changed}
+use Rattle.eb_place.proofs.NextStore.{word_stored, next_in_table, setting_stored}
+use Rattle.eb_place.proofs.NextPackedStore.{word_packed, packed_in_table, moment_packed, setting_packed}
+use Rattle.eb_place.proofs.AfterStore.{moment_nothing, moment_stored}
 use Rattle.eb_flat.specs.Flat.{Flat, StandsFor, IsEmptied}
 
 pub stands_first : (f : Flat) (σ : Setting) → IsSetting σ → f ≡ record { setting = σ; words = replicate (words_of σ) 0 } → StandsFor f (empty_moment σ)

@@ -10,7 +10,7 @@ use Rattle.eb_base.specs.Setting.{Setting}
 use Rattle.eb_blend.specs.Laws.{cut_into}
 use Rattle.eb_blend.specs.Parts.{WriterTokens, Parts, history, segments_of, few_counted, AreFronts, AllClosed, AllConverted}
 use Rattle.eb_place.specs.Room.{cut}
-use Rattle.eb_place.proofs.Cuts.{closed_stays}
+use Rattle.eb_place.proofs.CutSegments.{closed_stays}
 use Rattle.eb_rounds.specs.Conversions.{converted_of}
 use Rattle.eb_table.specs.Known.{Words}
 use Rattle.eb_parts.specs.declared.store.Store.{Store}

@@ -9,7 +9,7 @@ use Rattle.std.proofs.lemmas.List.Elements.{All-nil, All-cons, All-push, All-hea
 use Rattle.eb_base.specs.Document.{Doc}
 use Rattle.eb_base.specs.Setting.{Setting}
 use Rattle.eb_place.specs.Room.{cut, has_room, fits, last_of, with_doc}
-use Rattle.eb_place.proofs.Cuts.{cut_push, with_doc_last}
+use Rattle.eb_place.proofs.CutSegments.{cut_push, with_doc_last}
 use Rattle.eb_blend.specs.Laws.{part, cut_into, HasRisingIds}
 use Rattle.eb_blend.specs.Parts.{history, with_document, IsAbove, counted, lengths_of}
 use Rattle.eb_blend.proofs.Law.{own_part, other_part}

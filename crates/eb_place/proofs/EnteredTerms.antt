@@ -18,18 +18,18 @@ use Rattle.eb_place.specs.Moments.{with_current, document_stores, IsMoment}
 use Rattle.eb_place.specs.Later.{IsNotBefore}
 use Rattle.eb_place.specs.Seen.{segment, is_in, stores_in_region, entered, IsEntered}
 use Rattle.eb_place.specs.Walk.{IsTerm}
-use Rattle.eb_place.proofs.Counts.{one_if, by_push, count_of_push, distinct_push, distinct-nil, with_term_cases, same_term, once}
-use Rattle.eb_place.proofs.Fresh.{Each, Each-append}
-use Rattle.eb_place.proofs.Fresh.Each.{none, more}
-use Rattle.eb_place.proofs.Numbers.{number_keeps, number_here, number_absent}
-use Rattle.eb_place.proofs.Histories.{terms_more}
+use Rattle.eb_place.proofs.TermCounts.{one_if, by_push, count_of_push, distinct_push, distinct-nil, with_term_cases, same_term, once}
+use Rattle.eb_place.proofs.FreshPoolWords.{Each, Each-append}
+use Rattle.eb_place.proofs.FreshPoolWords.Each.{none, more}
+use Rattle.eb_place.proofs.TermNumbersStay.{number_keeps, number_here, number_absent}
+use Rattle.eb_place.proofs.WordsOfHistories.{terms_more}
 use Rattle.eb_place.proofs.Prefixes.{prefix_trans}
-use Rattle.eb_place.proofs.Placed.{placed_all}
-use Rattle.eb_place.proofs.Grows.{later_stores, later_segment}
+use Rattle.eb_place.proofs.WordsAtMoment.{placed_all}
+use Rattle.eb_place.proofs.ReachedLater.{later_stores, later_segment}
 use Rattle.std.proofs.lemmas.Grind.{same_number_lists}
-use Rattle.eb_place.proofs.Tokens.{Each-front, Each-back}
-use Rattle.eb_place.proofs.Texts.{length-text_of}
-use Rattle.eb_place.proofs.Dictionary.{entered_done_is}
+use Rattle.eb_place.proofs.StoringTokens.{Each-front, Each-back}
+use Rattle.eb_place.proofs.DictionaryOfTerms.{length-text_of}
+use Rattle.eb_place.proofs.DictionaryAtMoment.{entered_done_is}
 
 -- ---- they stay
 

@@ -15,14 +15,14 @@ use Rattle.eb_place.specs.Conversion.{pack_stores, convert_stores, segment_store
 use Rattle.eb_place.specs.Moments.{with_current, IsMoment, IsClosed}
 use Rattle.eb_place.specs.Later.{IsNotBefore}
 use Rattle.eb_place.specs.NextStores.{IsNextPut, conversions_after, after_put}
-use Rattle.eb_place.proofs.Grows.{later_started}
-use Rattle.eb_place.proofs.Stored.{segment_stays, find, each_at}
-use Rattle.eb_place.proofs.Converted.{closed_room, closed_later}
-use Rattle.eb_place.proofs.Rows.{pack_no_converted}
-use Rattle.eb_place.proofs.Slots.{place_once}
+use Rattle.eb_place.proofs.ReachedLater.{later_started}
+use Rattle.eb_place.proofs.NextStore.{segment_stays, find, each_at}
+use Rattle.eb_place.proofs.ConverterWords.{closed_room, closed_later}
+use Rattle.eb_place.proofs.ConvertedRows.{pack_no_converted}
+use Rattle.eb_place.proofs.PlacesOfSlots.{place_once}
 use Rattle.eb_place.proofs.PackedStores.{segment_packs}
-use Rattle.eb_place.proofs.Fresh.{Each}
-use Rattle.eb_place.proofs.Fresh.Each.{none, more}
+use Rattle.eb_place.proofs.FreshPoolWords.{Each}
+use Rattle.eb_place.proofs.FreshPoolWords.Each.{none, more}
 
 -- the stores that convert a closed segment stay the same
 pub segment_stores_later : (m n : Moment) (s : ℕ) → IsNotBefore n m → IsClosed m s → segment_stores n.setting (with_current n.documents) s ≡ segment_stores m.setting (with_current m.documents) s

@@ -16,13 +16,13 @@ use Rattle.eb_place.specs.Packed.{packed, packed_list}
 use Rattle.eb_place.specs.Placing.{Store, in_row}
 use Rattle.eb_place.specs.Conversion.{pack_stores, convert_stores, segment_stores}
 use Rattle.eb_place.specs.Moments.{conversions, conversion_stores}
-use Rattle.eb_place.proofs.Counts.{total_count}
-use Rattle.eb_place.proofs.Blocks.{packed_short}
-use Rattle.eb_place.proofs.Enough.{postings_few, length-postings}
-use Rattle.eb_place.proofs.Fresh.{Each, Each-append}
-use Rattle.eb_place.proofs.Fresh.Each.{none, more}
-use Rattle.eb_place.proofs.Within.{IsWithin}
-use Rattle.eb_place.proofs.Reached.{Room, Each-take}
+use Rattle.eb_place.proofs.TermCounts.{total_count}
+use Rattle.eb_place.proofs.BlockFields.{packed_short}
+use Rattle.eb_place.proofs.EnoughPackedWords.{postings_few, length-postings}
+use Rattle.eb_place.proofs.FreshPoolWords.{Each, Each-append}
+use Rattle.eb_place.proofs.FreshPoolWords.Each.{none, more}
+use Rattle.eb_place.proofs.StoresWithinTable.{IsWithin}
+use Rattle.eb_place.proofs.WordsOfTokens.{Room, Each-take}
 
 -- the words of the converter
 unfoldable pub is_packed : Slot → Bool

@@ -17,16 +17,16 @@ use Rattle.eb_place.specs.Placing.{Store, pairs_of, placing, doc_stores}
 use Rattle.eb_place.specs.Packed.{block, width_of, differences, packed, packed_list}
 use Rattle.eb_place.specs.Conversion.{segment_stores, conversion}
 use Rattle.eb_place.specs.StoringLaws.{is_converters, LiesIn}
-use Rattle.eb_place.proofs.Counts.{total_count}
-use Rattle.eb_place.proofs.Enough.{postings_few, length-postings}
-use Rattle.eb_place.proofs.Blocks.{block_short, packed_short}
-use Rattle.eb_place.proofs.Slots.{InTable}
-use Rattle.eb_place.proofs.Fresh.{Each, All-from_Each}
-use Rattle.eb_place.proofs.Fresh.Each.{none, more}
-use Rattle.eb_place.proofs.Reached.{Each-map}
-use Rattle.eb_place.proofs.Placed.{placed_all, joins, lawful_front, lawful_last}
+use Rattle.eb_place.proofs.TermCounts.{total_count}
+use Rattle.eb_place.proofs.EnoughPackedWords.{postings_few, length-postings}
+use Rattle.eb_place.proofs.BlockFields.{block_short, packed_short}
+use Rattle.eb_place.proofs.PlacesOfSlots.{InTable}
+use Rattle.eb_place.proofs.FreshPoolWords.{Each, All-from_Each}
+use Rattle.eb_place.proofs.FreshPoolWords.Each.{none, more}
+use Rattle.eb_place.proofs.WordsOfTokens.{Each-map}
+use Rattle.eb_place.proofs.WordsAtMoment.{placed_all, joins, lawful_front, lawful_last}
 use Rattle.eb_place.proofs.PackedStores.{is_packed, segment_packs}
-use Rattle.eb_place.proofs.Stored.{IsWriters, doc_writers}
+use Rattle.eb_place.proofs.NextStore.{IsWriters, doc_writers}
 
 -- ---- where they go
 

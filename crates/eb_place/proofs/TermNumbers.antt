@@ -6,7 +6,7 @@ use Rattle.eb_place.specs.declared.moment.Moment.{Moment}
 use Rattle.eb_place.specs.Postings.{terms_of, distinct, count_of}
 use Rattle.eb_place.specs.Seen.{segment}
 use Rattle.eb_place.specs.Walk.{IsTerm}
-use Rattle.eb_place.proofs.Numbers.{number_low, number_once, number_absent}
+use Rattle.eb_place.proofs.TermNumbersStay.{number_low, number_once, number_absent}
 use Rattle.eb_place.proofs.EnteredTerms.{number_at}
 
 -- a term stands among others as often at most as they are many

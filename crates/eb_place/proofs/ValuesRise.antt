@@ -16,14 +16,14 @@ use Rattle.eb_place.specs.Layout.Region.{tail_region}
 use Rattle.eb_place.specs.Postings.{count_of, distinct, number_of}
 use Rattle.eb_place.specs.Address.{pool_at, offset_at, slice_start, begins, begins_in, slices_begun, front_of, address_of}
 use Rattle.eb_place.specs.Placing.{Store, pairs_of}
-use Rattle.eb_place.proofs.Counts.{one_if, same_term, same_from_test, count_of_push}
-use Rattle.eb_place.proofs.Addresses.{SlicesFit, front_split, front_count, slice_same, start_le, start_begins, slice_in, offset_in, address_stays}
-use Rattle.eb_place.proofs.Writer.{address_new, address_next}
-use Rattle.eb_place.proofs.Slots.{InTable, place_once}
-use Rattle.eb_place.proofs.Fresh.{Each, address_here}
-use Rattle.eb_place.proofs.Fresh.Each.{none, more}
-use Rattle.eb_place.proofs.Within.{IsWithin}
-use Rattle.eb_place.proofs.Numbers.{number_here, number_keeps, number_low, number_once, number_absent, distinct_grows}
+use Rattle.eb_place.proofs.TermCounts.{one_if, same_term, same_from_test, count_of_push}
+use Rattle.eb_place.proofs.AddressesDiffer.{SlicesFit, front_split, front_count, slice_same, start_le, start_begins, slice_in, offset_in, address_stays}
+use Rattle.eb_place.proofs.NextAddresses.{address_new, address_next}
+use Rattle.eb_place.proofs.PlacesOfSlots.{InTable, place_once}
+use Rattle.eb_place.proofs.FreshPoolWords.{Each, address_here}
+use Rattle.eb_place.proofs.FreshPoolWords.Each.{none, more}
+use Rattle.eb_place.proofs.StoresWithinTable.{IsWithin}
+use Rattle.eb_place.proofs.TermNumbersStay.{number_here, number_keeps, number_low, number_once, number_absent, distinct_grows}
 use Rattle.eb_place.specs.StoredOnce.{values_at}
 
 -- ---- rising lists

@@ -7,6 +7,7 @@ pub mod Packed
 pub mod Conversion
 pub mod Moments
 pub mod Later
+pub mod Told
 pub mod NextStores
 pub mod Seen
 pub mod Tells

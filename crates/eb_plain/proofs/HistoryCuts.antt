@@ -6,7 +6,7 @@ use Rattle.std.proofs.lemmas.List.{map-append, drop-take, length-map}
 use Rattle.eb_base.specs.Document.{Doc}
 use Rattle.eb_base.specs.Setting.{Setting}
 use Rattle.eb_place.specs.Room.{fits, with_doc, cut, last_of, has_room}
-use Rattle.eb_place.proofs.Cuts.{cut_push}
+use Rattle.eb_place.proofs.CutSegments.{cut_push}
 use Rattle.eb_plain.specs.Cutting.{IsCutAt}
 
 with_doc-fits : (σ : Setting) (segs : List (List Doc)) (s : List Doc) (d : Doc) → fits σ s d ≡ true → with_doc σ (segs ++ s ∷ []) d ≡ segs ++ (s ++ d ∷ []) ∷ []

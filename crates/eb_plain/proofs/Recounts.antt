@@ -13,8 +13,8 @@ use Rattle.eb_base.specs.Document.{Doc, most_tokens, most_bytes}
 use Rattle.eb_base.specs.Setting.{Setting}
 use Rattle.eb_place.specs.Postings.{count_of, distinct, terms_of, with_term}
 use Rattle.eb_place.specs.Room.{text_words, slices, all_slices, holds, fits}
-use Rattle.eb_place.proofs.Counts.{distinct_push, count_of-cons, count_of-nil}
-use Rattle.eb_place.proofs.Fits.{text_cost, all_slices_cost}
+use Rattle.eb_place.proofs.TermCounts.{distinct_push, count_of-cons, count_of-nil}
+use Rattle.eb_place.proofs.FitsEmptySegment.{text_cost, all_slices_cost}
 use Rattle.eb_plain.specs.TermRoom.{holds_terms}
 
 abbrev pub as_number : Bool → ℕ

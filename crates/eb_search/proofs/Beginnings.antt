@@ -13,11 +13,11 @@ use Rattle.eb_place.specs.Layout.Slot.{slot}
 use Rattle.eb_place.specs.Layout.Region.{first_region}
 use Rattle.eb_place.specs.Room.{cut, with_doc, IsLawful}
 use Rattle.eb_place.specs.Moments.{IsMoment, word, with_current, current_of}
-use Rattle.eb_place.proofs.Cuts.{cut_push, with_doc_keeps, with_doc_last}
+use Rattle.eb_place.proofs.CutSegments.{cut_push, with_doc_keeps, with_doc_last}
 use Rattle.eb_place.specs.Later.{IsNotBefore}
-use Rattle.eb_place.proofs.Placed.{placed_all, lawful_front}
+use Rattle.eb_place.proofs.WordsAtMoment.{placed_all, lawful_front}
 use Rattle.eb_place.proofs.Prefixes.{prefix_trans}
-use Rattle.eb_place.proofs.Firsts.{first_in, first_push, first_new, cut_sum, word_first}
+use Rattle.eb_place.proofs.FirstDocumentWords.{first_in, first_push, first_new, cut_sum, word_first}
 use Rattle.eb_cursor.proofs.Accepted.{whole_lawful}
 use Rattle.eb_search.specs.Visible.{documents_before, AreVisible}
 use Rattle.eb_search.proofs.Parts.{is_part}

@@ -7,9 +7,9 @@ use Rattle.std.proofs.Math.Seq.{drop-append_seam, drop-append-add}
 use Rattle.eb_base.specs.Document.{Doc}
 use Rattle.eb_base.specs.Setting.{Setting}
 use Rattle.eb_place.specs.Room.{cut, with_doc, fits}
-use Rattle.eb_place.proofs.Counts.{by_push}
-use Rattle.eb_place.proofs.Cuts.{cut_push}
-use Rattle.eb_place.proofs.Firsts.{cut_sum, cut_nonempty}
+use Rattle.eb_place.proofs.TermCounts.{by_push}
+use Rattle.eb_place.proofs.CutSegments.{cut_push}
+use Rattle.eb_place.proofs.FirstDocumentWords.{cut_sum, cut_nonempty}
 use Rattle.eb_search.specs.Visible.{documents_before}
 
 -- the documents of all segments

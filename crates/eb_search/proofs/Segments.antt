@@ -10,8 +10,8 @@ use Rattle.eb_place.specs.Layout.Region.{id_region}
 use Rattle.eb_place.specs.Room.{cut}
 use Rattle.eb_place.specs.Moments.{IsMoment, word}
 use Rattle.eb_place.specs.Later.{IsNotBefore}
-use Rattle.eb_place.proofs.Grows.{segments_grow}
-use Rattle.eb_place.proofs.Placed.{placed_all}
+use Rattle.eb_place.proofs.ReachedLater.{segments_grow}
+use Rattle.eb_place.proofs.WordsAtMoment.{placed_all}
 use Rattle.eb_place.proofs.Prefixes.{prefix_trans, prefix_length}
 use Rattle.eb_cursor.specs.Accepted.{accepted_in}
 use Rattle.eb_cursor.specs.Frames.{MayAsk}
@@ -19,7 +19,7 @@ use Rattle.eb_cursor.specs.declared.frame.Frame.{Frame}
 use Rattle.eb_cursor.proofs.Accepted.{whole_lawful}
 use Rattle.eb_cursor.proofs.Bounds.{IsLow, first_is_low, loaded_first}
 use Rattle.eb_cursor.proofs.Openings.{are_first}
-use Rattle.eb_place.proofs.Laters.{later_self}
+use Rattle.eb_place.proofs.LaterMoments.{later_self}
 use Rattle.eb_search.specs.Visible.{AreFirsts, AreVisible, documents_before}
 use Rattle.eb_search.proofs.Parts.{is_part, drop_segment}
 use Rattle.eb_search.proofs.Beginnings.{cut_short}

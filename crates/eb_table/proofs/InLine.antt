@@ -17,8 +17,8 @@ use Rattle.eb_place.specs.declared.moment.Moment.{Moment}
 use Rattle.eb_place.specs.Moments.{with_current, IsMoment}
 use Rattle.eb_place.specs.Later.{Further, Goes, Reaches, ReachesPacked, IsNotBefore}
 use Rattle.eb_place.specs.Meets.{later_documents}
-use Rattle.eb_place.proofs.Meets.{documents_meet}
-use Rattle.eb_place.proofs.Placed.{placed_all}
+use Rattle.eb_place.proofs.MeetOfParts.{documents_meet}
+use Rattle.eb_place.proofs.WordsAtMoment.{placed_all}
 use Rattle.eb_table.specs.InLine.{same_doc, begins, further, goes, reaches, in_line, reaches_packed, unreal}
 
 same_doc_decides : (d e : Doc) → Decides (same_doc d e) (d ≡ e)

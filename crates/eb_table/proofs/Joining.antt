@@ -9,8 +9,8 @@ use Rattle.eb_base.specs.Setting.{Setting}
 use Rattle.eb_place.specs.declared.moment.Moment.{Moment}
 use Rattle.eb_place.specs.Later.{Reaches, ReachesPacked, IsNotBefore}
 use Rattle.eb_place.specs.Meets.{later_documents, later_conversions, later_of}
-use Rattle.eb_place.proofs.Meets.{documents_meet}
-use Rattle.eb_place.proofs.MomentsMeet.{conversions_meet}
+use Rattle.eb_place.proofs.MeetOfParts.{documents_meet}
+use Rattle.eb_place.proofs.MeetOfMoments.{conversions_meet}
 use Rattle.eb_table.specs.declared.view.View.{View}
 use Rattle.eb_table.specs.declared.view.View.TheVariants.{Opening, Writer, Converter, Reader, Spent}
 use Rattle.eb_table.specs.Rule.{moment_of, IsLive, Fits, Running, KeepsWords}

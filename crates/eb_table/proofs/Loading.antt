@@ -7,8 +7,8 @@ use Rattle.atomic_table.specs.Table.{Me, step, keeps, Allows}
 use Rattle.eb_base.specs.Setting.{Setting, words_of}
 use Rattle.eb_place.specs.declared.moment.Moment.{Moment}
 use Rattle.eb_place.specs.Later.{IsNotBefore}
-use Rattle.eb_place.proofs.Laters.{later_self}
-use Rattle.eb_place.proofs.Images.{get_or-image}
+use Rattle.eb_place.proofs.LaterMoments.{later_self}
+use Rattle.eb_place.proofs.ImagesOfMoments.{get_or-image}
 use Rattle.eb_table.specs.declared.view.View.{View}
 use Rattle.eb_table.specs.declared.view.View.TheVariants.{Opening, Writer, Converter, Reader, Spent}
 use Rattle.eb_table.specs.Rule.{moment_of, IsLive, Fits, Running, KeepsWords}

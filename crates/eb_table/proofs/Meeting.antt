@@ -10,8 +10,8 @@ use Rattle.eb_place.specs.declared.moment.Moment.{Moment}
 use Rattle.eb_place.specs.Moments.{IsMoment}
 use Rattle.eb_place.specs.Later.{ReachesPacked, IsNotBefore}
 use Rattle.eb_place.specs.Meets.{later_documents, later_conversions, later_of}
-use Rattle.eb_place.proofs.Laters.{later_on, reaches_self, packed_self}
-use Rattle.eb_place.proofs.MomentsMeet.{conversions_meet}
+use Rattle.eb_place.proofs.LaterMoments.{later_on, reaches_self, packed_self}
+use Rattle.eb_place.proofs.MeetOfMoments.{conversions_meet}
 use Rattle.eb_table.specs.declared.view.View.{View}
 use Rattle.eb_table.specs.declared.view.View.TheVariants.{Writer, Converter, Reader}
 use Rattle.eb_table.specs.Rule.{moment_of}

@@ -4,8 +4,8 @@ use Rattle.std.proofs.Common.{refl, ◌∙◌}
 use Rattle.atomic_table.specs.Table.{opening}
 use Rattle.eb_base.specs.Setting.{Setting, IsSetting, words_of}
 use Rattle.eb_place.specs.Moments.{empty_moment}
-use Rattle.eb_place.proofs.Onward.{moment_nothing}
-use Rattle.eb_place.proofs.Images.{image_nothing}
+use Rattle.eb_place.proofs.AfterStore.{moment_nothing}
+use Rattle.eb_place.proofs.ImagesOfMoments.{image_nothing}
 use Rattle.eb_table.specs.declared.view.View.TheVariants.{Opening}
 use Rattle.eb_table.specs.Rule.{KeepsWords}
 

@@ -16,12 +16,12 @@ use Rattle.eb_place.specs.Conversion.{segment_stores}
 use Rattle.eb_place.specs.Moments.{with_current, IsClosed}
 use Rattle.eb_place.specs.Later.{Reaches, ReachesPacked, IsNotBefore}
 use Rattle.eb_place.specs.NextStores.{IsNextPut, conversions_after, after_put}
-use Rattle.eb_place.proofs.Laters.{later_on, packed_self}
-use Rattle.eb_place.proofs.Stored.{segment_stays}
-use Rattle.eb_place.proofs.Packing.{word_packed, packed_in_table, moment_packed, setting_packed, later_packed}
-use Rattle.eb_place.proofs.Cuts.{closed_stays}
-use Rattle.eb_place.proofs.Grows.{later_started}
-use Rattle.eb_place.proofs.Images.{image_changed}
+use Rattle.eb_place.proofs.LaterMoments.{later_on, packed_self}
+use Rattle.eb_place.proofs.NextStore.{segment_stays}
+use Rattle.eb_place.proofs.NextPackedStore.{word_packed, packed_in_table, moment_packed, setting_packed, later_packed}
+use Rattle.eb_place.proofs.CutSegments.{closed_stays}
+use Rattle.eb_place.proofs.ReachedLater.{later_started}
+use Rattle.eb_place.proofs.ImagesOfMoments.{image_changed}
 use Rattle.eb_table.specs.declared.view.View.{View}
 use Rattle.eb_table.specs.declared.view.View.TheVariants.{Opening, Writer, Converter, Reader, Spent}
 use Rattle.eb_table.specs.Rule.{moment_of, Fits, Running, KeepsWords}

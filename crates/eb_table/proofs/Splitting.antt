@@ -9,7 +9,7 @@ use Rattle.eb_base.specs.Setting.{Setting}
 use Rattle.eb_place.specs.declared.moment.Moment.{Moment}
 use Rattle.eb_place.specs.Moments.{empty_moment}
 use Rattle.eb_place.specs.Later.{IsNotBefore}
-use Rattle.eb_place.proofs.Laters.{later_self}
+use Rattle.eb_place.proofs.LaterMoments.{later_self}
 use Rattle.eb_table.specs.declared.view.View.{View}
 use Rattle.eb_table.specs.declared.view.View.TheVariants.{Opening, Writer, Converter, Reader, Spent}
 use Rattle.eb_table.specs.Rule.{moment_of, IsLive, IsUnspent, Fits, Running, KeepsWords}

@@ -5,9 +5,9 @@ use Rattle.eb_base.specs.Document.{Doc}
 use Rattle.eb_place.specs.declared.moment.Moment.{Moment}
 use Rattle.eb_place.specs.Moments.{IsMoment}
 use Rattle.eb_place.specs.NextStores.{IsNext, after_store, IsNextPut, after_put}
-use Rattle.eb_place.proofs.Onward.{moment_stored}
-use Rattle.eb_place.proofs.Stored.{setting_stored}
-use Rattle.eb_place.proofs.Packing.{moment_packed, setting_packed}
+use Rattle.eb_place.proofs.AfterStore.{moment_stored}
+use Rattle.eb_place.proofs.NextStore.{setting_stored}
+use Rattle.eb_place.proofs.NextPackedStore.{moment_packed, setting_packed}
 use Rattle.eb_table.specs.Known.{Known, Words, StandsFor}
 
 pub stands_stored : (k l : Known) (w : Words) (m : Moment) (d : Doc) (p v : ℕ) → l ≡ record { table = k.table; moment = after_store k.moment d } → StandsFor k w m

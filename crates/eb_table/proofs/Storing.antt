@@ -11,10 +11,10 @@ use Rattle.eb_place.specs.declared.moment.Conversions.{Conversions}
 use Rattle.eb_place.specs.declared.moment.Moment.{Moment}
 use Rattle.eb_place.specs.Later.{Reaches, ReachesPacked, IsNotBefore}
 use Rattle.eb_place.specs.NextStores.{IsNext, after_store}
-use Rattle.eb_place.proofs.Laters.{later_on, reaches_self}
-use Rattle.eb_place.proofs.Onward.{moment_stored, later_stored}
-use Rattle.eb_place.proofs.Stored.{word_stored, next_in_table, setting_stored}
-use Rattle.eb_place.proofs.Images.{image_changed}
+use Rattle.eb_place.proofs.LaterMoments.{later_on, reaches_self}
+use Rattle.eb_place.proofs.AfterStore.{moment_stored, later_stored}
+use Rattle.eb_place.proofs.NextStore.{word_stored, next_in_table, setting_stored}
+use Rattle.eb_place.proofs.ImagesOfMoments.{image_changed}
 use Rattle.eb_table.specs.declared.view.View.{View}
 use Rattle.eb_table.specs.declared.view.View.TheVariants.{Opening, Writer, Converter, Reader, Spent}
 use Rattle.eb_table.specs.Rule.{moment_of, Fits, Running, KeepsWords}

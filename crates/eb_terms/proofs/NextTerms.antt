@@ -23,18 +23,18 @@ use Rattle.eb_place.specs.Later.{IsNotBefore}
 use Rattle.eb_place.specs.NextStores.{stores_done, IsNext, after_store}
 use Rattle.eb_place.specs.Seen.{is_in, stores_in_region, entered, tokens_seen}
 use Rattle.eb_place.specs.Tells.{TellsSegment}
-use Rattle.eb_place.proofs.Fresh.{Each, Each-append}
-use Rattle.eb_place.proofs.Fresh.Each.{none, more}
-use Rattle.eb_place.proofs.Within.{IsWithin}
-use Rattle.eb_place.proofs.Reached.{val, Each-map}
-use Rattle.eb_place.proofs.Tokens.{Each-front, Each-back}
-use Rattle.eb_place.proofs.PlacedDocuments.{doc_within}
-use Rattle.eb_place.proofs.Placed.{placed_all, joins, lawful_front, setting_terms}
-use Rattle.eb_place.proofs.Laters.{later_on}
-use Rattle.eb_place.proofs.Regions.{filter_none, filter_whole}
-use Rattle.eb_place.proofs.Entries.{is_entry, enter_entries, in_region}
-use Rattle.eb_place.proofs.Texts.{HasTerms, Texts, length-text_of, texts_done, text_stores, enter_split, text_stores_behind}
-use Rattle.eb_place.proofs.Dictionary.{entered_done_is, entered_whole}
+use Rattle.eb_place.proofs.FreshPoolWords.{Each, Each-append}
+use Rattle.eb_place.proofs.FreshPoolWords.Each.{none, more}
+use Rattle.eb_place.proofs.StoresWithinTable.{IsWithin}
+use Rattle.eb_place.proofs.WordsOfTokens.{val, Each-map}
+use Rattle.eb_place.proofs.StoringTokens.{Each-front, Each-back}
+use Rattle.eb_place.proofs.StoresOfDocuments.{doc_within}
+use Rattle.eb_place.proofs.WordsAtMoment.{placed_all, joins, lawful_front, setting_terms}
+use Rattle.eb_place.proofs.LaterMoments.{later_on}
+use Rattle.eb_place.proofs.RegionStores.{filter_none, filter_whole}
+use Rattle.eb_place.proofs.EntryStores.{is_entry, enter_entries, in_region}
+use Rattle.eb_place.proofs.DictionaryOfTerms.{HasTerms, Texts, length-text_of, texts_done, text_stores, enter_split, text_stores_behind}
+use Rattle.eb_place.proofs.DictionaryAtMoment.{entered_done_is, entered_whole}
 use Rattle.eb_place.proofs.EnteredTerms.{entered_later, entered_bytes, text_same}
 use Rattle.eb_terms.specs.Finding.{cells_in}
 use Rattle.eb_terms.specs.Entering.{AreNext, IsNextTerm, IsNextText, with_placed, with_stores, HasEntered}

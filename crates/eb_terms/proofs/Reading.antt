@@ -13,12 +13,12 @@ use Rattle.eb_place.specs.Placing.{cells_of, text_of}
 use Rattle.eb_place.specs.Moments.{word, IsMoment}
 use Rattle.eb_place.specs.Later.{IsNotBefore}
 use Rattle.eb_place.specs.Seen.{entered}
-use Rattle.eb_place.proofs.Slots.{place_in}
-use Rattle.eb_place.proofs.Cells.{is_taken}
-use Rattle.eb_place.proofs.CellsOf.{taken_where, length-cells_of}
-use Rattle.eb_place.proofs.Placed.{setting_terms}
-use Rattle.eb_place.proofs.Texts.{text_ends, length-text_of}
-use Rattle.eb_place.proofs.Dictionary.{dictionary, entered_room, cell_in_table, text_place_in_table, text_in_table}
+use Rattle.eb_place.proofs.PlacesOfSlots.{place_in}
+use Rattle.eb_place.proofs.FreeCells.{is_taken}
+use Rattle.eb_place.proofs.CellsOfTerms.{taken_where, length-cells_of}
+use Rattle.eb_place.proofs.WordsAtMoment.{setting_terms}
+use Rattle.eb_place.proofs.DictionaryOfTerms.{text_ends, length-text_of}
+use Rattle.eb_place.proofs.DictionaryAtMoment.{dictionary, entered_room, cell_in_table, text_place_in_table, text_in_table}
 use Rattle.eb_place.proofs.EnteredTerms.{term_later, front_later, text_same}
 use Rattle.eb_terms.specs.Finding.{cells_in}
 use Rattle.eb_terms.specs.Comparing.{term_at, cell_of, IsNumber, Holds, IsText, words_compared}

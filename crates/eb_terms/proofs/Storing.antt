@@ -14,11 +14,11 @@ use Rattle.eb_place.specs.Placing.{Store, pairs_of, doc_stores, segment_before}
 use Rattle.eb_place.specs.Moments.{document_stores, IsMoment}
 use Rattle.eb_place.specs.Later.{IsNotBefore}
 use Rattle.eb_place.specs.NextStores.{stores_done, IsCurrent, IsNext, after_store, documents_after}
-use Rattle.eb_place.proofs.Fresh.{Each}
-use Rattle.eb_place.proofs.Counted.{body, body_split}
-use Rattle.eb_place.proofs.Laters.{later_self, later_on}
-use Rattle.eb_place.proofs.Stored.{next_store, stored_stores, take_next, each_at}
-use Rattle.eb_place.proofs.Onward.{moment_stored, later_stored}
+use Rattle.eb_place.proofs.FreshPoolWords.{Each}
+use Rattle.eb_place.proofs.CountWords.{body, body_split}
+use Rattle.eb_place.proofs.LaterMoments.{later_self, later_on}
+use Rattle.eb_place.proofs.NextStore.{next_store, stored_stores, take_next, each_at}
+use Rattle.eb_place.proofs.AfterStore.{moment_stored, later_stored}
 use Rattle.eb_terms.specs.Entering.{AreNext, with_placed}
 
 -- ---- elements of lists

@@ -18,15 +18,15 @@ use Rattle.eb_place.specs.Placing.{Store, in_row, text_of, enter_stores, cell_of
 use Rattle.eb_place.specs.Moments.{document_stores}
 use Rattle.eb_place.specs.Later.{IsNotBefore}
 use Rattle.eb_place.specs.Seen.{segment, is_in, stores_in_region, tokens_seen}
-use Rattle.eb_place.proofs.Fresh.{Each, Each-append, Each-if}
-use Rattle.eb_place.proofs.Fresh.Each.{none, more}
-use Rattle.eb_place.proofs.Reached.{front_stores, tail_store, token_split}
-use Rattle.eb_place.proofs.PlacedDocuments.{Elsewhere}
-use Rattle.eb_place.proofs.Histories.{terms_more}
+use Rattle.eb_place.proofs.FreshPoolWords.{Each, Each-append, Each-if}
+use Rattle.eb_place.proofs.FreshPoolWords.Each.{none, more}
+use Rattle.eb_place.proofs.WordsOfTokens.{front_stores, tail_store, token_split}
+use Rattle.eb_place.proofs.StoresOfDocuments.{Elsewhere}
+use Rattle.eb_place.proofs.WordsOfHistories.{terms_more}
 use Rattle.eb_place.proofs.Prefixes.{prefix_length}
-use Rattle.eb_place.proofs.Grows.{later_segment}
-use Rattle.eb_place.proofs.Regions.{Picks, filter_none, picks_done}
-use Rattle.eb_place.proofs.Entries.{in_region, not_in}
+use Rattle.eb_place.proofs.ReachedLater.{later_segment}
+use Rattle.eb_place.proofs.RegionStores.{Picks, filter_none, picks_done}
+use Rattle.eb_place.proofs.EntryStores.{in_region, not_in}
 
 -- the stores of the tails of further tokens, one after the other
 unfoldable pub tail_stores : ℕ → List Term → List Term → List Store

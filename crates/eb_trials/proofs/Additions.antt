@@ -10,7 +10,7 @@ use Rattle.eb_place.specs.Room.{HasRoom}
 use Rattle.eb_place.specs.Placing.{Store, pairs_of, placing, doc_stores}
 use Rattle.eb_place.specs.Moments.{placings, document_stores, empty_moment}
 use Rattle.eb_place.specs.NextStores.{stores_done, IsCurrent}
-use Rattle.eb_place.proofs.Placed.{placings_push}
+use Rattle.eb_place.proofs.WordsAtMoment.{placings_push}
 use Rattle.eb_writer.specs.Progress.{Progress, Stands}
 use Rattle.eb_writer.specs.Storing.{IsAccepted}
 use Rattle.eb_trials.specs.Added.{HasAdded, Holds}

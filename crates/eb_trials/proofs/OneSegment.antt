@@ -8,9 +8,9 @@ use Rattle.eb_base.specs.Setting.{Setting}
 use Rattle.eb_place.specs.declared.moment.Moment.{Moment}
 use Rattle.eb_place.specs.Room.{cut, fits, with_doc}
 use Rattle.eb_place.specs.Moments.{IsMoment}
-use Rattle.eb_place.proofs.Cuts.{with_doc_keeps}
+use Rattle.eb_place.proofs.CutSegments.{with_doc_keeps}
 use Rattle.eb_place.specs.Later.{IsNotBefore}
-use Rattle.eb_place.proofs.Placed.{placed_all}
+use Rattle.eb_place.proofs.WordsAtMoment.{placed_all}
 use Rattle.eb_place.proofs.Prefixes.{prefix_length}
 use Rattle.eb_cursor.specs.Accepted.{accepted_in}
 use Rattle.eb_cursor.proofs.Accepted.{whole_lawful}

@@ -12,8 +12,8 @@ use Rattle.eb_place.specs.Layout.Region.{converted_region}
 use Rattle.eb_place.specs.Placing.{Store, pairs_of}
 use Rattle.eb_place.specs.Moments.{placings_after, document_stores, empty_moment, IsMoment}
 use Rattle.eb_place.specs.NextStores.{IsNext, after_store, IsNextPut, after_put}
-use Rattle.eb_place.proofs.Stored.{next_store, stored_stores}
-use Rattle.eb_place.proofs.Converted.{closed_room}
+use Rattle.eb_place.proofs.NextStore.{next_store, stored_stores}
+use Rattle.eb_place.proofs.ConverterWords.{closed_room}
 use Rattle.eb_place.proofs.NextPuts.{put_ends}
 
 -- before the first document nothing is stored

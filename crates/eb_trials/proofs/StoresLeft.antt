@@ -6,7 +6,7 @@ use Rattle.eb_base.specs.Document.{Doc}
 use Rattle.eb_place.specs.declared.moment.Moment.{Moment}
 use Rattle.eb_place.specs.Placing.{placing, pairs_of, doc_stores}
 use Rattle.eb_place.specs.NextStores.{stores_done, IsNext, after_store, documents_after}
-use Rattle.eb_place.proofs.Laters.{later_self, later_on}
+use Rattle.eb_place.proofs.LaterMoments.{later_self, later_on}
 use Rattle.eb_trials.specs.Grown.{AreLeft, Grows, HasGrown}
 use Rattle.eb_trials.specs.declared.growing.GrowingPort.{GrowingPort}
 

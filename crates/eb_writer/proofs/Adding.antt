@@ -17,13 +17,13 @@ use Rattle.eb_place.specs.Moments.{empty_moment, IsMoment}
 use Rattle.eb_place.specs.Seen.{entered, tokens_seen, stores_in_region}
 use Rattle.eb_place.specs.Later.{IsNotBefore}
 use Rattle.eb_place.specs.Tells.{TellsSegment}
-use Rattle.eb_place.proofs.Counts.{begun_is}
-use Rattle.eb_place.proofs.Cuts.{cut_push, with_doc_last}
-use Rattle.eb_place.proofs.Histories.{goes, terms_push}
-use Rattle.eb_place.proofs.Firsts.{cut_nonempty}
-use Rattle.eb_place.proofs.Placed.{placed_all}
-use Rattle.eb_place.proofs.Laters.{later_on}
-use Rattle.eb_place.proofs.Telling.{tells_nothing}
+use Rattle.eb_place.proofs.TermCounts.{begun_is}
+use Rattle.eb_place.proofs.CutSegments.{cut_push, with_doc_last}
+use Rattle.eb_place.proofs.WordsOfHistories.{goes, terms_push}
+use Rattle.eb_place.proofs.FirstDocumentWords.{cut_nonempty}
+use Rattle.eb_place.proofs.WordsAtMoment.{placed_all}
+use Rattle.eb_place.proofs.LaterMoments.{later_on}
+use Rattle.eb_place.proofs.UsedAtFirst.{tells_nothing}
 use Rattle.eb_writer.specs.declared.plan.Found.{Found}
 use Rattle.eb_writer.specs.declared.plan.Plan.{Plan}
 use Rattle.eb_writer.specs.Counting.{IsIdle, tokens_in, IsUsedBy, IsReady, AreFound, IsPlan}

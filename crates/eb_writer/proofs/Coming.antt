@@ -13,9 +13,9 @@ use Rattle.eb_place.specs.Moments.{IsMoment}
 use Rattle.eb_place.specs.NextStores.{stores_done}
 use Rattle.eb_place.specs.Seen.{segment, stores_in_region, entered, tokens_seen}
 use Rattle.eb_place.specs.Walk.{IsTerm}
-use Rattle.eb_place.proofs.Writer.{next_rest}
-use Rattle.eb_place.proofs.Numbers.{number_low, number_once}
-use Rattle.eb_place.proofs.Placed.{placed_all, Joins, joins}
+use Rattle.eb_place.proofs.NextAddresses.{next_rest}
+use Rattle.eb_place.proofs.TermNumbersStay.{number_low, number_once}
+use Rattle.eb_place.proofs.WordsAtMoment.{placed_all, Joins, joins}
 use Rattle.eb_place.proofs.EnteredTerms.{number_at, number_found, entered_is_term}
 use Rattle.eb_terms.specs.Finding.{HasNumber}
 use Rattle.eb_terms.specs.Entering.{IsNextTerm, HasEntered}

@@ -19,12 +19,12 @@ use Rattle.eb_place.specs.Moments.{placings, document_stores, IsMoment}
 use Rattle.eb_place.specs.NextStores.{stores_done, IsNext, after_store, documents_after}
 use Rattle.eb_place.specs.Seen.{stores_in_region, entered, tokens_seen}
 use Rattle.eb_place.specs.Tells.{TellsSegment}
-use Rattle.eb_place.proofs.Writer.{next_rest}
-use Rattle.eb_place.proofs.Firsts.{cut_sum}
-use Rattle.eb_place.proofs.PlacedDocuments.{first_stores, stores_split}
-use Rattle.eb_place.proofs.Placed.{placed_all}
-use Rattle.eb_place.proofs.Onward.{later_stored}
-use Rattle.eb_place.proofs.Stored.{setting_stored}
+use Rattle.eb_place.proofs.NextAddresses.{next_rest}
+use Rattle.eb_place.proofs.FirstDocumentWords.{cut_sum}
+use Rattle.eb_place.proofs.StoresOfDocuments.{first_stores, stores_split}
+use Rattle.eb_place.proofs.WordsAtMoment.{placed_all}
+use Rattle.eb_place.proofs.AfterStore.{later_stored}
+use Rattle.eb_place.proofs.NextStore.{setting_stored}
 use Rattle.eb_chain.specs.Appends.{stores_from, with_stores}
 use Rattle.eb_chain.specs.NextPlaces.{AreNext}
 use Rattle.eb_chain.proofs.Storing.{one_stored, next_at}
@@ -234,7 +234,7 @@ last m d s value h v =
     record {
       next = next;
       accepted = record {
-        later = Rattle.eb_place.proofs.Laters.later_on m n (after_store n d) one.later (later_stored n d next.current);
+        later = Rattle.eb_place.proofs.LaterMoments.later_on m n (after_store n d) one.later (later_stored n d next.current);
         documents = (λ j. documents_after (ltb (suc (stores_done ((e j).current))) (length (doc_stores σ ((e j).accepted) d))) ((e j).accepted) d (suc (stores_done ((e j).current))))
             ∙ ap (λ b. documents_after b docs d (suc (i + 1))) end;
       };

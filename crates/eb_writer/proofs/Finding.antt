@@ -7,9 +7,9 @@ use Rattle.eb_base.specs.Term.{Term}
 use Rattle.eb_place.specs.declared.moment.Moment.{Moment}
 use Rattle.eb_place.specs.Postings.{distinct, count_of, number_of}
 use Rattle.eb_place.specs.Later.{IsNotBefore}
-use Rattle.eb_place.proofs.Counts.{one_if, same_term, count_of-nil, count_of-append, count_of_push}
-use Rattle.eb_place.proofs.Numbers.{number_here, number_stays, number_absent}
-use Rattle.eb_place.proofs.Grows.{later_term}
+use Rattle.eb_place.proofs.TermCounts.{one_if, same_term, count_of-nil, count_of-append, count_of_push}
+use Rattle.eb_place.proofs.TermNumbersStay.{number_here, number_stays, number_absent}
+use Rattle.eb_place.proofs.ReachedLater.{later_term}
 use Rattle.eb_chain.specs.Needs.{IsTailWord}
 use Rattle.eb_writer.specs.declared.plan.Found.{Found}
 use Rattle.eb_writer.specs.Recall.{term_at, StoodAt}

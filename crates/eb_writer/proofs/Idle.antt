@@ -18,17 +18,17 @@ use Rattle.eb_place.specs.Later.{IsNotBefore}
 use Rattle.eb_place.specs.Seen.{segment, stores_in_region, entered, tokens_seen, IsEntered}
 use Rattle.eb_place.specs.Tells.{TellsSegment}
 use Rattle.eb_place.specs.Walk.{IsTerm}
-use Rattle.eb_place.proofs.Addresses.{SlicesFit, slice_in}
-use Rattle.eb_place.proofs.Within.{slices_fit}
-use Rattle.eb_place.proofs.Numbers.{number_low, number_once}
+use Rattle.eb_place.proofs.AddressesDiffer.{SlicesFit, slice_in}
+use Rattle.eb_place.proofs.StoresWithinTable.{slices_fit}
+use Rattle.eb_place.proofs.TermNumbersStay.{number_low, number_once}
 use Rattle.eb_place.proofs.PackedStores.{is_packed}
-use Rattle.eb_place.proofs.Reached.{val, Room}
-use Rattle.eb_place.proofs.Placed.{placed_all, lawful_front}
-use Rattle.eb_place.proofs.Closed.{Parts, word_of_writer, tail_in_table}
+use Rattle.eb_place.proofs.WordsOfTokens.{val, Room}
+use Rattle.eb_place.proofs.WordsAtMoment.{placed_all, lawful_front}
+use Rattle.eb_place.proofs.ReaderWords.{Parts, word_of_writer, tail_in_table}
 use Rattle.eb_place.proofs.EnteredTerms.{number_at, number_found, entered_at, entered_is_term}
 use Rattle.eb_terms.specs.Finding.{HasNumber}
 use Rattle.eb_chain.specs.Needs.{IsTailWord}
-use Rattle.eb_place.proofs.WayBack.{told}
+use Rattle.eb_place.proofs.WayBackFromPosting.{told}
 use Rattle.eb_chain.proofs.RegionCounts.{count_in, counts_placed}
 use Rattle.eb_writer.specs.Counting.{IsIdle, tokens_in, IsUsedBy, IsReady, IsSmall}
 

@@ -6,7 +6,7 @@ use Rattle.std.proofs.lemmas.Slice.Eq.{bytes_eq-Decides}
 use Rattle.eb_base.specs.Term.{Term}
 use Rattle.eb_base.specs.Document.{most_tokens}
 use Rattle.eb_place.specs.Postings.{count_of}
-use Rattle.eb_place.proofs.Counts.{one_if, count_of-nil, count_of-cons}
+use Rattle.eb_place.proofs.TermCounts.{one_if, count_of-nil, count_of-cons}
 use Rattle.eb_writer.specs.declared.recall.Recall.{Recall}
 use Rattle.eb_writer.specs.declared.recall.TheConstants.{BUCKETS}
 use Rattle.eb_writer.specs.Recall.{bucket, term_at, LeadsBack, Remembers, StoodAt}

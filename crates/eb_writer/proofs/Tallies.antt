@@ -10,8 +10,8 @@ use Rattle.eb_place.specs.declared.used.Used.{Used}
 use Rattle.eb_place.specs.Postings.{distinct, count_of, number_of}
 use Rattle.eb_place.specs.Room.{text_words, slices}
 use Rattle.eb_place.specs.Address.{begins_in, slices_begun}
-use Rattle.eb_place.proofs.Counts.{one_if, begun_push, slices_more, with_term_cases, once, distinct_push}
-use Rattle.eb_place.proofs.Numbers.{number_absent, number_low}
+use Rattle.eb_place.proofs.TermCounts.{one_if, begun_push, slices_more, with_term_cases, once, distinct_push}
+use Rattle.eb_place.proofs.TermNumbersStay.{number_absent, number_low}
 use Rattle.eb_chain.specs.declared.new_slices.NewSlices.{NewSlices}
 use Rattle.eb_chain.specs.Needs.{TakesSlices}
 use Rattle.eb_writer.specs.Counting.{IsUsedBy, IsSmall}

@@ -2,7 +2,7 @@ use Rattle.std.proofs.Common.{◌≡◌, [], ◌∷◌, ◌++◌, ◌+◌, ◌-�
 use Rattle.std.proofs.lemmas.List.{length-take}
 use Rattle.eb_place.specs.Packed.{differences, block, fields, lowest_words}
 use Rattle.eb_block.specs.Fields.{Poured}
-use Rattle.eb_place.proofs.Falling.{below_at}
+use Rattle.eb_place.proofs.FallingLists.{below_at}
 use Rattle.eb_place.specs.Postings.{posting_bits}
 use Rattle.eb_block.proofs.Differences.{step_at, all_before, is_width, length-differences}
 use Rattle.eb_block.proofs.Opening.{poured_none, at_below, block_is, block_few, header_in, width_in}

@@ -4,7 +4,7 @@ use Rattle.eb_place.specs.Layout.{place}
 use Rattle.eb_place.specs.Layout.Slot.{slot}
 use Rattle.eb_place.specs.Layout.Region.{packed_region}
 use Rattle.eb_place.specs.Moments.{word}
-use Rattle.eb_place.proofs.Converted.{list_fits}
+use Rattle.eb_place.proofs.ConverterWords.{list_fits}
 use Rattle.eb_block.proofs.Standing.{packed_later, packed_value}
 use Rattle.eb_block.proofs.packed_list.packed_word.Goals as goal
 

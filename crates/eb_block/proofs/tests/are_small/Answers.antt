@@ -1,7 +1,7 @@
 use Rattle.std.proofs.Common.{◌≡◌, ℕ, ◌<◌, ◌^◌, get_or, subst, arith, inl, inr}
 use Rattle.std.proofs.lemmas.Bool.{cases_lt}
 use Rattle.eb_place.specs.Postings.{posting_bits}
-use Rattle.eb_place.proofs.Falling.{below_from}
+use Rattle.eb_place.proofs.FallingLists.{below_from}
 use Rattle.eb_block.proofs.tests.are_small.Goals as goal
 
 pub loop-i-preserved : goal.loop-i-preserved

@@ -1,6 +1,6 @@
 use Rattle.std.proofs.Common.{◌≡◌, ℕ, suc, ◌-◌, ◌<◌, ◌^◌, get_or, subst, arith, inl, inr}
 use Rattle.std.proofs.lemmas.Bool.{cases_lt}
-use Rattle.eb_place.proofs.Falling.{falls_from}
+use Rattle.eb_place.proofs.FallingLists.{falls_from}
 use Rattle.eb_block.proofs.tests.is_packable.Goals as goal
 
 pub loop-i-init : goal.loop-i-init

@@ -2,8 +2,8 @@ use Rattle.std.proofs.Common.{◌≡◌, ap, sym, ◌∙◌, subst, arith}
 use Rattle.eb_base.specs.Setting.{Setting}
 use Rattle.eb_place.specs.Layout.{place, pool_slot, IsInPool}
 use Rattle.eb_place.specs.Moments.{word}
-use Rattle.eb_place.proofs.Closed.{word_link, link_in_pool, address_small}
-use Rattle.eb_place.proofs.Stays.{link_later}
+use Rattle.eb_place.proofs.ReaderWords.{word_link, link_in_pool, address_small}
+use Rattle.eb_place.proofs.ReachedWordsStay.{link_later}
 use Rattle.eb_chain.proofs.chain.follow.Goals as goal
 
 pub posting_at-requires-clause-address : goal.posting_at-requires-clause-address

@@ -6,7 +6,7 @@ use Rattle.eb_place.specs.Layout.Region.{tail_region}
 use Rattle.eb_place.specs.Placing.{Store}
 use Rattle.eb_place.specs.Moments.{word}
 use Rattle.eb_place.specs.NextStores.{after_store}
-use Rattle.eb_place.proofs.Closed.{tail_in_table}
+use Rattle.eb_place.proofs.ReaderWords.{tail_in_table}
 use Rattle.eb_chain.specs.NextPlaces.{after_link}
 use Rattle.eb_chain.proofs.Posted.{found, carried, posted, behind, before_it, link_next}
 use Rattle.eb_chain.proofs.writing.append.Goals as goal

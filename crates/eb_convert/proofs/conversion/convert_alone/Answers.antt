@@ -1,7 +1,7 @@
 use Rattle.std.proofs.Common.{◌≡◌, ◌<◌, ◌+◌, refl, ap, ◌∙◌, subst, arith, inr}
 use Rattle.std.specs.Bool.{MatchBool}
 use Rattle.eb_base.specs.Setting.{Setting}
-use Rattle.eb_place.proofs.Laters.{later_on}
+use Rattle.eb_place.proofs.LaterMoments.{later_on}
 use Rattle.eb_convert.specs.Progress.{IsBegunAt}
 use Rattle.eb_convert.specs.Converting.{first_word}
 use Rattle.eb_convert.proofs.Terms.{begins_left}

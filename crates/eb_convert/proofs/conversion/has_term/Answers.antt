@@ -5,7 +5,7 @@ use Rattle.eb_place.specs.Layout.{place}
 use Rattle.eb_place.specs.Layout.Slot.{slot}
 use Rattle.eb_place.specs.Layout.Region.{tail_region}
 use Rattle.eb_place.specs.Moments.{word}
-use Rattle.eb_place.proofs.Converted.{closed_room}
+use Rattle.eb_place.proofs.ConverterWords.{closed_room}
 use Rattle.eb_convert.proofs.Terms.{has_term_at, has_no_term_at}
 use Rattle.eb_convert.proofs.conversion.has_term.Goals as goal
 

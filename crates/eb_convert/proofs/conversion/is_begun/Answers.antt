@@ -8,7 +8,7 @@ use Rattle.eb_place.specs.declared.moment.Moment.{Moment}
 use Rattle.eb_place.specs.Moments.{word, IsMoment}
 use Rattle.eb_convert.specs.Progress.{IsBegunAt}
 use Rattle.eb_convert.specs.Converting.{first_word}
-use Rattle.eb_place.proofs.Begun.{begun_where_first}
+use Rattle.eb_place.proofs.BegunSegments.{begun_where_first}
 use Rattle.eb_convert.proofs.conversion.is_begun.Goals as goal
 
 begun : (n : Moment) (s : ℕ) → IsMoment n → s < n.setting.segments → 0 < first_word n s → IsBegunAt n s

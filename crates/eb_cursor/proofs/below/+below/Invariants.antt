@@ -1,7 +1,7 @@
 use Rattle.std.proofs.Common.{◌≡◌, ℕ, ◌+◌, ◌*◌, ◌≤◌, List, not}
 use Rattle.eb_base.specs.Document.{Doc}
 use Rattle.eb_base.specs.Query.{tree}
-use Rattle.eb_cursor.specs.Told.{Told}
+use Rattle.eb_place.specs.Told.{Told}
 use Rattle.eb_cursor.specs.Lists.{gives}
 use Rattle.eb_cursor.specs.Loads.{loads_left}
 use Rattle.eb_cursor.specs.Tops.{top}

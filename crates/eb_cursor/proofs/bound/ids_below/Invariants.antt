@@ -1,7 +1,7 @@
 use Rattle.std.proofs.Common.{◌≡◌, ◌+◌, ◌≤◌, List, length}
 use Rattle.eb_base.specs.Document.{Doc}
 use Rattle.eb_base.specs.Query.{since}
-use Rattle.eb_cursor.specs.Told.{Told}
+use Rattle.eb_place.specs.Told.{Told}
 use Rattle.eb_cursor.specs.Accepted.{AreFirst}
 use Rattle.eb_cursor.specs.Posted.{match_at}
 use Rattle.eb_cursor.specs.Tops.{top}

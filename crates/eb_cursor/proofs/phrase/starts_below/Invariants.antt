@@ -1,6 +1,6 @@
 use Rattle.std.proofs.Common.{◌≡◌, ℕ, ◌+◌, ◌≤◌, List}
 use Rattle.eb_base.specs.Document.{Doc}
-use Rattle.eb_cursor.specs.Told.{Told}
+use Rattle.eb_place.specs.Told.{Told}
 use Rattle.eb_cursor.specs.Lists.{gives}
 use Rattle.eb_cursor.specs.Loads.{loads_left}
 use Rattle.eb_cursor.specs.Posted.{is_start}

@@ -5,7 +5,7 @@ use Rattle.eb_place.specs.Layout.Slot.{slot}
 use Rattle.eb_place.specs.Layout.Region.{first_region}
 use Rattle.eb_place.specs.Moments.{word}
 use Rattle.eb_place.specs.NextStores.{after_store}
-use Rattle.eb_place.proofs.Stored.{setting_stored}
+use Rattle.eb_place.proofs.NextStore.{setting_stored}
 use Rattle.eb_flat.proofs.FirstStore.{next_at, word_begun}
 use Rattle.eb_flat.proofs.tests.begin.Goals as goal
 

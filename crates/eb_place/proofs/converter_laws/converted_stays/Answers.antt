@@ -1,4 +1,4 @@
-use Rattle.eb_place.proofs.Converted.{later_converted, converted_segment}
+use Rattle.eb_place.proofs.ConverterWords.{later_converted, converted_segment}
 use Rattle.eb_place.proofs.converter_laws.converted_stays.Goals as goal
 
 pub returns : goal.returns

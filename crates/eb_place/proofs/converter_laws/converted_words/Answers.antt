@@ -1,4 +1,4 @@
-use Rattle.eb_place.proofs.Converted.{word_converted, word_not_converted, word_directory, word_packed_list}
+use Rattle.eb_place.proofs.ConverterWords.{word_converted, word_not_converted, word_directory, word_packed_list}
 use Rattle.eb_place.proofs.converter_laws.converted_words.Goals as goal
 
 pub returns-clause-converted : goal.returns-clause-converted

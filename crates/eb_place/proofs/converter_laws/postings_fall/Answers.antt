@@ -1,4 +1,4 @@
-use Rattle.eb_place.proofs.Rising.{newest_falls, newest_small}
+use Rattle.eb_place.proofs.PostingsFall.{newest_falls, newest_small}
 use Rattle.eb_place.proofs.converter_laws.postings_fall.Goals as goal
 
 pub returns : goal.returns

@@ -1,4 +1,4 @@
-use Rattle.eb_place.proofs.Fits.{fits_empty}
+use Rattle.eb_place.proofs.FitsEmptySegment.{fits_empty}
 use Rattle.eb_place.proofs.laws.each_document_fits.Goals as goal
 
 pub returns : goal.returns

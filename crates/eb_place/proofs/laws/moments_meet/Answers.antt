@@ -1,4 +1,4 @@
-use Rattle.eb_place.proofs.MomentsMeet as lemmas
+use Rattle.eb_place.proofs.MeetOfMoments as lemmas
 use Rattle.eb_place.proofs.laws.moments_meet.Goals as goal
 
 pub returns : goal.returns

@@ -1,4 +1,4 @@
-use Rattle.eb_place.proofs.Packing.{word_packed}
+use Rattle.eb_place.proofs.NextPackedStore.{word_packed}
 use Rattle.eb_place.proofs.laws.put_changes_one_word.Goals as goal
 
 pub returns : goal.returns

@@ -1,4 +1,4 @@
-use Rattle.eb_place.proofs.Stored.{word_stored}
+use Rattle.eb_place.proofs.NextStore.{word_stored}
 use Rattle.eb_place.proofs.laws.store_changes_one_word.Goals as goal
 
 pub returns : goal.returns

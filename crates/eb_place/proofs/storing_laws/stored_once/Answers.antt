@@ -1,4 +1,4 @@
-use Rattle.eb_place.proofs.AllRise.{all_stored_once}
+use Rattle.eb_place.proofs.ValuesRiseInAll.{all_stored_once}
 use Rattle.eb_place.proofs.storing_laws.stored_once.Goals as goal
 
 pub returns : goal.returns

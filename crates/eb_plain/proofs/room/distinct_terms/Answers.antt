@@ -2,7 +2,7 @@ use Rattle.std.proofs.Common.{◌++◌, ◌∷◌, [], ap, sym, ◌∙◌}
 use Rattle.std.specs.Prelude.{bytes_eq}
 use Rattle.std.specs.List.{list_any}
 use Rattle.eb_place.specs.Postings.{with_term}
-use Rattle.eb_place.proofs.Counts.{distinct-nil}
+use Rattle.eb_place.proofs.TermCounts.{distinct-nil}
 use Rattle.eb_plain.proofs.Recounts.{distinct_next, kept, pushed}
 use Rattle.eb_plain.proofs.room.distinct_terms.Goals as goal
 use Rattle.eb_plain.proofs.room.distinct_terms.Goals.{then-not-has_term+in_ok-new+in_ok-push, else-not-has_term}

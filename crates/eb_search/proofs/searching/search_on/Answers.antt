@@ -4,8 +4,8 @@ use Rattle.eb_place.specs.Room.{cut}
 use Rattle.eb_search.specs.Bounds.{loads_from}
 use Rattle.eb_search.proofs.Bounded.{front_is}
 use Rattle.eb_search.proofs.Beginnings.{cut_short}
-use Rattle.eb_place.proofs.Counted.{word_count}
-use Rattle.eb_place.proofs.Laters.{later_on}
+use Rattle.eb_place.proofs.CountWords.{word_count}
+use Rattle.eb_place.proofs.LaterMoments.{later_on}
 use Rattle.eb_place.proofs.Prefixes.{prefix_self}
 use Rattle.eb_search.proofs.searching.search_on.Goals as goal
 

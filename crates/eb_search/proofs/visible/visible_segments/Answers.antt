@@ -5,7 +5,7 @@ use Rattle.eb_place.specs.Layout.{place}
 use Rattle.eb_place.specs.Layout.Slot.{slot}
 use Rattle.eb_place.specs.Layout.Region.{first_region}
 use Rattle.eb_place.specs.Moments.{word}
-use Rattle.eb_place.proofs.Laters.{later_on}
+use Rattle.eb_place.proofs.LaterMoments.{later_on}
 use Rattle.eb_cursor.proofs.Asking.{first_so_many}
 use Rattle.eb_cursor.proofs.Tellings.{told_itself}
 use Rattle.eb_search.proofs.Beginnings.{IsHidden, none_yet, some_later, some_more, some_all, cut_short, visible_word, seen_segment, unseen_segment}

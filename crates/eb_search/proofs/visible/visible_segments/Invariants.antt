@@ -1,7 +1,7 @@
 use Rattle.std.proofs.Common.{◌≡◌, ◌≤◌, ◌-◌, ◌+◌, List, length}
 use mathlib.Core.List.{IsPrefix}
 use Rattle.eb_base.specs.Document.{Doc}
-use Rattle.eb_cursor.specs.Told.{Told}
+use Rattle.eb_place.specs.Told.{Told}
 use Rattle.eb_search.proofs.Beginnings.{AreSome}
 use Rattle.eb_search.proofs.visible.visible_segments.Given as goal
 

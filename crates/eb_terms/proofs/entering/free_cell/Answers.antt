@@ -1,6 +1,6 @@
 use Rattle.std.proofs.Common.{◌≡◌, ◌*◌, ◌<◌, ap, sym, ◌∙◌, subst, arith}
 use Rattle.eb_base.specs.Setting.{Setting}
-use Rattle.eb_place.proofs.Laters.{later_on}
+use Rattle.eb_place.proofs.LaterMoments.{later_on}
 use Rattle.eb_terms.specs.Finding.{cells_in, is_filled}
 use Rattle.eb_terms.proofs.Reading.{inside_later}
 use Rattle.eb_terms.proofs.Probing.{probe_is, probe_low, probe_later, all_taken_later, taken_more, next_cell, some_free}

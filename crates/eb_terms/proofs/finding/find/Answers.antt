@@ -2,7 +2,7 @@ use Rattle.std.proofs.Common.{◌≡◌, ◌*◌, ◌<◌, ap, refl, sym, ◌∙
 use Rattle.std.proofs.lemmas.Bool.{false≢true}
 use Rattle.eb_base.specs.Setting.{Setting}
 use Rattle.eb_place.specs.Placing.{text_of}
-use Rattle.eb_place.proofs.Laters.{later_on}
+use Rattle.eb_place.proofs.LaterMoments.{later_on}
 use Rattle.eb_place.proofs.EnteredTerms.{is_entered_later}
 use Rattle.eb_terms.specs.Finding.{cells_in, is_filled}
 use Rattle.eb_terms.specs.Comparing.{term_at}

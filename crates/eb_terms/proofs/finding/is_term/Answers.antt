@@ -3,7 +3,7 @@ use Rattle.std.proofs.lemmas.Bool.{false≢true}
 use Rattle.eb_place.specs.Room.{text_words}
 use Rattle.eb_place.specs.Placing.{text_of}
 use Rattle.eb_place.proofs.EnteredTerms.{entered_bytes}
-use Rattle.eb_place.proofs.Laters.{later_on}
+use Rattle.eb_place.proofs.LaterMoments.{later_on}
 use Rattle.eb_terms.specs.Comparing.{term_at}
 use Rattle.eb_terms.proofs.Reading.{AreSame, at_low, number_later, same_term_later, text_later, same_more, compare_stops, compare_ends}
 use Rattle.eb_terms.proofs.finding.is_term.Goals as goal

@@ -6,8 +6,8 @@ use Rattle.eb_place.specs.Layout.Slot.{slot}
 use Rattle.eb_place.specs.Layout.Region.{tail_region}
 use Rattle.eb_place.specs.Postings.{count_of}
 use Rattle.eb_place.specs.Moments.{word}
-use Rattle.eb_place.proofs.Laters.{later_on}
-use Rattle.eb_place.proofs.Closed.{tail_in_table}
+use Rattle.eb_place.proofs.LaterMoments.{later_on}
+use Rattle.eb_place.proofs.ReaderWords.{tail_in_table}
 use Rattle.eb_chain.specs.Needs.{IsTailWord}
 use Rattle.eb_writer.specs.Counting.{tokens_in, IsFirst}
 use Rattle.eb_writer.proofs.Idle.{some_in, none_in, tail_in, tokens_same, idle_same, inside_same}

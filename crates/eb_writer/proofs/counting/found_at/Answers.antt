@@ -1,5 +1,5 @@
 use Rattle.std.proofs.Common.{sym, arith, []}
-use Rattle.eb_place.proofs.Laters.{later_self}
+use Rattle.eb_place.proofs.LaterMoments.{later_self}
 use Rattle.eb_writer.specs.Recall.{term_at}
 use Rattle.eb_writer.specs.Counting.{tokens_in}
 use Rattle.eb_writer.proofs.Recalling.{at_place}

@@ -3,8 +3,8 @@ use Rattle.std.proofs.lemmas.List.{take_all, length-replicate}
 use Rattle.eb_base.specs.Term.{Term}
 use Rattle.eb_base.specs.Document.{most_tokens}
 use Rattle.eb_place.specs.Postings.{distinct, count_of, number_of}
-use Rattle.eb_place.proofs.Laters.{later_self, later_on}
-use Rattle.eb_place.proofs.Counts.{count_of-append}
+use Rattle.eb_place.proofs.LaterMoments.{later_self, later_on}
+use Rattle.eb_place.proofs.TermCounts.{count_of-append}
 use Rattle.eb_writer.specs.declared.plan.Found.{Found}
 use Rattle.eb_writer.specs.Recall.{term_at}
 use Rattle.eb_writer.specs.Counting.{tokens_in, IsUsedBy, IsFound, AreFound}

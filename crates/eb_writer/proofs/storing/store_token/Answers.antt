@@ -1,7 +1,7 @@
 use Rattle.std.proofs.Common.{◌∙◌, ap, arith}
 use Rattle.eb_place.specs.declared.moment.Documents.{Documents}
 use Rattle.eb_place.specs.Postings.{posting_of}
-use Rattle.eb_place.proofs.Laters.{later_on}
+use Rattle.eb_place.proofs.LaterMoments.{later_on}
 use Rattle.eb_writer.specs.Recall.{term_at}
 use Rattle.eb_writer.proofs.Coming.{posting_next, next_token}
 use Rattle.eb_writer.proofs.Ends.{used_documents, documents_low}

@@ -1,7 +1,7 @@
 use Rattle.std.proofs.Common.{◌≡◌, ◌<◌, ◌++◌, ◌∙◌, ap, sym, subst, arith, length, refl, take}
 use Rattle.eb_place.specs.Postings.{terms_of, number_of}
 use Rattle.eb_place.specs.Placing.{segment_before}
-use Rattle.eb_place.proofs.Laters.{later_self, later_on}
+use Rattle.eb_place.proofs.LaterMoments.{later_self, later_on}
 use Rattle.eb_writer.specs.Recall.{term_at}
 use Rattle.eb_writer.specs.Storing.{HasComeTo}
 use Rattle.eb_writer.proofs.Finding.{element}

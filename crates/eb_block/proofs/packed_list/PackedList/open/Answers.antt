@@ -4,9 +4,9 @@ use Rattle.eb_place.specs.Layout.{place}
 use Rattle.eb_place.specs.Layout.Slot.{slot}
 use Rattle.eb_place.specs.Layout.Region.{directory_region}
 use Rattle.eb_place.specs.Moments.{word}
-use Rattle.eb_place.proofs.Closed.{tail_in_table}
-use Rattle.eb_place.proofs.Grows.{later_term}
-use Rattle.eb_place.proofs.Converted.{later_converted}
+use Rattle.eb_place.proofs.ReaderWords.{tail_in_table}
+use Rattle.eb_place.proofs.ReachedLater.{later_term}
+use Rattle.eb_place.proofs.ConverterWords.{later_converted}
 use Rattle.eb_block.proofs.Standing.{opens}
 use Rattle.eb_block.proofs.packed_list.PackedList.open.Goals as goal
 

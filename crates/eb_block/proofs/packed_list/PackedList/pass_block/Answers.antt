@@ -2,7 +2,7 @@ use Rattle.std.proofs.Common.{◌≡◌, ◌≤◌, ◌<◌, true, refl, subst, 
 use Rattle.std.specs.Bool.{MatchBool}
 use Rattle.eb_place.specs.Packed.{packed}
 use Rattle.eb_place.specs.Seen.{segment}
-use Rattle.eb_place.proofs.Laters.{later_self}
+use Rattle.eb_place.proofs.LaterMoments.{later_self}
 use Rattle.eb_place.specs.PackedLists.{list_start}
 use Rattle.eb_block.proofs.Reading.{can_enter}
 use Rattle.eb_block.proofs.packed_list.PackedList.pass_block.Goals as goal

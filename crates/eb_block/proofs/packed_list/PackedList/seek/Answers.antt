@@ -1,5 +1,5 @@
 use Rattle.std.proofs.Common.{subst, arith}
-use Rattle.eb_place.proofs.Laters.{later_on}
+use Rattle.eb_place.proofs.LaterMoments.{later_on}
 use Rattle.eb_block.specs.Reading.{ListStands}
 use Rattle.eb_block.proofs.Loads.{seek_few, seek_near}
 use Rattle.eb_block.proofs.packed_list.PackedList.seek.Goals as goal

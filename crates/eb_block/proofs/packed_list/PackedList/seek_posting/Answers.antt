@@ -1,5 +1,5 @@
 use Rattle.std.proofs.Common.{refl, sym, ◌∙◌, subst, arith}
-use Rattle.eb_place.proofs.Laters.{later_self, later_on}
+use Rattle.eb_place.proofs.LaterMoments.{later_self, later_on}
 use Rattle.eb_block.specs.Reading.{ListStands}
 use Rattle.eb_block.proofs.packed_list.PackedList.seek_posting.Goals as goal
 

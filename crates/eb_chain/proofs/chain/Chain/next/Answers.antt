@@ -1,5 +1,5 @@
 use Rattle.std.proofs.Common.{◌≡◌, ℕ, sym, subst, length}
-use Rattle.eb_place.proofs.Laters.{later_on}
+use Rattle.eb_place.proofs.LaterMoments.{later_on}
 use Rattle.eb_place.specs.Walk.{IsAddress, IsLink}
 use Rattle.eb_chain.proofs.Walks.{at_of, link_of, gives_rest}
 use Rattle.eb_chain.proofs.chain.Chain.next.Goals.{in-At, in-Link}

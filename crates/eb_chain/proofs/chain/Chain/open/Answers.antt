@@ -4,8 +4,8 @@ use Rattle.eb_place.specs.Layout.{place}
 use Rattle.eb_place.specs.Layout.Slot.{slot}
 use Rattle.eb_place.specs.Layout.Region.{tail_region}
 use Rattle.eb_place.specs.Moments.{word}
-use Rattle.eb_place.proofs.Closed.{word_tail, tail_in_table}
-use Rattle.eb_place.proofs.Grows.{later_term}
+use Rattle.eb_place.proofs.ReaderWords.{word_tail, tail_in_table}
+use Rattle.eb_place.proofs.ReachedLater.{later_term}
 use Rattle.eb_chain.proofs.Walks.{tail_low, opens}
 use Rattle.eb_chain.proofs.chain.Chain.open.Goals as goal
 

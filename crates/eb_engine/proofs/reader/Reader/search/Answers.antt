@@ -1,6 +1,6 @@
 use Rattle.std.proofs.Common.{ℕ, ◌≤◌, List, length, ap, sym, ◌∙◌, subst, arith}
 use Rattle.std.proofs.lemmas.List.{length-take-le}
-use Rattle.eb_place.proofs.Laters.{later_on}
+use Rattle.eb_place.proofs.LaterMoments.{later_on}
 use Rattle.eb_place.proofs.Prefixes.{prefix_length}
 use Rattle.eb_cursor.specs.Frames.{ids_of}
 use Rattle.eb_engine.specs.Loads.{IsWithinBound}

@@ -1,6 +1,6 @@
 use Rattle.std.proofs.Common.{◌<◌, refl, sym, ◌∙◌, subst}
 use Rattle.eb_base.specs.Setting.{Setting, words_of}
-use Rattle.eb_place.proofs.Laters.{later_self}
+use Rattle.eb_place.proofs.LaterMoments.{later_self}
 use Rattle.eb_flat.proofs.FlatImages.{place_in_words, word_in_words}
 use Rattle.eb_lent.proofs.words.LentWordsMutPort.load.Goals as goal
 

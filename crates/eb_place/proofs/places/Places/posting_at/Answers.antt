@@ -1,6 +1,6 @@
 use Rattle.std.proofs.Common.{◌+◌, ◌/◌, ◌%◌, ◌^◌, ◌<◌, ap, arith}
 use Rattle.eb_place.specs.Layout.{pool_region, start, segment_words}
-use Rattle.eb_place.proofs.Slots.{offset_in}
+use Rattle.eb_place.proofs.PlacesOfSlots.{offset_in}
 use Rattle.eb_place.proofs.places.Places.posting_at.Goals as goal
 
 pub word_at-requires-clause-offset : goal.word_at-requires-clause-offset

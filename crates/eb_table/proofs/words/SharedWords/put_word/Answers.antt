@@ -1,6 +1,6 @@
 use Rattle.std.proofs.Common.{ℕ, ◌<◌, ap, sym, ◌∙◌, subst}
 use Rattle.eb_base.specs.Setting.{Setting, words_of}
-use Rattle.eb_place.proofs.Packing.{packed_in_table}
+use Rattle.eb_place.proofs.NextPackedStore.{packed_in_table}
 use Rattle.eb_table.specs.Known.{Words}
 use Rattle.eb_table.specs.Rule.{moment_of}
 use Rattle.eb_table.proofs.Putting.{puts_at}

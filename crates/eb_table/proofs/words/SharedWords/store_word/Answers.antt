@@ -2,7 +2,7 @@ use Rattle.std.proofs.Common.{ℕ, ◌<◌, ap, sym, ◌∙◌, subst}
 use Rattle.eb_base.specs.Document.{Doc}
 use Rattle.eb_base.specs.Setting.{Setting, words_of}
 use Rattle.eb_place.specs.NextStores.{IsNext}
-use Rattle.eb_place.proofs.Stored.{next_in_table}
+use Rattle.eb_place.proofs.NextStore.{next_in_table}
 use Rattle.eb_table.specs.Known.{Words}
 use Rattle.eb_table.specs.Rule.{moment_of}
 use Rattle.eb_table.proofs.Storing.{stores_at}

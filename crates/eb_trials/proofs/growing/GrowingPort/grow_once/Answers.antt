@@ -1,5 +1,5 @@
 use Rattle.std.proofs.Common.{◌<◌, length, arith}
-use Rattle.eb_place.proofs.Onward.{later_stored}
+use Rattle.eb_place.proofs.AfterStore.{later_stored}
 use Rattle.eb_trials.proofs.StoresLeft.{there, next_left, left_grown}
 use Rattle.eb_trials.proofs.growing.GrowingPort.grow_once.Goals as goal
 

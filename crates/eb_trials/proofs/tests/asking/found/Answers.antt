@@ -1,5 +1,5 @@
 use Rattle.std.proofs.Common.{◌-◌, arith, take}
-use Rattle.eb_place.proofs.Laters.{later_self}
+use Rattle.eb_place.proofs.LaterMoments.{later_self}
 use Rattle.eb_cursor.specs.Accepted.{accepted_in}
 use Rattle.eb_trials.proofs.OneSegment.{first_of}
 use Rattle.eb_trials.proofs.tests.asking.found.Goals as goal

@@ -1,6 +1,6 @@
 use Rattle.std.proofs.Common.{ap}
 use Rattle.eb_base.specs.Setting.{Setting}
-use Rattle.eb_place.proofs.Laters.{later_self}
+use Rattle.eb_place.proofs.LaterMoments.{later_self}
 use Rattle.eb_trials.proofs.OneSegment.{held}
 use Rattle.eb_trials.proofs.tests.cursors.one_segment.Goals as goal
 

@@ -1,6 +1,6 @@
 use Rattle.std.proofs.Common.{◌≡◌, ◌<◌, ◌∙◌, ap, sym, subst, arith}
 use Rattle.eb_base.specs.Setting.{Setting}
-use Rattle.eb_place.proofs.Converted.{later_converted}
+use Rattle.eb_place.proofs.ConverterWords.{later_converted}
 use Rattle.eb_cursor.proofs.Openings.{term_of}
 use Rattle.eb_trials.specs.Recorded.{IsRecord}
 use Rattle.eb_trials.proofs.tests.packing.open.Goals as goal

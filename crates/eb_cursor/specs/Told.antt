@@ -1,8 +1,0 @@
--- What a call says that loads words, which may grow between any two of its loads.
-use Rattle.eb_place.specs.declared.moment.Moment.{Moment}
-use Rattle.eb_place.specs.Later.{IsNotBefore}
-
--- for each moment that the port stood for and that Before holds of, it stands for one that is not before
--- it, with the same fixed part, and After holds of that
-pub record Told {S : Type 0} (stands : S → Moment → Type 0) (keeps : S → Moment → S → Moment → Type 0) (s t : S) (Before After : Moment → Type 0) : Type 0 where
-  pub told : (m : Moment) → stands s m → Before m → (n : Moment) × stands t n × IsNotBefore n m × keeps s m t n × After n
