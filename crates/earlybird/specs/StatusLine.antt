@@ -1,11 +1,12 @@
 -- What a run says on its error output, by its status.
-use Rattle.std.specs.Prelude.{ℕ, List, codes}
+use Rattle.std.specs.Prelude.{ℕ, List, ◌++◌, codes}
 use Rattle.eb_lines.specs.declared.status.Status.{Status}
 use Rattle.eb_lines.specs.StatusLine.{line_of}
 
 -- how the program is called
 abbrev pub usage : List ℕ
-usage = codes "earlybird: usage: run [--overlap | --workers N | --parts N | --watch] [--stats] [--segments N] [--docs N] [--terms N] | bench START DOCS | save [--segments N] [--docs N] [--terms N] | load [--stats]\n"
+usage = codes "earlybird: usage: run [--overlap | --workers N | --parts N | --watch] [--stats] [--segments N] [--docs N] [--terms N] "
+    ++ codes "| bench START DOCS | save [--segments N] [--docs N] [--terms N] | load [--stats]\n"
 
 -- the line of a status, with its LF; Done and Refused say nothing
 abbrev pub status_line : Status → List ℕ

@@ -12,7 +12,6 @@ mod printing;
 mod program;
 mod run;
 mod running;
-mod searching;
 mod session;
 #[cfg(test)]
 mod tests;

@@ -45,7 +45,8 @@ use std::thread::Threads;
 /// are answered, by two threads, and lines are read by several; with `--workers N` queries are answered by workers that live
 /// for the whole run, and the call may wait: its promise holds if its waits end; with `--parts N` documents go to several
 /// indexes by their ids; with `--watch` lines also set and remove watches, and documents tell which they match. What is
-/// printed goes out in one write before the source is asked again, or once 64 KiB are gathered. What the status has to say goes to `err`; a fault there changes no status.
+/// printed goes out in one write before the source is asked again, or once 64 KiB are gathered. What the status has to say
+/// goes to `err`; a fault there changes no status.
 pub fn run<R, S, K, E, G>(
     rt: &R,
     alloc: Global,

@@ -9,15 +9,13 @@ ghost use Rattle.eb_rounds.specs.Admitted.{admit};
 ghost use Rattle.earlybird.specs.Session.{HasCome, IsOutcome, WithPlaced};
 ghost use Rattle.eb_lines.specs.Works.{reading_of};
 
-use crate::searching::search_all;
 use eb_base::{Config, Document, Gate, NoMemory};
 use eb_cursor::Frame;
 use eb_engine::{Index, Writer};
 use eb_lines::{Refusal, Work};
+use eb_rounds::search_all;
 use eb_writer::Full;
 use std::alloc::Global;
-use std::marker::Brand;
-use std::sync::ledger::Blank;
 
 // How far a run has come: the index of the accepted documents with its writer, and how many lines were worked off,
 // queries answered and lines refused.
@@ -113,13 +111,7 @@ impl Session {
         ensures outcome { (σ : Setting) (p : Progress) → HasCome self.old σ p → IsOutcome p.documents (query (k_of frame) (query_of frame)) result }
     {
         let mut frame = frame;
-        let seen = search_all::<G, Brand>(
-            &self.index,
-            &mut self.writer,
-            &mut frame,
-            gate,
-            Blank::new(1),
-        );
+        let seen = search_all(&self.index, &mut self.writer, &mut frame, gate);
         self.queries += 1;
         self.lines += 1;
         Outcome::Answered(seen, frame)

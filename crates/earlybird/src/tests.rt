@@ -142,8 +142,11 @@ fn answers_each_input(rt: HostRuntime) -> Result<(), Fail> {
             0,
         ),
         (
-            "hello\n {\"id\":1,\"text\":\"a\"}\n{\"id\":1\n{\"id\":-1,\"text\":\"a\"}\n{\"id\":1,\"text\":null}\n{\"text\":\"a\"}\n{\"id\":18446744073709551615,\"text\":\"a\",\"x\":[1,{\"y\":null}]}\n?1 a\n",
-            "1 refused: bad line\n2 refused: bad line\n3 refused: bad json\n4 refused: bad document\n5 refused: bad document\n6 refused: bad document\n8 seen 1: 18446744073709551615\nend: documents 1, queries 1, refused 6\n",
+            "hello\n {\"id\":1,\"text\":\"a\"}\n{\"id\":1\n{\"id\":-1,\"text\":\"a\"}\n{\"id\":1,\"text\":null}\n\
+              {\"text\":\"a\"}\n{\"id\":18446744073709551615,\"text\":\"a\",\"x\":[1,{\"y\":null}]}\n?1 a\n",
+            "1 refused: bad line\n2 refused: bad line\n3 refused: bad json\n4 refused: bad document\n\
+              5 refused: bad document\n6 refused: bad document\n8 seen 1: 18446744073709551615\n\
+              end: documents 1, queries 1, refused 6\n",
             1,
         ),
     ];
@@ -318,7 +321,9 @@ fn refuses_other_words(rt: HostRuntime) -> Result<(), Fail> {
         assert!(rt; left.printed.is_empty());
         assert_eq!(rt;
             left.said.as_slice(),
-            b"earlybird: usage: run [--overlap | --workers N | --parts N | --watch] [--stats] [--segments N] [--docs N] [--terms N] | bench START DOCS | save [--segments N] [--docs N] [--terms N] | load [--stats]\n".as_slice()
+            b"earlybird: usage: run [--overlap | --workers N | --parts N | --watch] [--stats] [--segments N] [--docs N] [--terms N] \
+              | bench START DOCS | save [--segments N] [--docs N] [--terms N] | load [--stats]\n"
+                .as_slice()
         );
     }
     Ok(())

@@ -11,12 +11,9 @@ ghost use Rattle.eb_archive.specs.Stores.{Holds, WithPlaced};
 use eb_base::{Config, Document, Gate, NoMemory};
 use eb_cursor::Frame;
 use eb_engine::{Converter, Index, Writer};
-use eb_place::Steps;
-use eb_rounds::{SegmentCounts, close};
+use eb_rounds::{SegmentCounts, close, search_all};
 use eb_writer::Full;
 use std::alloc::Global;
-use std::marker::Brand;
-use std::sync::ledger::{Blank, Ledger};
 
 // An index with its writer and its converter.
 #[derive(Drop)]
@@ -24,25 +21,6 @@ pub(crate) struct Store {
     index: Index,
     writer: Writer,
     converter: Converter,
-}
-
-// Searches the whole history of an index. Takes no memory.
-fn search_all<G: Gate, L: Ledger>(
-    index: &Index,
-    writer: &mut Writer,
-    frame: &mut Frame,
-    gate: &G,
-    blank: Blank,
-) -> u64
-    requires blank { (blank.name ≡ L.name) × (blank.parts ≡ L.parts) × (0 < blank.parts) }
-    requires writer { writer.old.index ≡ index.now }
-    ensures writer { writer.new ≡ writer.old }
-    ensures count { result ≡ length writer.new.docs }
-    ensures ids { ids_of frame.new ≡ answer (query_of frame.old) (k_of frame.old) writer.new.docs }
-    ensures few { length (ids_of frame.new) ≤ k_of frame.old }
-{
-    let mut steps = Steps::<L>::new(blank);
-    writer.search(index, frame, gate, &mut steps)
 }
 
 impl Store {
@@ -98,7 +76,7 @@ impl Store {
         ensures ids { (σ : Setting) (docs : List Doc) → Holds self.old σ docs → ids_of frame.new ≡ answer (query_of frame.old) (k_of frame.old) docs }
         ensures few { length (ids_of frame.new) ≤ k_of frame.old }
     {
-        search_all::<G, Brand>(&self.index, &mut self.writer, frame, gate, Blank::new(1))
+        search_all(&self.index, &mut self.writer, frame, gate)
     }
 
     // The number of documents.

@@ -1,3 +1,4 @@
+-- What contracts promise: the grammar of query texts, what a line asks or why it is refused, and how a query is written.
 pub mod Grammar
 pub mod Nesting
 pub mod Digits
@@ -9,5 +10,6 @@ pub mod Refusal
 pub mod Writing
 pub mod Gaps
 pub mod Laws
+-- What only proofs name: the reader as a machine, and what its values stand for.
 pub mod Machine
 pub mod Views

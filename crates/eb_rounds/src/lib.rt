@@ -13,6 +13,7 @@ mod held;
 mod input;
 mod reading;
 mod rounds;
+mod searching;
 mod tasks;
 mod working;
 
@@ -20,3 +21,4 @@ pub use converting::{SegmentCounts, close};
 pub use ending::put_end;
 pub use input::{Input, Kind};
 pub use rounds::{Counts, Rounds};
+pub use searching::search_all;

@@ -22,7 +22,7 @@ use eb_engine::{Converter, Index, Writer};
 use eb_lines::{Refusal, Work, put_answer, put_refusal, put_watches, read_line};
 use eb_place::Steps;
 use eb_query::{QueryFault, read_watch};
-use eb_rounds::{Counts, close, put_end};
+use eb_rounds::{Counts, close, put_end, search_all};
 use eb_watch::{NoWatch, SetFault, WatchFault, Watches};
 use std::alloc::Global;
 use std::marker::Brand;
@@ -78,25 +78,6 @@ fn add_told<G: Gate, L: Ledger>(
         Ok((_, numbers)) => Ok(Some(numbers)),
         Err(fault) => told_of(fault),
     }
-}
-
-// Searches the whole history of an index. Takes no memory.
-fn search_all<G: Gate, L: Ledger>(
-    index: &Index,
-    writer: &mut Writer,
-    frame: &mut Frame,
-    gate: &G,
-    blank: Blank,
-) -> u64
-    requires blank { (blank.name ≡ L.name) × (blank.parts ≡ L.parts) × (0 < blank.parts) }
-    requires writer { writer.old.index ≡ index.now }
-    ensures writer { writer.new ≡ writer.old }
-    ensures count { result ≡ length writer.new.docs }
-    ensures ids { ids_of frame.new ≡ answer (query_of frame.old) (k_of frame.old) writer.new.docs }
-    ensures few { length (ids_of frame.new) ≤ k_of frame.old }
-{
-    let mut steps = Steps::<L>::new(blank);
-    writer.search(index, frame, gate, &mut steps)
 }
 
 impl Watching {
@@ -198,13 +179,7 @@ impl Watching {
     {
         let mut frame = frame;
         text.reserve(64 + 21 * frame.k() as usize)?;
-        let seen = search_all::<G, Brand>(
-            &self.index,
-            &mut self.writer,
-            &mut frame,
-            gate,
-            Blank::new(1),
-        );
+        let seen = search_all(&self.index, &mut self.writer, &mut frame, gate);
         self.number += 1;
         self.queries += 1;
         put_answer(text, self.number, seen, frame.ids());

@@ -1,4 +1,0 @@
-use Rattle.eb_watching.proofs.watching.Watching.answer.Given as goal
-
-abbrev pub ghosts-search_all : goal.ghosts-search_all
-ghosts-search_all g a = record { name = a.blank.name; parts = a.blank.parts }
