@@ -10,8 +10,8 @@ use Rattle.eb_place.specs.Placing.{Store, in_row}
 use Rattle.eb_place.specs.Conversion.{segment_stores}
 use Rattle.eb_place.specs.Moments.{with_current, IsMoment}
 use Rattle.eb_place.specs.Later.{IsNotBefore}
-use Rattle.eb_place.proofs.FreshPoolWords.{Each}
-use Rattle.eb_place.proofs.FreshPoolWords.Each.{none, more}
+use Rattle.eb_place.proofs.FreshPoolWords.{Each, Each-drop}
+use Rattle.eb_place.proofs.FreshPoolWords.Each.{more}
 use Rattle.eb_place.proofs.WordsOfTokens.{Each-map}
 use Rattle.eb_place.proofs.StoresWithinTable.{IsWithin}
 use Rattle.eb_place.proofs.StoringTokens.{Each-front}
@@ -55,11 +55,6 @@ first_block (x ∷ xs) f b l =
     }
 
 -- ---- where the words go
-
-Each-drop : {X : Type 0} {Q : X → Type 0} (n : ℕ) {xs : List X} → Each Q xs → Each Q (drop n xs)
-Each-drop zero h = h
-Each-drop (suc n) none = none
-Each-drop (suc n) (more h t) = Each-drop n t
 
 row_within : (m : Moment) (s at : ℕ) (vs : List ℕ) → Each (IsWithin m.setting) (in_row s packed_region at vs) → 1 ≤ length vs → at + length vs ≤ 34 * m.setting.terms
 unfolding size

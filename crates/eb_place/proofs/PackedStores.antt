@@ -60,11 +60,11 @@ packs σ s seg start k (t ∷ ts) h l m =
     Each-append (row_packed σ s start (packed t seg) h (omega arith))
     (more (record { within = (h, omega arith); packed = refl }) (packs σ s seg (start + length (packed t seg)) (k + 1) ts h (omega arith) (omega arith)))
 
-packed_few : (t : Term) (seg : List Doc) → length (packed t seg) ≤ count_of t (terms_of seg)
+pub packed_few : (t : Term) (seg : List Doc) → length (packed t seg) ≤ count_of t (terms_of seg)
 unfolding packed_list
 packed_few t seg = omega (arith, packed_short (length (reverse (postings t seg))) (reverse (postings t seg)), length-reverse (postings t seg), length-postings t seg)
 
-sums : (f g : Term → ℕ) → ((t : Term) → f t ≤ g t) → (ts : List Term) → sum_by f ts ≤ sum_by g ts
+pub sums : (f g : Term → ℕ) → ((t : Term) → f t ≤ g t) → (ts : List Term) → sum_by f ts ≤ sum_by g ts
 sums f g h [] = omega arith
 sums f g h (t ∷ ts) = omega (arith, sum_by-cons f t ts, sum_by-cons g t ts, h t, sums f g h ts)
 
