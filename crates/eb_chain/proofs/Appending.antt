@@ -29,7 +29,7 @@ use Rattle.eb_chain.specs.Appends.{tokens_before, IsPostingNext}
 use Rattle.eb_place.proofs.RegionCounts.{count_in, enters, enters_tails, enters_cells, appends_tails, appends_cells}
 use Rattle.eb_place.proofs.RegionCounts.{tokens_tails, tokens_cells, distinct_one, firsts_away, Counts, counts_placed}
 use Rattle.eb_place.proofs.RegionStores.{count_by-append}
-use Rattle.eb_place.proofs.NextStore.{begun_is}
+use Rattle.eb_place.proofs.NextStore.{current_is}
 
 -- ---- where in the placing it is
 
@@ -255,7 +255,7 @@ here σ x d s t posting k lawful q =
     let c = counts_placed σ docs k front s in
     let dist = distinct_around t (terms_of seg ++ q.earlier) a.tail q.later (terms_of (get_or (cut σ (with_current x)) s [])) a.all a.known in
     record {
-      stores = ap (λ z. placings σ docs ++ z) (begun_is σ docs x.current d q.current ∙ w);
+      stores = ap (λ z. placings σ docs ++ z) (current_is σ docs x.current d q.current ∙ w);
       inside = j.inside;
       room = r.0;
       numbers = posting_numbers (seg ++ d ∷ []);

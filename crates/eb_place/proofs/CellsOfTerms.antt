@@ -51,6 +51,7 @@ taken_here (x ∷ xs) (suc k) h = true_right (get_or xs k 0 == x) (is_taken xs (
     true_right true b e = refl
     true_right false b e = e
 
+-- one more that stands in the list
 pub taken_push : (xs : List ℕ) (x c : ℕ) → is_taken (xs ++ x ∷ []) c ≡ (is_taken xs c || (c == x))
 taken_push [] x c = or_false (c == x)
   where

@@ -201,6 +201,7 @@ pub text_same : (t u : Term) → AreBytes t → AreBytes u → length t ≡ leng
 text_same t u h k n e =
     text_once t u h k (same_number_lists (text_of t) (text_of u) (omega (arith, length-text_of t, length-text_of u)) (λ i l. e i (omega (arith, length-text_of t))))
 
+-- which terms are entered goes by the setting and the documents part alone
 pub entered_by : (m n : Moment) (s : ℕ) → n.setting ≡ m.setting → n.documents ≡ m.documents → entered n s ≡ entered m s
 unfolding entered stores_in_region
 entered_by m n s e f i = take (count_by (is_in s cell_region) (document_stores (e i) (f i))) (distinct (terms_of (get_or (cut (e i) (with_current (f i))) s [])))

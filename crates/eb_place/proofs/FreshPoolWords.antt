@@ -150,6 +150,7 @@ pub data Each {X : Type 0} (P : X → Type 0) : List X → Type 0 where
   none : Each P []
   more : {x : X} {xs : List X} → P x → Each P xs → Each P (x ∷ xs)
 
+-- what holds of each holds of the first
 pub each_head : {X : Type 0} {Q : X → Type 0} (x : X) (xs : List X) → Each Q (x ∷ xs) → Q x
 each_head x xs (more h t) = h
 
@@ -157,6 +158,7 @@ pub Each-append : {X : Type 0} {P : X → Type 0} {xs ys : List X} → Each P xs
 Each-append none k = k
 Each-append (more h t) k = more h (Each-append t k)
 
+-- and of those that are left
 pub Each-drop : {X : Type 0} {Q : X → Type 0} (n : ℕ) {xs : List X} → Each Q xs → Each Q (drop n xs)
 Each-drop zero h = h
 Each-drop (suc n) none = none

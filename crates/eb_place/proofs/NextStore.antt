@@ -83,21 +83,22 @@ take_whole [] (suc n) h = refl
 take_whole (x ∷ xs) zero h = absurd (omega arith)
 take_whole (x ∷ xs) (suc n) h = ap (λ (z : List Store). x ∷ z) (take_whole xs n (omega arith))
 
-pub begun_is : (σ : Setting) (docs : List Doc) (c : Option (Doc × ℕ)) (d : Doc) → IsCurrent c d → current_stores σ docs c ≡ take (stores_done c) (doc_stores σ docs d)
-begun_is σ docs None d is = refl
-begun_is σ docs (Some c) d is = ap (λ (e : Doc). take c.1 (doc_stores σ docs e)) is
+-- the stores that are done of the document that is being placed
+pub current_is : (σ : Setting) (docs : List Doc) (c : Option (Doc × ℕ)) (d : Doc) → IsCurrent c d → current_stores σ docs c ≡ take (stores_done c) (doc_stores σ docs d)
+current_is σ docs None d is = refl
+current_is σ docs (Some c) d is = ap (λ (e : Doc). take c.1 (doc_stores σ docs e)) is
 
 stores_stored : (σ : Setting) (docs : List Doc) (c : Option (Doc × ℕ)) (d : Doc) (x : Store) → IsCurrent c d → slice_get (doc_stores σ docs d) (stores_done c) ≡ Some x
     → (b : Bool) → ltb (suc (stores_done c)) (length (doc_stores σ docs d)) ≡ b
     → document_stores σ (documents_after b docs d (suc (stores_done c))) ≡ document_stores σ record { accepted = docs; current = c } ++ x ∷ []
 unfolding document_stores
 stores_stored σ docs c d x is next true long =
-    ap (λ (l : List Store). placings σ docs ++ l) (take_next _ _ _ next ∙ ap (λ (l : List Store). l ++ x ∷ []) (sym (begun_is σ docs c d is)))
+    ap (λ (l : List Store). placings σ docs ++ l) (take_next _ _ _ next ∙ ap (λ (l : List Store). l ++ x ∷ []) (sym (current_is σ docs c d is)))
     ∙ sym (append_assoc (placings σ docs) (current_stores σ docs c) (x ∷ []))
 stores_stored σ docs c d x is next false last =
     append-nil _
     ∙ placings_push σ docs d
-    ∙ ap (λ (l : List Store). placings σ docs ++ l) (sym (take_whole _ _ (ltb-false _ _ last)) ∙ take_next _ _ _ next ∙ ap (λ (l : List Store). l ++ x ∷ []) (sym (begun_is σ docs c d is)))
+    ∙ ap (λ (l : List Store). placings σ docs ++ l) (sym (take_whole _ _ (ltb-false _ _ last)) ∙ take_next _ _ _ next ∙ ap (λ (l : List Store). l ++ x ∷ []) (sym (current_is σ docs c d is)))
     ∙ sym (append_assoc (placings σ docs) (current_stores σ docs c) (x ∷ []))
 
 -- the history with the document that is being placed, after the store

@@ -62,9 +62,9 @@ InTable σ published = Unit {0}
 InTable σ (slot s r i) = (s < σ.segments) × (i < size σ r)
 
 -- a tail
-pub tail_within : (σ : Setting) (s k : ℕ) → InTable σ (slot s tail_region k) → (s < σ.segments) × (k < σ.terms)
+pub tail_in_segment : (σ : Setting) (s k : ℕ) → InTable σ (slot s tail_region k) → (s < σ.segments) × (k < σ.terms)
 unfolding size
-tail_within σ s k h = h
+tail_in_segment σ s k h = h
 
 -- so its address is one of a pool
 pub pool_in_segment : (σ : Setting) (s a : ℕ) → InTable σ (pool_slot s a) → (s < σ.segments) × IsInPool σ a

@@ -43,10 +43,12 @@ packed_pool s a h = not_region s (a % 2 ^ 30) (a / 2 ^ 30) h
     not_region s i (suc (suc zero)) h = false≢true h
     not_region s i (suc (suc (suc p))) h = false≢true h
 
+-- a tail is none of the converter's words
 pub packed_tail : (s k : ℕ) → is_packed (slot s tail_region k) ≡ true → ⊥
 unfolding is_packed
 packed_tail s k h = false≢true h
 
+-- the stores of the conversions of a moment are packed stores of its setting
 pub moment_packs : (m : Moment) → IsMoment m → Each (IsPackedStore m.setting) (conversion_stores m.setting (with_current m.documents) m.conversions)
 moment_packs m is =
     let p = placed_all m.setting (with_current m.documents) is.setting is.lawful in
@@ -205,6 +207,7 @@ pub record Parts (f a : ℕ) : Type 0 where
   pub is : a ≡ pool_at f * 2 ^ 30 + slice * 2 ^ slice_bits (pool_at f) + offset_at f
   pub inside : slice * 2 ^ slice_bits (pool_at f) + offset_at f < 2 ^ 30
 
+-- those of the address of a posting
 pub parts_of : (t : Term) (f : ℕ) (ts : List Term) → slices_begun (pool_at f) (front_of t (slice_start f) ts) * 2 ^ slice_bits (pool_at f) + offset_at f < 2 ^ 30 → Parts f (address_of t f ts)
 unfolding address_of
 parts_of t f ts h = record { slice = slices_begun (pool_at f) (front_of t (slice_start f) ts); is = refl; inside = h }

@@ -18,7 +18,7 @@ use Rattle.eb_place.specs.Placing.{Store, pairs_of, in_row, tokens_stores, store
 use Rattle.eb_place.specs.Conversion.{pack_stores, convert_stores, segment_stores}
 use Rattle.eb_place.specs.Moments.{placings, placings_after, conversions}
 use Rattle.eb_place.proofs.TermCounts.{one_if, by_push}
-use Rattle.eb_place.proofs.PlacesOfSlots.{InTable, place_once, tail_within}
+use Rattle.eb_place.proofs.PlacesOfSlots.{InTable, place_once, tail_in_segment}
 use Rattle.eb_place.proofs.FreshPoolWords.{Each, Each-append}
 use Rattle.eb_place.proofs.FreshPoolWords.Each.{none, more}
 use Rattle.eb_place.proofs.StoresWithinTable.{IsWithin}
@@ -265,7 +265,7 @@ stored_once σ docs p k h no_count no_tail =
       | inr r ↦
           let one = times_once σ L r.0 single within r.1 (record {
             count = λ e. no_count (r.2 ∙ ap (place σ) e);
-            tails = λ s j e. let i = tail_within σ s j (subst (InTable σ) e r.1) in no_tail s j i.0 i.1 (r.2 ∙ ap (place σ) e);
+            tails = λ s j e. let i = tail_in_segment σ s j (subst (InTable σ) e r.1) in no_tail s j i.0 i.1 (r.2 ∙ ap (place σ) e);
           }) in
           let same : count_by (λ (z : ℕ × ℕ). z.0 == p) (pairs_of σ L) ≡ times σ L r.0 = ap (λ q. count_by (λ (z : ℕ × ℕ). z.0 == q) (pairs_of σ L)) r.2 in
           omega (arith, long, same)

@@ -2,6 +2,7 @@
 use Rattle.std.proofs.Common.{◌≡◌, ℕ, ◌*◌, ◌<◌, ◌≤◌, ◌⊎◌, true, false, not, List, [], ◌∷◌, ◌++◌, length, get_or, sum_by, fold, max, Contains, refl, sym, arith, inl, inr}
 use Rattle.std.proofs.lemmas.Bool.{false≢true}
 use Rattle.std.proofs.lemmas.List.Elements.{All-contains}
+use Rattle.std.proofs.lemmas.List.Sums.{sum_by-le-sum_by}
 use Rattle.eb_base.specs.Document.{Doc}
 use Rattle.eb_base.specs.Setting.{Setting, IsSetting}
 use Rattle.eb_place.specs.Layout.{Slot, Region, place}
@@ -22,7 +23,7 @@ use Rattle.eb_place.proofs.FreshPoolWords.{Each, All-from_Each}
 use Rattle.eb_place.proofs.FreshPoolWords.Each.{none, more}
 use Rattle.eb_place.proofs.WordsOfTokens.{Each-map}
 use Rattle.eb_place.proofs.WordsAtMoment.{placed_all, joins, lawful_front, lawful_last}
-use Rattle.eb_place.proofs.PackedStores.{is_packed, segment_packs, packed_few, sums}
+use Rattle.eb_place.proofs.PackedStores.{is_packed, segment_packs, packed_few}
 use Rattle.eb_place.proofs.NextStore.{IsWriters, doc_writers}
 
 -- ---- where they go
@@ -107,7 +108,7 @@ packs_fit σ docs s k h l =
     let room = p.room s (omega arith) in
     omega (
       arith,
-      sums (λ t. length (packed t seg)) (λ t. count_of t (terms_of seg)) (λ t. packed_few t seg) (distinct (terms_of seg)),
+      sum_by-le-sum_by (λ t. length (packed t seg)) (λ t. count_of t (terms_of seg)) (distinct (terms_of seg)) (λ t. packed_few t seg),
       total_count (terms_of seg),
       postings_few σ (terms_of seg) room.fits,
     )

@@ -88,6 +88,7 @@ tokens_same m n s l e =
     ∙ ap (take (stores_in_region m s tail_region)) (terms_more (segment m s) p.0)
     ∙ take-append-le (stores_in_region m s tail_region) (terms_of (segment m s)) (terms_of p.0) (tails_few m s)
 
+-- which tokens are seen goes by the setting and the documents part alone
 pub tokens_by : (m n : Moment) (s : ℕ) → n.setting ≡ m.setting → n.documents ≡ m.documents → tokens_seen n s ≡ tokens_seen m s
 unfolding tokens_seen stores_in_region
 tokens_by m n s e f i = take (count_by (is_in s tail_region) (document_stores (e i) (f i))) (terms_of (get_or (cut (e i) (with_current (f i))) s []))

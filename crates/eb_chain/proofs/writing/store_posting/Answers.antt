@@ -6,7 +6,7 @@ use Rattle.eb_place.specs.Layout.Region.{tail_region}
 use Rattle.eb_place.specs.Placing.{Store}
 use Rattle.eb_place.specs.NextStores.{after_store}
 use Rattle.eb_place.proofs.NextStore.{setting_stored}
-use Rattle.eb_place.proofs.PlacesOfSlots.{pool_in_segment, tail_within}
+use Rattle.eb_place.proofs.PlacesOfSlots.{pool_in_segment, tail_in_segment}
 use Rattle.eb_place.proofs.ListOfStores.{one_stored, first_in_table, next_at, pool_counts_nothing}
 use Rattle.eb_chain.proofs.writing.store_posting.Goals as goal
 
@@ -43,7 +43,7 @@ tail-tail-requires-clause-term g c =
     let is = g.met.P.Port.lawful c.args.pen.now r.0 r.1 in
     let one = one_stored r.0 d x (y ∷ []) r.2 (pool_counts_nothing c.args.segment c.args.address) in
     let n = after_store r.0 d in
-    let w = tail_within n.setting c.args.segment c.args.term (first_in_table n d y [] (Rattle.eb_place.proofs.AfterStore.moment_stored r.0 d _ _ is one.next) one.rest) in
+    let w = tail_in_segment n.setting c.args.segment c.args.term (first_in_table n d y [] (Rattle.eb_place.proofs.AfterStore.moment_stored r.0 d _ _ is one.next) one.rest) in
     subst (λ (σ : Setting). c.args.term < σ.terms) (setting_stored r.0 d ∙ sym (c.new-places.ensures ∙ c.config.ensures r.0 r.1)) w.1
 
 pub store-requires : goal.store-requires

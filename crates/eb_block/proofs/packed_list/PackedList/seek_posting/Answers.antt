@@ -4,7 +4,8 @@ use Rattle.eb_block.specs.Reading.{ListStands}
 use Rattle.eb_block.proofs.packed_list.PackedList.seek_posting.Goals as goal
 
 pub postings-init : goal.postings-init
-postings-init g c = (c.requires.near, refl, refl, omega arith, omega arith, λ s t rest b. record { told = λ m st h. (m, st, later_self m, g.met.P.Port.keeps_itself _ m st, (rest, b, h, omega arith, refl)) })
+postings-init g c =
+    (c.requires.near, refl, refl, omega arith, omega arith, λ s t rest b. record { told = λ m st h. (m, st, later_self m, g.met.P.Port.keeps_itself _ m st, (rest, b, h, omega arith, refl)) })
 
 pub pass_one-requires : goal.pass_one-requires
 pass_one-requires g c =
