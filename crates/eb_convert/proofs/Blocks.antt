@@ -56,18 +56,18 @@ first_block (x ∷ xs) f b l =
 
 -- ---- where the words go
 
-row_within : (m : Moment) (s at : ℕ) (vs : List ℕ) → Each (IsWithin m.setting) (in_row s packed_region at vs) → 1 ≤ length vs → at + length vs ≤ 34 * m.setting.terms
+row_fits : (m : Moment) (s at : ℕ) (vs : List ℕ) → Each (IsWithin m.setting) (in_row s packed_region at vs) → 1 ≤ length vs → at + length vs ≤ 34 * m.setting.terms
 unfolding size
-row_within m s at [] h l = absurd (omega arith)
-row_within m s at (v ∷ []) (more h t) l = let b = h.1 in omega arith
-row_within m s at (v ∷ w ∷ vs) (more h t) l = omega (arith, row_within m s (at + 1) (w ∷ vs) t (omega arith))
+row_fits m s at [] h l = absurd (omega arith)
+row_fits m s at (v ∷ []) (more h t) l = let b = h.1 in omega arith
+row_fits m s at (v ∷ w ∷ vs) (more h t) l = omega (arith, row_fits m s (at + 1) (w ∷ vs) t (omega arith))
 
 -- the packed words that are left find room
 pub row_room : (m : Moment) (s at : ℕ) (vs : List ℕ) (others : List Store) → IsMoment m → IsLeft m s (in_row s packed_region at vs ++ others) → 1 ≤ length vs → at + length vs ≤ 34 * m.setting.terms
 row_room m s at vs others is h l =
     let X = segment_stores m.setting (with_current m.documents) s in
     let all : Each (IsWithin m.setting) X = Each-map (λ y q. q.within) (segment_packs m.setting (with_current m.documents) s (closed_room m s is h.closed)) in
-    row_within m s at vs (Each-front (in_row s packed_region at vs) others (subst (Each (IsWithin m.setting)) h.are (Each-drop m.conversions.packed all))) l
+    row_fits m s at vs (Each-front (in_row s packed_region at vs) others (subst (Each (IsWithin m.setting)) h.are (Each-drop m.conversions.packed all))) l
 
 -- ---- the step
 
