@@ -1,18 +1,8 @@
 -- Fields as numbers, and words as fields of 64 bits.
-use Rattle.std.proofs.Common.{◌≡◌, ℕ, zero, suc, ◌+◌, ◌*◌, ◌/◌, ◌%◌, ◌^◌, ◌<◌, List, [], ◌∷◌, ◌++◌, length, refl, ap, sym, ◌∙◌, arith}
+use Rattle.std.proofs.Common.{◌≡◌, ℕ, zero, suc, ◌+◌, ◌*◌, ◌/◌, ◌%◌, ◌^◌, ◌<◌, List, [], ◌∷◌, length, refl, ap, sym, ◌∙◌, arith}
 use Rattle.std.proofs.lemmas.Nat.{pow_pos, pow-add, mul-le, same_from_place, mul-add-lt, div-mul-add, mod-mul-add}
 use Rattle.eb_place.specs.Packed.{fields, lowest_words}
 use Rattle.eb_place.specs.Falling.{AllBelow}
-
--- fields of two lists
-pub fields-append : (w : ℕ) (xs ys : List ℕ) → fields w (xs ++ ys) ≡ fields w xs + 2 ^ (w * length xs) * fields w ys
-fields-append w [] ys = omega (arith, ap (λ k. 2 ^ k * fields w ys) (let e : w * 0 ≡ 0 = omega arith in e))
-fields-append w (x ∷ xs) ys =
-    let F = fields w ys in
-    let ih = ap (λ n. 2 ^ w * n) (fields-append w xs ys) in
-    let e : w * suc (length xs) ≡ w + w * length xs = omega arith in
-    let p : 2 ^ (w * suc (length xs)) * F ≡ 2 ^ w * 2 ^ (w * length xs) * F = ap (λ k. 2 ^ k * F) e ∙ ap (λ k. k * F) (pow-add 2 w (w * length xs)) in
-    omega arith
 
 -- fields of numbers of so many bits have so many bits together
 pub fields_below : (w : ℕ) (xs : List ℕ) → AllBelow (2 ^ w) xs → fields w xs < 2 ^ (w * length xs)
@@ -40,10 +30,6 @@ words_back (w ∷ ws) h =
     let m : (w + 2 ^ 64 * x) % 2 ^ 64 ≡ w = ap (λ k. k % 2 ^ 64) a ∙ mod-mul-add x (2 ^ 64) w h.0 in
     let d : (w + 2 ^ 64 * x) / 2 ^ 64 ≡ x = ap (λ k. k / 2 ^ 64) a ∙ div-mul-add x (2 ^ 64) w h.0 in
     ap (λ k. k ∷ lowest_words (length ws) ((w + 2 ^ 64 * x) / 2 ^ 64)) m ∙ ap (λ k. w ∷ lowest_words (length ws) k) d ∙ ap (λ k. w ∷ k) (words_back ws h.1)
-
-pub words_below : (n x : ℕ) → AllBelow (2 ^ 64) (lowest_words n x)
-words_below zero x = tt
-words_below (suc n) x = (omega arith, words_below n (x / 2 ^ 64))
 
 -- a number of so many words is what these make
 pub number_back : (n x : ℕ) → x < 2 ^ (64 * n) → fields 64 (lowest_words n x) ≡ x

@@ -24,7 +24,7 @@ use Rattle.eb_block.specs.Reading.{IsPackedAt, ReadsWords, ListStands, ListGives
 use Rattle.eb_block.specs.declared.packed_list.PackedList.{PackedList}
 use Rattle.eb_place.proofs.ConverterWords.{word_packed_list, word_directory, list_fits, later_converted, converted_segment, closed_room}
 use Rattle.eb_place.proofs.PostingsFall.{newest_falls, newest_small}
-use Rattle.eb_block.proofs.Reading.{peek_at, step_over, step_first, HasStepped, can_enter, IsIn, given, nothing, next_first}
+use Rattle.eb_block.proofs.Reading.{peek_at, step_over, step_first, HasStepped, can_enter, IsIn, given, next_first}
 
 -- ---- packed words
 
@@ -242,9 +242,6 @@ gives_some m s t p rest b h held = at rest (given (packed t (segment m s)) (list
                 subst (λ zs. ReadsWords (packed t (segment m s)) (list_start (segment m s) h.number) record p { held = false } zs b) (sym f) w.2;
           },
         )
-
-pub stands_nothing : (m : Moment) (s : ℕ) (t : Term) (p : PackedList) (rest : List ℕ) (b : ℕ) → ListStands m s t p rest b → p.held ≡ false → p.inside ≡ 0 → p.left ≡ 0 → rest ≡ []
-stands_nothing m s t p rest b h f i l = nothing (packed t (segment m s)) (list_start (segment m s) h.number) p rest b h.reads f i l
 
 -- ---- the next block
 

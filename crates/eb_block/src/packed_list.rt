@@ -2,7 +2,7 @@ ghost use Rattle.std.specs.Prelude.{◌≡◌, ◌≢◌, ℕ, List, [], ◌∷�
 ghost use Rattle.std.specs.Bool.{MatchBool};
 ghost use Rattle.eb_base.specs.Term.{Term};
 ghost use Rattle.eb_place.specs.declared.moment.Moment.{Moment};
-ghost use Rattle.eb_place.specs.Later.{IsNotBefore};
+ghost use Rattle.eb_place.specs.Told.{Told};
 ghost use Rattle.eb_place.specs.Walk.{IsTerm};
 ghost use Rattle.eb_place.specs.PackedLists.{IsConverted, newest_first, packed_words};
 ghost use Rattle.eb_block.specs.Reading.{ListStands, IsPackedAt, ListGives, HasPassed, IsNear, up_to, remaining, seek_loads};
@@ -42,9 +42,8 @@ impl PackedList {
         steps: &mut Steps<L>,
     ) -> PackedList
         requires { (m : Moment) × (t : Term) × P.stands port.old m × IsConverted m segment × IsTerm m segment t term }
-        ensures told { (m : Moment) (t : Term) → P.stands port.old m → IsConverted m segment → IsTerm m segment t term
-            → (n : Moment) × P.stands port.new n × IsNotBefore n m × P.keeps port.old m port.new n
-            × ListStands n segment t result (newest_first n segment t) (length (packed_words n segment t)) }
+        ensures told { (t : Term) → Told P.stands P.keeps port.old port.new (λ m. IsConverted m segment × IsTerm m segment t term)
+            (λ n. ListStands n segment t result (newest_first n segment t) (length (packed_words n segment t))) }
         ensures steps { steps.new ≡ steps.old + 1 }
     {
         let places = Places::new(port.config());
@@ -74,10 +73,8 @@ impl PackedList {
     ) -> Option<Posting>
         requires { (m : Moment) × (s : ℕ) × (t : Term) × (rest : List ℕ) × (budget : ℕ)
             × P.stands port.old m × ListStands m s t self.old rest budget }
-        ensures told { (m : Moment) (s : ℕ) (t : Term) (rest : List ℕ) (budget : ℕ)
-            → P.stands port.old m → ListStands m s t self.old rest budget
-            → (n : Moment) × (b : ℕ) × P.stands port.new n × IsNotBefore n m × P.keeps port.old m port.new n
-            × ListGives n s t self.new rest b result × (steps.new + b ≤ steps.old + budget) }
+        ensures told { (s : ℕ) (t : Term) (rest : List ℕ) (budget : ℕ) → Told P.stands P.keeps port.old port.new
+            (λ m. ListStands m s t self.old rest budget) (λ n. (b : ℕ) × ListGives n s t self.new rest b result × (steps.new + b ≤ steps.old + budget)) }
         ensures one { steps.new ≤ steps.old + 1 }
     {
         if !self.hold(port, steps) {
@@ -102,10 +99,8 @@ impl PackedList {
     pub fn seek<P: Port, L: Ledger>(&mut self, port: &mut P, most: Posting, steps: &mut Steps<L>)
         requires { (m : Moment) × (s : ℕ) × (t : Term) × (rest : List ℕ) × (budget : ℕ)
             × P.stands port.old m × ListStands m s t self.old rest budget }
-        ensures told { (m : Moment) (s : ℕ) (t : Term) (rest : List ℕ) (budget : ℕ)
-            → P.stands port.old m → ListStands m s t self.old rest budget
-            → (n : Moment) × (b : ℕ) × P.stands port.new n × IsNotBefore n m × P.keeps port.old m port.new n
-            × ListStands n s t self.new (up_to most rest) b × (steps.new + b ≤ steps.old + budget) }
+        ensures told { (s : ℕ) (t : Term) (rest : List ℕ) (budget : ℕ) → Told P.stands P.keeps port.old port.new
+            (λ m. ListStands m s t self.old rest budget) (λ n. (b : ℕ) × ListStands n s t self.new (up_to most rest) b × (steps.new + b ≤ steps.old + budget)) }
         ensures loads { (m : Moment) (s : ℕ) (t : Term) (rest : List ℕ) (budget : ℕ)
             → P.stands port.old m → ListStands m s t self.old rest budget
             → steps.new ≤ steps.old + seek_loads (length rest - length (up_to most rest)) }
@@ -124,10 +119,10 @@ impl PackedList {
         ensures near { IsNear most self.new }
         ensures loads { 128 * steps.new + remaining self.new ≤ 128 * steps.old + remaining self.old + 256 }
         ensures fewer { remaining self.new ≤ remaining self.old }
-        ensures told { (m : Moment) (s : ℕ) (t : Term) (rest : List ℕ) (budget : ℕ)
-            → P.stands port.old m → ListStands m s t self.old rest budget
-            → (n : Moment) × (after : List ℕ) × (b : ℕ) × P.stands port.new n × IsNotBefore n m × P.keeps port.old m port.new n
-            × ListStands n s t self.new after b × (steps.new + b ≤ steps.old + budget) × (up_to most after ≡ up_to most rest) }
+        ensures told { (s : ℕ) (t : Term) (rest : List ℕ) (budget : ℕ) → Told P.stands P.keeps port.old port.new
+            (λ m. ListStands m s t self.old rest budget)
+            (λ n. (after : List ℕ) × (b : ℕ) × ListStands n s t self.new after b × (steps.new + b ≤ steps.old + budget)
+            × (up_to most after ≡ up_to most rest)) }
     {
         'whole: while self.pass_block(port, most, steps) {}
     }
@@ -146,10 +141,8 @@ impl PackedList {
         ensures loads { steps.new + self.old.at ≡ steps.old + self.new.at }
         ensures fewer { remaining self.new ≤ remaining self.old }
         ensures few { steps.new + self.new.inside + self.new.left ≤ steps.old + self.old.inside + self.old.left }
-        ensures told { (m : Moment) (s : ℕ) (t : Term) (rest : List ℕ) (budget : ℕ)
-            → P.stands port.old m → ListStands m s t self.old rest budget
-            → (n : Moment) × (b : ℕ) × P.stands port.new n × IsNotBefore n m × P.keeps port.old m port.new n
-            × ListStands n s t self.new (up_to most rest) b × (steps.new + b ≤ steps.old + budget) }
+        ensures told { (s : ℕ) (t : Term) (rest : List ℕ) (budget : ℕ) → Told P.stands P.keeps port.old port.new
+            (λ m. ListStands m s t self.old rest budget) (λ n. (b : ℕ) × ListStands n s t self.new (up_to most rest) b × (steps.new + b ≤ steps.old + budget)) }
     {
         'postings: while self.pass_one(port, most, steps) {}
     }
@@ -176,10 +169,10 @@ impl PackedList {
         ensures stays { result ≡ false → remaining self.new ≡ remaining self.old }
         ensures enters { result ≡ true → remaining self.new ≡ self.old.left }
         ensures full { result ≡ true → 1 ≤ self.new.left → self.new.left + 128 ≡ self.old.left }
-        ensures told { (m : Moment) (s : ℕ) (t : Term) (rest : List ℕ) (budget : ℕ)
-            → P.stands port.old m → ListStands m s t self.old rest budget
-            → (n : Moment) × (after : List ℕ) × (b : ℕ) × P.stands port.new n × IsNotBefore n m × P.keeps port.old m port.new n
-            × ListStands n s t self.new after b × (steps.new + b ≤ steps.old + budget) × (up_to most after ≡ up_to most rest) }
+        ensures told { (s : ℕ) (t : Term) (rest : List ℕ) (budget : ℕ) → Told P.stands P.keeps port.old port.new
+            (λ m. ListStands m s t self.old rest budget)
+            (λ n. (after : List ℕ) × (b : ℕ) × ListStands n s t self.new after b × (steps.new + b ≤ steps.old + budget)
+            × (up_to most after ≡ up_to most rest)) }
     {
         if self.left == 0 {
             return false;
@@ -210,11 +203,11 @@ impl PackedList {
         ensures fewer { remaining self.new ≤ remaining self.old }
         ensures few { steps.new + self.new.inside + self.new.left ≤ steps.old + self.old.inside + self.old.left }
         ensures less { result ≡ true → self.new.inside < self.old.inside }
-        ensures told { (m : Moment) (s : ℕ) (t : Term) (rest : List ℕ) (budget : ℕ)
-            → P.stands port.old m → ListStands m s t self.old rest budget
-            → (n : Moment) × (after : List ℕ) × (b : ℕ) × P.stands port.new n × IsNotBefore n m × P.keeps port.old m port.new n
-            × ListStands n s t self.new after b × (steps.new + b ≤ steps.old + budget) × (up_to most after ≡ up_to most rest)
-            × (result ≡ false → IsNear most self.old → up_to most after ≡ after) }
+        ensures told { (s : ℕ) (t : Term) (rest : List ℕ) (budget : ℕ) → Told P.stands P.keeps port.old port.new
+            (λ m. ListStands m s t self.old rest budget)
+            (λ n. (after : List ℕ) × (b : ℕ) × ListStands n s t self.new after b × (steps.new + b ≤ steps.old + budget)
+            × (up_to most after ≡ up_to most rest)
+            × (result ≡ false → IsNear most self.old → up_to most after ≡ after)) }
     {
         if self.is_at(most) {
             return false;
@@ -232,11 +225,9 @@ impl PackedList {
         requires { (m : Moment) × (s : ℕ) × (t : Term) × (rest : List ℕ) × (budget : ℕ)
             × P.stands port.old m × ListStands m s t self.old rest budget }
         ensures one { steps.new ≤ steps.old + 1 }
-        ensures told { (m : Moment) (s : ℕ) (t : Term) (rest : List ℕ) (budget : ℕ)
-            → P.stands port.old m → ListStands m s t self.old rest budget
-            → (n : Moment) × (b : ℕ) × P.stands port.new n × IsNotBefore n m × P.keeps port.old m port.new n
-            × ListStands n s t self.new rest b × (steps.new + b ≤ steps.old + budget)
-            × MatchBool result (self.new.held ≡ true) (rest ≡ []) }
+        ensures told { (s : ℕ) (t : Term) (rest : List ℕ) (budget : ℕ) → Told P.stands P.keeps port.old port.new
+            (λ m. ListStands m s t self.old rest budget) (λ n. (b : ℕ) × ListStands n s t self.new rest b × (steps.new + b ≤ steps.old + budget)
+            × MatchBool result (self.new.held ≡ true) (rest ≡ [])) }
     {
         if self.held {
             return true;
@@ -266,10 +257,8 @@ impl PackedList {
         ensures next { self.new.next ≡ self.old.next }
         ensures loads { steps.new + self.old.at ≡ steps.old + self.new.at }
         ensures one { steps.new ≤ steps.old + 1 }
-        ensures told { (m : Moment) (s : ℕ) (t : Term) (rest : List ℕ) (budget : ℕ)
-            → P.stands port.old m → ListStands m s t self.old rest budget
-            → (n : Moment) × (b : ℕ) × P.stands port.new n × IsNotBefore n m × P.keeps port.old m port.new n
-            × ListStands n s t self.new rest b × (steps.new + b ≡ steps.old + budget) }
+        ensures told { (s : ℕ) (t : Term) (rest : List ℕ) (budget : ℕ) → Told P.stands P.keeps port.old port.new
+            (λ m. ListStands m s t self.old rest budget) (λ n. (b : ℕ) × ListStands n s t self.new rest b × (steps.new + b ≡ steps.old + budget)) }
     {
         self.inside -= 1;
         self.held = true;
@@ -294,10 +283,8 @@ impl PackedList {
         ensures loaded { 1 ≤ self.new.header }
         ensures same { self.new ≡ record self.old { header = self.new.header } }
         ensures one { steps.new ≤ steps.old + 1 }
-        ensures told { (m : Moment) (s : ℕ) (t : Term) (rest : List ℕ) (budget : ℕ)
-            → P.stands port.old m → ListStands m s t self.old rest budget
-            → (n : Moment) × (b : ℕ) × P.stands port.new n × IsNotBefore n m × P.keeps port.old m port.new n
-            × ListStands n s t self.new rest b × (steps.new + b ≡ steps.old + budget) }
+        ensures told { (s : ℕ) (t : Term) (rest : List ℕ) (budget : ℕ) → Told P.stands P.keeps port.old port.new
+            (λ m. ListStands m s t self.old rest budget) (λ n. (b : ℕ) × ListStands n s t self.new rest b × (steps.new + b ≡ steps.old + budget)) }
     {
         if self.header > 0 {
             return;
@@ -334,8 +321,7 @@ impl PackedList {
 // A packed word. Ticks one load.
 fn packed_word<P: Port, L: Ledger>(port: &mut P, segment: u32, at: u32, steps: &mut Steps<L>) -> u64
     requires { (m : Moment) × (value : ℕ) × P.stands port.old m × IsPackedAt m segment at value }
-    ensures told { (m : Moment) (value : ℕ) → P.stands port.old m → IsPackedAt m segment at value
-        → (n : Moment) × P.stands port.new n × IsNotBefore n m × P.keeps port.old m port.new n × (result ≡ value) }
+    ensures told { (value : ℕ) → Told P.stands P.keeps port.old port.new (λ m. IsPackedAt m segment at value) (λ n. result ≡ value) }
     ensures step { steps.new ≡ steps.old + 1 }
 {
     let places = Places::new(port.config());

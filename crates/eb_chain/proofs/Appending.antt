@@ -12,21 +12,24 @@ use Rattle.eb_place.specs.Layout.Region.{cell_region, tail_region, id_region}
 use Rattle.eb_place.specs.Postings.{terms_of, distinct, count_of, number_of, posting_of}
 use Rattle.eb_place.specs.Room.{cut, IsLawful}
 use Rattle.eb_place.specs.Placing.{Store, append_stores, token_stores, tokens_stores, stores_in, doc_stores, segment_before}
-use Rattle.eb_place.specs.Moments.{with_current, current_of, current_stores, placings, document_stores}
-use Rattle.eb_place.specs.NextStores.{stores_done, IsCurrent}
+use Rattle.eb_place.specs.Moments.{with_current, current_of, placings, document_stores}
+use Rattle.eb_place.specs.NextStores.{stores_done, IsCurrent, with_stores}
+use Rattle.eb_place.specs.Seen.{is_in}
 use Rattle.eb_place.proofs.TermCounts.{one_if, same_term, count_of_push, distinct_push, with_term_cases, once}
 use Rattle.eb_place.proofs.NextAddresses.{tokens_stores-append}
 use Rattle.eb_place.proofs.FreshPoolWords.{Each}
 use Rattle.eb_place.proofs.StoresWithinTable.{IsWithin, slices_fit, token_within}
-use Rattle.eb_place.proofs.TermNumbersStay.{number_here, number_stays}
+use Rattle.eb_place.proofs.TermNumbersStay.{number_here, number_stays, distinct_more}
 use Rattle.eb_place.proofs.WordsOfTokens.{Reached, Room, reached_keeps, front_stores, tail_store, token_split, front_apart}
 use Rattle.eb_place.proofs.StoringTokens.{Each-front, Agrees, tokens_done, room_before}
 use Rattle.eb_place.proofs.WordsOfHistories.{posting_numbers, agrees_doc, posting_front, terms_push}
 use Rattle.eb_place.proofs.StoresOfDocuments.{first_stores, first_within, first_plain, stores_split}
 use Rattle.eb_place.proofs.WordsAtMoment.{placed_all, reached_same, Joins, joins, lawful_front}
-use Rattle.eb_chain.specs.Appends.{tokens_before, IsPostingNext, with_stores}
-use Rattle.eb_chain.proofs.RegionCounts.{count_in, count_in-append, enters, enters_tails, enters_cells, appends_tails, appends_cells}
-use Rattle.eb_chain.proofs.RegionCounts.{tokens_tails, tokens_cells, distinct_one, distinct_more, firsts_away, Counts, counts_placed}
+use Rattle.eb_chain.specs.Appends.{tokens_before, IsPostingNext}
+use Rattle.eb_place.proofs.RegionCounts.{count_in, enters, enters_tails, enters_cells, appends_tails, appends_cells}
+use Rattle.eb_place.proofs.RegionCounts.{tokens_tails, tokens_cells, distinct_one, firsts_away, Counts, counts_placed}
+use Rattle.eb_place.proofs.RegionStores.{count_by-append}
+use Rattle.eb_place.proofs.NextStore.{current_is}
 
 -- ---- where in the placing it is
 
@@ -134,8 +137,8 @@ around σ docs None d s seg [] later t j cur e w = record {
         let T = tokens_stores σ s (length seg) 0 (terms_of seg) [] in
         let E = enters σ s (terms_of seg ++ []) t in
         let a : 0 ≡ count_in s cell_region (first_stores s seg (length docs) ++ (T ++ E)) = ap (count_in s cell_region) w in
-        let b = count_in-append s cell_region (first_stores s seg (length docs)) (T ++ E) in
-        let h = count_in-append s cell_region T E in
+        let b = count_by-append (is_in s cell_region) (first_stores s seg (length docs)) (T ++ E) in
+        let h = count_by-append (is_in s cell_region) T E in
         let f = enters_cells σ s (terms_of seg ++ []) t in
         let g = ap one_if (eq-eqb (count_of t (terms_of seg ++ [])) 0 q) in
         absurd (omega arith)
@@ -143,8 +146,8 @@ around σ docs None d s seg (u ∷ us) later t j cur e w = absurd (
     let T = tokens_stores σ s (length seg) 0 (terms_of seg) (u ∷ us) in
     let E = enters σ s (terms_of seg ++ (u ∷ us)) t in
     let a : 0 ≡ count_in s tail_region (first_stores s seg (length docs) ++ (T ++ E)) = ap (count_in s tail_region) w in
-    let b = count_in-append s tail_region (first_stores s seg (length docs)) (T ++ E) in
-    let f = count_in-append s tail_region T E in
+    let b = count_by-append (is_in s tail_region) (first_stores s seg (length docs)) (T ++ E) in
+    let f = count_by-append (is_in s tail_region) T E in
     let g = tokens_tails σ s (length seg) 0 (terms_of seg) (u ∷ us) in
     omega arith
     )
@@ -175,10 +178,6 @@ reached_before σ docs d s seg earlier later t k lawful j e =
     let h3 = reached_keeps σ s b P ((L ++ F) ++ T) E room0 (Each-front E _ (Each-front (front_stores σ s b t 0) (tail_store s b t ∷ []) within)) (Each-front E _ (front_apart σ s b t 0 fit)) h2 in
     (room1, subst (Reached σ s b P) (simp append_assoc) h3)
 
-current_is : (σ : Setting) (docs : List Doc) (c : Option (Doc × ℕ)) (d : Doc) → IsCurrent c d → current_stores σ docs c ≡ take (stores_done c) (doc_stores σ docs d)
-current_is σ docs None d is = refl
-current_is σ docs (Some c) d is = ap (λ (e : Doc). take c.1 (doc_stores σ docs e)) is
-
 -- how many tails and cells these stores are
 pub tails_before : (σ : Setting) (docs : List Doc) (s : ℕ) (seg : List Doc) (earlier : List Term) (t : Term) → get_or (cut σ docs) s [] ≡ seg → Counts σ docs s
     → count_in s tail_region (placings σ docs ++ stores_before σ s seg (length docs) earlier t) ≡ length (terms_of seg ++ earlier)
@@ -189,9 +188,9 @@ tails_before σ docs s seg earlier t old c =
     let E = enters σ s (T0 ++ earlier) t in
     omega (
       arith,
-      count_in-append s tail_region (placings σ docs) (F ++ (T ++ E)),
-      count_in-append s tail_region F (T ++ E),
-      count_in-append s tail_region T E,
+      count_by-append (is_in s tail_region) (placings σ docs) (F ++ (T ++ E)),
+      count_by-append (is_in s tail_region) F (T ++ E),
+      count_by-append (is_in s tail_region) T E,
       firsts_away s s tail_region seg (length docs) refl,
       tokens_tails σ s (length seg) 0 T0 earlier,
       enters_tails σ s (T0 ++ earlier) t,
@@ -209,9 +208,9 @@ cells_before σ docs s seg earlier t old c =
     let E = enters σ s (T0 ++ earlier) t in
     omega (
       arith,
-      count_in-append s cell_region (placings σ docs) (F ++ (T ++ E)),
-      count_in-append s cell_region F (T ++ E),
-      count_in-append s cell_region T E,
+      count_by-append (is_in s cell_region) (placings σ docs) (F ++ (T ++ E)),
+      count_by-append (is_in s cell_region) F (T ++ E),
+      count_by-append (is_in s cell_region) T E,
       firsts_away s s cell_region seg (length docs) refl,
       tokens_cells σ s (length seg) 0 T0 earlier,
       enters_cells σ s (T0 ++ earlier) t,
@@ -303,7 +302,7 @@ done_after σ x d s t posting k lawful q =
           (omega (
             arith,
             ap (count_in s tail_region) stores,
-            count_in-append s tail_region (placings σ docs ++ W) A,
+            count_by-append (is_in s tail_region) (placings σ docs ++ W) A,
             tails_before σ docs s seg q.earlier t j.old c,
             appends_tails s b t (count_of t b) posting,
             length_push b t,
@@ -312,7 +311,7 @@ done_after σ x d s t posting k lawful q =
           (omega (
             arith,
             ap (count_in s cell_region) stores,
-            count_in-append s cell_region (placings σ docs ++ W) A,
+            count_by-append (is_in s cell_region) (placings σ docs ++ W) A,
             cells_before σ docs s seg q.earlier t j.old c,
             appends_cells s b t (count_of t b) posting,
           ));

@@ -1,31 +1,25 @@
 -- Leaps: rows of postings that stand one place after the other, and what a walk may pass over.
-use Rattle.std.proofs.Common.{◌≡◌, ℕ, zero, suc, ◌+◌, ◌-◌, ◌*◌, ◌^◌, ◌<◌, ◌≤◌, inl, inr, true, false, List, [], ◌∷◌, ◌++◌}
-use Rattle.std.proofs.Common.{length, take, reverse, get_or, refl, ap, sym, ◌∙◌, subst, arith, bytes_eq, nat_le, nat_lt, ◌&&◌}
+use Rattle.std.proofs.Common.{◌≡◌, ℕ, zero, suc, ◌+◌, ◌-◌, ◌*◌, ◌^◌, ◌<◌, ◌≤◌, inl, inr, true, false, List, [], ◌∷◌}
+use Rattle.std.proofs.Common.{length, take, reverse, get_or, refl, ap, sym, ◌∙◌, subst, arith, nat_le, nat_lt, ◌&&◌}
 use Rattle.std.proofs.lemmas.Bool.{cases_Bool, cases_lt}
 use Rattle.std.proofs.lemmas.Bool.Decides.{nat_tests}
 use Rattle.std.proofs.Math.Nat.{pow-succ'}
 use Rattle.eb_base.specs.Term.{Term}
-use Rattle.eb_base.specs.Document.{Doc, IsDocument}
 use Rattle.eb_place.specs.declared.moment.Moment.{Moment}
 use Rattle.eb_place.specs.Address.{pool_at, offset_at, slice_start, begins, address_of}
-use Rattle.eb_place.specs.Postings.{posting_of, tokens_from, segment_from, tokens, postings, terms_of}
-use Rattle.eb_place.specs.Moments.{IsMoment, with_current}
+use Rattle.eb_place.specs.Postings.{terms_of}
+use Rattle.eb_place.specs.Moments.{IsMoment}
 use Rattle.eb_place.specs.Later.{IsNotBefore}
 use Rattle.eb_place.specs.Seen.{segment}
 use Rattle.eb_place.specs.Walk.{IsAddress, posting_in}
 use Rattle.eb_place.proofs.AddressesDiffer.{start_le}
 use Rattle.eb_place.proofs.ReaderWords.{Parts, address_parts, address_small}
-use Rattle.eb_place.proofs.FreshPoolWords.{Each}
-use Rattle.eb_place.proofs.FreshPoolWords.Each.{more}
-use Rattle.eb_place.proofs.WordsOfHistories.{postings_in, postings_append}
-use Rattle.eb_place.proofs.WordsAtMoment.{placed_all}
 use Rattle.eb_place.proofs.ReachedWordsStay.{address_later, later_posting}
-use Rattle.eb_place.proofs.PostingsFall.{RisesFrom, postings_rise}
+use Rattle.eb_place.proofs.PostingsFall.{RisesFrom}
 use Rattle.eb_place.proofs.WayBackFromPosting.{told, reverse_take}
-use Rattle.eb_chain.specs.declared.leaps.Bounds.{Bounds}
 use Rattle.eb_chain.specs.declared.leaps.Found.{Found}
 use Rattle.eb_chain.specs.Chains.{next_loads}
-use Rattle.eb_chain.specs.Leaps.{at_most, slices_in_use, walk_loads, IsRow, IsOldest, Between, IsNewest}
+use Rattle.eb_chain.specs.Leaps.{at_most, slices_in_use, walk_loads, IsRow, IsOldest, IsNewest}
 
 -- ---- rows at later moments
 
@@ -35,17 +29,6 @@ row_later m n s t b o span is l h = record { places = λ p k. address_later m n 
 -- the postings of a row are the same later
 pub row_stays : (m n : Moment) (s : ℕ) (t : Term) (b o span p : ℕ) → IsNotBefore n m → IsRow m s t b o span → p ≤ span → posting_in n s t (b + p) ≡ posting_in m s t (b + p)
 row_stays m n s t b o span p l h k = later_posting m n s t (b + p) l (h.places p k).reached
-
-pub between_as : (m n : Moment) (s : ℕ) (t : Term) (b span most : ℕ) (x : Bounds)
-    → ((p : ℕ) → p ≤ span → posting_in n s t (b + p) ≡ posting_in m s t (b + p)) → Between m s t b span most x → Between n s t b span most x
-between_as m n s t b span most x same h = let o = h.order in let w = h.within in
-    record {
-      order = h.order;
-      within = h.within;
-      is = h.is ∙ sym (same x.low (omega arith));
-      few = h.few;
-      above = λ k. omega (arith, h.above k, same x.high k);
-    }
 
 pub newest_as : (m n : Moment) (s : ℕ) (t : Term) (b span most : ℕ) (x : Found)
     → ((p : ℕ) → p ≤ span → posting_in n s t (b + p) ≡ posting_in m s t (b + p)) → IsNewest m s t b span most x → IsNewest n s t b span most x

@@ -2,7 +2,6 @@
 use Rattle.std.proofs.Common.{◌≡◌, ℕ, zero, suc, ◌+◌, ◌-◌, ◌*◌, ◌^◌, ◌<◌, ◌≤◌, ◌==◌, ◌&&◌, Bool, true, false, List, [], ◌∷◌, ◌++◌, length, take}
 use Rattle.std.proofs.Common.{get_or, refl, ap, sym, ◌∙◌, subst, arith, inl, inr, if◌then◌else◌, nat_le, sum_by, Option, Some, None, lit<}
 use Rattle.std.proofs.lemmas.Bool.{cases_Bool, cases_lt, false≢true, eqb-true, le-leb}
-use Rattle.std.proofs.lemmas.List.{length-append}
 use Rattle.eb_base.specs.Term.{Term}
 use Rattle.eb_base.specs.Document.{Doc}
 use Rattle.eb_base.specs.Setting.{Setting}
@@ -16,9 +15,9 @@ use Rattle.eb_place.specs.Postings.{terms_of, distinct, count_of, number_of}
 use Rattle.eb_place.specs.Room.{cut, text_words}
 use Rattle.eb_place.specs.Address.{pool_at, offset_at, slice_start, begins, begins_in, slices_begun, front_of, address_of}
 use Rattle.eb_place.specs.Placing.{Store, append_stores, tokens_stores, segment_before}
-use Rattle.eb_place.specs.Moments.{with_current, placings, document_stores, word, IsMoment}
+use Rattle.eb_place.specs.Moments.{placings, word, IsMoment}
 use Rattle.eb_place.specs.Later.{IsNotBefore}
-use Rattle.eb_place.specs.NextStores.{stores_done, after_store}
+use Rattle.eb_place.specs.NextStores.{stores_done, after_store, AreNext, with_stores}
 use Rattle.eb_place.specs.Seen.{segment, stores_in_region, entered, tokens_seen}
 use Rattle.eb_place.specs.Tells.{TellsSegment}
 use Rattle.eb_place.specs.Walk.{IsTerm}
@@ -29,23 +28,20 @@ use Rattle.eb_place.proofs.StoresWithinTable.{slices_fit}
 use Rattle.eb_place.proofs.TermNumbersStay.{number_absent}
 use Rattle.eb_place.proofs.WordsOfTokens.{val}
 use Rattle.eb_place.proofs.StoringTokens.{room_before}
-use Rattle.eb_place.proofs.PackedStores.{is_packed}
 use Rattle.eb_place.proofs.LaterMoments.{later_on}
 use Rattle.eb_place.proofs.NextStore.{setting_stored}
 use Rattle.eb_place.proofs.ReachedLater.{later_term}
-use Rattle.eb_place.proofs.ReaderWords.{Parts, word_of_writer, tail_in_table}
+use Rattle.eb_place.proofs.ReaderWords.{word_of_writer, tail_in_table, packed_tail, parts_of}
 use Rattle.eb_chain.specs.declared.next_place.NextPlace.{NextPlace}
 use Rattle.eb_chain.specs.Needs.{IsTailWord}
-use Rattle.eb_chain.specs.Appends.{tokens_before, IsPostingNext, with_stores, HasAppended}
-use Rattle.eb_chain.specs.NextPlaces.{slices_of, with_slice, HasAddress, IsNextPlace, AreNext, link_stores, after_link}
+use Rattle.eb_chain.specs.Appends.{tokens_before, IsPostingNext, HasAppended}
+use Rattle.eb_chain.specs.NextPlaces.{slices_of, with_slice, HasAddress, IsNextPlace, link_stores, after_link}
 use Rattle.eb_place.proofs.WayBackFromPosting.{told}
-use Rattle.eb_chain.proofs.RegionCounts.{count_in}
+use Rattle.eb_place.proofs.RegionCounts.{count_in}
+use Rattle.eb_place.proofs.ListOfStores.{one_stored, pool_counts_nothing}
+use Rattle.eb_place.proofs.EnteredTerms.{entered_by}
+use Rattle.eb_place.proofs.TailStores.{tokens_by}
 use Rattle.eb_chain.proofs.Appending.{stores_before, Here, here, Done, done_after}
-use Rattle.eb_chain.proofs.Storing.{one_stored}
-
-not_packed : (s k : ℕ) → is_packed (slot s tail_region k) ≡ true → ⊥
-unfolding is_packed
-not_packed s k h = false≢true h
 
 -- the tail of a term with n postings among the stored tokens
 abbrev pub tail_of : Term → List Term → ℕ → ℕ
@@ -64,17 +60,13 @@ tail_here : (m : Moment) (s : ℕ) (t : Term) (k : ℕ) (before : List Term) (L 
 tail_here m s t k before L is term h =
     let i = tail_in_table m s t k is term in
     let number : k ≡ number_of t before = term.number ∙ h.number in
-    word_of_writer m (slot s tail_region k) is i.1 (not_packed s k) ∙ ap (λ z. val m.setting z (slot s tail_region k)) h.stores ∙ by (count_of t before) refl number i.0
+    word_of_writer m (slot s tail_region k) is i.1 (packed_tail s k) ∙ ap (λ z. val m.setting z (slot s tail_region k)) h.stores ∙ by (count_of t before) refl number i.0
   where
     by : (n : ℕ) → count_of t before ≡ n → k ≡ number_of t before → k < m.setting.terms → val m.setting L (slot s tail_region k) ≡ tail_of t before n
     by zero e number low = h.reached.bare k (omega (arith, number_absent t before e)) low
     by (suc f) e number low =
         ap (λ z. val m.setting L (slot s tail_region z)) number ∙ h.reached.tail t (omega arith)
         ∙ ap (λ z. address_of t z before + 1) (let q : count_of t before - 1 ≡ f = omega arith in q)
-
-parts_of : (t : Term) (f : ℕ) (ts : List Term) → slices_begun (pool_at f) (front_of t (slice_start f) ts) * 2 ^ slice_bits (pool_at f) + offset_at f < 2 ^ 30 → Parts f (address_of t f ts)
-unfolding address_of
-parts_of t f ts h = record { slice = slices_begun (pool_at f) (front_of t (slice_start f) ts); is = refl; inside = h }
 
 -- so it is a tail word of so many postings
 tail_word_here : (t : Term) (before : List Term) (n : ℕ) → n ≤ count_of t before → SlicesFit before → IsTailWord n (tail_of t before n)
@@ -216,7 +208,7 @@ stores_next m d s t posting k tail u r is term tells q e h =
     λ i. l i ++ (pool_slot s (sym a i), posting) ∷ (slot s tail_region (sym number i), sym a i + 1) ∷ []
 
 pub are_next : (m : Moment) (d : Doc) (s : ℕ) (t : Term) (posting : ℕ) (now : List Store) → (q : IsPostingNext m.setting m.documents d s t posting)
-    → append_stores s (tokens_before m.setting m.documents.accepted d q.earlier) t (before_it m d s t posting q) posting ≡ now → AreNext m.setting m.documents d now
+    → append_stores s (tokens_before m.setting m.documents.accepted d q.earlier) t (before_it m d s t posting q) posting ≡ now → AreNext m d now
 are_next m d s t posting now q e =
     let docs = m.documents.accepted in
     let seg = segment_before m.setting docs d in
@@ -226,9 +218,7 @@ are_next m d s t posting now q e =
       limits = q.limits;
       room = q.room;
       current = q.current;
-      later = T ++ Z;
-      more = omega (arith, length-append T Z);
-      left = q.left ∙ ap (λ z. z ++ (T ++ Z)) e;
+      front = (T ++ Z, sym (q.left ∙ ap (λ z. z ++ (T ++ Z)) e));
     }
 
 -- a slice that has a link begins behind an address
@@ -251,9 +241,9 @@ pub record More (m n : Moment) (d : Doc) (k : ℕ) : Type 0 where
   pub documents : n.documents ≡ with_stores m.documents d k
   pub later : IsNotBefore n m
 
-one_more : (m n : Moment) (d : Doc) (k : ℕ) (x : Store) (now : List Store) → More m n d k → AreNext n.setting n.documents d (x ∷ now) → More m (after_store n d) d (k + 1)
-one_more m n d k x now h a =
-    let one = one_stored n d x now a in
+one_more : (m n : Moment) (d : Doc) (k : ℕ) (x : Store) (now : List Store) → More m n d k → AreNext n d (x ∷ now) → (x.0 ≡ published → ⊥) → More m (after_store n d) d (k + 1)
+one_more m n d k x now h a plain =
+    let one = one_stored n d x now a plain in
     record {
       setting = setting_stored n d ∙ h.setting;
       documents = one.documents ∙ ap (λ (z : Documents). with_stores z d 1) h.documents ∙ ap (λ j. record { accepted = m.documents.accepted; current = Some (d, j) })
@@ -261,23 +251,24 @@ one_more m n d k x now h a =
       later = later_on m n (after_store n d) h.later one.later;
     }
 
-first_more : (m : Moment) (d : Doc) (x : Store) (now : List Store) → AreNext m.setting m.documents d (x ∷ now) → More m (after_store m d) d 1
-first_more m d x now a = let one = one_stored m d x now a in record { setting = setting_stored m d; documents = one.documents; later = one.later }
+first_more : (m : Moment) (d : Doc) (x : Store) (now : List Store) → AreNext m d (x ∷ now) → (x.0 ≡ published → ⊥) → More m (after_store m d) d 1
+first_more m d x now a plain = let one = one_stored m d x now a plain in record { setting = setting_stored m d; documents = one.documents; later = one.later }
 
 -- after the link the other stores come next
 pub link_next : (m : Moment) (d : Doc) (s at : ℕ) (link : Option ℕ) (now : List Store)
-    → AreNext m.setting m.documents d (link_stores s at link ++ now) → AreNext (after_link m d link).setting (after_link m d link).documents d now
+    → AreNext m d (link_stores s at link ++ now) → AreNext (after_link m d link) d now
 link_next m d s at None now h = h
-link_next m d s at (Some last) now h = (one_stored m d (pool_slot s (at - 1), last) now h).rest
+link_next m d s at (Some last) now h = (one_stored m d (pool_slot s (at - 1), last) now h (pool_counts_nothing s (at - 1))).rest
 
 -- after all of them so many are done
-pub all_more : (m : Moment) (d : Doc) (s at : ℕ) (link : Option ℕ) (x y : Store) → AreNext m.setting m.documents d (link_stores s at link ++ x ∷ y ∷ [])
-    → More m (after_store (after_store (after_link m d link) d) d) d (length (link_stores s at link ++ x ∷ y ∷ []))
-all_more m d s at None x y h = one_more m (after_store m d) d 1 y [] (first_more m d x (y ∷ []) h) (one_stored m d x (y ∷ []) h).rest
-all_more m d s at (Some last) x y h =
-    let l = one_stored m d (pool_slot s (at - 1), last) (x ∷ y ∷ []) h in
-    let a = one_stored (after_store m d) d x (y ∷ []) l.rest in
-    one_more m (after_store (after_store m d) d) d 2 y [] (one_more m (after_store m d) d 1 x (y ∷ []) (first_more m d (pool_slot s (at - 1), last) (x ∷ y ∷ []) h) l.rest) a.rest
+pub all_more : (m : Moment) (d : Doc) (s at : ℕ) (link : Option ℕ) (x y : Store) → AreNext m d (link_stores s at link ++ x ∷ y ∷ [])
+    → (x.0 ≡ published → ⊥) → (y.0 ≡ published → ⊥) → More m (after_store (after_store (after_link m d link) d) d) d (length (link_stores s at link ++ x ∷ y ∷ []))
+all_more m d s at None x y h px py = one_more m (after_store m d) d 1 y [] (first_more m d x (y ∷ []) h px) (one_stored m d x (y ∷ []) h px).rest py
+all_more m d s at (Some last) x y h px py =
+    let p = pool_counts_nothing s (at - 1) in
+    let l = one_stored m d (pool_slot s (at - 1), last) (x ∷ y ∷ []) h p in
+    let a = one_stored (after_store m d) d x (y ∷ []) l.rest px in
+    one_more m (after_store (after_store m d) d) d 2 y [] (one_more m (after_store m d) d 1 x (y ∷ []) (first_more m d (pool_slot s (at - 1), last) (x ∷ y ∷ []) h p) l.rest px) a.rest py
 
 -- ---- what is used
 
@@ -357,15 +348,6 @@ tells_after m n d s t posting tail u r is tells q h more =
 
 -- ---- from one moment to another with the same documents part
 
--- what the writer knows of a segment goes by its documents part alone
-entered_same : (m n : Moment) (s : ℕ) → m.setting ≡ n.setting → m.documents ≡ n.documents → entered m s ≡ entered n s
-unfolding entered stores_in_region
-entered_same m n s e f = λ i. take (count_in s cell_region (document_stores (e i) (f i))) (distinct (terms_of (get_or (cut (e i) (with_current (f i))) s [])))
-
-seen_same : (m n : Moment) (s : ℕ) → m.setting ≡ n.setting → m.documents ≡ n.documents → tokens_seen m s ≡ tokens_seen n s
-unfolding tokens_seen stores_in_region
-seen_same m n s e f = λ i. take (count_in s tail_region (document_stores (e i) (f i))) (terms_of (get_or (cut (e i) (with_current (f i))) s []))
-
 -- the conditions of a call, at a later moment
 pub record Carried (n : Moment) (d : Doc) (s : ℕ) (t : Term) (posting k : ℕ) (u : Used) : Type 0 where
   pub next : IsPostingNext n.setting n.documents d s t posting
@@ -376,8 +358,8 @@ pub carried : (m n : Moment) (d : Doc) (s : ℕ) (t : Term) (posting k : ℕ) (u
     → IsTerm m s t k → TellsSegment u m s → IsPostingNext m.setting m.documents d s t posting → Carried n d s t posting k u
 carried m n d s t posting k u later same term tells q =
     let e : m.documents ≡ n.documents = sym same in
-    let seen = seen_same m n s later.setting e in
-    let has = entered_same m n s later.setting e in
+    let seen = tokens_by n m s later.setting e in
+    let has = entered_by n m s later.setting e in
     record {
       next = subst (λ (z : Setting × Documents). IsPostingNext z.0 z.1 d s t posting) (λ i. (later.setting i, e i)) q;
       tells = record {
@@ -394,7 +376,7 @@ carried m n d s t posting k u later same term tells q =
 
 -- the stores of the posting, and what is known after them
 pub record Posted (m n : Moment) (d : Doc) (s : ℕ) (t : Term) (posting k : ℕ) (u : Used) (r : NextPlace) : Type 0 where
-  pub next : AreNext n.setting n.documents d (link_stores s r.address r.link ++ (pool_slot s r.address, posting) ∷ (slot s tail_region k, r.address + 1) ∷ [])
+  pub next : AreNext n d (link_stores s r.address r.link ++ (pool_slot s r.address, posting) ∷ (slot s tail_region k, r.address + 1) ∷ [])
   pub appended : HasAppended m (after_store (after_store (after_link n d r.link) d) d) d s t posting
   pub tells : TellsSegment r.used (after_store (after_store (after_link n d r.link) d) d) s
 
@@ -406,8 +388,8 @@ posted m n d s t posting k tail u r is later same c e h =
     let y : Store = (slot s tail_region k, r.address + 1) in
     let stores = stores_next n d s t posting k tail u r is c.term c.tells c.next e h in
     let next = are_next n d s t posting (link_stores s r.address r.link ++ x ∷ y ∷ []) c.next stores in
-    let more = all_more n d s r.address r.link x y next in
-    let seen : b ≡ tokens_seen m s = sym (seen_here n d s t posting is c.next) ∙ sym (seen_same m n s later.setting (sym same)) in
+    let more = all_more n d s r.address r.link x y next (pool_counts_nothing s r.address) (λ e. absurd cc) in
+    let seen : b ≡ tokens_seen m s = sym (seen_here n d s t posting is c.next) ∙ sym (tokens_by n m s later.setting (sym same)) in
     let long : length (link_stores s r.address r.link ++ x ∷ y ∷ []) ≡ length (append_stores s (tokens_seen m s) t (count_of t (tokens_seen m s)) posting) =
     sym (ap length stores) ∙ ap (λ z. length (append_stores s z t (count_of t z) posting)) seen in
     let last = after_store (after_store (after_link n d r.link) d) d in

@@ -1,5 +1,5 @@
 -- What a walk needs: ways stay the same at later moments, and lead to the posting before.
-use Rattle.std.proofs.Common.{◌≡◌, ℕ, zero, suc, ◌+◌, ◌-◌, ◌^◌, ◌<◌, ◌≤◌, inl, inr, true, false, Some, None, List, [], ◌∷◌, length, take, reverse, get_or, refl, ap, sym, ◌∙◌, subst, arith}
+use Rattle.std.proofs.Common.{◌≡◌, ℕ, zero, suc, ◌+◌, ◌-◌, ◌^◌, ◌<◌, ◌≤◌, inl, inr, true, false, Some, List, [], ◌∷◌, length, take, reverse, get_or, refl, ap, sym, ◌∙◌, subst, arith}
 use Rattle.std.proofs.lemmas.Bool.{cases_Bool, cases_lt}
 use Rattle.std.proofs.lemmas.Bool.Decides.{nat_tests}
 use Rattle.std.proofs.lemmas.List.{length-reverse, length-take-le}
@@ -159,8 +159,3 @@ pub gives_rest : (n l : Moment) (s c : ℕ) (t : Term) (v w : Way) (opened : ℕ
 gives_rest n l s c t v w opened [] k a value is js later h e p b = absurd (omega arith)
 gives_rest n l s c t v w opened (x ∷ xs) k a value is js later h e p b =
     gives n l s c t v w opened x xs a value is js later h (subst (λ (z : ℕ × ℕ). IsPosting l z.0 t z.1 a value) (λ i. (h.of_segment i, (let q : k ≡ length xs = omega arith in q) i)) p) b
-
--- at the end nothing is left
-pub gives_end : (m : Moment) (s : ℕ) (t : Term) (c : Chain) (opened : ℕ) (rest : List ℕ) → Stands m s t c opened rest → c.way ≡ End → Given m s t c opened rest None
-gives_end m s t c opened [] h e = (refl, h)
-gives_end m s t c opened (x ∷ xs) h e = absurd (let z = end_of m s t (length (x ∷ xs)) c.way h.way e in omega arith)

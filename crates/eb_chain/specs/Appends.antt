@@ -1,5 +1,5 @@
 -- Where a placing has come to a posting, and the moment after its stores.
-use Rattle.std.specs.Prelude.{◌≡◌, ℕ, ◌+◌, ◌-◌, List, [], ◌∷◌, ◌++◌, length, drop, Some}
+use Rattle.std.specs.Prelude.{◌≡◌, ℕ, ◌+◌, ◌-◌, List, [], ◌∷◌, ◌++◌, length, drop}
 use Rattle.eb_base.specs.Term.{Term}
 use Rattle.eb_base.specs.Document.{Doc, IsDocument}
 use Rattle.eb_base.specs.Setting.{Setting}
@@ -11,7 +11,7 @@ use Rattle.eb_place.specs.Postings.{terms_of, count_of, posting_of}
 use Rattle.eb_place.specs.Room.{HasRoom, cut, with_doc}
 use Rattle.eb_place.specs.Placing.{Store, append_stores, tokens_stores, segment_before, doc_stores}
 use Rattle.eb_place.specs.Later.{IsNotBefore}
-use Rattle.eb_place.specs.NextStores.{stores_done, IsCurrent}
+use Rattle.eb_place.specs.NextStores.{stores_done, IsCurrent, with_stores}
 use Rattle.eb_place.specs.Seen.{tokens_seen}
 
 -- the tokens of a document's segment that stand before these are placed: those of the documents before it,
@@ -39,10 +39,6 @@ pub record IsPostingNext (σ : Setting) (x : Documents) (d : Doc) (s : ℕ) (t :
   pub left : drop (stores_done x.current) (doc_stores σ x.accepted d)
       ≡ append_stores s (tokens_before σ x.accepted d earlier) t (count_of t (tokens_before σ x.accepted d earlier)) posting
       ++ stores_from σ x.accepted d s (length earlier + 1) (tokens_before σ x.accepted d earlier ++ t ∷ []) later
-
--- the documents part with n more stores of the placing of d, which has yet more
-abbrev pub with_stores : Documents → Doc → ℕ → Documents
-with_stores x d n = record { accepted = x.accepted; current = Some (d, stores_done x.current + n) }
 
 -- n is not before m, and of the placing of d exactly the stores of this posting of t are done besides
 pub record HasAppended (m n : Moment) (d : Doc) (s : ℕ) (t : Term) (posting : ℕ) : Type 0 where

@@ -1,15 +1,12 @@
 -- Where the next posting of a term goes, and the stores that come next.
-use Rattle.std.specs.Prelude.{◌≡◌, ℕ, zero, suc, ◌+◌, ◌-◌, ◌*◌, ◌^◌, ◌<◌, ◌≤◌, true, false, List, [], ◌∷◌, ◌++◌, length, drop, Option, Some, None}
-use Rattle.eb_base.specs.Document.{Doc, IsDocument}
-use Rattle.eb_base.specs.Setting.{Setting}
-use Rattle.eb_place.specs.declared.moment.Documents.{Documents}
+use Rattle.std.specs.Prelude.{◌≡◌, ℕ, zero, suc, ◌+◌, ◌-◌, ◌*◌, ◌^◌, ◌<◌, ◌≤◌, true, false, List, [], ◌∷◌, Option, Some, None}
+use Rattle.eb_base.specs.Document.{Doc}
 use Rattle.eb_place.specs.declared.moment.Moment.{Moment}
 use Rattle.eb_place.specs.declared.used.Used.{Used}
 use Rattle.eb_place.specs.Layout.{pool_slot, address_number, slice_bits}
 use Rattle.eb_place.specs.Address.{pool_at, offset_at, begins}
-use Rattle.eb_place.specs.Room.{HasRoom}
-use Rattle.eb_place.specs.Placing.{Store, doc_stores}
-use Rattle.eb_place.specs.NextStores.{stores_done, IsCurrent, after_store}
+use Rattle.eb_place.specs.Placing.{Store}
+use Rattle.eb_place.specs.NextStores.{after_store}
 use Rattle.eb_chain.specs.declared.next_place.NextPlace.{NextPlace}
 
 -- the slices of a pool that are used
@@ -37,15 +34,6 @@ pub record IsNextPlace (f tail : ℕ) (u : Used) (r : NextPlace) : Type 0 where
   pub first : begins f ≡ true → (r.address ≡ address_number (pool_at f) (slices_of u (pool_at f)) (offset_at f)) × (r.used ≡ with_slice u (pool_at f))
   pub linked : begins f ≡ true → 1 ≤ pool_at f → r.link ≡ Some (tail - 1)
   pub unlinked : begins f ≡ true → pool_at f ≡ 0 → r.link ≡ None
-
--- the next stores of the placing of d are these, and more
-pub record AreNext (σ : Setting) (x : Documents) (d : Doc) (now : List Store) : Type 0 where
-  pub limits : IsDocument d
-  pub room : HasRoom σ x.accepted d
-  pub current : IsCurrent x.current d
-  pub later : List Store
-  pub more : 1 ≤ length later
-  pub left : drop (stores_done x.current) (doc_stores σ x.accepted d) ≡ now ++ later
 
 -- the store of the link of the slice that begins with this address, where it has one
 abbrev pub link_stores : ℕ → ℕ → Option ℕ → List Store

@@ -3,7 +3,7 @@ ghost use Rattle.eb_base.specs.Term.{Term};
 ghost use Rattle.eb_place.specs.declared.moment.Moment.{Moment};
 ghost use Rattle.eb_place.specs.Address.{pool_at};
 ghost use Rattle.eb_place.specs.Moments.{IsMoment};
-ghost use Rattle.eb_place.specs.Later.{IsNotBefore};
+ghost use Rattle.eb_place.specs.Told.{Told};
 ghost use Rattle.eb_place.specs.Seen.{seen, seen_count};
 ghost use Rattle.eb_place.specs.Walk.{IsAddress, IsLink, IsTerm};
 ghost use Rattle.eb_chain.specs.Chains.{Stands, Given, next_loads, IsWay, IsWayBefore, IsPosting, IsWayOf};
@@ -44,9 +44,8 @@ impl Chain {
         steps: &mut Steps<L>,
     ) -> Chain
         requires { (m : Moment) × (t : Term) × P.stands port.old m × IsTerm m segment t term }
-        ensures told { (m : Moment) (t : Term) → P.stands port.old m → IsTerm m segment t term
-            → (n : Moment) × P.stands port.new n × IsNotBefore n m × P.keeps port.old m port.new n
-            × Stands n segment t result (seen_count n segment t) (reverse (seen n segment t)) }
+        ensures told { (t : Term) → Told P.stands P.keeps port.old port.new (λ m. IsTerm m segment t term)
+            (λ n. Stands n segment t result (seen_count n segment t) (reverse (seen n segment t))) }
         ensures steps { steps.new ≡ steps.old + 1 }
     {
         let places = Places::new(port.config());
@@ -82,10 +81,8 @@ impl Chain {
     ) -> Option<Posting>
         requires { (m : Moment) × (s : ℕ) × (t : Term) × (opened : ℕ) × (rest : List ℕ)
             × P.stands port.old m × Stands m s t self.old opened rest }
-        ensures told { (m : Moment) (s : ℕ) (t : Term) (opened : ℕ) (rest : List ℕ)
-            → P.stands port.old m → Stands m s t self.old opened rest
-            → (n : Moment) × P.stands port.new n × IsNotBefore n m × P.keeps port.old m port.new n
-            × Given n s t self.new opened rest result }
+        ensures told { (s : ℕ) (t : Term) (opened : ℕ) (rest : List ℕ) → Told P.stands P.keeps port.old port.new
+            (λ m. Stands m s t self.old opened rest) (λ n. Given n s t self.new opened rest result) }
         ensures steps { (m : Moment) (s : ℕ) (t : Term) (opened : ℕ) (rest : List ℕ)
             → Stands m s t self.old opened rest → steps.new ≡ steps.old + next_loads opened (length rest) }
     {
@@ -112,10 +109,8 @@ impl Chain {
     ) -> Option<Posting>
         requires { (m : Moment) × (s : ℕ) × (t : Term) × (opened : ℕ) × (rest : List ℕ)
             × P.stands port.old m × Stands m s t self.old opened rest }
-        ensures told { (m : Moment) (s : ℕ) (t : Term) (opened : ℕ) (rest : List ℕ)
-            → P.stands port.old m → Stands m s t self.old opened rest
-            → (n : Moment) × P.stands port.new n × IsNotBefore n m × P.keeps port.old m port.new n
-            × Given n s t self.new opened (at_most most rest) result }
+        ensures told { (s : ℕ) (t : Term) (opened : ℕ) (rest : List ℕ) → Told P.stands P.keeps port.old port.new
+            (λ m. Stands m s t self.old opened rest) (λ n. Given n s t self.new opened (at_most most rest) result) }
         ensures leap { (m : Moment) (s : ℕ) (t : Term) (opened : ℕ) (rest : List ℕ)
             → P.stands port.old m → Stands m s t self.old opened rest → IsLeap rest (at_most most rest) steps.old steps.new }
         ensures short { (m : Moment) (s : ℕ) (t : Term) (opened : ℕ) (rest : List ℕ)
@@ -148,9 +143,7 @@ fn address_of<P: Port, L: Ledger>(
     steps: &mut Steps<L>,
 ) -> Option<u32>
     requires { (m : Moment) × (t : Term) × (f : ℕ) × P.stands port.old m × IsWay m segment t f way }
-    ensures told { (m : Moment) (t : Term) (f : ℕ) → P.stands port.old m → IsWay m segment t f way
-        → (n : Moment) × P.stands port.new n × IsNotBefore n m × P.keeps port.old m port.new n
-        × LeadsTo n segment t f result }
+    ensures told { (t : Term) (f : ℕ) → Told P.stands P.keeps port.old port.new (λ m. IsWay m segment t f way) (λ n. LeadsTo n segment t f result) }
     ensures steps { steps.new ≡ steps.old + lead_loads way }
 {
     match way {
@@ -187,9 +180,7 @@ fn way_before(address: u32) -> Way
 // The address that a link holds. Ticks one load.
 fn follow<P: Port, L: Ledger>(port: &mut P, segment: u32, link: u32, steps: &mut Steps<L>) -> u32
     requires { (m : Moment) × (t : Term) × (f : ℕ) × P.stands port.old m × IsLink m segment t f link }
-    ensures told { (m : Moment) (t : Term) (f : ℕ) → P.stands port.old m → IsLink m segment t f link
-        → (n : Moment) × P.stands port.new n × IsNotBefore n m × P.keeps port.old m port.new n
-        × IsAddress n segment t f result }
+    ensures told { (t : Term) (f : ℕ) → Told P.stands P.keeps port.old port.new (λ m. IsLink m segment t f link) (λ n. IsAddress n segment t f result) }
     ensures steps { steps.new ≡ steps.old + 1 }
 {
     let places = Places::new(port.config());
@@ -204,9 +195,8 @@ pub(crate) fn posting_in<P: Port, L: Ledger>(
     steps: &mut Steps<L>,
 ) -> Posting
     requires { (m : Moment) × (t : Term) × (f : ℕ) × P.stands port.old m × IsAddress m segment t f address }
-    ensures told { (m : Moment) (t : Term) (f : ℕ) → P.stands port.old m → IsAddress m segment t f address
-        → (n : Moment) × P.stands port.new n × IsNotBefore n m × P.keeps port.old m port.new n
-        × IsPosting n segment t f address result }
+    ensures told { (t : Term) (f : ℕ) → Told P.stands P.keeps port.old port.new (λ m. IsAddress m segment t f address)
+        (λ n. IsPosting n segment t f address result) }
     ensures steps { steps.new ≡ steps.old + 1 }
 {
     let places = Places::new(port.config());

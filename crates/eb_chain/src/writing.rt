@@ -9,11 +9,12 @@ ghost use Rattle.eb_place.specs.Layout.Region.{tail_region};
 ghost use Rattle.eb_place.specs.Placing.{Store};
 ghost use Rattle.eb_place.specs.Moments.{word};
 ghost use Rattle.eb_place.specs.Later.{IsNotBefore};
-ghost use Rattle.eb_place.specs.NextStores.{after_store};
+ghost use Rattle.eb_place.specs.NextStores.{after_store, AreNext};
 ghost use Rattle.eb_place.specs.Tells.{TellsSegment};
 ghost use Rattle.eb_place.specs.Walk.{IsTerm};
+ghost use Rattle.eb_place.specs.Told.{Written};
 ghost use Rattle.eb_chain.specs.Appends.{IsPostingNext, HasAppended};
-ghost use Rattle.eb_chain.specs.NextPlaces.{AreNext, link_stores, after_link};
+ghost use Rattle.eb_chain.specs.NextPlaces.{link_stores, after_link};
 
 use crate::next_place::next_place;
 use eb_base::Document;
@@ -35,10 +36,9 @@ pub fn append<P: Pen>(
 )
     requires { (m : Moment) × (t : Term) × P.stands pen.old m × IsTerm m segment t term
         × TellsSegment used.old m segment × IsPostingNext m.setting m.documents document.now segment t posting }
-    ensures { (m : Moment) (t : Term) → P.stands pen.old m → IsTerm m segment t term
-        → TellsSegment used.old m segment → IsPostingNext m.setting m.documents document.now segment t posting
-        → (n : Moment) × P.stands pen.new n × P.same pen.old pen.new
-        × HasAppended m n document.now segment t posting × TellsSegment used.new n segment }
+    ensures { (t : Term) → Written P.stands P.same pen.old pen.new (λ m. IsTerm m segment t term
+        × TellsSegment used.old m segment × IsPostingNext m.setting m.documents document.now segment t posting)
+        (λ m n. HasAppended m n document.now segment t posting × TellsSegment used.new n segment) }
 {
     let tail = Places::new(pen.config()).tail(segment, term);
     let last = load_alone::<P, Brand>(pen, tail, Blank::new(1));
@@ -68,9 +68,9 @@ fn store_link<P: Pen>(
     link: Option<u32>,
 )
     requires { (m : Moment) × (now : List Store) × P.stands pen.old m × ForSome link (λ last. 0 < address)
-        × AreNext m.setting m.documents document.now (link_stores segment address link ++ now) }
+        × AreNext m document.now (link_stores segment address link ++ now) }
     ensures { (m : Moment) (now : List Store) → P.stands pen.old m
-        → AreNext m.setting m.documents document.now (link_stores segment address link ++ now)
+        → AreNext m document.now (link_stores segment address link ++ now)
         → P.stands pen.new (after_link m document.now link) × P.same pen.old pen.new }
 {
     if let Some(last) = link {
@@ -89,9 +89,9 @@ fn store_posting<P: Pen>(
     posting: Posting,
 )
     requires { (m : Moment) × P.stands pen.old m
-        × AreNext m.setting m.documents document.now ((pool_slot segment address, posting) ∷ (slot segment tail_region term, address + 1) ∷ []) }
+        × AreNext m document.now ((pool_slot segment address, posting) ∷ (slot segment tail_region term, address + 1) ∷ []) }
     ensures { (m : Moment) → P.stands pen.old m
-        → AreNext m.setting m.documents document.now ((pool_slot segment address, posting) ∷ (slot segment tail_region term, address + 1) ∷ [])
+        → AreNext m document.now ((pool_slot segment address, posting) ∷ (slot segment tail_region term, address + 1) ∷ [])
         → P.stands pen.new (after_store (after_store m document.now) document.now) × P.same pen.old pen.new }
 {
     let places = Places::new(pen.config());

@@ -10,8 +10,8 @@ use Rattle.eb_place.specs.Placing.{Store, in_row}
 use Rattle.eb_place.specs.Conversion.{segment_stores}
 use Rattle.eb_place.specs.Moments.{with_current, IsMoment}
 use Rattle.eb_place.specs.Later.{IsNotBefore}
-use Rattle.eb_place.proofs.FreshPoolWords.{Each}
-use Rattle.eb_place.proofs.FreshPoolWords.Each.{none, more}
+use Rattle.eb_place.proofs.FreshPoolWords.{Each, Each-drop}
+use Rattle.eb_place.proofs.FreshPoolWords.Each.{more}
 use Rattle.eb_place.proofs.WordsOfTokens.{Each-map}
 use Rattle.eb_place.proofs.StoresWithinTable.{IsWithin}
 use Rattle.eb_place.proofs.StoringTokens.{Each-front}
@@ -56,23 +56,18 @@ first_block (x ∷ xs) f b l =
 
 -- ---- where the words go
 
-Each-drop : {X : Type 0} {Q : X → Type 0} (n : ℕ) {xs : List X} → Each Q xs → Each Q (drop n xs)
-Each-drop zero h = h
-Each-drop (suc n) none = none
-Each-drop (suc n) (more h t) = Each-drop n t
-
-row_within : (m : Moment) (s at : ℕ) (vs : List ℕ) → Each (IsWithin m.setting) (in_row s packed_region at vs) → 1 ≤ length vs → at + length vs ≤ 34 * m.setting.terms
+row_fits : (m : Moment) (s at : ℕ) (vs : List ℕ) → Each (IsWithin m.setting) (in_row s packed_region at vs) → 1 ≤ length vs → at + length vs ≤ 34 * m.setting.terms
 unfolding size
-row_within m s at [] h l = absurd (omega arith)
-row_within m s at (v ∷ []) (more h t) l = let b = h.1 in omega arith
-row_within m s at (v ∷ w ∷ vs) (more h t) l = omega (arith, row_within m s (at + 1) (w ∷ vs) t (omega arith))
+row_fits m s at [] h l = absurd (omega arith)
+row_fits m s at (v ∷ []) (more h t) l = let b = h.1 in omega arith
+row_fits m s at (v ∷ w ∷ vs) (more h t) l = omega (arith, row_fits m s (at + 1) (w ∷ vs) t (omega arith))
 
 -- the packed words that are left find room
 pub row_room : (m : Moment) (s at : ℕ) (vs : List ℕ) (others : List Store) → IsMoment m → IsLeft m s (in_row s packed_region at vs ++ others) → 1 ≤ length vs → at + length vs ≤ 34 * m.setting.terms
 row_room m s at vs others is h l =
     let X = segment_stores m.setting (with_current m.documents) s in
     let all : Each (IsWithin m.setting) X = Each-map (λ y q. q.within) (segment_packs m.setting (with_current m.documents) s (closed_room m s is h.closed)) in
-    row_within m s at vs (Each-front (in_row s packed_region at vs) others (subst (Each (IsWithin m.setting)) h.are (Each-drop m.conversions.packed all))) l
+    row_fits m s at vs (Each-front (in_row s packed_region at vs) others (subst (Each (IsWithin m.setting)) h.are (Each-drop m.conversions.packed all))) l
 
 -- ---- the step
 

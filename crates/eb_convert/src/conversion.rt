@@ -12,6 +12,7 @@ ghost use Rattle.eb_chain.specs.Chains.{Stands};
 ghost use Rattle.eb_place.specs.Packed.{packed_list};
 ghost use Rattle.eb_place.specs.Walk.{IsTerm};
 ghost use Rattle.eb_place.specs.Falling.{IsFalling, AllBelow};
+ghost use Rattle.eb_place.specs.Told.{Told, Written};
 ghost use Rattle.eb_convert.specs.Progress.{IsLeft, IsBlockNext, IsBlockDone, AreBlocksDone, term_stores, packed_of, terms_left, HasTerm, HasNoTerm, IsBegunAt};
 ghost use Rattle.eb_convert.specs.Converting.{first_word, IsConversion};
 
@@ -35,9 +36,8 @@ pub enum Converted {
 fn put_words<P: PackPen>(pen: &mut P, segment: u32, at: u32, words: &[u64])
     requires { (m : Moment) × (rest : List Store) × P.stands pen.old m
         × IsLeft m segment (in_row segment packed_region at words.now ++ rest) × (1 ≤ length rest) }
-    ensures { (m : Moment) (rest : List Store) → P.stands pen.old m
-        → IsLeft m segment (in_row segment packed_region at words.now ++ rest) → 1 ≤ length rest
-        → (n : Moment) × P.stands pen.new n × P.same pen.old pen.new × IsNotBefore n m × IsLeft n segment rest }
+    ensures { (rest : List Store) → Written P.stands P.same pen.old pen.new
+        (λ m. IsLeft m segment (in_row segment packed_region at words.now ++ rest) × (1 ≤ length rest)) (λ m n. IsNotBefore n m × IsLeft n segment rest) }
 {
     let places = Places::new(pen.config());
     for i in 0..words.len() {
@@ -50,9 +50,8 @@ fn put_words<P: PackPen>(pen: &mut P, segment: u32, at: u32, words: &[u64])
 fn put_directory<P: PackPen>(pen: &mut P, segment: u32, term: u32, value: u64)
     requires { (m : Moment) × (rest : List Store) × P.stands pen.old m
         × IsLeft m segment ((slot segment directory_region term, value) ∷ rest) × (1 ≤ length rest) }
-    ensures { (m : Moment) (rest : List Store) → P.stands pen.old m
-        → IsLeft m segment ((slot segment directory_region term, value) ∷ rest) → 1 ≤ length rest
-        → (n : Moment) × P.stands pen.new n × P.same pen.old pen.new × IsNotBefore n m × IsLeft n segment rest }
+    ensures { (rest : List Store) → Written P.stands P.same pen.old pen.new
+        (λ m. IsLeft m segment ((slot segment directory_region term, value) ∷ rest) × (1 ≤ length rest)) (λ m n. IsNotBefore n m × IsLeft n segment rest) }
 {
     let place = Places::new(pen.config()).directory(segment, term);
     pen.put(place, value);
@@ -61,9 +60,8 @@ fn put_directory<P: PackPen>(pen: &mut P, segment: u32, term: u32, value: u64)
 // Puts the converted word, which is the last store.
 fn put_converted<P: PackPen>(pen: &mut P, segment: u32)
     requires { (m : Moment) × P.stands pen.old m × IsLeft m segment ((slot segment converted_region 0, 1) ∷ []) }
-    ensures { (m : Moment) → P.stands pen.old m → IsLeft m segment ((slot segment converted_region 0, 1) ∷ [])
-        → (n : Moment) × P.stands pen.new n × P.same pen.old pen.new × IsNotBefore n m
-        × (n.conversions ≡ record { converted = segment + 1; packed = 0 }) }
+    ensures { Written P.stands P.same pen.old pen.new (λ m. IsLeft m segment ((slot segment converted_region 0, 1) ∷ []))
+        (λ m n. IsNotBefore n m × (n.conversions ≡ record { converted = segment + 1; packed = 0 })) }
 {
     let place = Places::new(pen.config()).converted(segment);
     pen.put(place, 1);
@@ -78,9 +76,8 @@ fn fill<P: Port, L: Ledger>(
 ) -> usize
     requires { (m : Moment) × (s : ℕ) × (t : Term) × (opened : ℕ) × (rest : List ℕ) × P.stands port.old m × Stands m s t chain.old opened rest }
     ensures few { result ≤ 128 }
-    ensures told { (m : Moment) (s : ℕ) (t : Term) (opened : ℕ) (rest : List ℕ) → P.stands port.old m → Stands m s t chain.old opened rest
-        → (n : Moment) × P.stands port.new n × IsNotBefore n m × P.keeps port.old m port.new n
-        × Stands n s t chain.new opened (drop 128 rest) × (take result into.new ≡ take 128 rest) × (result ≤ length rest) }
+    ensures told { (s : ℕ) (t : Term) (opened : ℕ) (rest : List ℕ) → Told P.stands P.keeps port.old port.new (λ m. Stands m s t chain.old opened rest)
+        (λ n. Stands n s t chain.new opened (drop 128 rest) × (take result into.new ≡ take 128 rest) × (result ≤ length rest)) }
 {
     for i in 0..BLOCK_POSTINGS {
         let Some(posting) = chain.next(port, steps) else {
@@ -102,10 +99,9 @@ fn convert_block<P: PackPen, L: Ledger>(
 ) -> (usize, u32)
     requires { (m : Moment) × (t : Term) × (opened : ℕ) × (rest : List ℕ) × (more : List Store) × P.stands pen.old m
         × IsBlockNext m segment t chain.old opened at rest more }
-    ensures { (m : Moment) (t : Term) (opened : ℕ) (rest : List ℕ) (more : List Store) → P.stands pen.old m
-        → IsBlockNext m segment t chain.old opened at rest more
-        → (n : Moment) × P.stands pen.new n × P.same pen.old pen.new × IsNotBefore n m
-        × IsBlockDone n segment t chain.new opened at rest more result.0 result.1 }
+    ensures { (t : Term) (opened : ℕ) (rest : List ℕ) (more : List Store) → Written P.stands P.same pen.old pen.new
+        (λ m. IsBlockNext m segment t chain.old opened at rest more)
+        (λ m n. IsNotBefore n m × IsBlockDone n segment t chain.new opened at rest more result.0 result.1) }
 {
     let mut postings: [Posting; BLOCK_POSTINGS] = [0; BLOCK_POSTINGS];
     let mut words = [0; BLOCK_WORDS];
@@ -128,10 +124,9 @@ fn convert_blocks<P: PackPen, L: Ledger>(
 ) -> (u64, u32)
     requires { (m : Moment) × (t : Term) × (opened : ℕ) × (rest : List ℕ) × (more : List Store) × P.stands pen.old m
         × IsBlockNext m segment t chain.old opened at rest more × (length rest ≤ 34 * m.setting.terms) }
-    ensures { (m : Moment) (t : Term) (opened : ℕ) (rest : List ℕ) (more : List Store) → P.stands pen.old m
-        → IsBlockNext m segment t chain.old opened at rest more → length rest ≤ 34 * m.setting.terms
-        → (n : Moment) × P.stands pen.new n × P.same pen.old pen.new × IsNotBefore n m
-        × AreBlocksDone n segment at rest more result.0 result.1 }
+    ensures { (t : Term) (opened : ℕ) (rest : List ℕ) (more : List Store) → Written P.stands P.same pen.old pen.new
+        (λ m. IsBlockNext m segment t chain.old opened at rest more × (length rest ≤ 34 * m.setting.terms))
+        (λ m n. IsNotBefore n m × AreBlocksDone n segment at rest more result.0 result.1) }
 {
     let mut next = at;
     let mut total = 0u64;
@@ -156,10 +151,9 @@ fn convert_term<P: PackPen, L: Ledger>(
 ) -> u32
     requires { (m : Moment) × (t : Term) × (more : List Store) × P.stands pen.old m × IsTerm m segment t term
         × IsLeft m segment (term_stores m segment t term at ++ more) × (1 ≤ length more) }
-    ensures { (m : Moment) (t : Term) (more : List Store) → P.stands pen.old m → IsTerm m segment t term
-        → IsLeft m segment (term_stores m segment t term at ++ more) → 1 ≤ length more
-        → (n : Moment) × P.stands pen.new n × P.same pen.old pen.new × IsNotBefore n m × IsLeft n segment more
-        × (result ≡ at + packed_of m segment t) }
+    ensures { (t : Term) (more : List Store) → Written P.stands P.same pen.old pen.new
+        (λ m. IsTerm m segment t term × IsLeft m segment (term_stores m segment t term at ++ more) × (1 ≤ length more))
+        (λ m n. IsNotBefore n m × IsLeft n segment more × (result ≡ at + packed_of m segment t)) }
 {
     let mut chain = Chain::open(pen, segment, term, steps);
     let (total, next) = convert_blocks(pen, &mut chain, segment, at, steps);
@@ -181,9 +175,8 @@ fn has_term<P: Port, L: Ledger>(port: &mut P, segment: u32, term: u32, steps: &m
 // Converts all terms of a closed segment; the converted word comes next.
 fn convert_terms<P: PackPen, L: Ledger>(pen: &mut P, segment: u32, steps: &mut Steps<L>)
     requires { (m : Moment) × P.stands pen.old m × IsLeft m segment (terms_left m segment 0 0) }
-    ensures { (m : Moment) → P.stands pen.old m → IsLeft m segment (terms_left m segment 0 0)
-        → (n : Moment) × P.stands pen.new n × P.same pen.old pen.new × IsNotBefore n m
-        × IsLeft n segment ((slot segment converted_region 0, 1) ∷ []) }
+    ensures { Written P.stands P.same pen.old pen.new (λ m. IsLeft m segment (terms_left m segment 0 0))
+        (λ m n. IsNotBefore n m × IsLeft n segment ((slot segment converted_region 0, 1) ∷ [])) }
 {
     let mut at = 0;
     for term in 0..pen.config().terms() {
@@ -197,9 +190,8 @@ fn convert_terms<P: PackPen, L: Ledger>(pen: &mut P, segment: u32, steps: &mut S
 // Whether a segment is begun, by its first-document word.
 fn is_begun<P: Port, L: Ledger>(port: &mut P, segment: u32, steps: &mut Steps<L>) -> bool
     requires { (m : Moment) × P.stands port.old m × (segment < m.setting.segments) }
-    ensures { (m : Moment) → P.stands port.old m → segment < m.setting.segments
-        → (n : Moment) × P.stands port.new n × IsNotBefore n m × P.keeps port.old m port.new n
-        × MatchBool result (IsBegunAt n segment) (first_word n segment ≡ 0) }
+    ensures { Told P.stands P.keeps port.old port.new (λ m. segment < m.setting.segments)
+        (λ n. MatchBool result (IsBegunAt n segment) (first_word n segment ≡ 0)) }
 {
     let place = Places::new(port.config()).first(segment);
     port.load(place, steps) > 0

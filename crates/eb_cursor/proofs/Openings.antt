@@ -11,16 +11,13 @@ use Rattle.eb_place.specs.Room.{cut}
 use Rattle.eb_place.specs.Moments.{IsMoment, with_current, word}
 use Rattle.eb_place.specs.Later.{IsNotBefore}
 use Rattle.eb_place.specs.Seen.{segment, seen, seen_count, IsEntered}
-use Rattle.eb_place.specs.Walk.{IsTerm}
 use Rattle.eb_place.proofs.TermCounts.{count_of-append}
 use Rattle.eb_place.proofs.ReaderWords.{seen_is, reached_few}
 use Rattle.eb_place.proofs.EnoughPackedWords.{length-postings}
-use Rattle.eb_place.proofs.EnteredTerms.{number_found, entered_is_term}
 use Rattle.eb_place.proofs.ReachedLater.{later_segment}
 use Rattle.eb_place.proofs.WordsOfHistories.{terms_more, postings_more}
 use Rattle.eb_place.proofs.LaterMoments.{later_on}
 use Rattle.eb_place.proofs.WordsAtMoment.{placed_all}
-use Rattle.eb_terms.specs.Finding.{HasNumber}
 use Rattle.eb_place.specs.PackedLists.{newest_first}
 use Rattle.std.specs.Bool.{MatchBool}
 use Rattle.eb_place.specs.PackedLists.{IsConverted}
@@ -40,13 +37,6 @@ use Rattle.eb_cursor.specs.declared.posting_list.PostingList.TheVariants.{Empty,
 use Rattle.eb_cursor.proofs.Accepted.{whole_moment, whole_lawful, whole_segment, whole_before, seen_accepted, entered_accepted}
 use Rattle.eb_cursor.proofs.Firsts.{first_on}
 use Rattle.eb_cursor.proofs.PostingsOf.{postings_below, seen_below, narrow_each, narrow_front}
-
--- a number that was found is that of a term with postings
-pub term_of : (m : Moment) (s : ℕ) (t : Term) (k : ℕ) → s < m.setting.segments → HasNumber m s t k → IsTerm m s t k
-term_of m s t k inside h =
-    let f = number_found m s t h.entered in
-    let i : IsTerm m s t f.0 = subst (λ z. IsTerm m s z f.0) f.2 (entered_is_term m s f.0 inside f.1) in
-    record { inside = inside; there = i.there; number = h.number }
 
 empty_of : (xs : List ℕ) → length xs ≡ 0 → xs ≡ []
 empty_of [] e = refl

@@ -1,7 +1,6 @@
 -- The numbers that an address and a posting are made of.
 use Rattle.std.proofs.Common.{◌≡◌, ℕ, zero, suc, ◌+◌, ◌*◌, ◌/◌, ◌%◌, ◌^◌, ◌<◌, ap, ◌∙◌, arith}
 use Rattle.eb_place.specs.Layout.{address_number, address_pool, address_slice, address_offset, slice_bits}
-use Rattle.eb_place.specs.Postings.{posting_of, posting_document, posting_position, places}
 
 -- an address gives back the pool, the slice and the offset that it was made of
 pub record HasParts (at pool slice offset : ℕ) : Type 0 where
@@ -23,7 +22,3 @@ address_parts (suc zero) slice offset p h o = parts _ _ _ _ (omega arith) (omega
 address_parts (suc (suc zero)) slice offset p h o = parts _ _ _ _ (omega arith) (omega arith) (omega arith)
 address_parts (suc (suc (suc zero))) slice offset p h o = parts _ _ _ _ (omega arith) (omega arith) (omega arith)
 address_parts (suc (suc (suc (suc pool)))) slice offset p h o = absurd (omega arith)
-
--- and a posting the document and the position
-pub posting_parts : (document position : ℕ) → position < places → (posting_document (posting_of document position) ≡ document) × (posting_position (posting_of document position) ≡ position)
-posting_parts document position h = (omega arith, omega arith)

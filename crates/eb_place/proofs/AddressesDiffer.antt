@@ -1,5 +1,5 @@
 -- Two postings of a segment have two addresses.
-use Rattle.std.proofs.Common.{◌≡◌, ℕ, zero, suc, ◌+◌, ◌*◌, ◌^◌, ◌<◌, ◌≤◌, ◌⊎◌, true, false, List, [], ◌∷◌, ◌++◌, refl, ap, sym, ◌∙◌, subst, append_assoc, arith, inl, inr, bytes_eq, lit≤}
+use Rattle.std.proofs.Common.{◌≡◌, ℕ, zero, suc, ◌+◌, ◌*◌, ◌^◌, ◌<◌, ◌≤◌, ◌⊎◌, true, false, List, [], ◌∷◌, ◌++◌, refl, ap, sym, ◌∙◌, subst, append_assoc, arith, inl, inr, bytes_eq}
 use Rattle.std.proofs.lemmas.Bool.{cases_Bool, cases_lt, and_from, eq-eqb}
 use Rattle.std.proofs.lemmas.Bool.Decides.{nat_tests}
 use Rattle.std.proofs.lemmas.Nat.{same_from_place, mul-le}
@@ -146,13 +146,6 @@ SlicesFit ts = (p : ℕ) → p < 4 → slices_begun p ts * 2 ^ slice_bits p ≤ 
 pub pool_low : (f : ℕ) → pool_at f < 4
 unfolding pool_at offset_at slice_start
 pool_low f = grind (arith, nat_tests)
-
--- no slice is longer than those of the last pool
-pub bits_low : (p : ℕ) → 2 ^ slice_bits p ≤ 2048
-bits_low zero = lit≤ tt
-bits_low (suc zero) = lit≤ tt
-bits_low (suc (suc zero)) = lit≤ tt
-bits_low (suc (suc (suc p))) = lit≤ tt
 
 -- where a posting is there, so is the one that begins its slice
 pub start_in : (f n : ℕ) → f < n → slice_start f < n

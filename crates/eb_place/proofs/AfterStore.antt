@@ -1,23 +1,21 @@
 -- The moment after a store is a moment, and a later one.
-use Rattle.std.proofs.Common.{◌≡◌, ℕ, suc, ◌+◌, ◌<◌, Bool, true, false, ltb, List, [], ◌∷◌, ◌++◌, length, take, get_or, refl, ap, sym, ◌∙◌, subst, arith, inl, inr, Option, Some, None}
+use Rattle.std.proofs.Common.{◌≡◌, ℕ, suc, ◌+◌, ◌<◌, Bool, true, false, ltb, List, [], ◌∷◌, ◌++◌, length, take, get_or, refl, ap, sym, ◌∙◌, subst, arith, inl, inr}
 use Rattle.std.proofs.lemmas.Bool.{cases_lt, ltb-true}
 use Rattle.std.proofs.lemmas.List.{length_push, take_at, take-append-le, get_or_append_left}
 use Rattle.std.proofs.Math.Seq.{get_or-append_seam}
-use mathlib.Core.List.{IsPrefix}
 use Rattle.eb_base.specs.Document.{Doc, IsDocument}
 use Rattle.eb_base.specs.Setting.{Setting, IsSetting}
 use Rattle.eb_place.specs.declared.moment.Moment.{Moment}
 use Rattle.eb_place.specs.Room.{cut, has_room, IsLawful}
 use Rattle.eb_place.specs.Placing.{doc_stores}
 use Rattle.eb_place.specs.Conversion.{segment_stores}
-use Rattle.eb_place.specs.Moments.{placings_after, document_stores, conversions, conversion_stores, value_after, word, with_current, current_of, IsMoment, IsBegun, empty_moment}
-use Rattle.eb_place.specs.Later.{Reaches, IsNotBefore}
+use Rattle.eb_place.specs.Moments.{placings_after, document_stores, conversions, conversion_stores, value_after, word, with_current, IsMoment, IsBegun, empty_moment}
+use Rattle.eb_place.specs.Later.{IsNotBefore}
 use Rattle.eb_place.specs.NextStores.{stores_done, IsCurrent, IsNext, after_store, documents_after}
 use Rattle.eb_place.proofs.LawfulHistories.{rooms_at, rooms_by}
 use Rattle.eb_place.proofs.CutSegments.{closed_stays}
-use Rattle.eb_place.proofs.Prefixes.{prefix_self, prefix_push}
-use Rattle.eb_place.proofs.LaterMoments.{later_self}
-use Rattle.eb_place.proofs.NextStore.{segment_stays, started_stored, started_more}
+use Rattle.eb_place.proofs.LaterMoments.{later_self, reaches_stored}
+use Rattle.eb_place.proofs.NextStore.{segment_stays, started_stored, started_more, accepted_lawful}
 
 -- a lawful history with a document that has room is lawful
 pub lawful_push : (σ : Setting) (docs : List Doc) (d : Doc) → IsLawful σ docs → IsDocument d → has_room σ docs d ≡ true → IsLawful σ (docs ++ d ∷ [])
@@ -43,9 +41,6 @@ begun_if : (σ : Setting) (docs : List Doc) (d : Doc) (i : ℕ) (b : Bool) → l
 begun_if σ docs d i true e = (omega arith, ltb-true _ _ e)
 begun_if σ docs d i false e = tt
 
-accepted_lawful : (m : Moment) → IsMoment m → IsLawful m.setting m.documents.accepted
-accepted_lawful m is = Rattle.eb_place.proofs.WordsAtMoment.lawful_front m.setting m.documents.accepted (current_of m.documents.current) is.lawful
-
 -- the moment after a store is one
 pub moment_stored : (m : Moment) (d : Doc) (p v : ℕ) → IsMoment m → IsNext m d p v → IsMoment (after_store m d)
 unfolding after_store
@@ -70,13 +65,6 @@ moment_stored m d p v is n =
             omega (arith, k, (is.packs l).1)),
       );
     }
-
-reaches_stored : (docs : List Doc) (c : Option (Doc × ℕ)) (d : Doc) (b : Bool) → IsCurrent c d → Reaches record { accepted = docs; current = c } (documents_after b docs d (suc (stores_done c)))
-reaches_stored docs None d true is = record { accepted = prefix_self docs; current = tt }
-reaches_stored docs None d false is = record { accepted = prefix_push docs d; current = tt }
-reaches_stored docs (Some c) d true is = record { accepted = prefix_self docs; current = inl (refl, (is, omega arith)) }
-reaches_stored docs (Some c) d false is =
-    record { accepted = prefix_push docs d; current = inr (subst (λ (e : Doc). IsPrefix (docs ++ c.0 ∷ []) (docs ++ e ∷ [])) is (prefix_self (docs ++ c.0 ∷ []))) }
 
 -- the moment after a store is not before the moment
 pub later_stored : (m : Moment) (d : Doc) → IsCurrent m.documents.current d → IsNotBefore (after_store m d) m

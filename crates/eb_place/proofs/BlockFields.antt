@@ -1,7 +1,7 @@
 -- The size of a block, and its fields.
-use Rattle.std.proofs.Common.{◌≡◌, ℕ, zero, suc, ◌+◌, ◌-◌, ◌*◌, ◌/◌, ◌%◌, ◌^◌, ◌≤◌, List, [], ◌∷◌, ◌++◌, take, drop, length, fold, max, refl, ap, ◌∙◌, arith}
+use Rattle.std.proofs.Common.{◌≡◌, ℕ, zero, suc, ◌+◌, ◌-◌, ◌*◌, ◌/◌, ◌^◌, ◌≤◌, List, [], ◌∷◌, ◌++◌, take, drop, length, fold, max, refl, ap, ◌∙◌, arith}
 use Rattle.std.proofs.lemmas.List.{length-append, length-drop, length-take}
-use Rattle.std.proofs.lemmas.Nat.{pow-add, mul-le, mod-pow-add}
+use Rattle.std.proofs.lemmas.Nat.{pow-add, mul-le}
 use Rattle.eb_place.specs.Packed.{differences, width_of, fields, lowest_words, block_of, block, blocks}
 
 pub length-lowest_words : (n x : ℕ) → length (lowest_words n x) ≡ n
@@ -42,12 +42,3 @@ fields_push width (y ∷ ys) x =
 pub number_of : List ℕ → ℕ
 number_of [] = 0
 number_of (w ∷ ws) = w + 2 ^ 64 * number_of ws
-
--- words of a number give its lowest bits back
-pub number_of-lowest_words : (n x : ℕ) → number_of (lowest_words n x) ≡ x % 2 ^ (64 * n)
-unfolding number_of
-number_of-lowest_words zero x = omega arith
-number_of-lowest_words (suc n) x =
-    let e : 64 * suc n ≡ 64 * n + 64 = omega arith in
-    let m = ap (λ k. x % 2 ^ k) e ∙ mod-pow-add x (64 * n) 64 in
-    omega (arith, number_of-lowest_words n (x / 2 ^ 64), m)

@@ -51,6 +51,19 @@ taken_here (x ∷ xs) (suc k) h = true_right (get_or xs k 0 == x) (is_taken xs (
     true_right true b e = refl
     true_right false b e = e
 
+-- one more that stands in the list
+pub taken_push : (xs : List ℕ) (x c : ℕ) → is_taken (xs ++ x ∷ []) c ≡ (is_taken xs c || (c == x))
+taken_push [] x c = or_false (c == x)
+  where
+    or_false : (b : Bool) → (b || false) ≡ (false || b)
+    or_false true = refl
+    or_false false = refl
+taken_push (y ∷ xs) x c = ap (λ b. (c == y) || b) (taken_push xs x c) ∙ sym (or_assoc (c == y) (is_taken xs c) (c == x))
+  where
+    or_assoc : (a b d : Bool) → ((a || b) || d) ≡ (a || (b || d))
+    or_assoc true b d = refl
+    or_assoc false b d = refl
+
 -- and what is taken stands there
 pub taken_where : (xs : List ℕ) (c : ℕ) → is_taken xs c ≡ true → (k : ℕ) × (k < length xs) × (get_or xs k 0 ≡ c)
 taken_where xs c h =

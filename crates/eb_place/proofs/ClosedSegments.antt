@@ -1,6 +1,6 @@
 -- A closed segment: all its postings are seen, and the tails of no further terms are stored.
-use Rattle.std.proofs.Common.{◌≡◌, ℕ, zero, suc, ◌+◌, ◌<◌, ◌≤◌, List, [], ◌∷◌, ◌++◌, length, get_or, ap, sym, ◌∙◌, subst, arith, append-nil, append_assoc, true, Option, Some, None, inl, inr}
-use Rattle.std.proofs.lemmas.Bool.{cases_lt, false≢true}
+use Rattle.std.proofs.Common.{◌≡◌, ℕ, zero, suc, ◌+◌, ◌<◌, ◌≤◌, List, [], ◌∷◌, ◌++◌, length, get_or, ap, sym, ◌∙◌, subst, arith, append-nil, append_assoc, Option, Some, None, inl, inr}
+use Rattle.std.proofs.lemmas.Bool.{cases_lt}
 use Rattle.std.proofs.lemmas.List.{take_all, length-take}
 use Rattle.eb_base.specs.Term.{Term}
 use Rattle.eb_base.specs.Document.{Doc}
@@ -21,9 +21,8 @@ use Rattle.eb_place.proofs.WordsAtMoment.{placed_all, lawful_front, lawful_last,
 use Rattle.eb_place.proofs.WordsOfTokens.{Reached, times, times-append, tail_within}
 use Rattle.eb_place.proofs.WordsOfHistories.{posting_numbers}
 use Rattle.eb_place.proofs.TermNumbersStay.{distinct_grows}
-use Rattle.eb_place.proofs.PackedStores.{is_packed}
 use Rattle.eb_place.proofs.ConverterWords.{closed_room}
-use Rattle.eb_place.proofs.ReaderWords.{seen_is, moment_words, word_of_writer, word_tail}
+use Rattle.eb_place.proofs.ReaderWords.{seen_is, moment_words, word_of_writer, word_tail, packed_tail}
 
 -- a closed segment is one of the accepted documents alone
 closed_before : (σ : Setting) (docs : List Doc) (c : Option (Doc × ℕ)) (s : ℕ) → IsSetting σ → IsLawful σ (docs ++ current_of c) → s + 1 < length (cut σ (docs ++ current_of c))
@@ -69,10 +68,6 @@ distinct_front : (xs ys : List Term) → length (distinct xs) ≤ length (distin
 distinct_front xs [] = omega (arith, ap (λ z. length (distinct z)) (append-nil xs))
 distinct_front xs (y ∷ ys) = omega (arith, distinct_grows xs y, distinct_front (xs ++ y ∷ []) ys, ap (λ z. length (distinct z)) (append_assoc xs (y ∷ []) ys))
 
-tail_plain : (s k : ℕ) → is_packed (slot s tail_region k) ≡ true → ⊥
-unfolding is_packed
-tail_plain s k h = false≢true h
-
 -- the tail of no term is 0
 pub tail_none : (m : Moment) (s k : ℕ) → IsMoment m → s < m.setting.segments → length (distinct (terms_of (segment m s))) ≤ k → k < m.setting.terms
     → word m (place m.setting (slot s tail_region k)) ≡ 0
@@ -80,7 +75,7 @@ tail_none m s k is h l b =
     let w = moment_words m s is h in
     let f = distinct_front w.stored w.left in
     let e = ap (λ z. length (distinct z)) w.all in
-    word_of_writer m (slot s tail_region k) is (tail_within m.setting s k h b) (tail_plain s k) ∙ w.reached.bare k (omega arith) b
+    word_of_writer m (slot s tail_region k) is (tail_within m.setting s k h b) (packed_tail s k) ∙ w.reached.bare k (omega arith) b
 
 -- the tail of a term of a closed segment isn't
 pub tail_some : (m : Moment) (s : ℕ) (t : Term) (k : ℕ) → IsMoment m → IsClosed m s → IsTerm m s t k → 1 ≤ word m (place m.setting (slot s tail_region k))

@@ -12,10 +12,10 @@ use Rattle.eb_place.specs.Packed.{packed}
 use Rattle.eb_place.specs.Placing.{Store, in_row}
 use Rattle.eb_place.specs.Conversion.{pack_stores, convert_stores}
 use Rattle.eb_place.proofs.StoresWithinTable.{IsWithin}
-use Rattle.eb_place.proofs.FreshPoolWords.{Each, Each-append}
+use Rattle.eb_place.proofs.FreshPoolWords.{Each, Each-append, each_head}
 use Rattle.eb_place.proofs.FreshPoolWords.Each.{none, more}
 use Rattle.eb_place.proofs.WordsOfTokens.{val, val_keeps, val_stored}
-use Rattle.eb_place.proofs.StoringTokens.{Each-front}
+use Rattle.eb_place.proofs.StoringTokens.{Each-front, Each-back}
 
 -- the word is one of this segment
 abbrev pub IsOf : ℕ → Slot → Type 0
@@ -71,15 +71,8 @@ unfolding pack_stores
 pack_no_converted s seg start k [] = none
 pack_no_converted s seg start k (t ∷ ts) = Each-append (row_no_converted s start (packed t seg)) (more (λ e. absurd cc) (pack_no_converted s seg (start + length (packed t seg)) (k + 1) ts))
 
-Each-back : {X : Type 0} {Q : X → Type 0} (xs ys : List X) → Each Q (xs ++ ys) → Each Q ys
-Each-back [] ys h = h
-Each-back (x ∷ xs) ys (more h t) = Each-back xs ys t
-
 tail_of : {X : Type 0} {Q : X → Type 0} (x : X) (xs : List X) → Each Q (x ∷ xs) → Each Q xs
 tail_of x xs (more h t) = t
-
-head_of : {X : Type 0} {Q : X → Type 0} (x : X) (xs : List X) → Each Q (x ∷ xs) → Q x
-head_of x xs (more h t) = h
 
 -- a row leaves its values
 row_value : (σ : Setting) (L : List Store) (s i : ℕ) (vs : List ℕ) (j : ℕ) → Each (IsWithin σ) (in_row s packed_region i vs) → j < length vs
@@ -91,7 +84,7 @@ row_value σ L s i (v ∷ vs) zero w h =
     let e : L ++ ((x, v) ∷ M) ≡ (L ++ (x, v) ∷ []) ++ M = sym (append_assoc L ((x, v) ∷ []) M) in
     let z : i + 0 ≡ i = omega arith in
     ap (λ k. val σ (L ++ ((x, v) ∷ M)) (slot s packed_region k)) z ∙ ap (λ l. val σ l x) e
-    ∙ val_keeps σ (L ++ (x, v) ∷ []) M x (head_of (x, v) M w) (tail_of (x, v) M w) (row_after s (i + 1) vs i (omega arith)) ∙ val_stored σ L x v
+    ∙ val_keeps σ (L ++ (x, v) ∷ []) M x (each_head (x, v) M w) (tail_of (x, v) M w) (row_after s (i + 1) vs i (omega arith)) ∙ val_stored σ L x v
 row_value σ L s i (v ∷ vs) (suc j) w h =
     let x = slot s packed_region i in
     let M = in_row s packed_region (i + 1) vs in

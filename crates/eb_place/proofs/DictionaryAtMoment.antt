@@ -2,8 +2,8 @@
 use Rattle.std.proofs.Common.{◌≡◌, ℕ, ◌+◌, ◌-◌, ◌*◌, ◌<◌, ◌==◌, ◌||◌, Bool, true, false, cond, List, [], ◌∷◌, ◌++◌, length, take}
 use Rattle.std.proofs.Common.{filter, get_or, count_by, sum_by, refl, ap, sym, ◌∙◌, subst, arith, inl, inr, append-nil, append_assoc}
 use Rattle.std.proofs.lemmas.Bool.{cases_Bool, cases_lt, false≢true, ne_eqb}
-use Rattle.std.proofs.lemmas.List.{length_push, length-append, length-take, take-append-le, take_all, take_at, get_or_append_left}
-use Rattle.std.proofs.lemmas.List.Sums.{sum_by_push, sum_by-append, sum_by-cons, length-filter}
+use Rattle.std.proofs.lemmas.List.{length_push, length-append, take-append-le, take_all, take_at}
+use Rattle.std.proofs.lemmas.List.Sums.{sum_by_push, sum_by-append, sum_by-cons}
 use mathlib.Core.List.{IsPrefix}
 use Rattle.eb_base.specs.Term.{Term}
 use Rattle.eb_base.specs.Setting.{Setting}
@@ -28,7 +28,7 @@ use Rattle.eb_place.proofs.ReaderWords.{word_of_writer, moment_words}
 use Rattle.eb_place.proofs.EnteredTermCells.{Entered, entered_done}
 use Rattle.eb_place.proofs.CellsOfTerms.{cell_low}
 use Rattle.eb_place.proofs.StoringTokens.{take_over, Each-back}
-use Rattle.eb_place.proofs.RegionStores.{filter_none, picks_done, moment_within}
+use Rattle.eb_place.proofs.RegionStores.{picks_done, moment_within, count_by-append, count_none}
 use Rattle.eb_place.proofs.EntryStores.{is_entry, entries, entries_push, entries_picked, in_region, text_entry, text_place_entry, cell_entry}
 use Rattle.eb_place.proofs.DictionaryOfTerms.{text_ends, HasTerms, Texts, Behind, text_stores, enter_split, text_stores_behind, enter_within, texts_done, texts_keep, entered_keep}
 
@@ -75,12 +75,6 @@ entries_cut σ s before (t ∷ ts) j =
     ]
 
 -- ---- how many cells are stored
-
-count_by-append : (p : Store → Bool) (xs ys : List Store) → count_by p (xs ++ ys) ≡ count_by p xs + count_by p ys
-count_by-append p xs ys = Rattle.std.proofs.lemmas.List.Sums.sum_by-append (λ y. cond (p y) 1 0) xs ys
-
-count_none : (p : Store → Bool) (xs : List Store) → Each (λ (y : Store). p y ≡ false) xs → count_by p xs ≡ 0
-count_none p xs h = sym (length-filter p xs) ∙ ap length (filter_none p xs h)
 
 -- one cell a term
 pub cells_counted : (σ : Setting) (s : ℕ) (terms : List Term) → count_by (is_in s cell_region) (entries σ s [] terms) ≡ length terms

@@ -1,5 +1,5 @@
 -- What the words of a segment's dictionary are where exactly these terms are entered.
-use Rattle.std.proofs.Common.{◌≡◌, ℕ, zero, suc, ◌+◌, ◌*◌, ◌/◌, ◌<◌, ◌≤◌, false, List, [], ◌∷◌, ◌++◌, length, take, drop, get_or, sum_by, refl, ap, sym, ◌∙◌, subst, arith, inl, inr, append_assoc}
+use Rattle.std.proofs.Common.{◌≡◌, ℕ, zero, suc, ◌+◌, ◌*◌, ◌<◌, ◌≤◌, false, List, [], ◌∷◌, ◌++◌, length, take, get_or, sum_by, refl, ap, sym, ◌∙◌, subst, arith, inl, inr, append_assoc}
 use Rattle.std.proofs.lemmas.Bool.{cases_lt}
 use Rattle.std.proofs.lemmas.List.{length_push, take-append-le, take_at, get_or_append_left}
 use Rattle.std.proofs.lemmas.List.Sums.{sum_by_push, sum_by-cons}
@@ -10,27 +10,14 @@ use Rattle.eb_place.specs.Layout.{size}
 use Rattle.eb_place.specs.Layout.Slot.{slot}
 use Rattle.eb_place.specs.Layout.Region.{cell_region, text_region, text_place_region}
 use Rattle.eb_place.specs.Room.{text_words}
-use Rattle.eb_place.specs.Placing.{Store, in_row, text_of, eights, enter_stores, cells_of, cell_of_next}
+use Rattle.eb_place.specs.Placing.{Store, in_row, text_of, enter_stores, cells_of, cell_of_next}
 use Rattle.eb_place.specs.Seen.{is_in}
 use Rattle.eb_place.proofs.FreshPoolWords.{Each, Each-append}
 use Rattle.eb_place.proofs.FreshPoolWords.Each.{none, more}
-use Rattle.eb_place.proofs.StoresWithinTable.{IsWithin, cell_within}
+use Rattle.eb_place.proofs.StoresWithinTable.{IsWithin, cell_within, row_within, length-text_of}
 use Rattle.eb_place.proofs.WordsOfTokens.{val, val_stored, val_keeps, Each-map}
 use Rattle.eb_place.proofs.EnteredTermCells.{Entered}
 use Rattle.eb_place.proofs.EntryStores.{not_in}
-
-length-eights : (n : ℕ) (bs : List ℕ) → length (eights n bs) ≡ n
-length-eights zero bs = refl
-length-eights (suc n) bs = ap suc (length-eights n (drop 8 bs))
-
--- a term has as many text words as its text
-pub length-text_of : (t : Term) → length (text_of t) ≡ text_words t
-length-text_of t = omega (arith, length-eights ((length t + 7) / 8) t)
-
-row_within : (σ : Setting) (s i : ℕ) (vs : List ℕ) → s < σ.segments → i + length vs ≤ 4 * σ.terms → Each (IsWithin σ) (in_row s text_region i vs)
-unfolding size
-row_within σ s i [] h l = none
-row_within σ s i (v ∷ vs) h l = more (h, omega arith) (row_within σ s (i + 1) vs h (omega arith))
 
 -- there is room for these terms
 pub record HasTerms (σ : Setting) (s : ℕ) (terms : List Term) : Type 0 where

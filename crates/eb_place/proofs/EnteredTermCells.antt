@@ -1,59 +1,21 @@
 -- The cells of the terms that are entered.
-use Rattle.std.proofs.Common.{◌≡◌, ℕ, zero, suc, ◌+◌, ◌*◌, ◌<◌, ◌≤◌, ◌==◌, ◌||◌, Bool, true, false, List, [], ◌∷◌, ◌++◌, length, get_or, refl, ap, sym, ◌∙◌, arith, inl, inr, sum_by, append_assoc}
+use Rattle.std.proofs.Common.{◌≡◌, ℕ, ◌+◌, ◌*◌, ◌<◌, ◌==◌, ◌||◌, Bool, true, false, List, [], ◌∷◌, ◌++◌, length, get_or, refl, ap, sym, ◌∙◌, arith, inl, inr, sum_by, append_assoc}
 use Rattle.std.proofs.lemmas.Bool.{cases_lt, false≢true, eq-eqb}
 use Rattle.std.proofs.lemmas.List.{length_push, get_or_append_left}
-use Rattle.std.proofs.lemmas.List.Sums.{fold_push}
 use Rattle.std.proofs.Math.Seq.{get_or-append_seam}
-use Rattle.std.proofs.Math.Nat.{mod-lt}
 use Rattle.eb_base.specs.Term.{Term}
 use Rattle.eb_base.specs.Setting.{Setting}
 use Rattle.eb_place.specs.Layout.{size}
 use Rattle.eb_place.specs.Layout.Slot.{slot}
 use Rattle.eb_place.specs.Layout.Region.{cell_region, text_region, text_place_region}
 use Rattle.eb_place.specs.Room.{text_words}
-use Rattle.eb_place.specs.Placing.{Store, in_row, text_of, enter_stores, cells_of, with_cell, cell_of_next, free_from, hash, home_cell}
-use Rattle.eb_place.proofs.TermCounts.{by_push}
-use Rattle.eb_place.proofs.FreeCells.{is_taken, free_from_free}
+use Rattle.eb_place.specs.Placing.{Store, in_row, text_of, enter_stores, cells_of, cell_of_next}
+use Rattle.eb_place.proofs.FreeCells.{is_taken}
 use Rattle.eb_place.proofs.FreshPoolWords.{Each, Each-append}
 use Rattle.eb_place.proofs.FreshPoolWords.Each.{none, more}
-use Rattle.eb_place.proofs.StoresWithinTable.{IsWithin, cell_within}
+use Rattle.eb_place.proofs.StoresWithinTable.{IsWithin}
 use Rattle.eb_place.proofs.WordsOfTokens.{val, val_stored, val_keeps}
-
-length-cells : (cells : ℕ) (terms : List Term) → length (cells_of cells terms) ≡ length terms
-unfolding cells_of
-length-cells cells =
-    by_push (λ ts. length (cells_of cells ts) ≡ length ts) refl (λ ts t h. ap length (fold_push (with_cell cells) [] ts t) ∙ length_push (cells_of cells ts) _ ∙ omega (arith, h, length_push ts t))
-
-cells_push : (cells : ℕ) (terms : List Term) (t : Term) → cells_of cells (terms ++ t ∷ []) ≡ cells_of cells terms ++ cell_of_next cells terms t ∷ []
-unfolding cells_of cell_of_next
-cells_push cells terms t = fold_push (with_cell cells) [] terms t ∙ ap (λ n. cells_of cells terms ++ free_from cells (cells_of cells terms) n (home_cell cells t) ∷ []) (length-cells cells terms)
-
-next_free : (cells : ℕ) (terms : List Term) (t : Term) → length terms < cells → is_taken (cells_of cells terms) (cell_of_next cells terms t) ≡ false
-unfolding cell_of_next
-next_free cells terms t h = let l = length-cells cells terms in
-    ap (λ n. is_taken (cells_of cells terms) (free_from cells (cells_of cells terms) n (home_cell cells t))) (sym l)
-    ∙ free_from_free cells (cells_of cells terms) (home_cell cells t) (mod-lt (hash t) (omega arith)) (omega arith)
-
-taken_at : (xs : List ℕ) (k : ℕ) → k < length xs → is_taken xs (get_or xs k 0) ≡ true
-taken_at [] k h = absurd (omega arith)
-taken_at (x ∷ xs) zero h = rw (eq-eqb x x refl) refl
-taken_at (x ∷ xs) (suc k) h = true_right (get_or xs k 0 == x) _ (taken_at xs k (omega arith))
-  where
-    true_right : (a b : Bool) → b ≡ true → (a || b) ≡ true
-    true_right true b e = refl
-    true_right false b e = e
-
-taken_push : (xs : List ℕ) (x c : ℕ) → is_taken (xs ++ x ∷ []) c ≡ (is_taken xs c || (c == x))
-taken_push [] x c = or_false (c == x)
-  where
-    or_false : (b : Bool) → (b || false) ≡ (false || b)
-    or_false true = refl
-    or_false false = refl
-taken_push (y ∷ xs) x c = ap (λ b. (c == y) || b) (taken_push xs x c) ∙ sym (or_assoc (c == y) (is_taken xs c) (c == x))
-  where
-    or_assoc : (a b d : Bool) → ((a || b) || d) ≡ (a || (b || d))
-    or_assoc true b d = refl
-    or_assoc false b d = refl
+use Rattle.eb_place.proofs.CellsOfTerms.{length-cells_of, cells_of_push, next_is_free, taken_here, cell_low, taken_push}
 
 -- the cells where exactly these terms are entered
 pub record Entered (σ : Setting) (s : ℕ) (terms : List Term) (L : List Store) : Type 0 where
@@ -67,21 +29,6 @@ text_not_cell s c i (v ∷ vs) = more (λ e. absurd cc) (text_not_cell s c (i + 
 cell_index : (s i j : ℕ) → slot s cell_region i ≡ slot s cell_region j → i ≡ j
 cell_index s i j e = cc
 
-cells_low : (cells : ℕ) (terms : List Term) → 1 ≤ cells → (k : ℕ) → k < length terms → get_or (cells_of cells terms) k 0 < cells
-cells_low cells terms h = by_push (λ ts. (k : ℕ) → k < length ts → get_or (cells_of cells ts) k 0 < cells) (λ k l. absurd (omega arith)) step terms
-  where
-    step : (ts : List Term) (t : Term) → ((k : ℕ) → k < length ts → get_or (cells_of cells ts) k 0 < cells) → (k : ℕ) → k < length (ts ++ t ∷ []) → get_or (cells_of cells (ts ++ t ∷ [])) k 0 < cells
-    step ts t ih k l = let e = ap (λ z. get_or z k 0) (cells_push cells ts t) in let n = length-cells cells ts in elim (cases_lt k (length ts)) [
-      | inl low ↦ omega (arith, e, get_or_append_left (cells_of cells ts) (cell_of_next cells ts t ∷ []) 0 k (omega arith), ih k low)
-      | inr high ↦ omega (
-        arith,
-        e,
-        ap (λ j. get_or (cells_of cells ts ++ cell_of_next cells ts t ∷ []) j 0) (let q : k ≡ length (cells_of cells ts) = omega (arith, length_push ts t) in q),
-        get_or-append_seam (cells_of cells ts) (cell_of_next cells ts t) [] 0,
-        cell_within ts t cells h,
-      )
-    ]
-
 -- one more term
 pub entered_done : (σ : Setting) (s : ℕ) (terms : List Term) (t : Term) (L : List Store) → s < σ.segments → length terms < σ.terms → Each (IsWithin σ) (enter_stores σ s terms t) → Entered σ s terms L
     → Entered σ s (terms ++ t ∷ []) (L ++ enter_stores σ s terms t)
@@ -92,9 +39,9 @@ entered_done σ s terms t L hs few all h =
     let X : List Store = in_row s text_region (sum_by text_words terms) (text_of t) in
     let x : Store = (slot s text_place_region (length terms), sum_by text_words terms) in
     let y : Store = (slot s cell_region c, length terms + 1) in
-    let push = cells_push C terms t in
-    let n = length-cells C terms in
-    let fresh = next_free C terms t (omega arith) in
+    let push = cells_of_push C terms t in
+    let n = length-cells_of C terms in
+    let fresh = next_is_free C terms t (omega arith) in
     let keep : (j : ℕ) → j < C → (c ≡ j → ⊥) → val σ (L ++ (X ++ x ∷ y ∷ [])) (slot s cell_region j) ≡ val σ L (slot s cell_region j) =
     λ j l o. val_keeps σ L (X ++ x ∷ y ∷ []) (slot s cell_region j) (hs, l) all
     (Each-append (text_not_cell s j (sum_by text_words terms) (text_of t)) (more (λ e. absurd cc) (more (λ e. o (cell_index s c j e)) none))) in
@@ -103,8 +50,8 @@ entered_done σ s terms t L hs few all h =
         | inl low ↦
             let e : get_or (cells_of C (terms ++ t ∷ [])) k 0 ≡ get_or (cells_of C terms) k 0 = ap (λ z. get_or z k 0) push ∙ get_or_append_left (cells_of C terms) (c ∷ []) 0 k (omega arith) in
             ap (λ z. val σ (L ++ (X ++ x ∷ y ∷ [])) (slot s cell_region z)) e
-            ∙ keep (get_or (cells_of C terms) k 0) (cells_low C terms (omega arith) k low)
-            (λ q. false≢true (sym fresh ∙ ap (is_taken (cells_of C terms)) q ∙ taken_at (cells_of C terms) k (omega arith)))
+            ∙ keep (get_or (cells_of C terms) k 0) (cell_low C terms (omega arith) k low)
+            (λ q. false≢true (sym fresh ∙ ap (is_taken (cells_of C terms)) q ∙ taken_here (cells_of C terms) k (omega arith)))
             ∙ h.cell k low
         | inr high ↦
             let at : k ≡ length terms = omega (arith, l, length_push terms t) in

@@ -1,6 +1,6 @@
 -- The terms that are entered in a segment: their numbers, their bytes, and that they stay.
 use Rattle.std.proofs.Common.{◌≡◌, ℕ, zero, suc, ◌+◌, ◌*◌, ◌/◌, ◌<◌, ◌≤◌, Bool, cond, List, [], ◌∷◌, ◌++◌, length, take, drop, get_or}
-use Rattle.std.proofs.Common.{count_by, All, Contains, refl, ap, sym, ◌∙◌, subst, arith, inl, inr, append-nil, append_assoc, bytes_eq}
+use Rattle.std.proofs.Common.{count_by, All, Contains, refl, ap, sym, ◌∙◌, subst, arith, inl, inr, bytes_eq}
 use Rattle.std.proofs.lemmas.Bool.{cases_lt}
 use Rattle.std.proofs.lemmas.List.{length_push, length-append, length-take, length-drop, take-append-le, take-append-drop, get_or_append_left, get_or_default}
 use Rattle.std.proofs.lemmas.List.Elements.{All-head, All-tail, All-take, All-drop, Contains-get_or, Contains-append_left}
@@ -12,7 +12,7 @@ use Rattle.eb_base.specs.Document.{Doc, IsDocument}
 use Rattle.eb_place.specs.declared.moment.Moment.{Moment}
 use Rattle.eb_place.specs.Layout.Region.{cell_region}
 use Rattle.eb_place.specs.Postings.{count_of, terms_of, distinct, number_of}
-use Rattle.eb_place.specs.Room.{text_words}
+use Rattle.eb_place.specs.Room.{text_words, cut}
 use Rattle.eb_place.specs.Placing.{Store, text_of, eights, little_endian}
 use Rattle.eb_place.specs.Moments.{with_current, document_stores, IsMoment}
 use Rattle.eb_place.specs.Later.{IsNotBefore}
@@ -21,15 +21,14 @@ use Rattle.eb_place.specs.Walk.{IsTerm}
 use Rattle.eb_place.proofs.TermCounts.{one_if, by_push, count_of_push, distinct_push, distinct-nil, with_term_cases, same_term, once}
 use Rattle.eb_place.proofs.FreshPoolWords.{Each, Each-append}
 use Rattle.eb_place.proofs.FreshPoolWords.Each.{none, more}
-use Rattle.eb_place.proofs.TermNumbersStay.{number_keeps, number_here, number_absent}
+use Rattle.eb_place.proofs.TermNumbersStay.{number_keeps, number_here, number_absent, distinct_more}
 use Rattle.eb_place.proofs.WordsOfHistories.{terms_more}
-use Rattle.eb_place.proofs.Prefixes.{prefix_trans}
 use Rattle.eb_place.proofs.WordsAtMoment.{placed_all}
 use Rattle.eb_place.proofs.ReachedLater.{later_stores, later_segment}
 use Rattle.std.proofs.lemmas.Grind.{same_number_lists}
 use Rattle.eb_place.proofs.StoringTokens.{Each-front, Each-back}
-use Rattle.eb_place.proofs.DictionaryOfTerms.{length-text_of}
 use Rattle.eb_place.proofs.DictionaryAtMoment.{entered_done_is}
+use Rattle.eb_place.proofs.StoresWithinTable.{length-text_of}
 
 -- ---- they stay
 
@@ -38,17 +37,6 @@ take_grows zero j xs ys h = (take j (xs ++ ys), refl)
 take_grows (suc i) zero xs ys h = absurd (omega arith)
 take_grows (suc i) (suc j) [] ys h = (take (suc j) ys, refl)
 take_grows (suc i) (suc j) (x ∷ xs) ys h = let r = take_grows i j xs ys (omega arith) in (r.0, ap (λ z. x ∷ z) r.1)
-
-distinct_more : (xs ys : List Term) → IsPrefix (distinct xs) (distinct (xs ++ ys))
-distinct_more xs [] = ([], append-nil (distinct xs) ∙ ap distinct (sym (append-nil xs)))
-distinct_more xs (y ∷ ys) = prefix_trans (distinct xs) (distinct (xs ++ y ∷ [])) (distinct (xs ++ (y ∷ ys))) one
-    (subst (λ z. IsPrefix (distinct (xs ++ y ∷ [])) (distinct z)) (append_assoc xs (y ∷ []) ys) (distinct_more (xs ++ y ∷ []) ys))
-  where
-    one : IsPrefix (distinct xs) (distinct (xs ++ y ∷ []))
-    one = elim (with_term_cases (distinct xs) y) [
-      | inl w ↦ ([], append-nil (distinct xs) ∙ sym (distinct_push xs y ∙ w.1))
-      | inr w ↦ (y ∷ [], sym (distinct_push xs y ∙ w.1))
-    ]
 
 counts_grow : (p : Store → Bool) (xs ys : List Store) → IsPrefix xs ys → count_by p xs ≤ count_by p ys
 counts_grow p xs ys h = omega (arith, ap (count_by p) (sym h.1), sum_by-append (λ y. cond (p y) 1 0) xs h.0)
@@ -60,7 +48,7 @@ entered_later m n s l =
     let p = later_segment m n s l in
     let t : terms_of (segment n s) ≡ terms_of (segment m s) ++ terms_of p.0 = ap terms_of (sym p.1) ∙ terms_more (segment m s) p.0 in
     let d = distinct_more (terms_of (segment m s)) (terms_of p.0) in
-    let e : distinct (terms_of (segment m s)) ++ d.0 ≡ distinct (terms_of (segment n s)) = d.1 ∙ ap distinct (sym t) in
+    let e : distinct (terms_of (segment m s)) ++ d.0 ≡ distinct (terms_of (segment n s)) = sym d.1 ∙ ap distinct (sym t) in
     let c = counts_grow (is_in s cell_region) (document_stores m.setting m.documents) (document_stores n.setting n.documents) (later_stores m n l) in
     subst (λ z. IsPrefix (entered m s) (take (count_by (is_in s cell_region) (document_stores n.setting n.documents)) z)) e
     (take_grows (count_by (is_in s cell_region) (document_stores m.setting m.documents))
@@ -212,3 +200,8 @@ text_once t u h k e =
 pub text_same : (t u : Term) → AreBytes t → AreBytes u → length t ≡ length u → ((i : ℕ) → i < text_words u → get_or (text_of t) i 0 ≡ get_or (text_of u) i 0) → t ≡ u
 text_same t u h k n e =
     text_once t u h k (same_number_lists (text_of t) (text_of u) (omega (arith, length-text_of t, length-text_of u)) (λ i l. e i (omega (arith, length-text_of t))))
+
+-- which terms are entered goes by the setting and the documents part alone
+pub entered_by : (m n : Moment) (s : ℕ) → n.setting ≡ m.setting → n.documents ≡ m.documents → entered n s ≡ entered m s
+unfolding entered stores_in_region
+entered_by m n s e f i = take (count_by (is_in s cell_region) (document_stores (e i) (f i))) (distinct (terms_of (get_or (cut (e i) (with_current (f i))) s [])))

@@ -50,7 +50,7 @@ not_in s v r q i w h = rw h (and_false (v == s))
     and_false true = refl
     and_false false = refl
 
-elsewhere_in : (s : ℕ) (r : Region) (y : Store) → Elsewhere s y → is_in s r y ≡ false
+pub elsewhere_in : (s : ℕ) (r : Region) (y : Store) → Elsewhere s y → is_in s r y ≡ false
 elsewhere_in s r (published, w) h = refl
 elsewhere_in s r (slot v q i, w) h = elim (cases_Bool (v == s)) [
   | inl here ↦ absurd (h q i (let e : v ≡ s = eqb-true _ _ here in ap (λ z. slot z q i) e))

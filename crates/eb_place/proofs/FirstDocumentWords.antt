@@ -131,7 +131,7 @@ rest_stores σ s seg count d = tokens_stores σ s (length seg) 0 (terms_of seg) 
 rest_apart : (σ : Setting) (s : ℕ) (seg : List Doc) (count : ℕ) (d : Doc) → Each (λ (y : Store). y.0 ≡ slot s first_region 0 → ⊥) (rest_stores σ s seg count d)
 rest_apart σ s seg count d = Each-append (Each-map (λ y k. not_first s y.0 k) (tokens_kind σ s (length seg) 0 (terms_of seg) d.terms)) (more (λ e. absurd cc) (more (λ e. absurd cc) none))
 
-begins_stores : (s : ℕ) (seg : List Doc) (c : ℕ) → seg ≡ [] → first_stores s seg c ≡ (slot s first_region 0, c + 1) ∷ []
+pub begins_stores : (s : ℕ) (seg : List Doc) (c : ℕ) → seg ≡ [] → first_stores s seg c ≡ (slot s first_region 0, c + 1) ∷ []
 unfolding first_stores
 begins_stores s seg c e = ap (λ (z : List Doc). if length z == 0 then ((slot s first_region 0, c + 1) ∷ []) else []) e
 

@@ -1,19 +1,17 @@
 -- The stores of one more token go to no pool word that holds a posting.
-use Rattle.std.proofs.Common.{◌≡◌, ℕ, zero, suc, ◌+◌, ◌-◌, ◌*◌, ◌/◌, ◌%◌, ◌^◌, ◌<◌, ◌≤◌, ◌==◌, ◌&&◌, Bool, true, false}
-use Rattle.std.proofs.Common.{List, [], ◌∷◌, ◌++◌, All, refl, ap, sym, ◌∙◌, arith, if◌then◌else◌, nat_le, lit<, sum_by}
-use Rattle.std.proofs.lemmas.Bool.{false≢true, and_parts}
+use Rattle.std.proofs.Common.{◌≡◌, ℕ, zero, suc, ◌+◌, ◌-◌, ◌*◌, ◌/◌, ◌%◌, ◌^◌, ◌<◌, ◌≤◌, Bool, true, false, drop}
+use Rattle.std.proofs.Common.{List, [], ◌∷◌, ◌++◌, All, refl, ap, sym, ◌∙◌, arith, if◌then◌else◌, lit<}
+use Rattle.std.proofs.lemmas.Bool.{false≢true}
 use Rattle.std.proofs.lemmas.Bool.Decides.{nat_tests}
 use Rattle.std.proofs.lemmas.List.Elements.{All-cons, All-nil}
 use Rattle.eb_base.specs.Term.{Term}
-use Rattle.eb_base.specs.Setting.{Setting}
 use Rattle.eb_place.specs.Layout.{Slot, pool_slot, pool_region, address_number, slice_bits}
 use Rattle.eb_place.specs.Layout.Slot.{published, slot}
 use Rattle.eb_place.specs.Layout.Region.{first_region, converted_region, cell_region, text_place_region, tail_region}
 use Rattle.eb_place.specs.Layout.Region.{text_region, id_region, pool_0, pool_1, pool_2, pool_3, directory_region, packed_region}
-use Rattle.eb_place.specs.Postings.{count_of, distinct}
-use Rattle.eb_place.specs.Room.{text_words}
+use Rattle.eb_place.specs.Postings.{count_of}
 use Rattle.eb_place.specs.Address.{pool_at, offset_at, slice_start, begins, slices_begun, front_of, address_of}
-use Rattle.eb_place.specs.Placing.{Store, in_row, text_of, enter_stores, append_stores, token_stores}
+use Rattle.eb_place.specs.Placing.{Store, in_row}
 use Rattle.eb_place.proofs.TermCounts.{one_if, same_term, count_of_push}
 use Rattle.eb_place.proofs.AddressesDiffer.{SlicesFit, address_once, address_stays, address_fields, offset_in, slice_in, pool_low, start_le}
 use Rattle.eb_place.proofs.NextAddresses.{front_here}
@@ -152,9 +150,19 @@ pub data Each {X : Type 0} (P : X → Type 0) : List X → Type 0 where
   none : Each P []
   more : {x : X} {xs : List X} → P x → Each P xs → Each P (x ∷ xs)
 
+-- what holds of each holds of the first
+pub each_head : {X : Type 0} {Q : X → Type 0} (x : X) (xs : List X) → Each Q (x ∷ xs) → Q x
+each_head x xs (more h t) = h
+
 pub Each-append : {X : Type 0} {P : X → Type 0} {xs ys : List X} → Each P xs → Each P ys → Each P (xs ++ ys)
 Each-append none k = k
 Each-append (more h t) k = more h (Each-append t k)
+
+-- and of those that are left
+pub Each-drop : {X : Type 0} {Q : X → Type 0} (n : ℕ) {xs : List X} → Each Q xs → Each Q (drop n xs)
+Each-drop zero h = h
+Each-drop (suc n) none = none
+Each-drop (suc n) (more h t) = Each-drop n t
 
 pub Each-if : {X : Type 0} {P : X → Type 0} (b : Bool) {xs : List X} → (b ≡ true → Each P xs) → Each P (if b then xs else [])
 Each-if true h = h refl
@@ -172,25 +180,3 @@ text_apart : (s i : ℕ) (vs : List ℕ) (r a : ℕ) → Each (NotAt r a) (in_ro
 unfolding is_pool
 text_apart s i [] r a = none
 text_apart s i (v ∷ vs) r a = more (not_pool (slot s text_region i) r a refl) (text_apart s (i + 1) vs r a)
-
--- the stores of one more token go to no word that holds an earlier posting
-pub token_fresh : (σ : Setting) (s : ℕ) (ts : List Term) (t u : Term) (f posting : ℕ) → SlicesFit (ts ++ u ∷ []) → f < count_of t ts →
-    Each (NotAt s (address_of t f ts)) (token_stores σ s ts u posting)
-unfolding token_stores append_stores enter_stores is_pool
-token_fresh σ s ts t u f posting fit h =
-    let a = address_of t f ts in
-    let c = count_of u ts in
-    let n = count_of_push u u ts in
-    let n1 = ap one_if (same_term u) in
-    let m = count_of_push t u ts in
-    let new : address_of u c (ts ++ u ∷ []) ≡ address_of u c ts = address_here u ts [] in
-    let old : address_of t f (ts ++ u ∷ []) ≡ address_of t f ts = address_stays t f ts (u ∷ []) h in
-    Each-append
-    (Each-if (c == 0) (λ z. Each-append (text_apart s (sum_by text_words (distinct ts)) (text_of u) s a) (more (λ e. not_pool _ s a refl e) (more (λ e. not_pool _ s a refl e) none))))
-    (Each-append
-    (Each-if (begins c && nat_le 1 (pool_at c)) (λ z. more (λ e. let b = and_parts _ _ z in
-    link_fresh s (ts ++ u ∷ []) t u c f fit (omega arith) (omega arith) b.0 (le_from (pool_at c) b.1) (ap (λ k. pool_slot s (k - 1)) new ∙ e ∙ ap (pool_slot s) (sym old))) none))
-    (more (posting_fresh s ts t u f fit h) (more (λ e. not_pool _ s a refl e) none)))
-  where
-    le_from : (k : ℕ) → nat_le 1 k ≡ true → 1 ≤ k
-    le_from k z = grind (arith, nat_tests)

@@ -1,5 +1,5 @@
 -- Later moments.
-use Rattle.std.proofs.Common.{◌≡◌, ℕ, suc, inl, inr, List, [], ◌∷◌, ◌++◌, Option, Some, None, Bool, true, false, refl, sym, ◌∙◌, subst, arith}
+use Rattle.std.proofs.Common.{◌≡◌, ℕ, suc, inl, inr, List, [], ◌∷◌, ◌++◌, Option, Some, None, Bool, true, false, refl, sym, ◌∙◌, subst, arith, ◌<◌}
 use mathlib.Core.List.{IsPrefix}
 use Rattle.eb_base.specs.Document.{Doc}
 use Rattle.eb_place.specs.declared.moment.Conversions.{Conversions}
@@ -57,9 +57,13 @@ pub later_on : (l m n : Moment) → IsNotBefore m l → IsNotBefore n m → IsNo
 later_on l m n r s = record { setting = r.setting ∙ s.setting; documents = reaches_on _ _ _ r.documents s.documents; conversions = packed_on _ _ _ r.conversions s.conversions }
 
 -- one store more is later
-reaches_stored : (docs : List Doc) (c : Option (Doc × ℕ)) (d : Doc) (b : Bool) → IsCurrent c d → Reaches record { accepted = docs; current = c } (documents_after b docs d (suc (stores_done c)))
+pub reaches_stored : (docs : List Doc) (c : Option (Doc × ℕ)) (d : Doc) (b : Bool) → IsCurrent c d → Reaches record { accepted = docs; current = c } (documents_after b docs d (suc (stores_done c)))
 reaches_stored docs None d true is = record { accepted = prefix_self docs; current = tt }
 reaches_stored docs None d false is = record { accepted = prefix_push docs d; current = tt }
 reaches_stored docs (Some c) d true is = record { accepted = prefix_self docs; current = inl (refl, (is, omega arith)) }
 reaches_stored docs (Some c) d false is =
     record { accepted = prefix_push docs d; current = inr (subst (λ (e : Doc). IsPrefix (docs ++ c.0 ∷ []) (docs ++ e ∷ [])) is (prefix_self (docs ++ c.0 ∷ []))) }
+
+-- the segment is one of those of a later moment
+pub inside_later : (m n : Moment) (s : ℕ) → IsNotBefore n m → s < m.setting.segments → s < n.setting.segments
+inside_later m n s l h = subst (λ σ. s < σ.segments) l.setting h

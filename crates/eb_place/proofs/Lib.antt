@@ -64,3 +64,6 @@ pub mod VectorsSlices
 pub mod VectorsPlacing
 pub mod VectorsFit
 pub mod VectorsMoments
+pub mod ListOfStores
+pub mod TailStores
+pub mod RegionCounts

@@ -58,24 +58,3 @@ documents_meet a b c r s = by_count (dec_lt (length a.accepted) (length b.accept
         (lt-ltb _ _ l) record { first = behind_same a b c r s (omega arith) (omega arith); second = reaches_self b; third = s }
     by_count (no h) (no k) (no l) = here false false false (le-ltb _ _ (omega arith)) (le-ltb _ _ (omega arith))
         (le-ltb _ _ (omega arith)) record { first = reaches_self a; second = behind_same b a c s r (omega arith) (omega arith); third = r }
-
--- the later of two is the first where the second is before it
-pub later_is_first : (a b : Documents) → Reaches b a → later_documents a b ≡ a
-unfolding later_documents
-later_is_first a b r = by_count (dec_lt (length b.accepted) (length a.accepted))
-  where
-    le : length b.accepted ≤ length a.accepted
-    le = prefix_length _ _ r.accepted
-
-    rank_le : (x y : Option (Doc × ℕ)) → a.current ≡ y → Goes b.accepted x a → length b.accepted ≡ length a.accepted → rank x ≤ rank y
-    rank_le None y is g same = omega arith
-    rank_le (Some x) y is (inr p) same = absurd (omega (arith, prefix_length _ _ p, length-append b.accepted (x.0 ∷ [])))
-    rank_le (Some x) None is (inl p) same = absurd (subst (Further x) is p.1)
-    rank_le (Some x) (Some y) is (inl p) same = let f = subst (Further x) is p.1 in omega (arith, f.1)
-
-    by_count : Dec (length b.accepted < length a.accepted) → cond (is_behind a b) b a ≡ a
-    by_count (yes h) = rw (le-ltb _ _ le, lt-ltb _ _ h) refl
-    by_count (no h) =
-        let l = le in
-        let k = rank_le b.current a.current refl r.current (omega arith) in
-        rw (le-ltb _ _ le, le-ltb (length b.accepted) (length a.accepted) (omega arith), le-ltb _ _ k) refl

@@ -79,8 +79,3 @@ pub value_after-append : (p v : ℕ) (xs ys : List (ℕ × ℕ)) → value_after
 unfolding value_after
 value_after-append p v [] ys = refl
 value_after-append p v (x ∷ xs) ys = value_after-append p (if x.0 == p then x.1 else v) xs ys
-
--- one more store changes the value at its own place alone
-pub value_after_push : (p v : ℕ) (xs : List (ℕ × ℕ)) (x : ℕ × ℕ) → value_after p v (xs ++ x ∷ []) ≡ (if x.0 == p then x.1 else value_after p v xs)
-unfolding value_after
-value_after_push p v xs x = value_after-append p v xs (x ∷ [])

@@ -22,7 +22,7 @@ use Rattle.eb_place.proofs.ConvertedRows.{pack_no_converted}
 use Rattle.eb_place.proofs.PlacesOfSlots.{place_once}
 use Rattle.eb_place.proofs.PackedStores.{segment_packs}
 use Rattle.eb_place.proofs.FreshPoolWords.{Each}
-use Rattle.eb_place.proofs.FreshPoolWords.Each.{none, more}
+use Rattle.eb_place.proofs.FreshPoolWords.Each.{more}
 
 -- the stores that convert a closed segment stay the same
 pub segment_stores_later : (m n : Moment) (s : ℕ) → IsNotBefore n m → IsClosed m s → segment_stores n.setting (with_current n.documents) s ≡ segment_stores m.setting (with_current m.documents) s

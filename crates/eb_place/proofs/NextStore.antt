@@ -25,8 +25,9 @@ use Rattle.eb_place.proofs.StoresWithinTable.{IsWithin}
 use Rattle.eb_place.proofs.WordsOfTokens.{Each-map}
 use Rattle.eb_place.proofs.StoresOfDocuments.{doc_within}
 use Rattle.eb_place.proofs.WordsAtMoment.{placed_all, Joins, joins, placings_push, lawful_front}
-use Rattle.eb_place.proofs.PackedStores.{is_packed, IsPackedStore, all_packed}
+use Rattle.eb_place.proofs.PackedStores.{is_packed}
 use Rattle.eb_place.proofs.CountWords.{body, body_split, body_writes, writes_plain}
+use Rattle.eb_place.proofs.ReaderWords.{moment_packs}
 
 -- ---- conversions of closed segments stay when documents come
 
@@ -82,21 +83,22 @@ take_whole [] (suc n) h = refl
 take_whole (x ∷ xs) zero h = absurd (omega arith)
 take_whole (x ∷ xs) (suc n) h = ap (λ (z : List Store). x ∷ z) (take_whole xs n (omega arith))
 
-begun_is : (σ : Setting) (docs : List Doc) (c : Option (Doc × ℕ)) (d : Doc) → IsCurrent c d → current_stores σ docs c ≡ take (stores_done c) (doc_stores σ docs d)
-begun_is σ docs None d is = refl
-begun_is σ docs (Some c) d is = ap (λ (e : Doc). take c.1 (doc_stores σ docs e)) is
+-- the stores that are done of the document that is being placed
+pub current_is : (σ : Setting) (docs : List Doc) (c : Option (Doc × ℕ)) (d : Doc) → IsCurrent c d → current_stores σ docs c ≡ take (stores_done c) (doc_stores σ docs d)
+current_is σ docs None d is = refl
+current_is σ docs (Some c) d is = ap (λ (e : Doc). take c.1 (doc_stores σ docs e)) is
 
 stores_stored : (σ : Setting) (docs : List Doc) (c : Option (Doc × ℕ)) (d : Doc) (x : Store) → IsCurrent c d → slice_get (doc_stores σ docs d) (stores_done c) ≡ Some x
     → (b : Bool) → ltb (suc (stores_done c)) (length (doc_stores σ docs d)) ≡ b
     → document_stores σ (documents_after b docs d (suc (stores_done c))) ≡ document_stores σ record { accepted = docs; current = c } ++ x ∷ []
 unfolding document_stores
 stores_stored σ docs c d x is next true long =
-    ap (λ (l : List Store). placings σ docs ++ l) (take_next _ _ _ next ∙ ap (λ (l : List Store). l ++ x ∷ []) (sym (begun_is σ docs c d is)))
+    ap (λ (l : List Store). placings σ docs ++ l) (take_next _ _ _ next ∙ ap (λ (l : List Store). l ++ x ∷ []) (sym (current_is σ docs c d is)))
     ∙ sym (append_assoc (placings σ docs) (current_stores σ docs c) (x ∷ []))
 stores_stored σ docs c d x is next false last =
     append-nil _
     ∙ placings_push σ docs d
-    ∙ ap (λ (l : List Store). placings σ docs ++ l) (sym (take_whole _ _ (ltb-false _ _ last)) ∙ take_next _ _ _ next ∙ ap (λ (l : List Store). l ++ x ∷ []) (sym (begun_is σ docs c d is)))
+    ∙ ap (λ (l : List Store). placings σ docs ++ l) (sym (take_whole _ _ (ltb-false _ _ last)) ∙ take_next _ _ _ next ∙ ap (λ (l : List Store). l ++ x ∷ []) (sym (current_is σ docs c d is)))
     ∙ sym (append_assoc (placings σ docs) (current_stores σ docs c) (x ∷ []))
 
 -- the history with the document that is being placed, after the store
@@ -133,7 +135,7 @@ doc_writers σ docs d s before j =
     both [] none none = none
     both (x ∷ xs) (more a t) (more b u) = more (record { within = a; plain = b }) (both xs t u)
 
-accepted_lawful : (m : Moment) → IsMoment m → IsLawful m.setting m.documents.accepted
+pub accepted_lawful : (m : Moment) → IsMoment m → IsLawful m.setting m.documents.accepted
 accepted_lawful m is = lawful_front m.setting m.documents.accepted (current_of m.documents.current) is.lawful
 
 -- the next store goes to a word of the writer, within the table
@@ -147,14 +149,6 @@ next_writers m d p v is n =
 -- the next place is one of the index
 pub next_in_table : (m : Moment) (d : Doc) (p v : ℕ) → IsMoment m → IsNext m d p v → p < words_of m.setting
 next_in_table m d p v is n = let k = next_store m d p v n in let w = next_writers m d p v is n in omega (arith, place_in m.setting k.slot w.within, k.place)
-
-moment_packs : (m : Moment) → IsMoment m → Each (IsPackedStore m.setting) (conversion_stores m.setting (with_current m.documents) m.conversions)
-moment_packs m is =
-    let p = placed_all m.setting (with_current m.documents) is.setting is.lawful in
-    let short = p.short in
-    all_packed m.setting (with_current m.documents) m.conversions
-    (λ s l. let c = is.closed s l in p.room s (omega arith))
-    (λ l. let c = (is.packs l).0 in p.room m.conversions.converted (omega arith))
 
 -- the conversions are as before
 pub conversions_same : (m : Moment) (d : Doc) (p v : ℕ) → IsMoment m → IsNext m d p v

@@ -1,7 +1,7 @@
 -- No conversion stores to a word of the writer, and all its stores are within the table.
 use Rattle.std.proofs.Common.{◌≡◌, ℕ, zero, suc, ◌+◌, ◌*◌, ◌<◌, ◌≤◌, Bool, true, false, List, [], ◌∷◌, length, take, reverse, get_or, refl, arith, sum_by, lit<}
 use Rattle.std.proofs.lemmas.List.{length-reverse}
-use Rattle.std.proofs.lemmas.List.Sums.{sum_by-cons}
+use Rattle.std.proofs.lemmas.List.Sums.{sum_by-cons, sum_by-le-sum_by}
 use Rattle.eb_base.specs.Term.{Term}
 use Rattle.eb_base.specs.Document.{Doc}
 use Rattle.eb_base.specs.Setting.{Setting}
@@ -60,13 +60,9 @@ packs σ s seg start k (t ∷ ts) h l m =
     Each-append (row_packed σ s start (packed t seg) h (omega arith))
     (more (record { within = (h, omega arith); packed = refl }) (packs σ s seg (start + length (packed t seg)) (k + 1) ts h (omega arith) (omega arith)))
 
-packed_few : (t : Term) (seg : List Doc) → length (packed t seg) ≤ count_of t (terms_of seg)
+pub packed_few : (t : Term) (seg : List Doc) → length (packed t seg) ≤ count_of t (terms_of seg)
 unfolding packed_list
 packed_few t seg = omega (arith, packed_short (length (reverse (postings t seg))) (reverse (postings t seg)), length-reverse (postings t seg), length-postings t seg)
-
-sums : (f g : Term → ℕ) → ((t : Term) → f t ≤ g t) → (ts : List Term) → sum_by f ts ≤ sum_by g ts
-sums f g h [] = omega arith
-sums f g h (t ∷ ts) = omega (arith, sum_by-cons f t ts, sum_by-cons g t ts, h t, sums f g h ts)
 
 -- the stores of a conversion are such
 pub segment_packs : (σ : Setting) (docs : List Doc) (s : ℕ) → Room σ s (terms_of (get_or (cut σ docs) s [])) → Each (IsPackedStore σ) (segment_stores σ docs s)
@@ -78,7 +74,7 @@ segment_packs σ docs s room =
     Each-append (packs σ s seg 0 0 (distinct (terms_of seg)) room.inside
     (omega (
       arith,
-      sums (λ t. length (packed t seg)) (λ t. count_of t (terms_of seg)) (λ t. packed_few t seg) (distinct (terms_of seg)),
+      sum_by-le-sum_by (λ t. length (packed t seg)) (λ t. count_of t (terms_of seg)) (distinct (terms_of seg)) (λ t. packed_few t seg),
       total_count (terms_of seg),
       postings_few σ (terms_of seg) fits,
     )) (omega arith))

@@ -1,29 +1,20 @@
 -- The places of placings and of conversions are apart.
-use Rattle.std.proofs.Common.{◌≡◌, ℕ, ◌<◌, true, List, [], ◌∷◌, ◌++◌, length, Contains, refl, ap, sym, ◌∙◌, arith}
+use Rattle.std.proofs.Common.{◌≡◌, ℕ, ◌<◌, List, [], ◌∷◌, ◌++◌, length, Contains, ap, sym, ◌∙◌, arith}
 use Rattle.std.proofs.lemmas.Bool.{false≢true}
 use Rattle.std.proofs.lemmas.List.Elements.{All-contains}
 use Rattle.eb_base.specs.Document.{Doc}
 use Rattle.eb_base.specs.Setting.{Setting, IsSetting}
 use Rattle.eb_place.specs.Layout.{Slot, place}
 use Rattle.eb_place.specs.Room.{cut, IsLawful}
-use Rattle.eb_place.specs.Placing.{Store, pairs_of, placing, doc_stores}
+use Rattle.eb_place.specs.Placing.{Store, placing, doc_stores}
 use Rattle.eb_place.specs.Conversion.{segment_stores, conversion}
-use Rattle.eb_place.proofs.PlacesOfSlots.{InTable, place_once}
+use Rattle.eb_place.proofs.PlacesOfSlots.{place_once}
 use Rattle.eb_place.proofs.FreshPoolWords.{Each, All-from_Each}
-use Rattle.eb_place.proofs.FreshPoolWords.Each.{none, more}
 use Rattle.eb_place.proofs.WordsOfTokens.{Each-map}
 use Rattle.eb_place.proofs.WordsAtMoment.{placed_all, joins, lawful_front, lawful_last}
 use Rattle.eb_place.proofs.PackedStores.{is_packed, segment_packs}
 use Rattle.eb_place.proofs.NextStore.{IsWriters, doc_writers}
-
--- each pair is of a store with this fact
-pairs_are : (σ : Setting) (P : Slot → Type 0) (xs : List Store) → Each (λ (y : Store). P y.0) xs → Each (λ (z : ℕ × ℕ). (x : Slot) × (z.0 ≡ place σ x) × P x) (pairs_of σ xs)
-pairs_are σ P [] none = none
-pairs_are σ P (x ∷ xs) (more h t) = more (x.0, refl, h) (pairs_are σ P xs t)
-
--- a word of the converter, within the table
-abbrev IsConverters : Setting → Slot → Type 0
-IsConverters σ x = InTable σ x × (is_packed x ≡ true)
+use Rattle.eb_place.proofs.StoresLie.{pairs_are, IsConverters}
 
 -- no place is stored by a placing and by a conversion
 pub places_apart : (σ : Setting) (docs all : List Doc) (d : Doc) (s at v w : ℕ) → IsSetting σ → IsLawful σ (docs ++ d ∷ []) → IsLawful σ all → s < length (cut σ all)

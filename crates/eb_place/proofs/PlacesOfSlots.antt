@@ -1,10 +1,10 @@
 -- Two words have two places, and each place is in the table.
-use Rattle.std.proofs.Common.{◌≡◌, ℕ, zero, suc, ◌+◌, ◌<◌, ◌==◌, Bool, false, cond, List, [], ◌∷◌, ◌++◌, length, get_or, All, refl, ap, sym, ◌∙◌, arith, if◌then◌else◌}
-use Rattle.std.proofs.lemmas.Bool.{ne_eqb, eq-eqb}
+use Rattle.std.proofs.Common.{◌≡◌, ℕ, zero, suc, ◌+◌, ◌<◌, ◌==◌, Bool, false, cond, List, [], ◌∷◌, length, get_or, All, refl, ap, sym, ◌∙◌, arith}
+use Rattle.std.proofs.lemmas.Bool.{ne_eqb}
 use Rattle.std.proofs.lemmas.Nat.{same_from_place, mul-add-lt}
 use Rattle.std.proofs.lemmas.List.Elements.{All-head, All-tail}
 use Rattle.eb_base.specs.Setting.{Setting, words_of}
-use Rattle.eb_place.specs.Layout.{Slot, Region, rank, sizes, starts_at, start, size, segment_words, place}
+use Rattle.eb_place.specs.Layout.{Slot, Region, rank, sizes, starts_at, start, size, segment_words, place, pool_slot, IsInPool}
 use Rattle.eb_place.specs.Layout.Slot.{published, slot}
 use Rattle.eb_place.specs.Layout.Region.{first_region, converted_region, cell_region, text_place_region, tail_region}
 use Rattle.eb_place.specs.Layout.Region.{text_region, id_region, pool_0, pool_1, pool_2, pool_3, directory_region, packed_region}
@@ -61,6 +61,16 @@ abbrev pub InTable : Setting → Slot → Type 0
 InTable σ published = Unit {0}
 InTable σ (slot s r i) = (s < σ.segments) × (i < size σ r)
 
+-- a tail
+pub tail_in_segment : (σ : Setting) (s k : ℕ) → InTable σ (slot s tail_region k) → (s < σ.segments) × (k < σ.terms)
+unfolding size
+tail_in_segment σ s k h = h
+
+-- so its address is one of a pool
+pub pool_in_segment : (σ : Setting) (s a : ℕ) → InTable σ (pool_slot s a) → (s < σ.segments) × IsInPool σ a
+unfolding pool_slot
+pool_in_segment σ s a h = h
+
 -- a word of a region is one of its segment
 pub offset_in : (σ : Setting) (r : Region) (i : ℕ) → i < size σ r → start σ r + i < segment_words σ
 unfolding start size
@@ -92,10 +102,3 @@ untouched σ x v (y ∷ ys) h all other =
     let away : (place σ y.0 == place σ x) ≡ false = ne_eqb _ _ (λ q. All-head (λ (z : Store). z.0 ≡ x → ⊥) y ys other (place_once σ y.0 x (All-head (λ (z : Store). InTable σ z.0) y ys all) h q)) in
     ap (λ (b : Bool). value_after (place σ x) (cond b y.1 v) (pairs_of σ ys)) away
     ∙ untouched σ x v ys h (All-tail (λ (z : Store). InTable σ z.0) y ys all) (All-tail (λ (z : Store). z.0 ≡ x → ⊥) y ys other)
-
--- a word that is stored for the last time keeps the value
-pub stored_last : (σ : Setting) (x : Slot) (v w : ℕ) (xs ys : List Store) → InTable σ x → All (λ y. InTable σ y.0) ys
-    → All (λ y. y.0 ≡ x → ⊥) ys → value_after (place σ x) v (pairs_of σ (xs ++ (x, w) ∷ ys)) ≡ w
-unfolding value_after
-stored_last σ x v w [] ys h all other = ap (λ (b : Bool). value_after (place σ x) (cond b w v) (pairs_of σ ys)) (eq-eqb (place σ x) (place σ x) refl) ∙ untouched σ x w ys h all other
-stored_last σ x v w (z ∷ xs) ys h all other = stored_last σ x (if place σ z.0 == place σ x then z.1 else v) w xs ys h all other

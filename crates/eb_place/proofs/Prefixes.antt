@@ -40,10 +40,6 @@ prefix_get (y ∷ xs) [] k x p h = absurd (cc (p.1))
 prefix_get (y ∷ xs) (z ∷ ys) zero x p h = cc (p.1, h)
 prefix_get (y ∷ xs) (z ∷ ys) (suc k) x p h = prefix_get xs ys k x (p.0, cc (p.1)) h
 
--- nothing is a front
-pub prefix_empty : {A : Type 0} (ys : List A) → IsPrefix [] ys
-prefix_empty ys = (ys, refl)
-
 -- a list is a front of itself with one more
 pub prefix_push : {A : Type 0} (xs : List A) (y : A) → IsPrefix xs (xs ++ y ∷ [])
 prefix_push xs y = (y ∷ [], refl)

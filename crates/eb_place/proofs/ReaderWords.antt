@@ -7,7 +7,7 @@ use Rattle.eb_base.specs.Term.{Term}
 use Rattle.eb_base.specs.Document.{Doc, IsDocument}
 use Rattle.eb_place.specs.declared.moment.Moment.{Moment}
 use Rattle.eb_place.specs.Layout.{Slot, pool_slot, pool_region, place, slice_bits, IsInPool}
-use Rattle.eb_base.specs.Setting.{Setting, words_of}
+use Rattle.eb_base.specs.Setting.{Setting}
 use Rattle.eb_place.specs.Layout.Slot.{slot}
 use Rattle.eb_place.specs.Layout.Region.{tail_region}
 use Rattle.eb_place.specs.Postings.{Token, count_of, distinct, number_of, tokens_from, segment_from, tokens, postings, terms_of, position_bits, posting_bits, places}
@@ -18,7 +18,7 @@ use Rattle.eb_place.specs.Walk.{address_in, posting_in, IsAddress, IsLink, IsTer
 use Rattle.eb_place.proofs.TermCounts.{count_of-append}
 use Rattle.eb_place.proofs.AddressesDiffer.{address_stays, slice_in}
 use Rattle.eb_place.proofs.EnoughPackedWords.{length-postings}
-use Rattle.eb_place.proofs.PlacesOfSlots.{InTable, place_in}
+use Rattle.eb_place.proofs.PlacesOfSlots.{InTable}
 use Rattle.eb_place.proofs.FreshPoolWords.{address_low, Each, Each-append}
 use Rattle.eb_place.proofs.FreshPoolWords.Each.{none, more}
 use Rattle.eb_place.proofs.StoresWithinTable.{slices_fit, address_within, link_within}
@@ -43,11 +43,13 @@ packed_pool s a h = not_region s (a % 2 ^ 30) (a / 2 ^ 30) h
     not_region s i (suc (suc zero)) h = false≢true h
     not_region s i (suc (suc (suc p))) h = false≢true h
 
-packed_tail : (s k : ℕ) → is_packed (slot s tail_region k) ≡ true → ⊥
+-- a tail is none of the converter's words
+pub packed_tail : (s k : ℕ) → is_packed (slot s tail_region k) ≡ true → ⊥
 unfolding is_packed
 packed_tail s k h = false≢true h
 
-moment_packs : (m : Moment) → IsMoment m → Each (IsPackedStore m.setting) (conversion_stores m.setting (with_current m.documents) m.conversions)
+-- the stores of the conversions of a moment are packed stores of its setting
+pub moment_packs : (m : Moment) → IsMoment m → Each (IsPackedStore m.setting) (conversion_stores m.setting (with_current m.documents) m.conversions)
 moment_packs m is =
     let p = placed_all m.setting (with_current m.documents) is.setting is.lawful in
     let short = p.short in
@@ -199,23 +201,16 @@ address_in_pool m s t f a is h = in_pool m.setting s a (address_slot m s t f a i
 pub link_in_pool : (m : Moment) (s : ℕ) (t : Term) (f a : ℕ) → IsMoment m → IsLink m s t f a → IsInPool m.setting a
 link_in_pool m s t f a is h = in_pool m.setting s a (link_slot m s t f a is h)
 
--- so is the word of a seen posting
-pub address_in_table : (m : Moment) (s : ℕ) (t : Term) (f a : ℕ) → IsMoment m → IsAddress m s t f a → place m.setting (pool_slot s a) < words_of m.setting
-address_in_table m s t f a is h = place_in m.setting (pool_slot s a) (address_slot m s t f a is h)
-
--- and that of its link
-pub link_in_table : (m : Moment) (s : ℕ) (t : Term) (f a : ℕ) → IsMoment m → IsLink m s t f a → place m.setting (pool_slot s a) < words_of m.setting
-link_in_table m s t f a is h = place_in m.setting (pool_slot s a) (link_slot m s t f a is h)
-
--- the place of a term's tail is below the number of words
-pub tail_place : (m : Moment) (s : ℕ) (t : Term) (k : ℕ) → IsMoment m → IsTerm m s t k → place m.setting (slot s tail_region k) < words_of m.setting
-tail_place m s t k is h = place_in m.setting (slot s tail_region k) (tail_in_table m s t k is h).1
-
 -- the fields of an address
 pub record Parts (f a : ℕ) : Type 0 where
   pub slice : ℕ
   pub is : a ≡ pool_at f * 2 ^ 30 + slice * 2 ^ slice_bits (pool_at f) + offset_at f
   pub inside : slice * 2 ^ slice_bits (pool_at f) + offset_at f < 2 ^ 30
+
+-- those of the address of a posting
+pub parts_of : (t : Term) (f : ℕ) (ts : List Term) → slices_begun (pool_at f) (front_of t (slice_start f) ts) * 2 ^ slice_bits (pool_at f) + offset_at f < 2 ^ 30 → Parts f (address_of t f ts)
+unfolding address_of
+parts_of t f ts h = record { slice = slices_begun (pool_at f) (front_of t (slice_start f) ts); is = refl; inside = h }
 
 -- the pool and the offset of a seen posting can be read from its address
 pub address_parts : (m : Moment) (s : ℕ) (t : Term) (f : ℕ) → IsMoment m → s < m.setting.segments → f < seen_count m s t → Parts f (address_in m s t f)

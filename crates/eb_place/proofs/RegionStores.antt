@@ -1,9 +1,10 @@
 -- The stores that pass a test, among all stores of a history: those of the tokens of one segment.
 use Rattle.std.proofs.Common.{◌≡◌, ℕ, zero, suc, ◌+◌, ◌-◌, ◌==◌, Bool, true, false, List, [], ◌∷◌, ◌++◌, length, take, drop}
-use Rattle.std.proofs.Common.{filter, get_or, refl, ap, sym, ◌∙◌, subst, inl, inr, append-nil, append_assoc, Option, Some, None}
+use Rattle.std.proofs.Common.{filter, count_by, cond, get_or, refl, ap, sym, ◌∙◌, subst, inl, inr, append-nil, append_assoc, Option, Some, None}
 use Rattle.std.proofs.lemmas.Bool.{cases_Bool}
 use Rattle.std.proofs.lemmas.List.{take-append-drop}
 use Rattle.std.proofs.lemmas.List.Elements.{filter-append}
+use Rattle.std.proofs.lemmas.List.Sums.{sum_by-append, length-filter}
 use mathlib.Core.List.{IsPrefix}
 use native.Mathlib.Decide.{ℕ_discrete}
 use Rattle.eb_base.specs.Term.{Term}
@@ -37,6 +38,14 @@ filter_none p (x ∷ xs) (more h t) = rw h (filter_none p xs t)
 pub filter_whole : {X : Type 0} (p : X → Bool) (xs : List X) → Each (λ y. p y ≡ true) xs → filter p xs ≡ xs
 filter_whole p [] none = refl
 filter_whole p (x ∷ xs) (more h t) = rw h (ap (λ z. x ∷ z) (filter_whole p xs t))
+
+-- the counts of two lists add up
+pub count_by-append : {X : Type 0} (p : X → Bool) (xs ys : List X) → count_by p (xs ++ ys) ≡ count_by p xs + count_by p ys
+count_by-append p xs ys = sum_by-append (λ y. cond (p y) 1 0) xs ys
+
+-- where no element passes the count is 0
+pub count_none : {X : Type 0} (p : X → Bool) (xs : List X) → Each (λ y. p y ≡ false) xs → count_by p xs ≡ 0
+count_none p xs h = sym (length-filter p xs) ∙ ap length (filter_none p xs h)
 
 -- of the tokens of segment s exactly these stores pass the test, and of all other stores of a history none
 pub record Picks (σ : Setting) (s : ℕ) (p : Store → Bool) (of : List Term → List Store) : Type 0 where

@@ -1,11 +1,9 @@
 -- Each word but the count and the tails is stored at most once: how stores mark the words of a segment.
-use Rattle.std.proofs.Common.{◌≡◌, ℕ, zero, suc, ◌+◌, ◌-◌, ◌*◌, ◌/◌, ◌%◌, ◌^◌, ◌<◌, ◌≤◌, ◌==◌, ◌&&◌, ◌||◌, ◌⊎◌, Bool, true, false, List, [], ◌∷◌}
+use Rattle.std.proofs.Common.{◌≡◌, ℕ, zero, suc, ◌+◌, ◌-◌, ◌*◌, ◌/◌, ◌%◌, ◌^◌, ◌<◌, ◌≤◌, ◌==◌, ◌&&◌, ◌⊎◌, Bool, true, false, List, [], ◌∷◌}
 use Rattle.std.proofs.Common.{◌++◌, length, refl, ap, sym, ◌∙◌, subst, arith, inl, inr, if◌then◌else◌, nat_le, sum_by, append-nil, append_assoc}
-use Rattle.std.proofs.lemmas.Bool.{cases_Bool, and_parts, false≢true, eq-eqb, eqb-true}
-use Rattle.std.proofs.lemmas.Bool.Decides.{nat_tests}
+use Rattle.std.proofs.lemmas.Bool.{cases_Bool, and_parts, false≢true, eq-eqb, eqb-true, or_left, or_right}
 use Rattle.std.proofs.lemmas.List.{length_push}
-use Rattle.std.proofs.lemmas.List.Sums.{fold_push, sum_by_push}
-use Rattle.std.proofs.Math.Nat.{mod-lt}
+use Rattle.std.proofs.lemmas.List.Sums.{sum_by_push}
 use Rattle.eb_base.specs.Term.{Term}
 use Rattle.eb_base.specs.Setting.{Setting}
 use Rattle.eb_place.specs.Layout.{Slot, Region, pool_slot, pool_region}
@@ -15,15 +13,16 @@ use Rattle.eb_place.specs.Layout.Region.{text_region, id_region, pool_0, pool_1,
 use Rattle.eb_place.specs.Postings.{count_of, distinct, number_of, posting_of}
 use Rattle.eb_place.specs.Room.{text_words}
 use Rattle.eb_place.specs.Address.{pool_at, begins, address_of}
-use Rattle.eb_place.specs.Placing.{Store, in_row, eights, text_of, cells_of, with_cell, cell_of_next, home_cell, hash, free_from, enter_stores, append_stores, token_stores, tokens_stores}
-use Rattle.eb_place.proofs.TermCounts.{one_if, by_push, same_term, count_of_push, count_of-append, distinct_push, with_term_cases, once}
+use Rattle.eb_place.specs.Placing.{Store, in_row, text_of, cells_of, cell_of_next, enter_stores, append_stores, token_stores, tokens_stores}
+use Rattle.eb_place.proofs.TermCounts.{one_if, same_term, count_of_push, count_of-append, distinct_push, with_term_cases, once}
 use Rattle.eb_place.proofs.AddressesDiffer.{address_stays}
-use Rattle.eb_place.proofs.FreeCells.{is_taken, free_from_free}
-use Rattle.eb_place.proofs.FreshPoolWords.{Each, Each-append, address_low, address_here}
+use Rattle.eb_place.proofs.FreeCells.{is_taken}
+use Rattle.eb_place.proofs.FreshPoolWords.{Each, Each-append, address_low, address_here, each_head}
 use Rattle.eb_place.proofs.FreshPoolWords.Each.{none, more}
-use Rattle.eb_place.proofs.StoresWithinTable.{slices_fit}
-use Rattle.eb_place.proofs.WordsOfTokens.{Room, Apart, Each-map, front_apart}
+use Rattle.eb_place.proofs.StoresWithinTable.{slices_fit, length-text_of}
+use Rattle.eb_place.proofs.WordsOfTokens.{Room, Apart, Each-map, front_apart, linked_positive, le_from}
 use Rattle.eb_place.proofs.StoringTokens.{Each-front, Each-back, room_before}
+use Rattle.eb_place.proofs.CellsOfTerms.{cells_of_push, next_is_free, taken_push}
 
 -- ---- lists of stores in which no word but the count and the tails comes twice
 
@@ -182,26 +181,6 @@ grow_place s k P v L h = grow s (marked k P) (marked (record k { places = k.plac
     (λ a p. p))
     (omega arith) (λ single m. omega arith) h
 
-or_left : (a b : Bool) → a ≡ true → (a || b) ≡ true
-or_left true b e = refl
-or_left false b e = absurd (false≢true e)
-
-or_right : (a b : Bool) → b ≡ true → (a || b) ≡ true
-or_right true b e = refl
-or_right false b e = e
-
-taken_push : (xs : List ℕ) (x c : ℕ) → is_taken (xs ++ x ∷ []) c ≡ (is_taken xs c || (c == x))
-taken_push [] x c = or_none (c == x)
-  where
-    or_none : (b : Bool) → (b || false) ≡ (false || b)
-    or_none true = refl
-    or_none false = refl
-taken_push (y ∷ xs) x c = ap (λ b. (c == y) || b) (taken_push xs x c) ∙ or_assoc (c == y) (is_taken xs c) (c == x)
-  where
-    or_assoc : (a b d : Bool) → (a || (b || d)) ≡ ((a || b) || d)
-    or_assoc true b d = refl
-    or_assoc false b d = refl
-
 -- a free cell
 grow_cell : (s : ℕ) (k : Marks) (P : ℕ → Type 0) (c v : ℕ) (L : List Store) → is_taken k.cells c ≡ false
     → Grown s (marked k P) L → Grown s (marked (record k { cells = k.cells ++ c ∷ [] }) P) (L ++ (slot s cell_region c, v) ∷ [])
@@ -262,28 +241,6 @@ marks_of σ ts f n =
 abbrev pub words_of_tokens : Setting → List Term → ℕ → ℕ → Region → ℕ → Type 0
 words_of_tokens σ ts f n = marked (marks_of σ ts f n) (IsStored ts)
 
-length-cells : (cells : ℕ) (terms : List Term) → length (cells_of cells terms) ≡ length terms
-unfolding cells_of
-length-cells cells =
-    by_push (λ ts. length (cells_of cells ts) ≡ length ts) refl (λ ts t h. ap length (fold_push (with_cell cells) [] ts t) ∙ length_push (cells_of cells ts) _ ∙ omega (arith, h, length_push ts t))
-
-cells_push : (cells : ℕ) (terms : List Term) (t : Term) → cells_of cells (terms ++ t ∷ []) ≡ cells_of cells terms ++ cell_of_next cells terms t ∷ []
-unfolding cells_of cell_of_next
-cells_push cells terms t = fold_push (with_cell cells) [] terms t ∙ ap (λ n. cells_of cells terms ++ free_from cells (cells_of cells terms) n (home_cell cells t) ∷ []) (length-cells cells terms)
-
-next_free : (cells : ℕ) (terms : List Term) (t : Term) → length terms < cells → is_taken (cells_of cells terms) (cell_of_next cells terms t) ≡ false
-unfolding cell_of_next
-next_free cells terms t h = let l = length-cells cells terms in
-    ap (λ n. is_taken (cells_of cells terms) (free_from cells (cells_of cells terms) n (home_cell cells t))) (sym l)
-    ∙ free_from_free cells (cells_of cells terms) (home_cell cells t) (mod-lt (hash t) (omega arith)) (omega arith)
-
-length-text : (t : Term) → length (text_of t) ≡ text_words t
-length-text t = omega (arith, eights_length ((length t + 7) / 8) t)
-  where
-    eights_length : (n : ℕ) (bs : List ℕ) → length (eights n bs) ≡ n
-    eights_length zero bs = refl
-    eights_length (suc n) bs = ap suc (eights_length n (Rattle.std.specs.Prelude.drop 8 bs))
-
 -- entering its term
 enters_grown : (σ : Setting) (s : ℕ) (ts : List Term) (u : Term) (f n : ℕ) (P : ℕ → Type 0) (L : List Store) → length (distinct ts) < 2 * σ.terms → Grown s (marked (marks_of σ ts f n) P) L
     → Grown s (marked (marks_of σ (ts ++ u ∷ []) f n) P) (L ++ (if count_of u ts == 0 then enter_stores σ s (distinct ts) u else []))
@@ -299,11 +256,11 @@ enters_grown σ s ts u f n P L few h = elim (cases_Bool (count_of u ts == 0)) [
       let y : Store = (slot s cell_region c, length ds + 1) in
       let a = grow_row s k P (text_of u) L h in
       let b = grow_place s (record k { texts = k.texts + length (text_of u) }) P (sum_by text_words ds) (L ++ row) a in
-      let d = grow_cell s (record k { texts = k.texts + length (text_of u); places = k.places + 1 }) P c (length ds + 1) ((L ++ row) ++ x ∷ []) (next_free C ds u few) b in
+      let d = grow_cell s (record k { texts = k.texts + length (text_of u); places = k.places + 1 }) P c (length ds + 1) ((L ++ row) ++ x ∷ []) (next_is_free C ds u few) b in
       let e : distinct (ts ++ u ∷ []) ≡ ds ++ u ∷ [] = grown_terms (eqb-true _ _ new) in
-      let texts : k.texts + length (text_of u) ≡ sum_by text_words (distinct (ts ++ u ∷ [])) = omega (arith, length-text u, ap (sum_by text_words) e, sum_by_push text_words ds u) in
+      let texts : k.texts + length (text_of u) ≡ sum_by text_words (distinct (ts ++ u ∷ [])) = omega (arith, length-text_of u, ap (sum_by text_words) e, sum_by_push text_words ds u) in
       let places : k.places + 1 ≡ length (distinct (ts ++ u ∷ [])) = omega (arith, ap length e, length_push ds u) in
-      let cells : k.cells ++ c ∷ [] ≡ cells_of C (distinct (ts ++ u ∷ [])) = sym (ap (cells_of C) e ∙ cells_push C ds u) in
+      let cells : k.cells ++ c ∷ [] ≡ cells_of C (distinct (ts ++ u ∷ [])) = sym (ap (cells_of C) e ∙ cells_of_push C ds u) in
       let same : record k { texts = k.texts + length (text_of u); places = k.places + 1; cells = k.cells ++ c ∷ [] } ≡ marks_of σ (ts ++ u ∷ []) f n =
       λ i. record { firsts = f; converts = 0; cells = cells i; places = places i; texts = texts i; ids = n; directory = 0; packs = 0 } in
       rw new (subst (λ (z : Marks × List Store). Grown s (marked z.0 P) z.1) (λ i. (same i, (let q : ((L ++ row) ++ x ∷ []) ++ y ∷ [] ≡ L ++ (row ++ x ∷ y ∷ []) = simp append_assoc in q) i)) d)
@@ -335,16 +292,6 @@ not_stored : (s : ℕ) (ts : List Term) (a v : ℕ) → Apart s ts (pool_slot s 
 not_stored s ts a v h (posting t f l e) = h.post t f l (ap (pool_slot s) e)
 not_stored s ts a v h (link t f l b o e) = h.link t f l b o (ap (pool_slot s) e)
 
-each_head : {X : Type 0} {P : X → Type 0} (x : X) (xs : List X) → Each P (x ∷ xs) → P x
-each_head x xs (more h t) = h
-
-linked_high : (t : Term) (f : ℕ) (ts : List Term) → 1 ≤ pool_at f → 1 ≤ address_of t f ts
-unfolding address_of
-linked_high t f ts h = omega arith
-
-at_least_one : (k : ℕ) → nat_le 1 k ≡ true → 1 ≤ k
-at_least_one k z = grind (arith, nat_tests)
-
 -- appending its posting
 append_grown : (σ : Setting) (s : ℕ) (ts : List Term) (u : Term) (p : ℕ) (k : Marks) (L : List Store) → Room σ s (ts ++ u ∷ [])
     → Grown s (marked k (IsStored ts)) L → Grown s (marked k (IsStored (ts ++ u ∷ []))) (L ++ append_stores s ts u (count_of u ts) p)
@@ -368,9 +315,9 @@ append_grown σ s ts u p k L room h =
     elim (cases_Bool (begins c && nat_le 1 (pool_at c))) [
       | inl new ↦
           let b = and_parts _ _ new in
-          let o = at_least_one (pool_at c) b.1 in
+          let o = le_from (pool_at c) b.1 in
           let x : Store = (pool_slot s (a - 1), address_of u (c - 1) ts) in
-          let high = linked_high u c ts o in
+          let high = linked_positive u c ts o in
           let links : Each (Apart s ts) (x ∷ []) = subst (λ (w : Bool). Each (Apart s ts) (if w then (x ∷ []) else [])) new (Each-front K (y ∷ []) back) in
           let Q : ℕ → Type 0 = λ j. IsStored ts j ⊎ (j ≡ a - 1) in
           let one =

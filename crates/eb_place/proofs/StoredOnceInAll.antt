@@ -8,7 +8,7 @@ use native.Mathlib.Decide.{ℕ_discrete}
 use Rattle.eb_base.specs.Term.{Term}
 use Rattle.eb_base.specs.Document.{Doc}
 use Rattle.eb_base.specs.Setting.{Setting, IsSetting}
-use Rattle.eb_place.specs.Layout.{Slot, Region, place, size}
+use Rattle.eb_place.specs.Layout.{Slot, Region, place}
 use Rattle.eb_place.specs.Layout.Slot.{published, slot}
 use Rattle.eb_place.specs.Layout.Region.{converted_region, tail_region, id_region, directory_region, packed_region}
 use Rattle.eb_place.specs.Postings.{distinct, terms_of, frequency}
@@ -18,13 +18,13 @@ use Rattle.eb_place.specs.Placing.{Store, pairs_of, in_row, tokens_stores, store
 use Rattle.eb_place.specs.Conversion.{pack_stores, convert_stores, segment_stores}
 use Rattle.eb_place.specs.Moments.{placings, placings_after, conversions}
 use Rattle.eb_place.proofs.TermCounts.{one_if, by_push}
-use Rattle.eb_place.proofs.PlacesOfSlots.{InTable, place_once}
+use Rattle.eb_place.proofs.PlacesOfSlots.{InTable, place_once, tail_in_segment}
 use Rattle.eb_place.proofs.FreshPoolWords.{Each, Each-append}
 use Rattle.eb_place.proofs.FreshPoolWords.Each.{none, more}
 use Rattle.eb_place.proofs.StoresWithinTable.{IsWithin}
 use Rattle.eb_place.proofs.WordsOfTokens.{Room, times, times_keep, Each-map}
 use Rattle.eb_place.proofs.WordsOfHistories.{before_in, terms_push}
-use Rattle.eb_place.proofs.StoresOfDocuments.{Elsewhere, doc_elsewhere, doc_within, first_stores, stores_split}
+use Rattle.eb_place.proofs.StoresOfDocuments.{Elsewhere, doc_elsewhere, doc_within, first_stores, stores_split, elsewhere_at}
 use Rattle.eb_place.proofs.WordsAtMoment.{placed_all, Joins, joins, placings_push, lawful_front, lawful_last}
 use Rattle.eb_place.proofs.PackedStores.{conversions_pack}
 use Rattle.eb_place.specs.StoredOnce.{all_pairs, values_at}
@@ -181,9 +181,6 @@ convert_single s seg docs σ L h =
     let b = pack_end s (record k { packs = a.packs; directory = a.directory }) P (L ++ T) refl a.grown in
     subst Single (append_assoc L T ((slot s converted_region 0, 1) ∷ [])) b.single
 
-elsewhere_at : (s v : ℕ) (q : Region) (j w : ℕ) → s ≢ v → Elsewhere v (slot s q j, w)
-elsewhere_at s v q j w h r i e = h (cc)
-
 row_elsewhere : (s v i : ℕ) (vs : List ℕ) → s ≢ v → Each (Elsewhere v) (in_row s packed_region i vs)
 row_elsewhere s v i [] h = none
 row_elsewhere s v i (x ∷ vs) h = more (elsewhere_at s v packed_region i x h) (row_elsewhere s v (i + 1) vs h)
@@ -247,10 +244,6 @@ stored_place σ p (y ∷ ys) (more w all) = elim (cases_Bool (place σ y.0 == p)
   ]
 ]
 
-tail_inside : (σ : Setting) (s k : ℕ) → InTable σ (slot s tail_region k) → (s < σ.segments) × (k < σ.terms)
-unfolding size
-tail_inside σ s k h = h
-
 -- all stores are within the index
 pub pairs_within : (σ : Setting) (docs : List Doc) → IsSetting σ → IsLawful σ docs → Each (IsWithin σ) (placings σ docs ++ conversions σ docs (length (cut σ docs)))
 pairs_within σ docs k h =
@@ -272,7 +265,7 @@ stored_once σ docs p k h no_count no_tail =
       | inr r ↦
           let one = times_once σ L r.0 single within r.1 (record {
             count = λ e. no_count (r.2 ∙ ap (place σ) e);
-            tails = λ s j e. let i = tail_inside σ s j (subst (InTable σ) e r.1) in no_tail s j i.0 i.1 (r.2 ∙ ap (place σ) e);
+            tails = λ s j e. let i = tail_in_segment σ s j (subst (InTable σ) e r.1) in no_tail s j i.0 i.1 (r.2 ∙ ap (place σ) e);
           }) in
           let same : count_by (λ (z : ℕ × ℕ). z.0 == p) (pairs_of σ L) ≡ times σ L r.0 = ap (λ q. count_by (λ (z : ℕ × ℕ). z.0 == q) (pairs_of σ L)) r.2 in
           omega (arith, long, same)

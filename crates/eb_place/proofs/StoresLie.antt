@@ -1,36 +1,34 @@
 -- Where the stores of placings and conversions go, and how many packed words there are.
-use Rattle.std.proofs.Common.{◌≡◌, ℕ, ◌*◌, ◌<◌, ◌≤◌, ◌⊎◌, true, false, not, List, [], ◌∷◌, ◌++◌, length, get_or, sum_by, reverse, fold, max, Contains, refl, sym, arith, inl, inr}
+use Rattle.std.proofs.Common.{◌≡◌, ℕ, ◌*◌, ◌<◌, ◌≤◌, ◌⊎◌, true, false, not, List, [], ◌∷◌, ◌++◌, length, get_or, sum_by, fold, max, Contains, refl, sym, arith, inl, inr}
 use Rattle.std.proofs.lemmas.Bool.{false≢true}
-use Rattle.std.proofs.lemmas.List.{length-reverse}
 use Rattle.std.proofs.lemmas.List.Elements.{All-contains}
-use Rattle.std.proofs.lemmas.List.Sums.{sum_by-cons}
-use Rattle.eb_base.specs.Term.{Term}
+use Rattle.std.proofs.lemmas.List.Sums.{sum_by-le-sum_by}
 use Rattle.eb_base.specs.Document.{Doc}
 use Rattle.eb_base.specs.Setting.{Setting, IsSetting}
 use Rattle.eb_place.specs.Layout.{Slot, Region, place}
 use Rattle.eb_place.specs.Layout.Slot.{published, slot}
 use Rattle.eb_place.specs.Layout.Region.{first_region, converted_region, cell_region, text_place_region, tail_region}
 use Rattle.eb_place.specs.Layout.Region.{text_region, id_region, pool_0, pool_1, pool_2, pool_3, directory_region, packed_region}
-use Rattle.eb_place.specs.Postings.{count_of, terms_of, distinct, postings}
+use Rattle.eb_place.specs.Postings.{count_of, terms_of, distinct}
 use Rattle.eb_place.specs.Room.{cut, IsLawful}
 use Rattle.eb_place.specs.Placing.{Store, pairs_of, placing, doc_stores}
-use Rattle.eb_place.specs.Packed.{block, width_of, differences, packed, packed_list}
+use Rattle.eb_place.specs.Packed.{block, width_of, differences, packed}
 use Rattle.eb_place.specs.Conversion.{segment_stores, conversion}
 use Rattle.eb_place.specs.StoringLaws.{is_converters, LiesIn}
 use Rattle.eb_place.proofs.TermCounts.{total_count}
-use Rattle.eb_place.proofs.EnoughPackedWords.{postings_few, length-postings}
-use Rattle.eb_place.proofs.BlockFields.{block_short, packed_short}
+use Rattle.eb_place.proofs.EnoughPackedWords.{postings_few}
+use Rattle.eb_place.proofs.BlockFields.{block_short}
 use Rattle.eb_place.proofs.PlacesOfSlots.{InTable}
 use Rattle.eb_place.proofs.FreshPoolWords.{Each, All-from_Each}
 use Rattle.eb_place.proofs.FreshPoolWords.Each.{none, more}
 use Rattle.eb_place.proofs.WordsOfTokens.{Each-map}
 use Rattle.eb_place.proofs.WordsAtMoment.{placed_all, joins, lawful_front, lawful_last}
-use Rattle.eb_place.proofs.PackedStores.{is_packed, segment_packs}
+use Rattle.eb_place.proofs.PackedStores.{is_packed, segment_packs, packed_few}
 use Rattle.eb_place.proofs.NextStore.{IsWriters, doc_writers}
 
 -- ---- where they go
 
-pairs_are : (σ : Setting) (P : Slot → Type 0) (xs : List Store) → Each (λ (y : Store). P y.0) xs → Each (λ (z : ℕ × ℕ). (x : Slot) × (z.0 ≡ place σ x) × P x) (pairs_of σ xs)
+pub pairs_are : (σ : Setting) (P : Slot → Type 0) (xs : List Store) → Each (λ (y : Store). P y.0) xs → Each (λ (z : ℕ × ℕ). (x : Slot) × (z.0 ≡ place σ x) × P x) (pairs_of σ xs)
 pairs_are σ P [] none = none
 pairs_are σ P (x ∷ xs) (more h t) = more (x.0, refl, h) (pairs_are σ P xs t)
 
@@ -72,7 +70,7 @@ writers_lie σ at published e w = inl e
 writers_lie σ at (slot s r i) e w = inr (record { segment = s; region = r; index = i; inside = w.within.0; within = w.within.1; passes = writers_region s r i w.plain; is = e })
 
 -- a word of the converter, within the index
-abbrev IsConverters : Setting → Slot → Type 0
+abbrev pub IsConverters : Setting → Slot → Type 0
 IsConverters σ x = InTable σ x × (is_packed x ≡ true)
 
 converters_lie : (σ : Setting) (at : ℕ) (x : Slot) → at ≡ place σ x → IsConverters σ x → LiesIn σ is_converters at
@@ -101,14 +99,6 @@ conversion_lies σ docs s at v k h l c =
 
 -- ---- how many packed words there are
 
-packed_few : (t : Term) (seg : List Doc) → length (packed t seg) ≤ count_of t (terms_of seg)
-unfolding packed_list
-packed_few t seg = omega (arith, packed_short (length (reverse (postings t seg))) (reverse (postings t seg)), length-reverse (postings t seg), length-postings t seg)
-
-sums_few : (f g : Term → ℕ) → ((t : Term) → f t ≤ g t) → (ts : List Term) → sum_by f ts ≤ sum_by g ts
-sums_few f g h [] = omega arith
-sums_few f g h (t ∷ ts) = omega (arith, sum_by-cons f t ts, sum_by-cons g t ts, h t, sums_few f g h ts)
-
 pub packs_fit : (σ : Setting) (docs : List Doc) (s : ℕ) → IsSetting σ → IsLawful σ docs → s < length (cut σ docs)
     → sum_by (λ t. length (packed t (get_or (cut σ docs) s []))) (distinct (terms_of (get_or (cut σ docs) s []))) ≤ 34 * σ.terms
 packs_fit σ docs s k h l =
@@ -118,7 +108,7 @@ packs_fit σ docs s k h l =
     let room = p.room s (omega arith) in
     omega (
       arith,
-      sums_few (λ t. length (packed t seg)) (λ t. count_of t (terms_of seg)) (λ t. packed_few t seg) (distinct (terms_of seg)),
+      sum_by-le-sum_by (λ t. length (packed t seg)) (λ t. count_of t (terms_of seg)) (distinct (terms_of seg)) (λ t. packed_few t seg),
       total_count (terms_of seg),
       postings_few σ (terms_of seg) room.fits,
     )

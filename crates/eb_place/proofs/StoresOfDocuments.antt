@@ -29,7 +29,7 @@ segment_number (slot s r i) = suc s
 abbrev pub Elsewhere : ℕ → Store → Type 0
 Elsewhere s y = (r : Region) (i : ℕ) → y.0 ≡ slot s r i → ⊥
 
-elsewhere_at : (s v : ℕ) (q : Region) (j w : ℕ) → s ≢ v → Elsewhere v (slot s q j, w)
+pub elsewhere_at : (s v : ℕ) (q : Region) (j w : ℕ) → s ≢ v → Elsewhere v (slot s q j, w)
 unfolding segment_number
 elsewhere_at s v q j w h r i e = h (let k : suc s ≡ suc v = ap segment_number e in omega arith)
 
@@ -113,7 +113,7 @@ last_plain : (s : ℕ) (n count id : ℕ) (ts : List Term) → Each (Apart s ts)
 unfolding is_pool is_tail
 last_plain s n count id ts = more (plain_apart s ts (slot s id_region n, id) refl refl) (more (plain_apart s ts (published, count + 1) refl refl) none)
 
-last_within : (σ : Setting) (s n count id : ℕ) → s < σ.segments → n < σ.docs → Each (IsWithin σ) ((slot s id_region n, id) ∷ (published, count + 1) ∷ [])
+pub last_within : (σ : Setting) (s n count id : ℕ) → s < σ.segments → n < σ.docs → Each (IsWithin σ) ((slot s id_region n, id) ∷ (published, count + 1) ∷ [])
 unfolding size
 last_within σ s n count id h l = more (h, l) (more tt none)
 

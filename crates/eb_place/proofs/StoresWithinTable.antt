@@ -33,14 +33,18 @@ pub record SegmentFits (σ : Setting) (ts : List Term) : Type 0 where
 abbrev pub IsWithin : Setting → Store → Type 0
 IsWithin σ y = InTable σ y.0
 
-row_within : (σ : Setting) (s i : ℕ) (vs : List ℕ) → s < σ.segments → i + length vs ≤ 4 * σ.terms → Each (IsWithin σ) (in_row s text_region i vs)
+pub row_within : (σ : Setting) (s i : ℕ) (vs : List ℕ) → s < σ.segments → i + length vs ≤ 4 * σ.terms → Each (IsWithin σ) (in_row s text_region i vs)
 unfolding size
 row_within σ s i [] h l = none
 row_within σ s i (v ∷ vs) h l = more (h, omega arith) (row_within σ s (i + 1) vs h (omega arith))
 
-length-eights : (n : ℕ) (bs : List ℕ) → length (eights n bs) ≡ n
+pub length-eights : (n : ℕ) (bs : List ℕ) → length (eights n bs) ≡ n
 length-eights zero bs = refl
 length-eights (suc n) bs = ap suc (length-eights n (drop 8 bs))
+
+-- a term has as many text words as its text
+pub length-text_of : (t : Term) → length (text_of t) ≡ text_words t
+length-text_of t = omega (arith, length-eights ((length t + 7) / 8) t)
 
 -- a slice of a pool is within the pool
 pool_within : (σ : Setting) (p a o : ℕ) → p < 4 → a < pool_slices σ p → o < 2 ^ slice_bits p → a * 2 ^ slice_bits p + o < size σ (pool_region p)

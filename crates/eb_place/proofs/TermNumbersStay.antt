@@ -82,10 +82,11 @@ position_after p (x ∷ xs) ys h = elim (cases_Bool (p x)) [
   | inr away ↦ let h' : list_any p xs ≡ false = rw away at h in rw away (omega (arith, position_after p xs ys h'))
 ]
 
-distinct_append : (xs ys : List Term) → (rest : List Term) × (distinct (xs ++ ys) ≡ distinct xs ++ rest)
-distinct_append xs [] = ([], ap distinct (append-nil xs) ∙ sym (append-nil (distinct xs)))
-distinct_append xs (y ∷ ys) =
-    let r = distinct_append (xs ++ y ∷ []) ys in
+-- the distinct terms of a front come first
+pub distinct_more : (xs ys : List Term) → (rest : List Term) × (distinct (xs ++ ys) ≡ distinct xs ++ rest)
+distinct_more xs [] = ([], ap distinct (append-nil xs) ∙ sym (append-nil (distinct xs)))
+distinct_more xs (y ∷ ys) =
+    let r = distinct_more (xs ++ y ∷ []) ys in
     let e : distinct (xs ++ (y ∷ ys)) ≡ distinct (xs ++ y ∷ []) ++ r.0 = ap distinct (sym (append_assoc xs (y ∷ []) ys)) ∙ r.1 in
     elim (with_term_cases (distinct xs) y) [
       | inl w ↦ (r.0, e ∙ ap (λ z. z ++ r.0) (distinct_push xs y ∙ w.1))
@@ -97,5 +98,5 @@ pub number_high : (t : Term) (xs ys : List Term) → count_of t xs ≡ 0 → len
 number_high t xs ys h =
     let z : count_of t (distinct xs) ≡ 0 = omega (arith, once t xs) in
     let away : list_any (bytes_eq t) (distinct xs) ≡ false = any_count t (distinct xs) ∙ ap (λ n. Rattle.std.specs.Prelude.nat_lt 0 n) z in
-    let r = distinct_append xs ys in
+    let r = distinct_more xs ys in
     omega (arith, position_after (bytes_eq t) (distinct xs) r.0 away, ap (position_or_len (bytes_eq t)) r.1)

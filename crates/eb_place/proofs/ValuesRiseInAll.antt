@@ -1,12 +1,12 @@
 -- The values stored to the count and to each tail rise, over all placings and conversions.
-use Rattle.std.proofs.Common.{◌≡◌, ℕ, zero, suc, ◌+◌, ◌-◌, ◌<◌, false, List, [], ◌∷◌, ◌++◌, length, get_or, refl, ap, sym, ◌∙◌, subst, arith, append-nil, append_assoc}
+use Rattle.std.proofs.Common.{◌≡◌, ℕ, ◌+◌, ◌-◌, ◌<◌, false, List, [], ◌∷◌, ◌++◌, length, get_or, refl, ap, sym, ◌∙◌, subst, arith, append-nil, append_assoc}
 use Rattle.std.proofs.lemmas.Bool.{false≢true}
 use Rattle.std.proofs.lemmas.List.{length_push}
 use native.Mathlib.Decide.{ℕ_discrete}
 use Rattle.eb_base.specs.Term.{Term}
 use Rattle.eb_base.specs.Document.{Doc}
 use Rattle.eb_base.specs.Setting.{Setting, IsSetting}
-use Rattle.eb_place.specs.Layout.{Slot, place, size}
+use Rattle.eb_place.specs.Layout.{Slot, place}
 use Rattle.eb_place.specs.Layout.Slot.{published, slot}
 use Rattle.eb_place.specs.Layout.Region.{tail_region, id_region}
 use Rattle.eb_place.specs.Postings.{posting_of, terms_of}
@@ -21,8 +21,8 @@ use Rattle.eb_place.proofs.StoresWithinTable.{IsWithin, slices_fit, token_within
 use Rattle.eb_place.proofs.WordsOfTokens.{Room, Each-map, front_stores, tail_store, token_split, front_apart, tail_within}
 use Rattle.eb_place.proofs.StoringTokens.{Each-front, Each-back, room_before}
 use Rattle.eb_place.proofs.WordsOfHistories.{before_in, terms_push}
-use Rattle.eb_place.proofs.StoresOfDocuments.{doc_elsewhere, doc_within, first_stores, first_within, first_plain, stores_split}
-use Rattle.eb_place.proofs.WordsAtMoment.{placed_all, Joins, joins, placings_push, lawful_front, lawful_last}
+use Rattle.eb_place.proofs.StoresOfDocuments.{doc_elsewhere, doc_within, first_stores, first_within, first_plain, stores_split, last_within}
+use Rattle.eb_place.proofs.WordsAtMoment.{placed_all, Joins, joins, placings_push, lawful_front, lawful_last, get_none}
 use Rattle.eb_place.proofs.PackedStores.{is_packed, IsPackedStore, conversions_pack}
 use Rattle.eb_place.proofs.CountWords.{body, body_split, body_writes, writes_plain}
 use Rattle.eb_place.specs.StoredOnce.{values_at, StoredOnce}
@@ -58,10 +58,6 @@ tokens_rise σ s k n p ts (u ∷ us) L i room h =
     let rest = tokens_rise σ s k n (p + 1) (ts ++ u ∷ []) us (L ++ T) i room' one in
     subst (λ (z : List Term × List Store). TailRises σ s k z.0 z.1) (λ j. (e j, append_assoc L T (tokens_stores σ s n (p + 1) (ts ++ u ∷ []) us) j)) rest
 
-lasts_within : (σ : Setting) (s n count id : ℕ) → s < σ.segments → n < σ.docs → Each (IsWithin σ) ((slot s id_region n, id) ∷ (published, count + 1) ∷ [])
-unfolding size
-lasts_within σ s n count id h l = more (h, l) (more tt none)
-
 doc_rises : (σ : Setting) (s k : ℕ) (seg : List Doc) (count : ℕ) (d : Doc) (L : List Store) → InTable σ (slot s tail_region k)
     → Room σ s (terms_of seg ++ d.terms) → length seg < σ.docs → TailRises σ s k (terms_of seg) L
     → TailRises σ s k (terms_of seg ++ d.terms) (L ++ stores_in σ s seg count d)
@@ -72,20 +68,16 @@ doc_rises σ s k seg count d L i room few h =
     let Z : List Store = (slot s id_region (length seg), d.id) ∷ (published, count + 1) ∷ [] in
     let one = tail_keeps σ s k T0 L F i (first_within σ s seg count room.inside) (Each-map (λ y a. a.tail k) (first_plain s seg count T0)) h in
     let two = tokens_rise σ s k (length seg) 0 T0 d.terms (L ++ F) i room one in
-    let three = tail_keeps σ s k (T0 ++ d.terms) ((L ++ F) ++ T) Z i (lasts_within σ s (length seg) count d.id room.inside few) (more (λ e. absurd cc) (more (λ e. absurd cc) none)) two in
+    let three = tail_keeps σ s k (T0 ++ d.terms) ((L ++ F) ++ T) Z i (last_within σ s (length seg) count d.id room.inside few) (more (λ e. absurd cc) (more (λ e. absurd cc) none)) two in
     subst (TailRises σ s k (T0 ++ d.terms)) (append_assoc (L ++ F) T Z ∙ append_assoc L F (T ++ Z) ∙ ap (λ z. L ++ z) (sym (stores_split σ s seg count d))) three
 
 -- the tails of all segments
 abbrev AllTails : Setting → List Doc → Type 0
 AllTails σ docs = (s k : ℕ) → s < σ.segments → k < σ.terms → TailRises σ s k (terms_of (get_or (cut σ docs) s [])) (placings σ docs)
 
-no_document : (s : ℕ) → get_or {A = List Doc} [] s [] ≡ []
-no_document zero = refl
-no_document (suc s) = refl
-
 tails_at_first : (σ : Setting) → AllTails σ []
 unfolding placings_after cut terms_of
-tails_at_first σ s k h l = subst (λ (z : List Doc). TailRises σ s k (terms_of z) []) (sym (no_document s)) (record {
+tails_at_first σ s k h l = subst (λ (z : List Doc). TailRises σ s k (terms_of z) []) (sym (get_none s)) (record {
   top = 0;
   rises = record { rising = λ j o. absurd (omega arith); last = λ o. absurd (omega arith) };
   newest = λ t o number. absurd (omega (arith, count_of-nil t));

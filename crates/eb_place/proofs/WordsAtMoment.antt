@@ -63,7 +63,7 @@ pub record Placed (σ : Setting) (docs : List Doc) : Type 0 where
   pub limits : (s : ℕ) → Each IsDocument (get_or (cut σ docs) s [])
   pub few : (s : ℕ) → length (get_or (cut σ docs) s []) ≤ σ.docs
 
-get_none : (s : ℕ) → get_or {A = List Doc} [] s [] ≡ []
+pub get_none : (s : ℕ) → get_or {A = List Doc} [] s [] ≡ []
 get_none zero = refl
 get_none (suc s) = refl
 

@@ -167,10 +167,10 @@ unfolding is_pool is_tail
 text_apart s r i ts [] = none
 text_apart s r i ts (v ∷ vs) = more (plain_apart s ts (slot r text_region i, v) refl refl) (text_apart s r (i + 1) ts vs)
 
-le_from : (k : ℕ) → nat_le 1 k ≡ true → 1 ≤ k
+pub le_from : (k : ℕ) → nat_le 1 k ≡ true → 1 ≤ k
 le_from k z = grind (arith, nat_tests)
 
-linked_positive : (t : Term) (f : ℕ) (ts : List Term) → 1 ≤ pool_at f → 1 ≤ address_of t f ts
+pub linked_positive : (t : Term) (f : ℕ) (ts : List Term) → 1 ≤ pool_at f → 1 ≤ address_of t f ts
 unfolding address_of
 linked_positive t f ts h = omega arith
 

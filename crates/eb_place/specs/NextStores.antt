@@ -1,11 +1,12 @@
 -- The next store of the writer and of the converter, and the moment after it.
-use Rattle.std.specs.Prelude.{◌≡◌, ℕ, suc, Bool, true, false, List, [], ◌∷◌, ◌++◌, length, Option, Some, None, slice_get, ltb}
+use Rattle.std.specs.Prelude.{◌≡◌, ℕ, suc, Bool, true, false, List, [], ◌∷◌, ◌++◌, ◌+◌, length, drop, Option, Some, None, slice_get, ltb}
+use mathlib.Core.List.{IsPrefix}
 use Rattle.eb_base.specs.Document.{Doc, IsDocument}
 use Rattle.eb_place.specs.declared.moment.Documents.{Documents}
 use Rattle.eb_place.specs.declared.moment.Conversions.{Conversions}
 use Rattle.eb_place.specs.declared.moment.Moment.{Moment}
 use Rattle.eb_place.specs.Room.{HasRoom}
-use Rattle.eb_place.specs.Placing.{pairs_of, doc_stores}
+use Rattle.eb_place.specs.Placing.{Store, pairs_of, doc_stores}
 use Rattle.eb_place.specs.Conversion.{segment_stores}
 use Rattle.eb_place.specs.Moments.{with_current, IsClosed}
 
@@ -25,6 +26,21 @@ pub record IsNext (m : Moment) (d : Doc) (at value : ℕ) : Type 0 where
   pub room : HasRoom m.setting m.documents.accepted d
   pub current : IsCurrent m.documents.current d
   pub pair : slice_get (pairs_of m.setting (doc_stores m.setting m.documents.accepted d)) (stores_done m.documents.current) ≡ Some (at, value)
+
+-- these are the next stores of the placing of the document, which has room; no other document is being placed
+pub record AreNext (m : Moment) (d : Doc) (stores : List Store) : Type 0 where
+  pub limits : IsDocument d
+  pub room : HasRoom m.setting m.documents.accepted d
+  pub current : IsCurrent m.documents.current d
+  pub front : IsPrefix stores (drop (stores_done m.documents.current) (doc_stores m.setting m.documents.accepted d))
+
+-- the documents part with n more stores of the placing of d, which has yet more
+abbrev pub with_stores : Documents → Doc → ℕ → Documents
+with_stores x d n = record { accepted = x.accepted; current = Some (d, stores_done x.current + n) }
+
+-- the moment with n more stores of the placing of d, which has yet more
+abbrev pub with_placed : Moment → Doc → ℕ → Moment
+with_placed m d n = record { setting = m.setting; documents = with_stores m.documents d n; conversions = m.conversions }
 
 -- the documents with i stores of document d done: it is being placed where there are more, else it is accepted
 abbrev pub documents_after : Bool → List Doc → Doc → ℕ → Documents

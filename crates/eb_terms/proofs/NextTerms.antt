@@ -1,9 +1,9 @@
 -- What the stores that enter a term change.
-use Rattle.std.proofs.Common.{◌≡◌, ℕ, zero, suc, ◌+◌, ◌*◌, ◌/◌, ◌^◌, ◌<◌, ◌≤◌, Bool, cond, List, [], ◌∷◌, ◌++◌, length, take}
-use Rattle.std.proofs.Common.{drop, filter, get_or, count_by, sum_by, refl, ap, sym, ◌∙◌, subst, arith, slice_get, Some}
+use Rattle.std.proofs.Common.{◌≡◌, ℕ, zero, suc, ◌+◌, ◌*◌, ◌/◌, ◌^◌, ◌<◌, ◌≤◌, List, [], ◌∷◌, ◌++◌, length}
+use Rattle.std.proofs.Common.{filter, get_or, count_by, sum_by, refl, ap, sym, ◌∙◌, subst, arith, slice_get, Some}
 use Rattle.std.proofs.lemmas.List.{length_push, length-append, take_all, take_at}
 use Rattle.std.proofs.lemmas.List.Elements.{filter-append}
-use Rattle.std.proofs.lemmas.List.Sums.{sum_by-append, sum_by_push, length-filter}
+use Rattle.std.proofs.lemmas.List.Sums.{sum_by_push, length-filter}
 use Rattle.std.proofs.Math.Seq.{get_or-append_seam}
 use Rattle.eb_base.specs.Term.{Term, AreBytes}
 use Rattle.eb_base.specs.Document.{Doc}
@@ -14,59 +14,40 @@ use Rattle.eb_place.specs.declared.used.Used.{Used}
 use Rattle.eb_place.specs.Layout.{size, place}
 use Rattle.eb_place.specs.Layout.Slot.{published, slot}
 use Rattle.eb_place.specs.Layout.Region.{cell_region, text_region, text_place_region, tail_region}
-use Rattle.eb_place.specs.Postings.{distinct, terms_of}
 use Rattle.eb_place.specs.Room.{cut, text_words}
 use Rattle.eb_place.specs.Address.{slices_begun}
-use Rattle.eb_place.specs.Placing.{Store, in_row, text_of, enter_stores, cell_of_next, doc_stores}
-use Rattle.eb_place.specs.Moments.{with_current, current_of, document_stores, IsMoment}
+use Rattle.eb_place.specs.Placing.{Store, in_row, text_of, enter_stores, cell_of_next}
+use Rattle.eb_place.specs.Moments.{document_stores, IsMoment}
 use Rattle.eb_place.specs.Later.{IsNotBefore}
-use Rattle.eb_place.specs.NextStores.{stores_done, IsNext, after_store}
+use Rattle.eb_place.specs.NextStores.{IsNext, after_store, AreNext, with_stores, with_placed}
 use Rattle.eb_place.specs.Seen.{is_in, stores_in_region, entered, tokens_seen}
 use Rattle.eb_place.specs.Tells.{TellsSegment}
-use Rattle.eb_place.proofs.FreshPoolWords.{Each, Each-append}
+use Rattle.eb_place.proofs.FreshPoolWords.{Each, Each-append, each_head}
 use Rattle.eb_place.proofs.FreshPoolWords.Each.{none, more}
-use Rattle.eb_place.proofs.StoresWithinTable.{IsWithin}
+use Rattle.eb_place.proofs.StoresWithinTable.{IsWithin, length-text_of}
 use Rattle.eb_place.proofs.WordsOfTokens.{val, Each-map}
 use Rattle.eb_place.proofs.StoringTokens.{Each-front, Each-back}
-use Rattle.eb_place.proofs.StoresOfDocuments.{doc_within}
-use Rattle.eb_place.proofs.WordsAtMoment.{placed_all, joins, lawful_front, setting_terms}
+use Rattle.eb_place.proofs.WordsAtMoment.{setting_terms}
 use Rattle.eb_place.proofs.LaterMoments.{later_on}
-use Rattle.eb_place.proofs.RegionStores.{filter_none, filter_whole}
+use Rattle.eb_place.proofs.RegionStores.{filter_none, filter_whole, count_by-append}
 use Rattle.eb_place.proofs.EntryStores.{is_entry, enter_entries, in_region}
-use Rattle.eb_place.proofs.DictionaryOfTerms.{HasTerms, Texts, length-text_of, texts_done, text_stores, enter_split, text_stores_behind}
+use Rattle.eb_place.proofs.DictionaryOfTerms.{HasTerms, Texts, texts_done, text_stores, enter_split, text_stores_behind}
 use Rattle.eb_place.proofs.DictionaryAtMoment.{entered_done_is, entered_whole}
-use Rattle.eb_place.proofs.EnteredTerms.{entered_later, entered_bytes, text_same}
+use Rattle.eb_place.proofs.EnteredTerms.{entered_later, entered_bytes, text_same, entered_by}
 use Rattle.eb_terms.specs.Finding.{cells_in}
-use Rattle.eb_terms.specs.Entering.{AreNext, IsNextTerm, IsNextText, with_placed, with_stores, HasEntered}
+use Rattle.eb_terms.specs.Entering.{IsNextTerm, IsNextText, HasEntered}
 use Rattle.eb_terms.proofs.Probing.{has_number}
-use Rattle.eb_terms.proofs.Storing.{After, GoesOn, goes_on, placed_after, placed_next, placed_more, next_as, get_at, next_front}
-use Rattle.eb_terms.proofs.Tails.{enter_not_tail, tokens_same}
+use Rattle.eb_place.proofs.ListOfStores.{After, HasMoreAfter, goes_on, placed_after, placed_next, placed_more, next_as, get_at, next_front, next_within}
+use Rattle.eb_place.proofs.TailStores.{tokens_same, tokens_by}
+use Rattle.eb_place.proofs.RegionCounts.{enter_no_tail}
 
 -- ---- what comes next lies within the index
-
-each_drop : {X : Type 0} {P : X → Type 0} (n : ℕ) (xs : List X) → Each P xs → Each P (drop n xs)
-each_drop zero xs h = h
-each_drop (suc n) [] h = none
-each_drop (suc n) (x ∷ xs) (more h t) = each_drop n xs t
-
--- the next stores go to words of the index
-pub next_within : (m : Moment) (d : Doc) (stores : List Store) → IsMoment m → AreNext m d stores → Each (IsWithin m.setting) stores
-next_within m d stores is n =
-    let σ = m.setting in
-    let docs = m.documents.accepted in
-    let lawful = lawful_front σ docs (current_of m.documents.current) is.lawful in
-    let j = joins σ docs d is.setting (placed_all σ docs is.setting lawful).short (record { limits = n.limits; there = n.room }) in
-    let all : Each (IsWithin σ) (doc_stores σ docs d) = subst (Each (IsWithin σ)) (sym j.stores) (doc_within σ _ _ (length docs) d j.room j.few) in
-    Each-front stores n.front.0 (subst (Each (IsWithin σ)) (sym n.front.1) (each_drop (stores_done m.documents.current) (doc_stores σ docs d) all))
 
 row_room : (σ : Setting) (s i : ℕ) (vs : List ℕ) → 1 ≤ length vs → Each (IsWithin σ) (in_row s text_region i vs) → (s < σ.segments) × (i + length vs ≤ 4 * σ.terms)
 unfolding size
 row_room σ s i [] l h = absurd (omega arith)
 row_room σ s i (v ∷ []) l (more h none) = (h.0, omega (arith, h.1))
 row_room σ s i (v ∷ w ∷ vs) l (more h t) = let r = row_room σ s (i + 1) (w ∷ vs) (omega arith) t in (h.0, omega (arith, r.1))
-
-each_head : {X : Type 0} {P : X → Type 0} (x : X) (xs : List X) → Each P (x ∷ xs) → P x
-each_head x xs (more h t) = h
 
 -- so there is room for the next term
 pub enter_room : (σ : Setting) (s : ℕ) (terms : List Term) (t : Term) → Each (IsWithin σ) (enter_stores σ s terms t) → HasTerms σ s (terms ++ t ∷ [])
@@ -104,7 +85,7 @@ row_get s i [] k h = absurd (omega arith)
 row_get s i (v ∷ vs) zero h = ap (λ n. Some (slot s text_region n, v)) (let e : i ≡ i + 0 = omega arith in e)
 row_get s i (v ∷ vs) (suc k) h = row_get s (i + 1) vs k (omega arith) ∙ ap (λ n. Some (slot s text_region n, get_or vs k 0)) (let e : i + 1 + k ≡ i + suc k = omega arith in e)
 
-pub text_goes_on : (m : Moment) (d : Doc) (s start : ℕ) (t : Term) → IsNextText m d s start t → GoesOn m d (in_row s text_region start (text_of t))
+pub text_goes_on : (m : Moment) (d : Doc) (s start : ℕ) (t : Term) → IsNextText m d s start t → HasMoreAfter m d (in_row s text_region start (text_of t))
 text_goes_on m d s start t n = goes_on m d (in_row s text_region start (text_of t)) n (omega (arith, length-in_row s start (text_of t), length-text_of t)) (row_plain s start (text_of t))
 
 enter_plain : (σ : Setting) (s : ℕ) (terms : List Term) (t : Term) → Each (λ (y : Store). y.0 ≡ published → ⊥) (enter_stores σ s terms t)
@@ -120,7 +101,7 @@ length-enter_stores σ s terms t =
     let y : Store = (slot s cell_region (cell_of_next (2 * σ.terms) terms t), length terms + 1) in
     omega (arith, length-append R (x ∷ y ∷ []), length-in_row s (sum_by text_words terms) (text_of t), length-text_of t)
 
-pub enter_goes_on : (m : Moment) (d : Doc) (s : ℕ) (t : Term) → IsNextTerm m d s t → GoesOn m d (enter_stores m.setting s (entered m s) t)
+pub enter_goes_on : (m : Moment) (d : Doc) (s : ℕ) (t : Term) → IsNextTerm m d s t → HasMoreAfter m d (enter_stores m.setting s (entered m s) t)
 enter_goes_on m d s t n = goes_on m d (enter_stores m.setting s (entered m s) t) n (omega (arith, length-enter_stores m.setting s (entered m s) t)) (enter_plain m.setting s (entered m s) t)
 
 -- behind its text: the text place, then the cell
@@ -148,14 +129,6 @@ next_text m d s t n = next_front m d (in_row s text_region (sum_by text_words (e
 
 -- ---- what goes by the documents part alone
 
-pub entered_by : (m n : Moment) (s : ℕ) → n.setting ≡ m.setting → n.documents ≡ m.documents → entered n s ≡ entered m s
-unfolding entered stores_in_region
-entered_by m n s e f i = take (count_by (is_in s cell_region) (document_stores (e i) (f i))) (distinct (terms_of (get_or (cut (e i) (with_current (f i))) s [])))
-
-pub tokens_by : (m n : Moment) (s : ℕ) → n.setting ≡ m.setting → n.documents ≡ m.documents → tokens_seen n s ≡ tokens_seen m s
-unfolding tokens_seen stores_in_region
-tokens_by m n s e f i = take (count_by (is_in s tail_region) (document_stores (e i) (f i))) (terms_of (get_or (cut (e i) (with_current (f i))) s []))
-
 next_by : (m n : Moment) (d : Doc) (stores : List Store) → n.setting ≡ m.setting → n.documents ≡ m.documents → AreNext m d stores → AreNext n d stores
 next_by m n d stores e f h =
     let P : Setting → Documents → Type 0 = λ σ x. AreNext record { setting = σ; documents = x; conversions = n.conversions } d stores in
@@ -180,9 +153,6 @@ texts_agree σ s terms x t L h k bx bt =
     let words : text_words x ≡ text_words t = ap (λ z. 1 + (z + 7) / 8) same in
     text_same x t bx bt same (λ i l. sym (one x h i (omega arith)) ∙ one t k i l)
 
-count_more : (p : Store → Bool) (xs ys : List Store) → count_by p (xs ++ ys) ≡ count_by p xs + count_by p ys
-count_more p xs ys = sum_by-append (λ y. cond (p y) 1 0) xs ys
-
 enter_one_cell : (σ : Setting) (s : ℕ) (terms : List Term) (t : Term) → count_by (is_in s cell_region) (enter_stores σ s terms t) ≡ 1
 enter_one_cell σ s terms t =
     let p = is_in s cell_region in
@@ -191,7 +161,7 @@ enter_one_cell σ s terms t =
     let z : count_by p (text_stores s terms t) ≡ 0 = sym (length-filter p (text_stores s terms t))
     ∙ ap length (filter_none p (text_stores s terms t) (Each-map (λ w k. k.test) (text_stores_behind s terms t))) in
     let one : count_by p (y ∷ []) ≡ 1 = rw (in_region s cell_region c (length terms + 1)) refl in
-    ap (count_by p) (enter_split σ s terms t) ∙ count_more p (text_stores s terms t) (y ∷ []) ∙ omega (arith, z, one)
+    ap (count_by p) (enter_split σ s terms t) ∙ count_by-append p (text_stores s terms t) (y ∷ []) ∙ omega (arith, z, one)
 
 one_of : {X : Type 0} (xs : List X) → length xs ≡ 1 → (x : X) × (xs ≡ x ∷ [])
 one_of [] h = absurd (omega arith)
@@ -213,7 +183,7 @@ entered_more m a d s t is bytes n h =
     let room = enter_room σ s E t (next_within m d X is n) in
     let before = entered_done_is m s in
     let after = entered_done_is a s in
-    let cells : length (entered a s) ≡ length E + 1 = sym after.cells ∙ ap (count_by p) whole ∙ count_more p L X ∙ omega (arith, before.cells, enter_one_cell σ s E t) in
+    let cells : length (entered a s) ≡ length E + 1 = sym after.cells ∙ ap (count_by p) whole ∙ count_by-append p L X ∙ omega (arith, before.cells, enter_one_cell σ s E t) in
     let front = entered_later m a s h.later in
     let x = one_of front.0 (omega (arith, ap length front.1, length-append E front.0)) in
     let list : entered a s ≡ E ++ x.0 ∷ [] = sym front.1 ∙ ap (λ z. E ++ z) x.1 in
@@ -236,8 +206,8 @@ tokens_after m a d s t h =
     let X = enter_stores m.setting s (entered m s) t in
     let p = is_in s tail_region in
     let L = document_stores m.setting m.documents in
-    let none : count_by p X ≡ 0 = sym (length-filter p X) ∙ ap length (filter_none p X (enter_not_tail m.setting s (entered m s) t)) in
-    tokens_same m a s h.later (ap (count_by p) (h.written ∙ ap (λ z. L ++ z) (take_all (length X) X (omega arith))) ∙ count_more p L X ∙ omega (arith, none))
+    let none : count_by p X ≡ 0 = sym (length-filter p X) ∙ ap length (filter_none p X (enter_no_tail m.setting s (entered m s) t)) in
+    tokens_same m a s h.later (ap (count_by p) (h.written ∙ ap (λ z. L ++ z) (take_all (length X) X (omega arith))) ∙ count_by-append p L X ∙ omega (arith, none))
 
 -- ---- the calls, one after the other
 
@@ -245,7 +215,7 @@ tokens_after m a d s t h =
 pub record IsReady (n : Moment) (d : Doc) (s : ℕ) (t : Term) (u : Used) : Type 0 where
   pub moment : IsMoment n
   pub next : IsNextTerm n d s t
-  pub more : GoesOn n d (enter_stores n.setting s (entered n s) t)
+  pub more : HasMoreAfter n d (enter_stores n.setting s (entered n s) t)
   pub text : IsNextText n d s u.text t
   pub number : u.terms ≡ length (entered n s)
   pub start : u.text ≡ sum_by text_words (entered n s)

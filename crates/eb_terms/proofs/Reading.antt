@@ -17,15 +17,13 @@ use Rattle.eb_place.proofs.PlacesOfSlots.{place_in}
 use Rattle.eb_place.proofs.FreeCells.{is_taken}
 use Rattle.eb_place.proofs.CellsOfTerms.{taken_where, length-cells_of}
 use Rattle.eb_place.proofs.WordsAtMoment.{setting_terms}
-use Rattle.eb_place.proofs.DictionaryOfTerms.{text_ends, length-text_of}
-use Rattle.eb_place.proofs.DictionaryAtMoment.{dictionary, entered_room, cell_in_table, text_place_in_table, text_in_table}
+use Rattle.eb_place.proofs.DictionaryOfTerms.{text_ends}
+use Rattle.eb_place.proofs.DictionaryAtMoment.{dictionary, entered_room, text_in_table}
 use Rattle.eb_place.proofs.EnteredTerms.{term_later, front_later, text_same}
+use Rattle.eb_place.proofs.StoresWithinTable.{length-text_of}
+use Rattle.eb_place.proofs.LaterMoments.{inside_later}
 use Rattle.eb_terms.specs.Finding.{cells_in}
 use Rattle.eb_terms.specs.Comparing.{term_at, cell_of, IsNumber, Holds, IsText, words_compared}
-
--- the segment is one of those of a later moment
-pub inside_later : (m n : Moment) (s : ℕ) → IsNotBefore n m → s < m.setting.segments → s < n.setting.segments
-inside_later m n s l h = subst (λ (σ : Setting). s < σ.segments) l.setting h
 
 -- a cell is one of those of a later moment
 pub cell_later : (m n : Moment) (c : ℕ) → IsNotBefore n m → c < cells_in m → c < cells_in n
@@ -57,13 +55,6 @@ holds_number m s c w is h l e some =
 -- a number is below that of the terms that a segment has room for
 pub number_small : (m : Moment) (s k : ℕ) → IsMoment m → s < m.setting.segments → IsNumber m s k → (k < m.setting.terms) × (m.setting.terms ≤ 2 ^ 20)
 number_small m s k is h l = let r = entered_room m s is h in let few = r.few in (omega arith, (setting_terms m.setting is.setting).1)
-
--- the places of these words are below the number of words
-pub cell_place : (m : Moment) (s c : ℕ) → s < m.setting.segments → c < cells_in m → place m.setting (slot s cell_region c) < words_of m.setting
-cell_place m s c h l = place_in m.setting (slot s cell_region c) (cell_in_table m.setting s c h l)
-
-pub start_place : (m : Moment) (s k : ℕ) → IsMoment m → s < m.setting.segments → IsNumber m s k → place m.setting (slot s text_place_region k) < words_of m.setting
-start_place m s k is h l = place_in m.setting (slot s text_place_region k) (text_place_in_table m.setting s k h (number_small m s k is h l).0)
 
 -- at the text place of a term: where its text begins
 pub start_is : (m : Moment) (s k w : ℕ) → IsMoment m → s < m.setting.segments → IsNumber m s k → w ≡ word m (place m.setting (slot s text_place_region k)) → IsText m s k w

@@ -1,18 +1,13 @@
 -- Hashes and text words.
-use Rattle.std.proofs.Common.{◌≡◌, ℕ, zero, suc, ◌+◌, ◌-◌, ◌*◌, ◌/◌, ◌%◌, ◌^◌, ◌<◌, ◌≤◌, List, [], ◌∷◌, ◌++◌, length, take, drop, get_or, replicate, min, inl, inr, refl, ap, sym, ◌∙◌, arith}
+use Rattle.std.proofs.Common.{◌≡◌, ℕ, zero, suc, ◌+◌, ◌-◌, ◌*◌, ◌/◌, ◌<◌, ◌≤◌, List, [], ◌∷◌, ◌++◌, length, take, drop, get_or, replicate, min, inl, inr, refl, ap, sym, ◌∙◌, arith}
 use Rattle.std.proofs.lemmas.Bool.{cases_lt}
-use Rattle.std.proofs.lemmas.List.{drop-drop, take_more, take_all, length-drop}
-use Rattle.std.proofs.lemmas.List.Sums.{fold_push}
+use Rattle.std.proofs.lemmas.List.{drop-drop, take_all, length-drop}
 use Rattle.std.specs.Int.{from_le_bytes, w64}
 use Rattle.eb_base.specs.Term.{Term}
 use Rattle.eb_place.specs.Room.{text_words}
-use Rattle.eb_place.specs.Placing.{hash, little_endian, eights, text_of}
+use Rattle.eb_place.specs.Placing.{little_endian, eights, text_of}
 
 -- ---- hashes
-
--- one more byte
-pub hash_more : (t : List ℕ) (i : ℕ) → i < length t → hash (take (i + 1) t) ≡ (hash (take i t) * 31 + get_or t i 0) % 2 ^ 32
-hash_more t i h = ap hash (take_more t i 0 h) ∙ fold_push (λ h b. (h * 31 + b) % 2 ^ 32) 0 (take i t) (get_or t i 0)
 
 -- ---- text words
 

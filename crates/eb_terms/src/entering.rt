@@ -5,8 +5,10 @@ ghost use Rattle.eb_place.specs.Placing.{cell_of_next};
 ghost use Rattle.eb_place.specs.Later.{IsNotBefore};
 ghost use Rattle.eb_place.specs.Seen.{entered};
 ghost use Rattle.eb_place.specs.Tells.{TellsSegment};
+ghost use Rattle.eb_place.specs.NextStores.{with_placed};
+ghost use Rattle.eb_place.specs.Told.{Written};
 ghost use Rattle.eb_terms.specs.Finding.{cells_in};
-ghost use Rattle.eb_terms.specs.Entering.{IsNextTerm, IsNextText, HasEntered, with_placed};
+ghost use Rattle.eb_terms.specs.Entering.{IsNextTerm, IsNextText, HasEntered};
 
 use crate::hashing::home;
 use crate::loads::number_in;
@@ -28,8 +30,8 @@ pub fn enter<P: Pen>(
     term: &Term,
 ) -> u32
     requires { (m : Moment) × P.stands pen.old m × TellsSegment used.old m segment × IsNextTerm m document.now segment term.now }
-    ensures { (m : Moment) → P.stands pen.old m → TellsSegment used.old m segment → IsNextTerm m document.now segment term.now
-        → (n : Moment) × P.stands pen.new n × P.same pen.old pen.new × HasEntered m n document.now segment term.now result × TellsSegment used.new n segment }
+    ensures { Written P.stands P.same pen.old pen.new (λ m. TellsSegment used.old m segment × IsNextTerm m document.now segment term.now)
+        (λ m n. HasEntered m n document.now segment term.now result × TellsSegment used.new n segment) }
 {
     let number = used.terms;
     let start = used.text;

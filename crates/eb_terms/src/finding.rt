@@ -2,6 +2,7 @@ ghost use Rattle.std.specs.Prelude.{◌≡◌, ℕ, ◌+◌, ◌*◌, ◌<◌, �
 ghost use Rattle.eb_place.specs.declared.moment.Moment.{Moment};
 ghost use Rattle.eb_place.specs.Placing.{text_of};
 ghost use Rattle.eb_place.specs.Later.{IsNotBefore};
+ghost use Rattle.eb_place.specs.Told.{Told};
 ghost use Rattle.eb_terms.specs.Finding.{IsAnswer, most_loads};
 ghost use Rattle.eb_terms.specs.Comparing.{IsNumber, term_at, words_compared};
 
@@ -54,10 +55,9 @@ fn is_term<P: Port, L: Ledger>(
     steps: &mut Steps<L>,
 ) -> bool
     requires { (m : Moment) × P.stands port.old m × (segment < m.setting.segments) × IsNumber m segment number }
-    ensures told { (m : Moment) → P.stands port.old m → segment < m.setting.segments → IsNumber m segment number
-        → (n : Moment) × P.stands port.new n × IsNotBefore n m × P.keeps port.old m port.new n
-        × IsNumber n segment number × (IsTrue result ↔ (term_at n segment number ≡ term.now))
-        × (steps.new ≡ steps.old + 1 + words_compared (text_of (term_at n segment number)) (text_of term.now)) }
+    ensures told { Told P.stands P.keeps port.old port.new (λ m. (segment < m.setting.segments) × IsNumber m segment number)
+        (λ n. IsNumber n segment number × (IsTrue result ↔ (term_at n segment number ≡ term.now))
+        × (steps.new ≡ steps.old + 1 + words_compared (text_of (term_at n segment number)) (text_of term.now))) }
 {
     let start = start_of(port, segment, number, steps);
     for at in 0..count_words(term) {

@@ -12,6 +12,7 @@ mod texts;
 pub use entering::enter;
 pub use finding::find;
 pub use hashing::home;
+pub use texts::count_words;
 
 #[cfg(test)]
 mod tests;

@@ -2,7 +2,7 @@ ghost use Rattle.std.specs.Prelude.{◌≡◌, ℕ, ◌+◌, ◌*◌, ◌<◌, g
 ghost use Rattle.eb_place.specs.declared.moment.Moment.{Moment};
 ghost use Rattle.eb_place.specs.Room.{text_words};
 ghost use Rattle.eb_place.specs.Placing.{text_of};
-ghost use Rattle.eb_place.specs.Later.{IsNotBefore};
+ghost use Rattle.eb_place.specs.Told.{Told};
 ghost use Rattle.eb_terms.specs.Finding.{cells_in};
 ghost use Rattle.eb_terms.specs.Comparing.{Holds, IsNumber, IsText, term_at};
 
@@ -17,8 +17,7 @@ pub(crate) fn number_in<P: Port, L: Ledger>(
     steps: &mut Steps<L>,
 ) -> Option<u32>
     requires { (m : Moment) × P.stands port.old m × (segment < m.setting.segments) × (cell < cells_in m) }
-    ensures told { (m : Moment) → P.stands port.old m → segment < m.setting.segments → cell < cells_in m
-        → (n : Moment) × P.stands port.new n × IsNotBefore n m × P.keeps port.old m port.new n × Holds n segment cell result }
+    ensures told { Told P.stands P.keeps port.old port.new (λ m. (segment < m.setting.segments) × (cell < cells_in m)) (λ n. Holds n segment cell result) }
     ensures step { steps.new ≡ steps.old + 1 }
 {
     let places = Places::new(port.config());
@@ -37,8 +36,8 @@ pub(crate) fn start_of<P: Port, L: Ledger>(
     steps: &mut Steps<L>,
 ) -> u32
     requires { (m : Moment) × P.stands port.old m × (segment < m.setting.segments) × IsNumber m segment number }
-    ensures told { (m : Moment) → P.stands port.old m → segment < m.setting.segments → IsNumber m segment number
-        → (n : Moment) × P.stands port.new n × IsNotBefore n m × P.keeps port.old m port.new n × IsText n segment number result }
+    ensures told { Told P.stands P.keeps port.old port.new (λ m. (segment < m.setting.segments) × IsNumber m segment number)
+        (λ n. IsText n segment number result) }
     ensures step { steps.new ≡ steps.old + 1 }
 {
     let places = Places::new(port.config());
@@ -54,8 +53,8 @@ pub(crate) fn word_of_text<P: Port, L: Ledger>(
     steps: &mut Steps<L>,
 ) -> u64
     requires { (m : Moment) × (number : ℕ) × P.stands port.old m × IsText m segment number start × (at < text_words (term_at m segment number)) }
-    ensures told { (m : Moment) (number : ℕ) → P.stands port.old m → IsText m segment number start → at < text_words (term_at m segment number)
-        → (n : Moment) × P.stands port.new n × IsNotBefore n m × P.keeps port.old m port.new n × (result ≡ get_or (text_of (term_at n segment number)) at 0) }
+    ensures told { (number : ℕ) → Told P.stands P.keeps port.old port.new (λ m. IsText m segment number start × (at < text_words (term_at m segment number)))
+        (λ n. result ≡ get_or (text_of (term_at n segment number)) at 0) }
     ensures step { steps.new ≡ steps.old + 1 }
 {
     let places = Places::new(port.config());

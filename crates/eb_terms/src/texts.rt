@@ -8,8 +8,8 @@ use eb_base::Term;
 // The bytes of a text word.
 const WORD_BYTES: usize = 8;
 
-// How many text words a term takes: its length, and its bytes by eights.
-pub(crate) fn count_words(term: &Term) -> usize
+/// How many text words a term takes: its length, and its bytes by eights.
+pub fn count_words(term: &Term) -> usize
     ensures count { result ≡ text_words term.now }
     ensures bytes { AreBytes term.now }
 {

@@ -1,7 +1,7 @@
 -- Where a document goes, and what a placer keeps.
 use Rattle.std.proofs.Common.{◌≡◌, ℕ, suc, ◌+◌, ◌-◌, ◌*◌, ◌/◌, ◌<◌, ◌≤◌, ◌&&◌, ◌||◌, Bool, true, false, nat_lt, nat_le, List, [], ◌∷◌, ◌++◌, length}
 use Rattle.std.proofs.Common.{take, get_or, sum_by, refl, ap, sym, ◌∙◌, subst, arith, inl, inr, append-nil, IsTrue, lit<, None, if◌then◌else◌}
-use Rattle.std.proofs.lemmas.Bool.{cases_Bool, lt-ltb, le-ltb}
+use Rattle.std.proofs.lemmas.Bool.{cases_Bool, lt-ltb, le-ltb, or_right, or_left}
 use Rattle.std.proofs.lemmas.List.{length_push, take_all, get_or_past}
 use Rattle.eb_base.specs.Term.{Term}
 use Rattle.eb_base.specs.Document.{Doc, IsDocument}
@@ -24,13 +24,14 @@ use Rattle.eb_place.proofs.FirstDocumentWords.{cut_nonempty}
 use Rattle.eb_place.proofs.WordsAtMoment.{placed_all}
 use Rattle.eb_place.proofs.LaterMoments.{later_on}
 use Rattle.eb_place.proofs.UsedAtFirst.{tells_nothing}
+use Rattle.eb_place.proofs.NextStore.{accepted_lawful}
 use Rattle.eb_writer.specs.declared.plan.Found.{Found}
 use Rattle.eb_writer.specs.declared.plan.Plan.{Plan}
 use Rattle.eb_writer.specs.Counting.{IsIdle, tokens_in, IsUsedBy, IsReady, AreFound, IsPlan}
 use Rattle.eb_writer.specs.Storing.{before_it, tokens_until, IsPlaced, HasComeTo, IsAccepted, GoesOn, BeginsSegment, with_document}
 use Rattle.eb_writer.specs.Progress.{Progress, Stands, IsLastFull, HasNoRoom}
-use Rattle.eb_writer.proofs.Idle.{lawful_in, idle_entered, idle_tokens, told_used, used_tells, tokens_same}
-use Rattle.eb_writer.proofs.Ends.{join_first}
+use Rattle.eb_writer.proofs.Idle.{idle_entered, idle_tokens, told_used, used_tells, tokens_same}
+use Rattle.eb_writer.proofs.Ends.{join_first, nothing_tokens}
 use Rattle.eb_writer.proofs.Coming.{joined}
 
 -- nothing is used
@@ -43,7 +44,7 @@ unfolding cut
 stands_first σ = record { setting = refl; idle = refl; segments = refl; documents = refl; used = tells_nothing σ (0 - 1) }
 
 pub segments_few : (m : Moment) → IsMoment m → length (cut m.setting m.documents.accepted) ≤ m.setting.segments
-segments_few m is = (placed_all m.setting m.documents.accepted is.setting (lawful_in m is)).short
+segments_few m is = (placed_all m.setting m.documents.accepted is.setting (accepted_lawful m is)).short
 
 -- the last segment
 last_is : (xs : List (List Doc)) → 1 ≤ length xs → get_or xs (length xs - 1) [] ≡ last_of xs
@@ -63,16 +64,12 @@ used_nothing : IsUsedBy nothing []
 unfolding distinct begun_after
 used_nothing = record { terms = refl; text = refl; pool0 = refl; pool1 = refl; pool2 = refl; pool3 = refl }
 
-no_terms : (seg : List Doc) → seg ≡ [] → terms_of seg ≡ []
-unfolding terms_of
-no_terms seg e = ap terms_of e
-
 -- so is the next segment
 pub next_ready : (p : Progress) (m : Moment) → IsMoment m → Stands p m → length (cut m.setting m.documents.accepted) < m.setting.segments → IsReady m p.segments nothing
 next_ready p m is h low =
     let s = p.segments in
     let none = get_or_past (cut m.setting m.documents.accepted) s [] (omega (arith, h.segments)) in
-    let empty : tokens_in m s ≡ [] = no_terms (get_or (cut m.setting m.documents.accepted) s []) none in
+    let empty : tokens_in m s ≡ [] = nothing_tokens (get_or (cut m.setting m.documents.accepted) s []) none in
     record {
       idle = h.idle;
       inside = omega (arith, h.segments);
@@ -100,13 +97,6 @@ fits_is σ seg d v h n =
     let p3 : v.pool3 ≡ all_slices 3 ts = h.pool3 ∙ begun_is 3 (lit< tt) (terms_of seg ++ d.terms) ∙ ap (all_slices 3) e in
     λ i. nat_le (docs i) σ.docs && nat_le (terms i) σ.terms && nat_le (text i) (4 * σ.terms) && nat_le (p0 i) σ.terms
     && nat_le (p1 i) (σ.terms / 2) && nat_le (p2 i) (σ.terms / 16) && nat_le (p3 i) (σ.terms / 128)
-
-or_right : (a b : Bool) → b ≡ true → (a || b) ≡ true
-or_right true b e = refl
-or_right false b e = e
-
-or_left : (a b : Bool) → a ≡ true → (a || b) ≡ true
-or_left a b e = ap (λ x. x || b) e
 
 true_is : (b : Bool) → b ≡ true → IsTrue b
 true_is b e = e
@@ -301,8 +291,8 @@ starts_next p m n k d plan is js l e h f low q on come =
     let hn = stands_same p m n l e h in
     let before : before_it k d ≡ [] = before_same n k d on.later on.accepted ∙ b.first in
     let none = get_or_past (cut m.setting m.documents.accepted) s [] (omega (arith, h.segments)) in
-    let empty : tokens_in m s ≡ [] = no_terms (get_or (cut m.setting m.documents.accepted) s []) none in
-    let until : tokens_until k d 0 ≡ [] = append-nil (terms_of (before_it k d)) ∙ no_terms (before_it k d) before in
+    let empty : tokens_in m s ≡ [] = nothing_tokens (get_or (cut m.setting m.documents.accepted) s []) none in
+    let until : tokens_until k d 0 ≡ [] = append-nil (terms_of (before_it k d)) ∙ nothing_tokens (before_it k d) before in
     let same : get_or (cut k.setting k.documents.accepted) s [] ≡ [] = (λ i. get_or (cut (sym on.later.setting i) (on.accepted i)) s [])
     ∙ (λ i. get_or (cut (sym l.setting i) ((e i).accepted)) s []) ∙ none in
     record {
@@ -310,6 +300,6 @@ starts_next p m n k d plan is js l e h f low q on come =
       placed = come.placed;
       come = come;
       tells = used_tells k s nothing [] (come.entered ∙ ap distinct until) (come.seen ∙ until) (sym (ap length same)) used_nothing;
-      tokens = subst (λ (z : List Term). AreFound z d.terms plan.found (length d.terms)) (empty ∙ sym (no_terms (before_it k d) before)) q.found;
+      tokens = subst (λ (z : List Term). AreFound z d.terms plan.found (length d.terms)) (empty ∙ sym (nothing_tokens (before_it k d) before)) q.found;
       counted = hn.documents ∙ sym (ap length on.accepted);
     }

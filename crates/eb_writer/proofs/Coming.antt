@@ -4,29 +4,29 @@ use Rattle.std.proofs.lemmas.Bool.{cases_Bool, eq-eqb, eqb-true}
 use Rattle.eb_base.specs.Term.{Term}
 use Rattle.eb_base.specs.Document.{Doc}
 use Rattle.eb_base.specs.Setting.{Setting}
+use Rattle.eb_base.proofs.Copying.{take_got}
 use Rattle.eb_place.specs.declared.moment.Documents.{Documents}
 use Rattle.eb_place.specs.declared.moment.Moment.{Moment}
 use Rattle.eb_place.specs.Layout.Region.{tail_region}
 use Rattle.eb_place.specs.Postings.{terms_of, distinct, count_of, number_of, posting_of}
 use Rattle.eb_place.specs.Placing.{Store, enter_stores, append_stores, token_stores, tokens_stores, segment_before, doc_stores}
 use Rattle.eb_place.specs.Moments.{IsMoment}
-use Rattle.eb_place.specs.NextStores.{stores_done}
+use Rattle.eb_place.specs.NextStores.{stores_done, with_stores}
 use Rattle.eb_place.specs.Seen.{segment, stores_in_region, entered, tokens_seen}
 use Rattle.eb_place.specs.Walk.{IsTerm}
 use Rattle.eb_place.proofs.NextAddresses.{next_rest}
 use Rattle.eb_place.proofs.TermNumbersStay.{number_low, number_once}
 use Rattle.eb_place.proofs.WordsAtMoment.{placed_all, Joins, joins}
-use Rattle.eb_place.proofs.EnteredTerms.{number_at, number_found, entered_is_term}
-use Rattle.eb_terms.specs.Finding.{HasNumber}
+use Rattle.eb_place.proofs.EnteredTerms.{number_at, entered_is_term}
 use Rattle.eb_terms.specs.Entering.{IsNextTerm, HasEntered}
-use Rattle.eb_chain.specs.Appends.{tokens_before, stores_from, IsPostingNext, with_stores, HasAppended}
-use Rattle.eb_chain.proofs.RegionCounts.{count_in}
+use Rattle.eb_chain.specs.Appends.{tokens_before, stores_from, IsPostingNext, HasAppended}
+use Rattle.eb_place.proofs.RegionCounts.{count_in}
+use Rattle.eb_place.proofs.NextStore.{accepted_lawful}
 use Rattle.eb_chain.proofs.Appending.{done_after}
 use Rattle.eb_chain.proofs.Posted.{known}
 use Rattle.eb_writer.specs.Recall.{term_at}
 use Rattle.eb_writer.specs.Storing.{before_it, tokens_until, IsPlaced, HasComeTo, HasComeToPosting, IsNumbered}
-use Rattle.eb_writer.proofs.Idle.{lawful_in}
-use Rattle.eb_writer.proofs.Tallies.{take_one, drop_one}
+use Rattle.eb_writer.proofs.Tallies.{drop_one}
 use Rattle.eb_writer.proofs.Finding.{element}
 
 -- the document's segment
@@ -34,7 +34,7 @@ pub joined : (m : Moment) (d : Doc) (s : ℕ) → IsMoment m → IsPlaced m d s 
 joined m d s is p =
     let docs = m.documents.accepted in
     subst (λ z. Joins m.setting docs d z (before_it m d)) (sym p.place)
-    (joins m.setting docs d is.setting (placed_all m.setting docs is.setting (lawful_in m is)).short (record { limits = p.limits; there = p.room }))
+    (joins m.setting docs d is.setting (placed_all m.setting docs is.setting (accepted_lawful m is)).short (record { limits = p.limits; there = p.room }))
 
 -- ---- a token
 
@@ -80,13 +80,6 @@ entered_posting m n d s i k low new h e =
     let P : Setting → Documents → Type 0 = λ σ y. HasComeToPosting record { setting = σ; documents = y; conversions = n.conversions } d s i in
     let at : P m.setting x = record { placed = record { limits = h.placed.limits; room = h.placed.room; current = refl; place = h.placed.place }; low = low; left = rest } in
     subst (λ (z : Setting × Documents). P z.0 z.1) (λ j. (e.later.setting j, sym e.documents j)) at
-
--- its term has its number
-pub entered_term : (n : Moment) (s : ℕ) (t : Term) (k : ℕ) → s < n.setting.segments → HasNumber n s t k → IsTerm n s t k
-entered_term n s t k inside h =
-    let f = number_found n s t h.entered in
-    let term : IsTerm n s t f.0 = subst (λ z. IsTerm n s z f.0) f.2 (entered_is_term n s f.0 inside f.1) in
-    subst (IsTerm n s t) (term.number ∙ sym h.number) term
 
 -- where its term is there already, its posting comes next
 pub old_posting : (m : Moment) (d : Doc) (s i : ℕ) → i < length d.terms → 1 ≤ count_of (term_at d.terms i) (tokens_until m d i) → HasComeTo m d s i → HasComeToPosting m d s i
@@ -162,7 +155,7 @@ next_token m n d s i p is e h a =
     let rest = next_rest (doc_stores σ docs d) A _ (stores_done m.documents.current) q.left in
     let long = taken_long d.terms i (let l = h.low in omega arith) in
     let before : b ++ t ∷ [] ≡ tokens_before σ docs d (take (i + 1) d.terms) = append_assoc (terms_of (segment_before σ docs d)) (take i d.terms) (t ∷ [])
-    ∙ ap (λ z. terms_of (segment_before σ docs d) ++ z) (sym (take_one d.terms i t (element d.terms i [] h.low))) in
+    ∙ ap (λ z. terms_of (segment_before σ docs d) ++ z) (sym (take_got d.terms i t (element d.terms i [] h.low))) in
     let P : Setting → Documents → Type 0 = λ κ y. HasComeTo record { setting = κ; documents = y; conversions = n.conversions } d s (i + 1) in
     let at : P σ (with_stores m.documents d (length A)) = record {
       placed = record { limits = h.placed.limits; room = h.placed.room; current = refl; place = h.placed.place };

@@ -1,8 +1,8 @@
 -- The first and the last stores of a document.
-use Rattle.std.proofs.Common.{◌≡◌, ℕ, zero, suc, ◌+◌, ◌*◌, ◌<◌, ◌≤◌, ◌==◌, false, ltb, List, [], ◌∷◌, ◌++◌, length, take}
+use Rattle.std.proofs.Common.{◌≡◌, ℕ, suc, ◌+◌, ◌*◌, ◌<◌, ◌≤◌, ◌==◌, false, ltb, List, [], ◌∷◌, ◌++◌, length, take}
 use Rattle.std.proofs.Common.{drop, get_or, sum_by, refl, ap, sym, ◌∙◌, subst, arith, inl, inr, append-nil, slice_get, Some}
 use Rattle.std.proofs.lemmas.Bool.{cases_Bool, eqb-true, ltb-true}
-use Rattle.std.proofs.lemmas.List.{length-append, length-drop}
+use Rattle.std.proofs.lemmas.List.{length-drop}
 use Rattle.std.proofs.lemmas.List.Sums.{sum_by-cons}
 use Rattle.eb_base.specs.Document.{Doc}
 use Rattle.eb_base.specs.Setting.{Setting}
@@ -16,22 +16,23 @@ use Rattle.eb_place.specs.Postings.{terms_of, distinct}
 use Rattle.eb_place.specs.Room.{cut}
 use Rattle.eb_place.specs.Placing.{Store, pairs_of, tokens_stores, doc_stores}
 use Rattle.eb_place.specs.Moments.{placings, document_stores, IsMoment}
-use Rattle.eb_place.specs.NextStores.{stores_done, IsNext, after_store, documents_after}
-use Rattle.eb_place.specs.Seen.{stores_in_region, entered, tokens_seen}
+use Rattle.eb_place.specs.NextStores.{stores_done, IsNext, after_store, documents_after, AreNext, with_stores}
+use Rattle.eb_place.specs.Seen.{stores_in_region, entered, tokens_seen, is_in}
 use Rattle.eb_place.specs.Tells.{TellsSegment}
 use Rattle.eb_place.proofs.NextAddresses.{next_rest}
-use Rattle.eb_place.proofs.FirstDocumentWords.{cut_sum}
+use Rattle.eb_place.proofs.FirstDocumentWords.{cut_sum, begins_stores}
 use Rattle.eb_place.proofs.StoresOfDocuments.{first_stores, stores_split}
 use Rattle.eb_place.proofs.WordsAtMoment.{placed_all}
 use Rattle.eb_place.proofs.AfterStore.{later_stored}
-use Rattle.eb_place.proofs.NextStore.{setting_stored}
-use Rattle.eb_chain.specs.Appends.{stores_from, with_stores}
-use Rattle.eb_chain.specs.NextPlaces.{AreNext}
-use Rattle.eb_chain.proofs.Storing.{one_stored, next_at}
-use Rattle.eb_chain.proofs.RegionCounts.{count_in, count_in-append, counts_placed, firsts_away}
+use Rattle.eb_place.proofs.NextStore.{setting_stored, accepted_lawful}
+use Rattle.eb_chain.specs.Appends.{stores_from}
+use Rattle.eb_place.proofs.RegionCounts.{count_in, counts_placed, firsts_away}
+use Rattle.eb_place.proofs.RegionStores.{count_by-append}
+use Rattle.eb_place.proofs.ListOfStores.{one_stored, next_at}
+use Rattle.eb_place.proofs.NextPuts.{next_pair}
 use Rattle.eb_writer.specs.Counting.{IsIdle}
 use Rattle.eb_writer.specs.Storing.{before_it, tokens_until, IsPlaced, HasComeTo, GoesOn, IsAccepted, BeginsSegment}
-use Rattle.eb_writer.proofs.Idle.{lawful_in, idle_entered, idle_tokens}
+use Rattle.eb_writer.proofs.Idle.{idle_entered, idle_tokens}
 use Rattle.eb_writer.proofs.Coming.{joined}
 
 -- ---- the count
@@ -45,7 +46,7 @@ pub documents_few : (m : Moment) → IsMoment m → length m.documents.accepted 
 documents_few m is =
     let σ = m.setting in
     let docs = m.documents.accepted in
-    let p = placed_all σ docs is.setting (lawful_in m is) in
+    let p = placed_all σ docs is.setting (accepted_lawful m is) in
     let n = is.setting.docs.1 in
     let k = is.setting.segments.1 in
     omega (arith, cut_sum σ docs, sum_low (cut σ docs) (λ s. (let l = p.few s in omega arith)), p.short, n, k)
@@ -68,15 +69,11 @@ all_left m d s is p =
     let seg = before_it m d in
     (joined m d s is p).stores ∙ stores_split σ s seg (length docs) d ∙ ap (λ z. first_stores s seg (length docs) ++ stores_from σ docs d s 0 z d.terms) (sym (append-nil (terms_of seg)))
 
-first_is : (s : ℕ) (seg : List Doc) (count : ℕ) → seg ≡ [] → first_stores s seg count ≡ (slot s first_region 0, count + 1) ∷ []
-unfolding first_stores
-first_is s seg count e = ap (λ z. first_stores s z count) e
-
 idle_done : (m : Moment) → IsIdle m → stores_done m.documents.current ≡ 0
 idle_done m h = ap stores_done h
 
 -- the store of the first-document word comes next
-begin_next : (m : Moment) (d : Doc) (s : ℕ) → IsMoment m → BeginsSegment m d s → AreNext m.setting m.documents d ((slot s first_region 0, length m.documents.accepted + 1) ∷ [])
+begin_next : (m : Moment) (d : Doc) (s : ℕ) → IsMoment m → BeginsSegment m d s → AreNext m d ((slot s first_region 0, length m.documents.accepted + 1) ∷ [])
 begin_next m d s is b =
     let docs = m.documents.accepted in
     let R = stores_from m.setting docs d s 0 (tokens_until m d 0) d.terms in
@@ -84,12 +81,7 @@ begin_next m d s is b =
       limits = b.placed.limits;
       room = b.placed.room;
       current = b.placed.current;
-      later = R;
-      more = omega (
-        arith,
-        length-append (tokens_stores m.setting s (length (before_it m d)) 0 (tokens_until m d 0) d.terms) ((slot s id_region (length (before_it m d)), d.id) ∷ (published, length docs + 1) ∷ []),
-      );
-      left = ap (λ k. drop k (doc_stores m.setting docs d)) (idle_done m b.idle) ∙ all_left m d s is b.placed ∙ ap (λ z. z ++ R) (first_is s (before_it m d) (length docs) b.first);
+      front = (R, sym (ap (λ k. drop k (doc_stores m.setting docs d)) (idle_done m b.idle) ∙ all_left m d s is b.placed ∙ ap (λ z. z ++ R) (begins_stores s (before_it m d) (length docs) b.first)));
     }
 
 pub begin_is : (m : Moment) (d : Doc) (s at value : ℕ) → IsMoment m → BeginsSegment m d s → at ≡ place m.setting (slot s first_region 0) → value ≡ length m.documents.accepted + 1 → IsNext m d at value
@@ -99,7 +91,7 @@ nothing_terms : (seg : List Doc) → seg ≡ [] → distinct (terms_of seg) ≡ 
 unfolding distinct terms_of
 nothing_terms seg e = ap (λ z. distinct (terms_of z)) e
 
-nothing_tokens : (seg : List Doc) → seg ≡ [] → terms_of seg ≡ []
+pub nothing_tokens : (seg : List Doc) → seg ≡ [] → terms_of seg ≡ []
 unfolding terms_of
 nothing_tokens seg e = ap terms_of e
 
@@ -116,19 +108,20 @@ begun m d s is b =
     let D = doc_stores σ docs d in
     let R = stores_from σ docs d s 0 (tokens_until m d 0) d.terms in
     let next = begin_next m d s is b in
-    let one = one_stored m d x [] next in
+    let one = one_stored m d x [] next (λ z. absurd cc) in
     let n = after_store m d in
     let e : n.documents ≡ record { accepted = docs; current = Some (d, 1) } = one.documents ∙ ap (λ k. record { accepted = docs; current = Some (d, k + 1) }) (idle_done m b.idle) in
-    let all : D ≡ x ∷ R = all_left m d s is b.placed ∙ ap (λ z. z ++ R) (first_is s seg (length docs) b.first) in
-    let c = counts_placed σ docs is.setting (lawful_in m is) s in
+    let all : D ≡ x ∷ R = all_left m d s is b.placed ∙ ap (λ z. z ++ R) (begins_stores s seg (length docs) b.first) in
+    let c = counts_placed σ docs is.setting (accepted_lawful m is) s in
     let old = (joined m d s is b.placed).old ∙ b.first in
     let L = placings σ docs ++ take 1 D in
-    let stores : L ≡ placings σ docs ++ first_stores s seg (length docs) = ap (λ z. placings σ docs ++ take 1 z) all ∙ ap (λ z. placings σ docs ++ z) (sym (first_is s seg (length docs) b.first)) in
+    let stores : L ≡ placings σ docs ++ first_stores s seg (length docs) = ap (λ z. placings σ docs ++ take 1 z) all
+    ∙ ap (λ z. placings σ docs ++ z) (sym (begins_stores s seg (length docs) b.first)) in
     let cells : count_in s cell_region L ≡ 0 =
     omega (
       arith,
       ap (count_in s cell_region) stores,
-      count_in-append s cell_region (placings σ docs) (first_stores s seg (length docs)),
+      count_by-append (is_in s cell_region) (placings σ docs) (first_stores s seg (length docs)),
       firsts_away s s cell_region seg (length docs) refl,
       c.cells,
       ap length (nothing_terms (get_or (cut σ docs) s []) old),
@@ -137,7 +130,7 @@ begun m d s is b =
     omega (
       arith,
       ap (count_in s tail_region) stores,
-      count_in-append s tail_region (placings σ docs) (first_stores s seg (length docs)),
+      count_by-append (is_in s tail_region) (placings σ docs) (first_stores s seg (length docs)),
       firsts_away s s tail_region seg (length docs) refl,
       c.tails,
       ap length (nothing_tokens (get_or (cut σ docs) s []) old),
@@ -188,24 +181,16 @@ end_left m d s h = h.left ∙ ap (stores_from m.setting m.documents.accepted d s
     dropped [] = refl
     dropped (x ∷ xs) = dropped xs
 
-id_next : (m : Moment) (d : Doc) (s : ℕ) → HasComeTo m d s (length d.terms) → AreNext m.setting m.documents d ((slot s id_region (length (before_it m d)), d.id) ∷ [])
+id_next : (m : Moment) (d : Doc) (s : ℕ) → HasComeTo m d s (length d.terms) → AreNext m d ((slot s id_region (length (before_it m d)), d.id) ∷ [])
 id_next m d s h = record {
   limits = h.placed.limits;
   room = h.placed.room;
   current = h.placed.current;
-  later = (published, length m.documents.accepted + 1) ∷ [];
-  more = omega arith;
-  left = end_left m d s h;
+  front = ((published, length m.documents.accepted + 1) ∷ [], sym (end_left m d s h));
 }
 
 pub id_is : (m : Moment) (d : Doc) (s at value : ℕ) → HasComeTo m d s (length d.terms) → at ≡ place m.setting (slot s id_region (length (before_it m d))) → value ≡ d.id → IsNext m d at value
 id_is m d s at value h p v = next_at m d (slot s id_region (length (before_it m d)), d.id) [] at value (id_next m d s h) p v
-
-got : (σ : Setting) (xs : List Store) (i : ℕ) (x : Store) (rest : List Store) → drop i xs ≡ x ∷ rest → slice_get (pairs_of σ xs) i ≡ Some (place σ x.0, x.1)
-got σ [] zero x rest e = absurd cc
-got σ [] (suc i) x rest e = absurd cc
-got σ (y ∷ ys) zero x rest e = let s : y ≡ x = cc in ap (λ (z : Store). Some (place σ z.0, z.1)) s
-got σ (y ∷ ys) (suc i) x rest e = got σ ys i x rest e
 
 -- the last store, and the moment after it
 pub record Last (m : Moment) (d : Doc) (value : ℕ) : Type 0 where
@@ -221,12 +206,12 @@ last m d s value h v =
     let i = stores_done m.documents.current in
     let x : Store = (slot s id_region (length (before_it m d)), d.id) in
     let y : Store = (published, length docs + 1) in
-    let one = one_stored m d x [] (id_next m d s h) in
+    let one = one_stored m d x [] (id_next m d s h) (λ e. absurd cc) in
     let n = after_store m d in
     let e : n.documents ≡ with_stores m.documents d 1 = one.documents in
     let rest : drop (i + 1) D ≡ y ∷ [] = next_rest D (x ∷ []) (y ∷ []) i (end_left m d s h) in
     let long : length D ≡ i + 2 = omega (arith, ap length (end_left m d s h), length-drop i D) in
-    let pair : slice_get (pairs_of σ D) (i + 1) ≡ Some (0, value) = got σ D (i + 1) y [] rest ∙ ap (λ k. Some (0, k)) (sym v) in
+    let pair : slice_get (pairs_of σ D) (i + 1) ≡ Some (0, value) = (next_pair σ D (i + 1) y [] rest).0 ∙ ap (λ k. Some (0, k)) (sym v) in
     let P : Documents → Type 0 = λ z. IsNext record { setting = σ; documents = z; conversions = m.conversions } d 0 value in
     let at : P (with_stores m.documents d 1) = record { limits = h.placed.limits; room = h.placed.room; current = refl; pair = pair } in
     let next : IsNext n d 0 value = subst P (sym e) at in

@@ -1,18 +1,17 @@
 -- What is known of a segment where no document is being placed.
-use Rattle.std.proofs.Common.{◌≡◌, ℕ, suc, ◌+◌, ◌-◌, ◌*◌, ◌^◌, ◌<◌, ◌≤◌, true, List, [], ◌++◌, length, take, get_or, sum_by, refl, ap, sym, ◌∙◌, subst, arith, inl, inr, append-nil, lit<}
+use Rattle.std.proofs.Common.{◌≡◌, ℕ, suc, ◌+◌, ◌-◌, ◌<◌, ◌≤◌, List, [], ◌++◌, length, take, get_or, sum_by, refl, ap, sym, ◌∙◌, subst, arith, inl, inr, append-nil, lit<}
 use Rattle.std.proofs.lemmas.Bool.{cases_lt}
 use Rattle.std.proofs.lemmas.List.{take_all}
 use Rattle.eb_base.specs.Term.{Term}
-use Rattle.eb_base.specs.Setting.{Setting}
 use Rattle.eb_place.specs.declared.moment.Documents.{Documents}
 use Rattle.eb_place.specs.declared.moment.Moment.{Moment}
 use Rattle.eb_place.specs.declared.used.Used.{Used}
-use Rattle.eb_place.specs.Layout.{place, slice_bits}
+use Rattle.eb_place.specs.Layout.{place}
 use Rattle.eb_place.specs.Layout.Slot.{slot}
 use Rattle.eb_place.specs.Layout.Region.{cell_region, tail_region}
 use Rattle.eb_place.specs.Postings.{terms_of, distinct, count_of, number_of}
-use Rattle.eb_place.specs.Room.{cut, text_words, IsLawful}
-use Rattle.eb_place.specs.Address.{pool_at, offset_at, slice_start, slices_begun, front_of, address_of}
+use Rattle.eb_place.specs.Room.{cut, text_words}
+use Rattle.eb_place.specs.Address.{slices_begun, address_of}
 use Rattle.eb_place.specs.Moments.{with_current, current_of, current_stores, placings, document_stores, word, IsMoment}
 use Rattle.eb_place.specs.Later.{IsNotBefore}
 use Rattle.eb_place.specs.Seen.{segment, stores_in_region, entered, tokens_seen, IsEntered}
@@ -21,15 +20,15 @@ use Rattle.eb_place.specs.Walk.{IsTerm}
 use Rattle.eb_place.proofs.AddressesDiffer.{SlicesFit, slice_in}
 use Rattle.eb_place.proofs.StoresWithinTable.{slices_fit}
 use Rattle.eb_place.proofs.TermNumbersStay.{number_low, number_once}
-use Rattle.eb_place.proofs.PackedStores.{is_packed}
 use Rattle.eb_place.proofs.WordsOfTokens.{val, Room}
-use Rattle.eb_place.proofs.WordsAtMoment.{placed_all, lawful_front}
-use Rattle.eb_place.proofs.ReaderWords.{Parts, word_of_writer, tail_in_table}
+use Rattle.eb_place.proofs.WordsAtMoment.{placed_all}
+use Rattle.eb_place.proofs.ReaderWords.{word_of_writer, tail_in_table, packed_tail, parts_of}
 use Rattle.eb_place.proofs.EnteredTerms.{number_at, number_found, entered_at, entered_is_term}
 use Rattle.eb_terms.specs.Finding.{HasNumber}
 use Rattle.eb_chain.specs.Needs.{IsTailWord}
 use Rattle.eb_place.proofs.WayBackFromPosting.{told}
-use Rattle.eb_chain.proofs.RegionCounts.{count_in, counts_placed}
+use Rattle.eb_place.proofs.RegionCounts.{count_in, counts_placed}
+use Rattle.eb_place.proofs.NextStore.{accepted_lawful}
 use Rattle.eb_writer.specs.Counting.{IsIdle, tokens_in, IsUsedBy, IsReady, IsSmall}
 
 -- all stores are those of whole documents
@@ -43,15 +42,11 @@ idle_documents m h = ap (λ c. m.documents.accepted ++ current_of c) h ∙ appen
 pub idle_segment : (m : Moment) (s : ℕ) → IsIdle m → terms_of (segment m s) ≡ tokens_in m s
 idle_segment m s h = ap (λ z. terms_of (get_or (cut m.setting z) s [])) (idle_documents m h)
 
--- the history is lawful
-pub lawful_in : (m : Moment) → IsMoment m → IsLawful m.setting m.documents.accepted
-lawful_in m is = lawful_front m.setting m.documents.accepted (current_of m.documents.current) is.lawful
-
 -- all terms are entered
 pub idle_entered : (m : Moment) (s : ℕ) → IsMoment m → IsIdle m → entered m s ≡ distinct (tokens_in m s)
 unfolding entered stores_in_region
 idle_entered m s is h =
-    let c = counts_placed m.setting m.documents.accepted is.setting (lawful_in m is) s in
+    let c = counts_placed m.setting m.documents.accepted is.setting (accepted_lawful m is) s in
     (λ i. take (count_in s cell_region (idle_stores m h i)) (distinct (idle_segment m s h i)))
     ∙ take_all (count_in s cell_region (placings m.setting m.documents.accepted)) (distinct (tokens_in m s)) (let k = c.cells in omega arith)
 
@@ -59,7 +54,7 @@ idle_entered m s is h =
 pub idle_tokens : (m : Moment) (s : ℕ) → IsMoment m → IsIdle m → tokens_seen m s ≡ tokens_in m s
 unfolding tokens_seen stores_in_region
 idle_tokens m s is h =
-    let c = counts_placed m.setting m.documents.accepted is.setting (lawful_in m is) s in
+    let c = counts_placed m.setting m.documents.accepted is.setting (accepted_lawful m is) s in
     (λ i. take (count_in s tail_region (idle_stores m h i)) (idle_segment m s h i))
     ∙ take_all (count_in s tail_region (placings m.setting m.documents.accepted)) (tokens_in m s) (let k = c.tails in omega arith)
 
@@ -92,7 +87,7 @@ ready_used m s u is r = told_used m s u (tokens_in m s) (idle_entered m s is r.i
 
 -- the segment has room for them
 pub idle_room : (m : Moment) (s : ℕ) → IsMoment m → s < m.setting.segments → Room m.setting s (tokens_in m s)
-idle_room m s is h = (placed_all m.setting m.documents.accepted is.setting (lawful_in m is)).room s h
+idle_room m s is h = (placed_all m.setting m.documents.accepted is.setting (accepted_lawful m is)).room s h
 
 pub small_first : (m : Moment) (s : ℕ) (u : Used) → IsMoment m → s < m.setting.segments → IsUsedBy u (tokens_in m s) → IsSmall u 0
 small_first m s u is inside h =
@@ -148,14 +143,6 @@ some_in m s t k h inside n =
       number = n.number ∙ ap (number_of t) e;
     }
 
-not_packed : (s k : ℕ) → is_packed (slot s tail_region k) ≡ true → ⊥
-unfolding is_packed
-not_packed s k h = absurd cc
-
-parts_of : (t : Term) (f : ℕ) (ts : List Term) → slices_begun (pool_at f) (front_of t (slice_start f) ts) * 2 ^ slice_bits (pool_at f) + offset_at f < 2 ^ 30 → Parts f (address_of t f ts)
-unfolding address_of
-parts_of t f ts h = record { slice = slices_begun (pool_at f) (front_of t (slice_start f) ts); is = refl; inside = h }
-
 tail_word_of : (t : Term) (ts : List Term) (f n : ℕ) → count_of t ts ≡ suc f → n ≡ f → SlicesFit ts → IsTailWord (count_of t ts) (address_of t n ts + 1)
 tail_word_of t ts f n e q fit =
     let w = told f (address_of t f ts) (parts_of t f ts (slice_in t f ts (omega arith) fit)) in
@@ -171,9 +158,9 @@ tail_in m s t k is h inside known =
     let ts = tokens_in m s in
     let i = tail_in_table m s t k is known.term in
     let room = idle_room m s is inside in
-    let r = (placed_all σ docs is.setting (lawful_in m is)).reached s inside in
+    let r = (placed_all σ docs is.setting (accepted_lawful m is)).reached s inside in
     let word_is : word m (place σ (slot s tail_region k)) ≡ address_of t (count_of t ts - 1) ts + 1 =
-    word_of_writer m (slot s tail_region k) is i.1 (not_packed s k) ∙ ap (λ z. val σ z (slot s tail_region k)) (idle_stores m h)
+    word_of_writer m (slot s tail_region k) is i.1 (packed_tail s k) ∙ ap (λ z. val σ z (slot s tail_region k)) (idle_stores m h)
     ∙ ap (λ z. val σ (placings σ docs) (slot s tail_region z)) known.number ∙ r.tail t known.some in
     let f = count_of t ts - 1 in
     let some = known.some in
@@ -186,6 +173,3 @@ tokens_same m n s l e = λ i. terms_of (get_or (cut (sym l.setting i) ((e i).acc
 
 pub idle_same : (m n : Moment) → n.documents ≡ m.documents → IsIdle m → IsIdle n
 idle_same m n e h = ap (λ (x : Documents). x.current) e ∙ h
-
-pub inside_same : (m n : Moment) (s : ℕ) → IsNotBefore n m → s < m.setting.segments → s < n.setting.segments
-inside_same m n s l h = subst (λ (σ : Setting). s < σ.segments) l.setting h

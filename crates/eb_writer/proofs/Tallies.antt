@@ -1,6 +1,6 @@
 -- Counting what a document needs, token by token.
 use Rattle.std.proofs.Common.{◌≡◌, ℕ, zero, suc, ◌+◌, ◌-◌, ◌<◌, ◌≤◌, Bool, true, false, List, [], ◌∷◌, ◌++◌, length}
-use Rattle.std.proofs.Common.{take, drop, sum_by, refl, ap, sym, ◌∙◌, arith, inl, inr, slice_get, slice_set, Some, lit<}
+use Rattle.std.proofs.Common.{drop, sum_by, refl, ap, sym, ◌∙◌, arith, inl, inr, slice_get, slice_set, Some, lit<}
 use Rattle.std.proofs.lemmas.Bool.{cases_lt}
 use Rattle.std.proofs.lemmas.List.{length_push}
 use Rattle.std.proofs.lemmas.List.Sums.{sum_by_push, sum_by-cons}
@@ -133,19 +133,10 @@ token_short [] i t e = absurd cc
 token_short (x ∷ xs) zero t e = let q : x ≡ t = cc in omega (arith, ap length q, sum_by-cons length x xs)
 token_short (x ∷ xs) (suc i) t e = omega (arith, token_short xs i t e, sum_by-cons length x xs)
 
-take_suc : {X : Type 0} (xs : List X) (i : ℕ) (x : X) → slice_get xs i ≡ Some x → take (suc i) xs ≡ take i xs ++ x ∷ []
-take_suc [] i x e = absurd cc
-take_suc (y ∷ xs) zero x e = let q : y ≡ x = cc in ap (λ z. z ∷ []) q
-take_suc (y ∷ xs) (suc i) x e = ap (λ z. y ∷ z) (take_suc xs i x e)
-
 drop_suc : {X : Type 0} (xs : List X) (i : ℕ) (x : X) → slice_get xs i ≡ Some x → drop i xs ≡ x ∷ drop (suc i) xs
 drop_suc [] i x e = absurd cc
 drop_suc (y ∷ xs) zero x e = let q : y ≡ x = cc in ap (λ z. z ∷ xs) q
 drop_suc (y ∷ xs) (suc i) x e = drop_suc xs i x e
-
--- the front of a list up to an element, and with it
-pub take_one : {X : Type 0} (xs : List X) (i : ℕ) (x : X) → slice_get xs i ≡ Some x → take (i + 1) xs ≡ take i xs ++ x ∷ []
-take_one xs i x e = ap (λ k. take k xs) (let q : i + 1 ≡ suc i = omega arith in q) ∙ take_suc xs i x e
 
 pub drop_one : {X : Type 0} (xs : List X) (i : ℕ) (x : X) → slice_get xs i ≡ Some x → drop i xs ≡ x ∷ drop (i + 1) xs
 drop_one xs i x e = drop_suc xs i x e ∙ ap (λ k. x ∷ drop k xs) (let q : suc i ≡ i + 1 = omega arith in q)

@@ -3,7 +3,6 @@ ghost use Rattle.eb_base.specs.Term.{Term};
 ghost use Rattle.eb_base.specs.Document.{most_tokens, most_bytes};
 ghost use Rattle.eb_place.specs.declared.moment.Moment.{Moment};
 ghost use Rattle.eb_place.specs.Postings.{count_of, number_of, distinct};
-ghost use Rattle.eb_place.specs.Room.{text_words};
 ghost use Rattle.eb_place.specs.Later.{IsNotBefore};
 ghost use Rattle.eb_chain.specs.Needs.{IsTailWord};
 ghost use Rattle.eb_writer.specs.Recall.{Remembers, term_at};
@@ -14,7 +13,7 @@ use crate::recall::{Recall, last_place, recall_nothing, remember};
 use eb_base::{Document, MAX_TOKENS, Term, Terms};
 use eb_chain::{NewSlices, needs};
 use eb_place::{Pen, Places, Steps, Used};
-use eb_terms::find;
+use eb_terms::{count_words, find};
 use std::sync::ledger::{Blank, Ledger};
 
 // Counts what a document needs of a segment, token by token, before anything is stored of it.
@@ -128,7 +127,7 @@ fn with_token(used: Used, term: &Term, token: Found) -> Used
     if token.number == used.terms {
         return Used {
             terms: used.terms + 1,
-            text: used.text + words_of_text(term),
+            text: used.text + count_words(term) as u32,
             ..used
         };
     }
@@ -155,12 +154,4 @@ fn with_slices(used: Used, before: NewSlices, after: NewSlices) -> Used
         pool3: used.pool3 + (after.pool3 - before.pool3),
         ..used
     }
-}
-
-// How many text words a term of a document takes: its length, and its bytes by eights.
-fn words_of_text(term: &Term) -> u32
-    requires { length term.now ≤ most_bytes }
-    ensures { result ≡ text_words term.now }
-{
-    1 + term.bytes().len().div_ceil(8) as u32
 }

@@ -7,6 +7,7 @@ ghost use Rattle.eb_place.specs.Room.{cut, HasRoom};
 ghost use Rattle.eb_place.specs.Moments.{empty_moment};
 ghost use Rattle.eb_place.specs.Later.{IsNotBefore};
 ghost use Rattle.eb_place.specs.Tells.{TellsSegment};
+ghost use Rattle.eb_place.specs.Told.{Written};
 ghost use Rattle.eb_writer.specs.Counting.{AreFound};
 ghost use Rattle.eb_writer.specs.Storing.{HasComeTo, IsAccepted, before_it};
 ghost use Rattle.eb_writer.specs.Progress.{Stands, IsLastFull, HasNoRoom};
@@ -176,10 +177,10 @@ impl Placer {
     fn begin_next<P: Pen>(&mut self, pen: &mut P, document: &Document) -> u64
         requires { (m : Moment) × P.stands pen.old m × Stands self.old m × IsLastFull m document.now
             × (length (cut m.setting m.documents.accepted) < m.setting.segments) }
-        ensures { (m : Moment) → P.stands pen.old m → Stands self.old m → IsLastFull m document.now
-            → length (cut m.setting m.documents.accepted) < m.setting.segments
-            → (n : Moment) × P.stands pen.new n × P.same pen.old pen.new × HasRoom m.setting m.documents.accepted document.now
-            × IsAccepted m n document.now × (result ≡ length m.documents.accepted + 1) × Stands self.new n }
+        ensures { Written P.stands P.same pen.old pen.new
+            (λ m. Stands self.old m × IsLastFull m document.now × (length (cut m.setting m.documents.accepted) < m.setting.segments))
+            (λ m n. HasRoom m.setting m.documents.accepted document.now × IsAccepted m n document.now
+            × (result ≡ length m.documents.accepted + 1) × Stands self.new n) }
     {
         let segment = self.segments;
         make_plan::<P, Brand>(
@@ -216,9 +217,9 @@ fn store_rest<P: Pen>(
 ) -> Used
     requires { (m : Moment) × P.stands pen.old m × HasComeTo m document.now segment 0 × TellsSegment used m segment
         × AreFound (terms_of (before_it m document.now)) document.now.terms found.now (length document.now.terms) × (count ≡ length m.documents.accepted) }
-    ensures { (m : Moment) → P.stands pen.old m → HasComeTo m document.now segment 0 → TellsSegment used m segment
-        → AreFound (terms_of (before_it m document.now)) document.now.terms found.now (length document.now.terms) → count ≡ length m.documents.accepted
-        → (n : Moment) × P.stands pen.new n × P.same pen.old pen.new × IsAccepted m n document.now × TellsSegment result n segment }
+    ensures { Written P.stands P.same pen.old pen.new (λ m. HasComeTo m document.now segment 0 × TellsSegment used m segment
+        × AreFound (terms_of (before_it m document.now)) document.now.terms found.now (length document.now.terms) × (count ≡ length m.documents.accepted))
+        (λ m n. IsAccepted m n document.now × TellsSegment result n segment) }
 {
     let mut used = used;
     store_tokens(pen, document, segment, &mut used, found);

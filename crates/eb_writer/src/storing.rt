@@ -3,6 +3,7 @@ ghost use Rattle.eb_place.specs.declared.moment.Moment.{Moment};
 ghost use Rattle.eb_place.specs.Postings.{terms_of};
 ghost use Rattle.eb_place.specs.Tells.{TellsSegment};
 ghost use Rattle.eb_place.specs.Walk.{IsTerm};
+ghost use Rattle.eb_place.specs.Told.{Written};
 ghost use Rattle.eb_writer.specs.Recall.{term_at};
 ghost use Rattle.eb_writer.specs.Counting.{AreFound};
 ghost use Rattle.eb_writer.specs.Storing.{HasComeTo, HasComeToPosting, GoesOn, IsNumbered, IsAccepted, BeginsSegment, before_it};
@@ -16,8 +17,8 @@ use eb_terms::enter;
 // The first store of a document that begins a segment: the segment's first-document word.
 pub(crate) fn begin<P: Pen>(pen: &mut P, document: &Document, segment: u32, count: u64)
     requires { (m : Moment) × P.stands pen.old m × BeginsSegment m document.now segment × (count ≡ length m.documents.accepted) }
-    ensures { (m : Moment) → P.stands pen.old m → BeginsSegment m document.now segment → count ≡ length m.documents.accepted
-        → (n : Moment) × P.stands pen.new n × P.same pen.old pen.new × GoesOn m n × HasComeTo n document.now segment 0 }
+    ensures { Written P.stands P.same pen.old pen.new (λ m. BeginsSegment m document.now segment × (count ≡ length m.documents.accepted))
+        (λ m n. GoesOn m n × HasComeTo n document.now segment 0) }
 {
     let place = Places::new(pen.config()).first(segment);
     pen.store(document, place, count + 1);
@@ -33,10 +34,9 @@ pub(crate) fn store_tokens<P: Pen>(
 )
     requires { (m : Moment) × P.stands pen.old m × HasComeTo m document.now segment 0 × TellsSegment used.old m segment
         × AreFound (terms_of (before_it m document.now)) document.now.terms found.now (length document.now.terms) }
-    ensures { (m : Moment) → P.stands pen.old m → HasComeTo m document.now segment 0 → TellsSegment used.old m segment
-        → AreFound (terms_of (before_it m document.now)) document.now.terms found.now (length document.now.terms)
-        → (n : Moment) × P.stands pen.new n × P.same pen.old pen.new × GoesOn m n
-        × HasComeTo n document.now segment (length document.now.terms) × TellsSegment used.new n segment }
+    ensures { Written P.stands P.same pen.old pen.new (λ m. HasComeTo m document.now segment 0 × TellsSegment used.old m segment
+        × AreFound (terms_of (before_it m document.now)) document.now.terms found.now (length document.now.terms))
+        (λ m n. GoesOn m n × HasComeTo n document.now segment (length document.now.terms) × TellsSegment used.new n segment) }
 {
     for at in 0..document.terms().len() {
         store_token(pen, document, segment, used, at, found[at].number);
@@ -54,10 +54,9 @@ fn store_token<P: Pen>(
 )
     requires { (m : Moment) × P.stands pen.old m × HasComeTo m document.now segment at × TellsSegment used.old m segment
         × (at < length document.now.terms) × IsNumbered m document.now at number }
-    ensures { (m : Moment) → P.stands pen.old m → HasComeTo m document.now segment at → TellsSegment used.old m segment
-        → at < length document.now.terms → IsNumbered m document.now at number
-        → (n : Moment) × P.stands pen.new n × P.same pen.old pen.new × GoesOn m n
-        × HasComeTo n document.now segment (at + 1) × TellsSegment used.new n segment }
+    ensures { Written P.stands P.same pen.old pen.new (λ m. HasComeTo m document.now segment at × TellsSegment used.old m segment
+        × (at < length document.now.terms) × IsNumbered m document.now at number)
+        (λ m n. GoesOn m n × HasComeTo n document.now segment (at + 1) × TellsSegment used.new n segment) }
 {
     let number = entered_number(pen, document, segment, used, at, number);
     let value = posting(used.documents, at as u32);
@@ -75,10 +74,10 @@ fn entered_number<P: Pen>(
 ) -> u32
     requires { (m : Moment) × P.stands pen.old m × HasComeTo m document.now segment at × TellsSegment used.old m segment
         × (at < length document.now.terms) × IsNumbered m document.now at number }
-    ensures { (m : Moment) → P.stands pen.old m → HasComeTo m document.now segment at → TellsSegment used.old m segment
-        → at < length document.now.terms → IsNumbered m document.now at number
-        → (n : Moment) × P.stands pen.new n × P.same pen.old pen.new × GoesOn m n × HasComeToPosting n document.now segment at
-        × IsTerm n segment (term_at document.now.terms at) result × TellsSegment used.new n segment }
+    ensures { Written P.stands P.same pen.old pen.new (λ m. HasComeTo m document.now segment at × TellsSegment used.old m segment
+        × (at < length document.now.terms) × IsNumbered m document.now at number)
+        (λ m n. GoesOn m n × HasComeToPosting n document.now segment at
+        × IsTerm n segment (term_at document.now.terms at) result × TellsSegment used.new n segment) }
 {
     if number == used.terms {
         return enter(pen, document, segment, used, document.terms().get(at));
@@ -96,9 +95,9 @@ pub(crate) fn finish<P: Pen>(
 )
     requires { (m : Moment) × P.stands pen.old m × HasComeTo m document.now segment (length document.now.terms)
         × (number ≡ length (before_it m document.now)) × (count ≡ length m.documents.accepted) }
-    ensures { (m : Moment) → P.stands pen.old m → HasComeTo m document.now segment (length document.now.terms)
-        → number ≡ length (before_it m document.now) → count ≡ length m.documents.accepted
-        → (n : Moment) × P.stands pen.new n × P.same pen.old pen.new × IsAccepted m n document.now }
+    ensures { Written P.stands P.same pen.old pen.new (λ m. HasComeTo m document.now segment (length document.now.terms)
+        × (number ≡ length (before_it m document.now)) × (count ≡ length m.documents.accepted))
+        (λ m n. IsAccepted m n document.now) }
 {
     let place = Places::new(pen.config()).id(segment, number);
     pen.store(document, place, document.id());

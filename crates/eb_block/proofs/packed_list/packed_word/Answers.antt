@@ -19,11 +19,13 @@ packed-requires-clause-at g c =
     omega (arith, f, e, h.place, ins)
 
 pub returns-clause-told : goal.returns-clause-told
-returns-clause-told g c m v st h =
-    let n = c.load.ensures.told m st in
-    let is = g.met.P.Port.lawful c.args.port.now m st in
-    let js = g.met.P.Port.lawful c.load.new.self n.0 n.1 in
-    let k = packed_later m n.0 c.args.segment c.args.at v is n.2 h in
-    let e : c.packed.result ≡ place n.0.setting (slot c.args.segment packed_region c.args.at) = c.packed.ensures.place
-    ∙ ap (λ (σ : Setting). place σ (slot c.args.segment packed_region c.args.at)) (c.new-places.ensures ∙ c.config.ensures m st ∙ n.2.setting) in
-    (n.0, n.1, n.2, n.3, n.4 ∙ ap (word n.0) e ∙ packed_value n.0 c.args.segment c.args.at v js k)
+returns-clause-told g c = λ v. record {
+  told = λ m st h.
+      (let n = c.load.ensures.told m st in
+      let is = g.met.P.Port.lawful c.args.port.now m st in
+      let js = g.met.P.Port.lawful c.load.new.self n.0 n.1 in
+      let k = packed_later m n.0 c.args.segment c.args.at v is n.2 h in
+      let e : c.packed.result ≡ place n.0.setting (slot c.args.segment packed_region c.args.at) = c.packed.ensures.place
+      ∙ ap (λ (σ : Setting). place σ (slot c.args.segment packed_region c.args.at)) (c.new-places.ensures ∙ c.config.ensures m st ∙ n.2.setting) in
+      (n.0, n.1, n.2, n.3, n.4 ∙ ap (word n.0) e ∙ packed_value n.0 c.args.segment c.args.at v js k));
+}

@@ -27,12 +27,14 @@ posting_in_word-requires g c =
     omega (arith, w, small)
 
 pub returns-clause-told : goal.returns-clause-told
-returns-clause-told g c m t f st l =
-    let n = c.load.ensures.told m st in
-    let is = g.met.P.Port.lawful c.args.port.now m st in
-    let js = g.met.P.Port.lawful c.load.new.self n.0 n.1 in
-    let h = address_later m n.0 c.args.segment t f c.args.address is n.2 l in
-    let e : c.posting_at.result ≡ place n.0.setting (pool_slot c.args.segment c.args.address) = c.posting_at.ensures.place
-    ∙ ap (λ (σ : Setting). place σ (pool_slot c.args.segment c.args.address)) (c.new-places.ensures ∙ c.config.ensures m st ∙ n.2.setting) in
-    let w = n.4 ∙ ap (word n.0) e ∙ word_posting n.0 c.args.segment t f c.args.address js h in
-    (n.0, n.1, n.2, n.3, record { address = h; is = c.posting_in_word.ensures ∙ w })
+returns-clause-told g c = λ t f. record {
+  told = λ m st l.
+      (let n = c.load.ensures.told m st in
+      let is = g.met.P.Port.lawful c.args.port.now m st in
+      let js = g.met.P.Port.lawful c.load.new.self n.0 n.1 in
+      let h = address_later m n.0 c.args.segment t f c.args.address is n.2 l in
+      let e : c.posting_at.result ≡ place n.0.setting (pool_slot c.args.segment c.args.address) = c.posting_at.ensures.place
+      ∙ ap (λ (σ : Setting). place σ (pool_slot c.args.segment c.args.address)) (c.new-places.ensures ∙ c.config.ensures m st ∙ n.2.setting) in
+      let w = n.4 ∙ ap (word n.0) e ∙ word_posting n.0 c.args.segment t f c.args.address js h in
+      (n.0, n.1, n.2, n.3, record { address = h; is = c.posting_in_word.ensures ∙ w }));
+}

@@ -14,7 +14,7 @@ returns-then-not-is_begun g c m st b h =
     let e = ap (λ (σ : Setting). σ.segments) (c.config.ensures m st) in
     let q = c.segments.ensures in
     let low : s + 1 < m.setting.segments = omega (arith, no) in
-    let n = c.is_begun.ensures m st low in
+    let n = c.is_begun.ensures.told m st low in
     let z = subst (λ z. MatchBool z (IsBegunAt n.0 (s + 1)) (first_word n.0 (s + 1) ≡ 0)) c.if-not-is_begun.true n.4 in
     (n.0, n.1, g.met.P.Port.keeps_same c.args.pen.now c.is_begun.new.port m n.0 n.3, n.2, (g.met.P.PackPen.pack_keeps c.args.pen.now c.is_begun.new.port m n.0 n.3, inr z))
 
@@ -28,7 +28,7 @@ convert_terms-requires g c =
     let q = c.segments.ensures in
     let b = r.2 in
     let low : s + 1 < m.setting.segments = omega (arith, no) in
-    let n = c.is_begun.ensures m r.1 low in
+    let n = c.is_begun.ensures.told m r.1 low in
     let z = subst (λ z. MatchBool z (IsBegunAt n.0 (s + 1)) (first_word n.0 (s + 1) ≡ 0)) c.if-not-is_begun.false n.4 in
     (n.0, n.1, begins_left n.0 s (g.met.P.PackPen.pack_keeps c.args.pen.now c.is_begun.new.port m n.0 n.3 ∙ r.3) z)
 
@@ -42,10 +42,10 @@ put_converted-requires g c =
     let q = c.segments.ensures in
     let b = r.2 in
     let low : s + 1 < m.setting.segments = omega (arith, no) in
-    let n = c.is_begun.ensures m r.1 low in
+    let n = c.is_begun.ensures.told m r.1 low in
     let z = subst (λ z. MatchBool z (IsBegunAt n.0 (s + 1)) (first_word n.0 (s + 1) ≡ 0)) c.if-not-is_begun.false n.4 in
-    let k = c.convert_terms.ensures n.0 n.1 (begins_left n.0 s (g.met.P.PackPen.pack_keeps c.args.pen.now c.is_begun.new.port m n.0 n.3 ∙ r.3) z) in
-    (k.0, k.1, k.4)
+    let k = c.convert_terms.ensures.written n.0 n.1 (begins_left n.0 s (g.met.P.PackPen.pack_keeps c.args.pen.now c.is_begun.new.port m n.0 n.3 ∙ r.3) z) in
+    (k.0, k.1, k.3.1)
 
 pub returns : goal.returns
 returns g c m st b h =
@@ -54,14 +54,14 @@ returns g c m st b h =
     let e = ap (λ (σ : Setting). σ.segments) (c.config.ensures m st) in
     let q = c.segments.ensures in
     let low : s + 1 < m.setting.segments = omega (arith, no) in
-    let n = c.is_begun.ensures m st low in
+    let n = c.is_begun.ensures.told m st low in
     let z = subst (λ z. MatchBool z (IsBegunAt n.0 (s + 1)) (first_word n.0 (s + 1) ≡ 0)) c.if-not-is_begun.false n.4 in
-    let k = c.convert_terms.ensures n.0 n.1 (begins_left n.0 s (g.met.P.PackPen.pack_keeps c.args.pen.now c.is_begun.new.port m n.0 n.3 ∙ h) z) in
-    let p = c.put_converted.ensures k.0 k.1 k.4 in (
+    let k = c.convert_terms.ensures.written n.0 n.1 (begins_left n.0 s (g.met.P.PackPen.pack_keeps c.args.pen.now c.is_begun.new.port m n.0 n.3 ∙ h) z) in
+    let p = c.put_converted.ensures.written k.0 k.1 k.3.1 in (
       p.0,
       p.1,
       g.met.P.Port.same_on c.args.pen.now c.convert_terms.new.pen c.put_converted.new.pen (g.met.P.Port.same_on c.args.pen.now c.is_begun.new.port c.convert_terms.new.pen
           (g.met.P.Port.keeps_same c.args.pen.now c.is_begun.new.port m n.0 n.3) k.2) p.2,
-      later_on m k.0 p.0 (later_on m n.0 k.0 n.2 k.3) p.3,
-      (refl, p.4),
+      later_on m k.0 p.0 (later_on m n.0 k.0 n.2 k.3.0) p.3.0,
+      (refl, p.3.1),
     )

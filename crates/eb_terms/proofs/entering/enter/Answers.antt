@@ -4,7 +4,7 @@ use Rattle.eb_place.specs.Layout.{place}
 use Rattle.eb_place.specs.Layout.Slot.{slot}
 use Rattle.eb_place.specs.Layout.Region.{cell_region, text_place_region}
 use Rattle.eb_place.specs.Room.{text_words}
-use Rattle.eb_terms.specs.Entering.{with_placed}
+use Rattle.eb_place.specs.NextStores.{with_placed}
 use Rattle.eb_terms.proofs.NextTerms.{ready, enter_inside, place_next, place_stored, cell_next, cell_stored, enters, enters_tells}
 use Rattle.eb_terms.proofs.entering.enter.Goals as goal
 
@@ -110,28 +110,32 @@ overflow_add-used-2 g c =
     omega (arith, k.texts, k.small, c.count_words.ensures.count)
 
 pub returns : goal.returns
-returns g c m st tells h =
-    let d = c.args.document.now in
-    let s = c.args.segment in
-    let t = c.args.term.now in
-    let u = c.args.used.now in
-    let n = c.free_cell_alone-cell.ensures m st in
-    let is = g.met.P.Port.lawful c.free_cell_alone-cell.new.port n.0 n.1 in
-    let f = g.met.P.Pen.pen_keeps c.args.pen.now c.free_cell_alone-cell.new.port m n.0 n.3 in
-    let k = ready m n.0 d s t u is n.2 f h tells in
-    let o = c.store_text.ensures n.0 n.1 k.text in
-    let e = c.new-places.ensures ∙ c.config.ensures n.0 n.1 in
-    let at = c.text_place.ensures.place ∙ ap (λ (σ : Setting). place σ (slot s text_place_region u.terms)) e in
-    let p = c.store.ensures (with_placed n.0 d (text_words t)) o.0 (place_next n.0 d s t u c.text_place.result c.from.result k at c.from.ensures) in
-    let cell = c.cell.ensures.place ∙ ap (λ (σ : Setting). place σ (slot s cell_region c.free_cell_alone-cell.result)) e in
-    let q = c.store-2.ensures (with_placed n.0 d (text_words t + 1)) (subst (λ z. g.P.Port.stands c.store.new.self z) (place_stored n.0 d s t u k) p.0)
-    (cell_next n.0 d s t u c.free_cell_alone-cell.result c.cell.result (c.from-2.result + 1) k n.4 cell (ap (λ z. z + 1) c.from-2.ensures)) in
-    let same = g.met.P.Port.keeps_same c.args.pen.now c.free_cell_alone-cell.new.port m n.0 n.3 in
-    let same1 = g.met.P.Port.same_on c.args.pen.now c.free_cell_alone-cell.new.port c.store_text.new.pen same o.1 in
-    let same2 = g.met.P.Port.same_on c.args.pen.now c.store_text.new.pen c.store.new.self same1 p.1 in (
-      with_placed n.0 d (text_words t + 2),
-      subst (λ z. g.P.Port.stands c.store-2.new.self z) (cell_stored n.0 d s t u k) q.0,
-      g.met.P.Port.same_on c.args.pen.now c.store.new.self c.store-2.new.self same2 q.1,
-      enters m n.0 d s t u.terms is n.2 f c.count_words.ensures.bytes k.next tells.terms,
-      enters_tells m n.0 d s t u _ is n.2 f c.count_words.ensures.bytes k.next tells (ap (λ z. record u { terms = u.terms + 1; text = u.text + z }) c.count_words.ensures.count),
-    )
+returns g c = record {
+  written = λ m st h.
+      (let d = c.args.document.now in
+      let s = c.args.segment in
+      let t = c.args.term.now in
+      let u = c.args.used.now in
+      let n = c.free_cell_alone-cell.ensures m st in
+      let is = g.met.P.Port.lawful c.free_cell_alone-cell.new.port n.0 n.1 in
+      let f = g.met.P.Pen.pen_keeps c.args.pen.now c.free_cell_alone-cell.new.port m n.0 n.3 in
+      let k = ready m n.0 d s t u is n.2 f h.1 h.0 in
+      let o = c.store_text.ensures n.0 n.1 k.text in
+      let e = c.new-places.ensures ∙ c.config.ensures n.0 n.1 in
+      let at = c.text_place.ensures.place ∙ ap (λ (σ : Setting). place σ (slot s text_place_region u.terms)) e in
+      let p = c.store.ensures (with_placed n.0 d (text_words t)) o.0 (place_next n.0 d s t u c.text_place.result c.from.result k at c.from.ensures) in
+      let cell = c.cell.ensures.place ∙ ap (λ (σ : Setting). place σ (slot s cell_region c.free_cell_alone-cell.result)) e in
+      let q = c.store-2.ensures (with_placed n.0 d (text_words t + 1)) (subst (λ z. g.P.Port.stands c.store.new.self z) (place_stored n.0 d s t u k) p.0)
+      (cell_next n.0 d s t u c.free_cell_alone-cell.result c.cell.result (c.from-2.result + 1) k n.4 cell (ap (λ z. z + 1) c.from-2.ensures)) in
+      let same = g.met.P.Port.keeps_same c.args.pen.now c.free_cell_alone-cell.new.port m n.0 n.3 in
+      let same1 = g.met.P.Port.same_on c.args.pen.now c.free_cell_alone-cell.new.port c.store_text.new.pen same o.1 in
+      let same2 = g.met.P.Port.same_on c.args.pen.now c.store_text.new.pen c.store.new.self same1 p.1 in (
+        with_placed n.0 d (text_words t + 2),
+        subst (λ z. g.P.Port.stands c.store-2.new.self z) (cell_stored n.0 d s t u k) q.0,
+        g.met.P.Port.same_on c.args.pen.now c.store.new.self c.store-2.new.self same2 q.1,
+        (
+          enters m n.0 d s t u.terms is n.2 f c.count_words.ensures.bytes k.next h.0.terms,
+          enters_tells m n.0 d s t u _ is n.2 f c.count_words.ensures.bytes k.next h.0 (ap (λ z. record u { terms = u.terms + 1; text = u.text + z }) c.count_words.ensures.count),
+        ),
+      ));
+}

@@ -1,8 +1,7 @@
 use Rattle.std.proofs.Common.{◌≡◌, ◌*◌, ◌<◌, ap, sym, ◌∙◌, subst, arith}
 use Rattle.eb_base.specs.Setting.{Setting}
-use Rattle.eb_place.proofs.LaterMoments.{later_on}
+use Rattle.eb_place.proofs.LaterMoments.{later_on, inside_later}
 use Rattle.eb_terms.specs.Finding.{cells_in, is_filled}
-use Rattle.eb_terms.proofs.Reading.{inside_later}
 use Rattle.eb_terms.proofs.Probing.{probe_is, probe_low, probe_later, all_taken_later, taken_more, next_cell, some_free}
 use Rattle.eb_terms.proofs.entering.free_cell.Goals as goal
 
@@ -15,7 +14,7 @@ returns-in_default g c m st =
     let k = c.loop-step.invariant m st in
     let js = g.met.P.Port.lawful c.loop-step.port k.0 k.1 in
     let at = probe_is k.0 c.config.result t i c.terms-cells.result c.home-first.result (c.config.ensures m st ∙ k.2.setting) c.terms-cells.ensures c.home-first.ensures in
-    let n = c.in_default.ensures.told k.0 k.1 (inside_later m k.0 s k.2 inside) (subst (λ z. z < cells_in k.0) (sym at) (probe_low k.0 t i js)) in
+    let n = c.in_default.ensures.told.told k.0 k.1 (inside_later m k.0 s k.2 inside, subst (λ z. z < cells_in k.0) (sym at) (probe_low k.0 t i js)) in
     let is = g.met.P.Port.lawful c.number_in.new.port n.0 n.1 in
     let later = later_on m k.0 n.0 k.2 n.2 in
     let at' = at ∙ sym (probe_later k.0 n.0 t i n.2) in
@@ -37,7 +36,7 @@ loop-step-preserved g c m st =
     let k = c.loop-step.invariant m st in
     let js = g.met.P.Port.lawful c.loop-step.port k.0 k.1 in
     let at = probe_is k.0 c.config.result t i c.terms-cells.result c.home-first.result (c.config.ensures m st ∙ k.2.setting) c.terms-cells.ensures c.home-first.ensures in
-    let n = c.in-Some.ensures.told k.0 k.1 (inside_later m k.0 s k.2 inside) (subst (λ z. z < cells_in k.0) (sym at) (probe_low k.0 t i js)) in (
+    let n = c.in-Some.ensures.told.told k.0 k.1 (inside_later m k.0 s k.2 inside, subst (λ z. z < cells_in k.0) (sym at) (probe_low k.0 t i js)) in (
       n.0,
       n.1,
       later_on m k.0 n.0 k.2 n.2,

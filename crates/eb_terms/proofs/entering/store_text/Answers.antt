@@ -4,10 +4,10 @@ use Rattle.eb_place.specs.Layout.{place}
 use Rattle.eb_place.specs.Layout.Slot.{slot}
 use Rattle.eb_place.specs.Layout.Region.{text_region}
 use Rattle.eb_place.specs.Placing.{Store, in_row, text_of}
-use Rattle.eb_place.proofs.DictionaryOfTerms.{length-text_of}
 use Rattle.eb_place.specs.Room.{text_words}
-use Rattle.eb_terms.specs.Entering.{with_placed}
-use Rattle.eb_terms.proofs.Storing.{after_stores, after_is, after_none, after_one, next_of, next_as, placed_is}
+use Rattle.eb_place.specs.NextStores.{with_placed}
+use Rattle.eb_place.proofs.StoresWithinTable.{length-text_of}
+use Rattle.eb_place.proofs.ListOfStores.{after_stores, after_is, after_none, after_one, next_of, next_as, placed_is}
 use Rattle.eb_terms.proofs.NextTerms.{text_room, text_goes_on, length-in_row, row_get}
 use Rattle.eb_terms.proofs.entering.store_text.Goals as goal
 

@@ -1,6 +1,6 @@
 use Rattle.eb_place.specs.declared.moment.Moment.{Moment}
 use Rattle.eb_terms.specs.Entering.{IsNextText}
-use Rattle.eb_terms.proofs.Storing.{after_stores}
+use Rattle.eb_place.proofs.ListOfStores.{after_stores}
 use Rattle.eb_terms.proofs.entering.store_text.Given as goal
 
 abbrev pub invariant-loop-at : goal.invariant-loop-at

@@ -2,11 +2,10 @@ use Rattle.std.proofs.Common.{◌≡◌, ◌*◌, ◌<◌, ap, refl, sym, ◌∙
 use Rattle.std.proofs.lemmas.Bool.{false≢true}
 use Rattle.eb_base.specs.Setting.{Setting}
 use Rattle.eb_place.specs.Placing.{text_of}
-use Rattle.eb_place.proofs.LaterMoments.{later_on}
+use Rattle.eb_place.proofs.LaterMoments.{later_on, inside_later}
 use Rattle.eb_place.proofs.EnteredTerms.{is_entered_later}
 use Rattle.eb_terms.specs.Finding.{cells_in, is_filled}
 use Rattle.eb_terms.specs.Comparing.{term_at}
-use Rattle.eb_terms.proofs.Reading.{inside_later}
 use Rattle.eb_terms.proofs.Probing.{probe_is, probe_low, probe_later, cell_of_later, all_passed_later, passed_more, run_reaches, not_entered, has_number, loads_none, loads_some, loads_more, loads_end}
 use Rattle.eb_terms.proofs.finding.find.Goals as goal
 
@@ -20,7 +19,7 @@ returns-in_default g c = record {
       let k = c.loop-step.invariant.0 m st in
       let js = g.met.P.Port.lawful c.loop-step.port k.0 k.1 in
       let at = probe_is k.0 c.config.result t i c.terms-cells.result c.home-first.result (c.config.ensures m st ∙ k.2.setting) c.terms-cells.ensures c.home-first.ensures in
-      let n = c.in_default.ensures.told k.0 k.1 (inside_later m k.0 s k.2 inside) (subst (λ z. z < cells_in k.0) (sym at) (probe_low k.0 t i js)) in
+      let n = c.in_default.ensures.told.told k.0 k.1 (inside_later m k.0 s k.2 inside, subst (λ z. z < cells_in k.0) (sym at) (probe_low k.0 t i js)) in
       let is = g.met.P.Port.lawful c.number_in.new.port n.0 n.1 in
       let later = later_on m k.0 n.0 k.2 n.2 in
       let passed = all_passed_later k.0 n.0 s t i n.2 k.4 in
@@ -46,8 +45,8 @@ returns-then-is_term g c = record {
       let k = c.loop-step.invariant.0 m st in
       let js = g.met.P.Port.lawful c.loop-step.port k.0 k.1 in
       let at = probe_is k.0 c.config.result t i c.terms-cells.result c.home-first.result (c.config.ensures m st ∙ k.2.setting) c.terms-cells.ensures c.home-first.ensures in
-      let n = c.in-Some.ensures.told k.0 k.1 (inside_later m k.0 s k.2 inside) (subst (λ z. z < cells_in k.0) (sym at) (probe_low k.0 t i js)) in
-      let o = c.if-is_term.ensures.told n.0 n.1 (inside_later k.0 n.0 s n.2 (inside_later m k.0 s k.2 inside)) n.4.0 in
+      let n = c.in-Some.ensures.told.told k.0 k.1 (inside_later m k.0 s k.2 inside, subst (λ z. z < cells_in k.0) (sym at) (probe_low k.0 t i js)) in
+      let o = c.if-is_term.ensures.told.told n.0 n.1 (inside_later k.0 n.0 s n.2 (inside_later m k.0 s k.2 inside), n.4.0) in
       let is = g.met.P.Port.lawful c.is_term.new.port o.0 o.1 in
       let later = later_on m n.0 o.0 (later_on m k.0 n.0 k.2 n.2) o.2 in
       let passed = all_passed_later k.0 o.0 s t i (later_on k.0 n.0 o.0 n.2 o.2) k.4 in
@@ -58,8 +57,8 @@ returns-then-is_term g c = record {
         o.1,
         later,
         g.met.P.Port.keeps_on c.args.port.now c.number_in.new.port c.is_term.new.port m n.0 o.0 (g.met.P.Port.keeps_on c.args.port.now c.loop-step.port c.number_in.new.port m k.0 n.0 k.3 n.3) o.3,
-        has_number o.0 s c.in-Some.number t o.4 (o.5.0 refl),
-        loads_some o.0 s t i c.args.steps.now c.is_term.new.steps run (omega (arith, loads, o.6, c.in-Some.ensures.step)),
+        has_number o.0 s c.in-Some.number t o.4.0 (o.4.1.0 refl),
+        loads_some o.0 s t i c.args.steps.now c.is_term.new.steps run (omega (arith, loads, o.4.2, c.in-Some.ensures.step)),
       ));
 }
 
@@ -73,15 +72,15 @@ loop-step-preserved g c = (
       let k = c.loop-step.invariant.0 m st in
       let js = g.met.P.Port.lawful c.loop-step.port k.0 k.1 in
       let at = probe_is k.0 c.config.result t i c.terms-cells.result c.home-first.result (c.config.ensures m st ∙ k.2.setting) c.terms-cells.ensures c.home-first.ensures in
-      let n = c.in-Some.ensures.told k.0 k.1 (inside_later m k.0 s k.2 inside) (subst (λ z. z < cells_in k.0) (sym at) (probe_low k.0 t i js)) in
-      let o = c.if-is_term.ensures.told n.0 n.1 (inside_later k.0 n.0 s n.2 (inside_later m k.0 s k.2 inside)) n.4.0 in
+      let n = c.in-Some.ensures.told.told k.0 k.1 (inside_later m k.0 s k.2 inside, subst (λ z. z < cells_in k.0) (sym at) (probe_low k.0 t i js)) in
+      let o = c.if-is_term.ensures.told.told n.0 n.1 (inside_later k.0 n.0 s n.2 (inside_later m k.0 s k.2 inside), n.4.0) in
       let later = later_on k.0 n.0 o.0 n.2 o.2 in (
         o.0,
         o.1,
         later_on m k.0 o.0 k.2 later,
         g.met.P.Port.keeps_on c.args.port.now c.number_in.new.port c.is_term.new.port m n.0 o.0 (g.met.P.Port.keeps_on c.args.port.now c.loop-step.port c.number_in.new.port m k.0 n.0 k.3 n.3) o.3,
-        passed_more o.0 s t i c.in-Some.number (all_passed_later k.0 o.0 s t i later k.4) o.4
-            (cell_of_later n.0 o.0 s c.in-Some.number o.2 n.4.0 ∙ n.4.1 ∙ at ∙ sym (probe_later k.0 o.0 t i later)) (λ e. false≢true (o.5.1 e)),
+        passed_more o.0 s t i c.in-Some.number (all_passed_later k.0 o.0 s t i later k.4) o.4.0
+            (cell_of_later n.0 o.0 s c.in-Some.number o.2 n.4.0 ∙ n.4.1 ∙ at ∙ sym (probe_later k.0 o.0 t i later)) (λ e. false≢true (o.4.1.1 e)),
       )),
   (let r = c.requires in
       let s = c.args.segment in
@@ -90,9 +89,9 @@ loop-step-preserved g c = (
       let k = c.loop-step.invariant.0 r.0 r.1 in
       let js = g.met.P.Port.lawful c.loop-step.port k.0 k.1 in
       let at = probe_is k.0 c.config.result t i c.terms-cells.result c.home-first.result (c.config.ensures r.0 r.1 ∙ k.2.setting) c.terms-cells.ensures c.home-first.ensures in
-      let n = c.in-Some.ensures.told k.0 k.1 (inside_later r.0 k.0 s k.2 r.2) (subst (λ z. z < cells_in k.0) (sym at) (probe_low k.0 t i js)) in
-      let o = c.if-is_term.ensures.told n.0 n.1 (inside_later k.0 n.0 s n.2 (inside_later r.0 k.0 s k.2 r.2)) n.4.0 in
-      omega (arith, loads_more t (text_of (term_at o.0 s c.in-Some.number)) i c.args.steps.now c.loop-step.steps c.loop-step.invariant.1, o.6, c.in-Some.ensures.step)),
+      let n = c.in-Some.ensures.told.told k.0 k.1 (inside_later r.0 k.0 s k.2 r.2, subst (λ z. z < cells_in k.0) (sym at) (probe_low k.0 t i js)) in
+      let o = c.if-is_term.ensures.told.told n.0 n.1 (inside_later k.0 n.0 s n.2 (inside_later r.0 k.0 s k.2 r.2), n.4.0) in
+      omega (arith, loads_more t (text_of (term_at o.0 s c.in-Some.number)) i c.args.steps.now c.loop-step.steps c.loop-step.invariant.1, o.4.2, c.in-Some.ensures.step)),
 )
 
 pub returns : goal.returns

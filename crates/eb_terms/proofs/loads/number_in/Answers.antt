@@ -4,7 +4,8 @@ use Rattle.eb_place.specs.Layout.{place}
 use Rattle.eb_place.specs.Layout.Slot.{slot}
 use Rattle.eb_place.specs.Layout.Region.{cell_region}
 use Rattle.eb_place.specs.Moments.{word}
-use Rattle.eb_terms.proofs.Reading.{inside_later, cell_later, holds_number, number_small}
+use Rattle.eb_place.proofs.LaterMoments.{inside_later}
+use Rattle.eb_terms.proofs.Reading.{cell_later, holds_number, number_small}
 use Rattle.eb_terms.proofs.loads.number_in.Goals as goal
 
 pub overflow_cast-result : goal.overflow_cast-result
@@ -21,11 +22,15 @@ overflow_cast-result g c =
     omega (arith, few.0, few.1)
 
 pub returns-clause-told : goal.returns-clause-told
-returns-clause-told g c m st inside low =
-    let n = c.load-word.ensures.told m st in
-    let is = g.met.P.Port.lawful c.load-word.new.self n.0 n.1 in
-    let s = c.args.segment in
-    let at : c.cell.result ≡ place n.0.setting (slot s cell_region c.args.cell) = c.cell.ensures.place
-    ∙ ap (λ (σ : Setting). place σ (slot s cell_region c.args.cell)) (c.new-places.ensures ∙ c.config.ensures m st ∙ n.2.setting) in
-    let h = holds_number n.0 s c.args.cell c.load-word.result is (inside_later m n.0 s n.2 inside) (cell_later m n.0 c.args.cell n.2 low) (n.4 ∙ ap (word n.0) at) (omega arith) in
-    (n.0, n.1, n.2, n.3, h)
+returns-clause-told g c = record {
+  told = λ m st h.
+      (let inside = h.0 in
+      let low = h.1 in
+      let n = c.load-word.ensures.told m st in
+      let is = g.met.P.Port.lawful c.load-word.new.self n.0 n.1 in
+      let s = c.args.segment in
+      let at : c.cell.result ≡ place n.0.setting (slot s cell_region c.args.cell) = c.cell.ensures.place
+      ∙ ap (λ (σ : Setting). place σ (slot s cell_region c.args.cell)) (c.new-places.ensures ∙ c.config.ensures m st ∙ n.2.setting) in
+      let h = holds_number n.0 s c.args.cell c.load-word.result is (inside_later m n.0 s n.2 inside) (cell_later m n.0 c.args.cell n.2 low) (n.4 ∙ ap (word n.0) at) (omega arith) in
+      (n.0, n.1, n.2, n.3, h));
+}

@@ -4,7 +4,8 @@ use Rattle.eb_place.specs.Layout.{place}
 use Rattle.eb_place.specs.Layout.Slot.{slot}
 use Rattle.eb_place.specs.Layout.Region.{text_place_region}
 use Rattle.eb_place.specs.Moments.{word}
-use Rattle.eb_terms.proofs.Reading.{inside_later, number_later, number_small, start_is, start_small}
+use Rattle.eb_place.proofs.LaterMoments.{inside_later}
+use Rattle.eb_terms.proofs.Reading.{number_later, number_small, start_is, start_small}
 use Rattle.eb_terms.proofs.loads.start_of.Goals as goal
 
 pub text_place-requires-clause-term : goal.text_place-requires-clause-term
@@ -26,10 +27,14 @@ overflow_cast-result g c =
     omega (arith, start_small n.0 s c.args.number c.load.result is h)
 
 pub returns-clause-told : goal.returns-clause-told
-returns-clause-told g c m st inside low =
-    let n = c.load.ensures.told m st in
-    let is = g.met.P.Port.lawful c.load.new.self n.0 n.1 in
-    let s = c.args.segment in
-    let at : c.text_place.result ≡ place n.0.setting (slot s text_place_region c.args.number) = c.text_place.ensures.place
-    ∙ ap (λ (σ : Setting). place σ (slot s text_place_region c.args.number)) (c.new-places.ensures ∙ c.config.ensures m st ∙ n.2.setting) in
-    (n.0, n.1, n.2, n.3, start_is n.0 s c.args.number c.load.result is (inside_later m n.0 s n.2 inside) (number_later m n.0 s c.args.number n.2 low) (n.4 ∙ ap (word n.0) at))
+returns-clause-told g c = record {
+  told = λ m st h.
+      (let inside = h.0 in
+      let low = h.1 in
+      let n = c.load.ensures.told m st in
+      let is = g.met.P.Port.lawful c.load.new.self n.0 n.1 in
+      let s = c.args.segment in
+      let at : c.text_place.result ≡ place n.0.setting (slot s text_place_region c.args.number) = c.text_place.ensures.place
+      ∙ ap (λ (σ : Setting). place σ (slot s text_place_region c.args.number)) (c.new-places.ensures ∙ c.config.ensures m st ∙ n.2.setting) in
+      (n.0, n.1, n.2, n.3, start_is n.0 s c.args.number c.load.result is (inside_later m n.0 s n.2 inside) (number_later m n.0 s c.args.number n.2 low) (n.4 ∙ ap (word n.0) at)));
+}

@@ -28,12 +28,15 @@ text-requires-clause-at g c =
     omega (arith, text_low r.0 c.args.segment r.1 c.args.start c.args.at is r.3 r.4, ap (λ (σ : Setting). σ.terms) (c.new-places.ensures ∙ c.config.ensures r.0 r.2))
 
 pub returns-clause-told : goal.returns-clause-told
-returns-clause-told g c m k st h low =
-    let n = c.load.ensures.told m st in
-    let is = g.met.P.Port.lawful c.load.new.self n.0 n.1 in
-    let s = c.args.segment in
-    let at : c.text.result ≡ place n.0.setting (slot s text_region (c.args.start + c.args.at)) = c.text.ensures.place
-    ∙ ap (λ (σ : Setting). place σ (slot s text_region (c.args.start + c.args.at))) (c.new-places.ensures ∙ c.config.ensures m st ∙ n.2.setting) in
-    let same = ap text_words (same_term_later m n.0 s k n.2 h.number) in
-    let low' : c.args.at < text_words (term_at n.0 s k) = omega arith in
-    (n.0, n.1, n.2, n.3, text_is n.0 s k c.args.start c.args.at c.load.result is (text_later m n.0 s k c.args.start n.2 h) low' (n.4 ∙ ap (word n.0) at))
+returns-clause-told g c = λ k. record {
+  told = λ m st h.
+      (let low = h.1 in
+      let n = c.load.ensures.told m st in
+      let is = g.met.P.Port.lawful c.load.new.self n.0 n.1 in
+      let s = c.args.segment in
+      let at : c.text.result ≡ place n.0.setting (slot s text_region (c.args.start + c.args.at)) = c.text.ensures.place
+      ∙ ap (λ (σ : Setting). place σ (slot s text_region (c.args.start + c.args.at))) (c.new-places.ensures ∙ c.config.ensures m st ∙ n.2.setting) in
+      let same = ap text_words (same_term_later m n.0 s k n.2 h.0.number) in
+      let low' : c.args.at < text_words (term_at n.0 s k) = omega arith in
+      (n.0, n.1, n.2, n.3, text_is n.0 s k c.args.start c.args.at c.load.result is (text_later m n.0 s k c.args.start n.2 h.0) low' (n.4 ∙ ap (word n.0) at)));
+}

@@ -6,11 +6,11 @@ use Rattle.eb_place.specs.Layout.Slot.{slot}
 use Rattle.eb_place.specs.Layout.Region.{tail_region}
 use Rattle.eb_place.specs.Postings.{count_of}
 use Rattle.eb_place.specs.Moments.{word}
-use Rattle.eb_place.proofs.LaterMoments.{later_on}
+use Rattle.eb_place.proofs.LaterMoments.{later_on, inside_later}
 use Rattle.eb_place.proofs.ReaderWords.{tail_in_table}
 use Rattle.eb_chain.specs.Needs.{IsTailWord}
 use Rattle.eb_writer.specs.Counting.{tokens_in, IsFirst}
-use Rattle.eb_writer.proofs.Idle.{some_in, none_in, tail_in, tokens_same, idle_same, inside_same}
+use Rattle.eb_writer.proofs.Idle.{some_in, none_in, tail_in, tokens_same, idle_same}
 use Rattle.eb_writer.proofs.Finding.{known_later}
 use Rattle.eb_writer.proofs.counting.first_found.Goals as goal
 
@@ -20,7 +20,7 @@ tail-place-requires-clause-term g c =
     let s = c.args.segment in
     let n = c.in-Some.ensures.told r.0 r.1 in
     let f = g.met.P.Pen.pen_keeps _ _ r.0 n.0 n.3 in
-    let known = some_in n.0 s c.args.term.now c.in-Some.number (idle_same r.0 n.0 f r.2) (inside_same r.0 n.0 s n.2 r.3) n.4 in
+    let known = some_in n.0 s c.args.term.now c.in-Some.number (idle_same r.0 n.0 f r.2) (inside_later r.0 n.0 s n.2 r.3) n.4 in
     let b = (tail_in_table n.0 s c.args.term.now c.in-Some.number (g.met.P.Port.lawful _ n.0 n.1) known.term).0 in
     omega (arith, b, ap (λ (σ : Setting). σ.terms) (c.new.ensures ∙ c.config.ensures n.0 n.1))
 
@@ -31,7 +31,7 @@ returns-in-Some g c m st idle inside =
     let k = c.in-Some.number in
     let n = c.in-Some.ensures.told m st in
     let f = g.met.P.Pen.pen_keeps _ _ m n.0 n.3 in
-    let in_n = inside_same m n.0 s n.2 inside in
+    let in_n = inside_later m n.0 s n.2 inside in
     let idle_n = idle_same m n.0 f idle in
     let known = some_in n.0 s t k idle_n in_n n.4 in
     let o = c.load.ensures.told n.0 n.1 in
@@ -40,7 +40,7 @@ returns-in-Some g c m st idle inside =
     let l = later_on m n.0 o.0 n.2 o.2 in
     let at = c.tail-place.ensures.place ∙ ap (λ (σ : Setting). place σ (slot s tail_region k)) (c.new.ensures ∙ c.config.ensures n.0 n.1 ∙ o.2.setting) in
     let tail = subst (IsTailWord (count_of t (tokens_in o.0 s))) (sym (o.4 ∙ ap (word o.0) at))
-    (tail_in o.0 s t k (g.met.P.Port.lawful _ o.0 o.1) (idle_same n.0 o.0 h idle_n) (inside_same n.0 o.0 s o.2 in_n) there) in
+    (tail_in o.0 s t k (g.met.P.Port.lawful _ o.0 o.1) (idle_same n.0 o.0 h idle_n) (inside_later n.0 o.0 s o.2 in_n) there) in
     let some = there.some in (
       o.0,
       o.1,

@@ -1,16 +1,15 @@
 use Rattle.std.proofs.Common.{◌≡◌, ◌++◌, ◌∷◌, [], ◌∙◌, ap, sym, subst, refl, arith, length, take, append-nil, append_assoc, List, sum_by}
-use Rattle.std.proofs.lemmas.List.{take_all, length-replicate}
+use Rattle.std.proofs.lemmas.List.{take_all}
 use Rattle.eb_base.specs.Term.{Term}
-use Rattle.eb_base.specs.Document.{most_tokens}
+use Rattle.eb_base.proofs.Copying.{take_got}
 use Rattle.eb_place.specs.Postings.{distinct, count_of, number_of}
-use Rattle.eb_place.proofs.LaterMoments.{later_self, later_on}
+use Rattle.eb_place.proofs.LaterMoments.{later_self, later_on, inside_later}
 use Rattle.eb_place.proofs.TermCounts.{count_of-append}
-use Rattle.eb_writer.specs.declared.plan.Found.{Found}
 use Rattle.eb_writer.specs.Recall.{term_at}
 use Rattle.eb_writer.specs.Counting.{tokens_in, IsUsedBy, IsFound, AreFound}
 use Rattle.eb_writer.proofs.Recalling.{at_place}
-use Rattle.eb_writer.proofs.Idle.{ready_used, small_first, tokens_same, idle_same, inside_same}
-use Rattle.eb_writer.proofs.Tallies.{small_more, token_short, take_one}
+use Rattle.eb_writer.proofs.Idle.{ready_used, small_first, tokens_same, idle_same}
+use Rattle.eb_writer.proofs.Tallies.{small_more, token_short}
 use Rattle.eb_writer.proofs.Finding.{count_few, found_more}
 use Rattle.eb_writer.proofs.counting.make_plan.Goals as goal
 
@@ -47,7 +46,7 @@ found_at-token-requires-clause-ready g c =
       k.0,
       k.1,
       idle_same r.0 k.0 f r.2.idle,
-      inside_same r.0 k.0 s k.2 r.2.inside,
+      inside_later r.0 k.0 s k.2 r.2.inside,
       subst (λ (z : List Term). AreFound z c.terms-terms.result.now c.loop-at.plan.found c.loop-at.at) (sym (tokens_same r.0 k.0 s k.2 f)) k.4,
     )
 
@@ -63,7 +62,7 @@ with_token-plan-requires-clause-tail g c =
     let k = c.loop-at.invariant.0 m st ready in
     let f = g.met.P.Pen.pen_keeps _ _ m k.0 k.3 in
     let q = tokens_same m k.0 s k.2 f in
-    let o = c.found_at-token.ensures k.0 k.1 (idle_same m k.0 f ready.idle) (inside_same m k.0 s k.2 ready.inside) (subst (λ (z : List Term). AreFound z ts c.loop-at.plan.found i) (sym q) k.4)
+    let o = c.found_at-token.ensures k.0 k.1 (idle_same m k.0 f ready.idle) (inside_later m k.0 s k.2 ready.inside) (subst (λ (z : List Term). AreFound z ts c.loop-at.plan.found i) (sym q) k.4)
     (k.5.terms ∙ ap (λ (z : List Term). length (distinct (z ++ take i ts))) (sym q)) in
     let token = subst (λ (z : List Term). IsFound z ts i c.found_at-token.result) q o.4 in
     (count_of (term_at ts i) (tokens_in m s), token.tail)
@@ -80,7 +79,7 @@ with_token-plan-requires-clause-few g c =
     let k = c.loop-at.invariant.0 m st ready in
     let f = g.met.P.Pen.pen_keeps _ _ m k.0 k.3 in
     let q = tokens_same m k.0 s k.2 f in
-    let o = c.found_at-token.ensures k.0 k.1 (idle_same m k.0 f ready.idle) (inside_same m k.0 s k.2 ready.inside) (subst (λ (z : List Term). AreFound z ts c.loop-at.plan.found i) (sym q) k.4)
+    let o = c.found_at-token.ensures k.0 k.1 (idle_same m k.0 f ready.idle) (inside_later m k.0 s k.2 ready.inside) (subst (λ (z : List Term). AreFound z ts c.loop-at.plan.found i) (sym q) k.4)
     (k.5.terms ∙ ap (λ (z : List Term). length (distinct (z ++ take i ts))) (sym q)) in
     let token = subst (λ (z : List Term). IsFound z ts i c.found_at-token.result) q o.4 in
     let doc = c.terms-terms.ensures.document in
@@ -119,7 +118,7 @@ loop-at-preserved g c = (
       let k = c.loop-at.invariant.0 m st ready in
       let f = g.met.P.Pen.pen_keeps _ _ m k.0 k.3 in
       let q = tokens_same m k.0 s k.2 f in
-      let o = c.found_at-token.ensures k.0 k.1 (idle_same m k.0 f ready.idle) (inside_same m k.0 s k.2 ready.inside) (subst (λ (z : List Term). AreFound z ts c.loop-at.plan.found i) (sym q) k.4)
+      let o = c.found_at-token.ensures k.0 k.1 (idle_same m k.0 f ready.idle) (inside_later m k.0 s k.2 ready.inside) (subst (λ (z : List Term). AreFound z ts c.loop-at.plan.found i) (sym q) k.4)
       (k.5.terms ∙ ap (λ (z : List Term). length (distinct (z ++ take i ts))) (sym q)) in
       let token = subst (λ (z : List Term). IsFound z ts i c.found_at-token.result) q o.4 in
       let t = c.get.result.now in
@@ -132,7 +131,7 @@ loop-at-preserved g c = (
         later_on m k.0 o.0 k.2 o.2,
         g.met.P.Port.keeps_on _ _ _ m k.0 o.0 k.3 o.3,
         found_more A ts c.loop-at.plan.found i c.found_at-token.result k.4 token,
-        subst (IsUsedBy c.with_token-plan.result) (append_assoc A (take i ts) (t ∷ []) ∙ ap (λ (z : List Term). A ++ z) (sym (take_one ts i t c.get.ensures))) u,
+        subst (IsUsedBy c.with_token-plan.result) (append_assoc A (take i ts) (t ∷ []) ∙ ap (λ (z : List Term). A ++ z) (sym (take_got ts i t c.get.ensures))) u,
       )),
   c.remember.ensures,
   (let r = c.requires.ready in
@@ -145,7 +144,7 @@ loop-at-preserved g c = (
       let k = c.loop-at.invariant.0 m st ready in
       let f = g.met.P.Pen.pen_keeps _ _ m k.0 k.3 in
       let q = tokens_same m k.0 s k.2 f in
-      let o = c.found_at-token.ensures k.0 k.1 (idle_same m k.0 f ready.idle) (inside_same m k.0 s k.2 ready.inside) (subst (λ (z : List Term). AreFound z ts c.loop-at.plan.found i) (sym q) k.4)
+      let o = c.found_at-token.ensures k.0 k.1 (idle_same m k.0 f ready.idle) (inside_later m k.0 s k.2 ready.inside) (subst (λ (z : List Term). AreFound z ts c.loop-at.plan.found i) (sym q) k.4)
       (k.5.terms ∙ ap (λ (z : List Term). length (distinct (z ++ take i ts))) (sym q)) in
       let token = subst (λ (z : List Term). IsFound z ts i c.found_at-token.result) q o.4 in
       let t = c.get.result.now in

@@ -40,7 +40,7 @@ returns-then-token-used-clause-used c f before tail count number used =
     let h = c.with_slices-used.ensures in
     let o = one_more f e _ _ (c.needs-before.ensures f tail) (c.needs-after.ensures f tail) in
     used_new u _ t before (number_tells_new t before (sym number ∙ c.if-token-used.true ∙ h.others.1 ∙ used.terms)) used
-    (omega (arith, h.others.1)) (omega (arith, h.others.2, c.words_of_text.ensures))
+    (omega (arith, h.others.1)) (omega (arith, h.others.2, c.count_words.ensures.count))
     (slice_more 0 f e t before u.pool0 w.pool0 _ _ count o.pool0 h.pool0 used.pool0)
     (slice_more 1 f e t before u.pool1 w.pool1 _ _ count o.pool1 h.pool1 used.pool1)
     (slice_more 2 f e t before u.pool2 w.pool2 _ _ count o.pool2 h.pool2 used.pool2)

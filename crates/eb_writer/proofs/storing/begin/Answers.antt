@@ -23,10 +23,14 @@ store-requires g c =
     (r.0, r.1, begin_is r.0 c.args.document.now c.args.segment c.first-place.result (c.args.count + 1) (g.met.P.Port.lawful _ r.0 r.1) r.2 at (ap (λ k. k + 1) r.3))
 
 pub returns : goal.returns
-returns g c m st b n =
-    let d = c.args.document.now in
-    let is = g.met.P.Port.lawful _ m st in
-    let at = c.first-place.ensures.place ∙ ap (λ (σ : Setting). place σ (slot c.args.segment first_region 0)) (c.new.ensures ∙ c.config.ensures m st) in
-    let o = c.store.ensures m st (begin_is m d c.args.segment c.first-place.result (c.args.count + 1) is b at (ap (λ k. k + 1) n)) in
-    let h = begun m d c.args.segment is b in
-    (after_store m d, o.0, o.1, h.0, h.1)
+returns g c = record {
+  written = λ m st h.
+      (let b = h.0 in
+      let n = h.1 in
+      let d = c.args.document.now in
+      let is = g.met.P.Port.lawful _ m st in
+      let at = c.first-place.ensures.place ∙ ap (λ (σ : Setting). place σ (slot c.args.segment first_region 0)) (c.new.ensures ∙ c.config.ensures m st) in
+      let o = c.store.ensures m st (begin_is m d c.args.segment c.first-place.result (c.args.count + 1) is b at (ap (λ k. k + 1) n)) in
+      let h = begun m d c.args.segment is b in
+      (after_store m d, o.0, o.1, h));
+}

@@ -39,11 +39,13 @@ store-requires-2 g c =
     (after_store r.0 d, o.0, (last r.0 d c.args.segment (c.args.count + 1) r.2 (ap (λ k. k + 1) r.4)).next)
 
 pub returns : goal.returns
-returns g c m st h n k =
-    let d = c.args.document.now in
-    let at = c.id-place.ensures.place ∙ ap (λ (σ : Setting). place σ (slot c.args.segment id_region c.args.number)) (c.new.ensures ∙ c.config.ensures m st)
-    ∙ ap (λ z. place m.setting (slot c.args.segment id_region z)) n in
-    let o = c.store.ensures m st (id_is m d c.args.segment c.id-place.result c.id.result h at c.id.ensures) in
-    let l = last m d c.args.segment (c.args.count + 1) h (ap (λ z. z + 1) k) in
-    let p = c.store-2.ensures (after_store m d) o.0 l.next in
-    (after_store (after_store m d) d, p.0, g.met.P.Port.same_on _ _ _ o.1 p.1, l.accepted)
+returns g c = record {
+  written = λ m st q.
+      (let d = c.args.document.now in
+      let at = c.id-place.ensures.place ∙ ap (λ (σ : Setting). place σ (slot c.args.segment id_region c.args.number)) (c.new.ensures ∙ c.config.ensures m st)
+      ∙ ap (λ z. place m.setting (slot c.args.segment id_region z)) q.1 in
+      let o = c.store.ensures m st (id_is m d c.args.segment c.id-place.result c.id.result q.0 at c.id.ensures) in
+      let l = last m d c.args.segment (c.args.count + 1) q.0 (ap (λ z. z + 1) q.2) in
+      let p = c.store-2.ensures (after_store m d) o.0 l.next in
+      (after_store (after_store m d) d, p.0, g.met.P.Port.same_on _ _ _ o.1 p.1, l.accepted));
+}

@@ -19,27 +19,31 @@ directory-requires-clause-term g c =
     omega (arith, b, e)
 
 pub returns-clause-told : goal.returns-clause-told
-returns-clause-told g c m t st k l =
-    let n = c.load-word.ensures.told m st in
-    let js = g.met.P.Port.lawful c.load-word.new.self n.0 n.1 in
-    let h = later_term m n.0 c.args.segment t c.args.term n.2 l in
-    let e : c.directory.result ≡ place n.0.setting (slot c.args.segment directory_region c.args.term) = c.directory.ensures.place
-    ∙ ap (λ (σ : Setting). place σ (slot c.args.segment directory_region c.args.term)) (c.new-places.ensures ∙ c.config.ensures m st ∙ n.2.setting) in (
-      n.0,
-      n.1,
-      n.2,
-      n.3,
-      opens n.0 c.args.segment t c.args.term c.load-word.result _ js (later_converted m n.0 c.args.segment n.2 k) h (n.4 ∙ ap (word n.0) e) (record {
-        of_segment = refl;
-        at = refl;
-        held_bits = c.none.ensures.held;
-        low = c.none.ensures.low;
-        count = c.none.ensures.count;
-        width = refl;
-        inside = refl;
-        held = refl;
-        next = refl;
-        header = refl;
-        left = refl;
-      }),
-    )
+returns-clause-told g c = λ t. record {
+  told = λ m st h.
+      (let k = h.0 in
+      let l = h.1 in
+      let n = c.load-word.ensures.told m st in
+      let js = g.met.P.Port.lawful c.load-word.new.self n.0 n.1 in
+      let h = later_term m n.0 c.args.segment t c.args.term n.2 l in
+      let e : c.directory.result ≡ place n.0.setting (slot c.args.segment directory_region c.args.term) = c.directory.ensures.place
+      ∙ ap (λ (σ : Setting). place σ (slot c.args.segment directory_region c.args.term)) (c.new-places.ensures ∙ c.config.ensures m st ∙ n.2.setting) in (
+        n.0,
+        n.1,
+        n.2,
+        n.3,
+        opens n.0 c.args.segment t c.args.term c.load-word.result _ js (later_converted m n.0 c.args.segment n.2 k) h (n.4 ∙ ap (word n.0) e) (record {
+          of_segment = refl;
+          at = refl;
+          held_bits = c.none.ensures.held;
+          low = c.none.ensures.low;
+          count = c.none.ensures.count;
+          width = refl;
+          inside = refl;
+          held = refl;
+          next = refl;
+          header = refl;
+          left = refl;
+        }),
+      ));
+}

@@ -8,7 +8,7 @@ use Rattle.eb_block.proofs.Reading.{can_enter}
 use Rattle.eb_block.proofs.packed_list.PackedList.pass_block.Goals as goal
 
 pub returns-then-self-eq0-clause-told : goal.returns-then-self-eq0-clause-told
-returns-then-self-eq0-clause-told g c m s t rest b st h = (m, rest, b, st, later_self m, g.met.P.Port.keeps_itself c.args.port.now m st, h, omega arith, refl)
+returns-then-self-eq0-clause-told g c = λ s t rest b. record { told = λ m st h. (m, st, later_self m, g.met.P.Port.keeps_itself c.args.port.now m st, (rest, b, h, omega arith, refl)) }
 
 pub returns-then-is_at-clause-near : goal.returns-then-is_at-clause-near
 returns-then-is_at-clause-near g c z =
@@ -16,28 +16,32 @@ returns-then-is_at-clause-near g c z =
     inr (inr (subst (λ z. MatchBool z ((p.held ≡ true) × (p.last ≤ c.args.most)) (p.held ≡ true → c.args.most < p.last)) c.if-is_at.true c.is_at.ensures))
 
 pub returns-then-is_at-clause-told : goal.returns-then-is_at-clause-told
-returns-then-is_at-clause-told g c m s t rest b st h = (m, rest, b, st, later_self m, g.met.P.Port.keeps_itself c.args.port.now m st, h, omega arith, refl)
+returns-then-is_at-clause-told g c = λ s t rest b. record { told = λ m st h. (m, st, later_self m, g.met.P.Port.keeps_itself c.args.port.now m st, (rest, b, h, omega arith, refl)) }
 
 pub posting_in-requires : goal.posting_in-requires
 posting_in-requires g c =
     let r = c.requires in
-    let n = c.peek.ensures.told r.0 r.1 r.2 r.3 r.4 r.5 r.6 in
-    (can_enter (packed r.2 (segment n.0 r.1)) (list_start (segment n.0 r.1) n.5.number) c.peek.new.self r.3 n.1 n.5.reads c.peek.ensures.loaded).small
+    let n = (c.peek.ensures.told r.1 r.2 r.3 r.4).told r.0 r.5 r.6 in
+    (can_enter (packed r.2 (segment n.0 r.1)) (list_start (segment n.0 r.1) n.4.1.number) c.peek.new.self r.3 n.4.0 n.4.1.reads c.peek.ensures.loaded).small
 
 pub returns-then-posting_in-most-clause-told : goal.returns-then-posting_in-most-clause-told
-returns-then-posting_in-most-clause-told g c m s t rest b st h =
-    let n = c.peek.ensures.told m s t rest b st h in
-    (n.0, rest, n.1, n.2, n.3, n.4, n.5, omega (arith, n.6), refl)
+returns-then-posting_in-most-clause-told g c = λ s t rest b. record {
+  told = λ m st h.
+      (let n = (c.peek.ensures.told s t rest b).told m st h in
+      (n.0, n.1, n.2, n.3, (rest, n.4.0, n.4.1, omega (arith, n.4.2), refl)));
+}
 
 pub enter-requires-clause-reads : goal.enter-requires-clause-reads
 enter-requires-clause-reads g c =
     let r = c.requires in
-    let n = c.peek.ensures.told r.0 r.1 r.2 r.3 r.4 r.5 r.6 in
-    (n.0, r.1, r.2, r.3, n.1, n.5)
+    let n = (c.peek.ensures.told r.1 r.2 r.3 r.4).told r.0 r.5 r.6 in
+    (n.0, r.1, r.2, r.3, n.4.0, n.4.1)
 
 pub returns-clause-told : goal.returns-clause-told
-returns-clause-told g c m s t rest b st h =
-    let n = c.peek.ensures.told m s t rest b st h in
-    let k = c.enter.ensures.told n.0 s t rest n.1 n.5 in
-    let low : k.1 ≤ n.1 = k.3 in
-    (n.0, k.0, k.1, n.2, n.3, n.4, k.2, omega (arith, n.6, low), k.4.skips c.args.most (omega (arith, c.posting_in.ensures, c.if-posting_in-most.false)))
+returns-clause-told g c = λ s t rest b. record {
+  told = λ m st h.
+      (let n = (c.peek.ensures.told s t rest b).told m st h in
+      let k = c.enter.ensures.told n.0 s t rest n.4.0 n.4.1 in
+      let low : k.1 ≤ n.4.0 = k.3 in
+      (n.0, n.1, n.2, n.3, (k.0, k.1, k.2, omega (arith, n.4.2, low), k.4.skips c.args.most (omega (arith, c.posting_in.ensures, c.if-posting_in-most.false)))));
+}

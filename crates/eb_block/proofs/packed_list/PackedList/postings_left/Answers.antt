@@ -1,4 +1,4 @@
-use Rattle.std.proofs.Common.{◌≡◌, Bool, true, false, if◌then◌else◌, refl, ◌∙◌, arith}
+use Rattle.std.proofs.Common.{◌≡◌, Bool, true, false, if◌then◌else◌, refl, arith}
 use mir.Val.{bool_byte}
 use Rattle.eb_place.specs.Packed.{packed}
 use Rattle.eb_place.specs.PackedLists.{list_start}

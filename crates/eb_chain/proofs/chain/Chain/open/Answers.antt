@@ -30,11 +30,13 @@ way_from-requires g c =
     tail_low n.0 c.args.segment r.1 c.load-tail.result js h.inside w
 
 pub returns-clause-told : goal.returns-clause-told
-returns-clause-told g c m t st l =
-    let n = c.load-tail.ensures.told m st in
-    let js = g.met.P.Port.lawful c.load-tail.new.self n.0 n.1 in
-    let h = later_term m n.0 c.args.segment t c.args.term n.2 l in
-    let e : c.tail.result ≡ place n.0.setting (slot c.args.segment tail_region c.args.term) = c.tail.ensures.place
-    ∙ ap (λ (σ : Setting). place σ (slot c.args.segment tail_region c.args.term)) (c.new-places.ensures ∙ c.config.ensures m st ∙ n.2.setting) in
-    let w = n.4 ∙ ap (word n.0) e ∙ word_tail n.0 c.args.segment t c.args.term js h in
-    (n.0, n.1, n.2, n.3, opens n.0 c.args.segment t c.load-tail.result c.way_from.result js h.inside w c.way_from.ensures)
+returns-clause-told g c = λ t. record {
+  told = λ m st l.
+      (let n = c.load-tail.ensures.told m st in
+      let js = g.met.P.Port.lawful c.load-tail.new.self n.0 n.1 in
+      let h = later_term m n.0 c.args.segment t c.args.term n.2 l in
+      let e : c.tail.result ≡ place n.0.setting (slot c.args.segment tail_region c.args.term) = c.tail.ensures.place
+      ∙ ap (λ (σ : Setting). place σ (slot c.args.segment tail_region c.args.term)) (c.new-places.ensures ∙ c.config.ensures m st ∙ n.2.setting) in
+      let w = n.4 ∙ ap (word n.0) e ∙ word_tail n.0 c.args.segment t c.args.term js h in
+      (n.0, n.1, n.2, n.3, opens n.0 c.args.segment t c.load-tail.result c.way_from.result js h.inside w c.way_from.ensures));
+}

@@ -5,12 +5,12 @@ use Rattle.eb_trials.proofs.tests.packing.ask.Goals as goal
 pub loop-preserved : goal.loop-preserved
 loop-preserved g c =
     let v = c.loop.invariant in
-    let n = c.next.ensures.told v.1 v.2 v.3 v.4 v.5 v.6 v.7 in
-    let w = still_listed n.0 _ _ _ _ _ _ n.5 in
-    (n.4.0 ∙ v.0, n.0, v.2, v.3, w.0, n.1, n.2, w.1)
+    let n = (c.next.ensures.told v.2 v.3 v.4 v.5).told v.1 v.6 v.7 in
+    let w = still_listed n.0 _ _ _ _ _ _ n.4.1 in
+    (n.3.0 ∙ v.0, n.0, v.2, v.3, w.0, n.4.0, n.1, w.1)
 
 pub returns-in_err-push : goal.returns-in_err-push
 returns-in_err-push g c =
     let v = c.loop.invariant in
-    let n = c.next.ensures.told v.1 v.2 v.3 v.4 v.5 v.6 v.7 in
-    n.4.0 ∙ v.0
+    let n = (c.next.ensures.told v.2 v.3 v.4 v.5).told v.1 v.6 v.7 in
+    n.3.0 ∙ v.0

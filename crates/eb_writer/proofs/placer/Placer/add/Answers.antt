@@ -34,12 +34,12 @@ returns-clause-ok g c m st h =
     let h' = subst (λ z. Stands z n.0) (sym (c.self.view_is ∙ N.0)) hn in
     let low : length (cut n.0.setting n.0.documents.accepted) < n.0.setting.segments =
     omega (arith, c.if-self-segments.false, c.segments.ensures, h'.segments, ap (λ (σ : Setting). σ.segments) h'.setting, segments_few n.0 (g.met.P.Port.lawful _ n.0 n.1)) in
-    let o = c.begin_next.ensures n.0 n.1 (subst (λ z. Stands z n.0) (sym N.0) hn) (full_same m n.0 d n.4 n.5 n.3) low in (
+    let o = c.begin_next.ensures.written n.0 n.1 (subst (λ z. Stands z n.0) (sym N.0) hn, full_same m n.0 d n.4 n.5 n.3, low) in (
       o.0,
       o.1,
       g.met.P.Port.same_on _ _ _ (g.met.P.Port.keeps_same _ _ m n.0 n.2) o.2,
-      (λ i. has_room (n.4.setting i) ((sym n.5 i).accepted) d) ∙ o.3,
-      accepted_same m n.0 o.0 d n.4 n.5 o.4,
-      o.5 ∙ ap (λ (x : Documents). length x.accepted + 1) n.5,
-      o.6,
+      (λ i. has_room (n.4.setting i) ((sym n.5 i).accepted) d) ∙ o.3.0,
+      accepted_same m n.0 o.0 d n.4 n.5 o.3.1,
+      o.3.2 ∙ ap (λ (x : Documents). length x.accepted + 1) n.5,
+      o.3.3,
     )

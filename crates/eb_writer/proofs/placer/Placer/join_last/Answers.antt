@@ -47,14 +47,14 @@ returns g c m st hh =
     let n = c.make_plan.ensures m st (last_ready _ m is h some) in
     let e = g.met.P.Pen.pen_keeps _ _ m n.0 n.3 in
     let b = starts_last _ m n.0 d c.make_plan.new.plan is (g.met.P.Port.lawful _ n.0 n.1) n.2 e h some n.4 (sym c.is_within.ensures ∙ c.if-not-is_within.false) in
-    let o = c.store_rest-self-inside.ensures n.0 n.1 b.come b.tells b.tokens b.counted in
+    let o = c.store_rest-self-inside.ensures.written n.0 n.1 (b.come, b.tells, b.tokens, b.counted) in
     let p : Progress = record { setting = c.self.inside.config; segments = c.self.inside.segments; documents = c.self.inside.documents; used = c.self.inside.used } in
     let q : Progress = record { setting = c.self.inside.config; segments = c.self.inside.segments; documents = c.self.inside.documents + 1; used = c.store_rest-self-inside.result } in (
       o.0,
       o.1,
       g.met.P.Port.same_on _ _ _ (g.met.P.Port.keeps_same _ _ m n.0 n.3) o.2,
       b.room,
-      accepted_same m n.0 o.0 d n.2 e o.3,
+      accepted_same m n.0 o.0 d n.2 e o.3.0,
       omega (arith, h.documents),
-      stands_accepted p q n.0 o.0 d (c.self.inside.segments - 1) (stands_same p m n.0 n.2 e h) b.placed o.3 refl (omega arith) refl o.4,
+      stands_accepted p q n.0 o.0 d (c.self.inside.segments - 1) (stands_same p m n.0 n.2 e h) b.placed o.3.0 refl (omega arith) refl o.3.1,
     )

@@ -1,25 +1,31 @@
--- Some stores of a placing, one after the other.
+-- The next stores of a placing, one after the other.
 use Rattle.std.proofs.Common.{◌≡◌, ℕ, zero, suc, ◌+◌, ◌-◌, ◌<◌, ◌≤◌, true, ltb, List, [], ◌∷◌, ◌++◌, length, take, drop}
-use Rattle.std.proofs.Common.{refl, ap, sym, ◌∙◌, subst, arith, inl, inr, append-nil, append_assoc, slice_get, Some}
+use Rattle.std.proofs.Common.{Bool, refl, ap, sym, ◌∙◌, subst, arith, inl, inr, append-nil, append_assoc, slice_get, Some}
 use Rattle.std.proofs.lemmas.Bool.{lt-ltb, cases_lt}
 use Rattle.std.proofs.lemmas.List.{length_push, length-append, length-drop}
 use Rattle.eb_base.specs.Document.{Doc}
 use Rattle.eb_base.specs.Setting.{Setting}
 use Rattle.eb_place.specs.declared.moment.Documents.{Documents}
 use Rattle.eb_place.specs.declared.moment.Moment.{Moment}
-use Rattle.eb_place.specs.Layout.{place}
+use Rattle.eb_place.specs.Layout.{place, pool_slot}
 use Rattle.eb_place.specs.Layout.Slot.{published}
 use Rattle.eb_place.specs.Room.{has_room, cut, with_doc}
 use Rattle.eb_place.specs.Placing.{Store, pairs_of, doc_stores, segment_before}
-use Rattle.eb_place.specs.Moments.{document_stores, IsMoment}
+use Rattle.eb_place.specs.Moments.{document_stores, IsMoment, current_of}
 use Rattle.eb_place.specs.Later.{IsNotBefore}
-use Rattle.eb_place.specs.NextStores.{stores_done, IsCurrent, IsNext, after_store, documents_after}
-use Rattle.eb_place.proofs.FreshPoolWords.{Each}
+use Rattle.eb_place.specs.NextStores.{stores_done, IsCurrent, IsNext, AreNext, with_stores, with_placed, after_store, documents_after}
+use Rattle.eb_place.proofs.FreshPoolWords.{Each, Each-drop, each_head}
+use Rattle.eb_place.proofs.FreshPoolWords.Each.{none, more}
 use Rattle.eb_place.proofs.CountWords.{body, body_split}
 use Rattle.eb_place.proofs.LaterMoments.{later_self, later_on}
 use Rattle.eb_place.proofs.NextStore.{next_store, stored_stores, take_next, each_at}
 use Rattle.eb_place.proofs.AfterStore.{moment_stored, later_stored}
-use Rattle.eb_terms.specs.Entering.{AreNext, with_placed}
+use Rattle.eb_place.proofs.PlacesOfSlots.{InTable}
+use Rattle.eb_place.proofs.NextPuts.{next_pair, left_after}
+use Rattle.eb_place.proofs.StoresWithinTable.{IsWithin}
+use Rattle.eb_place.proofs.StoringTokens.{Each-front}
+use Rattle.eb_place.proofs.StoresOfDocuments.{doc_within}
+use Rattle.eb_place.proofs.WordsAtMoment.{placed_all, joins, lawful_front}
 
 -- ---- elements of lists
 
@@ -50,9 +56,9 @@ unfoldable pub after_stores : ℕ → Moment → Doc → Moment
 after_stores zero m d = m
 after_stores (suc k) m d = after_store (after_stores k m d) d
 
--- more stores of the placing come behind these
-abbrev pub GoesOn : Moment → Doc → List Store → Type 0
-GoesOn m d stores = stores_done m.documents.current + length stores < length (doc_stores m.setting m.documents.accepted d)
+-- more stores of the placing come after these
+abbrev pub HasMoreAfter : Moment → Doc → List Store → Type 0
+HasMoreAfter m d stores = stores_done m.documents.current + length stores < length (doc_stores m.setting m.documents.accepted d)
 
 -- what is known after k of the next stores
 pub record After (m : Moment) (d : Doc) (stores : List Store) (k : ℕ) (a : Moment) : Type 0 where
@@ -79,9 +85,10 @@ next_of m a d stores k x n h e =
     }
 
 -- one more of them
-after_more : (m a : Moment) (d : Doc) (stores : List Store) (k : ℕ) → AreNext m d stores → GoesOn m d stores → k < length stores → After m d stores k a → After m d stores (suc k) (after_store a d)
+after_more : (m a : Moment) (d : Doc) (stores : List Store) (k : ℕ) → AreNext m d stores → HasMoreAfter m d stores
+    → k < length stores → After m d stores k a → After m d stores (suc k) (after_store a d)
 unfolding after_store
-after_more m a d stores k n more low h =
+after_more m a d stores k n goes low h =
     let x = get_some stores k low in
     let next = next_of m a d stores k x.0 n h x.1 in
     let s = next_store a d (place m.setting x.0.0) x.0.1 next in
@@ -108,9 +115,9 @@ after_more m a d stores k n more low h =
     }
 
 -- any number of them
-pub after_is : (m : Moment) (d : Doc) (stores : List Store) (k : ℕ) → IsMoment m → AreNext m d stores → GoesOn m d stores → k ≤ length stores → After m d stores k (after_stores k m d)
+pub after_is : (m : Moment) (d : Doc) (stores : List Store) (k : ℕ) → IsMoment m → AreNext m d stores → HasMoreAfter m d stores → k ≤ length stores → After m d stores k (after_stores k m d)
 unfolding after_stores
-after_is m d stores zero is n more low = record {
+after_is m d stores zero is n goes low = record {
   setting = refl;
   accepted = refl;
   current = n.current;
@@ -120,14 +127,15 @@ after_is m d stores zero is n more low = record {
   later = later_self m;
   written = sym (append-nil (document_stores m.setting m.documents));
 }
-after_is m d stores (suc k) is n more low = after_more m (after_stores k m d) d stores k n more (omega arith) (after_is m d stores k is n more (omega arith))
+after_is m d stores (suc k) is n goes low = after_more m (after_stores k m d) d stores k n goes (omega arith) (after_is m d stores k is n goes (omega arith))
 
 -- the moment after them, where there is one
-pub after_closed : (m : Moment) (d : Doc) (stores : List Store) (k : ℕ) → IsMoment m → AreNext m d stores → GoesOn m d stores → k < length stores → after_stores (suc k) m d ≡ with_placed m d (suc k)
+pub after_closed : (m : Moment) (d : Doc) (stores : List Store) (k : ℕ) → IsMoment m → AreNext m d stores → HasMoreAfter m d stores
+    → k < length stores → after_stores (suc k) m d ≡ with_placed m d (suc k)
 unfolding after_stores after_store
-after_closed m d stores k is n more low =
+after_closed m d stores k is n goes low =
     let a = after_stores k m d in
-    let h = after_is m d stores k is n more (omega arith) in
+    let h = after_is m d stores k is n goes (omega arith) in
     let long : ltb (suc (stores_done a.documents.current)) (length (doc_stores a.setting a.documents.accepted d)) ≡ true =
     lt-ltb _ _ (omega (arith, h.done, ap (λ (z : List Store). length z) (λ j. doc_stores (h.setting j) (h.accepted j) d))) in
     let number : suc (stores_done a.documents.current) ≡ stores_done m.documents.current + suc k = omega (arith, h.done) in
@@ -148,24 +156,24 @@ unfolding after_stores
 after_one m d k = ap (λ n. after_stores n m d) (let e : k + 1 ≡ suc k = omega arith in e)
 
 -- the moment after some of the next stores
-pub placed_is : (m : Moment) (d : Doc) (stores : List Store) (k : ℕ) → IsMoment m → AreNext m d stores → GoesOn m d stores → 1 ≤ k → k ≤ length stores → after_stores k m d ≡ with_placed m d k
-placed_is m d stores zero is n more some low = absurd (omega arith)
-placed_is m d stores (suc k) is n more some low = after_closed m d stores k is n more (omega arith)
+pub placed_is : (m : Moment) (d : Doc) (stores : List Store) (k : ℕ) → IsMoment m → AreNext m d stores → HasMoreAfter m d stores → 1 ≤ k → k ≤ length stores → after_stores k m d ≡ with_placed m d k
+placed_is m d stores zero is n goes some low = absurd (omega arith)
+placed_is m d stores (suc k) is n goes some low = after_closed m d stores k is n goes (omega arith)
 
 -- what is known of it
-pub placed_after : (m : Moment) (d : Doc) (stores : List Store) (k : ℕ) → IsMoment m → AreNext m d stores → GoesOn m d stores → 1 ≤ k → k ≤ length stores → After m d stores k (with_placed m d k)
-placed_after m d stores k is n more some low = subst (After m d stores k) (placed_is m d stores k is n more some low) (after_is m d stores k is n more low)
+pub placed_after : (m : Moment) (d : Doc) (stores : List Store) (k : ℕ) → IsMoment m → AreNext m d stores → HasMoreAfter m d stores → 1 ≤ k → k ≤ length stores → After m d stores k (with_placed m d k)
+placed_after m d stores k is n goes some low = subst (After m d stores k) (placed_is m d stores k is n goes some low) (after_is m d stores k is n goes low)
 
 -- the next store there
-pub placed_next : (m : Moment) (d : Doc) (stores : List Store) (k : ℕ) (x : Store) → IsMoment m → AreNext m d stores → GoesOn m d stores
+pub placed_next : (m : Moment) (d : Doc) (stores : List Store) (k : ℕ) (x : Store) → IsMoment m → AreNext m d stores → HasMoreAfter m d stores
     → 1 ≤ k → k < length stores → slice_get stores k ≡ Some x → IsNext (with_placed m d k) d (place m.setting x.0) x.1
-placed_next m d stores k x is n more some low e = next_of m (with_placed m d k) d stores k x n (placed_after m d stores k is n more some (omega arith)) e
+placed_next m d stores k x is n goes some low e = next_of m (with_placed m d k) d stores k x n (placed_after m d stores k is n goes some (omega arith)) e
 
 -- and the moment after it
 pub placed_more : (m : Moment) (d : Doc) (stores : List Store) (k : ℕ) → IsMoment m → AreNext m d stores
-    → GoesOn m d stores → 1 ≤ k → k < length stores → after_store (with_placed m d k) d ≡ with_placed m d (k + 1)
-placed_more m d stores k is n more some low =
-    ap (λ z. after_store z d) (sym (placed_is m d stores k is n more some (omega arith))) ∙ sym (after_one m d k) ∙ placed_is m d stores (k + 1) is n more (omega arith) (omega arith)
+    → HasMoreAfter m d stores → 1 ≤ k → k < length stores → after_store (with_placed m d k) d ≡ with_placed m d (k + 1)
+placed_more m d stores k is n goes some low =
+    ap (λ z. after_store z d) (sym (placed_is m d stores k is n goes some (omega arith))) ∙ sym (after_one m d k) ∙ placed_is m d stores (k + 1) is n goes (omega arith) (omega arith)
 
 -- the same store, given otherwise
 pub next_as : (m : Moment) (d : Doc) (p q v w : ℕ) → IsNext m d p v → q ≡ p → w ≡ v → IsNext m d q w
@@ -182,7 +190,7 @@ pub get_at : {X : Type 0} (xs ys : List X) (y : X) (k : ℕ) → k ≡ length xs
 get_at xs ys y k e = ap (slice_get (xs ++ y ∷ ys)) e ∙ get_seam xs ys y
 
 -- behind next stores of which none is that of the count, more come
-pub goes_on : (m : Moment) (d : Doc) (stores : List Store) → AreNext m d stores → 1 ≤ length stores → Each (λ (y : Store). y.0 ≡ published → ⊥) stores → GoesOn m d stores
+pub goes_on : (m : Moment) (d : Doc) (stores : List Store) → AreNext m d stores → 1 ≤ length stores → Each (λ (y : Store). y.0 ≡ published → ⊥) stores → HasMoreAfter m d stores
 unfolding doc_stores
 goes_on m d stores n some plain =
     let σ = m.setting in
@@ -207,3 +215,65 @@ goes_on m d stores n some plain =
           let same : x.0 ≡ z = cc in
           absurd (each_at stores k x.0 plain x.1 (ap (λ (w : Store). w.0) same))
     ]
+
+-- the next stores go to words of the index
+pub next_within : (m : Moment) (d : Doc) (stores : List Store) → IsMoment m → AreNext m d stores → Each (IsWithin m.setting) stores
+next_within m d stores is n =
+    let σ = m.setting in
+    let docs = m.documents.accepted in
+    let lawful = lawful_front σ docs (current_of m.documents.current) is.lawful in
+    let j = joins σ docs d is.setting (placed_all σ docs is.setting lawful).short (record { limits = n.limits; there = n.room }) in
+    let all : Each (IsWithin σ) (doc_stores σ docs d) = subst (Each (IsWithin σ)) (sym j.stores) (doc_within σ _ _ (length docs) d j.room j.few) in
+    Each-front stores n.front.0 (subst (Each (IsWithin σ)) (sym n.front.1) (Each-drop (stores_done m.documents.current) all))
+
+-- ---- one after the other
+
+-- a word of a region is not that of the count
+pub pool_counts_nothing : (s a : ℕ) → pool_slot s a ≡ published → ⊥
+unfolding pool_slot
+pool_counts_nothing s a e = absurd cc
+
+-- the first of them goes to a word of the index
+pub first_in_table : (m : Moment) (d : Doc) (x : Store) (now : List Store) → IsMoment m → AreNext m d (x ∷ now) → InTable m.setting x.0
+first_in_table m d x now is h = each_head x now (next_within m d (x ∷ now) is h)
+
+-- and is the next store of the placing
+pub first_next : (m : Moment) (d : Doc) (x : Store) (now : List Store) → AreNext m d (x ∷ now) → IsNext m d (place m.setting x.0) x.1
+first_next m d x now h = record {
+  limits = h.limits;
+  room = h.room;
+  current = h.current;
+  pair = (next_pair m.setting (doc_stores m.setting m.documents.accepted d) (stores_done m.documents.current) x (now ++ h.front.0) (sym h.front.1)).0;
+}
+
+-- by its place and value
+pub next_at : (m : Moment) (d : Doc) (x : Store) (now : List Store) (at value : ℕ) → AreNext m d (x ∷ now) → at ≡ place m.setting x.0 → value ≡ x.1 → IsNext m d at value
+next_at m d x now at value h p v = next_as m d (place m.setting x.0) at x.1 value (first_next m d x now h) p v
+
+-- after the first the others come next, where it isn't the count
+pub record One (m : Moment) (d : Doc) (x : Store) (now : List Store) : Type 0 where
+  pub next : IsNext m d (place m.setting x.0) x.1
+  pub documents : (after_store m d).documents ≡ with_stores m.documents d 1
+  pub rest : AreNext (after_store m d) d now
+  pub later : IsNotBefore (after_store m d) m
+
+pub one_stored : (m : Moment) (d : Doc) (x : Store) (now : List Store) → AreNext m d (x ∷ now) → (x.0 ≡ published → ⊥) → One m d x now
+unfolding after_store
+one_stored m d x now h plain =
+    let X = doc_stores m.setting m.documents.accepted d in
+    let i = stores_done m.documents.current in
+    let long : suc i < length X = (let o = goes_on m d (x ∷ []) (next_front m d (x ∷ []) now h) (omega arith) (more plain none) in omega arith) in
+    let q : suc i ≡ i + 1 = omega arith in
+    let documents : documents_after (ltb (suc i) (length X)) m.documents.accepted d (suc i) ≡ with_stores m.documents d 1 =
+    ap (λ (b : Bool). documents_after b m.documents.accepted d (suc i)) (lt-ltb _ _ long) ∙ ap (λ k. record { accepted = m.documents.accepted; current = Some (d, k) }) q in
+    record {
+      next = first_next m d x now h;
+      documents = documents;
+      rest = subst (λ (z : Documents). AreNext record { setting = m.setting; documents = z; conversions = m.conversions } d now) (sym documents) (record {
+        limits = h.limits;
+        room = h.room;
+        current = refl;
+        front = (h.front.0, sym (ap (λ k. drop k X) (sym q) ∙ left_after X i x (now ++ h.front.0) (sym h.front.1)));
+      });
+      later = later_stored m d h.current;
+    }

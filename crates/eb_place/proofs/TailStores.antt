@@ -1,32 +1,29 @@
 -- How many tails of a segment are stored.
-use Rattle.std.proofs.Common.{◌≡◌, ℕ, zero, suc, ◌+◌, ◌-◌, ◌*◌, ◌/◌, ◌%◌, ◌^◌, ◌≤◌, ◌==◌, ◌&&◌, false, List, [], ◌∷◌, ◌++◌}
-use Rattle.std.proofs.Common.{length, take, filter, refl, ap, sym, ◌∙◌, arith, inl, inr, append-nil, append_assoc, nat_le, sum_by}
-use Rattle.std.proofs.lemmas.Bool.{cases_Bool, eqb-true}
+use Rattle.std.proofs.Common.{◌≡◌, ℕ, suc, ◌+◌, ◌-◌, ◌≤◌, ◌==◌, ◌&&◌, false, List, [], ◌∷◌, ◌++◌, get_or, count_by}
+use Rattle.std.proofs.Common.{length, take, filter, refl, ap, sym, ◌∙◌, arith, append-nil, append_assoc, nat_le}
 use Rattle.std.proofs.lemmas.List.{take-append-le}
 use Rattle.std.proofs.lemmas.List.Elements.{filter-append}
 use Rattle.std.proofs.lemmas.List.Sums.{length-filter}
 use Rattle.eb_base.specs.Term.{Term}
 use Rattle.eb_base.specs.Setting.{Setting}
 use Rattle.eb_place.specs.declared.moment.Moment.{Moment}
-use Rattle.eb_place.specs.Layout.{Region, pool_slot, pool_region}
-use Rattle.eb_place.specs.Layout.Slot.{published, slot}
-use Rattle.eb_place.specs.Layout.Region.{first_region, cell_region, text_region, text_place_region, tail_region, id_region}
+use Rattle.eb_place.specs.Layout.Region.{first_region, tail_region, id_region}
 use Rattle.eb_place.specs.Postings.{count_of, number_of, distinct, terms_of}
-use Rattle.eb_place.specs.Room.{text_words}
+use Rattle.eb_place.specs.Room.{cut}
 use Rattle.eb_place.specs.Address.{pool_at, begins, address_of}
-use Rattle.eb_place.specs.Placing.{Store, in_row, text_of, enter_stores, cell_of_next}
-use Rattle.eb_place.specs.Moments.{document_stores}
+use Rattle.eb_place.specs.Placing.{Store}
+use Rattle.eb_place.specs.Moments.{document_stores, with_current}
 use Rattle.eb_place.specs.Later.{IsNotBefore}
 use Rattle.eb_place.specs.Seen.{segment, is_in, stores_in_region, tokens_seen}
 use Rattle.eb_place.proofs.FreshPoolWords.{Each, Each-append, Each-if}
 use Rattle.eb_place.proofs.FreshPoolWords.Each.{none, more}
 use Rattle.eb_place.proofs.WordsOfTokens.{front_stores, tail_store, token_split}
-use Rattle.eb_place.proofs.StoresOfDocuments.{Elsewhere}
 use Rattle.eb_place.proofs.WordsOfHistories.{terms_more}
 use Rattle.eb_place.proofs.Prefixes.{prefix_length}
 use Rattle.eb_place.proofs.ReachedLater.{later_segment}
 use Rattle.eb_place.proofs.RegionStores.{Picks, filter_none, picks_done}
-use Rattle.eb_place.proofs.EntryStores.{in_region, not_in}
+use Rattle.eb_place.proofs.EntryStores.{in_region, not_in, elsewhere_in}
+use Rattle.eb_place.proofs.RegionCounts.{tail_pool, enter_no_tail}
 
 -- the stores of the tails of further tokens, one after the other
 unfoldable pub tail_stores : ℕ → List Term → List Term → List Store
@@ -46,38 +43,11 @@ length-tail_stores s before (u ∷ us) = ap suc (length-tail_stores s (before ++
 
 -- ---- the test
 
-elsewhere_in : (s : ℕ) (r : Region) (y : Store) → Elsewhere s y → is_in s r y ≡ false
-elsewhere_in s r (published, w) h = refl
-elsewhere_in s r (slot v q i, w) h = elim (cases_Bool (v == s)) [
-  | inl here ↦ absurd (h q i (let e : v ≡ s = eqb-true v s here in ap (λ z. slot z q i) e))
-  | inr away ↦ rw away refl
-]
-
-pool_not_tail : (s a w : ℕ) → is_in s tail_region (pool_slot s a, w) ≡ false
-unfolding pool_slot
-pool_not_tail s a w = region (a / 2 ^ 30) (a % 2 ^ 30)
-  where
-    region : (p i : ℕ) → is_in s tail_region (slot s (pool_region p) i, w) ≡ false
-    region zero i = not_in s s tail_region (pool_region 0) i w refl
-    region (suc zero) i = not_in s s tail_region (pool_region 1) i w refl
-    region (suc (suc zero)) i = not_in s s tail_region (pool_region 2) i w refl
-    region (suc (suc (suc p))) i = not_in s s tail_region (pool_region 3) i w refl
-
-row_not_tail : (s i : ℕ) (vs : List ℕ) → Each (λ (y : Store). is_in s tail_region y ≡ false) (in_row s text_region i vs)
-row_not_tail s i [] = none
-row_not_tail s i (v ∷ vs) = more (not_in s s tail_region text_region i v refl) (row_not_tail s (i + 1) vs)
-
--- the stores that enter a term store no tail
-pub enter_not_tail : (σ : Setting) (s : ℕ) (terms : List Term) (t : Term) → Each (λ (y : Store). is_in s tail_region y ≡ false) (enter_stores σ s terms t)
-unfolding enter_stores
-enter_not_tail σ s terms t = Each-append (row_not_tail s (sum_by text_words terms) (text_of t)) (more (not_in s s tail_region text_place_region (length terms) (sum_by text_words terms) refl)
-    (more (not_in s s tail_region cell_region (cell_of_next (2 * σ.terms) terms t) (length terms + 1) refl) none))
-
 front_not_tail : (σ : Setting) (s : ℕ) (ts : List Term) (u : Term) (x : ℕ) → Each (λ (y : Store). is_in s tail_region y ≡ false) (front_stores σ s ts u x)
 front_not_tail σ s ts u x =
-    Each-append (Each-if (count_of u ts == 0) (λ z. enter_not_tail σ s (distinct ts) u))
-    (Each-append (Each-if (begins (count_of u ts) && nat_le 1 (pool_at (count_of u ts))) (λ z. more (pool_not_tail s (address_of u (count_of u ts) ts - 1) (address_of u (count_of u ts - 1) ts)) none))
-    (more (pool_not_tail s (address_of u (count_of u ts) ts) x) none))
+    Each-append (Each-if (count_of u ts == 0) (λ z. enter_no_tail σ s (distinct ts) u))
+    (Each-append (Each-if (begins (count_of u ts) && nat_le 1 (pool_at (count_of u ts))) (λ z. more (tail_pool s s (address_of u (count_of u ts) ts - 1) (address_of u (count_of u ts - 1) ts)) none))
+    (more (tail_pool s s (address_of u (count_of u ts) ts) x) none))
 
 -- the tails among the stores of the tokens of a segment
 pub tails_picked : (σ : Setting) (s : ℕ) → Picks σ s (is_in s tail_region) (tail_stores s [])
@@ -117,3 +87,8 @@ tokens_same m n s l e =
     ∙ ap (λ z. take (stores_in_region m s tail_region) (terms_of z)) (sym p.1)
     ∙ ap (take (stores_in_region m s tail_region)) (terms_more (segment m s) p.0)
     ∙ take-append-le (stores_in_region m s tail_region) (terms_of (segment m s)) (terms_of p.0) (tails_few m s)
+
+-- which tokens are seen goes by the setting and the documents part alone
+pub tokens_by : (m n : Moment) (s : ℕ) → n.setting ≡ m.setting → n.documents ≡ m.documents → tokens_seen n s ≡ tokens_seen m s
+unfolding tokens_seen stores_in_region
+tokens_by m n s e f i = take (count_by (is_in s tail_region) (document_stores (e i) (f i))) (terms_of (get_or (cut (e i) (with_current (f i))) s []))
