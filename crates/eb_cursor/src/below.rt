@@ -1,14 +1,11 @@
 //! The greatest match of a query below an end.
 ghost use Rattle.std.specs.Prelude.{◌≡◌, ℕ, ◌+◌, ◌<◌, ◌≤◌, ◌^◌, List, length};
-ghost use Rattle.eb_base.specs.Document.{Doc};
 ghost use Rattle.eb_base.specs.Query.{tree, word};
-ghost use Rattle.eb_place.specs.declared.moment.Moment.{Moment};
 ghost use Rattle.eb_place.specs.Told.{Told};
-ghost use Rattle.eb_cursor.specs.Lists.{gives};
 ghost use Rattle.eb_cursor.specs.Loads.{loads_left};
-ghost use Rattle.eb_cursor.specs.Costs.{FirstCosts, IsPaid};
-ghost use Rattle.eb_cursor.specs.Ready.{Ready, AllReady};
-ghost use Rattle.eb_cursor.specs.Asked.{trees_in, CanAsk, CanAskAll, Found, FoundNot, FoundSome, FoundAll, CanAskWord, IsLed, IsRound};
+ghost use Rattle.eb_cursor.specs.Costs.{FirstCosts, IsPaid, Pays};
+ghost use Rattle.eb_cursor.specs.Asked.{trees_in, CanAsk, CanAskAll, CanAskWord};
+ghost use Rattle.eb_cursor.specs.Finds.{Finds, FindsWord, FindsNot, FindsAll, FindsSome, Leads, GoesRound};
 
 use crate::bound::bound_below;
 use crate::cursor::{Cursor, leaf_below, walk_below};
@@ -30,10 +27,10 @@ pub fn query_below<P: Port, L: Ledger>(
 ) -> u64
     requires small { (end ≤ 2 ^ 32) × (length cursors.old ≤ 64) }
     requires ready { CanAsk P.stands port.old (tree query.now) cursors.old end }
-    ensures found { (docs : List Doc) (last : ℕ) → end ≤ last → Told P.stands P.keeps port.old port.new
-        (λ m. Ready (gives m) docs (tree query.now) cursors.old last) (Found (tree query.now) docs cursors.new end result) }
+    ensures found { Finds P.stands P.keeps port.old port.new (tree query.now) cursors.old cursors.new end result }
     ensures loads { steps.new + loads_left cursors.new ≤ steps.old + loads_left cursors.old }
-    ensures costs { (s : ℕ) (t : List ℕ) (most : ℕ) → tree query.now ≡ word t → Told P.stands P.keeps port.old port.new (λ m. FirstCosts m s t cursors.old most)
+    ensures costs { (s : ℕ) (t : List ℕ) (most : ℕ) → tree query.now ≡ word t
+        → Told P.stands P.keeps port.old port.new (λ m. FirstCosts m s t cursors.old most)
         (λ n. IsPaid (FirstCosts n s t cursors.new) steps.old most steps.new) }
 {
     match query {
@@ -51,11 +48,9 @@ fn posting_below<P: Port, L: Ledger>(
 ) -> u64
     requires small { end ≤ 2 ^ 32 }
     requires ready { CanAskWord P.stands port.old cursors.old end }
-    ensures found { (docs : List Doc) (t : List ℕ) (last : ℕ) → end ≤ last
-        → Told P.stands P.keeps port.old port.new (λ m. Ready (gives m) docs (word t) cursors.old last) (Found (word t) docs cursors.new end result) }
+    ensures found { FindsWord P.stands P.keeps port.old port.new cursors.old cursors.new end result }
     ensures loads { steps.new + loads_left cursors.new ≤ steps.old + loads_left cursors.old }
-    ensures costs { (s : ℕ) (t : List ℕ) (most : ℕ) → Told P.stands P.keeps port.old port.new (λ m. FirstCosts m s t cursors.old most)
-        (λ n. IsPaid (FirstCosts n s t cursors.new) steps.old most steps.new) }
+    ensures costs { Pays P.stands P.keeps port.old port.new FirstCosts cursors.old cursors.new steps.old steps.new }
 {
     let found = walk_below(&mut cursors[0], port, steps, PLACES * end);
     to_document_end(found)
@@ -72,8 +67,7 @@ pub fn below<P: Port, L: Ledger>(
 ) -> u64
     requires small { (end ≤ 2 ^ 32) × (length cursors.old ≤ 64) }
     requires ready { CanAsk P.stands port.old (tree query.now) cursors.old end }
-    ensures found { (docs : List Doc) (last : ℕ) → end ≤ last → Told P.stands P.keeps port.old port.new
-        (λ m. Ready (gives m) docs (tree query.now) cursors.old last) (Found (tree query.now) docs cursors.new end result) }
+    ensures found { Finds P.stands P.keeps port.old port.new (tree query.now) cursors.old cursors.new end result }
     ensures loads { steps.new + loads_left cursors.new ≤ steps.old + loads_left cursors.old }
 {
     if end == 0 {
@@ -119,8 +113,7 @@ fn word_below<P: Port, L: Ledger>(
 ) -> u64
     requires small { end ≤ 2 ^ 32 }
     requires ready { CanAskWord P.stands port.old cursors.old end }
-    ensures found { (docs : List Doc) (t : List ℕ) (last : ℕ) → end ≤ last
-        → Told P.stands P.keeps port.old port.new (λ m. Ready (gives m) docs (word t) cursors.old last) (Found (word t) docs cursors.new end result) }
+    ensures found { FindsWord P.stands P.keeps port.old port.new cursors.old cursors.new end result }
     ensures loads { steps.new + loads_left cursors.new ≤ steps.old + loads_left cursors.old }
 {
     let found = leaf_below(&mut cursors[0], port, steps, PLACES * end);
@@ -138,8 +131,7 @@ fn not_below<P: Port, L: Ledger>(
 ) -> u64
     requires small { (end ≤ 2 ^ 32) × (length cursors.old ≤ 64) }
     requires ready { CanAsk P.stands port.old (tree query.now) cursors.old end }
-    ensures found { (docs : List Doc) (last : ℕ) → end ≤ last → Told P.stands P.keeps port.old port.new
-        (λ m. Ready (gives m) docs (tree query.now) cursors.old last) (FoundNot (tree query.now) docs cursors.new end result) }
+    ensures found { FindsNot P.stands P.keeps port.old port.new (tree query.now) cursors.old cursors.new end result }
     ensures loads { steps.new + loads_left cursors.new ≤ steps.old + loads_left cursors.old }
 {
     let mut place = end;
@@ -165,8 +157,7 @@ fn led_below<P: Port, L: Ledger>(
 ) -> u64
     requires small { (end ≤ 2 ^ 32) × (length cursors.old ≤ 64) }
     requires ready { CanAskAll P.stands port.old (trees_in parts.now) cursors.old end }
-    ensures found { (docs : List Doc) (last : ℕ) → end ≤ last → Told P.stands P.keeps port.old port.new
-        (λ m. AllReady (gives m) docs (trees_in parts.now) cursors.old last) (FoundAll (trees_in parts.now) docs cursors.new end result) }
+    ensures found { FindsAll P.stands P.keeps port.old port.new (trees_in parts.now) cursors.old cursors.new end result }
     ensures loads { steps.new + loads_left cursors.new ≤ steps.old + loads_left cursors.old }
 {
     let start = lead_below(parts, cursors, lead, port, steps, end);
@@ -186,8 +177,7 @@ fn lead_below<P: Port, L: Ledger>(
 ) -> u64
     requires small { (end ≤ 2 ^ 32) × (length cursors.old ≤ 64) }
     requires ready { CanAskAll P.stands port.old (trees_in parts.now) cursors.old end }
-    ensures found { (docs : List Doc) (last : ℕ) → end ≤ last → Told P.stands P.keeps port.old port.new
-        (λ m. AllReady (gives m) docs (trees_in parts.now) cursors.old last) (λ n. IsLed (gives n) docs (trees_in parts.now) cursors.new end result) }
+    ensures found { Leads P.stands P.keeps port.old port.new (trees_in parts.now) cursors.old cursors.new end result }
     ensures loads { steps.new + loads_left cursors.new ≤ steps.old + loads_left cursors.old }
 {
     let Some((part, others)) = parts.split_first() else {
@@ -216,8 +206,7 @@ fn all_below<P: Port, L: Ledger>(
 ) -> u64
     requires small { (end ≤ 2 ^ 32) × (length cursors.old ≤ 64) }
     requires ready { CanAskAll P.stands port.old (trees_in parts.now) cursors.old end }
-    ensures found { (docs : List Doc) (last : ℕ) → end ≤ last → Told P.stands P.keeps port.old port.new
-        (λ m. AllReady (gives m) docs (trees_in parts.now) cursors.old last) (FoundAll (trees_in parts.now) docs cursors.new end result) }
+    ensures found { FindsAll P.stands P.keeps port.old port.new (trees_in parts.now) cursors.old cursors.new end result }
     ensures loads { steps.new + loads_left cursors.new ≤ steps.old + loads_left cursors.old }
 {
     let mut place = end;
@@ -241,8 +230,7 @@ fn round_below<P: Port, L: Ledger>(
 ) -> u64
     requires small { (end ≤ 2 ^ 32) × (length cursors.old ≤ 64) }
     requires ready { CanAskAll P.stands port.old (trees_in parts.now) cursors.old end }
-    ensures found { (docs : List Doc) (last : ℕ) → end ≤ last → Told P.stands P.keeps port.old port.new
-        (λ m. AllReady (gives m) docs (trees_in parts.now) cursors.old last) (λ n. IsRound (gives n) docs (trees_in parts.now) cursors.new end result) }
+    ensures found { GoesRound P.stands P.keeps port.old port.new (trees_in parts.now) cursors.old cursors.new end result }
     ensures loads { steps.new + loads_left cursors.new ≤ steps.old + loads_left cursors.old }
 {
     let Some((part, others)) = parts.split_first() else {
@@ -268,8 +256,7 @@ fn some_below<P: Port, L: Ledger>(
 ) -> u64
     requires small { (end ≤ 2 ^ 32) × (length cursors.old ≤ 64) }
     requires ready { CanAskAll P.stands port.old (trees_in parts.now) cursors.old end }
-    ensures found { (docs : List Doc) (last : ℕ) → end ≤ last → Told P.stands P.keeps port.old port.new
-        (λ m. AllReady (gives m) docs (trees_in parts.now) cursors.old last) (FoundSome (trees_in parts.now) docs cursors.new end result) }
+    ensures found { FindsSome P.stands P.keeps port.old port.new (trees_in parts.now) cursors.old cursors.new end result }
     ensures loads { steps.new + loads_left cursors.new ≤ steps.old + loads_left cursors.old }
 {
     let Some((part, others)) = parts.split_first() else {
