@@ -1,9 +1,11 @@
 //! The greatest match of a query below an end.
-ghost use Rattle.std.specs.Prelude.{◌≡◌, ℕ, ◌+◌, ◌<◌, ◌≤◌, ◌^◌, List, length};
+ghost use Rattle.std.specs.Prelude.{◌≡◌, ℕ, ◌+◌, ◌<◌, ◌≤◌, ◌^◌, List, [], ◌∷◌, length};
+ghost use Rattle.std.specs.List.{Contains};
 ghost use Rattle.eb_base.specs.Query.{tree, word};
 ghost use Rattle.eb_place.specs.Told.{Told};
 ghost use Rattle.eb_cursor.specs.Loads.{loads_left};
-ghost use Rattle.eb_cursor.specs.Costs.{FirstCosts, IsPaid, Pays};
+ghost use Rattle.eb_cursor.specs.Costs.{FirstCosts, IsPaid, Pays, PaysSpans, look_loads, round_loads};
+ghost use Rattle.eb_cursor.specs.AndCosts.{words_of, call_loads, PaysRounds};
 ghost use Rattle.eb_cursor.specs.Asked.{trees_in, CanAsk, CanAskAll, CanAskWord};
 ghost use Rattle.eb_cursor.specs.Finds.{Finds, FindsWord, FindsNot, FindsAll, FindsSome, Leads, GoesRound};
 
@@ -69,6 +71,8 @@ pub fn below<P: Port, L: Ledger>(
     requires ready { CanAsk P.stands port.old (tree query.now) cursors.old end }
     ensures found { Finds P.stands P.keeps port.old port.new (tree query.now) cursors.old cursors.new end result }
     ensures loads { steps.new + loads_left cursors.new ≤ steps.old + loads_left cursors.old }
+    ensures spans { (t : List ℕ) → tree query.now ≡ word t
+        → PaysSpans P.stands P.keeps port.old port.new (t ∷ []) cursors.old cursors.new look_loads steps.old steps.new }
 {
     if end == 0 {
         return 0;
@@ -115,6 +119,7 @@ fn word_below<P: Port, L: Ledger>(
     requires ready { CanAskWord P.stands port.old cursors.old end }
     ensures found { FindsWord P.stands P.keeps port.old port.new cursors.old cursors.new end result }
     ensures loads { steps.new + loads_left cursors.new ≤ steps.old + loads_left cursors.old }
+    ensures spans { (t : List ℕ) → PaysSpans P.stands P.keeps port.old port.new (t ∷ []) cursors.old cursors.new look_loads steps.old steps.new }
 {
     let found = leaf_below(&mut cursors[0], port, steps, PLACES * end);
     to_document_end(found)
@@ -159,6 +164,8 @@ fn led_below<P: Port, L: Ledger>(
     requires ready { CanAskAll P.stands port.old (trees_in parts.now) cursors.old end }
     ensures found { FindsAll P.stands P.keeps port.old port.new (trees_in parts.now) cursors.old cursors.new end result }
     ensures loads { steps.new + loads_left cursors.new ≤ steps.old + loads_left cursors.old }
+    ensures rounds { (ts : List (List ℕ)) (t : List ℕ) → trees_in parts.now ≡ words_of ts → Contains ts t
+        → PaysRounds P.stands P.keeps port.old port.new ts t cursors.old cursors.new end result (call_loads ts) steps.old steps.new }
 {
     let start = lead_below(parts, cursors, lead, port, steps, end);
     all_below(parts, cursors, port, steps, start)
@@ -179,6 +186,8 @@ fn lead_below<P: Port, L: Ledger>(
     requires ready { CanAskAll P.stands port.old (trees_in parts.now) cursors.old end }
     ensures found { Leads P.stands P.keeps port.old port.new (trees_in parts.now) cursors.old cursors.new end result }
     ensures loads { steps.new + loads_left cursors.new ≤ steps.old + loads_left cursors.old }
+    ensures spans { (ts : List (List ℕ)) → trees_in parts.now ≡ words_of ts
+        → PaysSpans P.stands P.keeps port.old port.new ts cursors.old cursors.new look_loads steps.old steps.new }
 {
     let Some((part, others)) = parts.split_first() else {
         return end;
@@ -208,6 +217,8 @@ fn all_below<P: Port, L: Ledger>(
     requires ready { CanAskAll P.stands port.old (trees_in parts.now) cursors.old end }
     ensures found { FindsAll P.stands P.keeps port.old port.new (trees_in parts.now) cursors.old cursors.new end result }
     ensures loads { steps.new + loads_left cursors.new ≤ steps.old + loads_left cursors.old }
+    ensures rounds { (ts : List (List ℕ)) (t : List ℕ) → trees_in parts.now ≡ words_of ts → Contains ts t
+        → PaysRounds P.stands P.keeps port.old port.new ts t cursors.old cursors.new end result (round_loads ts) steps.old steps.new }
 {
     let mut place = end;
     loop {
@@ -232,6 +243,8 @@ fn round_below<P: Port, L: Ledger>(
     requires ready { CanAskAll P.stands port.old (trees_in parts.now) cursors.old end }
     ensures found { GoesRound P.stands P.keeps port.old port.new (trees_in parts.now) cursors.old cursors.new end result }
     ensures loads { steps.new + loads_left cursors.new ≤ steps.old + loads_left cursors.old }
+    ensures spans { (ts : List (List ℕ)) → trees_in parts.now ≡ words_of ts
+        → PaysSpans P.stands P.keeps port.old port.new ts cursors.old cursors.new (round_loads ts) steps.old steps.new }
 {
     let Some((part, others)) = parts.split_first() else {
         return end;

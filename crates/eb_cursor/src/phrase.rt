@@ -1,10 +1,8 @@
 //! Phrases: the terms of a phrase leap over its possible places.
 ghost use Rattle.std.specs.Prelude.{◌≡◌, ℕ, ◌+◌, ◌*◌, ◌<◌, ◌≤◌, ◌^◌, List, length};
 ghost use Rattle.eb_place.specs.Postings.{places};
-ghost use Rattle.eb_place.specs.declared.moment.Moment.{Moment};
-ghost use Rattle.eb_place.specs.Told.{Told};
 ghost use Rattle.eb_cursor.specs.Loads.{loads_left};
-ghost use Rattle.eb_cursor.specs.Costs.{AllSpan, look_loads, IsPaid};
+ghost use Rattle.eb_cursor.specs.Costs.{PaysSpans, round_loads};
 ghost use Rattle.eb_cursor.specs.Posted.{document_end, has_room};
 ghost use Rattle.eb_cursor.specs.Asked.{CanAskPhrase, CanAskLeaves};
 ghost use Rattle.eb_cursor.specs.Finds.{FindsPhrase, FindsStart, LeadsRun, GoesOver};
@@ -51,8 +49,7 @@ fn leaves_below<P: Port, L: Ledger>(
     requires ready { CanAskLeaves P.stands port.old cursors.old at end }
     ensures found { GoesOver P.stands P.keeps port.old port.new cursors.old cursors.new at end result }
     ensures loads { steps.new + loads_left cursors.new ≤ steps.old + loads_left cursors.old }
-    ensures spans { (s : ℕ) (ts : List (List ℕ)) (most : ℕ) → Told P.stands P.keeps port.old port.new (λ m. AllSpan m s ts cursors.old most)
-        (λ n. IsPaid (AllSpan n s ts cursors.new) steps.old (most + look_loads * length ts) steps.new) }
+    ensures spans { (ts : List (List ℕ)) → PaysSpans P.stands P.keeps port.old port.new ts cursors.old cursors.new (round_loads ts) steps.old steps.new }
 {
     if end == 0 {
         return 0;
