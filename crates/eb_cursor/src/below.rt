@@ -1,11 +1,11 @@
 //! The greatest match of a query below an end.
 ghost use Rattle.std.specs.Prelude.{◌≡◌, ℕ, ◌+◌, ◌<◌, ◌≤◌, ◌^◌, List, [], ◌∷◌, length};
 ghost use Rattle.std.specs.List.{Contains};
-ghost use Rattle.eb_base.specs.Query.{tree, word};
+ghost use Rattle.eb_base.specs.Query.{tree, word, conjunction};
 ghost use Rattle.eb_place.specs.Told.{Told};
 ghost use Rattle.eb_cursor.specs.Loads.{loads_left};
 ghost use Rattle.eb_cursor.specs.Costs.{FirstCosts, IsPaid, Pays, PaysSpans, look_loads, round_loads};
-ghost use Rattle.eb_cursor.specs.AndCosts.{words_of, call_loads, PaysRounds};
+ghost use Rattle.eb_cursor.specs.AndCosts.{words_of, call_loads, PaysRounds, PaysAnd};
 ghost use Rattle.eb_cursor.specs.Asked.{trees_in, CanAsk, CanAskAll, CanAskWord};
 ghost use Rattle.eb_cursor.specs.Finds.{Finds, FindsWord, FindsNot, FindsAll, FindsSome, Leads, GoesRound};
 
@@ -19,7 +19,8 @@ use eb_place::{PLACES, Port, Steps};
 use std::sync::ledger::Ledger;
 
 /// One more than the greatest document below `end` that matches, or 0. A query that is a word reads its
-/// postings one by one, which bounds its loads.
+/// postings one by one, which bounds its loads; those of an and of words are bounded by the documents of any
+/// one of them.
 pub fn query_below<P: Port, L: Ledger>(
     query: &Query,
     cursors: &mut [Cursor],
@@ -34,9 +35,12 @@ pub fn query_below<P: Port, L: Ledger>(
     ensures costs { (s : ℕ) (t : List ℕ) (most : ℕ) → tree query.now ≡ word t
         → Told P.stands P.keeps port.old port.new (λ m. FirstCosts m s t cursors.old most)
         (λ n. IsPaid (FirstCosts n s t cursors.new) steps.old most steps.new) }
+    ensures rounds { (ts : List (List ℕ)) (t : List ℕ) → tree query.now ≡ conjunction (words_of ts) → Contains ts t
+        → PaysAnd P.stands P.keeps port.old port.new ts t cursors.old cursors.new end steps.old steps.new }
 {
     match query {
         Query::Word(_) => posting_below(cursors, port, steps, end),
+        Query::And(parts) => and_below(parts.as_slice(), cursors, port, steps, end),
         _ => below(query, cursors, port, steps, end),
     }
 }
@@ -90,15 +94,7 @@ pub fn below<P: Port, L: Ledger>(
             own.upto = found;
             found
         }
-        Query::And(parts) => {
-            let Some((own, rest)) = cursors.split_first_mut() else {
-                return 0;
-            };
-            let start = end.min(own.upto);
-            let found = led_below(parts.as_slice(), rest, own.lead, port, steps, start);
-            own.upto = found;
-            found
-        }
+        Query::And(parts) => and_below(parts.as_slice(), cursors, port, steps, end),
         Query::Or(parts) => {
             let Some((_own, rest)) = cursors.split_first_mut() else {
                 return 0;
@@ -148,6 +144,32 @@ fn not_below<P: Port, L: Ledger>(
         place -= 1;
     }
     place
+}
+
+/// One more than the greatest document below `end` that all parts match, or 0. The first cursor is that of
+/// the and.
+#[cycle(below)]
+pub fn and_below<P: Port, L: Ledger>(
+    parts: &[Query],
+    cursors: &mut [Cursor],
+    port: &mut P,
+    steps: &mut Steps<L>,
+    end: u64,
+) -> u64
+    requires small { (end ≤ 2 ^ 32) × (length cursors.old ≤ 64) }
+    requires ready { CanAsk P.stands port.old (conjunction (trees_in parts.now)) cursors.old end }
+    ensures found { Finds P.stands P.keeps port.old port.new (conjunction (trees_in parts.now)) cursors.old cursors.new end result }
+    ensures loads { steps.new + loads_left cursors.new ≤ steps.old + loads_left cursors.old }
+    ensures rounds { (ts : List (List ℕ)) (t : List ℕ) → trees_in parts.now ≡ words_of ts → Contains ts t
+        → PaysAnd P.stands P.keeps port.old port.new ts t cursors.old cursors.new end steps.old steps.new }
+{
+    let Some((own, rest)) = cursors.split_first_mut() else {
+        return 0;
+    };
+    let start = end.min(own.upto);
+    let found = led_below(parts, rest, own.lead, port, steps, start);
+    own.upto = found;
+    found
 }
 
 // Asks the leading part first, and then all parts from where it stopped.

@@ -1,12 +1,13 @@
 use Rattle.std.proofs.Common.{◌≡◌, ◌≢◌, ℕ, zero, suc, ◌+◌, ◌-◌, ◌<◌, ◌≤◌, List, [], ◌∷◌, length, not, Bool, arith, ap, ◌∙◌, sym, subst, refl, rules}
 use Rattle.eb_base.specs.Query.{Tree, tree, word, phrase, window, since, negation, conjunction, disjunction}
 use Rattle.eb_base.specs.declared.query.Query.{Query}
-use Rattle.eb_cursor.specs.AndCosts.{rounds_cost}
+use Rattle.eb_cursor.specs.AndCosts.{words_of, rounds_cost, AndOwes}
 use Rattle.eb_cursor.specs.Asked.{trees_in}
 use Rattle.eb_cursor.specs.Lists.{gives}
 use Rattle.eb_cursor.specs.Ready.{Ready, AllReady}
 use Rattle.eb_cursor.specs.Tops.{top}
 use Rattle.eb_cursor.specs.Posted.{match_at}
+use Rattle.eb_cursor.specs.declared.cursor.Cursor.{Cursor}
 use Rattle.eb_cursor.proofs.Tops.{top_le}
 use Rattle.eb_cursor.proofs.Readies.{ready_lower, ready_later, all_lower, all_size}
 use Rattle.eb_cursor.proofs.Steps.{tree_Word, tree_Phrase, tree_Window, tree_Since, tree_Not, tree_And, tree_Or, not_asks, not_told, not_here, not_past, each_told, each_asks, led_none}
@@ -62,36 +63,30 @@ below-returns-in-Some-clause-found g t c = λ docs last h.
     (tree c.deref.result.now) c.args.cursors.now s _ c.in-Some.rest.now _ c.min.result c.args.end last c.not_below-found.result
     i c.in-Some.ensures.cases.0 refl h c.min.ensures w r)
 
-pub below-led_below-found-requires : goal.below-led_below-found-requires
-below-led_below-found-requires g t c = λ κs lv.
+pub below-and_below-requires : goal.below-and_below-requires
+below-and_below-requires g t c = λ κs lv.
     let r = c.requires.ready in
     let i : tree c.args.query.now ≡ conjunction (trees_in c.as_slice.result.now) = ap tree c.in-And.is
     ∙ tree_And c.in-And.parts ∙ ap (λ (x : List Query). conjunction (trees_in x)) (sym c.as_slice.ensures) in
-    let asks = each_asks (gives r.0) r.1 (tree c.args.query.now) (trees_in c.as_slice.result.now)
-    c.args.cursors.now c.in-Some-split_first_mut.own.now c.in-Some-split_first_mut.rest.now r.2 i c.in-Some-split_first_mut.ensures.cases.0 r.5 in
-    (search rules, (search rules, (search rules, (search rules, (r.0, r.1, c.in-Some-split_first_mut.own.now.upto, r.3, omega (arith, c.min-start.ensures), asks)))))
+    (search rules, (search rules, (search rules, (search rules, (r.0, r.1, r.2, r.3, r.4, subst (λ x. Ready (gives r.0) r.1 x c.args.cursors.now r.2) i r.5)))))
+
+pub below-returns-in-And-clause-found : goal.below-returns-in-And-clause-found
+below-returns-in-And-clause-found g t c = λ docs last h.
+    let i : tree c.args.query.now ≡ conjunction (trees_in c.as_slice.result.now) = ap tree c.in-And.is
+    ∙ tree_And c.in-And.parts ∙ ap (λ (x : List Query). conjunction (trees_in x)) (sym c.as_slice.ensures) in
+    told_as g.met.P.Port.lawful (c.and_below.ensures.found docs last h)
+    (λ m r. subst (λ x. Ready (gives m) docs x c.args.cursors.now last) i r)
+    (λ m n later r w. (w.0 ∙ ap (λ (x : Tree). top (match_at docs x) c.args.end) (sym i), subst (λ x. Ready (gives n) docs x c.and_below.new.cursors c.args.end) (sym i) w.1))
 
 pub below-returns-in-Some-split_first_mut-clause-found : goal.below-returns-in-Some-split_first_mut-clause-found
 below-returns-in-Some-split_first_mut-clause-found g t c = λ docs last h.
-    let s = c.in-Some-split_first_mut.own.now in
-    let i : tree c.args.query.now ≡ conjunction (trees_in c.as_slice.result.now) = ap tree c.in-And.is
-    ∙ tree_And c.in-And.parts ∙ ap (λ (x : List Query). conjunction (trees_in x)) (sym c.as_slice.ensures) in
-    told_as g.met.P.Port.lawful (c.led_below-found.ensures.found docs s.upto (omega (arith, c.min-start.ensures)))
-    (λ m r. each_asks (gives m) docs (tree c.args.query.now)
-    (trees_in c.as_slice.result.now) c.args.cursors.now s c.in-Some-split_first_mut.rest.now last i c.in-Some-split_first_mut.ensures.cases.0 r)
-    (λ m n later r w. each_told (gives m) (gives n) docs (tree c.args.query.now)
-    (trees_in c.as_slice.result.now) c.args.cursors.now s _ c.in-Some-split_first_mut.rest.now _ c.min-start.result c.args.end last c.led_below-found.result
-    i c.in-Some-split_first_mut.ensures.cases.0 refl h c.min-start.ensures w r)
-
-pub below-returns-in-Some-split_first_mut-2-clause-found : goal.below-returns-in-Some-split_first_mut-2-clause-found
-below-returns-in-Some-split_first_mut-2-clause-found g t c = λ docs last h.
     let i : tree c.args.query.now ≡ disjunction (trees_in c.as_slice-in-Or.result.now) = ap tree c.in-Or.is
     ∙ tree_Or c.in-Or.parts ∙ ap (λ (x : List Query). disjunction (trees_in x)) (sym c.as_slice-in-Or.ensures) in
     told_as g.met.P.Port.lawful (c.some_below.ensures.found docs last h)
     (λ m r. some_asks (gives m) docs (tree c.args.query.now) (trees_in c.as_slice-in-Or.result.now)
-    c.args.cursors.now c.in-Some-split_first_mut-2._own.now c.in-Some-split_first_mut-2.rest.now last i c.in-Some-split_first_mut-2.ensures.cases.0 r)
+    c.args.cursors.now c.in-Some-split_first_mut._own.now c.in-Some-split_first_mut.rest.now last i c.in-Some-split_first_mut.ensures.cases.0 r)
     (λ m n later r w. some_told (gives n) docs (tree c.args.query.now)
-    (trees_in c.as_slice-in-Or.result.now) c.in-Some-split_first_mut-2._own.now c.some_below.new.cursors c.args.end c.some_below.result i w)
+    (trees_in c.as_slice-in-Or.result.now) c.in-Some-split_first_mut._own.now c.some_below.new.cursors c.args.end c.some_below.result i w)
 
 -- ---- what does not match
 
@@ -147,6 +142,24 @@ not_below-returns-clause-found g t c = λ docs last h.
     (λ m n w r i. (at_zero (λ k. not (match_at docs (tree c.args.query.now) k)) c.loop-place.place c.loop-place-test.false ∙ sym i.0, i.1))
 
 -- ---- what all parts match
+
+pub and_below-led_below-found-requires : goal.and_below-led_below-found-requires
+and_below-led_below-found-requires g t c = λ κs lv.
+    let r = c.requires.ready in
+    let asks = each_asks (gives r.0) r.1 (conjunction (trees_in c.args.parts.now)) (trees_in c.args.parts.now)
+    c.args.cursors.now c.in-Some.own.now c.in-Some.rest.now r.2 refl c.in-Some.ensures.cases.0 r.5 in
+    (search rules, (search rules, (search rules, (search rules, (r.0, r.1, c.in-Some.own.now.upto, r.3, omega (arith, c.min-start.ensures), asks)))))
+
+pub and_below-returns-clause-found : goal.and_below-returns-clause-found
+and_below-returns-clause-found g t c = λ docs last h.
+    let s = c.in-Some.own.now in
+    let fell : Cursor = record { upto = c.led_below-found.result; lead = s.lead; segment = s.segment; current = s.current; list = s.list } in
+    told_as g.met.P.Port.lawful (c.led_below-found.ensures.found docs s.upto (omega (arith, c.min-start.ensures)))
+    (λ m r. each_asks (gives m) docs (conjunction (trees_in c.args.parts.now))
+    (trees_in c.args.parts.now) c.args.cursors.now s c.in-Some.rest.now last refl c.in-Some.ensures.cases.0 r)
+    (λ m n later r w. each_told (gives m) (gives n) docs (conjunction (trees_in c.args.parts.now))
+    (trees_in c.args.parts.now) c.args.cursors.now s fell c.in-Some.rest.now c.led_below-found.new.cursors c.min-start.result c.args.end last c.led_below-found.result
+    refl c.in-Some.ensures.cases.0 refl h c.min-start.ensures w r)
 
 pub all_below-loop-place-init : goal.all_below-loop-place-init
 all_below-loop-place-init g t c = record {
@@ -474,6 +487,22 @@ led_below-returns-clause-rounds g t c = λ ts u e member docs r last s most h st
         (y.4.0, y.4.1, omega (arith, x.4.2, y.4.2, low, p.2)),
       );
 }
+
+pub and_below-returns-in_default-clause-rounds : goal.and_below-returns-in_default-clause-rounds
+and_below-returns-in_default-clause-rounds g t c = λ ts u e member docs r last s most h st ready. told_itself g.met.P.Port.keeps_itself (λ m p. (most, p, omega arith))
+
+pub and_below-returns-clause-rounds : goal.and_below-returns-clause-rounds
+and_below-returns-clause-rounds g t c = λ ts u e member docs r last s most h st ready.
+    let own = c.in-Some.own.now in
+    let same : conjunction (trees_in c.args.parts.now) ≡ conjunction (words_of ts) = ap conjunction e in
+    let asks = each_asks (gives r) docs (conjunction (words_of ts)) (words_of ts) c.args.cursors.now own c.in-Some.rest.now last refl c.in-Some.ensures.cases.0 ready in
+    record {
+      told = λ m at p.
+          let o : AndOwes m s docs ts u (own ∷ c.in-Some.rest.now) most = subst (λ z. AndOwes m s docs ts u z most) c.in-Some.ensures.cases.0 p in
+          let low = cost_low docs ts u c.min-start.result own.upto (omega (arith, c.min-start.ensures)) in
+          let x = (c.led_below-found.ensures.rounds ts u e member docs r own.upto s most (omega (arith, c.min-start.ensures)) st asks).told m at (o.0, o.1, omega (arith, o.2, low)) in
+          (x.0, x.1, x.2, x.3, (x.4.0, x.4.1, omega (arith, x.4.2)));
+    }
 
 pub lead_below-returns-in_default-clause-spans : goal.lead_below-returns-in_default-clause-spans
 lead_below-returns-in_default-clause-spans g t c = λ ts e s most. told_itself g.met.P.Port.keeps_itself (λ m h. (most, h, omega arith))
