@@ -1,15 +1,18 @@
 -- What an and of words costs, by the documents of any one of them.
-use Rattle.std.specs.Prelude.{ℕ, ◌+◌, ◌*◌, ◌≤◌, Bool, List, [], ◌∷◌}
+use Rattle.std.specs.Prelude.{◌≡◌, ℕ, ◌+◌, ◌*◌, ◌≤◌, Bool, List, [], ◌∷◌, length}
+use Rattle.std.specs.List.{Contains}
 use Rattle.eb_base.specs.Document.{Doc}
 use Rattle.eb_base.specs.Query.{Trees, word, conjunction, no_trees, trees}
 use Rattle.eb_base.specs.Term.{Term}
 use Rattle.eb_place.specs.declared.moment.Moment.{Moment}
 use Rattle.eb_place.specs.Told.{Told}
-use Rattle.eb_cursor.specs.Costs.{AllSpan, IsPaid, look_loads, round_loads, rounds_left}
+use Rattle.eb_cursor.specs.Costs.{AllSpan, IsPaid, look_loads, opening_loads, round_loads, rounds_left}
+use Rattle.eb_cursor.specs.Frames.{query_of}
 use Rattle.eb_cursor.specs.Lists.{gives}
 use Rattle.eb_cursor.specs.Posted.{match_at}
 use Rattle.eb_cursor.specs.Ready.{Ready, AllReady, upto, rest_of}
 use Rattle.eb_cursor.specs.declared.cursor.Cursor.{Cursor}
+use Rattle.eb_cursor.specs.declared.frame.Frame.{Frame}
 
 -- these words as the parts of an and
 abbrev pub words_of : List Term → Trees
@@ -49,3 +52,23 @@ abbrev pub PaysAnd : {S : Type 0} → (S → Moment → Type 0) → (S → Momen
 PaysAnd stands keeps p q ts t old new end before after = (docs : List Doc) (r : Moment) (last s most : ℕ) → end ≤ last
     → stands p r → Ready (gives r) docs (conjunction (words_of ts)) old last
     → Told stands keeps p q (λ m. AndOwes m s docs ts t old most) (λ n. IsPaid (AndOwes n s docs ts t new) before (most + call_loads ts) after)
+
+-- ---- a search in a segment
+
+-- the most loads until the lists of these words are open and the first posting of each is read, and of what their spans
+-- owe from then on
+abbrev pub open_loads : Moment → ℕ → List Term → ℕ
+open_loads m s [] = 0
+open_loads m s (t ∷ ts) = opening_loads m s t + 2 + open_loads m s ts
+
+-- the most loads of a search of an and of the words in a segment of these documents, behind its converted word and
+-- besides those of each call (`call_loads`), by the documents that have t
+abbrev pub and_loads : Moment → ℕ → List Doc → List Term → Term → ℕ
+and_loads m s docs ts t = open_loads m s ts + rounds_cost docs ts t (length docs)
+
+-- the frame, whose query is an and of the words ts, of which t is one, goes on in segment s over these documents for at
+-- most so many loads, besides those of each call
+pub record OwesAnd (m : Moment) (f : Frame) (s : ℕ) (docs : List Doc) (ts : List Term) (t : Term) (most : ℕ) : Type 0 where
+  pub query : query_of f ≡ conjunction (words_of ts)
+  pub member : Contains ts t
+  pub owes : AndOwes m s docs ts t f.cursors.items most
