@@ -18,3 +18,4 @@ pub mod Owing
 pub mod Rounds
 pub mod Asking
 pub mod LoadsLeft
+pub mod AndLoads

@@ -42,3 +42,7 @@ IsUnder m (z ∷ zs) = z < m
 abbrev pub IsFalling : List ℕ → Type 0
 IsFalling [] = Unit {0}
 IsFalling (z ∷ zs) = IsUnder z zs × IsFalling zs
+
+-- at some moment that the port stands for, the list still gives some postings
+abbrev pub CanGive : {S : Type 0} → (S → Moment → Type 0) → S → PostingList → Type 0
+CanGive stands s list = (m : Moment) × (xs : List ℕ) × stands s m × list_gives m list xs

@@ -21,3 +21,7 @@ pub record Opened (m : Moment) (docs : List Doc) (t : List ℕ) (list : PostingL
   pub told : list_gives m list postings
   pub falls : IsFalling postings
   pub all : from_below (places * length docs) postings ≡ below (is_posting docs t) (places * length docs)
+
+-- at some moment that the port stands for, some first accepted documents of the segment can be read
+abbrev pub CanOpen : {S : Type 0} → (S → Moment → Type 0) → S → ℕ → Bool → Type 0
+CanOpen stands s segment packed = (m : Moment) × (docs : List Doc) × stands s m × CanRead m segment docs packed

@@ -7,7 +7,8 @@ ghost use Rattle.eb_place.specs.declared.moment.Moment.{Moment};
 ghost use Rattle.eb_place.specs.Told.{Told};
 ghost use Rattle.eb_cursor.specs.Lists.{gives};
 ghost use Rattle.eb_cursor.specs.Accepted.{AreFirst};
-ghost use Rattle.eb_cursor.specs.Opened.{CanRead};
+ghost use Rattle.eb_cursor.specs.Opened.{CanOpen};
+ghost use Rattle.eb_cursor.specs.Finds.{Opens, Begins};
 ghost use Rattle.eb_cursor.specs.Posted.{is_posting};
 ghost use Rattle.eb_cursor.specs.Ready.{IsLeaf, IsBound, Ready};
 ghost use Rattle.eb_cursor.specs.Costs.{Costs, FirstCosts, IsPaid, IsReading, word_loads};
@@ -41,9 +42,9 @@ fn open_leaf<P: Port, L: Ledger>(
     port: &mut P,
     steps: &mut Steps<L>,
 ) -> Cursor
-    requires { (m : Moment) × (docs : List Doc) × P.stands port.old m × CanRead m segment docs packed }
-    ensures leaf { (docs : List Doc) → Told P.stands P.keeps port.old port.new (λ m. CanRead m segment docs packed)
-        (λ n. IsLeaf (gives n) (is_posting docs term.now) result (places * length docs)) }
+    requires { CanOpen P.stands port.old segment packed }
+    ensures leaf { Opens P.stands P.keeps port.old port.new segment packed
+        (λ docs n. IsLeaf (gives n) (is_posting docs term.now) result (places * length docs)) }
     ensures costs { (was : Moment) → Told P.stands P.keeps port.old port.new (λ m. IsReading was m segment packed)
         (λ n. IsPaid (Costs n segment term.now result.list) steps.old (word_loads was n segment term.now) steps.new) }
 {
@@ -68,9 +69,8 @@ fn begin_leaves<P: Port, L: Ledger>(
     steps: &mut Steps<L>,
 ) -> bool
     requires fits { length cursors.old ≡ length terms.now }
-    requires first { (m : Moment) × (docs : List Doc) × P.stands port.old m × CanRead m segment docs packed }
-    ensures { (docs : List Doc) → Told P.stands P.keeps port.old port.new (λ m. CanRead m segment docs packed)
-        (BegunLeaves docs terms.now cursors.new result) }
+    requires first { CanOpen P.stands port.old segment packed }
+    ensures { Opens P.stands P.keeps port.old port.new segment packed (λ docs. BegunLeaves docs terms.now cursors.new result) }
 {
     let Some((own, rest)) = cursors.split_first_mut() else {
         return true;
@@ -105,8 +105,8 @@ fn begin_window<P: Port, L: Ledger>(
     requires some { 0 < length terms.now }
     requires fits { length cursors.old ≡ length terms.now }
     requires first { CanBegin P.stands port.old segment documents packed }
-    ensures { (docs : List Doc) (w : ℕ) → length docs ≡ documents → Told P.stands P.keeps port.old port.new (λ m. CanRead m segment docs packed)
-        (Begun docs (window terms.now w) cursors.new result) }
+    ensures { (w : ℕ) → Begins P.stands P.keeps port.old port.new segment documents packed
+        (λ docs. Begun docs (window terms.now w) cursors.new result) }
 {
     let end = PLACES * u64::from(documents);
     let all = begin_leaves(terms, cursors, segment, packed, port, steps);
@@ -117,7 +117,8 @@ fn begin_window<P: Port, L: Ledger>(
 
 // Begins a bound on the id, as `begin` does. Loads nothing.
 fn begin_bound(cursor: &mut Cursor, segment: u32, documents: u32)
-    ensures { (n : Moment) (docs : List Doc) (x : ℕ) → length docs ≡ documents → AreFirst n segment docs → IsBound (gives n) docs x cursor.new (length docs) }
+    ensures { (n : Moment) (docs : List Doc) (x : ℕ) → length docs ≡ documents → AreFirst n segment docs
+        → IsBound (gives n) docs x cursor.new (length docs) }
 {
     let end = u64::from(documents);
     cursor.segment = segment;
@@ -141,10 +142,10 @@ pub fn begin_query<P: Port, L: Ledger>(
     requires formed { IsFormed (tree query.now) }
     requires clear { AreClear cursors.old }
     requires first { CanBegin P.stands port.old segment documents packed }
-    ensures ready { (docs : List Doc) → length docs ≡ documents → Told P.stands P.keeps port.old port.new (λ m. CanRead m segment docs packed)
-        (λ n. Ready (gives n) docs (tree query.now) cursors.new (length docs)) }
-    ensures costs { (was : Moment) (t : List ℕ) → tree query.now ≡ word t → Told P.stands P.keeps port.old port.new (λ m. IsReading was m segment packed)
-        (λ n. IsPaid (FirstCosts n segment t cursors.new) steps.old (word_loads was n segment t) steps.new) }
+    ensures ready { Begins P.stands P.keeps port.old port.new segment documents packed
+        (λ docs n. Ready (gives n) docs (tree query.now) cursors.new (length docs)) }
+    ensures costs { (was : Moment) (t : List ℕ) → tree query.now ≡ word t → Told P.stands P.keeps port.old port.new
+        (λ m. IsReading was m segment packed) (λ n. IsPaid (FirstCosts n segment t cursors.new) steps.old (word_loads was n segment t) steps.new) }
 {
     match query {
         Query::Word(term) => cursors[0] = open_leaf(term, segment, packed, port, steps),
@@ -174,8 +175,7 @@ pub fn begin<P: Port, L: Ledger>(
     requires formed { IsFormed (tree query.now) }
     requires clear { AreClear cursors.old }
     requires first { CanBegin P.stands port.old segment documents packed }
-    ensures { (docs : List Doc) → length docs ≡ documents → Told P.stands P.keeps port.old port.new (λ m. CanRead m segment docs packed)
-        (Begun docs (tree query.now) cursors.new result) }
+    ensures { Begins P.stands P.keeps port.old port.new segment documents packed (λ docs. Begun docs (tree query.now) cursors.new result) }
 {
     let end = u64::from(documents);
     match query {
@@ -266,8 +266,8 @@ fn begin_each<P: Port, L: Ledger>(
     requires formed { AreFormed (trees_in parts.now) }
     requires clear { AreClear cursors.old }
     requires first { CanBegin P.stands port.old segment documents packed }
-    ensures { (docs : List Doc) → length docs ≡ documents → Told P.stands P.keeps port.old port.new (λ m. CanRead m segment docs packed)
-        (BegunEach docs (trees_in parts.now) cursors.new result) }
+    ensures { Begins P.stands P.keeps port.old port.new segment documents packed
+        (λ docs. BegunEach docs (trees_in parts.now) cursors.new result) }
 {
     let Some((part, others)) = parts.split_first() else {
         return true;
@@ -295,8 +295,8 @@ fn begin_some<P: Port, L: Ledger>(
     requires formed { AreFormed (trees_in parts.now) }
     requires clear { AreClear cursors.old }
     requires first { CanBegin P.stands port.old segment documents packed }
-    ensures { (docs : List Doc) → length docs ≡ documents → Told P.stands P.keeps port.old port.new (λ m. CanRead m segment docs packed)
-        (BegunSome docs (trees_in parts.now) cursors.new result) }
+    ensures { Begins P.stands P.keeps port.old port.new segment documents packed
+        (λ docs. BegunSome docs (trees_in parts.now) cursors.new result) }
 {
     let Some((part, others)) = parts.split_first() else {
         return false;

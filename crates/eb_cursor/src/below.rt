@@ -1,14 +1,13 @@
 //! The greatest match of a query below an end.
-ghost use Rattle.std.specs.Prelude.{◌≡◌, ℕ, ◌+◌, ◌<◌, ◌≤◌, ◌^◌, List, length};
-ghost use Rattle.eb_base.specs.Document.{Doc};
-ghost use Rattle.eb_base.specs.Query.{tree, word};
-ghost use Rattle.eb_place.specs.declared.moment.Moment.{Moment};
+ghost use Rattle.std.specs.Prelude.{◌≡◌, ℕ, ◌+◌, ◌<◌, ◌≤◌, ◌^◌, List, [], ◌∷◌, length};
+ghost use Rattle.std.specs.List.{Contains};
+ghost use Rattle.eb_base.specs.Query.{tree, word, conjunction};
 ghost use Rattle.eb_place.specs.Told.{Told};
-ghost use Rattle.eb_cursor.specs.Lists.{gives};
 ghost use Rattle.eb_cursor.specs.Loads.{loads_left};
-ghost use Rattle.eb_cursor.specs.Costs.{FirstCosts, IsPaid};
-ghost use Rattle.eb_cursor.specs.Ready.{Ready, AllReady};
-ghost use Rattle.eb_cursor.specs.Asked.{trees_in, CanAsk, CanAskAll, Found, FoundNot, FoundSome, FoundAll, CanAskWord, IsLed, IsRound};
+ghost use Rattle.eb_cursor.specs.Costs.{FirstCosts, IsPaid, Pays, PaysSpans, look_loads, round_loads};
+ghost use Rattle.eb_cursor.specs.AndCosts.{words_of, call_loads, PaysRounds, PaysAnd};
+ghost use Rattle.eb_cursor.specs.Asked.{trees_in, CanAsk, CanAskAll, CanAskWord};
+ghost use Rattle.eb_cursor.specs.Finds.{Finds, FindsWord, FindsNot, FindsAll, FindsSome, Leads, GoesRound};
 
 use crate::bound::bound_below;
 use crate::cursor::{Cursor, leaf_below, walk_below};
@@ -20,7 +19,8 @@ use eb_place::{PLACES, Port, Steps};
 use std::sync::ledger::Ledger;
 
 /// One more than the greatest document below `end` that matches, or 0. A query that is a word reads its
-/// postings one by one, which bounds its loads.
+/// postings one by one, which bounds its loads; those of an and of words are bounded by the documents of any
+/// one of them.
 pub fn query_below<P: Port, L: Ledger>(
     query: &Query,
     cursors: &mut [Cursor],
@@ -30,14 +30,17 @@ pub fn query_below<P: Port, L: Ledger>(
 ) -> u64
     requires small { (end ≤ 2 ^ 32) × (length cursors.old ≤ 64) }
     requires ready { CanAsk P.stands port.old (tree query.now) cursors.old end }
-    ensures found { (docs : List Doc) (last : ℕ) → end ≤ last → Told P.stands P.keeps port.old port.new
-        (λ m. Ready (gives m) docs (tree query.now) cursors.old last) (Found (tree query.now) docs cursors.new end result) }
+    ensures found { Finds P.stands P.keeps port.old port.new (tree query.now) cursors.old cursors.new end result }
     ensures loads { steps.new + loads_left cursors.new ≤ steps.old + loads_left cursors.old }
-    ensures costs { (s : ℕ) (t : List ℕ) (most : ℕ) → tree query.now ≡ word t → Told P.stands P.keeps port.old port.new (λ m. FirstCosts m s t cursors.old most)
+    ensures costs { (s : ℕ) (t : List ℕ) (most : ℕ) → tree query.now ≡ word t
+        → Told P.stands P.keeps port.old port.new (λ m. FirstCosts m s t cursors.old most)
         (λ n. IsPaid (FirstCosts n s t cursors.new) steps.old most steps.new) }
+    ensures rounds { (ts : List (List ℕ)) (t : List ℕ) → tree query.now ≡ conjunction (words_of ts) → Contains ts t
+        → PaysAnd P.stands P.keeps port.old port.new ts t cursors.old cursors.new end steps.old steps.new }
 {
     match query {
         Query::Word(_) => posting_below(cursors, port, steps, end),
+        Query::And(parts) => and_below(parts.as_slice(), cursors, port, steps, end),
         _ => below(query, cursors, port, steps, end),
     }
 }
@@ -51,11 +54,9 @@ fn posting_below<P: Port, L: Ledger>(
 ) -> u64
     requires small { end ≤ 2 ^ 32 }
     requires ready { CanAskWord P.stands port.old cursors.old end }
-    ensures found { (docs : List Doc) (t : List ℕ) (last : ℕ) → end ≤ last
-        → Told P.stands P.keeps port.old port.new (λ m. Ready (gives m) docs (word t) cursors.old last) (Found (word t) docs cursors.new end result) }
+    ensures found { FindsWord P.stands P.keeps port.old port.new cursors.old cursors.new end result }
     ensures loads { steps.new + loads_left cursors.new ≤ steps.old + loads_left cursors.old }
-    ensures costs { (s : ℕ) (t : List ℕ) (most : ℕ) → Told P.stands P.keeps port.old port.new (λ m. FirstCosts m s t cursors.old most)
-        (λ n. IsPaid (FirstCosts n s t cursors.new) steps.old most steps.new) }
+    ensures costs { Pays P.stands P.keeps port.old port.new FirstCosts cursors.old cursors.new steps.old steps.new }
 {
     let found = walk_below(&mut cursors[0], port, steps, PLACES * end);
     to_document_end(found)
@@ -72,9 +73,10 @@ pub fn below<P: Port, L: Ledger>(
 ) -> u64
     requires small { (end ≤ 2 ^ 32) × (length cursors.old ≤ 64) }
     requires ready { CanAsk P.stands port.old (tree query.now) cursors.old end }
-    ensures found { (docs : List Doc) (last : ℕ) → end ≤ last → Told P.stands P.keeps port.old port.new
-        (λ m. Ready (gives m) docs (tree query.now) cursors.old last) (Found (tree query.now) docs cursors.new end result) }
+    ensures found { Finds P.stands P.keeps port.old port.new (tree query.now) cursors.old cursors.new end result }
     ensures loads { steps.new + loads_left cursors.new ≤ steps.old + loads_left cursors.old }
+    ensures spans { (t : List ℕ) → tree query.now ≡ word t
+        → PaysSpans P.stands P.keeps port.old port.new (t ∷ []) cursors.old cursors.new look_loads steps.old steps.new }
 {
     if end == 0 {
         return 0;
@@ -92,15 +94,7 @@ pub fn below<P: Port, L: Ledger>(
             own.upto = found;
             found
         }
-        Query::And(parts) => {
-            let Some((own, rest)) = cursors.split_first_mut() else {
-                return 0;
-            };
-            let start = end.min(own.upto);
-            let found = led_below(parts.as_slice(), rest, own.lead, port, steps, start);
-            own.upto = found;
-            found
-        }
+        Query::And(parts) => and_below(parts.as_slice(), cursors, port, steps, end),
         Query::Or(parts) => {
             let Some((_own, rest)) = cursors.split_first_mut() else {
                 return 0;
@@ -119,9 +113,9 @@ fn word_below<P: Port, L: Ledger>(
 ) -> u64
     requires small { end ≤ 2 ^ 32 }
     requires ready { CanAskWord P.stands port.old cursors.old end }
-    ensures found { (docs : List Doc) (t : List ℕ) (last : ℕ) → end ≤ last
-        → Told P.stands P.keeps port.old port.new (λ m. Ready (gives m) docs (word t) cursors.old last) (Found (word t) docs cursors.new end result) }
+    ensures found { FindsWord P.stands P.keeps port.old port.new cursors.old cursors.new end result }
     ensures loads { steps.new + loads_left cursors.new ≤ steps.old + loads_left cursors.old }
+    ensures spans { (t : List ℕ) → PaysSpans P.stands P.keeps port.old port.new (t ∷ []) cursors.old cursors.new look_loads steps.old steps.new }
 {
     let found = leaf_below(&mut cursors[0], port, steps, PLACES * end);
     to_document_end(found)
@@ -138,8 +132,7 @@ fn not_below<P: Port, L: Ledger>(
 ) -> u64
     requires small { (end ≤ 2 ^ 32) × (length cursors.old ≤ 64) }
     requires ready { CanAsk P.stands port.old (tree query.now) cursors.old end }
-    ensures found { (docs : List Doc) (last : ℕ) → end ≤ last → Told P.stands P.keeps port.old port.new
-        (λ m. Ready (gives m) docs (tree query.now) cursors.old last) (FoundNot (tree query.now) docs cursors.new end result) }
+    ensures found { FindsNot P.stands P.keeps port.old port.new (tree query.now) cursors.old cursors.new end result }
     ensures loads { steps.new + loads_left cursors.new ≤ steps.old + loads_left cursors.old }
 {
     let mut place = end;
@@ -151,6 +144,32 @@ fn not_below<P: Port, L: Ledger>(
         place -= 1;
     }
     place
+}
+
+/// One more than the greatest document below `end` that all parts match, or 0. The first cursor is that of
+/// the and.
+#[cycle(below)]
+pub fn and_below<P: Port, L: Ledger>(
+    parts: &[Query],
+    cursors: &mut [Cursor],
+    port: &mut P,
+    steps: &mut Steps<L>,
+    end: u64,
+) -> u64
+    requires small { (end ≤ 2 ^ 32) × (length cursors.old ≤ 64) }
+    requires ready { CanAsk P.stands port.old (conjunction (trees_in parts.now)) cursors.old end }
+    ensures found { Finds P.stands P.keeps port.old port.new (conjunction (trees_in parts.now)) cursors.old cursors.new end result }
+    ensures loads { steps.new + loads_left cursors.new ≤ steps.old + loads_left cursors.old }
+    ensures rounds { (ts : List (List ℕ)) (t : List ℕ) → trees_in parts.now ≡ words_of ts → Contains ts t
+        → PaysAnd P.stands P.keeps port.old port.new ts t cursors.old cursors.new end steps.old steps.new }
+{
+    let Some((own, rest)) = cursors.split_first_mut() else {
+        return 0;
+    };
+    let start = end.min(own.upto);
+    let found = led_below(parts, rest, own.lead, port, steps, start);
+    own.upto = found;
+    found
 }
 
 // Asks the leading part first, and then all parts from where it stopped.
@@ -165,9 +184,10 @@ fn led_below<P: Port, L: Ledger>(
 ) -> u64
     requires small { (end ≤ 2 ^ 32) × (length cursors.old ≤ 64) }
     requires ready { CanAskAll P.stands port.old (trees_in parts.now) cursors.old end }
-    ensures found { (docs : List Doc) (last : ℕ) → end ≤ last → Told P.stands P.keeps port.old port.new
-        (λ m. AllReady (gives m) docs (trees_in parts.now) cursors.old last) (FoundAll (trees_in parts.now) docs cursors.new end result) }
+    ensures found { FindsAll P.stands P.keeps port.old port.new (trees_in parts.now) cursors.old cursors.new end result }
     ensures loads { steps.new + loads_left cursors.new ≤ steps.old + loads_left cursors.old }
+    ensures rounds { (ts : List (List ℕ)) (t : List ℕ) → trees_in parts.now ≡ words_of ts → Contains ts t
+        → PaysRounds P.stands P.keeps port.old port.new ts t cursors.old cursors.new end result (call_loads ts) steps.old steps.new }
 {
     let start = lead_below(parts, cursors, lead, port, steps, end);
     all_below(parts, cursors, port, steps, start)
@@ -186,9 +206,10 @@ fn lead_below<P: Port, L: Ledger>(
 ) -> u64
     requires small { (end ≤ 2 ^ 32) × (length cursors.old ≤ 64) }
     requires ready { CanAskAll P.stands port.old (trees_in parts.now) cursors.old end }
-    ensures found { (docs : List Doc) (last : ℕ) → end ≤ last → Told P.stands P.keeps port.old port.new
-        (λ m. AllReady (gives m) docs (trees_in parts.now) cursors.old last) (λ n. IsLed (gives n) docs (trees_in parts.now) cursors.new end result) }
+    ensures found { Leads P.stands P.keeps port.old port.new (trees_in parts.now) cursors.old cursors.new end result }
     ensures loads { steps.new + loads_left cursors.new ≤ steps.old + loads_left cursors.old }
+    ensures spans { (ts : List (List ℕ)) → trees_in parts.now ≡ words_of ts
+        → PaysSpans P.stands P.keeps port.old port.new ts cursors.old cursors.new look_loads steps.old steps.new }
 {
     let Some((part, others)) = parts.split_first() else {
         return end;
@@ -216,9 +237,10 @@ fn all_below<P: Port, L: Ledger>(
 ) -> u64
     requires small { (end ≤ 2 ^ 32) × (length cursors.old ≤ 64) }
     requires ready { CanAskAll P.stands port.old (trees_in parts.now) cursors.old end }
-    ensures found { (docs : List Doc) (last : ℕ) → end ≤ last → Told P.stands P.keeps port.old port.new
-        (λ m. AllReady (gives m) docs (trees_in parts.now) cursors.old last) (FoundAll (trees_in parts.now) docs cursors.new end result) }
+    ensures found { FindsAll P.stands P.keeps port.old port.new (trees_in parts.now) cursors.old cursors.new end result }
     ensures loads { steps.new + loads_left cursors.new ≤ steps.old + loads_left cursors.old }
+    ensures rounds { (ts : List (List ℕ)) (t : List ℕ) → trees_in parts.now ≡ words_of ts → Contains ts t
+        → PaysRounds P.stands P.keeps port.old port.new ts t cursors.old cursors.new end result (round_loads ts) steps.old steps.new }
 {
     let mut place = end;
     loop {
@@ -241,9 +263,10 @@ fn round_below<P: Port, L: Ledger>(
 ) -> u64
     requires small { (end ≤ 2 ^ 32) × (length cursors.old ≤ 64) }
     requires ready { CanAskAll P.stands port.old (trees_in parts.now) cursors.old end }
-    ensures found { (docs : List Doc) (last : ℕ) → end ≤ last → Told P.stands P.keeps port.old port.new
-        (λ m. AllReady (gives m) docs (trees_in parts.now) cursors.old last) (λ n. IsRound (gives n) docs (trees_in parts.now) cursors.new end result) }
+    ensures found { GoesRound P.stands P.keeps port.old port.new (trees_in parts.now) cursors.old cursors.new end result }
     ensures loads { steps.new + loads_left cursors.new ≤ steps.old + loads_left cursors.old }
+    ensures spans { (ts : List (List ℕ)) → trees_in parts.now ≡ words_of ts
+        → PaysSpans P.stands P.keeps port.old port.new ts cursors.old cursors.new (round_loads ts) steps.old steps.new }
 {
     let Some((part, others)) = parts.split_first() else {
         return end;
@@ -268,8 +291,7 @@ fn some_below<P: Port, L: Ledger>(
 ) -> u64
     requires small { (end ≤ 2 ^ 32) × (length cursors.old ≤ 64) }
     requires ready { CanAskAll P.stands port.old (trees_in parts.now) cursors.old end }
-    ensures found { (docs : List Doc) (last : ℕ) → end ≤ last → Told P.stands P.keeps port.old port.new
-        (λ m. AllReady (gives m) docs (trees_in parts.now) cursors.old last) (FoundSome (trees_in parts.now) docs cursors.new end result) }
+    ensures found { FindsSome P.stands P.keeps port.old port.new (trees_in parts.now) cursors.old cursors.new end result }
     ensures loads { steps.new + loads_left cursors.new ≤ steps.old + loads_left cursors.old }
 {
     let Some((part, others)) = parts.split_first() else {

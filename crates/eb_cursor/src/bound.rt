@@ -6,11 +6,10 @@ ghost use Rattle.eb_place.specs.declared.moment.Moment.{Moment};
 ghost use Rattle.eb_place.specs.Told.{Told};
 ghost use Rattle.eb_cursor.specs.Tops.{top, before};
 ghost use Rattle.eb_cursor.specs.Accepted.{AreFirst};
-ghost use Rattle.eb_cursor.specs.Lists.{gives};
 ghost use Rattle.eb_cursor.specs.Loads.{ahead, loads_left};
 ghost use Rattle.eb_cursor.specs.Posted.{doc_at, match_at};
-ghost use Rattle.eb_cursor.specs.Ready.{IsBound, Ready};
-ghost use Rattle.eb_cursor.specs.Asked.{CanAskBound, CanAskSince, CanLoadIds, Found, FoundBound};
+ghost use Rattle.eb_cursor.specs.Asked.{CanAskBound, CanAskSince, CanLoadIds};
+ghost use Rattle.eb_cursor.specs.Finds.{Finds, FindsBound};
 
 use crate::cursor::{Cursor, last_before, place_after};
 use eb_place::{Places, Port, Steps};
@@ -70,8 +69,7 @@ fn cursor_below<P: Port, L: Ledger>(
 ) -> u64
     requires small { end ≤ 2 ^ 32 }
     requires ready { CanAskBound P.stands port.old bound cursor.old end }
-    ensures found { (docs : List Doc) (last : ℕ) → end ≤ last → Told P.stands P.keeps port.old port.new
-        (λ m. IsBound (gives m) docs bound cursor.old last) (FoundBound bound docs cursor.new end result) }
+    ensures found { FindsBound P.stands P.keeps port.old port.new bound cursor.old cursor.new end result }
     ensures falls { ahead cursor.new.current ≤ ahead cursor.old.current }
     ensures loads { steps.new + ahead cursor.new.current ≤ steps.old + ahead cursor.old.current }
 {
@@ -95,8 +93,7 @@ pub fn bound_below<P: Port, L: Ledger>(
 ) -> u64
     requires small { end ≤ 2 ^ 32 }
     requires ready { CanAskSince P.stands port.old bound cursors.old end }
-    ensures found { (docs : List Doc) (last : ℕ) → end ≤ last → Told P.stands P.keeps port.old port.new
-        (λ m. Ready (gives m) docs (since bound) cursors.old last) (Found (since bound) docs cursors.new end result) }
+    ensures found { Finds P.stands P.keeps port.old port.new (since bound) cursors.old cursors.new end result }
     ensures loads { steps.new + loads_left cursors.new ≤ steps.old + loads_left cursors.old }
 {
     cursor_below(bound, &mut cursors[0], port, steps, end)

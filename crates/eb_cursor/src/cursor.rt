@@ -1,12 +1,9 @@
 //! What a part of a query remembers.
-ghost use Rattle.std.specs.Prelude.{◌≡◌, ℕ, ◌+◌, ◌*◌, ◌<◌, ◌≤◌, ◌^◌, Bool, List};
-ghost use Rattle.eb_place.specs.declared.moment.Moment.{Moment};
-ghost use Rattle.eb_place.specs.Told.{Told};
-ghost use Rattle.eb_cursor.specs.Lists.{gives};
-ghost use Rattle.eb_cursor.specs.Ready.{IsLeaf};
+ghost use Rattle.std.specs.Prelude.{◌≡◌, ℕ, ◌+◌, ◌*◌, ◌<◌, ◌≤◌, ◌^◌};
 ghost use Rattle.eb_cursor.specs.Loads.{ahead};
-ghost use Rattle.eb_cursor.specs.Asked.{FoundLeaf};
-ghost use Rattle.eb_cursor.specs.Costs.{Costs, Spans, leap_loads, look_loads, IsPaid};
+ghost use Rattle.eb_cursor.specs.Asked.{CanAskLeaf};
+ghost use Rattle.eb_cursor.specs.Finds.{FindsLeaf};
+ghost use Rattle.eb_cursor.specs.Costs.{Costs, Spans, leap_loads, look_loads, Pays, PaysBesides};
 
 use crate::posting_list::PostingList;
 use eb_place::{Port, Posting, Steps};
@@ -52,12 +49,11 @@ pub fn walk_below<P: Port, L: Ledger>(
     steps: &mut Steps<L>,
     end: u64,
 ) -> u64
-    requires { (m : Moment) × (f : ℕ → Bool) × P.stands port.old m × IsLeaf (gives m) f cursor.old end }
+    requires { CanAskLeaf P.stands port.old cursor.old end }
     ensures upto { cursor.new.upto ≡ cursor.old.upto }
-    ensures found { (f : ℕ → Bool) → Told P.stands P.keeps port.old port.new (λ m. IsLeaf (gives m) f cursor.old end) (FoundLeaf f cursor.new end result) }
+    ensures found { FindsLeaf P.stands P.keeps port.old port.new cursor.old cursor.new end result }
     ensures loads { steps.new + 4 * ahead cursor.new.current ≤ steps.old + 4 * ahead cursor.old.current }
-    ensures costs { (s : ℕ) (t : List ℕ) (most : ℕ) → Told P.stands P.keeps port.old port.new (λ m. Costs m s t cursor.old.list most)
-        (λ n. IsPaid (Costs n s t cursor.new.list) steps.old most steps.new) }
+    ensures costs { Pays P.stands P.keeps port.old port.new Costs cursor.old.list cursor.new.list steps.old steps.new }
 {
     while let Some(posting) = cursor.current {
         if posting < end {
@@ -76,12 +72,11 @@ pub fn leaf_below<P: Port, L: Ledger>(
     steps: &mut Steps<L>,
     end: u64,
 ) -> u64
-    requires { (m : Moment) × (f : ℕ → Bool) × P.stands port.old m × IsLeaf (gives m) f cursor.old end }
+    requires { CanAskLeaf P.stands port.old cursor.old end }
     ensures upto { cursor.new.upto ≡ cursor.old.upto }
-    ensures found { (f : ℕ → Bool) → Told P.stands P.keeps port.old port.new (λ m. IsLeaf (gives m) f cursor.old end) (FoundLeaf f cursor.new end result) }
+    ensures found { FindsLeaf P.stands P.keeps port.old port.new cursor.old cursor.new end result }
     ensures loads { steps.new + 4 * ahead cursor.new.current ≤ steps.old + 4 * ahead cursor.old.current }
-    ensures spans { (s : ℕ) (t : List ℕ) (most : ℕ) → Told P.stands P.keeps port.old port.new (λ m. Spans m s t cursor.old.list most)
-        (λ n. IsPaid (Spans n s t cursor.new.list) steps.old (most + look_loads) steps.new) }
+    ensures spans { PaysBesides P.stands P.keeps port.old port.new Spans cursor.old.list cursor.new.list look_loads steps.old steps.new }
 {
     let Some(posting) = cursor.current else {
         return 0;
@@ -100,12 +95,11 @@ fn leap_below<P: Port, L: Ledger>(
     steps: &mut Steps<L>,
     end: u64,
 ) -> u64
-    requires { (m : Moment) × (f : ℕ → Bool) × P.stands port.old m × IsLeaf (gives m) f cursor.old end }
+    requires { CanAskLeaf P.stands port.old cursor.old end }
     ensures upto { cursor.new.upto ≡ cursor.old.upto }
-    ensures found { (f : ℕ → Bool) → Told P.stands P.keeps port.old port.new (λ m. IsLeaf (gives m) f cursor.old end) (FoundLeaf f cursor.new end result) }
+    ensures found { FindsLeaf P.stands P.keeps port.old port.new cursor.old cursor.new end result }
     ensures loads { steps.new + 4 * ahead cursor.new.current ≤ steps.old + 4 * ahead cursor.old.current }
-    ensures spans { (s : ℕ) (t : List ℕ) (most : ℕ) → Told P.stands P.keeps port.old port.new (λ m. Spans m s t cursor.old.list most)
-        (λ n. IsPaid (Spans n s t cursor.new.list) steps.old (most + leap_loads) steps.new) }
+    ensures spans { PaysBesides P.stands P.keeps port.old port.new Spans cursor.old.list cursor.new.list leap_loads steps.old steps.new }
 {
     let Some(posting) = cursor.current else {
         return 0;

@@ -1,16 +1,11 @@
 //! Phrases: the terms of a phrase leap over its possible places.
 ghost use Rattle.std.specs.Prelude.{◌≡◌, ℕ, ◌+◌, ◌*◌, ◌<◌, ◌≤◌, ◌^◌, List, length};
-ghost use Rattle.eb_base.specs.Document.{Doc};
-ghost use Rattle.eb_base.specs.Query.{phrase};
 ghost use Rattle.eb_place.specs.Postings.{places};
-ghost use Rattle.eb_place.specs.declared.moment.Moment.{Moment};
-ghost use Rattle.eb_place.specs.Told.{Told};
-ghost use Rattle.eb_cursor.specs.Lists.{gives};
 ghost use Rattle.eb_cursor.specs.Loads.{loads_left};
-ghost use Rattle.eb_cursor.specs.Costs.{AllSpan, look_loads, IsPaid};
+ghost use Rattle.eb_cursor.specs.Costs.{PaysSpans, round_loads};
 ghost use Rattle.eb_cursor.specs.Posted.{document_end, has_room};
-ghost use Rattle.eb_cursor.specs.Ready.{Ready, AllLeaves};
-ghost use Rattle.eb_cursor.specs.Asked.{CanAskPhrase, CanAskLeaves, Found, FoundStart, IsLedRun, IsRun};
+ghost use Rattle.eb_cursor.specs.Asked.{CanAskPhrase, CanAskLeaves};
+ghost use Rattle.eb_cursor.specs.Finds.{FindsPhrase, FindsStart, LeadsRun, GoesOver};
 ghost use Rattle.eb_cursor.specs.Tops.{top};
 
 use crate::cursor::{Cursor, leaf_below};
@@ -52,11 +47,9 @@ fn leaves_below<P: Port, L: Ledger>(
 ) -> u64
     requires small { end + at + length cursors.old < 2 ^ 49 }
     requires ready { CanAskLeaves P.stands port.old cursors.old at end }
-    ensures found { (docs : List Doc) (ts : List (List ℕ)) (last : ℕ) → end ≤ last → Told P.stands P.keeps port.old port.new
-        (λ m. AllLeaves (gives m) docs ts cursors.old (last + at)) (λ n. IsRun (gives n) docs ts cursors.new at end result) }
+    ensures found { GoesOver P.stands P.keeps port.old port.new cursors.old cursors.new at end result }
     ensures loads { steps.new + loads_left cursors.new ≤ steps.old + loads_left cursors.old }
-    ensures spans { (s : ℕ) (ts : List (List ℕ)) (most : ℕ) → Told P.stands P.keeps port.old port.new (λ m. AllSpan m s ts cursors.old most)
-        (λ n. IsPaid (AllSpan n s ts cursors.new) steps.old (most + look_loads * length ts) steps.new) }
+    ensures spans { (ts : List (List ℕ)) → PaysSpans P.stands P.keeps port.old port.new ts cursors.old cursors.new (round_loads ts) steps.old steps.new }
 {
     if end == 0 {
         return 0;
@@ -80,8 +73,7 @@ fn lead_leaf_below<P: Port, L: Ledger>(
 ) -> u64
     requires small { end + at + length cursors.old < 2 ^ 49 }
     requires ready { CanAskLeaves P.stands port.old cursors.old at end }
-    ensures found { (docs : List Doc) (ts : List (List ℕ)) (last : ℕ) → end ≤ last → Told P.stands P.keeps port.old port.new
-        (λ m. AllLeaves (gives m) docs ts cursors.old (last + at)) (λ n. IsLedRun (gives n) docs ts cursors.new at end result) }
+    ensures found { LeadsRun P.stands P.keeps port.old port.new cursors.old cursors.new at end result }
     ensures loads { steps.new + loads_left cursors.new ≤ steps.old + loads_left cursors.old }
 {
     let Some((own, rest)) = cursors.split_first_mut() else {
@@ -102,8 +94,7 @@ fn starts_below<P: Port, L: Ledger>(
 ) -> u64
     requires small { (end ≤ 2 ^ 48) × (0 < length cursors.old) × (length cursors.old ≤ 64) }
     requires ready { CanAskLeaves P.stands port.old cursors.old 0 end }
-    ensures found { (docs : List Doc) (ts : List (List ℕ)) (last : ℕ) → end ≤ last
-        → Told P.stands P.keeps port.old port.new (λ m. AllLeaves (gives m) docs ts cursors.old last) (FoundStart ts docs cursors.new end result) }
+    ensures found { FindsStart P.stands P.keeps port.old port.new cursors.old cursors.new end result }
     ensures loads { steps.new + loads_left cursors.new ≤ steps.old + loads_left cursors.old }
 {
     let count = cursors.len() as u64;
@@ -128,8 +119,7 @@ fn led_starts_below<P: Port, L: Ledger>(
 ) -> u64
     requires small { (end ≤ 2 ^ 48) × (0 < length cursors.old) × (length cursors.old ≤ 64) }
     requires ready { CanAskLeaves P.stands port.old cursors.old 0 end }
-    ensures found { (docs : List Doc) (ts : List (List ℕ)) (last : ℕ) → end ≤ last
-        → Told P.stands P.keeps port.old port.new (λ m. AllLeaves (gives m) docs ts cursors.old last) (FoundStart ts docs cursors.new end result) }
+    ensures found { FindsStart P.stands P.keeps port.old port.new cursors.old cursors.new end result }
     ensures loads { steps.new + loads_left cursors.new ≤ steps.old + loads_left cursors.old }
 {
     let start = lead_leaf_below(0, lead, cursors, port, steps, end);
@@ -145,8 +135,7 @@ pub fn phrase_below<P: Port, L: Ledger>(
 ) -> u64
     requires small { (end ≤ 2 ^ 32) × (length cursors.old ≤ 64) }
     requires ready { CanAskPhrase P.stands port.old cursors.old end }
-    ensures found { (docs : List Doc) (ts : List (List ℕ)) (last : ℕ) → end ≤ last
-        → Told P.stands P.keeps port.old port.new (λ m. Ready (gives m) docs (phrase ts) cursors.old last) (Found (phrase ts) docs cursors.new end result) }
+    ensures found { FindsPhrase P.stands P.keeps port.old port.new cursors.old cursors.new end result }
     ensures loads { steps.new + loads_left cursors.new ≤ steps.old + loads_left cursors.old }
 {
     let start = (PLACES * end).min(cursors[0].upto);

@@ -1,12 +1,12 @@
 //! Where the postings of a term come from.
 ghost use Rattle.std.specs.Prelude.{◌≡◌, ℕ, ◌+◌, ◌-◌, ◌*◌, ◌<◌, ◌≤◌, true, List, length};
 ghost use Rattle.std.specs.Bool.{MatchBool};
-ghost use Rattle.eb_base.specs.Document.{Doc};
 ghost use Rattle.eb_place.specs.declared.moment.Moment.{Moment};
 ghost use Rattle.eb_place.specs.Told.{Told};
-ghost use Rattle.eb_cursor.specs.Costs.{Costs, Spans, leap_loads, IsPaid, IsReading, word_loads};
-ghost use Rattle.eb_cursor.specs.Lists.{list_gives, Gave, from_below};
-ghost use Rattle.eb_cursor.specs.Opened.{CanRead, Opened};
+ghost use Rattle.eb_cursor.specs.Costs.{Costs, Spans, leap_loads, IsPaid, IsReading, Pays, PaysBesides, word_loads};
+ghost use Rattle.eb_cursor.specs.Finds.{Opens};
+ghost use Rattle.eb_cursor.specs.Lists.{list_gives, CanGive, Gave, from_below};
+ghost use Rattle.eb_cursor.specs.Opened.{CanOpen, Opened};
 ghost use Rattle.eb_place.specs.PackedLists.{IsConverted};
 
 use eb_base::Term;
@@ -50,8 +50,8 @@ impl PostingList {
         port: &mut P,
         steps: &mut Steps<L>,
     ) -> PostingList
-        requires { (m : Moment) × (docs : List Doc) × P.stands port.old m × CanRead m segment docs packed }
-        ensures opened { (docs : List Doc) → Told P.stands P.keeps port.old port.new (λ m. CanRead m segment docs packed) (λ n. Opened n docs term.now result) }
+        requires { CanOpen P.stands port.old segment packed }
+        ensures opened { Opens P.stands P.keeps port.old port.new segment packed (λ docs n. Opened n docs term.now result) }
         ensures costs { (was : Moment) → Told P.stands P.keeps port.old port.new (λ m. IsReading was m segment packed)
             (λ n. IsPaid (Costs n segment term.now result) steps.old (word_loads was n segment term.now) steps.new) }
     {
@@ -70,13 +70,11 @@ impl PostingList {
         port: &mut P,
         steps: &mut Steps<L>,
     ) -> Option<Posting>
-        requires { (m : Moment) × (xs : List ℕ) × P.stands port.old m × list_gives m self.old xs }
+        requires { CanGive P.stands port.old self.old }
         ensures given { (xs : List ℕ) → Told P.stands P.keeps port.old port.new (λ m. list_gives m self.old xs) (Gave xs self.new result) }
         ensures loads { steps.new ≤ steps.old + 2 }
-        ensures costs { (s : ℕ) (t : List ℕ) (most : ℕ) → Told P.stands P.keeps port.old port.new (λ m. Costs m s t self.old most)
-            (λ n. IsPaid (Costs n s t self.new) steps.old most steps.new) }
-        ensures spans { (s : ℕ) (t : List ℕ) (most : ℕ) → Told P.stands P.keeps port.old port.new (λ m. Spans m s t self.old most)
-            (λ n. IsPaid (Spans n s t self.new) steps.old (most + 2) steps.new) }
+        ensures costs { Pays P.stands P.keeps port.old port.new Costs self.old self.new steps.old steps.new }
+        ensures spans { PaysBesides P.stands P.keeps port.old port.new Spans self.old self.new 2 steps.old steps.new }
     {
         match self {
             PostingList::Empty => None,
@@ -92,13 +90,12 @@ impl PostingList {
         most: Posting,
         steps: &mut Steps<L>,
     ) -> Option<Posting>
-        requires { (m : Moment) × (xs : List ℕ) × P.stands port.old m × list_gives m self.old xs }
+        requires { CanGive P.stands port.old self.old }
         ensures given { (xs : List ℕ) → Told P.stands P.keeps port.old port.new
             (λ m. list_gives m self.old xs) (Gave (from_below (most + 1) xs) self.new result) }
         ensures loads { (m : Moment) (xs : List ℕ) → P.stands port.old m → list_gives m self.old xs
             → steps.new ≤ steps.old + 2 * (length xs - length (from_below (most + 1) xs) + 1) + 2 }
-        ensures spans { (s : ℕ) (t : List ℕ) (owed : ℕ) → Told P.stands P.keeps port.old port.new (λ m. Spans m s t self.old owed)
-            (λ n. IsPaid (Spans n s t self.new) steps.old (owed + leap_loads) steps.new) }
+        ensures spans { PaysBesides P.stands P.keeps port.old port.new Spans self.old self.new leap_loads steps.old steps.new }
     {
         match self {
             PostingList::Empty => None,

@@ -1,14 +1,9 @@
 //! Windows: the terms of a window, from the last to the first, leap over its possible places.
 ghost use Rattle.std.specs.Prelude.{◌≡◌, ℕ, ◌+◌, ◌*◌, ◌<◌, ◌≤◌, ◌^◌, List, length};
-ghost use Rattle.eb_base.specs.Document.{Doc};
-ghost use Rattle.eb_base.specs.Query.{window};
-ghost use Rattle.eb_place.specs.declared.moment.Moment.{Moment};
-ghost use Rattle.eb_place.specs.Told.{Told};
-ghost use Rattle.eb_cursor.specs.Lists.{gives};
 ghost use Rattle.eb_cursor.specs.Loads.{loads_left};
 ghost use Rattle.eb_cursor.specs.Posted.{reach_end};
-ghost use Rattle.eb_cursor.specs.Ready.{Ready, AllBehind};
-ghost use Rattle.eb_cursor.specs.Asked.{CanAskWindow, CanAskBehind, Found, FoundSpan, FoundEnd};
+ghost use Rattle.eb_cursor.specs.Asked.{CanAskWindow, CanAskBehind};
+ghost use Rattle.eb_cursor.specs.Finds.{FindsWindow, FindsSpan, FindsEnd};
 
 use crate::cursor::{Cursor, leaf_below};
 use crate::phrase::to_document_end;
@@ -33,8 +28,7 @@ fn span_below<P: Port, L: Ledger>(
 ) -> Span
     requires some { 0 < length cursors.old }
     requires ready { CanAskBehind P.stands port.old cursors.old end }
-    ensures found { (docs : List Doc) (ts : List (List ℕ)) (last : ℕ) → end ≤ last → Told P.stands P.keeps port.old port.new
-        (λ m. AllBehind (gives m) docs ts cursors.old last) (FoundSpan ts docs cursors.new end result) }
+    ensures found { FindsSpan P.stands P.keeps port.old port.new cursors.old cursors.new end result }
     ensures loads { steps.new + loads_left cursors.new ≤ steps.old + loads_left cursors.old }
 {
     let Some((own, rest)) = cursors.split_first_mut() else {
@@ -78,8 +72,7 @@ fn windows_below<P: Port, L: Ledger>(
     requires small { end ≤ 2 ^ 48 }
     requires some { 0 < length cursors.old }
     requires ready { CanAskBehind P.stands port.old cursors.old end }
-    ensures found { (docs : List Doc) (ts : List (List ℕ)) (last : ℕ) → end ≤ last → Told P.stands P.keeps port.old port.new
-        (λ m. AllBehind (gives m) docs ts cursors.old last) (FoundEnd ts reach docs cursors.new end result) }
+    ensures found { FindsEnd P.stands P.keeps port.old port.new reach cursors.old cursors.new end result }
     ensures loads { steps.new + loads_left cursors.new ≤ steps.old + loads_left cursors.old }
 {
     let mut place = end;
@@ -104,8 +97,7 @@ pub fn window_below<P: Port, L: Ledger>(
 ) -> u64
     requires small { end ≤ 2 ^ 32 }
     requires ready { CanAskWindow P.stands port.old reach cursors.old end }
-    ensures found { (docs : List Doc) (ts : List (List ℕ)) (last : ℕ) → end ≤ last → Told P.stands P.keeps port.old port.new
-        (λ m. Ready (gives m) docs (window ts reach) cursors.old last) (Found (window ts reach) docs cursors.new end result) }
+    ensures found { FindsWindow P.stands P.keeps port.old port.new reach cursors.old cursors.new end result }
     ensures loads { steps.new + loads_left cursors.new ≤ steps.old + loads_left cursors.old }
 {
     let start = (PLACES * end).min(cursors[0].upto);

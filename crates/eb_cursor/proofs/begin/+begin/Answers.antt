@@ -49,7 +49,7 @@ pub begin-returns-in-Window : goal.begin-returns-in-Window
 begin-returns-in-Window g t c = λ docs same.
     let i : tree c.args.query.now ≡ window c.as_slice-in-Window.result.now c.in-Window.field-1 = ap tree c.in-Window.is
     ∙ tree_Window c.in-Window.terms c.in-Window.field-1 ∙ ap (λ (z : List (List ℕ)). window z c.in-Window.field-1) (sym c.as_slice-in-Window.ensures) in
-    told_as g.met.P.Port.lawful (c.begin_window.ensures docs c.in-Window.field-1 same) (λ m a. a)
+    told_as g.met.P.Port.lawful (c.begin_window.ensures c.in-Window.field-1 docs same) (λ m a. a)
     (λ m n w a begun. subst (λ (x : Tree). Begun docs x c.begin_window.new.cursors c.begin_window.result n) (sym i) begun)
 
 pub begin-returns-in-Since : goal.begin-returns-in-Since

@@ -1,15 +1,20 @@
-use Rattle.std.proofs.Common.{◌≡◌, ◌≢◌, ℕ, zero, suc, ◌-◌, ◌<◌, ◌≤◌, List, [], ◌∷◌, length, not, Bool, arith, ap, ◌∙◌, sym, subst, refl, rules}
+use Rattle.std.proofs.Common.{◌≡◌, ◌≢◌, ℕ, zero, suc, ◌+◌, ◌-◌, ◌<◌, ◌≤◌, List, [], ◌∷◌, length, not, Bool, arith, ap, ◌∙◌, sym, subst, refl, rules}
 use Rattle.eb_base.specs.Query.{Tree, tree, word, phrase, window, since, negation, conjunction, disjunction}
 use Rattle.eb_base.specs.declared.query.Query.{Query}
+use Rattle.eb_cursor.specs.AndCosts.{words_of, rounds_cost, AndOwes}
 use Rattle.eb_cursor.specs.Asked.{trees_in}
 use Rattle.eb_cursor.specs.Lists.{gives}
 use Rattle.eb_cursor.specs.Ready.{Ready, AllReady}
 use Rattle.eb_cursor.specs.Tops.{top}
 use Rattle.eb_cursor.specs.Posted.{match_at}
+use Rattle.eb_cursor.specs.declared.cursor.Cursor.{Cursor}
 use Rattle.eb_cursor.proofs.Tops.{top_le}
 use Rattle.eb_cursor.proofs.Readies.{ready_lower, ready_later, all_lower, all_size}
 use Rattle.eb_cursor.proofs.Steps.{tree_Word, tree_Phrase, tree_Window, tree_Since, tree_Not, tree_And, tree_Or, not_asks, not_told, not_here, not_past, each_told, each_asks, led_none}
 use Rattle.eb_cursor.proofs.Steps.{led_here, led_there, led_top, round_end, round_step, round_behind, some_end, some_step, some_asks, some_told, front_of, front_asks, others_ask, ended}
+use Rattle.eb_place.proofs.LaterMoments.{later_on}
+use Rattle.eb_cursor.proofs.AndLoads.{words_split, spans_front, spans_join, cost_low, cost_falls, under_at}
+use Rattle.eb_cursor.proofs.Owing.{all_span_later}
 use Rattle.eb_cursor.proofs.LoadsLeft.{loads_split, loads_split_back}
 use Rattle.eb_cursor.proofs.Tellings.{IsLater, gives_later, later_same, told_itself, told_as, told_on}
 use Rattle.eb_cursor.proofs.below.+below.Goals as goal
@@ -58,36 +63,30 @@ below-returns-in-Some-clause-found g t c = λ docs last h.
     (tree c.deref.result.now) c.args.cursors.now s _ c.in-Some.rest.now _ c.min.result c.args.end last c.not_below-found.result
     i c.in-Some.ensures.cases.0 refl h c.min.ensures w r)
 
-pub below-led_below-found-requires : goal.below-led_below-found-requires
-below-led_below-found-requires g t c = λ κs lv.
+pub below-and_below-requires : goal.below-and_below-requires
+below-and_below-requires g t c = λ κs lv.
     let r = c.requires.ready in
     let i : tree c.args.query.now ≡ conjunction (trees_in c.as_slice.result.now) = ap tree c.in-And.is
     ∙ tree_And c.in-And.parts ∙ ap (λ (x : List Query). conjunction (trees_in x)) (sym c.as_slice.ensures) in
-    let asks = each_asks (gives r.0) r.1 (tree c.args.query.now) (trees_in c.as_slice.result.now)
-    c.args.cursors.now c.in-Some-split_first_mut.own.now c.in-Some-split_first_mut.rest.now r.2 i c.in-Some-split_first_mut.ensures.cases.0 r.5 in
-    (search rules, (search rules, (search rules, (search rules, (r.0, r.1, c.in-Some-split_first_mut.own.now.upto, r.3, omega (arith, c.min-start.ensures), asks)))))
+    (search rules, (search rules, (search rules, (search rules, (r.0, r.1, r.2, r.3, r.4, subst (λ x. Ready (gives r.0) r.1 x c.args.cursors.now r.2) i r.5)))))
+
+pub below-returns-in-And-clause-found : goal.below-returns-in-And-clause-found
+below-returns-in-And-clause-found g t c = λ docs last h.
+    let i : tree c.args.query.now ≡ conjunction (trees_in c.as_slice.result.now) = ap tree c.in-And.is
+    ∙ tree_And c.in-And.parts ∙ ap (λ (x : List Query). conjunction (trees_in x)) (sym c.as_slice.ensures) in
+    told_as g.met.P.Port.lawful (c.and_below.ensures.found docs last h)
+    (λ m r. subst (λ x. Ready (gives m) docs x c.args.cursors.now last) i r)
+    (λ m n later r w. (w.0 ∙ ap (λ (x : Tree). top (match_at docs x) c.args.end) (sym i), subst (λ x. Ready (gives n) docs x c.and_below.new.cursors c.args.end) (sym i) w.1))
 
 pub below-returns-in-Some-split_first_mut-clause-found : goal.below-returns-in-Some-split_first_mut-clause-found
 below-returns-in-Some-split_first_mut-clause-found g t c = λ docs last h.
-    let s = c.in-Some-split_first_mut.own.now in
-    let i : tree c.args.query.now ≡ conjunction (trees_in c.as_slice.result.now) = ap tree c.in-And.is
-    ∙ tree_And c.in-And.parts ∙ ap (λ (x : List Query). conjunction (trees_in x)) (sym c.as_slice.ensures) in
-    told_as g.met.P.Port.lawful (c.led_below-found.ensures.found docs s.upto (omega (arith, c.min-start.ensures)))
-    (λ m r. each_asks (gives m) docs (tree c.args.query.now)
-    (trees_in c.as_slice.result.now) c.args.cursors.now s c.in-Some-split_first_mut.rest.now last i c.in-Some-split_first_mut.ensures.cases.0 r)
-    (λ m n later r w. each_told (gives m) (gives n) docs (tree c.args.query.now)
-    (trees_in c.as_slice.result.now) c.args.cursors.now s _ c.in-Some-split_first_mut.rest.now _ c.min-start.result c.args.end last c.led_below-found.result
-    i c.in-Some-split_first_mut.ensures.cases.0 refl h c.min-start.ensures w r)
-
-pub below-returns-in-Some-split_first_mut-2-clause-found : goal.below-returns-in-Some-split_first_mut-2-clause-found
-below-returns-in-Some-split_first_mut-2-clause-found g t c = λ docs last h.
     let i : tree c.args.query.now ≡ disjunction (trees_in c.as_slice-in-Or.result.now) = ap tree c.in-Or.is
     ∙ tree_Or c.in-Or.parts ∙ ap (λ (x : List Query). disjunction (trees_in x)) (sym c.as_slice-in-Or.ensures) in
     told_as g.met.P.Port.lawful (c.some_below.ensures.found docs last h)
     (λ m r. some_asks (gives m) docs (tree c.args.query.now) (trees_in c.as_slice-in-Or.result.now)
-    c.args.cursors.now c.in-Some-split_first_mut-2._own.now c.in-Some-split_first_mut-2.rest.now last i c.in-Some-split_first_mut-2.ensures.cases.0 r)
+    c.args.cursors.now c.in-Some-split_first_mut._own.now c.in-Some-split_first_mut.rest.now last i c.in-Some-split_first_mut.ensures.cases.0 r)
     (λ m n later r w. some_told (gives n) docs (tree c.args.query.now)
-    (trees_in c.as_slice-in-Or.result.now) c.in-Some-split_first_mut-2._own.now c.some_below.new.cursors c.args.end c.some_below.result i w)
+    (trees_in c.as_slice-in-Or.result.now) c.in-Some-split_first_mut._own.now c.some_below.new.cursors c.args.end c.some_below.result i w)
 
 -- ---- what does not match
 
@@ -144,11 +143,30 @@ not_below-returns-clause-found g t c = λ docs last h.
 
 -- ---- what all parts match
 
+pub and_below-led_below-found-requires : goal.and_below-led_below-found-requires
+and_below-led_below-found-requires g t c = λ κs lv.
+    let r = c.requires.ready in
+    let asks = each_asks (gives r.0) r.1 (conjunction (trees_in c.args.parts.now)) (trees_in c.args.parts.now)
+    c.args.cursors.now c.in-Some.own.now c.in-Some.rest.now r.2 refl c.in-Some.ensures.cases.0 r.5 in
+    (search rules, (search rules, (search rules, (search rules, (r.0, r.1, c.in-Some.own.now.upto, r.3, omega (arith, c.min-start.ensures), asks)))))
+
+pub and_below-returns-clause-found : goal.and_below-returns-clause-found
+and_below-returns-clause-found g t c = λ docs last h.
+    let s = c.in-Some.own.now in
+    let fell : Cursor = record { upto = c.led_below-found.result; lead = s.lead; segment = s.segment; current = s.current; list = s.list } in
+    told_as g.met.P.Port.lawful (c.led_below-found.ensures.found docs s.upto (omega (arith, c.min-start.ensures)))
+    (λ m r. each_asks (gives m) docs (conjunction (trees_in c.args.parts.now))
+    (trees_in c.args.parts.now) c.args.cursors.now s c.in-Some.rest.now last refl c.in-Some.ensures.cases.0 r)
+    (λ m n later r w. each_told (gives m) (gives n) docs (conjunction (trees_in c.args.parts.now))
+    (trees_in c.args.parts.now) c.args.cursors.now s fell c.in-Some.rest.now c.led_below-found.new.cursors c.min-start.result c.args.end last c.led_below-found.result
+    refl c.in-Some.ensures.cases.0 refl h c.min-start.ensures w r)
+
 pub all_below-loop-place-init : goal.all_below-loop-place-init
 all_below-loop-place-init g t c = record {
   falls = omega arith;
   loads = omega arith;
   found = λ docs last h. told_itself g.met.P.Port.keeps_itself (λ m r. (refl, all_lower (gives m) docs (trees_in c.args.parts.now) c.args.cursors.now c.args.end last h r));
+  rounds = λ ts t e i docs r last s most h st ready. told_itself g.met.P.Port.keeps_itself (λ m p. (most, p, omega arith));
 }
 
 pub all_below-round_below-found-requires : goal.all_below-round_below-found-requires
@@ -190,6 +208,21 @@ all_below-loop-place-preserved g t c =
           told_on g.met.P.Port.lawful g.met.P.Port.keeps_on (c.loop-place.invariant.found docs last h) (c.round_below-found.ensures.found docs c.loop-place.place (omega arith))
           (λ l r. r) (λ l m w r i. i.1)
           (λ l m n w1 w2 r i round. (i.0 ∙ round.same, round.ready));
+      rounds = λ ts t e member docs r last s most h st ready. record {
+        told = λ m at p.
+            let i = (c.loop-place.invariant.found docs last h).told r st (subst (λ z. AllReady (gives r) docs z c.args.cursors.now last) (sym e) ready) in
+            let z = (c.round_below-found.ensures.found docs c.loop-place.place (omega arith)).told i.0 i.1 i.4.1 in
+            let falls : c.round_below-found.result < c.loop-place.place = let ne : c.round_below-found.result ≢ c.loop-place.place = c.if-found-place.false in omega (arith, z.4.falls, ne) in
+            let pays = cost_falls docs ts t c.round_below-found.result c.loop-place.place falls (under_at docs ts t (trees_in c.args.parts.now) _ _ member e z.4.under) in
+            let x = (c.loop-place.invariant.rounds ts t e member docs r last s most h st ready).told m at p in
+            let y = (c.round_below-found.ensures.spans ts e s x.4.1.0).told x.0 x.1 x.4.1.1 in (
+              y.0,
+              y.1,
+              later_on m x.0 y.0 x.2 y.2,
+              g.met.P.Port.keeps_on _ _ _ m x.0 y.0 x.3 y.3,
+              (y.4.0 + rounds_cost docs ts t c.round_below-found.result, (y.4.0, y.4.1, omega arith), omega (arith, x.4.1.2, x.4.2, y.4.2, pays)),
+            );
+      };
     }
 
 -- ---- the part that leads
@@ -416,3 +449,155 @@ pub some_below-returns-clause-loads : goal.some_below-returns-clause-loads
 some_below-returns-clause-loads g t c = loads_split c.args.cursors.now c.split_at_mut-own.result.0.now c.split_at_mut-own.result.1.now
     c.below-found.new.cursors c.some_below-other.new.cursors c.args.steps.now c.below-found.new.steps c.some_below-other.new.steps
     c.split_at_mut-own.ensures.value c.below-found.ensures.loads c.some_below-other.ensures.loads
+
+-- ---- the loads of an and of words
+
+pub below-returns-in-Word-clause-spans : goal.below-returns-in-Word-clause-spans
+below-returns-in-Word-clause-spans g t c = λ u e. c.word_below.ensures.spans u
+
+pub below-returns-then-end-eq0-clause-spans : goal.below-returns-then-end-eq0-clause-spans
+below-returns-then-end-eq0-clause-spans g t c = λ u e s most. told_itself g.met.P.Port.keeps_itself (λ m h. (most, h, omega arith))
+
+pub all_below-returns-then-found-place-clause-rounds : goal.all_below-returns-then-found-place-clause-rounds
+all_below-returns-then-found-place-clause-rounds g t c = λ ts u e member docs r last s most h st ready. record {
+  told = λ m at p.
+      let x = (c.loop-place.invariant.rounds ts u e member docs r last s most h st ready).told m at p in
+      let y = (c.round_below-found.ensures.spans ts e s x.4.1.0).told x.0 x.1 x.4.1.1 in (
+        y.0,
+        y.1,
+        later_on m x.0 y.0 x.2 y.2,
+        g.met.P.Port.keeps_on _ _ _ m x.0 y.0 x.3 y.3,
+        (y.4.0 + rounds_cost docs ts u c.loop-place.place, (y.4.0, y.4.1, omega arith), omega (arith, x.4.1.2, x.4.2, y.4.2)),
+      );
+}
+
+pub led_below-returns-clause-rounds : goal.led_below-returns-clause-rounds
+led_below-returns-clause-rounds g t c = λ ts u e member docs r last s most h st ready. record {
+  told = λ m at p.
+      let z = (c.lead_below-start.ensures.found docs last h).told r st (subst (λ z. AllReady (gives r) docs z c.args.cursors.now last) (sym e) ready) in
+      let on = subst (λ y. AllReady (gives z.0) docs y c.lead_below-start.new.cursors c.lead_below-start.result) e z.4.ready in
+      let x = (c.lead_below-start.ensures.spans ts e s p.0).told m at p.1 in
+      let low = cost_low docs ts u c.lead_below-start.result c.args.end z.4.falls in
+      let y = (c.all_below.ensures.rounds ts u e member docs z.0 c.lead_below-start.result s (x.4.0 + rounds_cost docs ts u c.lead_below-start.result) (omega arith) z.1 on).told
+      x.0 x.1 (x.4.0, x.4.1, omega arith) in (
+        y.0,
+        y.1,
+        later_on m x.0 y.0 x.2 y.2,
+        g.met.P.Port.keeps_on _ _ _ m x.0 y.0 x.3 y.3,
+        (y.4.0, y.4.1, omega (arith, x.4.2, y.4.2, low, p.2)),
+      );
+}
+
+pub and_below-returns-in_default-clause-rounds : goal.and_below-returns-in_default-clause-rounds
+and_below-returns-in_default-clause-rounds g t c = λ ts u e member docs r last s most h st ready. told_itself g.met.P.Port.keeps_itself (λ m p. (most, p, omega arith))
+
+pub and_below-returns-clause-rounds : goal.and_below-returns-clause-rounds
+and_below-returns-clause-rounds g t c = λ ts u e member docs r last s most h st ready.
+    let own = c.in-Some.own.now in
+    let same : conjunction (trees_in c.args.parts.now) ≡ conjunction (words_of ts) = ap conjunction e in
+    let asks = each_asks (gives r) docs (conjunction (words_of ts)) (words_of ts) c.args.cursors.now own c.in-Some.rest.now last refl c.in-Some.ensures.cases.0 ready in
+    record {
+      told = λ m at p.
+          let o : AndOwes m s docs ts u (own ∷ c.in-Some.rest.now) most = subst (λ z. AndOwes m s docs ts u z most) c.in-Some.ensures.cases.0 p in
+          let low = cost_low docs ts u c.min-start.result own.upto (omega (arith, c.min-start.ensures)) in
+          let x = (c.led_below-found.ensures.rounds ts u e member docs r own.upto s most (omega (arith, c.min-start.ensures)) st asks).told m at (o.0, o.1, omega (arith, o.2, low)) in
+          (x.0, x.1, x.2, x.3, (x.4.0, x.4.1, omega (arith, x.4.2)));
+    }
+
+pub lead_below-returns-in_default-clause-spans : goal.lead_below-returns-in_default-clause-spans
+lead_below-returns-in_default-clause-spans g t c = λ ts e s most. told_itself g.met.P.Port.keeps_itself (λ m h. (most, h, omega arith))
+
+pub lead_below-returns-then-lead-eq0-clause-spans : goal.lead_below-returns-then-lead-eq0-clause-spans
+lead_below-returns-then-lead-eq0-clause-spans g t c = λ ts e s most. record {
+  told = λ m at h.
+      let f = front_of c.args.parts.now c.in-Some.part.now c.in-Some.others.now c.args.cursors.now c.split_at_mut-own.result.0.now c.split_at_mut-own.result.1.now
+      c.size.result c.in-Some.ensures.cases.0 c.size.ensures c.split_at_mut-own.ensures.front c.split_at_mut-own.ensures.back in
+      let k = words_split ts (tree c.in-Some.part.now) (trees_in c.in-Some.others.now) (sym f.parts ∙ e) in
+      let o = spans_front m s ts k.0 k.1 (trees_in c.args.parts.now) (tree c.in-Some.part.now) (trees_in c.in-Some.others.now)
+      c.args.cursors.now c.split_at_mut-own.result.0.now c.split_at_mut-own.result.1.now most f k.2 k.3 h in
+      let x = (c.below.ensures.spans k.0 k.3 s o.0).told m at o.2 in (
+        x.0,
+        x.1,
+        x.2,
+        x.3,
+        (
+          x.4.0 + o.1,
+          spans_join x.0 s ts k.0 k.1 c.below.new.cursors c.split_at_mut-own.result.1.now x.4.0 o.1 k.2 x.4.1
+              (all_span_later m x.0 s k.1 c.split_at_mut-own.result.1.now o.1 (g.met.P.Port.lawful _ m at) x.2 o.3),
+          omega (arith, x.4.2, o.4),
+        ),
+      );
+}
+
+pub lead_below-returns-clause-spans : goal.lead_below-returns-clause-spans
+lead_below-returns-clause-spans g t c = λ ts e s most. record {
+  told = λ m at h.
+      let f = front_of c.args.parts.now c.in-Some.part.now c.in-Some.others.now c.args.cursors.now c.split_at_mut-own.result.0.now c.split_at_mut-own.result.1.now
+      c.size.result c.in-Some.ensures.cases.0 c.size.ensures c.split_at_mut-own.ensures.front c.split_at_mut-own.ensures.back in
+      let k = words_split ts (tree c.in-Some.part.now) (trees_in c.in-Some.others.now) (sym f.parts ∙ e) in
+      let o = spans_front m s ts k.0 k.1 (trees_in c.args.parts.now) (tree c.in-Some.part.now) (trees_in c.in-Some.others.now)
+      c.args.cursors.now c.split_at_mut-own.result.0.now c.split_at_mut-own.result.1.now most f k.2 k.3 h in
+      let x = (c.lead_below.ensures.spans k.1 k.4 s o.1).told m at o.3 in (
+        x.0,
+        x.1,
+        x.2,
+        x.3,
+        (
+          o.0 + x.4.0,
+          spans_join x.0 s ts k.0 k.1 c.split_at_mut-own.result.0.now c.lead_below.new.cursors o.0 x.4.0 k.2
+              (all_span_later m x.0 s (k.0 ∷ []) c.split_at_mut-own.result.0.now o.0 (g.met.P.Port.lawful _ m at) x.2 o.2) x.4.1,
+          omega (arith, x.4.2, o.4),
+        ),
+      );
+}
+
+pub round_below-returns-in_default-clause-spans : goal.round_below-returns-in_default-clause-spans
+round_below-returns-in_default-clause-spans g t c = λ ts e s most. told_itself g.met.P.Port.keeps_itself (λ m h. (most, h, omega arith))
+
+pub round_below-returns-clause-spans : goal.round_below-returns-clause-spans
+round_below-returns-clause-spans g t c = λ ts e s most. record {
+  told = λ m at h.
+      let f = front_of c.args.parts.now c.in-Some.part.now c.in-Some.others.now c.args.cursors.now c.split_at_mut-own.result.0.now c.split_at_mut-own.result.1.now
+      c.size.result c.in-Some.ensures.cases.0 c.size.ensures c.split_at_mut-own.ensures.front c.split_at_mut-own.ensures.back in
+      let k = words_split ts (tree c.in-Some.part.now) (trees_in c.in-Some.others.now) (sym f.parts ∙ e) in
+      let o = spans_front m s ts k.0 k.1 (trees_in c.args.parts.now) (tree c.in-Some.part.now) (trees_in c.in-Some.others.now)
+      c.args.cursors.now c.split_at_mut-own.result.0.now c.split_at_mut-own.result.1.now most f k.2 k.3 h in
+      let x = (c.below-found.ensures.spans k.0 k.3 s o.0).told m at o.2 in
+      let others = all_span_later m x.0 s k.1 c.split_at_mut-own.result.1.now o.1 (g.met.P.Port.lawful _ m at) x.2 o.3 in
+      let y = (c.round_below.ensures.spans k.1 k.4 s o.1).told x.0 x.1 others in
+      let own = all_span_later x.0 y.0 s (k.0 ∷ []) c.below-found.new.cursors x.4.0 (g.met.P.Port.lawful _ x.0 x.1) y.2 x.4.1 in (
+        y.0,
+        y.1,
+        later_on m x.0 y.0 x.2 y.2,
+        g.met.P.Port.keeps_on _ _ _ m x.0 y.0 x.3 y.3,
+        (
+          x.4.0 + y.4.0,
+          spans_join y.0 s ts k.0 k.1 c.below-found.new.cursors c.round_below.new.cursors x.4.0 y.4.0 k.2 own y.4.1,
+          omega (arith, x.4.2, y.4.2, o.4, ap length k.2),
+        ),
+      );
+}
+
+pub round_below-returns-then-is_bound-clause-spans : goal.round_below-returns-then-is_bound-clause-spans
+round_below-returns-then-is_bound-clause-spans g t c = λ ts e s most. record {
+  told = λ m at h.
+      let f = front_of c.args.parts.now c.in-Some.part.now c.in-Some.others.now c.args.cursors.now c.split_at_mut-own.result.0.now c.split_at_mut-own.result.1.now
+      c.size.result c.in-Some.ensures.cases.0 c.size.ensures c.split_at_mut-own.ensures.front c.split_at_mut-own.ensures.back in
+      let k = words_split ts (tree c.in-Some.part.now) (trees_in c.in-Some.others.now) (sym f.parts ∙ e) in
+      let o = spans_front m s ts k.0 k.1 (trees_in c.args.parts.now) (tree c.in-Some.part.now) (trees_in c.in-Some.others.now)
+      c.args.cursors.now c.split_at_mut-own.result.0.now c.split_at_mut-own.result.1.now most f k.2 k.3 h in
+      let x = (c.round_below-found.ensures.spans k.1 k.4 s o.1).told m at o.3 in
+      let own = all_span_later m x.0 s (k.0 ∷ []) c.split_at_mut-own.result.0.now o.0 (g.met.P.Port.lawful _ m at) x.2 o.2 in
+      let y = (c.below.ensures.spans k.0 k.3 s o.0).told x.0 x.1 own in
+      let others = all_span_later x.0 y.0 s k.1 c.round_below-found.new.cursors x.4.0 (g.met.P.Port.lawful _ x.0 x.1) y.2 x.4.1 in (
+        y.0,
+        y.1,
+        later_on m x.0 y.0 x.2 y.2,
+        g.met.P.Port.keeps_on _ _ _ m x.0 y.0 x.3 y.3,
+        (
+          y.4.0 + x.4.0,
+          spans_join y.0 s ts k.0 k.1 c.below.new.cursors c.round_below-found.new.cursors y.4.0 x.4.0 k.2 y.4.1 others,
+          omega (arith, x.4.2, y.4.2, o.4, ap length k.2),
+        ),
+      );
+}

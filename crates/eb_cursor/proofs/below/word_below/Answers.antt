@@ -1,6 +1,7 @@
-use Rattle.std.proofs.Common.{◌∙◌}
+use Rattle.std.proofs.Common.{◌∙◌, arith}
 use Rattle.eb_cursor.specs.Lists.{gives}
 use Rattle.eb_cursor.specs.Posted.{is_posting}
+use Rattle.eb_cursor.proofs.AndLoads.{one_span, span_one}
 use Rattle.eb_cursor.proofs.Steps.{word_asks, word_told}
 use Rattle.eb_cursor.proofs.Tellings.{told_as}
 use Rattle.eb_cursor.proofs.below.word_below.Goals as goal
@@ -14,3 +15,11 @@ returns-clause-found g c = λ docs t last h. told_as g.met.P.Port.lawful (c.leaf
     (λ m n later r w.
     let told = word_told (gives m) (gives n) docs t c.args.cursors.now c.leaf_below-found.new.cursor c.args.end last c.leaf_below-found.result w.0 w.1 r in
     (c.to_document_end.ensures ∙ told.0, told.1))
+
+pub returns-clause-spans : goal.returns-clause-spans
+returns-clause-spans g c = λ t s most. record {
+  told = λ m st h.
+      let k = one_span m s t c.args.cursors.now _ most h in
+      let x = (c.leaf_below-found.ensures.spans s t k.0).told m st k.1 in
+      (x.0, x.1, x.2, x.3, (x.4.0, span_one m x.0 s t c.args.cursors.now c.leaf_below-found.new.cursor most x.4.0 h x.4.1, omega (arith, x.4.2, k.2)));
+}

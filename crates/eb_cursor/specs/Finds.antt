@@ -1,0 +1,102 @@
+-- What a call finds that asks cursors, over words that may grow meanwhile: for each list of documents and each end, this
+-- one or a greater one, below which the cursors were ready.
+use Rattle.std.specs.Prelude.{◌≡◌, ℕ, ◌+◌, ◌≤◌, Bool, List, length}
+use Rattle.eb_base.specs.Document.{Doc}
+use Rattle.eb_base.specs.Query.{Tree, Trees, word, phrase, window}
+use Rattle.eb_place.specs.declared.moment.Moment.{Moment}
+use Rattle.eb_place.specs.Told.{Told}
+use Rattle.eb_cursor.specs.Lists.{gives}
+use Rattle.eb_cursor.specs.Opened.{CanRead}
+use Rattle.eb_cursor.specs.Ready.{Ready, AllReady, AllLeaves, AllBehind, IsBound, IsLeaf}
+use Rattle.eb_cursor.specs.Asked.{Found, FoundLeaf, FoundNot, FoundSome, FoundAll, FoundStart, FoundBound, FoundSpan, FoundEnd, IsLed, IsRound, IsLedRun, IsRun}
+use Rattle.eb_cursor.specs.declared.cursor.Cursor.{Cursor}
+use Rattle.eb_cursor.specs.declared.window.Span.{Span}
+
+-- the greatest match of a query
+abbrev pub Finds : {S : Type 0} → (S → Moment → Type 0) → (S → Moment → S → Moment → Type 0) → S → S → Tree → List Cursor → List Cursor → ℕ → ℕ → Type 0
+Finds stands keeps s t q old new end found = (docs : List Doc) (last : ℕ) → end ≤ last → Told stands keeps s t (λ m. Ready (gives m) docs q old last) (Found q docs new end found)
+
+-- the greatest document that has the cursors' word
+abbrev pub FindsWord : {S : Type 0} → (S → Moment → Type 0) → (S → Moment → S → Moment → Type 0) → S → S → List Cursor → List Cursor → ℕ → ℕ → Type 0
+FindsWord stands keeps s t old new end found = (docs : List Doc) (u : List ℕ) (last : ℕ) → end ≤ last
+    → Told stands keeps s t (λ m. Ready (gives m) docs (word u) old last) (Found (word u) docs new end found)
+
+-- the greatest document that has their phrase
+abbrev pub FindsPhrase : {S : Type 0} → (S → Moment → Type 0) → (S → Moment → S → Moment → Type 0) → S → S → List Cursor → List Cursor → ℕ → ℕ → Type 0
+FindsPhrase stands keeps s t old new end found = (docs : List Doc) (us : List (List ℕ)) (last : ℕ) → end ≤ last
+    → Told stands keeps s t (λ m. Ready (gives m) docs (phrase us) old last) (Found (phrase us) docs new end found)
+
+-- the greatest document that has their window of this reach
+abbrev pub FindsWindow : {S : Type 0} → (S → Moment → Type 0) → (S → Moment → S → Moment → Type 0) → S → S → ℕ → List Cursor → List Cursor → ℕ → ℕ → Type 0
+FindsWindow stands keeps s t w old new end found = (docs : List Doc) (us : List (List ℕ)) (last : ℕ) → end ≤ last
+    → Told stands keeps s t (λ m. Ready (gives m) docs (window us w) old last) (Found (window us w) docs new end found)
+
+-- the greatest document that a query does not match
+abbrev pub FindsNot : {S : Type 0} → (S → Moment → Type 0) → (S → Moment → S → Moment → Type 0) → S → S → Tree → List Cursor → List Cursor → ℕ → ℕ → Type 0
+FindsNot stands keeps s t q old new end found = (docs : List Doc) (last : ℕ) → end ≤ last → Told stands keeps s t (λ m. Ready (gives m) docs q old last) (FoundNot q docs new end found)
+
+-- the greatest document that some part matches
+abbrev pub FindsSome : {S : Type 0} → (S → Moment → Type 0) → (S → Moment → S → Moment → Type 0) → S → S → Trees → List Cursor → List Cursor → ℕ → ℕ → Type 0
+FindsSome stands keeps s t qs old new end found = (docs : List Doc) (last : ℕ) → end ≤ last
+    → Told stands keeps s t (λ m. AllReady (gives m) docs qs old last) (FoundSome qs docs new end found)
+
+-- the greatest document that all parts match
+abbrev pub FindsAll : {S : Type 0} → (S → Moment → Type 0) → (S → Moment → S → Moment → Type 0) → S → S → Trees → List Cursor → List Cursor → ℕ → ℕ → Type 0
+FindsAll stands keeps s t qs old new end found = (docs : List Doc) (last : ℕ) → end ≤ last
+    → Told stands keeps s t (λ m. AllReady (gives m) docs qs old last) (FoundAll qs docs new end found)
+
+-- where the leading part stops, which passed nothing that all parts match
+abbrev pub Leads : {S : Type 0} → (S → Moment → Type 0) → (S → Moment → S → Moment → Type 0) → S → S → Trees → List Cursor → List Cursor → ℕ → ℕ → Type 0
+Leads stands keeps s t qs old new end found = (docs : List Doc) (last : ℕ) → end ≤ last
+    → Told stands keeps s t (λ m. AllReady (gives m) docs qs old last) (λ n. IsLed (gives n) docs qs new end found)
+
+-- where one round over the parts stops, which passed nothing that all parts match
+abbrev pub GoesRound : {S : Type 0} → (S → Moment → Type 0) → (S → Moment → S → Moment → Type 0) → S → S → Trees → List Cursor → List Cursor → ℕ → ℕ → Type 0
+GoesRound stands keeps s t qs old new end found = (docs : List Doc) (last : ℕ) → end ≤ last
+    → Told stands keeps s t (λ m. AllReady (gives m) docs qs old last) (λ n. IsRound (gives n) docs qs new end found)
+
+-- ---- leaves
+
+-- the greatest number of the list
+abbrev pub FindsLeaf : {S : Type 0} → (S → Moment → Type 0) → (S → Moment → S → Moment → Type 0) → S → S → Cursor → Cursor → ℕ → ℕ → Type 0
+FindsLeaf stands keeps s t old new end found = (f : ℕ → Bool) → Told stands keeps s t (λ m. IsLeaf (gives m) f old end) (FoundLeaf f new end found)
+
+-- where the leading term of a phrase stops, which passed no place from which all terms stand
+abbrev pub LeadsRun : {S : Type 0} → (S → Moment → Type 0) → (S → Moment → S → Moment → Type 0) → S → S → List Cursor → List Cursor → ℕ → ℕ → ℕ → Type 0
+LeadsRun stands keeps s t old new at end found = (docs : List Doc) (us : List (List ℕ)) (last : ℕ) → end ≤ last
+    → Told stands keeps s t (λ m. AllLeaves (gives m) docs us old (last + at)) (λ n. IsLedRun (gives n) docs us new at end found)
+
+-- where one round over the terms stops, which passed no place from which all stand
+abbrev pub GoesOver : {S : Type 0} → (S → Moment → Type 0) → (S → Moment → S → Moment → Type 0) → S → S → List Cursor → List Cursor → ℕ → ℕ → ℕ → Type 0
+GoesOver stands keeps s t old new at end found = (docs : List Doc) (us : List (List ℕ)) (last : ℕ) → end ≤ last
+    → Told stands keeps s t (λ m. AllLeaves (gives m) docs us old (last + at)) (λ n. IsRun (gives n) docs us new at end found)
+
+-- the greatest place where the phrase begins
+abbrev pub FindsStart : {S : Type 0} → (S → Moment → Type 0) → (S → Moment → S → Moment → Type 0) → S → S → List Cursor → List Cursor → ℕ → ℕ → Type 0
+FindsStart stands keeps s t old new end found = (docs : List Doc) (us : List (List ℕ)) (last : ℕ) → end ≤ last
+    → Told stands keeps s t (λ m. AllLeaves (gives m) docs us old last) (FoundStart us docs new end found)
+
+-- where the terms of a window stand
+abbrev pub FindsSpan : {S : Type 0} → (S → Moment → Type 0) → (S → Moment → S → Moment → Type 0) → S → S → List Cursor → List Cursor → ℕ → Span → Type 0
+FindsSpan stands keeps s t old new end span = (docs : List Doc) (us : List (List ℕ)) (last : ℕ) → end ≤ last
+    → Told stands keeps s t (λ m. AllBehind (gives m) docs us old last) (FoundSpan us docs new end span)
+
+-- the greatest place where a window ends
+abbrev pub FindsEnd : {S : Type 0} → (S → Moment → Type 0) → (S → Moment → S → Moment → Type 0) → S → S → ℕ → List Cursor → List Cursor → ℕ → ℕ → Type 0
+FindsEnd stands keeps s t w old new end found = (docs : List Doc) (us : List (List ℕ)) (last : ℕ) → end ≤ last
+    → Told stands keeps s t (λ m. AllBehind (gives m) docs us old last) (FoundEnd us w docs new end found)
+
+-- the greatest document whose id is greater than the bound
+abbrev pub FindsBound : {S : Type 0} → (S → Moment → Type 0) → (S → Moment → S → Moment → Type 0) → S → S → ℕ → Cursor → Cursor → ℕ → ℕ → Type 0
+FindsBound stands keeps s t x old new end found = (docs : List Doc) (last : ℕ) → end ≤ last
+    → Told stands keeps s t (λ m. IsBound (gives m) docs x old last) (FoundBound x docs new end found)
+
+-- ---- beginning
+
+-- what opening lists in a segment gives, for each first documents of it that could be read
+abbrev pub Opens : {S : Type 0} → (S → Moment → Type 0) → (S → Moment → S → Moment → Type 0) → S → S → ℕ → Bool → (List Doc → Moment → Type 0) → Type 0
+Opens stands keeps s t segment packed After = (docs : List Doc) → Told stands keeps s t (λ m. CanRead m segment docs packed) (After docs)
+
+-- what beginning in so many documents of a segment gives
+abbrev pub Begins : {S : Type 0} → (S → Moment → Type 0) → (S → Moment → S → Moment → Type 0) → S → S → ℕ → ℕ → Bool → (List Doc → Moment → Type 0) → Type 0
+Begins stands keeps s t segment documents packed After = (docs : List Doc) → length docs ≡ documents → Told stands keeps s t (λ m. CanRead m segment docs packed) (After docs)
