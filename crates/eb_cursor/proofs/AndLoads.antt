@@ -1,13 +1,14 @@
 -- What the words of an and owe.
-use Rattle.std.proofs.Common.{◌≡◌, ℕ, zero, suc, ◌+◌, ◌*◌, ◌<◌, ◌≤◌, List, [], ◌∷◌, ◌++◌, length, get_or, take, drop, slice_set, slice_index_or, ap, sym, subst, refl, ◌∙◌, arith}
+use Rattle.std.proofs.Common.{◌≡◌, Bool, true, false, if◌then◌else◌, ℕ, zero, suc, ◌+◌, ◌*◌, ◌<◌, ◌≤◌, List, [], ◌∷◌, ◌++◌, length, get_or, take, drop, slice_set, slice_index_or, ap, sym, subst, refl, ◌∙◌, arith}
 use Rattle.std.proofs.Math.Nat.{mul-le-mul_left, mul-suc}
 use Rattle.std.specs.List.{Contains}
 use Rattle.eb_base.specs.Document.{Doc}
-use Rattle.eb_base.specs.Query.{Tree, Trees, word, trees, size}
+use Rattle.eb_base.specs.Query.{Tree, Trees, word, no_trees, trees, size, sizes}
 use Rattle.eb_base.specs.Term.{Term}
 use Rattle.eb_place.specs.declared.moment.Moment.{Moment}
 use Rattle.eb_cursor.specs.AndCosts.{words_of, has_term, rounds_cost}
 use Rattle.eb_cursor.specs.Asked.{AreUnder}
+use Rattle.eb_cursor.specs.Begun.{AreClear}
 use Rattle.eb_cursor.specs.Costs.{Spans, AllSpan, round_loads}
 use Rattle.eb_cursor.specs.Posted.{match_at}
 use Rattle.eb_cursor.specs.Tops.{top}
@@ -53,6 +54,32 @@ spans_join n s ts t us (c ∷ cs) rest a b i h k =
     let same : cs ++ rest ≡ rest = ap (λ z. z ++ rest) h.3 in
     let more : AllSpan n s us (cs ++ rest) b = subst (λ z. AllSpan n s us z b) (sym same) k in
     subst (λ z. AllSpan n s z (c ∷ (cs ++ rest)) (a + b)) (sym i) (h.0, b, h.2, more, omega (arith, h.4))
+
+-- the list of one word
+pub leaf_span : (n : Moment) (s : ℕ) (t : Term) (cursors : List Cursor) (c : Cursor) (left : ℕ) → length cursors ≡ 1 → Spans n s t c.list left → AllSpan n s (t ∷ []) (slice_set cursors 0 c) left
+leaf_span n s t [] c left e h = absurd (omega (arith, e))
+leaf_span n s t (x ∷ []) c left e h = (left, 0, h, refl, omega arith)
+leaf_span n s t (x ∷ (y ∷ ys)) c left e h = absurd (omega (arith, e))
+
+pub no_spans : (n : Moment) (s : ℕ) (ts : List Term) (qs : Trees) (cursors : List Cursor) → qs ≡ no_trees → qs ≡ words_of ts → length cursors ≡ sizes qs → AllSpan n s ts cursors 0
+no_spans n s [] qs [] z e l = refl
+no_spans n s [] qs (c ∷ cs) z e l = absurd (omega (arith, l, ap sizes z))
+no_spans n s (t ∷ ts) qs cursors z e l = absurd (cc (sym z ∙ e))
+
+-- cursors whose lists are forgotten span nothing
+pub clear_spans : (n : Moment) (s : ℕ) (ts : List Term) (cursors : List Cursor) → AreClear cursors → length cursors ≡ length ts → AllSpan n s ts cursors 0
+clear_spans n s [] [] h e = refl
+clear_spans n s [] (c ∷ cs) h e = absurd (omega (arith, e))
+clear_spans n s (t ∷ ts) [] h e = absurd (omega (arith, e))
+clear_spans n s (t ∷ ts) (c ∷ cs) h e = (0, 0, subst (λ z. Spans n s t z 0) (sym h.2) tt, clear_spans n s ts cs h.3 (omega (arith, e)), omega arith)
+
+pub sizes_words : (ts : List Term) → sizes (words_of ts) ≡ length ts
+sizes_words [] = refl
+sizes_words (t ∷ ts) = omega (arith, sizes_words ts)
+
+pub if_under : (b : Bool) (n : ℕ) → (if b then n else 0) ≤ n
+if_under true n = omega arith
+if_under false n = omega arith
 
 -- ---- rounds
 

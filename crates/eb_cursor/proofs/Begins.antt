@@ -100,12 +100,12 @@ leaves_from g docs (t ∷ ts) (c ∷ cs) low end h r = (leaf_lower g (is_posting
 clear_take : (n : ℕ) (cs : List Cursor) → AreClear cs → AreClear (take n cs)
 clear_take zero cs h = tt
 clear_take (suc n) [] h = tt
-clear_take (suc n) (c ∷ cs) h = (h.0, h.1, clear_take n cs h.2)
+clear_take (suc n) (c ∷ cs) h = (h.0, h.1, h.2, clear_take n cs h.3)
 
 clear_drop : (n : ℕ) (cs : List Cursor) → AreClear cs → AreClear (drop n cs)
 clear_drop zero cs h = h
 clear_drop (suc n) [] h = tt
-clear_drop (suc n) (c ∷ cs) h = clear_drop n cs h.2
+clear_drop (suc n) (c ∷ cs) h = clear_drop n cs h.3
 
 pub front_clear : (qs : Trees) (q : Tree) (qs' : Trees) (cursors own rest : List Cursor) → IsFront qs q qs' cursors own rest → AreClear cursors → AreClear own
 front_clear qs q qs' cursors own rest e h = subst AreClear (sym e.front) (clear_take (size q) cursors h)
@@ -125,7 +125,7 @@ clear_upto (c ∷ cs) h = h.1
 
 clear_rest : (cs : List Cursor) → AreClear cs → AreClear (rest_of cs)
 clear_rest [] h = tt
-clear_rest (c ∷ cs) h = h.2
+clear_rest (c ∷ cs) h = h.3
 
 length_rest : (cs : List Cursor) (n : ℕ) → length cs ≡ suc n → length (rest_of cs) ≡ n
 length_rest [] n e = absurd (omega arith)

@@ -10,11 +10,12 @@ use Rattle.eb_cursor.specs.Posted.{is_posting, match_at, each_at, some_at}
 use Rattle.eb_cursor.specs.Ready.{Ready, AllReady, IsLeaf}
 use Rattle.eb_cursor.specs.Tops.{top}
 use Rattle.eb_cursor.specs.declared.cursor.Cursor.{Cursor}
+use Rattle.eb_cursor.specs.declared.posting_list.PostingList.TheVariants.{Empty}
 
--- the cursors have passed everything
+-- the cursors have passed everything, and their lists are forgotten
 abbrev pub AreClear : List Cursor → Type 0
 AreClear [] = Unit {0}
-AreClear (c ∷ cs) = (c.current ≡ None) × (c.upto ≡ 0) × AreClear cs
+AreClear (c ∷ cs) = (c.current ≡ None) × (c.upto ≡ 0) × (c.list ≡ Empty) × AreClear cs
 
 -- at some moment that the port stands for, so many documents are accepted in the segment, and can be read
 abbrev pub CanBegin : {S : Type 0} → (S → Moment → Type 0) → S → ℕ → ℕ → Bool → Type 0

@@ -1,7 +1,7 @@
 //! The first postings of each term of a query.
-ghost use Rattle.std.specs.Prelude.{◌≡◌, ℕ, ◌+◌, ◌*◌, ◌<◌, ◌≤◌, ◌^◌, List, length, if◌then◌else◌};
+ghost use Rattle.std.specs.Prelude.{◌≡◌, ℕ, ◌+◌, ◌*◌, ◌<◌, ◌≤◌, ◌^◌, false, List, [], ◌∷◌, length, if◌then◌else◌};
 ghost use Rattle.eb_base.specs.Document.{Doc};
-ghost use Rattle.eb_base.specs.Query.{tree, word, window, size, sizes, IsFormed, AreFormed};
+ghost use Rattle.eb_base.specs.Query.{tree, word, window, conjunction, size, sizes, IsFormed, AreFormed};
 ghost use Rattle.eb_place.specs.Postings.{places};
 ghost use Rattle.eb_place.specs.declared.moment.Moment.{Moment};
 ghost use Rattle.eb_place.specs.Told.{Told};
@@ -11,7 +11,8 @@ ghost use Rattle.eb_cursor.specs.Opened.{CanOpen};
 ghost use Rattle.eb_cursor.specs.Finds.{Opens, Begins};
 ghost use Rattle.eb_cursor.specs.Posted.{is_posting};
 ghost use Rattle.eb_cursor.specs.Ready.{IsLeaf, IsBound, Ready};
-ghost use Rattle.eb_cursor.specs.Costs.{Costs, FirstCosts, IsPaid, IsReading, word_loads};
+ghost use Rattle.eb_cursor.specs.Costs.{Costs, FirstCosts, Spans, AllSpan, IsPaid, IsReading, opening_loads, word_loads};
+ghost use Rattle.eb_cursor.specs.AndCosts.{words_of, open_loads, and_loads, AndOwes};
 ghost use Rattle.eb_cursor.specs.Asked.{trees_in};
 ghost use Rattle.eb_cursor.specs.Begun.{AreClear, CanBegin, Begun, BegunLeaves, BegunEach, BegunSome};
 
@@ -47,6 +48,8 @@ fn open_leaf<P: Port, L: Ledger>(
         (λ docs n. IsLeaf (gives n) (is_posting docs term.now) result (places * length docs)) }
     ensures costs { (was : Moment) → Told P.stands P.keeps port.old port.new (λ m. IsReading was m segment packed)
         (λ n. IsPaid (Costs n segment term.now result.list) steps.old (word_loads was n segment term.now) steps.new) }
+    ensures spans { packed ≡ false → Told P.stands P.keeps port.old port.new (λ m. segment < m.setting.segments)
+        (λ n. IsPaid (Spans n segment term.now result.list) steps.old (opening_loads n segment term.now + 2) steps.new) }
 {
     let mut list = PostingList::open(term, segment, packed, port, steps);
     let current = list.next(port, steps);
@@ -126,8 +129,8 @@ fn begin_bound(cursor: &mut Cursor, segment: u32, documents: u32)
     cursor.current = last_before(end);
 }
 
-/// Begins a query, as [`begin`] does, whose loads are bounded where it is a word. Only then are packed lists
-/// read; all parts of another query read live slices.
+/// Begins a query, as [`begin`] does, whose loads are bounded where it is a word or an and of words. Packed lists
+/// are read only for a word; all parts of another query read live slices.
 pub fn begin_query<P: Port, L: Ledger>(
     query: &Query,
     cursors: &mut [Cursor],
@@ -146,9 +149,23 @@ pub fn begin_query<P: Port, L: Ledger>(
         (λ docs n. Ready (gives n) docs (tree query.now) cursors.new (length docs)) }
     ensures costs { (was : Moment) (t : List ℕ) → tree query.now ≡ word t → Told P.stands P.keeps port.old port.new
         (λ m. IsReading was m segment packed) (λ n. IsPaid (FirstCosts n segment t cursors.new) steps.old (word_loads was n segment t) steps.new) }
+    ensures rounds { (docs : List Doc) (ts : List (List ℕ)) (t : List ℕ) → tree query.now ≡ conjunction (words_of ts) → length docs ≡ documents
+        → Told P.stands P.keeps port.old port.new (λ m. segment < m.setting.segments)
+        (λ n. IsPaid (AndOwes n segment docs ts t cursors.new) steps.old (and_loads n segment docs ts t) steps.new) }
 {
     match query {
         Query::Word(term) => cursors[0] = open_leaf(term, segment, packed, port, steps),
+        Query::And(parts) => {
+            begin_and(
+                parts.as_slice(),
+                cursors,
+                segment,
+                false,
+                documents,
+                port,
+                steps,
+            );
+        }
         // Where parts leap, a seek in a packed list would decode most of a block, while a leap over slices
         // looks at some twenty words.
         _ => {
@@ -175,7 +192,10 @@ pub fn begin<P: Port, L: Ledger>(
     requires formed { IsFormed (tree query.now) }
     requires clear { AreClear cursors.old }
     requires first { CanBegin P.stands port.old segment documents packed }
-    ensures { Begins P.stands P.keeps port.old port.new segment documents packed (λ docs. Begun docs (tree query.now) cursors.new result) }
+    ensures begun { Begins P.stands P.keeps port.old port.new segment documents packed (λ docs. Begun docs (tree query.now) cursors.new result) }
+    ensures spans { (t : List ℕ) → tree query.now ≡ word t → packed ≡ false
+        → Told P.stands P.keeps port.old port.new (λ m. segment < m.setting.segments)
+        (λ n. IsPaid (AllSpan n segment (t ∷ []) cursors.new) steps.old (opening_loads n segment t + 2) steps.new) }
 {
     let end = u64::from(documents);
     match query {
@@ -216,23 +236,15 @@ pub fn begin<P: Port, L: Ledger>(
             begin(part, rest, segment, packed, documents, port, steps);
             true
         }
-        Query::And(parts) => {
-            let Some((own, rest)) = cursors.split_first_mut() else {
-                return false;
-            };
-            let all = begin_each(
-                parts.as_slice(),
-                rest,
-                segment,
-                packed,
-                documents,
-                port,
-                steps,
-            );
-            own.upto = end_if(all, end);
-            own.lead = rarest(parts.as_slice(), rest).number;
-            all
-        }
+        Query::And(parts) => begin_and(
+            parts.as_slice(),
+            cursors,
+            segment,
+            packed,
+            documents,
+            port,
+            steps,
+        ),
         Query::Or(parts) => {
             let Some((_own, rest)) = cursors.split_first_mut() else {
                 return false;
@@ -248,6 +260,38 @@ pub fn begin<P: Port, L: Ledger>(
             )
         }
     }
+}
+
+// Begins an and of these parts, as `begin` does.
+#[cycle(begin)]
+fn begin_and<P: Port, L: Ledger>(
+    parts: &[Query],
+    cursors: &mut [Cursor],
+    segment: u32,
+    packed: bool,
+    documents: u32,
+    port: &mut P,
+    steps: &mut Steps<L>,
+) -> bool
+    requires small { (0 < documents) × (length cursors.old ≤ 64) }
+    requires fits { length cursors.old ≡ size (conjunction (trees_in parts.now)) }
+    requires formed { IsFormed (conjunction (trees_in parts.now)) }
+    requires clear { AreClear cursors.old }
+    requires first { CanBegin P.stands port.old segment documents packed }
+    ensures begun { Begins P.stands P.keeps port.old port.new segment documents packed
+        (λ docs. Begun docs (conjunction (trees_in parts.now)) cursors.new result) }
+    ensures rounds { (docs : List Doc) (ts : List (List ℕ)) (t : List ℕ) → trees_in parts.now ≡ words_of ts → packed ≡ false
+        → length docs ≡ documents → Told P.stands P.keeps port.old port.new (λ m. segment < m.setting.segments)
+        (λ n. IsPaid (AndOwes n segment docs ts t cursors.new) steps.old (and_loads n segment docs ts t) steps.new) }
+{
+    let Some((own, rest)) = cursors.split_first_mut() else {
+        return false;
+    };
+    let end = u64::from(documents);
+    let all = begin_each(parts, rest, segment, packed, documents, port, steps);
+    own.upto = end_if(all, end);
+    own.lead = rarest(parts, rest).number;
+    all
 }
 
 // Begins the parts of an and, up to the first that matches no document.
@@ -266,8 +310,11 @@ fn begin_each<P: Port, L: Ledger>(
     requires formed { AreFormed (trees_in parts.now) }
     requires clear { AreClear cursors.old }
     requires first { CanBegin P.stands port.old segment documents packed }
-    ensures { Begins P.stands P.keeps port.old port.new segment documents packed
+    ensures begun { Begins P.stands P.keeps port.old port.new segment documents packed
         (λ docs. BegunEach docs (trees_in parts.now) cursors.new result) }
+    ensures spans { (ts : List (List ℕ)) → trees_in parts.now ≡ words_of ts → packed ≡ false
+        → Told P.stands P.keeps port.old port.new (λ m. segment < m.setting.segments)
+        (λ n. IsPaid (AllSpan n segment ts cursors.new) steps.old (open_loads n segment ts) steps.new) }
 {
     let Some((part, others)) = parts.split_first() else {
         return true;

@@ -1,5 +1,6 @@
 //! What a part of a query remembers.
 ghost use Rattle.std.specs.Prelude.{◌≡◌, ℕ, ◌+◌, ◌*◌, ◌<◌, ◌≤◌, ◌^◌};
+ghost use Rattle.eb_cursor.specs.declared.posting_list.PostingList.TheVariants.{Empty};
 ghost use Rattle.eb_cursor.specs.Loads.{ahead};
 ghost use Rattle.eb_cursor.specs.Asked.{CanAskLeaf};
 ghost use Rattle.eb_cursor.specs.Finds.{FindsLeaf};
@@ -30,7 +31,7 @@ pub struct Cursor {
 impl Cursor {
     /// A cursor that has passed everything.
     pub fn new() -> Cursor
-        ensures { (result.upto ≡ 0) × (result.current ≡ None) }
+        ensures { (result.upto ≡ 0) × (result.current ≡ None) × (result.list ≡ Empty) }
     {
         Cursor {
             upto: 0,
