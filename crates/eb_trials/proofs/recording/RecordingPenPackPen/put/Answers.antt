@@ -1,4 +1,4 @@
-use Rattle.std.proofs.Common.{◌≡◌, ℕ, ◌+◌, ◌<◌, ◌≤◌, Bool, false, true, if◌then◌else◌, ap, sym, ◌∙◌, subst, refl, arith}
+use Rattle.std.proofs.Common.{◌≡◌, ◌+◌, ◌≤◌, Bool, false, true, if◌then◌else◌, ap, sym, ◌∙◌, refl, arith}
 use Rattle.std.proofs.lemmas.Bool.{false≢true}
 use Rattle.std.proofs.Math.Dec.{eqb}
 use mir.Val.{bool_byte}
@@ -7,7 +7,7 @@ use Rattle.eb_place.specs.declared.moment.Moment.{Moment}
 use Rattle.eb_place.specs.Layout.{place}
 use Rattle.eb_place.specs.Layout.Slot.{slot}
 use Rattle.eb_place.specs.Layout.Region.{converted_region}
-use Rattle.eb_place.specs.NextStores.{IsNextPut, after_put}
+use Rattle.eb_place.specs.NextStores.{IsNextPut}
 use Rattle.eb_trials.specs.Recorded.{IsRecord}
 use Rattle.eb_trials.proofs.Records.{next_inside, segments_few, counted, same_stores, IsCounted}
 use Rattle.eb_trials.proofs.recording.RecordingPenPackPen.put.Goals.{After-from}
