@@ -6,14 +6,18 @@ use Rattle.eb_base.specs.Document.{Doc}
 use Rattle.eb_base.specs.Query.{Tree, Trees, word, no_trees, trees, size, sizes}
 use Rattle.eb_base.specs.Term.{Term}
 use Rattle.eb_place.specs.declared.moment.Moment.{Moment}
-use Rattle.eb_cursor.specs.AndCosts.{words_of, has_term, rounds_cost}
+use Rattle.eb_cursor.specs.AndCosts.{words_of, has_term, documents_with, rounds_cost, all_rounds_cost, open_loads, AndOwes}
+use Rattle.eb_place.specs.Moments.{IsMoment}
+use Rattle.eb_place.specs.Later.{IsNotBefore}
+use Rattle.eb_cursor.specs.Ready.{rest_of}
 use Rattle.eb_cursor.specs.Asked.{AreUnder}
 use Rattle.eb_cursor.specs.Begun.{AreClear}
 use Rattle.eb_cursor.specs.Costs.{Spans, AllSpan, round_loads}
 use Rattle.eb_cursor.specs.Posted.{match_at}
 use Rattle.eb_cursor.specs.Tops.{top}
 use Rattle.eb_cursor.specs.declared.cursor.Cursor.{Cursor}
-use Rattle.eb_cursor.proofs.Rounds.{round_falls, rounds_low}
+use Rattle.eb_cursor.proofs.Owing.{all_span_later, opening_later}
+use Rattle.eb_cursor.proofs.Rounds.{round_falls, rounds_low, rounds_most}
 use Rattle.eb_cursor.proofs.Steps.{IsFront}
 
 -- the words are a first one and others
@@ -96,6 +100,11 @@ pub cost_falls : (docs : List Doc) (ts : List Term) (t : Term) (found end : ℕ)
 unfolding rounds_cost
 cost_falls docs ts t found end h k = one_more (round_loads ts) _ _ (round_falls (has_term docs t) found end h k)
 
+-- all that can come over the documents
+pub cost_most : (docs : List Doc) (ts : List Term) (t : Term) → rounds_cost docs ts t (length docs) ≤ all_rounds_cost ts (documents_with docs t)
+unfolding rounds_cost all_rounds_cost
+cost_most docs ts t = mul-le-mul_left (round_loads ts) (rounds_most (has_term docs t) (length docs))
+
 under_there : (docs : List Doc) (ts : List Term) (t : Term) (end found k : ℕ) → k < length ts → slice_index_or ts k t ≡ t → AreUnder docs (words_of ts) end found → found ≤ top (has_term docs t) end
 under_there docs [] t end found k low e h = absurd (omega (arith, low))
 under_there docs (u ∷ us) t end found zero low e h = subst (λ z. found ≤ top (match_at docs (word z)) end) e h.0
@@ -107,3 +116,13 @@ under_at docs ts t qs end found c e h = under_there docs ts t end found c.0 c.1 
 
 pub some_words : (ts : List Term) (t : Term) → Contains ts t → 0 < length ts
 some_words ts t c = omega (arith, c.1)
+
+-- ---- at a later moment
+
+pub open_later : (m n : Moment) (s : ℕ) (ts : List Term) → IsMoment m → IsMoment n → IsNotBefore n m → s < m.setting.segments → open_loads m s ts ≤ open_loads n s ts
+open_later m n s [] is js l h = omega arith
+open_later m n s (t ∷ ts) is js l h = omega (arith, opening_later m n s t is js l h, open_later m n s ts is js l h)
+
+pub and_owes_later : (m n : Moment) (s : ℕ) (docs : List Doc) (ts : List Term) (t : Term) (cursors : List Cursor) (most : ℕ)
+    → IsMoment m → IsNotBefore n m → AndOwes m s docs ts t cursors most → AndOwes n s docs ts t cursors most
+and_owes_later m n s docs ts t cursors most is l h = (h.0, all_span_later m n s ts (rest_of cursors) h.0 is l h.1, h.2)

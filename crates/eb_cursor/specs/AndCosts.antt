@@ -6,7 +6,7 @@ use Rattle.eb_base.specs.Query.{Trees, word, conjunction, no_trees, trees}
 use Rattle.eb_base.specs.Term.{Term}
 use Rattle.eb_place.specs.declared.moment.Moment.{Moment}
 use Rattle.eb_place.specs.Told.{Told}
-use Rattle.eb_cursor.specs.Costs.{AllSpan, IsPaid, look_loads, opening_loads, round_loads, rounds_left}
+use Rattle.eb_cursor.specs.Costs.{AllSpan, IsPaid, look_loads, opening_loads, round_loads, count, rounds_left}
 use Rattle.eb_cursor.specs.Frames.{query_of}
 use Rattle.eb_cursor.specs.Lists.{gives}
 use Rattle.eb_cursor.specs.Posted.{match_at}
@@ -61,10 +61,18 @@ abbrev pub open_loads : Moment → ℕ → List Term → ℕ
 open_loads m s [] = 0
 open_loads m s (t ∷ ts) = opening_loads m s t + 2 + open_loads m s ts
 
--- the most loads of a search of an and of the words in a segment of these documents, behind its converted word and
--- besides those of each call (`call_loads`), by the documents that have t
-abbrev pub and_loads : Moment → ℕ → List Doc → List Term → Term → ℕ
-and_loads m s docs ts t = open_loads m s ts + rounds_cost docs ts t (length docs)
+-- how many of the documents have the term
+abbrev pub documents_with : List Doc → Term → ℕ
+documents_with docs t = count (has_term docs t) (length docs)
+
+-- what all rounds over the words cost where so many documents have one of them: two for each of these, and one more
+unfoldable pub all_rounds_cost : List Term → ℕ → ℕ
+all_rounds_cost ts d = round_loads ts * (2 * d + 1)
+
+-- the most loads of a search of an and of the words in a segment, behind its converted word and besides those of each
+-- call (`call_loads`), where so many of its documents have one of the words, any one of them
+abbrev pub and_loads : Moment → ℕ → List Term → ℕ → ℕ
+and_loads m s ts d = open_loads m s ts + all_rounds_cost ts d
 
 -- the frame, whose query is an and of the words ts, of which t is one, goes on in segment s over these documents for at
 -- most so many loads, besides those of each call

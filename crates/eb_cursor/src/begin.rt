@@ -12,7 +12,7 @@ ghost use Rattle.eb_cursor.specs.Finds.{Opens, Begins};
 ghost use Rattle.eb_cursor.specs.Posted.{is_posting};
 ghost use Rattle.eb_cursor.specs.Ready.{IsLeaf, IsBound, Ready};
 ghost use Rattle.eb_cursor.specs.Costs.{Costs, FirstCosts, Spans, AllSpan, IsPaid, IsReading, opening_loads, word_loads};
-ghost use Rattle.eb_cursor.specs.AndCosts.{words_of, open_loads, and_loads, AndOwes};
+ghost use Rattle.eb_cursor.specs.AndCosts.{words_of, documents_with, open_loads, and_loads, AndOwes};
 ghost use Rattle.eb_cursor.specs.Asked.{trees_in};
 ghost use Rattle.eb_cursor.specs.Begun.{AreClear, CanBegin, Begun, BegunLeaves, BegunEach, BegunSome};
 
@@ -151,7 +151,7 @@ pub fn begin_query<P: Port, L: Ledger>(
         (λ m. IsReading was m segment packed) (λ n. IsPaid (FirstCosts n segment t cursors.new) steps.old (word_loads was n segment t) steps.new) }
     ensures rounds { (docs : List Doc) (ts : List (List ℕ)) (t : List ℕ) → tree query.now ≡ conjunction (words_of ts) → length docs ≡ documents
         → Told P.stands P.keeps port.old port.new (λ m. segment < m.setting.segments)
-        (λ n. IsPaid (AndOwes n segment docs ts t cursors.new) steps.old (and_loads n segment docs ts t) steps.new) }
+        (λ n. IsPaid (AndOwes n segment docs ts t cursors.new) steps.old (and_loads n segment ts (documents_with docs t)) steps.new) }
 {
     match query {
         Query::Word(term) => cursors[0] = open_leaf(term, segment, packed, port, steps),
@@ -282,7 +282,7 @@ fn begin_and<P: Port, L: Ledger>(
         (λ docs. Begun docs (conjunction (trees_in parts.now)) cursors.new result) }
     ensures rounds { (docs : List Doc) (ts : List (List ℕ)) (t : List ℕ) → trees_in parts.now ≡ words_of ts → packed ≡ false
         → length docs ≡ documents → Told P.stands P.keeps port.old port.new (λ m. segment < m.setting.segments)
-        (λ n. IsPaid (AndOwes n segment docs ts t cursors.new) steps.old (and_loads n segment docs ts t) steps.new) }
+        (λ n. IsPaid (AndOwes n segment docs ts t cursors.new) steps.old (and_loads n segment ts (documents_with docs t)) steps.new) }
 {
     let Some((own, rest)) = cursors.split_first_mut() else {
         return false;

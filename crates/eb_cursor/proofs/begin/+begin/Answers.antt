@@ -13,7 +13,7 @@ use Rattle.eb_place.proofs.LaterMoments.{later_on}
 use Rattle.eb_cursor.specs.AndCosts.{open_loads, rounds_cost}
 use Rattle.eb_cursor.specs.Costs.{AllSpan, IsPaid, opening_loads}
 use Rattle.eb_cursor.specs.declared.cursor.Cursor.{Cursor}
-use Rattle.eb_cursor.proofs.AndLoads.{words_split, spans_join, cost_low, leaf_span, no_spans, clear_spans, sizes_words, if_under}
+use Rattle.eb_cursor.proofs.AndLoads.{words_split, spans_join, cost_low, cost_most, leaf_span, no_spans, clear_spans, sizes_words, if_under}
 use Rattle.eb_cursor.proofs.Owing.{all_span_later, opening_later, segment_later}
 use Rattle.eb_cursor.proofs.begin.+begin.Goals as goal
 
@@ -291,7 +291,7 @@ begin_and-returns-clause-rounds g t c = λ docs ts u e live same. record {
       let x = (c.begin_each-all.ensures.spans ts e live).told m st h in
       let at : c.end_if-own.result ≤ length docs = omega (arith, c.end_if-own.ensures, if_under c.begin_each-all.result c.from-end.result, c.from-end.ensures, same) in
       let low = cost_low docs ts u c.end_if-own.result (length docs) at in
-      (x.0, x.1, x.2, x.3, (x.4.0 + rounds_cost docs ts u c.end_if-own.result, (x.4.0, x.4.1, omega arith), omega (arith, x.4.2, low)));
+      (x.0, x.1, x.2, x.3, (x.4.0 + rounds_cost docs ts u c.end_if-own.result, (x.4.0, x.4.1, omega arith), omega (arith, x.4.2, low, cost_most docs ts u)));
 }
 
 pub begin_each-returns-in_default-clause-spans : goal.begin_each-returns-in_default-clause-spans

@@ -1,7 +1,7 @@
 use Rattle.std.proofs.Common.{◌≡◌, ◌≤◌, length, take, ap, sym, ◌∙◌, arith}
 use Rattle.eb_base.specs.Setting.{Setting}
 use Rattle.eb_place.specs.Room.{cut}
-use Rattle.eb_search.specs.Bounds.{loads_from}
+use Rattle.eb_search.specs.Bounds.{loads_from, and_loads_from}
 use Rattle.eb_search.proofs.Bounded.{front_is}
 use Rattle.eb_search.proofs.Beginnings.{cut_short}
 use Rattle.eb_place.proofs.CountWords.{word_count}
@@ -66,5 +66,31 @@ returns-clause-loads g c = λ m t st is.
         few,
         z.4,
         ap (λ k. loads_from m z.0 0 k t) segments,
+      ),
+    )
+
+pub returns-clause-rounds : goal.returns-clause-rounds
+returns-clause-rounds g c = λ m ts st is.
+    let l = c.load-count.ensures.told m st in
+    let docs = l.0.documents.accepted in
+    let same = sym (l.4 ∙ word_count l.0 (g.met.P.Port.lawful _ l.0 l.1)) in
+    let y = (c.visible_segments-begun.ensures.words docs same).told l.0 l.1 (prefix_self docs) in
+    let few : c.visible_segments-begun.result ≤ y.0.setting.segments = omega (arith, y.4.words.all, cut_short y.0 docs (g.met.P.Port.lawful _ y.0 y.1) y.4.accepted) in
+    let z = (c.walk.ensures.rounds docs ts same is).told y.0 y.1 y.4 in
+    let zp = later_on l.0 y.0 z.0 y.2 z.2 in
+    let now : take c.load-count.result z.0.documents.accepted ≡ docs = ap (λ k. take k z.0.documents.accepted) (sym same) ∙ front_is docs z.0.documents.accepted zp.documents.accepted in (
+      z.0,
+      z.1,
+      later_on m l.0 z.0 l.2 zp,
+      g.met.P.Port.keeps_on _ _ _ m l.0 z.0 l.3 (g.met.P.Port.keeps_on _ _ _ l.0 y.0 z.0 y.3 z.3),
+      omega (
+        arith,
+        c.load-count.ensures.step,
+        c.visible_segments-begun.ensures.loads l.0 l.1,
+        ap (λ (σ : Setting). σ.segments) zp.setting,
+        ap (λ (σ : Setting). σ.segments) z.2.setting,
+        few,
+        z.4,
+        ap (λ xs. and_loads_from z.0 0 ts (cut z.0.setting xs)) now,
       ),
     )
