@@ -30,7 +30,7 @@ use Rattle.eb_chain.specs.NextPlaces.{AreNext}
 use Rattle.eb_chain.proofs.Storing.{one_stored, next_at}
 use Rattle.eb_chain.proofs.RegionCounts.{count_in, count_in-append, counts_placed, firsts_away}
 use Rattle.eb_writer.specs.Counting.{IsIdle}
-use Rattle.eb_writer.specs.Storing.{before_it, tokens_until, IsPlaced, HasComeTo, GoesOn, IsAccepted, BeginsSegment}
+use Rattle.eb_writer.specs.Storing.{before_it, tokens_until, IsPlaced, HasComeTo, HasStoredMore, IsAccepted, BeginsSegment}
 use Rattle.eb_writer.proofs.Idle.{lawful_in, idle_entered, idle_tokens}
 use Rattle.eb_writer.proofs.Coming.{joined}
 
@@ -106,7 +106,7 @@ nothing_tokens seg e = ap terms_of e
 take_none : {X : Type 0} (k : ℕ) (xs : List X) → k ≡ 0 → take k xs ≡ []
 take_none k xs e = ap (λ n. take n xs) e
 
-pub begun : (m : Moment) (d : Doc) (s : ℕ) → IsMoment m → BeginsSegment m d s → GoesOn m (after_store m d) × HasComeTo (after_store m d) d s 0
+pub begun : (m : Moment) (d : Doc) (s : ℕ) → IsMoment m → BeginsSegment m d s → HasStoredMore m (after_store m d) × HasComeTo (after_store m d) d s 0
 unfolding entered tokens_seen stores_in_region document_stores
 begun m d s is b =
     let σ = m.setting in

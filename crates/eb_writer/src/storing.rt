@@ -5,7 +5,7 @@ ghost use Rattle.eb_place.specs.Tells.{TellsSegment};
 ghost use Rattle.eb_place.specs.Walk.{IsTerm};
 ghost use Rattle.eb_writer.specs.Recall.{term_at};
 ghost use Rattle.eb_writer.specs.Counting.{AreFound};
-ghost use Rattle.eb_writer.specs.Storing.{HasComeTo, HasComeToPosting, GoesOn, IsNumbered, IsAccepted, BeginsSegment, before_it};
+ghost use Rattle.eb_writer.specs.Storing.{HasComeTo, HasComeToPosting, HasStoredMore, IsNumbered, IsAccepted, BeginsSegment, before_it};
 
 use crate::plan::Found;
 use eb_base::{Document, MAX_TOKENS};
@@ -17,7 +17,7 @@ use eb_terms::enter;
 pub(crate) fn begin<P: Pen>(pen: &mut P, document: &Document, segment: u32, count: u64)
     requires { (m : Moment) × P.stands pen.old m × BeginsSegment m document.now segment × (count ≡ length m.documents.accepted) }
     ensures { (m : Moment) → P.stands pen.old m → BeginsSegment m document.now segment → count ≡ length m.documents.accepted
-        → (n : Moment) × P.stands pen.new n × P.same pen.old pen.new × GoesOn m n × HasComeTo n document.now segment 0 }
+        → (n : Moment) × P.stands pen.new n × P.same pen.old pen.new × HasStoredMore m n × HasComeTo n document.now segment 0 }
 {
     let place = Places::new(pen.config()).first(segment);
     pen.store(document, place, count + 1);
@@ -35,7 +35,7 @@ pub(crate) fn store_tokens<P: Pen>(
         × AreFound (terms_of (before_it m document.now)) document.now.terms found.now (length document.now.terms) }
     ensures { (m : Moment) → P.stands pen.old m → HasComeTo m document.now segment 0 → TellsSegment used.old m segment
         → AreFound (terms_of (before_it m document.now)) document.now.terms found.now (length document.now.terms)
-        → (n : Moment) × P.stands pen.new n × P.same pen.old pen.new × GoesOn m n
+        → (n : Moment) × P.stands pen.new n × P.same pen.old pen.new × HasStoredMore m n
         × HasComeTo n document.now segment (length document.now.terms) × TellsSegment used.new n segment }
 {
     for at in 0..document.terms().len() {
@@ -56,7 +56,7 @@ fn store_token<P: Pen>(
         × (at < length document.now.terms) × IsNumbered m document.now at number }
     ensures { (m : Moment) → P.stands pen.old m → HasComeTo m document.now segment at → TellsSegment used.old m segment
         → at < length document.now.terms → IsNumbered m document.now at number
-        → (n : Moment) × P.stands pen.new n × P.same pen.old pen.new × GoesOn m n
+        → (n : Moment) × P.stands pen.new n × P.same pen.old pen.new × HasStoredMore m n
         × HasComeTo n document.now segment (at + 1) × TellsSegment used.new n segment }
 {
     let number = entered_number(pen, document, segment, used, at, number);
@@ -77,7 +77,7 @@ fn entered_number<P: Pen>(
         × (at < length document.now.terms) × IsNumbered m document.now at number }
     ensures { (m : Moment) → P.stands pen.old m → HasComeTo m document.now segment at → TellsSegment used.old m segment
         → at < length document.now.terms → IsNumbered m document.now at number
-        → (n : Moment) × P.stands pen.new n × P.same pen.old pen.new × GoesOn m n × HasComeToPosting n document.now segment at
+        → (n : Moment) × P.stands pen.new n × P.same pen.old pen.new × HasStoredMore m n × HasComeToPosting n document.now segment at
         × IsTerm n segment (term_at document.now.terms at) result × TellsSegment used.new n segment }
 {
     if number == used.terms {
