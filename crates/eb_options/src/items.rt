@@ -3,7 +3,7 @@ ghost use Rattle.std.specs.List.{list_any};
 ghost use Rattle.std.specs.Str.{bytes_eq};
 ghost use Rattle.clap.specs.Walk.{rows_of};
 ghost use Rattle.clap.specs.Words.{found_of, kind_of};
-ghost use Rattle.eb_options.specs.Items.{AreNames, flag_in, has, items_of, number_in, number_of, texts, with_each};
+ghost use Rattle.eb_options.specs.Items.{AreNames, flag_in, has, items_of, number_in, option_number, texts, with_each};
 ghost use Rattle.eb_options.specs.Apart.{values_in};
 ghost use Rattle.eb_options.specs.Matches.{number_at};
 ghost use Rattle.eb_options.specs.Views.{flag_view, number_view};
@@ -76,7 +76,7 @@ impl Items {
 
     /// The number of the option, if it stands in the words.
     pub fn number(&self, option: &str) -> Option<u32>
-        ensures { result ≡ number_of option.now self.now }
+        ensures { result ≡ option_number option.now self.now }
     {
         for this in &self.numbers {
             if this.name.as_str() == option {
