@@ -15,6 +15,8 @@ use clap::error::ErrorKind;
 use clap::{ArgMatches, Error};
 use eb_base::NoMemory;
 use std::alloc::Global;
+use std::error;
+use std::fmt;
 use std::marker::Model;
 
 // A flag of a command, and whether it stands in the words.
@@ -60,6 +62,22 @@ pub enum OptionFault {
     /// There was no memory to read them.
     NoMemory,
 }
+
+impl fmt::Display for OptionFault {
+    ghost use Rattle.std.specs.Prelude.{Some};
+    ghost use Rattle.eb_options.specs.Faults.{option_fault_text};
+
+    ghost output = { λ fault. Some (option_fault_text fault) };
+
+    fn fmt<W: fmt::Write>(&self, f: &mut fmt::Formatter<W>) -> fmt::Result {
+        match self {
+            OptionFault::Usage => f.write_str("bad options"),
+            OptionFault::NoMemory => f.write_str("memory ran out"),
+        }
+    }
+}
+
+impl error::Error for OptionFault {}
 
 impl Items {
     /// Whether the flag stands in the words.

@@ -11,3 +11,4 @@ pub mod Gaps
 pub mod Laws
 pub mod Machine
 pub mod Views
+pub mod Faults
