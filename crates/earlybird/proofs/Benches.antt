@@ -19,7 +19,7 @@ use Rattle.eb_lines.specs.Reading.{Reading, blank, document, query, refused}
 use Rattle.eb_lines.specs.Reads.{Reads}
 use Rattle.eb_lines.specs.Progress.{documents_in, accepted, queries, refusals, progress_after, with_line, nothing}
 use Rattle.eb_rounds.specs.Admitted.{admit, admitted}
-use Rattle.earlybird.specs.Session.{HasCome, IsOutcome}
+use Rattle.earlybird.specs.Session.{HasCome, IsSessionOutcome}
 use Rattle.earlybird.specs.Bench.{usual, answer_in, answers_from, all_answers, ids_in, bench_line, figures, Closes, PrintsFigures, WroteBench, MeansBench, HasCounted}
 use Rattle.eb_lines.specs.Outcomes.{IsWorkedOff}
 use Rattle.eb_lines.proofs.OneReading.{some_read}
@@ -43,7 +43,7 @@ all_answers-nil : all_answers [] ≡ []
 unfolding answers_from
 all_answers-nil = refl
 
-outcome_ids : (docs : List Doc) (r : Reading) (o : Outcome) → IsOutcome docs r o → ids_in o ≡ answer_in docs r
+outcome_ids : (docs : List Doc) (r : Reading) (o : Outcome) → IsSessionOutcome docs r o → ids_in o ≡ answer_in docs r
 outcome_ids docs blank Nothing h = refl
 outcome_ids docs (document d) Nothing h = refl
 outcome_ids docs (query k q) (Answered seen frame) h = h.1
@@ -101,7 +101,8 @@ module _ (b : Bench) (lines : List Line) (h : HasCounted b lines) (few : length 
   lines_small = let n = read_long usual lines h.readings h.read in omega (arith, n, few)
 
   -- what a further line of this kind comes to
-  module _ (l : Line) (raw : Reading) (o : Outcome) (reads : Reads l raw) (comes : IsOutcome (progress_after h.readings).documents (admit usual (progress_after h.readings).documents raw) o) where
+  module _ (l : Line) (raw : Reading) (o : Outcome) (reads : Reads l raw)
+      (comes : IsSessionOutcome (progress_after h.readings).documents (admit usual (progress_after h.readings).documents raw) o) where
     next : Reading
     next = admit usual (accepted h.readings) raw
 
@@ -174,7 +175,7 @@ figures_told status.NoMemory start count old new before f sink =
     ([], f.2 ∙ sink ∙ ap Some (sym (append-nil before)), (figures f.0, refusals f.0, record { readings = f.0; read = f.1; refusals = refl; bytes = refl }))
 figures_told status.Usage start count old new before f sink = absurd f.2
 figures_told status.ReadFault start count old new before f sink = absurd f.2
-figures_told status.TooLong start count old new before f sink = absurd f.2
+figures_told status.InputTooLong start count old new before f sink = absurd f.2
 figures_told status.BadImage start count old new before f sink = absurd f.2
 
 pub figures_mean : (ending : Status) (start count : ℕ) (printed_old printed_new : Option (List ℕ))
@@ -185,7 +186,7 @@ figures_mean status.WriteFault start count old new f = tt
 figures_mean status.NoMemory start count old new f = tt
 figures_mean status.Usage start count old new f = absurd f.2
 figures_mean status.ReadFault start count old new f = absurd f.2
-figures_mean status.TooLong start count old new f = absurd f.2
+figures_mean status.InputTooLong start count old new f = absurd f.2
 figures_mean status.BadImage start count old new f = absurd f.2
 
 pub figures_end : (ending : Status) (lines : List Line) (printed_old printed_new : Option (List ℕ)) (rose : Type 0) → PrintsFigures ending lines printed_old printed_new
@@ -196,7 +197,7 @@ figures_end status.NoMemory lines old new rose f fault sound = inr (inr refl)
 figures_end status.WriteFault lines old new rose f fault sound = absurd (sound (fault refl))
 figures_end status.Usage lines old new rose f fault sound = absurd f.2
 figures_end status.ReadFault lines old new rose f fault sound = absurd f.2
-figures_end status.TooLong lines old new rose f fault sound = absurd f.2
+figures_end status.InputTooLong lines old new rose f fault sound = absurd f.2
 figures_end status.BadImage lines old new rose f fault sound = absurd f.2
 
 -- memory ran out before the end

@@ -5,7 +5,7 @@ use Rattle.std.specs.Str.{bytes_eq}
 use Rattle.std.proofs.lemmas.Bool.{and_parts, leb-true}
 use Rattle.eb_base.specs.Setting.{Setting, words_of}
 use Rattle.eb_options.specs.Numbers.{number}
-use Rattle.eb_options.specs.Items.{has, items_of, number_of}
+use Rattle.eb_options.specs.Items.{has, items_of, option_number}
 use Rattle.eb_options.specs.Settings.{setting_of, setting_options}
 use Rattle.earlybird.specs.declared.command.Command.{Command}
 use Rattle.earlybird.specs.declared.command.Command.TheVariants.{Run, RunWorkers, RunParts, RunWatches, Bench, Save, Load}
@@ -69,8 +69,9 @@ by_in true true (Some n) (Some p) stats σ = tt
 run_in : (words : List (List ℕ)) → IsInRange (run_of words)
 run_in words =
     then_in run_with (λ items. then_in
-    (λ σ. run_by (has (codes "overlap") items) (has (codes "watch") items) (number_of (codes "workers") items) (number_of (codes "parts") items) (has (codes "stats") items) σ)
-    (λ σ. by_in (has (codes "overlap") items) (has (codes "watch") items) (number_of (codes "workers") items) (number_of (codes "parts") items) (has (codes "stats") items) σ) (setting_of items))
+    (λ σ. run_by (has (codes "overlap") items) (has (codes "watch") items) (option_number (codes "workers") items) (option_number (codes "parts") items) (has (codes "stats") items) σ)
+    (λ σ. by_in (has (codes "overlap") items) (has (codes "watch") items) (option_number (codes "workers") items) (option_number (codes "parts") items) (has (codes "stats") items) σ)
+    (setting_of items))
     (items_of run_flags run_options words)
 
 save_in : (words : List (List ℕ)) → IsInRange (save_of words)

@@ -16,7 +16,7 @@ use Rattle.eb_rounds.specs.Text.{output_of, body_from}
 use Rattle.eb_lines.specs.Text.{answer_line}
 use Rattle.eb_base.specs.Match.{answer}
 use Rattle.eb_rounds.specs.Inputs.{ReadsLine, admitted_in, added}
-use Rattle.eb_rounds.specs.Shown.{line_of, shown_text, Counted, asks, fails, WorkedOff}
+use Rattle.eb_rounds.specs.Shown.{shown_entry, shown_text, Counted, asks, fails, WorkedOff}
 use Rattle.eb_rounds.specs.Sees.{is_document_line, is_query_line, IsAsked, Sees}
 use Rattle.eb_rounds.specs.Rows.{count, NoQueryLine, QueriesFirst, joined, SeesWithin}
 use Rattle.eb_rounds.specs.Standing.{Standing}
@@ -25,7 +25,7 @@ use Rattle.eb_rounds.proofs.Rounded.{long_in}
 use Rattle.eb_rounds.specs.LinesRead.{AreRead}
 use Rattle.eb_lines.specs.Reads.{Reads}
 use Rattle.earlybird.specs.Holding.{entries_from}
-use Rattle.earlybird.specs.Waiting.{HasWorked, HasSettled, counts_of}
+use Rattle.earlybird.specs.Waiting.{HasWorkedOff, HasSettled, counts_of}
 use Rattle.earlybird.proofs.Waitings.{read_back, admitted_entries, added_entries, seen_in, round_text, round_sees}
 
 -- ---- a refused document is still a document line
@@ -144,7 +144,7 @@ counts_append rs ss c d e f g h =
 -- ---- the round
 
 module _ (σ : Setting) (overlap : Bool) (given : List Line) (docs docs_new : List Doc) (held : Standing) (counts_new : Counted) (so_far printed : List ℕ)
-    (a : HasWorked σ overlap given docs held so_far) (w : WorkedOff σ held.held docs docs_new held.counts counts_new printed) where
+    (a : HasWorkedOff σ overlap given docs held so_far) (w : WorkedOff σ held.held docs docs_new held.counts counts_new printed) where
   abbrev pub k : ℕ
   k = length a.done
 
@@ -155,10 +155,10 @@ module _ (σ : Setting) (overlap : Bool) (given : List Line) (docs docs_new : Li
   abbrev pub ss : List Reading
   ss = admitted_from σ docs back.0
 
-  pub lines_are : map line_of w.shown ≡ entries_from k ss
+  pub lines_are : map shown_entry w.shown ≡ entries_from k ss
   lines_are = w.lines ∙ ap (admitted_in σ docs) back.2 ∙ admitted_entries σ k docs back.0
 
-  adds_are : added (map line_of w.shown) ≡ accepted ss
+  adds_are : added (map shown_entry w.shown) ≡ accepted ss
   adds_are = ap added lines_are ∙ added_entries k ss
 
   docs_are : docs_new ≡ accepted a.readings ++ accepted ss
@@ -214,7 +214,7 @@ asked_low (r ∷ rs) (suc j) e = omega (arith, asked_low rs j e)
 
 -- with overlap
 pub overlapped : (σ : Setting) (given : List Line) (docs docs_new : List Doc) (held : Standing) (counts_new : Counted) (so_far printed : List ℕ)
-    → HasWorked σ true given docs held so_far → WorkedOff σ held.held docs docs_new held.counts counts_new printed
+    → HasWorkedOff σ true given docs held so_far → WorkedOff σ held.held docs docs_new held.counts counts_new printed
     → HasSettled σ true given docs_new counts_new (so_far ++ printed)
 overlapped σ given docs docs_new held counts_new so_far printed a w =
     let rs = a.readings in
@@ -262,7 +262,7 @@ told_few rs j = omega (arith, told-rest rs j)
 
 -- without overlap
 pub in_order : (σ : Setting) (given : List Line) (docs docs_new : List Doc) (held : Standing) (counts_new : Counted) (so_far printed : List ℕ)
-    → HasWorked σ false given docs held so_far → WorkedOff σ held.held docs docs_new held.counts counts_new printed → length held.held ≤ 1
+    → HasWorkedOff σ false given docs held so_far → WorkedOff σ held.held docs docs_new held.counts counts_new printed → length held.held ≤ 1
     → HasSettled σ false given docs_new counts_new (so_far ++ printed)
 in_order σ given docs docs_new held counts_new so_far printed a w one =
     let rs = a.readings in

@@ -9,7 +9,7 @@ use Rattle.eb_table.specs.Known.{Words}
 use Rattle.eb_rounds.specs.declared.input.Input.{Input}
 use Rattle.eb_rounds.specs.declared.input.Input.TheVariants as passed
 use Rattle.eb_rounds.specs.Inputs.{HeldInput, HeldLine, held_line}
-use Rattle.eb_rounds.specs.Passed.{input_of, kind_of}
+use Rattle.eb_rounds.specs.Passed.{input_of, input_kind}
 use Rattle.eb_rounds.specs.Shown.{WorkedOff}
 use Rattle.eb_rounds.specs.declared.input.Kind.{Kind}
 use Rattle.eb_rounds.specs.declared.input.Kind.TheVariants as kind
@@ -17,8 +17,8 @@ use Rattle.eb_rounds.specs.Standing.{Standing, documents_held, queries_held, ref
 use Rattle.eb_rounds.specs.Takes.{takes_kind}
 use Rattle.earlybird.specs.declared.running.Running.{Running}
 use Rattle.earlybird.specs.Holding.{held_as, before_held}
-use Rattle.earlybird.specs.Waiting.{HasWorked, AreRound}
-use Rattle.eb_lines.specs.Programs.{WorksOn, GoesOn}
+use Rattle.earlybird.specs.Waiting.{HasWorkedOff, AreRound}
+use Rattle.eb_lines.specs.Programs.{WorksOn, WorksOnGiven}
 use Rattle.earlybird.specs.Output.{Asked}
 use Rattle.earlybird.specs.Running.{HasRun}
 use Rattle.earlybird.proofs.LineReadings.{asks_query, reads_quiet, free_of}
@@ -49,10 +49,10 @@ pub stays : (r : Running) (text : List ℕ) → WorksOn HasRun r r text text
 stays r text = λ a given so_far h. ([], subst (HasRun r a given) (sym (append-nil so_far)) h, sym (append-nil text))
 
 pub goes_quiet : (old new : Running) (l : Line) → ((a : Asked) (given : List Line) (so_far : List ℕ) → HasRun old a given so_far → HasRun new a (given ++ l ∷ []) so_far)
-    → (text : List ℕ) → GoesOn HasRun old new text text l
+    → (text : List ℕ) → WorksOnGiven HasRun old new text text l
 goes_quiet old new l f text = λ a given so_far h. ([], subst (HasRun new a (given ++ l ∷ [])) (sym (append-nil so_far)) (f a given so_far h), sym (append-nil text))
 
-pub goes_after : (old mid new : Running) (t0 t1 t2 : List ℕ) (l : Line) → WorksOn HasRun old mid t0 t1 → GoesOn HasRun mid new t1 t2 l → GoesOn HasRun old new t0 t2 l
+pub goes_after : (old mid new : Running) (t0 t1 t2 : List ℕ) (l : Line) → WorksOn HasRun old mid t0 t1 → WorksOnGiven HasRun mid new t1 t2 l → WorksOnGiven HasRun old new t0 t2 l
 goes_after old mid new t0 t1 t2 l w g = λ a given so_far h.
     let x = w a given so_far h in
     let y = g a given (so_far ++ x.0) x.1 in
@@ -63,7 +63,7 @@ pub on_beside : (T : Type 0) (old new : Running) (t0 t1 : List ℕ) → WorksOn 
     → (a : Asked) (given : List Line) (so_far : List ℕ) → T × HasRun old a given so_far → (printed : List ℕ) × (T × HasRun new a given (so_far ++ printed)) × (t1 ≡ t0 ++ printed)
 on_beside T old new t0 t1 on a given so_far h = let w = on a given so_far h.1 in (w.0, (h.0, w.1), w.2)
 
-pub goes_beside : (T : Type 0) (old new : Running) (t0 t1 : List ℕ) (l : Line) → GoesOn HasRun old new t0 t1 l
+pub goes_beside : (T : Type 0) (old new : Running) (t0 t1 : List ℕ) (l : Line) → WorksOnGiven HasRun old new t0 t1 l
     → (a : Asked) (given : List Line) (so_far : List ℕ) → T × HasRun old a given so_far → (printed : List ℕ) × (T × HasRun new a (given ++ l ∷ []) (so_far ++ printed)) × (t1 ≡ t0 ++ printed)
 goes_beside T old new t0 t1 l goes a given so_far h = let w = goes a given so_far h.1 in (w.0, (h.0, w.1), w.2)
 
@@ -103,7 +103,7 @@ module _ (old new : Running) (a : Asked) (given : List Line) (so_far : List ℕ)
     mode = mode ∙ h.mode;
     stats = stats ∙ h.stats;
     number = number ∙ h.number;
-    worked = subst (λ s. HasWorked a.setting a.overlap given new.writer.docs s so_far) (sym rounds) (subst (λ ds. HasWorked a.setting a.overlap given ds old.rounds so_far) (sym docs) h.worked);
+    worked = subst (λ s. HasWorkedOff a.setting a.overlap given new.writer.docs s so_far) (sym rounds) (subst (λ ds. HasWorkedOff a.setting a.overlap given ds old.rounds so_far) (sym docs) h.worked);
     order = λ e. ap (λ (s : Standing). s.held) rounds ∙ h.order e;
   }
 
@@ -162,17 +162,17 @@ module _ (old new : Running) (a : Asked) (given : List Line) (so_far : List ℕ)
       mode = mode ∙ h.mode;
       stats = stats ∙ h.stats;
       number = number_is;
-      worked = subst (λ ds. HasWorked a.setting a.overlap (given ++ l ∷ []) ds new.rounds so_far) (sym docs)
+      worked = subst (λ ds. HasWorkedOff a.setting a.overlap (given ++ l ∷ []) ds new.rounds so_far) (sym docs)
           (one_more a.setting a.overlap given l old.writer.docs old.rounds new.rounds so_far h.worked round lines counts greatest);
       order = order;
     }
 
-    input_round : (input : Input) → takes_kind old.rounds.held (kind_of input) ≡ true → held_as l ≡ Some (input_of input) → AreRound (h.worked.waiting ++ l ∷ [])
+    input_round : (input : Input) → takes_kind old.rounds.held (input_kind input) ≡ true → held_as l ≡ Some (input_of input) → AreRound (h.worked.waiting ++ l ∷ [])
     input_round (passed.DocumentLine bytes) takes is = quiet_round (ap asks_query is)
     input_round (passed.QueryLine text) takes is = free_round (grind (arith, nat_tests))
     input_round (passed.RefusedLine r) takes is = quiet_round (ap asks_query is)
 
-    pub run_held : (input : Input) → new.writer.docs ≡ old.writer.docs → old.overlap ≡ true → takes_kind old.rounds.held (kind_of input) ≡ true → held_as l ≡ Some (input_of input)
+    pub run_held : (input : Input) → new.writer.docs ≡ old.writer.docs → old.overlap ≡ true → takes_kind old.rounds.held (input_kind input) ≡ true → held_as l ≡ Some (input_of input)
         → new.rounds ≡ with_held old.rounds (old.number + 1) (input_of input) → HasRun new a (given ++ l ∷ []) so_far
     run_held input docs overlaps takes is rounds =
         let held = ap (λ (s : Standing). s.held) rounds in

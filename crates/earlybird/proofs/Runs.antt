@@ -8,7 +8,7 @@ use Rattle.eb_lines.specs.Progress.{accepted, queries, refusals, told, progress_
 use Rattle.eb_lines.specs.Reading.{Reading}
 use Rattle.eb_lines.specs.Text.{summary_of}
 use Rattle.eb_place.specs.Room.{cut}
-use Rattle.eb_rounds.specs.Conversions.{converted_of}
+use Rattle.eb_rounds.specs.Conversions.{most_converted}
 use Rattle.eb_rounds.specs.Ending.{stats_line, stats_of}
 use Rattle.eb_rounds.specs.LinesRead.{HasRefusal, HasNoRefusal}
 use Rattle.eb_rounds.specs.Shown.{Counted}
@@ -18,7 +18,7 @@ use Rattle.eb_table.specs.Known.{Words}
 use Rattle.earlybird.specs.declared.running.Running.{Running}
 use Rattle.earlybird.specs.Output.{Asked, IsBodyOf, IsTextOf}
 use Rattle.earlybird.specs.Running.{HasRun, end_of, body_text}
-use Rattle.earlybird.specs.Waiting.{HasWorked, HasSettled, counts_of}
+use Rattle.earlybird.specs.Waiting.{HasWorkedOff, HasSettled, counts_of}
 use Rattle.earlybird.proofs.Admissions.{read_none}
 use Rattle.earlybird.proofs.OneOutput.{sees_told}
 use Rattle.earlybird.proofs.Waits.{of_settled, settled}
@@ -29,7 +29,7 @@ settled_none : (σ : Setting) (overlap : Bool) → HasSettled σ overlap [] [] n
 unfolding accepted queries refusals body_from
 settled_none σ overlap = record { readings = []; numbers = told []; read = read_none σ; sees = sees_told overlap []; adds = refl; counted = refl; printed = refl }
 
-pub worked_none : (σ : Setting) (overlap : Bool) (held : Standing) → held ≡ record { held = []; counts = no_counts; greatest = 0 } → HasWorked σ overlap [] [] held []
+pub worked_none : (σ : Setting) (overlap : Bool) (held : Standing) → held ≡ record { held = []; counts = no_counts; greatest = 0 } → HasWorkedOff σ overlap [] [] held []
 worked_none σ overlap held e =
     let s = subst (λ c. HasSettled σ overlap [] [] c []) (sym (ap (λ (h : Standing). h.counts) e)) (settled_none σ overlap) in
     of_settled σ overlap [] [] held [] s (ap (λ (h : Standing). h.held) e) (omega (arith, ap (λ (h : Standing). h.greatest) e))
@@ -61,7 +61,7 @@ pub run_finishes : {P : Type 0} (has_run : P → Asked → List Line → List �
     (documents answers refused begun converted : ℕ) (a : Asked) (given : List Line) (so_far : List ℕ)
     → t1 ≡ t0 ++ (summary_of documents answers refused ++ stats_line r.stats begun converted)
     → (documents ≡ r.rounds.counts.documents) × (answers ≡ r.rounds.counts.queries) × (refused ≡ r.rounds.counts.refused)
-    → begun ≡ length (cut r.index.setting r.writer.docs) → converted ≡ converted_of (length (cut r.index.setting r.writer.docs))
+    → begun ≡ length (cut r.index.setting r.writer.docs) → converted ≡ most_converted (length (cut r.index.setting r.writer.docs))
     → r.rounds.held ≡ [] → HasRun r a given so_far
     → Finishes has_run IsTextOf (λ x. HasRefusal x.setting) (λ x. HasNoRefusal x.setting) p t0 t1 refused a given so_far
 run_finishes has_run p r t0 t1 documents answers refused begun converted a given so_far put counts segments packed none h =
@@ -71,7 +71,7 @@ run_finishes has_run p r t0 t1 documents answers refused begun converted a given
     ap₂ (λ σ ds. length (cut σ ds)) (ap (λ (w : Words). w.setting) h.index ∙ h.setting) s.adds in
     let same : summary_of documents answers refused ++ stats_line r.stats begun converted ≡ end_of a rs =
     ap₂ (λ x y. x ++ y) (summary_is rs documents answers refused r.rounds.counts counts s.counted)
-    (ap₂ (λ x y. stats_line r.stats x y) (segments ∙ cuts) (packed ∙ ap converted_of cuts) ∙ ap (λ x. stats_of x a.setting (accepted rs)) h.stats) in
+    (ap₂ (λ x y. stats_line r.stats x y) (segments ∙ cuts) (packed ∙ ap most_converted cuts) ∙ ap (λ x. stats_of x a.setting (accepted rs)) h.stats) in
     let failed : refused ≡ refusals rs = counts.2 ∙ ap (λ (c : Counted). c.refused) s.counted in
     record {
       printed = end_of a rs;

@@ -17,7 +17,7 @@ use Rattle.eb_rounds.specs.Admitted.{admit, admitted_from}
 use Rattle.eb_rounds.specs.Text.{output_of, body_from}
 use Rattle.eb_rounds.specs.Inputs.{HeldInput, document_line, query_line, refused_line, Entry, ReadsInput, ReadsLine, admitted_in, added}
 use Rattle.eb_lines.specs.Reads.{IsOfDocument, of_query}
-use Rattle.eb_rounds.specs.Shown.{Shown, line_of, output_in, shown_text, least_after, Rises}
+use Rattle.eb_rounds.specs.Shown.{Shown, shown_entry, output_in, shown_text, least_after, Rises}
 use Rattle.eb_rounds.specs.Sees.{IsAsked}
 use Rattle.eb_rounds.specs.Rows.{SeesWithin}
 use Rattle.eb_lines.specs.Kinds.{Kind, blank_line, bad_line, kind_of}
@@ -151,7 +151,7 @@ here : (rs : List Reading) (r : Reading) (k : ℕ) (n f : ℕ → ℕ) → ((i :
 here rs r k n f h a = let plus : k ≡ k + 0 = omega arith in ap n plus ∙ h 0 a
 
 -- what a round prints is what its lines print, where each query sees what it is shown to see
-pub round_text : (n : ℕ → ℕ) (docs : List Doc) (k : ℕ) (rs : List Reading) (ss : List Shown) → map line_of ss ≡ entries_from k rs
+pub round_text : (n : ℕ → ℕ) (docs : List Doc) (k : ℕ) (rs : List Reading) (ss : List Shown) → map shown_entry ss ≡ entries_from k rs
     → ((i : ℕ) → IsAsked rs i → n (k + i) ≡ seen_in rs ss i) → shown_text docs ss ≡ body_from n docs k rs
 unfolding shown_text body_from
 round_text n docs k [] [] e h = refl
@@ -160,19 +160,19 @@ round_text n docs k (blank ∷ rs) ss e h = round_text n docs (k + 1) rs ss e (f
 round_text n docs k (document d ∷ rs) [] e h = absurd (cc e)
 round_text n docs k (document d ∷ rs) (s ∷ ss) e h =
     let first : s.line ≡ record { number = k + 1; reading = document d } = cc e in
-    let rest : map line_of ss ≡ entries_from (k + 1) rs = cc e in
+    let rest : map shown_entry ss ≡ entries_from (k + 1) rs = cc e in
     ap₂ (λ a b. a ++ b) (one_text s (k + 1) (document d) (n k) docs first (here rs (document d) k n (seen_in (document d ∷ rs) (s ∷ ss)) h))
     (round_text n docs (k + 1) rs ss rest (further rs ss (document d) k n (seen_in (document d ∷ rs) (s ∷ ss)) h))
 round_text n docs k (query j q ∷ rs) [] e h = absurd (cc e)
 round_text n docs k (query j q ∷ rs) (s ∷ ss) e h =
     let first : s.line ≡ record { number = k + 1; reading = query j q } = cc e in
-    let rest : map line_of ss ≡ entries_from (k + 1) rs = cc e in
+    let rest : map shown_entry ss ≡ entries_from (k + 1) rs = cc e in
     ap₂ (λ a b. a ++ b) (one_text s (k + 1) (query j q) (n k) docs first (here rs (query j q) k n (seen_in (query j q ∷ rs) (s ∷ ss)) h))
     (round_text n docs (k + 1) rs ss rest (further rs ss (query j q) k n (seen_in (query j q ∷ rs) (s ∷ ss)) h))
 round_text n docs k (refused x ∷ rs) [] e h = absurd (cc e)
 round_text n docs k (refused x ∷ rs) (s ∷ ss) e h =
     let first : s.line ≡ record { number = k + 1; reading = refused x } = cc e in
-    let rest : map line_of ss ≡ entries_from (k + 1) rs = cc e in
+    let rest : map shown_entry ss ≡ entries_from (k + 1) rs = cc e in
     ap₂ (λ a b. a ++ b) (one_text s (k + 1) (refused x) (n k) docs first (here rs (refused x) k n (seen_in (refused x ∷ rs) (s ∷ ss)) h))
     (round_text n docs (k + 1) rs ss rest (further rs ss (refused x) k n (seen_in (refused x ∷ rs) (s ∷ ss)) h))
 
@@ -185,14 +185,15 @@ rises_le least most (s ∷ ss) h = le_trans h.0 (rises_le (least_after least s) 
 after_query : (least : ℕ) (s : Shown) (r : Reading) (number : ℕ) → s.line ≡ record { number = number; reading = r } → is_query r ≡ true → least_after least s ≡ s.seen
 after_query least s r number e a = let is : is_query s.line.reading ≡ true = ap (λ (x : Entry). is_query x.reading) e ∙ a in rw is refl
 
-bounds : (k low high : ℕ) (rs : List Reading) (ss : List Shown) → map line_of ss ≡ entries_from k rs → Rises low ss high → (i : ℕ) → IsAsked rs i → (low ≤ seen_in rs ss i) × (seen_in rs ss i ≤ high)
+bounds : (k low high : ℕ) (rs : List Reading) (ss : List Shown) → map shown_entry ss ≡ entries_from k rs → Rises low ss high
+    → (i : ℕ) → IsAsked rs i → (low ≤ seen_in rs ss i) × (seen_in rs ss i ≤ high)
 bounds k low high [] ss e h i a = absurd (cc a)
 bounds k low high (blank ∷ rs) ss e h zero a = absurd (cc a)
 bounds k low high (blank ∷ rs) ss e h (suc i) a = bounds (k + 1) low high rs ss e h i a
 bounds k low high (document d ∷ rs) [] e h i a = absurd (cc e)
 bounds k low high (document d ∷ rs) (s ∷ ss) e h zero a = absurd (cc a)
 bounds k low high (document d ∷ rs) (s ∷ ss) e h (suc i) a =
-    let rest : map line_of ss ≡ entries_from (k + 1) rs = cc e in
+    let rest : map shown_entry ss ≡ entries_from (k + 1) rs = cc e in
     let b = bounds (k + 1) (least_after low s) high rs ss rest h.1 i a in (le_trans h.0 b.0, b.1)
 bounds k low high (query j q ∷ rs) [] e h i a = absurd (cc e)
 bounds k low high (query j q ∷ rs) (s ∷ ss) e h zero a =
@@ -201,15 +202,15 @@ bounds k low high (query j q ∷ rs) (s ∷ ss) e h zero a =
     let le = rises_le (least_after low s) high ss h.1 in
     (subst (λ x. low ≤ x) same h.0, subst (λ x. x ≤ high) same le)
 bounds k low high (query j q ∷ rs) (s ∷ ss) e h (suc i) a =
-    let rest : map line_of ss ≡ entries_from (k + 1) rs = cc e in
+    let rest : map shown_entry ss ≡ entries_from (k + 1) rs = cc e in
     let b = bounds (k + 1) (least_after low s) high rs ss rest h.1 i a in (le_trans h.0 b.0, b.1)
 bounds k low high (refused x ∷ rs) [] e h i a = absurd (cc e)
 bounds k low high (refused x ∷ rs) (s ∷ ss) e h zero a = absurd (cc a)
 bounds k low high (refused x ∷ rs) (s ∷ ss) e h (suc i) a =
-    let rest : map line_of ss ≡ entries_from (k + 1) rs = cc e in
+    let rest : map shown_entry ss ≡ entries_from (k + 1) rs = cc e in
     let b = bounds (k + 1) (least_after low s) high rs ss rest h.1 i a in (le_trans h.0 b.0, b.1)
 
-order : (k low high : ℕ) (rs : List Reading) (ss : List Shown) → map line_of ss ≡ entries_from k rs
+order : (k low high : ℕ) (rs : List Reading) (ss : List Shown) → map shown_entry ss ≡ entries_from k rs
     → Rises low ss high → (i j : ℕ) → i ≤ j → IsAsked rs i → IsAsked rs j → seen_in rs ss i ≤ seen_in rs ss j
 order k low high [] ss e h i j le a b = absurd (cc a)
 order k low high (r ∷ rs) ss e h zero zero le a b = le_refl _
@@ -219,21 +220,21 @@ order k low high (blank ∷ rs) ss e h (suc i) (suc j) le a b = order (k + 1) lo
 order k low high (document d ∷ rs) [] e h i j le a b = absurd (cc e)
 order k low high (document d ∷ rs) (s ∷ ss) e h zero (suc j) le a b = absurd (cc a)
 order k low high (document d ∷ rs) (s ∷ ss) e h (suc i) (suc j) le a b =
-    let rest : map line_of ss ≡ entries_from (k + 1) rs = cc e in order (k + 1) (least_after low s) high rs ss rest h.1 i j (omega (arith, le)) a b
+    let rest : map shown_entry ss ≡ entries_from (k + 1) rs = cc e in order (k + 1) (least_after low s) high rs ss rest h.1 i j (omega (arith, le)) a b
 order k low high (query n q ∷ rs) [] e h i j le a b = absurd (cc e)
 order k low high (query n q ∷ rs) (s ∷ ss) e h zero (suc j) le a b =
     let first : s.line ≡ record { number = k + 1; reading = query n q } = cc e in
-    let rest : map line_of ss ≡ entries_from (k + 1) rs = cc e in
+    let rest : map shown_entry ss ≡ entries_from (k + 1) rs = cc e in
     let same = after_query low s (query n q) (k + 1) first refl in
     subst (λ x. x ≤ seen_in rs ss j) same (bounds (k + 1) (least_after low s) high rs ss rest h.1 j b).0
 order k low high (query n q ∷ rs) (s ∷ ss) e h (suc i) (suc j) le a b =
-    let rest : map line_of ss ≡ entries_from (k + 1) rs = cc e in order (k + 1) (least_after low s) high rs ss rest h.1 i j (omega (arith, le)) a b
+    let rest : map shown_entry ss ≡ entries_from (k + 1) rs = cc e in order (k + 1) (least_after low s) high rs ss rest h.1 i j (omega (arith, le)) a b
 order k low high (refused x ∷ rs) [] e h i j le a b = absurd (cc e)
 order k low high (refused x ∷ rs) (s ∷ ss) e h zero (suc j) le a b = absurd (cc a)
 order k low high (refused x ∷ rs) (s ∷ ss) e h (suc i) (suc j) le a b =
-    let rest : map line_of ss ≡ entries_from (k + 1) rs = cc e in order (k + 1) (least_after low s) high rs ss rest h.1 i j (omega (arith, le)) a b
+    let rest : map shown_entry ss ≡ entries_from (k + 1) rs = cc e in order (k + 1) (least_after low s) high rs ss rest h.1 i j (omega (arith, le)) a b
 
-pub round_sees : (k low high : ℕ) (rs : List Reading) (ss : List Shown) → map line_of ss ≡ entries_from k rs → Rises low ss high → SeesWithin rs (seen_in rs ss) low high
+pub round_sees : (k low high : ℕ) (rs : List Reading) (ss : List Shown) → map shown_entry ss ≡ entries_from k rs → Rises low ss high → SeesWithin rs (seen_in rs ss) low high
 round_sees k low high rs ss e h = record {
   least = λ i a. (bounds k low high rs ss e h i a).0;
   most = λ i a. (bounds k low high rs ss e h i a).1;

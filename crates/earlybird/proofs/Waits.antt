@@ -12,7 +12,7 @@ use Rattle.eb_rounds.specs.Sees.{is_document_line, is_query_line}
 use Rattle.eb_rounds.specs.Standing.{Standing}
 use Rattle.eb_lines.specs.Reads.{Reads}
 use Rattle.earlybird.specs.Holding.{held_as, before_held, held_from}
-use Rattle.earlybird.specs.Waiting.{HasWorked, HasSettled, AreRound}
+use Rattle.earlybird.specs.Waiting.{HasWorkedOff, HasSettled, AreRound}
 use Rattle.earlybird.proofs.Going.{overlapped, in_order}
 
 -- ---- nothing is held
@@ -38,7 +38,7 @@ none_round (r ∷ rs) h = absurd h
 
 pub of_settled : (σ : Setting) (overlap : Bool) (given : List Line) (docs : List Doc) (held : Standing) (so_far : List ℕ)
     → HasSettled σ overlap given docs held.counts so_far → held.held ≡ [] → held.greatest ≤ length given
-    → HasWorked σ overlap given docs held so_far
+    → HasWorkedOff σ overlap given docs held so_far
 of_settled σ overlap given docs held so_far s none le = record {
   done = given;
   waiting = [];
@@ -56,13 +56,14 @@ of_settled σ overlap given docs held so_far s none le = record {
 }
 
 -- the held lines are worked off; in order one at most is held
-pub off : (σ : Setting) (overlap : Bool) (given : List Line) (docs docs_new : List Doc) (held : Standing) (counts_new : Counted) (so_far printed : List ℕ) → HasWorked σ overlap given docs held so_far
+pub off : (σ : Setting) (overlap : Bool) (given : List Line) (docs docs_new : List Doc) (held : Standing) (counts_new : Counted) (so_far printed : List ℕ)
+    → HasWorkedOff σ overlap given docs held so_far
     → WorkedOff σ held.held docs docs_new held.counts counts_new printed → (overlap ≡ false → length held.held ≤ 1) → HasSettled σ overlap given docs_new counts_new (so_far ++ printed)
 off σ true given docs docs_new held counts_new so_far printed a w few = overlapped σ given docs docs_new held counts_new so_far printed a w
 off σ false given docs docs_new held counts_new so_far printed a w few = in_order σ given docs docs_new held counts_new so_far printed a w (few refl)
 
 -- where no line is held, all are done: those that wait are blank
-pub settled : (σ : Setting) (overlap : Bool) (given : List Line) (docs : List Doc) (held : Standing) (so_far : List ℕ) → HasWorked σ overlap given docs held so_far → held.held ≡ []
+pub settled : (σ : Setting) (overlap : Bool) (given : List Line) (docs : List Doc) (held : Standing) (so_far : List ℕ) → HasWorkedOff σ overlap given docs held so_far → held.held ≡ []
     → HasSettled σ overlap given docs held.counts so_far
 settled σ overlap given docs held so_far a none =
     let w : WorkedOff σ held.held docs docs held.counts held.counts [] = subst (λ hs. WorkedOff σ hs docs docs held.counts held.counts []) (sym none) (off_none σ docs held.counts) in
@@ -107,9 +108,9 @@ pub round_free : (ls : List Line) (l : Line) → ((rs : List Reading) → AllZip
 round_free ls l free rs h = let m = zip_split Reads ls l rs h in subst QueriesFirst (sym m.2) (first_free m.0 m.1 (free m.0 m.3))
 
 -- a line is given, and held if it isn't blank; the round stays one
-pub one_more : (σ : Setting) (overlap : Bool) (given : List Line) (l : Line) (docs : List Doc) (held held_new : Standing) (so_far : List ℕ) (a : HasWorked σ overlap given docs held so_far)
+pub one_more : (σ : Setting) (overlap : Bool) (given : List Line) (l : Line) (docs : List Doc) (held held_new : Standing) (so_far : List ℕ) (a : HasWorkedOff σ overlap given docs held so_far)
     → AreRound (a.waiting ++ l ∷ []) → held_new.held ≡ held.held ++ before_held (length given + 1) (held_as l) [] → held_new.counts ≡ held.counts → held_new.greatest ≤ length given + 1
-    → HasWorked σ overlap (given ++ l ∷ []) docs held_new so_far
+    → HasWorkedOff σ overlap (given ++ l ∷ []) docs held_new so_far
 one_more σ overlap given l docs held held_new so_far a round lines counts greatest = record {
   done = a.done;
   waiting = a.waiting ++ l ∷ [];

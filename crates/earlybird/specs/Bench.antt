@@ -68,7 +68,7 @@ WroteBench status.WriteFault start count printed = (more : List ℕ) × (n : ℕ
 WroteBench status.NoMemory start count printed = (more : List ℕ) × (n : ℕ) × IsBenchOf start count (printed ++ more) n
 WroteBench status.Usage start count printed = ⊥
 WroteBench status.ReadFault start count printed = ⊥
-WroteBench status.TooLong start count printed = ⊥
+WroteBench status.InputTooLong start count printed = ⊥
 WroteBench status.BadImage start count printed = ⊥
 
 -- what the status of a bench says of its input, whatever became of the output: at Done no line of it is refused, at
@@ -80,7 +80,7 @@ MeansBench status.WriteFault start count = Unit {0}
 MeansBench status.NoMemory start count = Unit {0}
 MeansBench status.Usage start count = ⊥
 MeansBench status.ReadFault start count = ⊥
-MeansBench status.TooLong start count = ⊥
+MeansBench status.InputTooLong start count = ⊥
 MeansBench status.BadImage start count = ⊥
 
 -- what printing the last line leaves, where so many lines are refused
@@ -92,7 +92,7 @@ Closes status.NoMemory count last printed_old printed_new = printed_new ≡ prin
 Closes status.Usage count last printed_old printed_new = ⊥
 Closes status.BadImage count last printed_old printed_new = ⊥
 Closes status.ReadFault count last printed_old printed_new = ⊥
-Closes status.TooLong count last printed_old printed_new = ⊥
+Closes status.InputTooLong count last printed_old printed_new = ⊥
 
 -- what printing the line of figures of these lines leaves
 abbrev pub PrintsFigures : Status → List Line → Option (List ℕ) → Option (List ℕ) → Type 0

@@ -3,7 +3,7 @@ use Rattle.std.specs.Prelude.{◌≡◌, ℕ, ◌*◌, ◌^◌, ◌&&◌, Bool, 
 use Rattle.std.specs.Str.{bytes_eq}
 use Rattle.eb_base.specs.Setting.{Setting, words_of}
 use Rattle.eb_options.specs.Numbers.{number}
-use Rattle.eb_options.specs.Items.{Items, has, items_of, number_of}
+use Rattle.eb_options.specs.Items.{Items, has, items_of, option_number}
 use Rattle.eb_options.specs.Settings.{setting_of, setting_options}
 use Rattle.earlybird.specs.declared.command.Command.{Command}
 use Rattle.earlybird.specs.declared.command.Command.TheVariants.{Run, RunWorkers, RunParts, RunWatches, Bench, Save, Load}
@@ -39,7 +39,7 @@ run_by overlap watch workers parts stats σ = None
 
 -- what the items behind `run` ask for
 abbrev pub run_with : Items → Option Command
-run_with items = option_and_then (λ σ. run_by (has (codes "overlap") items) (has (codes "watch") items) (number_of (codes "workers") items) (number_of (codes "parts") items)
+run_with items = option_and_then (λ σ. run_by (has (codes "overlap") items) (has (codes "watch") items) (option_number (codes "workers") items) (option_number (codes "parts") items)
     (has (codes "stats") items) σ) (setting_of items)
 
 -- what the words behind `run` ask for: its flags and options, in any order, each at most once

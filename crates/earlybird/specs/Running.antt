@@ -12,7 +12,7 @@ use Rattle.eb_rounds.specs.Text.{body, summary}
 use Rattle.eb_table.specs.Known.{Words}
 use Rattle.earlybird.specs.declared.running.Running.{Running}
 use Rattle.earlybird.specs.Output.{Asked, IsBodyOf, IsTextOf}
-use Rattle.earlybird.specs.Waiting.{HasWorked}
+use Rattle.earlybird.specs.Waiting.{HasWorkedOff}
 
 -- of these lines the run has worked off some, as it was asked, and they printed this text: the history of the index's writer
 -- is the documents that the run accepted; in order mode none of the lines is held
@@ -25,11 +25,11 @@ pub record HasRun (r : Running) (a : Asked) (given : List Line) (so_far : List �
   pub mode : r.overlap ≡ a.overlap
   pub stats : r.stats ≡ a.stats
   pub number : r.number ≡ length given
-  pub worked : HasWorked a.setting a.overlap given r.writer.docs r.rounds so_far
+  pub worked : HasWorkedOff a.setting a.overlap given r.writer.docs r.rounds so_far
   pub order : a.overlap ≡ false → r.rounds.held ≡ []
 
 -- what may be called between two lines, and works off the held lines, if memory suffices
-pub record IsWorker {W Z E : Type 0} (pre : W → MutBor Running → MutBor (Vec ℕ Z) → Type 0)
+pub record WorksOffHeld {W Z E : Type 0} (pre : W → MutBor Running → MutBor (Vec ℕ Z) → Type 0)
     (post : W → MutBor Running → MutBor (Vec ℕ Z) → Result (Unit {0}) E → MutBor Running → MutBor (Vec ℕ Z) → Type 0) (worker : W) : Type 0 where
   pub may : (old : MutBor Running) (text : MutBor (Vec ℕ Z)) → IsRunning HasRun old.now → pre worker old text
   pub on : (old new : MutBor Running) (text more : MutBor (Vec ℕ Z)) (r : Result (Unit {0}) E) → post worker old text r new more → WorksOn HasRun old.now new.now text.now.items more.now.items
@@ -40,7 +40,7 @@ pub record IsWorker {W Z E : Type 0} (pre : W → MutBor Running → MutBor (Vec
 -- a run that is worked by such a worker
 abbrev pub HasRunBy : {W Z E : Type 0} → (W → MutBor Running → MutBor (Vec ℕ Z) → Type 0)
     → (W → MutBor Running → MutBor (Vec ℕ Z) → Result (Unit {0}) E → MutBor Running → MutBor (Vec ℕ Z) → Type 0) → W → Running → Asked → List Line → List ℕ → Type 0
-HasRunBy pre post worker r a given so_far = IsWorker pre post worker × HasRun r a given so_far
+HasRunBy pre post worker r a given so_far = WorksOffHeld pre post worker × HasRun r a given so_far
 
 -- the lines that are worked off are the first ones, and printed this
 pub run_first : (r : Running) (a : Asked) (given : List Line) (so_far : List ℕ) → HasRun r a given so_far → PrintsFront IsBodyOf a given so_far

@@ -32,16 +32,16 @@ WithPlaced s σ p d true = (has_room σ p.documents d ≡ true) × HasCome s σ 
 WithPlaced s σ p d false = (has_room σ p.documents d ≡ false) × HasCome s σ p
 
 -- what a line behind these documents comes to: an answer over all of them, a refusal, or nothing
-abbrev pub IsOutcome : List Doc → Reading → Outcome → Type 0
-IsOutcome docs blank Nothing = Unit {0}
-IsOutcome docs (document d) Nothing = Unit {0}
-IsOutcome docs (query k q) (Answered seen frame) = (seen ≡ length docs) × (ids_of frame ≡ answer q k docs)
-IsOutcome docs (refused r) (Refused x) = x ≡ r
-IsOutcome docs blank (Answered seen frame) = ⊥
-IsOutcome docs blank (Refused x) = ⊥
-IsOutcome docs (document d) (Answered seen frame) = ⊥
-IsOutcome docs (document d) (Refused x) = ⊥
-IsOutcome docs (query k q) Nothing = ⊥
-IsOutcome docs (query k q) (Refused x) = ⊥
-IsOutcome docs (refused r) Nothing = ⊥
-IsOutcome docs (refused r) (Answered seen frame) = ⊥
+abbrev pub IsSessionOutcome : List Doc → Reading → Outcome → Type 0
+IsSessionOutcome docs blank Nothing = Unit {0}
+IsSessionOutcome docs (document d) Nothing = Unit {0}
+IsSessionOutcome docs (query k q) (Answered seen frame) = (seen ≡ length docs) × (ids_of frame ≡ answer q k docs)
+IsSessionOutcome docs (refused r) (Refused x) = x ≡ r
+IsSessionOutcome docs blank (Answered seen frame) = ⊥
+IsSessionOutcome docs blank (Refused x) = ⊥
+IsSessionOutcome docs (document d) (Answered seen frame) = ⊥
+IsSessionOutcome docs (document d) (Refused x) = ⊥
+IsSessionOutcome docs (query k q) Nothing = ⊥
+IsSessionOutcome docs (query k q) (Refused x) = ⊥
+IsSessionOutcome docs (refused r) Nothing = ⊥
+IsSessionOutcome docs (refused r) (Answered seen frame) = ⊥

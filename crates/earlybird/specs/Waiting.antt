@@ -23,7 +23,7 @@ abbrev pub counts_of : List Reading → Counted
 counts_of rs = record { documents = length (accepted rs); queries = queries rs; refused = refusals rs }
 
 -- of the lines given these are done, and these wait; those done printed this text
-pub record HasWorked (σ : Setting) (overlap : Bool) (given : List Line) (docs : List Doc) (held : Standing) (so_far : List ℕ) : Type 0 where
+pub record HasWorkedOff (σ : Setting) (overlap : Bool) (given : List Line) (docs : List Doc) (held : Standing) (so_far : List ℕ) : Type 0 where
   pub done : List Line
   pub waiting : List Line
   pub readings : List Reading

@@ -1,14 +1,14 @@
 ghost use Rattle.std.specs.Prelude.{◌≡◌, ◌+◌, ◌<◌, ◌^◌, true, false, Some, None, ℕ, List, [], length, IfOk, OnErr, OnOk, IsTrue, ◌↔◌, slice_get};
 ghost use Rattle.eb_io.specs.Lines.{Line, line, long_line};
-ghost use Rattle.eb_rounds.specs.Passed.{HasMark, input_of, kind_of};
+ghost use Rattle.eb_rounds.specs.Passed.{HasMark, input_of, input_kind};
 ghost use Rattle.eb_rounds.specs.Standing.{queries_held};
 ghost use Rattle.eb_rounds.specs.Takes.{takes_kind};
 ghost use Rattle.eb_place.specs.Room.{cut};
-ghost use Rattle.eb_rounds.specs.Conversions.{converted_of};
+ghost use Rattle.eb_rounds.specs.Conversions.{most_converted};
 ghost use Rattle.earlybird.specs.Holding.{held_as};
-ghost use Rattle.eb_lines.specs.Programs.{IsRunning, WorksOn, GoesOn};
+ghost use Rattle.eb_lines.specs.Programs.{IsRunning, WorksOn, WorksOnGiven};
 ghost use Rattle.earlybird.specs.Output.{asked};
-ghost use Rattle.earlybird.specs.Running.{HasRun, IsWorker};
+ghost use Rattle.earlybird.specs.Running.{HasRun, WorksOffHeld};
 
 use eb_base::{Config, Gate, NoMemory};
 use eb_engine::{Converter, Index, Writer};
@@ -65,7 +65,7 @@ impl Running {
     pub(crate) fn finish(&mut self) -> SegmentCounts
         requires { IsRunning HasRun self.old }
         ensures segments { result.segments ≡ length (cut self.old.index.setting self.old.writer.docs) }
-        ensures converted { result.converted ≡ converted_of (length (cut self.old.index.setting self.old.writer.docs)) }
+        ensures converted { result.converted ≡ most_converted (length (cut self.old.index.setting self.old.writer.docs)) }
     {
         close(&self.index, &mut self.writer, &mut self.converter)
     }
@@ -102,7 +102,7 @@ impl Running {
         text: &mut Vec<u8>,
     ) -> Result<(), NoMemory>
         requires state { IsRunning HasRun self.old }
-        requires worker { IsWorker W.pre W.post worker.now }
+        requires worker { WorksOffHeld W.pre W.post worker.now }
         ensures on { WorksOn HasRun self.old self.new text.old.items text.new.items }
         ensures answered { OnOk result (queries_held self.new.rounds.held ≡ 0) }
         ensures number { self.new.number ≡ self.old.number }
@@ -122,7 +122,7 @@ impl Running {
         text: &mut Vec<u8>,
     ) -> Result<(), NoMemory>
         requires state { IsRunning HasRun self.old }
-        requires worker { IsWorker W.pre W.post worker.now }
+        requires worker { WorksOffHeld W.pre W.post worker.now }
         ensures on { WorksOn HasRun self.old self.new text.old.items text.new.items }
         ensures takes { OnOk result (takes_kind self.new.rounds.held kind ≡ true) }
         ensures mode { self.new.overlap ≡ self.old.overlap }
@@ -140,9 +140,9 @@ impl Running {
         requires state { IsRunning HasRun self.old }
         requires overlap { self.old.overlap ≡ true }
         requires number { self.old.number + 1 < 2 ^ 64 }
-        requires takes { takes_kind self.old.rounds.held (kind_of input) ≡ true }
+        requires takes { takes_kind self.old.rounds.held (input_kind input) ≡ true }
         requires question_mark { HasMark input }
-        ensures ok { OnOk result ((l : Line) → held_as l ≡ Some (input_of input.entry) → (text : List ℕ) → GoesOn HasRun self.old self.new text text l) }
+        ensures ok { OnOk result ((l : Line) → held_as l ≡ Some (input_of input.entry) → (text : List ℕ) → WorksOnGiven HasRun self.old self.new text text l) }
         ensures err { OnErr result (self.new ≡ self.old) }
     {
         let number = self.number + 1;
@@ -159,11 +159,12 @@ impl Running {
         text: &mut Vec<u8>,
     ) -> Result<(), NoMemory>
         requires state { IsRunning HasRun self.old }
-        requires worker { IsWorker W.pre W.post worker.now }
+        requires worker { WorksOffHeld W.pre W.post worker.now }
         requires overlap { self.old.overlap ≡ true }
         requires number { self.old.number + 1 < 2 ^ 64 }
         requires question_mark { HasMark input }
-        ensures ok { OnOk result ((l : Line) → held_as l ≡ Some (input_of input.entry) → GoesOn HasRun self.old self.new text.old.items text.new.items l) }
+        ensures ok { OnOk result ((l : Line) → held_as l ≡ Some (input_of input.entry)
+            → WorksOnGiven HasRun self.old self.new text.old.items text.new.items l) }
         ensures err { OnErr result (WorksOn HasRun self.old self.new text.old.items text.new.items) }
     {
         self.make_way(input.kind(), worker, text)?;
@@ -182,7 +183,8 @@ impl Running {
         requires order { self.old.overlap ≡ false }
         requires number { self.old.number + 1 < 2 ^ 64 }
         requires question_mark { HasMark input }
-        ensures ok { OnOk result ((l : Line) → held_as l ≡ Some (input_of input.entry) → GoesOn HasRun self.old self.new text.old.items text.new.items l) }
+        ensures ok { OnOk result ((l : Line) → held_as l ≡ Some (input_of input.entry)
+            → WorksOnGiven HasRun self.old self.new text.old.items text.new.items l) }
         ensures err { OnErr result (WorksOn HasRun self.old self.new text.old.items text.new.items) }
     {
         let number = self.number + 1;
@@ -210,10 +212,11 @@ impl Running {
         text: &mut Vec<u8>,
     ) -> Result<(), NoMemory>
         requires state { IsRunning HasRun self.old }
-        requires worker { IsWorker W.pre W.post worker.now }
+        requires worker { WorksOffHeld W.pre W.post worker.now }
         requires number { self.old.number + 1 < 2 ^ 64 }
         requires question_mark { HasMark input }
-        ensures ok { OnOk result ((l : Line) → held_as l ≡ Some (input_of input.entry) → GoesOn HasRun self.old self.new text.old.items text.new.items l) }
+        ensures ok { OnOk result ((l : Line) → held_as l ≡ Some (input_of input.entry)
+            → WorksOnGiven HasRun self.old self.new text.old.items text.new.items l) }
         ensures err { OnErr result (WorksOn HasRun self.old self.new text.old.items text.new.items) }
     {
         if self.overlap {
@@ -227,7 +230,7 @@ impl Running {
     fn pass(&mut self)
         requires state { IsRunning HasRun self.old }
         requires number { self.old.number + 1 < 2 ^ 64 }
-        ensures { (l : Line) → held_as l ≡ None → (text : List ℕ) → GoesOn HasRun self.old self.new text text l }
+        ensures { (l : Line) → held_as l ≡ None → (text : List ℕ) → WorksOnGiven HasRun self.old self.new text text l }
     {
         self.number += 1;
     }
@@ -241,9 +244,9 @@ impl Running {
         text: &mut Vec<u8>,
     ) -> Result<(), NoMemory>
         requires state { IsRunning HasRun self.old }
-        requires worker { IsWorker W.pre W.post worker.now }
+        requires worker { WorksOffHeld W.pre W.post worker.now }
         requires number { self.old.number + 1 < 2 ^ 64 }
-        ensures ok { OnOk result (GoesOn HasRun self.old self.new text.old.items text.new.items long_line) }
+        ensures ok { OnOk result (WorksOnGiven HasRun self.old self.new text.old.items text.new.items long_line) }
         ensures err { OnErr result (WorksOn HasRun self.old self.new text.old.items text.new.items) }
     {
         self.take(
@@ -265,10 +268,10 @@ impl Running {
         text: &mut Vec<u8>,
     ) -> Result<(), NoMemory>
         requires state { IsRunning HasRun self.old }
-        requires worker { IsWorker W.pre W.post worker.now }
+        requires worker { WorksOffHeld W.pre W.post worker.now }
         requires number { self.old.number + 1 < 2 ^ 64 }
         requires question_mark { slice_get bytes.now 0 ≡ Some 63 }
-        ensures ok { OnOk result (GoesOn HasRun self.old self.new text.old.items text.new.items (line bytes.now)) }
+        ensures ok { OnOk result (WorksOnGiven HasRun self.old self.new text.old.items text.new.items (line bytes.now)) }
         ensures err { OnErr result (WorksOn HasRun self.old self.new text.old.items text.new.items) }
     {
         match str::from_utf8(bytes) {
@@ -293,9 +296,9 @@ impl Running {
         text: &mut Vec<u8>,
     ) -> Result<(), NoMemory>
         requires state { IsRunning HasRun self.old }
-        requires worker { IsWorker W.pre W.post worker.now }
+        requires worker { WorksOffHeld W.pre W.post worker.now }
         requires number { self.old.number + 1 < 2 ^ 64 }
-        ensures ok { OnOk result (GoesOn HasRun self.old self.new text.old.items text.new.items (line bytes.now)) }
+        ensures ok { OnOk result (WorksOnGiven HasRun self.old self.new text.old.items text.new.items (line bytes.now)) }
         ensures err { OnErr result (WorksOn HasRun self.old self.new text.old.items text.new.items) }
     {
         match bytes.first() {

@@ -6,7 +6,7 @@ ghost use Rattle.eb_cursor.specs.Frames.{query_of, k_of, ids_of};
 ghost use Rattle.eb_lines.specs.Reading.{blank, document as reads_document, query, refused};
 ghost use Rattle.eb_lines.specs.Progress.{Progress, with_line, nothing};
 ghost use Rattle.eb_rounds.specs.Admitted.{admit};
-ghost use Rattle.earlybird.specs.Session.{HasCome, IsOutcome, WithPlaced};
+ghost use Rattle.earlybird.specs.Session.{HasCome, IsSessionOutcome, WithPlaced};
 ghost use Rattle.eb_lines.specs.Works.{reading_of};
 
 use eb_base::{Config, Document, Gate, NoMemory};
@@ -58,7 +58,7 @@ impl Session {
     pub(crate) fn work_off<G: Gate>(&mut self, work: Work, gate: &G) -> Outcome
         requires { (σ : Setting) × (p : Progress) × HasCome self.old σ p × (p.lines + 1 < 2 ^ 64) }
         ensures session { (σ : Setting) (p : Progress) → HasCome self.old σ p → HasCome self.new σ (with_line p (admit σ p.documents (reading_of work))) }
-        ensures outcome { (σ : Setting) (p : Progress) → HasCome self.old σ p → IsOutcome p.documents (admit σ p.documents (reading_of work)) result }
+        ensures outcome { (σ : Setting) (p : Progress) → HasCome self.old σ p → IsSessionOutcome p.documents (admit σ p.documents (reading_of work)) result }
     {
         match work {
             Work::Nothing => self.pass(),
@@ -84,7 +84,7 @@ impl Session {
         ensures session { (σ : Setting) (p : Progress) → HasCome self.old σ p
             → HasCome self.new σ (with_line p (admit σ p.documents (reads_document document.now))) }
         ensures outcome { (σ : Setting) (p : Progress) → HasCome self.old σ p
-            → IsOutcome p.documents (admit σ p.documents (reads_document document.now)) result }
+            → IsSessionOutcome p.documents (admit σ p.documents (reads_document document.now)) result }
     {
         if self.place(document, gate) {
             self.pass()
@@ -108,7 +108,7 @@ impl Session {
     fn answer<G: Gate>(&mut self, frame: Frame, gate: &G) -> Outcome
         requires { (σ : Setting) × (p : Progress) × HasCome self.old σ p × (p.lines + 1 < 2 ^ 64) }
         ensures session { (σ : Setting) (p : Progress) → HasCome self.old σ p → HasCome self.new σ (with_line p (query (k_of frame) (query_of frame))) }
-        ensures outcome { (σ : Setting) (p : Progress) → HasCome self.old σ p → IsOutcome p.documents (query (k_of frame) (query_of frame)) result }
+        ensures outcome { (σ : Setting) (p : Progress) → HasCome self.old σ p → IsSessionOutcome p.documents (query (k_of frame) (query_of frame)) result }
     {
         let mut frame = frame;
         let seen = search_all(&self.index, &mut self.writer, &mut frame, gate);

@@ -15,7 +15,7 @@ use Rattle.eb_lines.specs.Text.{answer_line, refusal_line}
 use Rattle.eb_lines.proofs.Advancing.{accepted-push, queries-push, refusals-push}
 use Rattle.earlybird_feed.proofs.Counting.{accepted-nil, queries-nil, refusals-nil, accepted_few, queries_few, refusals_few}
 use Rattle.earlybird_feed.specs.declared.feeding.Feeding.{Feeding}
-use Rattle.earlybird_feed.specs.Feeding.{HasFed, GoesOn}
+use Rattle.earlybird_feed.specs.Feeding.{HasFed, FeedsLine}
 
 pub fed_none : (f : Feeding) (σ : Setting) (keep : ℕ) → HasTaken f.feed σ keep [] → f.number ≡ 0 → f.queries ≡ 0 → f.refused ≡ 0 → HasFed f σ keep []
 fed_none f σ keep taken n q r = record {
@@ -45,7 +45,7 @@ fed_push old new σ keep rs r h taken n q x = record {
 }
 
 module _ (old new : Feeding) (n : new.number ≡ old.number + 1) where
-  pub goes_blank : new.feed ≡ old.feed → new.queries ≡ old.queries → new.refused ≡ old.refused → (text : List ℕ) → GoesOn old new text text blank
+  pub goes_blank : new.feed ≡ old.feed → new.queries ≡ old.queries → new.refused ≡ old.refused → (text : List ℕ) → FeedsLine old new text text blank
   goes_blank same q x text = λ σ keep rs h. (
     fed_push old new σ keep rs blank h (subst (λ ds. HasTaken new.feed σ keep ds) (sym (append-nil (accepted rs))) (subst (λ (f : Feed). HasTaken f σ keep (accepted rs)) (sym same) h.feed)) n
         (omega (arith, q)) (omega (arith, x)),
@@ -53,14 +53,14 @@ module _ (old new : Feeding) (n : new.number ≡ old.number + 1) where
   )
 
   pub goes_document : (d : Doc) → ((σ : Setting) (keep : ℕ) (history : List Doc) → HasTaken old.feed σ keep history → HasTaken new.feed σ keep (history ++ d ∷ []))
-      → new.queries ≡ old.queries → new.refused ≡ old.refused → (text : List ℕ) → GoesOn old new text text (document d)
+      → new.queries ≡ old.queries → new.refused ≡ old.refused → (text : List ℕ) → FeedsLine old new text text (document d)
   goes_document d takes q x text = λ σ keep rs h. (
     fed_push old new σ keep rs (document d) h (takes σ keep (accepted rs) h.feed) n (omega (arith, q)) (omega (arith, x)),
     sym (append-nil text),
   )
 
   pub goes_refused : (r : Refusal) → new.feed ≡ old.feed → new.queries ≡ old.queries → new.refused ≡ old.refused + 1
-      → (text more : List ℕ) → more ≡ text ++ refusal_line (old.number + 1) r → GoesOn old new text more (refused r)
+      → (text more : List ℕ) → more ≡ text ++ refusal_line (old.number + 1) r → FeedsLine old new text more (refused r)
   goes_refused r same q x text more e = λ σ keep rs h. (
     fed_push old new σ keep rs (refused r) h (subst (λ ds. HasTaken new.feed σ keep ds) (sym (append-nil (accepted rs))) (subst (λ (f : Feed). HasTaken f σ keep (accepted rs)) (sym same) h.feed)) n
         (omega (arith, q)) x,
@@ -70,7 +70,7 @@ module _ (old new : Feeding) (n : new.number ≡ old.number + 1) where
   pub goes_query : (k : ℕ) (q : Tree) (seen : ℕ) (ids : List ℕ) → ((σ : Setting) (keep : ℕ) (history : List Doc) → HasTaken old.feed σ keep history → HasTaken new.feed σ keep history)
       → ((σ : Setting) (keep : ℕ) (history : List Doc) → HasTaken old.feed σ keep history → seen ≡ length history)
       → ((σ : Setting) (keep : ℕ) (history : List Doc) → HasTaken old.feed σ keep history → ids ≡ answer q k (kept σ keep history))
-      → new.queries ≡ old.queries + 1 → new.refused ≡ old.refused → (text more : List ℕ) → more ≡ text ++ answer_line (old.number + 1) seen ids → GoesOn old new text more (query k q)
+      → new.queries ≡ old.queries + 1 → new.refused ≡ old.refused → (text more : List ℕ) → more ≡ text ++ answer_line (old.number + 1) seen ids → FeedsLine old new text more (query k q)
   goes_query k q seen ids takes sees finds c x text more e = λ σ keep rs h.
       let docs = accepted rs in (
         fed_push old new σ keep rs (query k q) h (subst (λ ds. HasTaken new.feed σ keep ds) (sym (append-nil docs)) (takes σ keep docs h.feed)) n c (omega (arith, x)),

@@ -15,9 +15,9 @@ use Rattle.eb_lines.proofs.OneReading.{raw_push}
 use Rattle.eb_lines.proofs.PassingLines.{ends_at_once}
 use Rattle.earlybird_feed.specs.declared.feeding.Feeding.{Feeding}
 use Rattle.earlybird_feed.specs.Asked.{Asked, HasRun, body_of, comes_first}
-use Rattle.earlybird_feed.specs.Feeding.{HasFed, IsFeeding, GoesOn, output_behind}
+use Rattle.earlybird_feed.specs.Feeding.{HasFed, IsFeeding, FeedsLine, output_behind}
 use Rattle.earlybird_feed.specs.Output.{AreRead, IsBodyOf, IsTextOf, HasRefusal, HasNoRefusal}
-use Rattle.earlybird_feed.specs.Text.{summary, summary_of}
+use Rattle.earlybird_feed.specs.Text.{summary, summary_with_kept}
 use Rattle.earlybird_feed.proofs.Texts.{body-push, body-nil}
 
 -- before the first line
@@ -29,7 +29,7 @@ ends_none σ keep left printed =
     ends_at_once (IsBodyOf σ keep) (IsTextOf σ keep) HasRefusal HasNoRefusal (comes_first σ keep) left printed [] (record { readings = []; read = tt; bytes = sym (body-nil σ keep) })
 
 -- a line is worked off
-pub goes : (old new : Feeding) (t0 t1 : List ℕ) (l : Line) → (r : Reading) × Reads l r × GoesOn old new t0 t1 r → (a : Asked) (given : List Line) (so_far : List ℕ) → HasRun old a given so_far
+pub goes : (old new : Feeding) (t0 t1 : List ℕ) (l : Line) → (r : Reading) × Reads l r × FeedsLine old new t0 t1 r → (a : Asked) (given : List Line) (so_far : List ℕ) → HasRun old a given so_far
     → (printed : List ℕ) × HasRun new a (given ++ l ∷ []) (so_far ++ printed) × (t1 ≡ t0 ++ printed)
 goes old new t0 t1 l g a given so_far h =
     let w = g.2 a.setting a.keep h.readings h.fed in (
@@ -49,13 +49,13 @@ feeding_of f a given so_far h = (a.setting, a.keep, h.readings, h.fed)
 -- the summary behind what the lines print
 pub finishes : {P : Type 0} (p : P) (has_run : P → Asked → List Line → List ℕ → Type 0) (f : Feeding) (a : Asked) (given : List Line) (so_far : List ℕ) (h : HasRun f a given so_far) (d q x k : ℕ)
     → d ≡ length (accepted h.readings) → q ≡ queries h.readings → x ≡ refusals h.readings
-    → k ≡ length (kept a.setting a.keep (accepted h.readings)) → (t whole : List ℕ) → whole ≡ t ++ summary_of d q x k
+    → k ≡ length (kept a.setting a.keep (accepted h.readings)) → (t whole : List ℕ) → whole ≡ t ++ summary_with_kept d q x k
     → Finishes has_run (λ b. IsTextOf b.setting b.keep) (λ b. HasRefusal) (λ b. HasNoRefusal) p t whole x a given so_far
 finishes p has_run f a given so_far h d q x k de qe xe ke t whole e =
-    let sum : summary_of d q x k ≡ summary a.setting a.keep h.readings =
-    ap₂ (λ i j. summary_of i j x k) de qe ∙ ap₂ (λ i j. summary_of (length (accepted h.readings)) (queries h.readings) i j) xe ke in
+    let sum : summary_with_kept d q x k ≡ summary a.setting a.keep h.readings =
+    ap₂ (λ i j. summary_with_kept i j x k) de qe ∙ ap₂ (λ i j. summary_with_kept (length (accepted h.readings)) (queries h.readings) i j) xe ke in
     record {
-      printed = summary_of d q x k;
+      printed = summary_with_kept d q x k;
       whole = record { readings = h.readings; read = h.read; bytes = ap₂ (λ i j. i ++ j) h.printed sum };
       text = e;
       some = λ n is. (h.readings, h.read, omega (arith, is, xe));

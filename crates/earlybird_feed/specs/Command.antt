@@ -1,7 +1,7 @@
 -- What the words of a command line ask of a feed; they are without the program's name and the word `feed`.
 use Rattle.std.specs.Prelude.{◌≡◌, ℕ, ◌+◌, ◌*◌, ◌^◌, ◌&&◌, Bool, List, [], ◌∷◌, codes, nat_le, Option, Some, None, unwrap_or, if◌then◌else◌, option_and_then}
 use Rattle.eb_base.specs.Setting.{Setting, words_of}
-use Rattle.eb_options.specs.Items.{Items, items_of, number_of}
+use Rattle.eb_options.specs.Items.{Items, items_of, option_number}
 use Rattle.eb_options.specs.Settings.{setting_of, setting_options}
 use Rattle.earlybird_feed.specs.declared.command.Asked.{Asked}
 
@@ -19,7 +19,7 @@ feed_of keep σ = if is_feed keep σ then Some (record { keep = keep; config = �
 
 -- the feed that the items ask for; 4 generations where they don't say otherwise
 abbrev pub feed_with : Items → Option Asked
-feed_with items = option_and_then (feed_of (unwrap_or (number_of (codes "keep") items) 4)) (setting_of items)
+feed_with items = option_and_then (feed_of (unwrap_or (option_number (codes "keep") items) 4)) (setting_of items)
 
 -- the feed that the words ask for: its options in any order, each at most once
 abbrev pub asked_of : List (List ℕ) → Option Asked

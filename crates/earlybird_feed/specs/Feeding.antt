@@ -23,6 +23,6 @@ abbrev pub output_behind : Setting → ℕ → List Reading → Reading → List
 output_behind σ keep rs r = output_of σ keep (length rs + 1) (length (accepted rs)) (accepted rs) r
 
 -- a line that is read so was worked off more, and what it prints stands behind the text
-abbrev pub GoesOn : Feeding → Feeding → List ℕ → List ℕ → Reading → Type 0
-GoesOn old new text_old text_new r = (σ : Setting) (keep : ℕ) (rs : List Reading) → HasFed old σ keep rs
+abbrev pub FeedsLine : Feeding → Feeding → List ℕ → List ℕ → Reading → Type 0
+FeedsLine old new text_old text_new r = (σ : Setting) (keep : ℕ) (rs : List Reading) → HasFed old σ keep rs
     → HasFed new σ keep (rs ++ r ∷ []) × (text_new ≡ text_old ++ output_behind σ keep rs r)

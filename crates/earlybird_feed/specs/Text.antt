@@ -26,11 +26,11 @@ abbrev pub body : Setting → ℕ → List Reading → List ℕ
 body σ keep rs = body_from σ keep (told rs) (accepted rs) 0 rs
 
 -- the last line: the documents accepted, the queries answered, the lines refused and the documents kept
-abbrev pub summary_of : ℕ → ℕ → ℕ → ℕ → List ℕ
-summary_of d q r k = summary_with d q r (codes ", kept " ++ decimal k)
+abbrev pub summary_with_kept : ℕ → ℕ → ℕ → ℕ → List ℕ
+summary_with_kept d q r k = summary_with d q r (codes ", kept " ++ decimal k)
 
 abbrev pub summary : Setting → ℕ → List Reading → List ℕ
-summary σ keep rs = summary_of (length (accepted rs)) (queries rs) (refusals rs) (length (kept σ keep (accepted rs)))
+summary σ keep rs = summary_with_kept (length (accepted rs)) (queries rs) (refusals rs) (length (kept σ keep (accepted rs)))
 
 -- the whole text of some lines
 abbrev pub text : Setting → ℕ → List Reading → List ℕ

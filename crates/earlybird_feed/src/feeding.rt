@@ -10,7 +10,7 @@ ghost use Rattle.eb_lines.specs.Reading.{Reading, blank, document as reads_docum
 ghost use Rattle.eb_lines.specs.Reads.{Reads};
 ghost use Rattle.eb_lines.specs.Progress.{accepted, queries, refusals};
 ghost use Rattle.eb_lines.specs.Works.{reading_of};
-ghost use Rattle.earlybird_feed.specs.Feeding.{HasFed, IsFeeding, GoesOn};
+ghost use Rattle.earlybird_feed.specs.Feeding.{HasFed, IsFeeding, FeedsLine};
 
 use eb_base::{Config, Document, Gate, NoMemory};
 use eb_cursor::Frame;
@@ -76,7 +76,7 @@ impl Feeding {
     ) -> Result<(), NoMemory>
         requires state { IsFeeding self.old }
         requires number { self.old.number + 1 < 2 ^ 64 }
-        ensures ok { OnOk result ((r : Reading) × Reads (line bytes.now) r × GoesOn self.old self.new text.old.items text.new.items r) }
+        ensures ok { OnOk result ((r : Reading) × Reads (line bytes.now) r × FeedsLine self.old self.new text.old.items text.new.items r) }
         ensures err { OnErr result ((self.new ≡ self.old) × (text.new.items ≡ text.old.items)) }
     {
         let work = read_line(alloc, bytes)?;
@@ -91,7 +91,7 @@ impl Feeding {
     ) -> Result<(), NoMemory>
         requires state { IsFeeding self.old }
         requires number { self.old.number + 1 < 2 ^ 64 }
-        ensures ok { OnOk result ((r : Reading) × Reads long_line r × GoesOn self.old self.new text.old.items text.new.items r) }
+        ensures ok { OnOk result ((r : Reading) × Reads long_line r × FeedsLine self.old self.new text.old.items text.new.items r) }
         ensures err { OnErr result ((self.new ≡ self.old) × (text.new.items ≡ text.old.items)) }
     {
         self.work_off(Work::Refuse(Refusal::LongLine), gate, text)
@@ -106,7 +106,7 @@ impl Feeding {
     ) -> Result<(), NoMemory>
         requires state { IsFeeding self.old }
         requires number { self.old.number + 1 < 2 ^ 64 }
-        ensures ok { OnOk result (GoesOn self.old self.new text.old.items text.new.items (reading_of work)) }
+        ensures ok { OnOk result (FeedsLine self.old self.new text.old.items text.new.items (reading_of work)) }
         ensures err { OnErr result ((self.new ≡ self.old) × (text.new.items ≡ text.old.items)) }
     {
         match work {
@@ -127,7 +127,7 @@ impl Feeding {
     fn pass(&mut self)
         requires state { IsFeeding self.old }
         requires number { self.old.number + 1 < 2 ^ 64 }
-        ensures { (text : List ℕ) → GoesOn self.old self.new text text blank }
+        ensures { (text : List ℕ) → FeedsLine self.old self.new text text blank }
     {
         self.number += 1;
     }
@@ -136,7 +136,7 @@ impl Feeding {
     fn add(&mut self, document: &Document)
         requires state { IsFeeding self.old }
         requires number { self.old.number + 1 < 2 ^ 64 }
-        ensures { (text : List ℕ) → GoesOn self.old self.new text text (reads_document document.now) }
+        ensures { (text : List ℕ) → FeedsLine self.old self.new text text (reads_document document.now) }
     {
         self.feed.add(document);
         self.number += 1;
@@ -151,7 +151,7 @@ impl Feeding {
     ) -> Result<(), NoMemory>
         requires state { IsFeeding self.old }
         requires number { self.old.number + 1 < 2 ^ 64 }
-        ensures ok { OnOk result (GoesOn self.old self.new text.old.items text.new.items (query (k_of frame) (query_of frame))) }
+        ensures ok { OnOk result (FeedsLine self.old self.new text.old.items text.new.items (query (k_of frame) (query_of frame))) }
         ensures err { OnErr result ((self.new ≡ self.old) × (text.new.items ≡ text.old.items)) }
     {
         let mut frame = frame;
@@ -167,7 +167,7 @@ impl Feeding {
     fn refuse(&mut self, refusal: Refusal, text: &mut Vec<u8>) -> Result<(), NoMemory>
         requires state { IsFeeding self.old }
         requires number { self.old.number + 1 < 2 ^ 64 }
-        ensures ok { OnOk result (GoesOn self.old self.new text.old.items text.new.items (refused refusal)) }
+        ensures ok { OnOk result (FeedsLine self.old self.new text.old.items text.new.items (refused refusal)) }
         ensures err { OnErr result ((self.new ≡ self.old) × (text.new.items ≡ text.old.items)) }
     {
         text.reserve(68)?;

@@ -1,5 +1,5 @@
 ghost use Rattle.std.specs.Prelude.{◌≡◌, ◌++◌, OnErr, OnOk};
-ghost use Rattle.earlybird_feed.specs.Text.{summary_of};
+ghost use Rattle.earlybird_feed.specs.Text.{summary_with_kept};
 
 use eb_base::NoMemory;
 use eb_lines::put_summary;
@@ -14,7 +14,7 @@ pub(crate) fn put_last(
     refused: u64,
     kept: u64,
 ) -> Result<(), NoMemory>
-    ensures ok { OnOk result (text.new.items ≡ text.old.items ++ summary_of documents queries refused kept) }
+    ensures ok { OnOk result (text.new.items ≡ text.old.items ++ summary_with_kept documents queries refused kept) }
     ensures err { OnErr result (text.new.items ≡ text.old.items) }
 {
     let more = format!(in alloc; ", kept {kept}")?;

@@ -10,7 +10,7 @@ use Rattle.std.proofs.lemmas.List.Concat.{flat_map-cons}
 use Rattle.eb_base.specs.Document.{Doc, IsDocument}
 use Rattle.eb_base.specs.Setting.{Setting, IsSetting}
 use Rattle.eb_image.specs.Image.{head_of, part_of, last_byte, image_of, IsFront}
-use Rattle.eb_image.specs.Reading.{IsHead, IsNext, Begins, HasNone, IsBad}
+use Rattle.eb_image.specs.Reading.{IsHead, IsNextPart, Begins, HasNone, IsBad}
 use Rattle.eb_image.proofs.Parts.{part_front, part_not_last, head_front}
 use Rattle.eb_image.proofs.Taken.{front_both}
 use Rattle.eb_place.specs.Room.{has_room}
@@ -47,12 +47,12 @@ module _ (σ : Setting) (docs : List Doc) (fs : IsSetting σ) (fd : All IsDocume
       (heads.0, parts_in docs i.documents x y fd i.lawful.documents heads.1)
 
   -- something comes next in it
-  next_in : (more : List Doc) (x y : List ℕ) → All IsDocument more → x ≡ flat_map part_of more ++ 0 ∷ y → (next : List ℕ) × IsNext next × ((rest : List ℕ) × (x ≡ next ++ rest))
+  next_in : (more : List Doc) (x y : List ℕ) → All IsDocument more → x ≡ flat_map part_of more ++ 0 ∷ y → (next : List ℕ) × IsNextPart next × ((rest : List ℕ) × (x ≡ next ++ rest))
   next_in [] x y f e = (last_byte, inl refl, (y, e))
   next_in (m ∷ ms) x y f e =
       (part_of m, inr (record { document = m; within = f 0 m (omega arith); is = refl }), (flat_map part_of ms ++ 0 ∷ y, e ∙ cut_parts m ms (0 ∷ y)))
 
-  next_of : (whole x y : List ℕ) (i : IsImage whole) → read_bytes σ docs ++ x ≡ whole ++ y → (next : List ℕ) × IsNext next × ((rest : List ℕ) × (x ≡ next ++ rest))
+  next_of : (whole x y : List ℕ) (i : IsImage whole) → read_bytes σ docs ++ x ≡ whole ++ y → (next : List ℕ) × IsNextPart next × ((rest : List ℕ) × (x ≡ next ++ rest))
   next_of whole x y i e =
       let in_it = (image_in whole x y i e).1 in
       next_in in_it.0 x y (all_back docs in_it.0 (subst (All IsDocument) in_it.1 i.lawful.documents)) in_it.2
@@ -67,18 +67,18 @@ module _ (σ : Setting) (docs : List Doc) (fs : IsSetting σ) (fd : All IsDocume
       let n = next_of whole [] front.rest i (append-nil (read_bytes σ docs) ∙ front.is) in
       absurd (none_empty n.0 n.2.0 n.1 n.2.1)
     where
-      none_empty : (next rest : List ℕ) → IsNext next → [] ≡ next ++ rest → ⊥
+      none_empty : (next rest : List ℕ) → IsNextPart next → [] ≡ next ++ rest → ⊥
       none_empty next rest (inl e) is = let no : [] ≡ 0 ∷ rest = is ∙ ap (λ b. b ++ rest) e in absurd (cc no)
       none_empty next rest (inr p) is = part_not_last p.document (rest ++ 0 ∷ []) [] (sym (append_assoc _ rest (0 ∷ [])) ∙ ap (λ b. b ++ 0 ∷ []) (sym (is ∙ ap (λ b. b ++ rest) p.is)))
 
   -- nothing came next
-  pub none_next : (t : List ℕ) → HasNone IsNext t → HasNone IsImage (read_bytes σ docs ++ t)
+  pub none_next : (t : List ℕ) → HasNone IsNextPart t → HasNone IsImage (read_bytes σ docs ++ t)
   none_next t none = λ whole i front.
       let n = next_of whole t front.rest i front.is in
       none n.0 n.1 (record { rest = n.2.0; is = n.2.1 })
 
   -- and nothing can come
-  pub bad_next : (t : List ℕ) (left : Option (List ℕ)) → IsBad IsNext t left → IsBad IsImage (read_bytes σ docs ++ t) left
+  pub bad_next : (t : List ℕ) (left : Option (List ℕ)) → IsBad IsNextPart t left → IsBad IsImage (read_bytes σ docs ++ t) left
   bad_next t left b = record {
     none = none_next t b.none;
     never = elim b.never [
@@ -86,7 +86,7 @@ module _ (σ : Setting) (docs : List Doc) (fs : IsSetting σ) (fd : All IsDocume
       | inr empty ↦ inr empty
     ];
   } where
-    no_image : (Begins IsNext t → ⊥) → (whole : List ℕ) → IsImage whole → IsFront (read_bytes σ docs ++ t) whole → ⊥
+    no_image : (Begins IsNextPart t → ⊥) → (whole : List ℕ) → IsImage whole → IsFront (read_bytes σ docs ++ t) whole → ⊥
     no_image never whole i front =
         let e : read_bytes σ docs ++ (t ++ front.rest) ≡ whole ++ [] = sym (append_assoc (read_bytes σ docs) t front.rest) ∙ sym front.is ∙ sym (append-nil whole) in
         let n = next_of whole (t ++ front.rest) [] i e in

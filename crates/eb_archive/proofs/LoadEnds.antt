@@ -11,7 +11,7 @@ use Rattle.eb_image.proofs.Taken.{front_both}
 use Rattle.eb_io.specs.Lines.{longest_input}
 use Rattle.eb_io.specs.Source.{after, IsEmpty}
 use Rattle.eb_lines.specs.declared.status.Status.{Status}
-use Rattle.eb_lines.specs.declared.status.Status.TheVariants.{Done, Refused, Usage, ReadFault, WriteFault, NoMemory, TooLong, BadImage}
+use Rattle.eb_lines.specs.declared.status.Status.TheVariants.{Done, Refused, Usage, ReadFault, WriteFault, NoMemory, InputTooLong, BadImage}
 use Rattle.eb_lines.specs.Outcomes.{IsWorkedOff}
 use Rattle.eb_lines.proofs.Told.{completes, ends_told, ends_mean}
 use Rattle.eb_place.specs.Room.{IsLawful}
@@ -81,7 +81,7 @@ module _ (σ : Setting) (docs : List Doc) (rest : List ℕ) (allowed : IsSetting
     of_unread BadImage u f = absurd (is_image u.taken l1 (sym u.left ∙ source) u.why)
     of_unread Usage u f = absurd u.why
     of_unread WriteFault u f = absurd u.why
-    of_unread TooLong u f = absurd u.why
+    of_unread InputTooLong u f = absurd u.why
 
   -- what is told of the lines
   module _ (stats : Bool) (status : Status) (l0 l1 p0 p1 : Option (List ℕ)) (e : EndsLoad stats status l0 l1 p0 p1) (source : l0 ≡ Some (image_of σ docs ++ rest)) where
@@ -93,7 +93,7 @@ module _ (σ : Setting) (docs : List Doc) (rest : List ℕ) (allowed : IsSetting
     maybe_unread Refused u = absurd u.why
     maybe_unread Usage u = absurd u.why
     maybe_unread WriteFault u = absurd u.why
-    maybe_unread TooLong u = absurd u.why
+    maybe_unread InputTooLong u = absurd u.why
 
     pub load_told : (before : List ℕ) → p0 ≡ Some before
         → (printed : List ℕ) × (p1 ≡ Some (before ++ printed)) × WroteLoaded (let b : Loaded = record { setting = σ; documents = docs; stats = stats } in b) status rest l1 printed

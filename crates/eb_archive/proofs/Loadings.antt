@@ -9,7 +9,7 @@ use Rattle.eb_base.specs.Query.{Tree}
 use Rattle.eb_base.specs.Setting.{Setting}
 use Rattle.eb_io.specs.Lines.{Line}
 use Rattle.eb_place.specs.Room.{cut, has_room}
-use Rattle.eb_rounds.specs.Conversions.{converted_of}
+use Rattle.eb_rounds.specs.Conversions.{most_converted}
 use Rattle.eb_lines.specs.Reading.{Reading, blank, document, query, refused}
 use Rattle.eb_lines.specs.declared.refusal.Refusal.{Refusal}
 use Rattle.eb_lines.specs.declared.refusal.Refusal.TheVariants.{Full}
@@ -138,7 +138,7 @@ pub loading_ends : (s : Loading) (t0 t1 : List ℕ) (documents begun converted :
     → documents ≡ length (a.documents ++ accepted h.readings)
     → t1 ≡ t0 ++ (summary_of documents s.queries s.refused ++ stats_line s.stats begun converted)
     → begun ≡ length (cut a.setting (a.documents ++ accepted h.readings))
-    → converted ≡ converted_of (length (cut a.setting (a.documents ++ accepted h.readings)))
+    → converted ≡ most_converted (length (cut a.setting (a.documents ++ accepted h.readings)))
     → Finishes HasLoaded IsTextBehind HasRefusalBehind HasNoRefusalBehind s t0 t1 s.refused a given so_far
 loading_ends s t0 t1 documents begun converted a given so_far h count put is_begun is_converted =
     let ds = a.documents ++ accepted h.readings in

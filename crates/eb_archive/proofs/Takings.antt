@@ -5,7 +5,7 @@ use Rattle.std.specs.List.{flat_map}
 use Rattle.eb_base.specs.Document.{Doc, IsDocument}
 use Rattle.eb_base.specs.Setting.{Setting, IsSetting}
 use Rattle.eb_image.specs.Image.{head_of, part_of, last_byte, image_of}
-use Rattle.eb_image.specs.Reading.{IsHead, IsNext, IsPart, IsBad, HasNone}
+use Rattle.eb_image.specs.Reading.{IsHead, IsNextPart, IsPart, IsBad, HasNone}
 use Rattle.eb_image.specs.declared.fault.ImageFault.TheVariants as fault
 use Rattle.eb_image.specs.declared.fault.ImageFault.{ImageFault}
 use Rattle.eb_io.specs.Source.{after}
@@ -14,7 +14,7 @@ use Rattle.eb_place.specs.Room.{has_room, HasRoom}
 use Rattle.eb_place.proofs.AfterStore.{lawful_push}
 use Rattle.eb_archive.specs.declared.store.Store.{Store}
 use Rattle.eb_archive.specs.Stores.{Holds}
-use Rattle.eb_archive.specs.Reading.{HasRead, IsFilled, IsStopped}
+use Rattle.eb_archive.specs.Reading.{HasRead, IsFilled, IsReadingStopped}
 use Rattle.eb_archive.proofs.Images.{read_bytes, none_read, none_next, bad_next, none_part, bad_room, read_push, none_head, bad_head}
 
 -- these bytes were taken more
@@ -33,13 +33,13 @@ module _ (s : Store) (σ : Setting) (docs : List Doc) (first now left : Option (
     taken = on (read_bytes σ docs) last_byte first now left h.taken e ∙ ap (λ b. after b left) (append_assoc (head_of σ) (flat_map part_of docs) last_byte);
   }
 
-  pub takes_none : (t : List ℕ) → now ≡ after t left → HasNone IsNext t → IsStopped fault.ReadFault first left
+  pub takes_none : (t : List ℕ) → now ≡ after t left → HasNone IsNextPart t → IsReadingStopped fault.ReadFault first left
   takes_none t e none = record { bytes = read_bytes σ docs ++ t; taken = on (read_bytes σ docs) t first now left h.taken e; why = none_next σ docs allowed h.lawful.documents t none }
 
-  pub takes_bad : (t : List ℕ) → now ≡ after t left → IsBad IsNext t left → IsStopped fault.BadImage first left
+  pub takes_bad : (t : List ℕ) → now ≡ after t left → IsBad IsNextPart t left → IsReadingStopped fault.BadImage first left
   takes_bad t e bad = record { bytes = read_bytes σ docs ++ t; taken = on (read_bytes σ docs) t first now left h.taken e; why = bad_next σ docs allowed h.lawful.documents t left bad }
 
-  pub takes_short : (t : List ℕ) → now ≡ after t left → IsPart t → IsStopped fault.NoMemory first left
+  pub takes_short : (t : List ℕ) → now ≡ after t left → IsPart t → IsReadingStopped fault.NoMemory first left
   takes_short t e p = record {
     bytes = read_bytes σ docs ++ part_of p.document;
     taken = on (read_bytes σ docs) (part_of p.document) first now left h.taken (e ∙ ap (λ b. after b left) p.is);
@@ -47,13 +47,13 @@ module _ (s : Store) (σ : Setting) (docs : List Doc) (first now left : Option (
   }
 
   -- the reader stopped
-  pub takes_fault : (f : ImageFault) → (f ≡ fault.BadImage → (t : List ℕ) × (now ≡ after t left) × IsBad IsNext t left)
-      → (f ≡ fault.ReadFault → (t : List ℕ) × (now ≡ after t left) × HasNone IsNext t) → (f ≡ fault.NoMemory → (t : List ℕ) × (now ≡ after t left) × IsPart t) → IsStopped f first left
+  pub takes_fault : (f : ImageFault) → (f ≡ fault.BadImage → (t : List ℕ) × (now ≡ after t left) × IsBad IsNextPart t left)
+      → (f ≡ fault.ReadFault → (t : List ℕ) × (now ≡ after t left) × HasNone IsNextPart t) → (f ≡ fault.NoMemory → (t : List ℕ) × (now ≡ after t left) × IsPart t) → IsReadingStopped f first left
   takes_fault fault.BadImage bad failed short = let t = bad refl in takes_bad t.0 t.1 t.2
   takes_fault fault.ReadFault bad failed short = let t = failed refl in takes_none t.0 t.1 t.2
   takes_fault fault.NoMemory bad failed short = let t = short refl in takes_short t.0 t.1 t.2
 
-  pub takes_full : (d : Doc) → IsDocument d → now ≡ after (part_of d) left → has_room σ docs d ≡ false → IsStopped fault.BadImage first left
+  pub takes_full : (d : Doc) → IsDocument d → now ≡ after (part_of d) left → has_room σ docs d ≡ false → IsReadingStopped fault.BadImage first left
   takes_full d within e full = record {
     bytes = read_bytes σ docs ++ part_of d;
     taken = on (read_bytes σ docs) (part_of d) first now left h.taken e;
@@ -75,19 +75,19 @@ takes_head s σ first left e store = record {
   taken = e ∙ ap (λ b. after b left) (sym (append-nil (head_of σ)));
 }
 
-pub stops_at : (s : Store) (σ : Setting) (docs : List Doc) (first left : Option (List ℕ)) → IsSetting σ → HasRead s σ docs first left → IsStopped fault.NoMemory first left
+pub stops_at : (s : Store) (σ : Setting) (docs : List Doc) (first left : Option (List ℕ)) → IsSetting σ → HasRead s σ docs first left → IsReadingStopped fault.NoMemory first left
 stops_at s σ docs first left allowed h = record { bytes = read_bytes σ docs; taken = h.taken; why = none_read σ docs allowed h.lawful.documents }
 
 -- there is no memory for the index
-pub stops_head : (σ : Setting) (first left : Option (List ℕ)) → IsSetting σ → first ≡ after (head_of σ) left → IsStopped fault.NoMemory first left
+pub stops_head : (σ : Setting) (first left : Option (List ℕ)) → IsSetting σ → first ≡ after (head_of σ) left → IsReadingStopped fault.NoMemory first left
 stops_head σ first left allowed e = record {
   bytes = read_bytes σ [];
   taken = e ∙ ap (λ b. after b left) (sym (append-nil (head_of σ)));
   why = none_read σ [] allowed (λ k d lt. absurd (omega (arith, lt)));
 }
 
-pub no_head : (t : List ℕ) (first left : Option (List ℕ)) → first ≡ after t left → HasNone IsHead t → IsStopped fault.ReadFault first left
+pub no_head : (t : List ℕ) (first left : Option (List ℕ)) → first ≡ after t left → HasNone IsHead t → IsReadingStopped fault.ReadFault first left
 no_head t first left e none = record { bytes = t; taken = e; why = none_head t none }
 
-pub no_image : (t : List ℕ) (first left : Option (List ℕ)) → first ≡ after t left → IsBad IsHead t left → IsStopped fault.BadImage first left
+pub no_image : (t : List ℕ) (first left : Option (List ℕ)) → first ≡ after t left → IsBad IsHead t left → IsReadingStopped fault.BadImage first left
 no_image t first left e bad = record { bytes = t; taken = e; why = bad_head t left bad }

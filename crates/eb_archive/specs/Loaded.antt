@@ -7,7 +7,7 @@ use Rattle.eb_image.specs.Reading.{IsBad, HasNone}
 use Rattle.eb_io.specs.Lines.{Line}
 use Rattle.eb_io.specs.Source.{after}
 use Rattle.eb_lines.specs.declared.status.Status.{Status}
-use Rattle.eb_lines.specs.declared.status.Status.TheVariants.{Done, Refused, Usage, ReadFault, WriteFault, NoMemory, TooLong, BadImage}
+use Rattle.eb_lines.specs.declared.status.Status.TheVariants.{Done, Refused, Usage, ReadFault, WriteFault, NoMemory, InputTooLong, BadImage}
 use Rattle.eb_lines.specs.Outcomes.{Wrote, Means}
 use Rattle.eb_lines.specs.Passing.{Ends}
 use Rattle.eb_lines.specs.Progress.{accepted, queries, refusals, told}
@@ -79,7 +79,7 @@ WhyUnread Done taken left = ⊥
 WhyUnread Refused taken left = ⊥
 WhyUnread Usage taken left = ⊥
 WhyUnread WriteFault taken left = ⊥
-WhyUnread TooLong taken left = ⊥
+WhyUnread InputTooLong taken left = ⊥
 
 -- no image was read to its end, and nothing was printed
 pub record IsUnread (status : Status) (left_old left_new printed_old printed_new : Option (List ℕ)) : Type 0 where

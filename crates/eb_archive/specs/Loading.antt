@@ -2,7 +2,7 @@
 use Rattle.std.specs.Prelude.{◌≡◌, ℕ, ◌≤◌, List, ◌++◌, length}
 use Rattle.std.proofs.Common.{ap}
 use Rattle.eb_io.specs.Lines.{Line}
-use Rattle.eb_lines.specs.Programs.{GoesOn, PrintsFront, prints_all}
+use Rattle.eb_lines.specs.Programs.{WorksOnGiven, PrintsFront, prints_all}
 use Rattle.eb_lines.specs.Progress.{accepted, queries, refusals}
 use Rattle.eb_lines.specs.Reading.{Reading}
 use Rattle.eb_lines.specs.Reads.{Reads}
@@ -26,7 +26,7 @@ pub record HasLoaded (s : Loading) (a : Loaded) (given : List Line) (so_far : Li
 
 -- a line of this reading was taken, and what it prints was put behind the text
 abbrev pub TakesLine : Loading → Loading → List ℕ → List ℕ → Reading → Type 0
-TakesLine old new text_old text_new r = (l : Line) → Reads l r → GoesOn HasLoaded old new text_old text_new l
+TakesLine old new text_old text_new r = (l : Line) → Reads l r → WorksOnGiven HasLoaded old new text_old text_new l
 
 -- the lines given are those that printed
 pub loaded_first : (s : Loading) (a : Loaded) (given : List Line) (so_far : List ℕ) → HasLoaded s a given so_far

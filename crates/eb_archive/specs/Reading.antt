@@ -36,7 +36,7 @@ pub record IsFilled (s : Store) (first left : Option (List ℕ)) : Type 0 where
   pub taken : first ≡ after (image_of setting documents) left
 
 -- the reading stopped at this fault before the end of an image
-pub record IsStopped (f : ImageFault) (first left : Option (List ℕ)) : Type 0 where
+pub record IsReadingStopped (f : ImageFault) (first left : Option (List ℕ)) : Type 0 where
   pub bytes : List ℕ
   pub taken : first ≡ after bytes left
   pub why : WhyUnread (status_of f) bytes left
@@ -45,4 +45,4 @@ pub record IsStopped (f : ImageFault) (first left : Option (List ℕ)) : Type 0 
 abbrev pub ComesNext : {R : Type 0} → Result (Option R) ImageFault → Store → Setting → List Doc → Option (List ℕ) → Option (List ℕ) → Type 0
 ComesNext (Ok (Some r)) s σ docs first left = (d : Doc) × HasRead s σ (docs ++ d ∷ []) first left
 ComesNext (Ok None) s σ docs first left = IsFilled s first left
-ComesNext (Err f) s σ docs first left = IsStopped f first left
+ComesNext (Err f) s σ docs first left = IsReadingStopped f first left

@@ -4,7 +4,7 @@ use Rattle.std.specs.List.{flat_map}
 use Rattle.eb_base.specs.Setting.{Setting}
 use Rattle.eb_image.specs.Image.{head_of, part_of}
 use Rattle.eb_io.specs.Lines.{Line}
-use Rattle.eb_lines.specs.Programs.{GoesOn}
+use Rattle.eb_lines.specs.Programs.{WorksOnGiven}
 use Rattle.eb_lines.specs.Progress.{accepted, refusals}
 use Rattle.eb_lines.specs.Reading.{Reading}
 use Rattle.eb_table.specs.Known.{Words}
@@ -28,4 +28,4 @@ pub record HasSaved (s : Saving) (σ : Setting) (given : List Line) (so_far : Li
 
 -- a line of this reading was taken, and its part was put behind the text
 abbrev pub TakesLine : Saving → Saving → List ℕ → List ℕ → Reading → Type 0
-TakesLine old new text_old text_new r = (l : Line) → ReadsToSave l r → GoesOn HasSaved old new text_old text_new l
+TakesLine old new text_old text_new r = (l : Line) → ReadsToSave l r → WorksOnGiven HasSaved old new text_old text_new l

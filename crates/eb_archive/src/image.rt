@@ -3,7 +3,7 @@ ghost use Rattle.std.specs.Prelude.{◌≡◌, ◌≤◌, ℕ, List, [], Option,
 ghost use Rattle.eb_base.specs.Document.{Doc};
 ghost use Rattle.eb_base.specs.Setting.{Setting, IsSetting};
 ghost use Rattle.eb_io.specs.Faults.{HasRisen};
-ghost use Rattle.eb_archive.specs.Reading.{HasRead, ComesNext, IsFilled, IsStopped};
+ghost use Rattle.eb_archive.specs.Reading.{HasRead, ComesNext, IsFilled, IsReadingStopped};
 ghost use Rattle.eb_archive.specs.Stores.{Holds};
 
 use crate::store::Store;
@@ -47,7 +47,7 @@ fn read_parts<S: Source, G: Gate>(
 ) -> Result<(), ImageFault>
     requires { (σ : Setting) × (first : Option (List ℕ)) × IsSetting σ × HasRead store.old σ [] first (S.left source.old) }
     ensures all { (σ : Setting) (first : Option (List ℕ)) → IsSetting σ → HasRead store.old σ [] first (S.left source.old)
-        → MatchResult result (λ _. IsFilled store.new first (S.left source.new)) (λ fault. IsStopped fault first (S.left source.new)) }
+        → MatchResult result (λ _. IsFilled store.new first (S.left source.new)) (λ fault. IsReadingStopped fault first (S.left source.new)) }
     ensures fault { IsErrOf result ImageFault.ReadFault → HasRisen (S.faults source.old) (S.faults source.new) }
     ensures later { S.faults source.old ≤ S.faults source.new }
 {
@@ -69,7 +69,7 @@ pub(crate) fn read_image<S: Source, G: Gate>(
     gate: &G,
 ) -> Result<Store, ImageFault>
     ensures all { MatchResult result (λ store. IsFilled store (S.left source.old) (S.left source.new))
-        (λ fault. IsStopped fault (S.left source.old) (S.left source.new)) }
+        (λ fault. IsReadingStopped fault (S.left source.old) (S.left source.new)) }
     ensures fault { IsErrOf result ImageFault.ReadFault → HasRisen (S.faults source.old) (S.faults source.new) }
     ensures later { S.faults source.old ≤ S.faults source.new }
 {

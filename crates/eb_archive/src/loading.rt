@@ -1,7 +1,7 @@
 //! What a load does with each line behind the image.
 ghost use Rattle.std.specs.Prelude.{◌≡◌, ◌≤◌, ◌^◌, ℕ, List, [], length, IfOk, OnErr, OnOk};
 ghost use Rattle.eb_cursor.specs.Frames.{query_of, k_of};
-ghost use Rattle.eb_lines.specs.Programs.{IsRunning, GoesOn, Finishes};
+ghost use Rattle.eb_lines.specs.Programs.{IsRunning, WorksOnGiven, Finishes};
 ghost use Rattle.eb_io.specs.Lines.{Line, line, long_line};
 ghost use Rattle.eb_lines.specs.Reading.{blank, document as reads_document, query, refused as is_refused};
 ghost use Rattle.eb_lines.specs.Works.{reading_of};
@@ -51,7 +51,7 @@ impl Loading {
     ) -> Result<(), NoMemory>
         requires state { IsRunning HasLoaded self.old }
         requires number { self.old.number ≤ 2 ^ 40 }
-        ensures ok { OnOk result (GoesOn HasLoaded self.old self.new text.old.items text.new.items (line bytes.now)) }
+        ensures ok { OnOk result (WorksOnGiven HasLoaded self.old self.new text.old.items text.new.items (line bytes.now)) }
         ensures err { OnErr result ((self.new ≡ self.old) × (text.new.items ≡ text.old.items)) }
     {
         let work = read_line(alloc, bytes)?;
@@ -62,7 +62,7 @@ impl Loading {
     pub(crate) fn take_long(&mut self, text: &mut Vec<u8>) -> Result<(), NoMemory>
         requires state { IsRunning HasLoaded self.old }
         requires number { self.old.number ≤ 2 ^ 40 }
-        ensures ok { OnOk result (GoesOn HasLoaded self.old self.new text.old.items text.new.items long_line) }
+        ensures ok { OnOk result (WorksOnGiven HasLoaded self.old self.new text.old.items text.new.items long_line) }
         ensures err { OnErr result ((self.new ≡ self.old) × (text.new.items ≡ text.old.items)) }
     {
         self.refuse(Refusal::LongLine, text)

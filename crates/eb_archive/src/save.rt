@@ -16,7 +16,7 @@ use std::alloc::Global;
 /// lines add to an index of the setting, each part as its document is added, and the byte 0 where the input ends (this
 /// project's profile, docs/FORMATS.md). A query line is refused as a bad line; refusals write nothing.
 ///
-/// `Done` and `Refused` say that the image is whole. After `ReadFault` and `TooLong` the head and the parts of the
+/// `Done` and `Refused` say that the image is whole. After `ReadFault` and `InputTooLong` the head and the parts of the
 /// documents of all whole lines are written, after `WriteFault` and `NoMemory` a front of an image. Takes the memory of
 /// the index at once.
 pub fn save_lines<S: Source, K: Sink>(

@@ -3,7 +3,7 @@ ghost use Rattle.std.specs.Prelude.{◌≡◌, ◌+◌, ◌≤◌, ◌^◌, ◌+
 ghost use Rattle.eb_image.specs.Image.{head_of};
 ghost use Rattle.eb_io.specs.Lines.{Line, line};
 ghost use Rattle.eb_lines.specs.Kinds.{document_line, kind_of};
-ghost use Rattle.eb_lines.specs.Programs.{IsRunning, GoesOn};
+ghost use Rattle.eb_lines.specs.Programs.{IsRunning, WorksOnGiven};
 ghost use Rattle.eb_lines.specs.Reading.{blank, document as reads_document, refused as is_refused};
 ghost use Rattle.eb_archive.specs.Saving.{HasSaved, TakesLine};
 
@@ -94,7 +94,7 @@ impl Saving {
         requires state { IsRunning HasSaved self.old }
         requires number { self.old.number ≤ 2 ^ 40 }
         requires document { kind_of bytes.now ≡ document_line }
-        ensures ok { OnOk result (GoesOn HasSaved self.old self.new text.old.items text.new.items (line bytes.now)) }
+        ensures ok { OnOk result (WorksOnGiven HasSaved self.old self.new text.old.items text.new.items (line bytes.now)) }
         ensures err { OnErr result ((self.new ≡ self.old) × (text.new.items ≡ text.old.items)) }
     {
         match read_document_line(self.alloc, bytes)? {

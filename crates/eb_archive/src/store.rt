@@ -5,7 +5,7 @@ ghost use Rattle.eb_base.specs.Match.{answer};
 ghost use Rattle.eb_base.specs.Setting.{Setting};
 ghost use Rattle.eb_cursor.specs.Frames.{query_of, k_of, ids_of};
 ghost use Rattle.eb_place.specs.Room.{cut};
-ghost use Rattle.eb_rounds.specs.Conversions.{converted_of};
+ghost use Rattle.eb_rounds.specs.Conversions.{most_converted};
 ghost use Rattle.eb_archive.specs.Stores.{Holds, WithPlaced};
 
 use eb_base::{Config, Document, Gate, NoMemory};
@@ -91,7 +91,7 @@ impl Store {
         requires { (σ : Setting) × (docs : List Doc) × Holds self.old σ docs }
         ensures store { (σ : Setting) (docs : List Doc) → Holds self.old σ docs → Holds self.new σ docs }
         ensures segments { (σ : Setting) (docs : List Doc) → Holds self.old σ docs → result.segments ≡ length (cut σ docs) }
-        ensures converted { (σ : Setting) (docs : List Doc) → Holds self.old σ docs → result.converted ≡ converted_of (length (cut σ docs)) }
+        ensures converted { (σ : Setting) (docs : List Doc) → Holds self.old σ docs → result.converted ≡ most_converted (length (cut σ docs)) }
     {
         close(&self.index, &mut self.writer, &mut self.converter)
     }

@@ -3,3 +3,4 @@ pub mod Parts
 pub mod Refused
 pub mod Frames
 pub mod Laws
+pub mod Faults

@@ -5,7 +5,7 @@ use Rattle.eb_base.specs.Setting.{Setting}
 use Rattle.eb_place.specs.declared.moment.Moment.{Moment}
 use Rattle.eb_place.specs.Room.{has_room}
 use Rattle.eb_flat.specs.Flat.{Flat, StandsFor}
-use Rattle.eb_writer.specs.Progress.{Stands}
+use Rattle.eb_writer.specs.Progress.{PlacerStands}
 use Rattle.eb_c.specs.declared.index.Index.{Index}
 use Rattle.eb_c.specs.declared.refusal.Refusal.{Refusal}
 use Rattle.eb_c.specs.declared.refusal.Refusal.TheVariants.{NoMemory as out_of_memory}
@@ -19,7 +19,7 @@ adds_read σ docs read r number i words (inr same) n h = inr (n ∙ ap (number_a
 
 -- the words and the numbers of an index that has one document more
 pub with_added : (σ : Setting) (docs : List Doc) (d : Doc) (placed : Bool) (i : Index) (words : List ℕ) (f : Flat) (n : Moment) → placed ≡ true → has_room σ docs d ≡ true → i.mark ≡ 0x6561_726c
-    → StandsFor f n → Stands (progress_of i) n → n.documents.accepted ≡ docs ++ d ∷ [] → words ≡ f.words → WithAdded σ docs d placed i words
+    → StandsFor f n → PlacerStands (progress_of i) n → n.documents.accepted ≡ docs ++ d ∷ [] → words ≡ f.words → WithAdded σ docs d placed i words
 with_added σ docs d placed i words f n taken room mark image placer accepted same =
     let holds : Holds i words (docs ++ d ∷ []) = record {
       mark = mark;

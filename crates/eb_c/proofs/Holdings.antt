@@ -8,10 +8,10 @@ use Rattle.eb_place.proofs.ImagesOfMoments.{length-image}
 use Rattle.eb_writer.specs.Counting.{tokens_in, IsUsedBy}
 use Rattle.eb_writer.proofs.Idle.{told_used, idle_entered, idle_tokens}
 use Rattle.eb_c.specs.declared.index.Index.{Index}
-use Rattle.eb_c.specs.Holding.{setting_of, used_of, IsBegun, Holds}
+use Rattle.eb_c.specs.Holding.{setting_of, used_of, IsBegunIndex, Holds}
 
 -- it was begun
-pub begun_of : (i : Index) (words : List ℕ) (docs : List Doc) → Holds i words docs → IsBegun i (length words)
+pub begun_of : (i : Index) (words : List ℕ) (docs : List Doc) → Holds i words docs → IsBegunIndex i (length words)
 begun_of i words docs h = record {
   mark = h.mark;
   setting = subst IsSetting h.image.setting h.image.moment.setting;

@@ -6,7 +6,7 @@ use Rattle.eb_base.specs.Setting.{Setting}
 use Rattle.eb_place.specs.declared.moment.Moment.{Moment}
 use Rattle.eb_place.specs.Room.{has_room}
 use Rattle.eb_flat.specs.Flat.{Flat, StandsFor}
-use Rattle.eb_writer.specs.Progress.{Progress, Stands}
+use Rattle.eb_writer.specs.Progress.{PlacerProgress, PlacerStands}
 use Rattle.eb_text.specs.Tokens.{tokens_of}
 use Rattle.eb_doc.specs.DocumentLine.{document_of, message}
 use Rattle.eb_doc.specs.declared.LineFault.{LineFault}
@@ -14,7 +14,7 @@ use Rattle.eb_doc.specs.declared.LineFault.TheVariants as fault
 use Rattle.eb_c.specs.declared.index.Index.{Index}
 use Rattle.eb_c.specs.declared.refusal.Refusal.{Refusal}
 use Rattle.eb_c.specs.declared.refusal.Refusal.TheVariants as refusal
-use Rattle.eb_c.specs.Numbers.{number_of}
+use Rattle.eb_c.specs.Numbers.{refusal_number}
 use Rattle.eb_c.specs.Holding.{Holds}
 
 -- a line of more bytes is a long line
@@ -22,9 +22,9 @@ abbrev pub is_long : List ℕ → Bool
 is_long line = nat_lt 65536 (length line)
 
 -- the line begins with this byte
-abbrev pub begins : ℕ → List ℕ → Bool
-begins byte [] = false
-begins byte (b ∷ bs) = b == byte
+abbrev pub begins_with : ℕ → List ℕ → Bool
+begins_with byte [] = false
+begins_with byte (b ∷ bs) = b == byte
 
 -- the faults of a document are refusals of the same names
 abbrev pub refusal_of : LineFault → Refusal
@@ -39,7 +39,7 @@ or_refused (Err fault) = Err (refusal_of fault)
 
 -- the document of a document line, which begins with `{` (123)
 abbrev pub document_in : List ℕ → Result Doc Refusal
-document_in line = if is_long line then Err refusal.LongLine else (if begins 123 line then or_refused (document_of line) else Err refusal.BadLine)
+document_in line = if is_long line then Err refusal.LongLine else (if begins_with 123 line then or_refused (document_of line) else Err refusal.BadLine)
 
 -- the document of an id and a text
 abbrev pub document_with : ℕ → List ℕ → Result Doc Refusal
@@ -47,8 +47,8 @@ document_with id text = if is_utf8 text then or_refused (message id (tokens_of t
 
 -- what an add answers behind these documents: 0 where there is room
 abbrev pub number_after : Setting → List Doc → Result Doc Refusal → ℕ
-number_after σ docs (Ok d) = if has_room σ docs d then 0 else number_of refusal.Full
-number_after σ docs (Err r) = number_of r
+number_after σ docs (Ok d) = if has_room σ docs d then 0 else refusal_number refusal.Full
+number_after σ docs (Err r) = refusal_number r
 
 -- the documents that are accepted then
 abbrev pub docs_after : Setting → List Doc → Result Doc Refusal → List Doc
@@ -58,9 +58,9 @@ docs_after σ docs (Err r) = docs
 -- ---- between two calls
 
 -- what placing a document behind those of a moment comes to: the words and the placer have it, or there was no room
-abbrev pub WithPlaced : Moment → Flat → Progress → Doc → Bool → Type 0
+abbrev pub WithPlaced : Moment → Flat → PlacerProgress → Doc → Bool → Type 0
 WithPlaced m f p d true =
-    (has_room m.setting m.documents.accepted d ≡ true) × (n : Moment) × StandsFor f n × Stands p n × (n.documents.accepted ≡ m.documents.accepted ++ d ∷ [])
+    (has_room m.setting m.documents.accepted d ≡ true) × (n : Moment) × StandsFor f n × PlacerStands p n × (n.documents.accepted ≡ m.documents.accepted ++ d ∷ [])
 WithPlaced m f p d false = has_room m.setting m.documents.accepted d ≡ false
 
 -- what adding a document behind these comes to: the index has it, or there was no room and it is as before
@@ -70,5 +70,5 @@ WithAdded σ docs d false i words = (has_room σ docs d ≡ false) × Holds i wo
 
 -- what a call answers that adds what it read, and what the index holds then; it may have had no memory to read it
 abbrev pub Adds : Result Doc Refusal → List Doc → Setting → ℕ → Index → List ℕ → Type 0
-Adds r docs σ number i words = ((number ≡ number_of refusal.NoMemory) × Holds i words docs)
+Adds r docs σ number i words = ((number ≡ refusal_number refusal.NoMemory) × Holds i words docs)
     ⊎ ((number ≡ number_after σ docs r) × Holds i words (docs_after σ docs r))

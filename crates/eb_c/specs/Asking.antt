@@ -12,8 +12,8 @@ use Rattle.eb_c.specs.declared.refusal.Refusal.{Refusal}
 use Rattle.eb_c.specs.declared.refusal.Refusal.TheVariants as refusal
 use Rattle.eb_c.specs.declared.reading.Question.{Question}
 use Rattle.eb_c.specs.declared.reading.Question.TheVariants as question
-use Rattle.eb_c.specs.Numbers.{number_of}
-use Rattle.eb_c.specs.Adding.{is_long, begins}
+use Rattle.eb_c.specs.Numbers.{refusal_number}
+use Rattle.eb_c.specs.Adding.{is_long, begins_with}
 
 -- the newest so many matches are asked for, or the question is refused; a bad query has the column of its fault, others 0
 pub data Asked : Type 0 where
@@ -40,7 +40,7 @@ AsksBy false false line x = x ≡ refused refusal.BadLine 0
 
 -- what a query line asks, which begins with `?` (63)
 abbrev pub LineAsks : List ℕ → Asked → Type 0
-LineAsks line = AsksBy (is_long line) (begins 63 line && is_utf8 line) line
+LineAsks line = AsksBy (is_long line) (begins_with 63 line && is_utf8 line) line
 
 -- what stands before a query text in the line that asks for k matches of it
 abbrev pub line_front : ℕ → List ℕ
@@ -72,7 +72,7 @@ nothing_told column = record { seen = 0; count = 0; column = column }
 abbrev pub Tells : List Doc → Asked → ℕ → Answer → List ℕ → List ℕ → Type 0
 Tells docs (asks k q) number a old new =
     (number ≡ 0) × (a ≡ record { seen = length docs; count = length (answer q k docs); column = 0 }) × (new ≡ written (answer q k docs) old)
-Tells docs (refused r column) number a old new = (number ≡ number_of r) × (a ≡ nothing_told column) × (new ≡ old)
+Tells docs (refused r column) number a old new = (number ≡ refusal_number r) × (a ≡ nothing_told column) × (new ≡ old)
 
 -- so for what is asked, or it is refused since there was no memory for it
 abbrev pub Answers : (Asked → Type 0) → List Doc → ℕ → Answer → List ℕ → List ℕ → Type 0

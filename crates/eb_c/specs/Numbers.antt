@@ -4,19 +4,19 @@ use Rattle.eb_c.specs.declared.refusal.Refusal.{Refusal}
 use Rattle.eb_c.specs.declared.refusal.Refusal.TheVariants as refusal
 
 -- 0 is no refusal
-abbrev pub number_of : Refusal → ℕ
-number_of refusal.BadLine = 1
-number_of refusal.LongLine = 2
-number_of refusal.BadJson = 3
-number_of refusal.BadDocument = 4
-number_of refusal.TooLong = 5
-number_of refusal.Full = 6
-number_of refusal.BadNumber = 7
-number_of refusal.BadQuery = 8
-number_of refusal.QueryTooDeep = 9
-number_of refusal.QueryTooLarge = 10
-number_of refusal.BadText = 11
-number_of refusal.NoMemory = 12
-number_of refusal.BadSetting = 13
-number_of refusal.BadSize = 14
-number_of refusal.NotBegun = 15
+abbrev pub refusal_number : Refusal → ℕ
+refusal_number refusal.BadLine = 1
+refusal_number refusal.LongLine = 2
+refusal_number refusal.BadJson = 3
+refusal_number refusal.BadDocument = 4
+refusal_number refusal.TooLong = 5
+refusal_number refusal.Full = 6
+refusal_number refusal.BadNumber = 7
+refusal_number refusal.BadQuery = 8
+refusal_number refusal.QueryTooDeep = 9
+refusal_number refusal.QueryTooLarge = 10
+refusal_number refusal.BadText = 11
+refusal_number refusal.NoMemory = 12
+refusal_number refusal.BadSetting = 13
+refusal_number refusal.BadSize = 14
+refusal_number refusal.NotBegun = 15

@@ -5,7 +5,7 @@ ghost use Rattle.eb_base.specs.Match.{answer as answer_of};
 ghost use Rattle.eb_place.specs.declared.moment.Moment.{Moment};
 ghost use Rattle.eb_flat.specs.Flat.{StandsFor};
 ghost use Rattle.eb_cursor.specs.Frames.{query_of, k_of, ids_of};
-ghost use Rattle.eb_c.specs.Holding.{IsBegun, Holds, IsIndex};
+ghost use Rattle.eb_c.specs.Holding.{IsBegunIndex, Holds, IsIndex};
 ghost use Rattle.eb_c.specs.Asking.{asked_of, written, nothing_told, Tells};
 
 use crate::index::{Answer, Index, begun_setting};
@@ -59,8 +59,8 @@ pub(crate) fn ask_read(
     ids: &mut [u64],
     answer: &mut Answer,
 ) -> u32
-    requires { IsBegun index.now (length words.now) → IsIndex index.now words.now }
-    ensures not_begun { (IsBegun index.now (length words.now) → ⊥) → (result ≡ 15) × (answer.new ≡ nothing_told 0) × (ids.new ≡ ids.old) }
+    requires { IsBegunIndex index.now (length words.now) → IsIndex index.now words.now }
+    ensures not_begun { (IsBegunIndex index.now (length words.now) → ⊥) → (result ≡ 15) × (answer.new ≡ nothing_told 0) × (ids.new ≡ ids.old) }
     ensures told { (docs : List Doc) → Holds index.now words.now docs → Tells docs (asked_of read) result answer.new ids.old ids.new }
 {
     let Some(config) = begun_setting(index, words.len()) else {

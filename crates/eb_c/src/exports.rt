@@ -4,7 +4,7 @@ ghost use Rattle.eb_base.specs.Setting.{Setting, IsSetting, words_of};
 ghost use Rattle.eb_place.specs.Postings.{terms_of};
 ghost use Rattle.eb_place.specs.Room.{cut, last_of};
 ghost use Rattle.eb_writer.specs.Counting.{IsUsedBy};
-ghost use Rattle.eb_c.specs.Holding.{setting_of, used_of, IsBegun, Holds, IsIndex};
+ghost use Rattle.eb_c.specs.Holding.{setting_of, used_of, IsBegunIndex, Holds, IsIndex};
 ghost use Rattle.eb_c.specs.Adding.{document_in, document_with, Adds};
 ghost use Rattle.eb_c.specs.Asking.{nothing_told, LineAsks, TextAsks, Answers};
 
@@ -68,8 +68,8 @@ pub extern "C" fn eb_add_line(
     index: &mut Index,
     line: &[u8],
 ) -> u32
-    requires { IsBegun index.old (length words.old) → IsIndex index.old words.old }
-    ensures not_begun { (IsBegun index.old (length words.old) → ⊥) → result ≡ 15 }
+    requires { IsBegunIndex index.old (length words.old) → IsIndex index.old words.old }
+    ensures not_begun { (IsBegunIndex index.old (length words.old) → ⊥) → result ≡ 15 }
     ensures added { (docs : List Doc) → Holds index.old words.old docs
         → Adds (document_in line.now) docs (setting_of index.old) result index.new words.new }
     ensures unchanged { (result ≡ 0 → ⊥) → (words.new ≡ words.old) × (index.new ≡ index.old) }
@@ -86,8 +86,8 @@ pub extern "C" fn eb_add_text(
     id: u64,
     text: &[u8],
 ) -> u32
-    requires { IsBegun index.old (length words.old) → IsIndex index.old words.old }
-    ensures not_begun { (IsBegun index.old (length words.old) → ⊥) → result ≡ 15 }
+    requires { IsBegunIndex index.old (length words.old) → IsIndex index.old words.old }
+    ensures not_begun { (IsBegunIndex index.old (length words.old) → ⊥) → result ≡ 15 }
     ensures added { (docs : List Doc) → Holds index.old words.old docs
         → Adds (document_with id text.now) docs (setting_of index.old) result index.new words.new }
     ensures unchanged { (result ≡ 0 → ⊥) → (words.new ≡ words.old) × (index.new ≡ index.old) }
@@ -108,8 +108,8 @@ pub extern "C" fn eb_ask_line(
     ids: &mut [u64],
     answer: &mut Answer,
 ) -> u32
-    requires { IsBegun index.now (length words.now) → IsIndex index.now words.now }
-    ensures not_begun { (IsBegun index.now (length words.now) → ⊥) → (result ≡ 15) × (answer.new ≡ nothing_told 0) × (ids.new ≡ ids.old) }
+    requires { IsBegunIndex index.now (length words.now) → IsIndex index.now words.now }
+    ensures not_begun { (IsBegunIndex index.now (length words.now) → ⊥) → (result ≡ 15) × (answer.new ≡ nothing_told 0) × (ids.new ≡ ids.old) }
     ensures told { (docs : List Doc) → Holds index.now words.now docs → Answers (LineAsks line.now) docs result answer.new ids.old ids.new }
 {
     ask_read(words, index, question_in_line(alloc, line), ids, answer)
@@ -127,8 +127,8 @@ pub extern "C" fn eb_ask_text(
     ids: &mut [u64],
     answer: &mut Answer,
 ) -> u32
-    requires { IsBegun index.now (length words.now) → IsIndex index.now words.now }
-    ensures not_begun { (IsBegun index.now (length words.now) → ⊥) → (result ≡ 15) × (answer.new ≡ nothing_told 0) × (ids.new ≡ ids.old) }
+    requires { IsBegunIndex index.now (length words.now) → IsIndex index.now words.now }
+    ensures not_begun { (IsBegunIndex index.now (length words.now) → ⊥) → (result ≡ 15) × (answer.new ≡ nothing_told 0) × (ids.new ≡ ids.old) }
     ensures told { (docs : List Doc) → Holds index.now words.now docs → Answers (TextAsks k text.now) docs result answer.new ids.old ids.new }
 {
     ask_read(words, index, question_in_text(alloc, k, text), ids, answer)

@@ -1,6 +1,6 @@
 ghost use Rattle.std.specs.Prelude.{◌≡◌, MatchOption};
 ghost use Rattle.eb_base.specs.Setting.{Setting, IsSetting};
-ghost use Rattle.eb_c.specs.Holding.{setting_of, used_of, progress_of, IsBegun};
+ghost use Rattle.eb_c.specs.Holding.{setting_of, used_of, progress_of, IsBegunIndex};
 
 use eb_base::Config;
 use eb_place::Used;
@@ -74,7 +74,7 @@ pub(crate) fn setting(segments: u32, docs: u32, terms: u32) -> Option<Config>
 
 // The setting of an index that has so many words, where it was begun.
 pub(crate) fn begun_setting(index: &Index, words: usize) -> Option<Config>
-    ensures { MatchOption result (IsBegun index.now words → ⊥) (λ config. IsBegun index.now words × (config ≡ setting_of index.now)) }
+    ensures { MatchOption result (IsBegunIndex index.now words → ⊥) (λ config. IsBegunIndex index.now words × (config ≡ setting_of index.now)) }
 {
     let config = setting(index.segments, index.docs, index.terms)?;
     if index.mark != MARK || words as u64 != config.words() {

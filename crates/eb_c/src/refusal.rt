@@ -1,6 +1,6 @@
 ghost use Rattle.std.specs.Prelude.{◌≡◌};
 ghost use Rattle.eb_c.specs.Adding.{refusal_of};
-ghost use Rattle.eb_c.specs.Numbers.{number_of};
+ghost use Rattle.eb_c.specs.Numbers.{refusal_number};
 
 use eb_doc::LineFault;
 
@@ -43,7 +43,7 @@ pub enum Refusal {
 impl Refusal {
     // Its number, from 1.
     pub(crate) fn number(self) -> u32
-        ensures { result ≡ number_of self }
+        ensures { result ≡ refusal_number self }
     {
         match self {
             Refusal::BadLine => 1,

@@ -1,1 +1,2 @@
 pub mod DocumentLine
+pub mod Faults

@@ -13,6 +13,8 @@ use eb_base::{Document, NoMemory};
 use eb_text::tokens;
 use serde_json::Value;
 use std::alloc::Global;
+use std::error::Error;
+use std::fmt;
 
 #[cfg(test)]
 mod tests;
@@ -30,6 +32,24 @@ pub enum LineFault {
     /// Memory ran out. It can come for any line.
     NoMemory,
 }
+
+impl fmt::Display for LineFault {
+    ghost use Rattle.std.specs.Prelude.{Some};
+    ghost use Rattle.eb_doc.specs.Faults.{line_fault_text};
+
+    ghost output = { λ fault. Some (line_fault_text fault) };
+
+    fn fmt<W: fmt::Write>(&self, f: &mut fmt::Formatter<W>) -> fmt::Result {
+        match self {
+            LineFault::BadJson => f.write_str("bad json"),
+            LineFault::BadDocument => f.write_str("bad document"),
+            LineFault::TooLong => f.write_str("too long"),
+            LineFault::NoMemory => f.write_str("memory ran out"),
+        }
+    }
+}
+
+impl Error for LineFault {}
 
 impl From<NoMemory> for LineFault {
     ghost from_gives = { λ _ fault. fault ≡ out_of_memory };

@@ -14,7 +14,7 @@ use Rattle.eb_place.proofs.Prefixes.{prefix_length, prefix_shorter, prefix_whole
 use Rattle.eb_place.proofs.LaterMoments.{later_on}
 use Rattle.eb_search.specs.Searched.{Searched}
 use Rattle.eb_table.specs.Known.{Known}
-use Rattle.eb_writer.specs.Progress.{Progress, Stands}
+use Rattle.eb_writer.specs.Progress.{PlacerProgress, PlacerStands}
 use Rattle.eb_writer.proofs.Adding.{stands_same}
 use Rattle.eb_engine.specs.Tokens.{first_of, AreClosed}
 
@@ -50,7 +50,7 @@ finds_more k l seen counted most q found h s =
     knows_more k l seen counted h (omega arith) (later_on _ _ _ s.after s.before)
 
 -- a writer stands at a later moment of the same documents
-pub stays : (p : Progress) (m n : Moment) → IsMoment n → IsNotBefore n m → n.documents ≡ m.documents → Stands p m → IsMoment n × Stands p n
+pub stays : (p : PlacerProgress) (m n : Moment) → IsMoment n → IsNotBefore n m → n.documents ≡ m.documents → PlacerStands p m → IsMoment n × PlacerStands p n
 stays p m n is l e h = (is, stands_same p m n l e h)
 
 -- two lists that are fronts of each other are one

@@ -8,7 +8,7 @@ ghost use Rattle.eb_place.specs.Room.{HasRoom};
 ghost use Rattle.eb_engine.specs.Loads.{IsWithinBound};
 ghost use Rattle.eb_search.specs.Searched.{Searched};
 ghost use Rattle.eb_table.specs.Known.{MadeWith};
-ghost use Rattle.eb_writer.specs.Progress.{Stands, HasNoRoom};
+ghost use Rattle.eb_writer.specs.Progress.{PlacerStands, HasNoRoom};
 ghost use Rattle.eb_writer.specs.Storing.{IsAccepted};
 
 use eb_base::{Document, Gate};
@@ -50,9 +50,9 @@ pub(crate) fn add_to_words(
     document: &Document,
 ) -> Result<u64, Full>
     requires made { MadeWith seat.old words.now }
-    requires stands { Stands placer.old seat.old.moment }
+    requires stands { PlacerStands placer.old seat.old.moment }
     ensures made { MadeWith seat.new words.now }
-    ensures stands { Stands placer.new seat.new.moment }
+    ensures stands { PlacerStands placer.new seat.new.moment }
     ensures ok { IfOk result (λ count. HasRoom seat.old.moment.setting seat.old.moment.documents.accepted document.now
         × IsAccepted seat.old.moment seat.new.moment document.now × (count ≡ length seat.old.moment.documents.accepted + 1)) }
     ensures full { OnErr result (HasNoRoom seat.old.moment document.now × (seat.new.moment.documents ≡ seat.old.moment.documents)) }

@@ -30,14 +30,14 @@ pub struct Writer {
 
 impl Model for Writer {
     ghost use Rattle.eb_place.specs.Moments.{IsMoment};
-    ghost use Rattle.eb_writer.specs.Progress.{Stands};
+    ghost use Rattle.eb_writer.specs.Progress.{PlacerStands};
     ghost use Rattle.eb_engine.specs.Tokens.{Token, index_of};
 
     ghost Value = { Token };
 
     ghost view = { λ w. record { index = index_of w.seat; docs = w.seat.moment.documents.accepted } };
 
-    ghost invariant = { λ w. IsMoment w.seat.moment × Stands w.placer w.seat.moment };
+    ghost invariant = { λ w. IsMoment w.seat.moment × PlacerStands w.placer w.seat.moment };
 }
 
 impl Writer {

@@ -6,7 +6,7 @@ use Rattle.std.proofs.lemmas.Bool.{cases_lt}
 use Rattle.std.proofs.lemmas.Nat.{be_bytes_8}
 use Rattle.eb_base.specs.Document.{Doc, IsDocument, most_bytes, most_tokens}
 use Rattle.eb_image.specs.Image.{term_bytes, part_of, last_byte, IsFront}
-use Rattle.eb_image.specs.Reading.{IsPart, IsNext, Begins}
+use Rattle.eb_image.specs.Reading.{IsPart, IsNextPart, Begins}
 use Rattle.eb_image.specs.Scan.{number_at, scan, IsShortest}
 use Rattle.eb_image.proofs.Bytes.{IsBytes, window, length-window, window-add, window_fits, window_all}
 use Rattle.eb_image.proofs.Parts.{next_alone}
@@ -75,7 +75,7 @@ unfolding part_of
 part_byte d = refl
 
 -- of what begins with these bytes, the first byte
-first_of : (bytes rest whole : List ℕ) → 0 < length bytes → IsNext whole → whole ≡ bytes ++ rest
+first_of : (bytes rest whole : List ℕ) → 0 < length bytes → IsNextPart whole → whole ≡ bytes ++ rest
     → (get_or bytes 0 0 ≤ 1) × (get_or bytes 0 0 ≡ 0 → length bytes ≡ 1)
 first_of bytes rest whole some (inl x) e =
     let zero_is : get_or bytes 0 0 ≡ 0 = front_byte bytes rest whole 0 e some ∙ ap (λ (t : List ℕ). get_or t 0 0) x in
@@ -86,21 +86,21 @@ first_of bytes rest whole some (inr p) e =
     let one_is : get_or bytes 0 0 ≡ 1 = front_byte bytes rest whole 0 e some ∙ (ap (λ (t : List ℕ). get_or t 0 0) p.is ∙ part_byte p.document) in
     (omega (arith, one_is), λ z. absurd (omega (arith, one_is, z)))
 
-pub not_first : (bytes : List ℕ) → 0 < length bytes → 1 < get_or bytes 0 0 → Begins IsNext bytes → ⊥
+pub not_first : (bytes : List ℕ) → 0 < length bytes → 1 < get_or bytes 0 0 → Begins IsNextPart bytes → ⊥
 not_first bytes some high b = omega (arith, high, (first_of bytes b.2.rest b.0 some b.1 b.2.is).0)
 
-pub not_more : (bytes : List ℕ) → get_or bytes 0 0 ≡ 0 → 1 < length bytes → Begins IsNext bytes → ⊥
+pub not_more : (bytes : List ℕ) → get_or bytes 0 0 ≡ 0 → 1 < length bytes → Begins IsNextPart bytes → ⊥
 not_more bytes z more b = omega (arith, more, (first_of bytes b.2.rest b.0 (omega arith) b.1 b.2.is).1 z)
 
 -- a document whose part begins with these bytes
-part_begun : (bytes : List ℕ) → 0 < length bytes → get_or bytes 0 0 ≡ 1 → Begins IsNext bytes → (d : Doc) × Least bytes d
+part_begun : (bytes : List ℕ) → 0 < length bytes → get_or bytes 0 0 ≡ 1 → Begins IsNextPart bytes → (d : Doc) × Least bytes d
 part_begun bytes some one (whole, inl x, front) =
     let zero_is : get_or bytes 0 0 ≡ 0 = front_byte bytes front.rest whole 0 front.is some ∙ ap (λ (t : List ℕ). get_or t 0 0) x in
     absurd (omega (arith, zero_is, one))
 part_begun bytes some one (whole, inr p, front) =
     (p.document, part_least bytes front.rest p.document p.within (sym p.is ∙ front.is))
 
-few_begun : (bytes : List ℕ) → Begins IsNext bytes → 0 < length bytes → get_or bytes 0 0 ≡ 1 → number_at bytes 9 ≤ most_tokens
+few_begun : (bytes : List ℕ) → Begins IsNextPart bytes → 0 < length bytes → get_or bytes 0 0 ≡ 1 → number_at bytes 9 ≤ most_tokens
 few_begun bytes (whole, inl x, front) some one =
     let zero_is : get_or bytes 0 0 ≡ 0 = front_byte bytes front.rest whole 0 front.is some ∙ ap (λ (t : List ℕ). get_or t 0 0) x in
     absurd (omega (arith, zero_is, one))
@@ -108,7 +108,7 @@ few_begun bytes (whole, inr p, front) some one =
     let l = part_least bytes front.rest p.document p.within (sym p.is ∙ front.is) in
     omega (arith, l.few, p.within.limits.tokens)
 
-pub not_many : (bytes : List ℕ) (count : ℕ) → 0 < length bytes → get_or bytes 0 0 ≡ 1 → count ≡ number_at bytes 9 → most_tokens < count → Begins IsNext bytes → ⊥
+pub not_many : (bytes : List ℕ) (count : ℕ) → 0 < length bytes → get_or bytes 0 0 ≡ 1 → count ≡ number_at bytes 9 → most_tokens < count → Begins IsNextPart bytes → ⊥
 not_many bytes count some one num many b =
     let few = few_begun bytes b some one in
     omega (arith, few, num, many)
@@ -116,13 +116,13 @@ not_many bytes count some one num many b =
 none_some : (n : ℕ) (x : Option ℕ) → x ≡ None → x ≡ Some n → ⊥
 none_some n x a b = cc
 
-pub not_scanned : (bytes : List ℕ) (count : ℕ) → 0 < length bytes → get_or bytes 0 0 ≡ 1 → count ≡ number_at bytes 9 → scan count 11 most_bytes bytes ≡ None → Begins IsNext bytes → ⊥
+pub not_scanned : (bytes : List ℕ) (count : ℕ) → 0 < length bytes → get_or bytes 0 0 ≡ 1 → count ≡ number_at bytes 9 → scan count 11 most_bytes bytes ≡ None → Begins IsNextPart bytes → ⊥
 not_scanned bytes count some one num none b =
     let l = (part_begun bytes some one b).1 in
     none_some l.end (scan (number_at bytes 9) 11 most_bytes bytes) (ap (λ (n : ℕ). scan n 11 most_bytes bytes) (sym num) ∙ none) l.scans
 
 pub not_long : (bytes : List ℕ) (count end : ℕ) → IsBytes bytes → get_or bytes 0 0 ≡ 1 → count ≡ number_at bytes 9 → count ≤ most_tokens
-    → scan count 11 most_bytes bytes ≡ Some end → end < length bytes → Begins IsNext bytes → ⊥
+    → scan count 11 most_bytes bytes ≡ Some end → end < length bytes → Begins IsNextPart bytes → ⊥
 not_long bytes count end fits one num few e long b =
     let part = part_found bytes count end fits one num few e in
     let more = window bytes end (length bytes - end) in
@@ -139,7 +139,7 @@ some_same a b x p q = cc
 
 -- no part that begins with these bytes is shorter
 shortest_least : (bytes : List ℕ) (count end : ℕ) → 0 < length bytes → get_or bytes 0 0 ≡ 1 → count ≡ number_at bytes 9
-    → scan count 11 most_bytes bytes ≡ Some end → (other : List ℕ) → IsNext other → IsFront bytes other → end ≤ length other
+    → scan count 11 most_bytes bytes ≡ Some end → (other : List ℕ) → IsNextPart other → IsFront bytes other → end ≤ length other
 shortest_least bytes count end some one num e other (inl x) front =
     let zero_is : get_or bytes 0 0 ≡ 0 = front_byte bytes front.rest other 0 front.is some ∙ ap (λ (t : List ℕ). get_or t 0 0) x in
     absurd (omega (arith, zero_is, one))
@@ -164,7 +164,7 @@ shortest_found bytes count end fits some one num few e short = record {
   least = shortest_least bytes count end some one num e;
 }
 
-pub next_len : (whole : List ℕ) → IsNext whole → 1 ≤ length whole
+pub next_len : (whole : List ℕ) → IsNextPart whole → 1 ≤ length whole
 unfolding part_of
 next_len whole (inl x) = let len = ap length x in omega (arith, len)
 next_len whole (inr p) = let len = ap length p.is in omega (arith, len)
@@ -184,12 +184,12 @@ shortest_last bytes le z = record {
   least = λ other next front. next_len other next;
 }
 
-pub last_if : (bytes : List ℕ) → IsNext bytes → get_or bytes 0 0 ≡ 0 → bytes ≡ last_byte
+pub last_if : (bytes : List ℕ) → IsNextPart bytes → get_or bytes 0 0 ≡ 0 → bytes ≡ last_byte
 last_if bytes (inl x) z = x
 last_if bytes (inr p) z =
     let one_is : get_or bytes 0 0 ≡ 1 = ap (λ (t : List ℕ). get_or t 0 0) p.is ∙ part_byte p.document in
     absurd (omega (arith, one_is, z))
 
-pub part_if : (bytes : List ℕ) → IsNext bytes → (get_or bytes 0 0 ≡ 0 → ⊥) → IsPart bytes
+pub part_if : (bytes : List ℕ) → IsNextPart bytes → (get_or bytes 0 0 ≡ 0 → ⊥) → IsPart bytes
 part_if bytes (inl x) nz = absurd (nz (ap (λ (t : List ℕ). get_or t 0 0) x))
 part_if bytes (inr p) nz = p

@@ -9,7 +9,7 @@ use Rattle.std.proofs.lemmas.List.Sums.{sum_by-cons}
 use Rattle.eb_base.specs.Document.{Doc, IsDocument, bytes_of}
 use Rattle.eb_base.specs.Setting.{Setting, IsSetting, AreTerms}
 use Rattle.eb_image.specs.Image.{mark, head_of, term_bytes, part_of, last_byte, image_of, ImagesDiffer}
-use Rattle.eb_image.specs.Reading.{IsNext}
+use Rattle.eb_image.specs.Reading.{IsNextPart}
 use Rattle.eb_image.proofs.Bytes.{same_front, two_front, four_front, eight_front}
 
 term_front : (t u x y : List ℕ) → length t < 2 ^ 16 → length u < 2 ^ 16 → term_bytes t ++ x ≡ term_bytes u ++ y → (t ≡ u) × (x ≡ y)
@@ -114,7 +114,7 @@ images_differ_all σ τ docs others fs ft fd fo front =
     (heads.0, parts.0)
 
 -- what may come next is no proper front of what may come next
-pub next_alone : (a b rest : List ℕ) → IsNext a → IsNext b → b ≡ a ++ rest → rest ≡ []
+pub next_alone : (a b rest : List ℕ) → IsNextPart a → IsNextPart b → b ≡ a ++ rest → rest ≡ []
 next_alone a b rest (inl x) (inl y) e = tail_of 0 0 rest [] (ap (λ (t : List ℕ). t ++ rest) (sym x) ∙ (sym e ∙ y))
 next_alone a b rest (inl x) (inr p) e =
     absurd (part_not_last p.document [] rest (append-nil _ ∙ (sym p.is ∙ (e ∙ ap (λ (t : List ℕ). t ++ rest) x))))

@@ -10,7 +10,7 @@ use Rattle.eb_io.specs.declared.source.Got.TheVariants.{Bytes, End, Failed}
 use Rattle.eb_io.specs.Faults.{HasRisen}
 use Rattle.eb_io.specs.Source.{after, got, got_count, IsCount}
 use Rattle.eb_image.specs.Image.{IsFront}
-use Rattle.eb_image.specs.Reading.{IsNext, IsBegun, Begins, HasNone}
+use Rattle.eb_image.specs.Reading.{IsNextPart, HasBegun, Begins, HasNone}
 use Rattle.eb_image.specs.Scan.{IsShortest}
 use Rattle.eb_image.proofs.Parts.{next_alone}
 
@@ -50,7 +50,7 @@ front_both a b x y e le =
     sym (take-append-le (length a) b y le) ∙ (ap (take (length a)) (sym e) ∙ (take-append-le (length a) a x (omega arith) ∙ take-length a)) in
     record { rest = drop (length a) b; is = sym (take-append-drop (length a) b) ∙ ap (λ (t : List ℕ). t ++ drop (length a) b) same }
 
-pub none_yet : (bytes : List ℕ) (n : ℕ) → IsShortest bytes n → length bytes < n → HasNone IsNext bytes
+pub none_yet : (bytes : List ℕ) (n : ℕ) → IsShortest bytes n → length bytes < n → HasNone IsNextPart bytes
 none_yet bytes n s less = λ whole next front.
     let cut : s.whole ≡ whole ++ (front.rest ++ s.front.rest) =
     s.front.is ∙ (ap (λ (t : List ℕ). t ++ s.front.rest) front.is ∙ append_assoc whole front.rest s.front.rest) in
@@ -60,11 +60,11 @@ none_yet bytes n s less = λ whole next front.
     let both = length-append bytes s.front.rest in
     omega (arith, none, sum, all, both, s.len, less)
 
-pub begun : (bytes : List ℕ) (n : ℕ) → IsShortest bytes n → length bytes < n → IsBegun IsNext bytes
+pub begun : (bytes : List ℕ) (n : ℕ) → IsShortest bytes n → length bytes < n → HasBegun IsNextPart bytes
 begun bytes n s less = record { none = none_yet bytes n s less; begins = (s.whole, s.next, s.front) }
 
 pub none_after : (bytes more now : List ℕ) (n : ℕ) → IsShortest bytes n → length bytes < n → now ≡ bytes ++ more → length now ≤ n
-    → (Begins IsNext now → ⊥) → HasNone IsNext now
+    → (Begins IsNextPart now → ⊥) → HasNone IsNextPart now
 none_after bytes more now n s less e le never = λ whole next front.
     let both : bytes ++ more ≡ whole ++ front.rest = sym e ∙ front.is in
     let all = ap length front.is in
@@ -77,13 +77,13 @@ none_after bytes more now n s less e le never = λ whole next front.
           never (whole, next, record { rest = []; is = sym (append-nil now ∙ (front.is ∙ (ap (λ (t : List ℕ). whole ++ t) nil ∙ append-nil whole))) })
     ]
 
-pub is_whole : (bytes : List ℕ) (n : ℕ) → IsShortest bytes n → n ≤ length bytes → IsNext bytes
+pub is_whole : (bytes : List ℕ) (n : ℕ) → IsShortest bytes n → n ≤ length bytes → IsNextPart bytes
 is_whole bytes n s le =
     let all = ap length s.front.is in
     let sum = length-append bytes s.front.rest in
     let nil : s.front.rest ≡ [] = nil_from_length s.front.rest (omega (arith, all, sum, s.len, le)) in
     let same : s.whole ≡ bytes = s.front.is ∙ (ap (λ (t : List ℕ). bytes ++ t) nil ∙ append-nil bytes) in
-    let P : List ℕ → Type 0 = IsNext in
+    let P : List ℕ → Type 0 = IsNextPart in
     subst P same s.next
 
 pub length-shortest : (bytes : List ℕ) (n : ℕ) → IsShortest bytes n → length bytes ≤ n

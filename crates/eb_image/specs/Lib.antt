@@ -1,3 +1,4 @@
 pub mod Image
 pub mod Reading
 pub mod Scan
+pub mod Faults

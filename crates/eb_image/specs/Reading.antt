@@ -28,8 +28,8 @@ pub record IsPartOf (d : Doc) (bytes : List ℕ) : Type 0 where
   pub is : bytes ≡ part_of d
 
 -- what may stand behind a head or a part: the part of a document within the limits, or the byte 0
-abbrev pub IsNext : List ℕ → Type 0
-IsNext bytes = (bytes ≡ last_byte) ⊎ IsPart bytes
+abbrev pub IsNextPart : List ℕ → Type 0
+IsNextPart bytes = (bytes ≡ last_byte) ⊎ IsPart bytes
 
 -- the bytes are the first of something of this form, or all of it
 abbrev pub Begins : (List ℕ → Type 0) → List ℕ → Type 0
@@ -46,6 +46,6 @@ pub record IsBad (Form : List ℕ → Type 0) (taken : List ℕ) (left : Option 
   pub never : (Begins Form taken → ⊥) ⊎ IsEmpty left
 
 -- nothing of the form came yet, and the bytes begin something of it
-pub record IsBegun (Form : List ℕ → Type 0) (taken : List ℕ) : Type 0 where
+pub record HasBegun (Form : List ℕ → Type 0) (taken : List ℕ) : Type 0 where
   pub none : HasNone Form taken
   pub begins : Begins Form taken

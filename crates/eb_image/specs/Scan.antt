@@ -2,7 +2,7 @@
 use Rattle.std.specs.Prelude.{◌≡◌, ℕ, zero, suc, ◌+◌, ◌-◌, ◌*◌, ◌≤◌, List, length, Option, Some, None, nat_lt, slice_index, if◌then◌else◌}
 use Rattle.eb_base.specs.Document.{most_tokens, most_bytes}
 use Rattle.eb_image.specs.Image.{IsFront}
-use Rattle.eb_image.specs.Reading.{IsNext}
+use Rattle.eb_image.specs.Reading.{IsNextPart}
 
 -- the most bytes of a part: those in front of its terms, and two and its own for each term
 abbrev pub longest_part : ℕ
@@ -22,7 +22,7 @@ scan (suc n) at room bytes =
 -- the shortest part, or byte 0, that the bytes begin has this length
 pub record IsShortest (bytes : List ℕ) (n : ℕ) : Type 0 where
   pub whole : List ℕ
-  pub next : IsNext whole
+  pub next : IsNextPart whole
   pub front : IsFront bytes whole
   pub len : length whole ≡ n
-  pub least : (other : List ℕ) → IsNext other → IsFront bytes other → n ≤ length other
+  pub least : (other : List ℕ) → IsNextPart other → IsFront bytes other → n ≤ length other

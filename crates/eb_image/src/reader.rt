@@ -3,7 +3,7 @@ ghost use Rattle.eb_base.specs.Document.{IsDocument};
 ghost use Rattle.eb_io.specs.Faults.{HasRisen};
 ghost use Rattle.eb_io.specs.Source.{after};
 ghost use Rattle.eb_image.specs.Image.{part_of, last_byte};
-ghost use Rattle.eb_image.specs.Reading.{IsNext, IsPart, IsBad, IsBegun};
+ghost use Rattle.eb_image.specs.Reading.{IsNextPart, IsPart, IsBad, HasBegun};
 
 use crate::fault::{HeadFault, ImageFault};
 use crate::fill::read_behind;
@@ -23,12 +23,12 @@ pub struct ImageReader {
 // Reads a part, or the byte 0, into the front of the buffer, and says how many bytes it has.
 fn read_next<S: Source>(source: &mut S, buffer: &mut [u8]) -> Result<usize, HeadFault>
     requires { length buffer.old ≡ LONGEST_PART }
-    ensures ok { IfOk result (λ n. (n ≤ LONGEST_PART) × IsNext (take n buffer.new)
+    ensures ok { IfOk result (λ n. (n ≤ LONGEST_PART) × IsNextPart (take n buffer.new)
         × (S.left source.old ≡ after (take n buffer.new) (S.left source.new))) }
     ensures bad { IsErrOf result HeadFault.BadImage
-        → (taken : List ℕ) × (S.left source.old ≡ after taken (S.left source.new)) × IsBad IsNext taken (S.left source.new) }
+        → (taken : List ℕ) × (S.left source.old ≡ after taken (S.left source.new)) × IsBad IsNextPart taken (S.left source.new) }
     ensures fault { IsErrOf result HeadFault.ReadFault → (taken : List ℕ) × (S.left source.old ≡ after taken (S.left source.new))
-        × IsBegun IsNext taken × HasRisen (S.faults source.old) (S.faults source.new) }
+        × HasBegun IsNextPart taken × HasRisen (S.faults source.old) (S.faults source.new) }
     ensures later { S.faults source.old ≤ S.faults source.new }
 {
     let mut have = 0;
@@ -67,9 +67,9 @@ impl ImageReader {
             IsDocument part.0 × (S.left source.old ≡ after (part_of part.0) (S.left source.new)))) }
         ensures none { result ≡ Ok None → S.left source.old ≡ after last_byte (S.left source.new) }
         ensures bad { IsErrOf result ImageFault.BadImage
-            → (taken : List ℕ) × (S.left source.old ≡ after taken (S.left source.new)) × IsBad IsNext taken (S.left source.new) }
+            → (taken : List ℕ) × (S.left source.old ≡ after taken (S.left source.new)) × IsBad IsNextPart taken (S.left source.new) }
         ensures fault { IsErrOf result ImageFault.ReadFault → (taken : List ℕ) × (S.left source.old ≡ after taken (S.left source.new))
-            × IsBegun IsNext taken × HasRisen (S.faults source.old) (S.faults source.new) }
+            × HasBegun IsNextPart taken × HasRisen (S.faults source.old) (S.faults source.new) }
         // without memory the part was taken
         ensures memory { IsErrOf result ImageFault.NoMemory
             → (taken : List ℕ) × IsPart taken × (S.left source.old ≡ after taken (S.left source.new)) }

@@ -1,6 +1,6 @@
 ghost use Rattle.std.specs.Prelude.{◌≡◌, ℕ, ◌+◌, ◌<◌, ◌≤◌, ◌^◌, length, slice_index, MatchOption};
 ghost use Rattle.eb_base.specs.Document.{most_tokens, most_bytes};
-ghost use Rattle.eb_image.specs.Reading.{IsNext, Begins};
+ghost use Rattle.eb_image.specs.Reading.{IsNextPart, Begins};
 ghost use Rattle.eb_image.specs.Scan.{number_at, scan, IsShortest};
 
 use eb_base::{MAX_BYTES, MAX_TOKENS};
@@ -55,7 +55,7 @@ fn end_of_terms(bytes: &[u8], count: usize) -> Option<usize>
 fn shortest_part(bytes: &[u8]) -> Option<usize>
     requires some { 0 < length bytes.now }
     requires first { slice_index bytes.now 0 ≡ 1 }
-    ensures form { MatchOption result (Begins IsNext bytes.now → ⊥) (IsShortest bytes.now) }
+    ensures form { MatchOption result (Begins IsNextPart bytes.now → ⊥) (IsShortest bytes.now) }
     ensures within { MatchOption result (Unit {0}) (λ end. end ≤ LONGEST_PART) }
 {
     let count = two_bytes_at(bytes, 9);
@@ -76,7 +76,7 @@ fn shortest_part(bytes: &[u8]) -> Option<usize>
 // The length of the shortest part of a document within the limits, or of the byte 0, that the bytes begin.
 pub(crate) fn shortest(bytes: &[u8]) -> Option<usize>
     requires { 0 < length bytes.now }
-    ensures form { MatchOption result (Begins IsNext bytes.now → ⊥) (IsShortest bytes.now) }
+    ensures form { MatchOption result (Begins IsNextPart bytes.now → ⊥) (IsShortest bytes.now) }
     ensures within { MatchOption result (Unit {0}) (λ end. end ≤ LONGEST_PART) }
 {
     if bytes[0] == 1 {

@@ -7,10 +7,10 @@ use Rattle.std.proofs.lemmas.List.{take-append-drop, length-take-le, drop_at, ge
 use Rattle.std.proofs.lemmas.List.Elements.{All-nil, All-append, Contains-append_right}
 use Rattle.std.proofs.Math.Seq.{take-length, drop-length}
 use Rattle.eb_io.specs.declared.lines.Next.{Next}
-use Rattle.eb_io.specs.declared.lines.Next.TheVariants.{Line as ALine, LongLine, End, ReadFault, TooLong}
+use Rattle.eb_io.specs.declared.lines.Next.TheVariants.{Line as ALine, LongLine, End, ReadFault, InputTooLong}
 use Rattle.eb_io.specs.Source.{after, IsEmpty}
 use Rattle.eb_io.specs.Lines.{Line, line_from, lines_of, whole_lines, are_too_many, IsUncut, IsFirstLf}
-use Rattle.eb_io.specs.Held.{Part, part_of, no_part, Held, IsDone, HasGiven, HasNoLine, HasAllLines, Tells, Gives}
+use Rattle.eb_io.specs.Held.{Part, kept_part, no_part, Held, IsDone, HasGiven, HasNoLine, HasAllLines, Tells, GivesLine}
 use Rattle.eb_io.proofs.Bytes.{after-nil, after-after}
 use Rattle.eb_io.proofs.Pieces.{pieces-uncut, lines_of-cut, lines_of-append, whole_lines-open}
 
@@ -29,7 +29,7 @@ pub record Comes (first now : Held) (seen before : List ℕ) : Type 0 where
   pub limit : now.limit ≡ first.limit
   pub uncut : IsUncut before
   pub bytes : first.rest ++ seen ≡ before ++ now.rest
-  pub part : (begun : List ℕ) → first.part ≡ part_of begun → now.part ≡ part_of (begun ++ before)
+  pub part : (begun : List ℕ) → first.part ≡ kept_part begun → now.part ≡ kept_part (begun ++ before)
   pub quiet : first.is_ended ≡ true → (seen ≡ []) × (now.is_ended ≡ true)
   pub line : now.line ≡ first.line
 
@@ -55,7 +55,7 @@ comes_first first = record {
   limit = refl;
   uncut = All-nil (λ b. b ≢ 10);
   bytes = append-nil first.rest;
-  part = λ begun e. e ∙ ap part_of (sym (append-nil begun));
+  part = λ begun e. e ∙ ap kept_part (sym (append-nil begun));
   quiet = λ e. (refl, e);
   line = refl;
 }
@@ -74,14 +74,14 @@ reads_first s left faults first = record {
 pub comes_joined : (first now joined : Held) (seen before : List ℕ) (n : ℕ) → Comes first now seen before → IsUncut (take n now.rest)
     → now.rest ≡ take n now.rest ++ drop n now.rest
     → joined ≡ record now { part = joined.part; rest = drop n now.rest }
-    → ((begun : List ℕ) → now.part ≡ part_of begun → joined.part ≡ part_of (begun ++ take n now.rest))
+    → ((begun : List ℕ) → now.part ≡ kept_part begun → joined.part ≡ kept_part (begun ++ take n now.rest))
     → Comes first joined seen (before ++ take n now.rest)
 comes_joined first now joined seen before n c uncut cut held part = record {
   taken = ap (λ (h : Held). h.taken) held ∙ c.taken;
   limit = ap (λ (h : Held). h.limit) held ∙ c.limit;
   uncut = All-append (λ b. b ≢ 10) before (take n now.rest) c.uncut uncut;
   bytes = c.bytes ∙ (ap (λ t. before ++ t) (cut ∙ ap (λ t. take n now.rest ++ t) (sym (ap (λ (h : Held). h.rest) held))) ∙ sym (append_assoc before (take n now.rest) joined.rest));
-  part = λ begun e. part (begun ++ before) (c.part begun e) ∙ ap part_of (append_assoc begun before (take n now.rest));
+  part = λ begun e. part (begun ++ before) (c.part begun e) ∙ ap kept_part (append_assoc begun before (take n now.rest));
   quiet = λ e. ((c.quiet e).0, ap (λ (h : Held). h.is_ended) held ∙ (c.quiet e).1);
   line = ap (λ (h : Held). h.line) held ∙ c.line;
 }
@@ -147,7 +147,7 @@ line_ended h after taken given g lf none same = elim g.whole [
     regroup a b c = simp append_assoc
 
 -- something of a line is kept as something
-kept_some : (b : ℕ) (bs : List ℕ) → part_of (b ∷ bs) ≡ no_part → ⊥
+kept_some : (b : ℕ) (bs : List ℕ) → kept_part (b ∷ bs) ≡ no_part → ⊥
 kept_some b bs e = cases (are_too_many (b ∷ bs)) e
   where
     cases : (t : Bool) → (if t then record { is_long = true; bytes = [] } else record { is_long = false; bytes = b ∷ bs }) ≡ no_part → ⊥
@@ -162,7 +162,7 @@ lines_of-begun (b ∷ bs) some uncut = ap (map line_from) (pieces-uncut b bs unc
 pub last_line : (h after : Held) (taken : List ℕ) (given : List Line) (g : HasGiven taken given h) → h.rest ≡ [] → (h.part ≡ no_part → ⊥)
     → after.part ≡ no_part → after.rest ≡ [] → after.is_ended ≡ true → after.taken ≡ h.taken → HasGiven taken (given ++ line_from g.begun ∷ []) after
 last_line h after taken given g rest some none empty ended same =
-    let begun : g.begun ≢ [] = λ e. some (g.part ∙ ap part_of e) in
+    let begun : g.begun ≢ [] = λ e. some (g.part ∙ ap kept_part e) in
     let bytes : taken ≡ g.front ++ g.begun = g.bytes ∙ ap (λ t. g.front ++ t) (ap (λ t. g.begun ++ t) rest ∙ append-nil g.begun) in
     elim g.whole [
       | inl w ↦ record {
@@ -179,13 +179,13 @@ last_line h after taken given g rest some none empty ended same =
     ]
 
 -- an answer that gives the line tells it
-pub given_tells : (r : Next) (h : Held) (taken : List ℕ) (given : List Line) (l : Line) → Gives r h.line l → HasGiven taken (given ++ l ∷ []) h
+pub given_tells : (r : Next) (h : Held) (taken : List ℕ) (given : List Line) (l : Line) → GivesLine r h.line l → HasGiven taken (given ++ l ∷ []) h
     → Tells r taken given h
 given_tells ALine h taken given l e g = subst (λ l. HasGiven taken (given ++ l ∷ []) h) e g
 given_tells LongLine h taken given l e g = subst (λ l. HasGiven taken (given ++ l ∷ []) h) e g
 given_tells End h taken given l never g = absurd never
 given_tells ReadFault h taken given l never g = absurd never
-given_tells TooLong h taken given l never g = absurd never
+given_tells InputTooLong h taken given l never g = absurd never
 
 -- nothing is held at the end
 pub has_all_lines : (h : Held) (taken : List ℕ) (given : List Line) → HasGiven taken given h → h.rest ≡ [] → ((h.part ≡ no_part → ⊥) → ⊥) → h.is_ended ≡ true
@@ -199,7 +199,7 @@ has_all_lines h taken given g rest none ended =
       ended = ended;
     }
   where
-    nothing : (begun : List ℕ) → ((part_of begun ≡ no_part → ⊥) → ⊥) → begun ≡ []
+    nothing : (begun : List ℕ) → ((kept_part begun ≡ no_part → ⊥) → ⊥) → begun ≡ []
     nothing [] some = refl
     nothing (b ∷ bs) some = absurd (some (kept_some b bs))
 
@@ -215,7 +215,7 @@ has_no_line h taken given g rest open_end =
 -- all that was held, which has no LF, went into the part
 pub comes_all : (first now joined : Held) (seen before : List ℕ) (n : ℕ) → Comes first now seen before → n ≡ length now.rest → IsUncut now.rest
     → joined ≡ record now { part = joined.part; rest = drop n now.rest }
-    → ((begun : List ℕ) → now.part ≡ part_of begun → joined.part ≡ part_of (begun ++ take n now.rest))
+    → ((begun : List ℕ) → now.part ≡ kept_part begun → joined.part ≡ kept_part (begun ++ take n now.rest))
     → Comes first joined seen (before ++ take n now.rest) × (joined.rest ≡ [])
 comes_all first now joined seen before n c all uncut held part =
     let whole : take n now.rest ≡ now.rest = ap (λ n. take n now.rest) all ∙ take-length now.rest in (
@@ -252,7 +252,7 @@ lf_next rest n lt e =
 -- the line that was found is told
 pub tells_whole : (joined passed new : Held) (r : Next) (taken : List ℕ) (given : List Line) (rest : List ℕ) → HasGiven taken given joined → joined.rest ≡ 10 ∷ rest
     → passed ≡ record joined { rest = drop 1 joined.rest } → new ≡ record passed { part = no_part; line = new.line }
-    → ((begun : List ℕ) → passed.part ≡ part_of begun → Gives r new.line (line_from begun)) → Tells r taken given new
+    → ((begun : List ℕ) → passed.part ≡ kept_part begun → GivesLine r new.line (line_from begun)) → Tells r taken given new
 tells_whole joined passed new r taken given rest g lf pass held gives =
     let after_lf : new.rest ≡ rest = ap (λ (h : Held). h.rest) held ∙ (ap (λ (h : Held). h.rest) pass ∙ ap (drop 1) lf) in
     given_tells r new taken given _ (gives g.begun (ap (λ (h : Held). h.part) pass ∙ g.part))
@@ -262,7 +262,7 @@ tells_whole joined passed new r taken given rest g lf pass held gives =
 -- the last line, which no LF ends, is told
 pub tells_last : (joined new : Held) (r : Next) (taken : List ℕ) (given : List Line) → HasGiven taken given joined → joined.rest ≡ [] → joined.is_ended ≡ true
     → joined.part ≢ no_part → new ≡ record joined { part = no_part; line = new.line }
-    → ((begun : List ℕ) → joined.part ≡ part_of begun → Gives r new.line (line_from begun)) → Tells r taken given new
+    → ((begun : List ℕ) → joined.part ≡ kept_part begun → GivesLine r new.line (line_from begun)) → Tells r taken given new
 tells_last joined new r taken given g rest ended some held gives =
     given_tells r new taken given _ (gives g.begun g.part)
     (last_line joined new taken given g rest some (ap (λ (h : Held). h.part) held) (ap (λ (h : Held). h.rest) held ∙ rest)

@@ -6,7 +6,7 @@ use Rattle.eb_io.specs.Lines.{longest_line}
 
 -- what is still to be cut lies in the piece, both buffers of a line have room for each line, and an end was met
 -- before as many bytes were taken as may be
-pub record HasRoom (lines : Inside) : Type 0 where
+pub record HasRoomForLines (lines : Inside) : Type 0 where
   pub order : lines.from ≤ lines.to
   pub within : lines.to ≤ length lines.piece.items
   pub piece : length lines.piece.items ≡ PIECE

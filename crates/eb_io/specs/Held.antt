@@ -1,7 +1,7 @@
 -- What is held between two calls for a line, and which lines have been given.
 use Rattle.std.specs.Prelude.{◌≡◌, ℕ, ◌<◌, ◌⊎◌, Bool, true, false, List, [], ◌∷◌, ◌++◌, length, if◌then◌else◌}
 use Rattle.eb_io.specs.declared.lines.Next.{Next}
-use Rattle.eb_io.specs.declared.lines.Next.TheVariants.{Line as ALine, LongLine, End, ReadFault, TooLong}
+use Rattle.eb_io.specs.declared.lines.Next.TheVariants.{Line as ALine, LongLine, End, ReadFault, InputTooLong}
 use Rattle.eb_io.specs.Lines.{Line, line, long_line, are_too_many, lines_of, whole_lines, IsUncut, AreWhole}
 
 -- what is kept of a line that has begun: its bytes, or only that they are too many
@@ -10,8 +10,8 @@ pub record Part : Type 0 where
   pub bytes : List ℕ
 
 -- what is kept of a line that began with these bytes
-abbrev pub part_of : List ℕ → Part
-part_of bytes =
+abbrev pub kept_part : List ℕ → Part
+kept_part bytes =
     if are_too_many bytes then record { is_long = true; bytes = [] }
     else record { is_long = false; bytes = bytes }
 
@@ -46,7 +46,7 @@ pub record HasGiven (taken : List ℕ) (given : List Line) (held : Held) : Type 
   pub bytes : taken ≡ front ++ (begun ++ held.rest)
   pub lines : lines_of front ≡ given
   pub uncut : IsUncut begun
-  pub part : held.part ≡ part_of begun
+  pub part : held.part ≡ kept_part begun
   -- a LF ends the last line given, or else the end of the source did
   pub whole : AreWhole front ⊎ IsDone begun held
   pub count : held.taken ≡ length taken
@@ -65,18 +65,18 @@ pub record HasAllLines (taken : List ℕ) (given : List Line) (held : Held) : Ty
 
 -- what an answer tells, where these bytes are taken by now and these lines were given before it
 --   Line, LongLine: one line more is given; End: all are, with fewer bytes taken than may be;
---   ReadFault, TooLong: all whole ones are, with fewer bytes taken than may be, or as many
+--   ReadFault, InputTooLong: all whole ones are, with fewer bytes taken than may be, or as many
 abbrev pub Tells : Next → List ℕ → List Line → Held → Type 0
 Tells ALine taken given held = HasGiven taken (given ++ line held.line ∷ []) held
 Tells LongLine taken given held = HasGiven taken (given ++ long_line ∷ []) held
 Tells End taken given held = HasAllLines taken given held × (length taken < held.limit)
 Tells ReadFault taken given held = HasNoLine taken given held × (length taken < held.limit)
-Tells TooLong taken given held = HasNoLine taken given held × (length taken ≡ held.limit)
+Tells InputTooLong taken given held = HasNoLine taken given held × (length taken ≡ held.limit)
 
 -- the answer gives the line, with these bytes where it isn't a long one
-abbrev pub Gives : Next → List ℕ → Line → Type 0
-Gives ALine bytes l = l ≡ line bytes
-Gives LongLine bytes l = l ≡ long_line
-Gives End bytes l = ⊥
-Gives ReadFault bytes l = ⊥
-Gives TooLong bytes l = ⊥
+abbrev pub GivesLine : Next → List ℕ → Line → Type 0
+GivesLine ALine bytes l = l ≡ line bytes
+GivesLine LongLine bytes l = l ≡ long_line
+GivesLine End bytes l = ⊥
+GivesLine ReadFault bytes l = ⊥
+GivesLine InputTooLong bytes l = ⊥

@@ -37,7 +37,7 @@ pub enum Next {
     ReadFault,
     /// As many bytes as may be taken were taken, no end was met, and no whole line is held. Later
     /// calls answer it again, and leave the source alone.
-    TooLong,
+    InputTooLong,
 }
 
 /// Cuts what a source gives into lines (this project's profile, docs/FORMATS.md): a line is the
@@ -75,9 +75,9 @@ impl Model for Lines {
       limit = l.limit;
     } };
 
-    ghost use Rattle.eb_io.specs.Buffers.{HasRoom};
+    ghost use Rattle.eb_io.specs.Buffers.{HasRoomForLines};
 
-    ghost invariant = { HasRoom };
+    ghost invariant = { HasRoomForLines };
 }
 
 // The place of the first LF.
@@ -119,7 +119,7 @@ fn drop_cr(line: &mut Vec<u8>)
 }
 
 impl Lines {
-    ghost use Rattle.eb_io.specs.Held.{HasGiven, Tells, Gives, part_of, no_part};
+    ghost use Rattle.eb_io.specs.Held.{HasGiven, Tells, GivesLine, kept_part, no_part};
 
     /// Lines of which none has been given yet, of a source from which at most `limit` bytes are
     /// taken in all. Takes all memory at once.
@@ -188,8 +188,8 @@ impl Lines {
     fn join(&mut self, count: usize)
         requires { count ≤ length self.old.rest }
         ensures held { self.new ≡ record self.old { part = self.new.part; rest = drop count self.old.rest } }
-        ensures part { (begun : List ℕ) → self.old.part ≡ part_of begun
-            → self.new.part ≡ part_of (begun ++ take count self.old.rest) }
+        ensures part { (begun : List ℕ) → self.old.part ≡ kept_part begun
+            → self.new.part ≡ kept_part (begun ++ take count self.old.rest) }
     {
         let start = self.from;
         self.from += count;
@@ -213,11 +213,11 @@ impl Lines {
         self.from += 1;
     }
 
-    // Gives the part as a line.
+    // GivesLine the part as a line.
     fn give(&mut self) -> Next
         ensures held { self.new ≡ record self.old { part = no_part; line = self.new.line } }
-        ensures given { (begun : List ℕ) → self.old.part ≡ part_of begun
-            → Gives result self.new.line (line_from begun) }
+        ensures given { (begun : List ℕ) → self.old.part ≡ kept_part begun
+            → GivesLine result self.new.line (line_from begun) }
         ensures no_fault { result ≡ Next.ReadFault → ⊥ }
         ensures line { (result ≡ Next.Line → ⊥) → self.new.line ≡ self.old.line }
     {
@@ -303,9 +303,9 @@ impl Lines {
         // the source isn't asked after its end was met, nor where a whole line is held
         ensures ended { self.old.is_ended ≡ true → source.new ≡ source.old }
         ensures whole { Contains self.old.rest 10 → source.new ≡ source.old }
-        // nor where as many bytes were taken as may be; without an end and a whole line held, the answer is TooLong
+        // nor where as many bytes were taken as may be; without an end and a whole line held, the answer is InputTooLong
         ensures full { self.old.taken ≡ self.old.limit → source.new ≡ source.old }
-        ensures too_long { self.old.taken ≡ self.old.limit → self.old.is_ended ≡ false → (Contains self.old.rest 10 → ⊥) → result ≡ Next.TooLong }
+        ensures too_long { self.old.taken ≡ self.old.limit → self.old.is_ended ≡ false → (Contains self.old.rest 10 → ⊥) → result ≡ Next.InputTooLong }
         ensures line { (result ≡ Next.Line → ⊥) → self.new.line ≡ self.old.line }
         ensures limit { self.new.limit ≡ self.old.limit }
         ensures within { self.new.taken ≤ self.new.limit }
@@ -327,7 +327,7 @@ impl Lines {
                 };
             }
             if self.is_full() {
-                return Next::TooLong;
+                return Next::InputTooLong;
             }
             if let Got::Failed = self.fill(source) {
                 return Next::ReadFault;

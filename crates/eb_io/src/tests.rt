@@ -53,7 +53,7 @@ fn stops_at_its_limit_and_goes_on_after_a_fault(rt: HostRuntime) {
     assert_eq!(rt; lines.next_line(&mut source), Next::Line);
     assert!(rt; lines.line() == b"abc".as_slice());
     for _ in 0..2 {
-        assert_eq!(rt; lines.next_line(&mut source), Next::TooLong);
+        assert_eq!(rt; lines.next_line(&mut source), Next::InputTooLong);
         assert_eq!(rt; lines.taken(), 8);
     }
 

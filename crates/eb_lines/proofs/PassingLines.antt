@@ -11,10 +11,10 @@ use Rattle.eb_io.specs.Sink.{grown}
 use Rattle.eb_io.proofs.Bytes.{grown-grown, grown-nil, after-nil, after-after}
 use Rattle.eb_io.proofs.Pieces.{lines_of-append}
 use Rattle.eb_lines.specs.declared.status.Status.{Status}
-use Rattle.eb_lines.specs.declared.status.Status.TheVariants.{Done, Refused, Usage, ReadFault, WriteFault, NoMemory, TooLong, BadImage}
+use Rattle.eb_lines.specs.declared.status.Status.TheVariants.{Done, Refused, Usage, ReadFault, WriteFault, NoMemory, InputTooLong, BadImage}
 use Rattle.eb_lines.specs.declared.passing.Upcoming.TheVariants as next
-use Rattle.eb_lines.specs.Programs.{IsRunning, WorksOn, GoesOn, PrintsFront, Finishes}
-use Rattle.eb_lines.specs.Passing.{IsAt, IsAtEnd, IsStopped, MayStop, AreFirst, IsPart, Ends, Comes, upcoming_of}
+use Rattle.eb_lines.specs.Programs.{IsRunning, WorksOn, WorksOnGiven, PrintsFront, Finishes}
+use Rattle.eb_lines.specs.Passing.{IsAt, IsAtEnd, IsStopped, MayStop, AreFirstLines, IsFrontOfWhole, Ends, Comes, upcoming_of}
 
 -- ---- how many lines there are
 
@@ -38,7 +38,7 @@ lines_few taken given h g =
 
 -- ---- the lines given are first lines
 
-pub first_given : (taken : List ℕ) (given : List Line) (h : Held) (left : Option (List ℕ)) → HasGiven taken given h → (h.is_ended ≡ true → IsEmpty left) → AreFirst given taken left
+pub first_given : (taken : List ℕ) (given : List Line) (h : Held) (left : Option (List ℕ)) → HasGiven taken given h → (h.is_ended ≡ true → IsEmpty left) → AreFirstLines given taken left
 first_given taken given h left g ended = λ rest e. elim g.whole [
   | inl whole ↦
       let open_rest = g.begun ++ h.rest in (
@@ -52,7 +52,7 @@ first_given taken given h left g ended = λ rest e. elim g.whole [
       ([], ap₂ (λ t r. lines_of (t ++ r)) all none ∙ ap lines_of (append-nil g.front) ∙ g.lines ∙ sym (append-nil given))
 ]
 
-first_front : (given done more : List Line) (taken : List ℕ) (left : Option (List ℕ)) → given ≡ done ++ more → AreFirst given taken left → AreFirst done taken left
+first_front : (given done more : List Line) (taken : List ℕ) (left : Option (List ℕ)) → given ≡ done ++ more → AreFirstLines given taken left → AreFirstLines done taken left
 first_front given done more taken left e f = λ rest is. let m = f rest is in (more ++ m.0, m.1 ∙ ap (λ ls. ls ++ m.0) e ∙ append_assoc done more m.0)
 
 grown_by : (p0 p1 p2 : Option (List ℕ)) (written front : List ℕ) → p1 ≡ grown p0 written → p2 ≡ grown p1 front → p2 ≡ grown p0 (written ++ front)
@@ -65,7 +65,7 @@ abbrev pub ComesFirst : (prints ends_with : List Line → List ℕ → Type 0) �
 ComesFirst prints ends_with = (lines : List Line) (printed : List ℕ) → prints lines printed → (more : List ℕ) × ends_with lines (printed ++ more)
 
 module _ (prints ends_with : List Line → List ℕ → Type 0) (refuses accepts : List Line → Type 0) (first : ComesFirst prints ends_with) (l0 l1 p0 p1 : Option (List ℕ)) where
-  part : (text front rest : List ℕ) (m : MayStop prints l0 l1 p0 p1 text) → text ≡ front ++ rest → IsPart ends_with m.taken l1 (m.written ++ front)
+  part : (text front rest : List ℕ) (m : MayStop prints l0 l1 p0 p1 text) → text ≡ front ++ rest → IsFrontOfWhole ends_with m.taken l1 (m.written ++ front)
   part text front rest m split =
       let w = first m.done (m.so_far ++ m.rest) m.body in
       let behind = m.rest ++ w.0 in
@@ -220,7 +220,7 @@ module _ {P A : Type 0} (has_run : P → A → List Line → List ℕ → Type 0
     is_empty e = elim (ended e) [ inl before ↦ let E : Option (List ℕ) → Type 0 = IsEmpty in subst E (sym (same before)) (at.ended before) | inr now ↦ now ]
 
     -- a line is given, and taken
-    pub at_line : (new : P) (t : List ℕ) (l : Line) → HasGiven (at.taken ++ seen) (at.given ++ l ∷ []) g → GoesOn has_run run new text t l → IsAt has_run a l0 l2 p0 p1 g new t
+    pub at_line : (new : P) (t : List ℕ) (l : Line) → HasGiven (at.taken ++ seen) (at.given ++ l ∷ []) g → WorksOnGiven has_run run new text t l → IsAt has_run a l0 l2 p0 p1 g new t
     at_line new t l lines goes =
         let w = goes a at.given at.so_far at.works in
         record {
@@ -280,7 +280,7 @@ module _ {P A : Type 0} (has_run : P → A → List Line → List ℕ → Type 0
     pub at_fault : HasNoLine (at.taken ++ seen) at.given g → length (at.taken ++ seen) < g.limit → IsStopped has_run ReadFault a l0 l2 p0 p1 g run text
     at_fault lines short = (at_more lines.has, lines, short)
 
-    pub at_limit : HasNoLine (at.taken ++ seen) at.given g → length (at.taken ++ seen) ≡ g.limit → IsStopped has_run TooLong a l0 l2 p0 p1 g run text
+    pub at_limit : HasNoLine (at.taken ++ seen) at.given g → length (at.taken ++ seen) ≡ g.limit → IsStopped has_run InputTooLong a l0 l2 p0 p1 g run text
     at_limit lines long = (at_more lines.has, lines, long)
 
   -- a line was taken or not
@@ -291,7 +291,7 @@ module _ {P A : Type 0} (has_run : P → A → List Line → List ℕ → Type 0
 
   pub at_of : (status : Status) (l0 l1 p0 p1 : Option (List ℕ)) (h : Held) (run : P) (text : List ℕ) → IsStopped has_run status a l0 l1 p0 p1 h run text → IsAt has_run a l0 l1 p0 p1 h run text
   at_of ReadFault l0 l1 p0 p1 h run text s = s.0
-  at_of TooLong l0 l1 p0 p1 h run text s = s.0
+  at_of InputTooLong l0 l1 p0 p1 h run text s = s.0
   at_of Done l0 l1 p0 p1 h run text s = absurd s
   at_of Refused l0 l1 p0 p1 h run text s = absurd s
   at_of Usage l0 l1 p0 p1 h run text s = absurd s
@@ -307,7 +307,7 @@ module _ {P A : Type 0} (has_run : P → A → List Line → List ℕ → Type 0
   few_lines a l0 l1 p0 p1 h run text at = omega (arith, counts run a at.given at.so_far at.works, lines_few at.taken at.given h at.lines, at.within, at.limit)
 
   -- a line more counts one more
-  pub goes_number : (old new : P) (t0 t1 : List ℕ) (l : Line) → IsRunning has_run old → GoesOn has_run old new t0 t1 l → number new ≡ number old + 1
+  pub goes_number : (old new : P) (t0 t1 : List ℕ) (l : Line) → IsRunning has_run old → WorksOnGiven has_run old new t0 t1 l → number new ≡ number old + 1
   goes_number old new t0 t1 l r f =
       let w = f r.0 r.1 r.2 r.3 in
       let was = counts old r.0 r.1 r.2 r.3 in
@@ -353,7 +353,7 @@ module _ {P A : Type 0} (has_run : P → A → List Line → List ℕ → Type 0
     put = grown_by p0 p1 p2 s.0.written t s.0.wrote e;
     ends = (body_whole s.0 s.1, (let own = s.0.limit in omega (arith, s.2, own)));
   }
-  ends_stopped TooLong s e = record {
+  ends_stopped InputTooLong s e = record {
     taken = s.0.taken;
     printed = s.0.written ++ t;
     left = s.0.left;

@@ -5,9 +5,9 @@ use Rattle.eb_io.specs.Lines.{Line, longest_input, lines_of}
 use Rattle.eb_io.specs.Source.{after, IsEmpty}
 use Rattle.eb_io.specs.Sink.{grown}
 use Rattle.eb_lines.specs.declared.status.Status.{Status}
-use Rattle.eb_lines.specs.declared.status.Status.TheVariants.{Done, Refused, Usage, ReadFault, WriteFault, NoMemory, TooLong, BadImage}
+use Rattle.eb_lines.specs.declared.status.Status.TheVariants.{Done, Refused, Usage, ReadFault, WriteFault, NoMemory, InputTooLong, BadImage}
 use Rattle.eb_lines.specs.Outcomes.{IsPartOfOutput, Wrote, Means, IsWorkedOff}
-use Rattle.eb_lines.specs.Passing.{IsPart, EndsAs, Ends}
+use Rattle.eb_lines.specs.Passing.{IsFrontOfWhole, EndsAs, Ends}
 
 drop_told : (bytes taken : List ℕ) (l1 : Option (List ℕ)) → after taken l1 ≡ Some bytes → (rest : List ℕ) × (l1 ≡ Some rest) × (taken ++ rest ≡ bytes)
 drop_told bytes taken None e = let no : ⊥ = cc in absurd no
@@ -20,7 +20,7 @@ all_told bytes taken rest l1 still all empty =
     (still ∙ ap Some none, sym (append-nil taken) ∙ ap (λ r. taken ++ r) (sym none) ∙ all)
 
 module _ (prints ends_with : List Line → List ℕ → Type 0) (refuses accepts : List Line → Type 0) where
-  part_told : (bytes taken rest printed : List ℕ) (l1 : Option (List ℕ)) → l1 ≡ Some rest → taken ++ rest ≡ bytes → IsPart ends_with taken l1 printed → IsPartOfOutput ends_with bytes printed
+  part_told : (bytes taken rest printed : List ℕ) (l1 : Option (List ℕ)) → l1 ≡ Some rest → taken ++ rest ≡ bytes → IsFrontOfWhole ends_with taken l1 printed → IsPartOfOutput ends_with bytes printed
   part_told bytes taken rest printed l1 still all p =
       let first = p.first rest still in
       let front : take (length p.lines) (lines_of bytes) ≡ p.lines = ap (λ b. take (length p.lines) (lines_of b)) (sym all) ∙ ap (take (length p.lines)) first.1 ∙ take-append_seam p.lines first.0 in
@@ -41,7 +41,7 @@ module _ (prints ends_with : List Line → List ℕ → Type 0) (refuses accepts
       let whole = all_told bytes taken rest l1 still all e.0 in
       (whole.0, subst (λ b. ends_with (lines_of b) printed) whole.1 e.1, subst (λ b. refuses (lines_of b)) whole.1 e.2, subst (λ b. length b < longest_input) whole.1 e.3)
   wrote ReadFault bytes taken rest printed l1 still all e = (taken, record { rest = rest; whole = sym all; still = still; body = e.0 }, e.1)
-  wrote TooLong bytes taken rest printed l1 still all e = (taken, record { rest = rest; whole = sym all; still = still; body = e.0 }, e.1)
+  wrote InputTooLong bytes taken rest printed l1 still all e = (taken, record { rest = rest; whole = sym all; still = still; body = e.0 }, e.1)
   wrote WriteFault bytes taken rest printed l1 still all e = part_told bytes taken rest printed l1 still all e
   wrote NoMemory bytes taken rest printed l1 still all e = part_told bytes taken rest printed l1 still all e
   wrote Usage bytes taken rest printed l1 still all e = absurd e
@@ -56,7 +56,7 @@ module _ (prints ends_with : List Line → List ℕ → Type 0) (refuses accepts
       let whole = all_told bytes taken rest l1 still all e.0 in
       (whole.0, subst (λ b. length b < longest_input) whole.1 e.3, subst (λ b. refuses (lines_of b)) whole.1 e.2)
   meant ReadFault bytes taken rest printed l1 still all e = (taken, record { rest = rest; whole = sym all; still = still }, e.1)
-  meant TooLong bytes taken rest printed l1 still all e = (taken, record { rest = rest; whole = sym all; still = still }, e.1)
+  meant InputTooLong bytes taken rest printed l1 still all e = (taken, record { rest = rest; whole = sym all; still = still }, e.1)
   meant WriteFault bytes taken rest printed l1 still all e = (taken, record { rest = rest; whole = sym all; still = still })
   meant NoMemory bytes taken rest printed l1 still all e = (taken, record { rest = rest; whole = sym all; still = still })
   meant Usage bytes taken rest printed l1 still all e = absurd e
@@ -83,7 +83,7 @@ module _ (prints ends_with : List Line → List ℕ → Type 0) (refuses accepts
   completes NoMemory l0 l1 p0 p1 read_rose write_rose bytes e f g no_read no_write source short = inr (inr refl)
   completes ReadFault l0 l1 p0 p1 read_rose write_rose bytes e f g no_read no_write source short = absurd (no_read (f refl))
   completes WriteFault l0 l1 p0 p1 read_rose write_rose bytes e f g no_read no_write source short = absurd (no_write (g refl))
-  completes TooLong l0 l1 p0 p1 read_rose write_rose bytes e f g no_read no_write source short =
+  completes InputTooLong l0 l1 p0 p1 read_rose write_rose bytes e f g no_read no_write source short =
       let d = drop_told bytes e.taken l1 (sym e.left ∙ source) in
       absurd (omega (arith, ap length d.2, length-append e.taken d.0, e.ends.1, short))
   completes Usage l0 l1 p0 p1 read_rose write_rose bytes e f g no_read no_write source short = absurd e.ends

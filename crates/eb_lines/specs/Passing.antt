@@ -6,13 +6,13 @@ use Rattle.eb_io.specs.Held.{Held, HasGiven, HasNoLine, HasAllLines}
 use Rattle.eb_io.specs.Source.{after, IsEmpty}
 use Rattle.eb_io.specs.Sink.{grown}
 use Rattle.eb_lines.specs.declared.status.Status.{Status}
-use Rattle.eb_lines.specs.declared.status.Status.TheVariants.{Done, Refused, Usage, ReadFault, WriteFault, NoMemory, TooLong, BadImage}
+use Rattle.eb_lines.specs.declared.status.Status.TheVariants.{Done, Refused, Usage, ReadFault, WriteFault, NoMemory, InputTooLong, BadImage}
 use Rattle.eb_lines.specs.declared.passing.Upcoming.{Upcoming}
 use Rattle.eb_lines.specs.declared.passing.Upcoming.TheVariants as next
 
 -- these are the first lines of the bytes taken and what is left, where that is told
-abbrev pub AreFirst : List Line → List ℕ → Option (List ℕ) → Type 0
-AreFirst lines taken left = (rest : List ℕ) → left ≡ Some rest → (more : List Line) × (lines_of (taken ++ rest) ≡ lines ++ more)
+abbrev pub AreFirstLines : List Line → List ℕ → Option (List ℕ) → Type 0
+AreFirstLines lines taken left = (rest : List ℕ) → left ≡ Some rest → (more : List Line) × (lines_of (taken ++ rest) ≡ lines ++ more)
 
 -- between two lines: the lines given are those of the bytes taken, and what those that are worked off print is written or
 -- gathered
@@ -38,7 +38,7 @@ IsAtEnd has_run a l0 l1 p0 p1 held run gathered = (at : IsAt has_run a l0 l1 p0 
 -- or all whole lines of the bytes taken, at a fault or where they are as many as may be
 abbrev pub IsStopped : {P A : Type 0} → (P → A → List Line → List ℕ → Type 0) → Status → A → Option (List ℕ) → Option (List ℕ) → Option (List ℕ) → Option (List ℕ) → Held → P → List ℕ → Type 0
 IsStopped has_run ReadFault a l0 l1 p0 p1 held run gathered = (at : IsAt has_run a l0 l1 p0 p1 held run gathered) × HasNoLine at.taken at.given held × (length at.taken < held.limit)
-IsStopped has_run TooLong a l0 l1 p0 p1 held run gathered = (at : IsAt has_run a l0 l1 p0 p1 held run gathered) × HasNoLine at.taken at.given held × (length at.taken ≡ held.limit)
+IsStopped has_run InputTooLong a l0 l1 p0 p1 held run gathered = (at : IsAt has_run a l0 l1 p0 p1 held run gathered) × HasNoLine at.taken at.given held × (length at.taken ≡ held.limit)
 IsStopped has_run Done a l0 l1 p0 p1 held run gathered = ⊥
 IsStopped has_run Refused a l0 l1 p0 p1 held run gathered = ⊥
 IsStopped has_run Usage a l0 l1 p0 p1 held run gathered = ⊥
@@ -54,17 +54,17 @@ pub record MayStop (prints : List Line → List ℕ → Type 0) (left_old left_n
   pub rest : List ℕ
   pub written : List ℕ
   pub left : left_old ≡ after taken left_new
-  pub first : AreFirst done taken left_new
+  pub first : AreFirstLines done taken left_new
   pub body : prints done (so_far ++ rest)
   pub wrote : printed_new ≡ grown printed_old written
   pub parts : so_far ≡ written ++ gathered
 
 -- a front of the whole text of some first lines
-pub record IsPart (ends_with : List Line → List ℕ → Type 0) (taken : List ℕ) (left : Option (List ℕ)) (printed : List ℕ) : Type 0 where
+pub record IsFrontOfWhole (ends_with : List Line → List ℕ → Type 0) (taken : List ℕ) (left : Option (List ℕ)) (printed : List ℕ) : Type 0 where
   pub lines : List Line
   pub whole : List ℕ
   pub more : List ℕ
-  pub first : AreFirst lines taken left
+  pub first : AreFirstLines lines taken left
   pub text : ends_with lines whole
   pub front : whole ≡ printed ++ more
 
@@ -73,9 +73,9 @@ abbrev pub EndsAs : (prints ends_with : List Line → List ℕ → Type 0) (refu
 EndsAs prints ends_with refuses accepts Done taken left printed = IsEmpty left × ends_with (lines_of taken) printed × accepts (lines_of taken) × (length taken < longest_input)
 EndsAs prints ends_with refuses accepts Refused taken left printed = IsEmpty left × ends_with (lines_of taken) printed × refuses (lines_of taken) × (length taken < longest_input)
 EndsAs prints ends_with refuses accepts ReadFault taken left printed = prints (whole_lines taken) printed × (length taken < longest_input)
-EndsAs prints ends_with refuses accepts TooLong taken left printed = prints (whole_lines taken) printed × (length taken ≡ longest_input)
-EndsAs prints ends_with refuses accepts WriteFault taken left printed = IsPart ends_with taken left printed
-EndsAs prints ends_with refuses accepts NoMemory taken left printed = IsPart ends_with taken left printed
+EndsAs prints ends_with refuses accepts InputTooLong taken left printed = prints (whole_lines taken) printed × (length taken ≡ longest_input)
+EndsAs prints ends_with refuses accepts WriteFault taken left printed = IsFrontOfWhole ends_with taken left printed
+EndsAs prints ends_with refuses accepts NoMemory taken left printed = IsFrontOfWhole ends_with taken left printed
 EndsAs prints ends_with refuses accepts Usage taken left printed = ⊥
 EndsAs prints ends_with refuses accepts BadImage taken left printed = ⊥
 
@@ -97,7 +97,7 @@ abbrev pub Comes : {P A : Type 0} → (P → A → List Line → List ℕ → Ty
 Comes has_run prints next.Line a l0 l1 p0 p1 held run gathered = IsAt has_run a l0 l1 p0 p1 held run gathered
 Comes has_run prints next.End a l0 l1 p0 p1 held run gathered = IsAtEnd has_run a l0 l1 p0 p1 held run gathered
 Comes has_run prints next.ReadFault a l0 l1 p0 p1 held run gathered = IsStopped has_run ReadFault a l0 l1 p0 p1 held run gathered
-Comes has_run prints next.TooLong a l0 l1 p0 p1 held run gathered = IsStopped has_run TooLong a l0 l1 p0 p1 held run gathered
+Comes has_run prints next.InputTooLong a l0 l1 p0 p1 held run gathered = IsStopped has_run InputTooLong a l0 l1 p0 p1 held run gathered
 Comes has_run prints next.NoMemory a l0 l1 p0 p1 held run gathered = MayStop (prints a) l0 l1 p0 p1 gathered
 
 -- a line came, and was taken or not

@@ -13,8 +13,8 @@ WorksOn {P} {A} has_run old new text_old text_new = (a : A) (given : List Line) 
     → (printed : List ℕ) × has_run new a given (so_far ++ printed) × (text_new ≡ text_old ++ printed)
 
 -- and this line was given more
-abbrev pub GoesOn : {P A : Type 0} → (P → A → List Line → List ℕ → Type 0) → P → P → List ℕ → List ℕ → Line → Type 0
-GoesOn {P} {A} has_run old new text_old text_new l = (a : A) (given : List Line) (so_far : List ℕ) → has_run old a given so_far
+abbrev pub WorksOnGiven : {P A : Type 0} → (P → A → List Line → List ℕ → Type 0) → P → P → List ℕ → List ℕ → Line → Type 0
+WorksOnGiven {P} {A} has_run old new text_old text_new l = (a : A) (given : List Line) (so_far : List ℕ) → has_run old a given so_far
     → (printed : List ℕ) × has_run new a (given ++ l ∷ []) (so_far ++ printed) × (text_new ≡ text_old ++ printed)
 
 -- what the program printed is a front of what some first lines of those that it was given print

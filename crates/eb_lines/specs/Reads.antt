@@ -6,7 +6,7 @@ use Rattle.eb_doc.specs.DocumentLine.{document_of}
 use Rattle.eb_doc.specs.declared.LineFault.{LineFault}
 use Rattle.eb_doc.specs.declared.LineFault.TheVariants as fault
 use Rattle.eb_query.specs.Reading.{Outcome, asks, bad_number, bad_query, too_deep, too_many_nodes, ReadsAs}
-use Rattle.eb_lines.specs.declared.refusal.Refusal.TheVariants.{BadLine, LongLine, BadJson, BadDocument, TooLong, BadNumber, BadQuery, TooManyNodes, TooDeep}
+use Rattle.eb_lines.specs.declared.refusal.Refusal.TheVariants.{BadLine, LongLine, BadJson, BadDocument, TooLong, BadNumber, BadQuery, QueryTooLarge, QueryTooDeep}
 use Rattle.eb_lines.specs.Reading.{Reading, blank, document, query, refused}
 use Rattle.eb_lines.specs.Kinds.{Kind, blank_line, document_line, query_line, bad_line, kind_of}
 
@@ -23,8 +23,8 @@ abbrev pub of_query : Outcome → Reading
 of_query (asks k q) = query k q
 of_query bad_number = refused BadNumber
 of_query (bad_query column) = refused (BadQuery column)
-of_query too_deep = refused TooDeep
-of_query too_many_nodes = refused TooManyNodes
+of_query too_deep = refused QueryTooDeep
+of_query too_many_nodes = refused QueryTooLarge
 
 abbrev pub ReadsByKind : Kind → List ℕ → Reading → Type 0
 ReadsByKind blank_line bytes r = r ≡ blank

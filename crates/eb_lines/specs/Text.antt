@@ -3,7 +3,7 @@ use Rattle.std.specs.Prelude.{ℕ, List, [], ◌∷◌, ◌++◌, codes, flat_ma
 use Rattle.std.specs.Fmt.{decimal}
 use Rattle.eb_lines.specs.declared.refusal.Refusal.{Refusal}
 use Rattle.eb_lines.specs.declared.refusal.Refusal.TheVariants.{BadLine, LongLine, BadJson, BadDocument, TooLong}
-use Rattle.eb_lines.specs.declared.refusal.Refusal.TheVariants.{NotRising, Full, BadNumber, BadQuery, TooManyNodes, TooDeep, NoWatch, WatchTaken, WatchesFull}
+use Rattle.eb_lines.specs.declared.refusal.Refusal.TheVariants.{NotRising, Full, BadNumber, BadQuery, QueryTooLarge, QueryTooDeep, NoWatch, WatchTaken, WatchesFull}
 
 -- each id, with a space before it
 abbrev pub spaced : List ℕ → List ℕ
@@ -29,8 +29,8 @@ refusal_name (NotRising last) = codes "not rising after " ++ decimal last
 refusal_name Full = codes "full"
 refusal_name BadNumber = codes "bad number"
 refusal_name (BadQuery column) = codes "bad query at " ++ decimal column
-refusal_name TooManyNodes = codes "query too large"
-refusal_name TooDeep = codes "query too deep"
+refusal_name QueryTooLarge = codes "query too large"
+refusal_name QueryTooDeep = codes "query too deep"
 refusal_name NoWatch = codes "no watch"
 refusal_name WatchTaken = codes "watch taken"
 refusal_name WatchesFull = codes "watches full"

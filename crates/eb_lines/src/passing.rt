@@ -60,7 +60,7 @@ pub(crate) enum Upcoming {
     Line,
     End,
     ReadFault,
-    TooLong,
+    InputTooLong,
     // A line, for which there was no memory.
     NoMemory,
 }
@@ -94,7 +94,7 @@ fn take_next<P: LineProgram, S: Source>(
         Next::LongLine => say_taken(program.take_long(text)),
         Next::End => Upcoming::End,
         Next::ReadFault => Upcoming::ReadFault,
-        Next::TooLong => Upcoming::TooLong,
+        Next::InputTooLong => Upcoming::InputTooLong,
     }
 }
 
@@ -181,7 +181,7 @@ pub fn pass_lines<P: LineProgram, S: Source, K: Sink>(
             Upcoming::Line => {}
             Upcoming::End => return close(program, &mut text, out),
             Upcoming::ReadFault => return stop(program, &mut text, out, Status::ReadFault),
-            Upcoming::TooLong => return stop(program, &mut text, out, Status::TooLong),
+            Upcoming::InputTooLong => return stop(program, &mut text, out, Status::InputTooLong),
             Upcoming::NoMemory => return give_up::<P, K>(&mut text, out),
         }
         let Ok(()) = write_much(&mut text, out) else {

@@ -1,7 +1,7 @@
 //! What a program does with the lines of an input.
 ghost use Rattle.std.specs.Prelude.{◌≡◌, ◌≤◌, ◌++◌, ◌^◌, List, [], ◌∷◌, ℕ, length, MatchResult, OnErr, OnOk, ⊤};
 ghost use Rattle.eb_io.specs.Lines.{Line, line, long_line};
-ghost use Rattle.eb_lines.specs.Programs.{IsRunning, WorksOn, GoesOn, PrintsFront, HasPrinted, Finishes};
+ghost use Rattle.eb_lines.specs.Programs.{IsRunning, WorksOn, WorksOnGiven, PrintsFront, HasPrinted, Finishes};
 
 use eb_base::NoMemory;
 
@@ -34,14 +34,14 @@ pub trait LineProgram {
     fn take_line(&mut self, bytes: &[u8], text: &mut Vec<u8>) -> Result<(), NoMemory>
         requires state { IsRunning has_run self.old }
         requires number { number self.old ≤ 2 ^ 40 }
-        ensures ok { OnOk result (GoesOn has_run self.old self.new text.old.items text.new.items (line bytes.now)) }
+        ensures ok { OnOk result (WorksOnGiven has_run self.old self.new text.old.items text.new.items (line bytes.now)) }
         ensures err { OnErr result (WorksOn has_run self.old self.new text.old.items text.new.items) };
 
     /// Takes the next line, which is a long one.
     fn take_long(&mut self, text: &mut Vec<u8>) -> Result<(), NoMemory>
         requires state { IsRunning has_run self.old }
         requires number { number self.old ≤ 2 ^ 40 }
-        ensures ok { OnOk result (GoesOn has_run self.old self.new text.old.items text.new.items long_line) }
+        ensures ok { OnOk result (WorksOnGiven has_run self.old self.new text.old.items text.new.items long_line) }
         ensures err { OnErr result (WorksOn has_run self.old self.new text.old.items text.new.items) };
 
     /// Works off what may not wait until the source gives a further line.

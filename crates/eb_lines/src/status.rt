@@ -20,7 +20,7 @@ pub enum Status {
     /// Memory ran out. It can come in any run.
     NoMemory,
     /// [`MAX_INPUT`] bytes were read without an end. Their whole lines are worked off.
-    TooLong,
+    InputTooLong,
     /// What was read is no image. It comes from a load alone; nothing was printed.
     BadImage,
 }
@@ -37,7 +37,7 @@ impl Status {
             Status::ReadFault => 3,
             Status::WriteFault => 4,
             Status::NoMemory => 5,
-            Status::TooLong => 6,
+            Status::InputTooLong => 6,
             Status::BadImage => 7,
         }
     }
@@ -54,7 +54,7 @@ impl Status {
             Status::ReadFault => b"earlybird: read fault\n",
             Status::WriteFault => b"earlybird: write fault\n",
             Status::NoMemory => b"earlybird: no memory\n",
-            Status::TooLong => b"earlybird: input too long\n",
+            Status::InputTooLong => b"earlybird: input too long\n",
             Status::BadImage => b"earlybird: bad image\n",
         }
     }

@@ -52,8 +52,8 @@ pub fn read_query_text(alloc: Global, text: &str) -> Result<Result<Frame, Refusa
         Ok((k, query)) => Ok(Ok(Frame::new(alloc, query, k)?)),
         Err(QueryFault::BadNumber) => Ok(Err(Refusal::BadNumber)),
         Err(QueryFault::BadQuery { column }) => Ok(Err(Refusal::BadQuery(column))),
-        Err(QueryFault::TooDeep) => Ok(Err(Refusal::TooDeep)),
-        Err(QueryFault::TooManyNodes) => Ok(Err(Refusal::TooManyNodes)),
+        Err(QueryFault::TooDeep) => Ok(Err(Refusal::QueryTooDeep)),
+        Err(QueryFault::TooManyNodes) => Ok(Err(Refusal::QueryTooLarge)),
         Err(QueryFault::NoMemory) => Err(NoMemory),
     }
 }

@@ -113,5 +113,5 @@ abbrev pub has : List ℕ → Items → Bool
 has flag items = list_any (λ this. bytes_eq this.0 flag && this.1) items.flags
 
 -- the number of the option, if it stands there
-abbrev pub number_of : List ℕ → Items → Option ℕ
-number_of option items = option_and_then (λ this. this.1) (find (λ this. bytes_eq this.0 option) items.numbers)
+abbrev pub option_number : List ℕ → Items → Option ℕ
+option_number option items = option_and_then (λ this. this.1) (find (λ this. bytes_eq this.0 option) items.numbers)

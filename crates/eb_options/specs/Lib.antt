@@ -4,3 +4,4 @@ pub mod Settings
 pub mod Apart
 pub mod Matches
 pub mod Views
+pub mod Faults

@@ -2,7 +2,7 @@
 use Rattle.std.specs.Prelude.{ℕ, ◌&&◌, ◌==◌, ◌+◌, ◌-◌, ◌^◌, Bool, List, [], ◌∷◌, codes, nat_le, Option, Some, None, unwrap_or, if◌then◌else◌}
 use Rattle.std.specs.List.{list_any, range_with_len}
 use Rattle.eb_base.specs.Setting.{Setting, words_of, least_power, greatest_power}
-use Rattle.eb_options.specs.Items.{Items, number_of}
+use Rattle.eb_options.specs.Items.{Items, option_number}
 
 -- the options of a setting
 abbrev pub setting_options : List (List ℕ)
@@ -24,4 +24,4 @@ allowed segments docs terms = let σ : Setting = record { segments = segments; d
 -- the setting that the items ask for; 12 segments of 4,096 documents and 8,192 terms where they don't say otherwise
 abbrev pub setting_of : Items → Option Setting
 setting_of items =
-    allowed (unwrap_or (number_of (codes "segments") items) 12) (unwrap_or (number_of (codes "docs") items) 4096) (unwrap_or (number_of (codes "terms") items) 8192)
+    allowed (unwrap_or (option_number (codes "segments") items) 12) (unwrap_or (option_number (codes "docs") items) 4096) (unwrap_or (option_number (codes "terms") items) 8192)

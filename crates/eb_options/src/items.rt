@@ -3,7 +3,7 @@ ghost use Rattle.std.specs.List.{list_any};
 ghost use Rattle.std.specs.Str.{bytes_eq};
 ghost use Rattle.clap.specs.Walk.{rows_of};
 ghost use Rattle.clap.specs.Words.{found_of, kind_of};
-ghost use Rattle.eb_options.specs.Items.{AreNames, flag_in, has, items_of, number_in, number_of, texts, with_each};
+ghost use Rattle.eb_options.specs.Items.{AreNames, flag_in, has, items_of, number_in, option_number, texts, with_each};
 ghost use Rattle.eb_options.specs.Apart.{values_in};
 ghost use Rattle.eb_options.specs.Matches.{number_at};
 ghost use Rattle.eb_options.specs.Views.{flag_view, number_view};
@@ -15,6 +15,8 @@ use clap::error::ErrorKind;
 use clap::{ArgMatches, Error};
 use eb_base::NoMemory;
 use std::alloc::Global;
+use std::error;
+use std::fmt;
 use std::marker::Model;
 
 // A flag of a command, and whether it stands in the words.
@@ -61,6 +63,22 @@ pub enum OptionFault {
     NoMemory,
 }
 
+impl fmt::Display for OptionFault {
+    ghost use Rattle.std.specs.Prelude.{Some};
+    ghost use Rattle.eb_options.specs.Faults.{option_fault_text};
+
+    ghost output = { λ fault. Some (option_fault_text fault) };
+
+    fn fmt<W: fmt::Write>(&self, f: &mut fmt::Formatter<W>) -> fmt::Result {
+        match self {
+            OptionFault::Usage => f.write_str("bad options"),
+            OptionFault::NoMemory => f.write_str("memory ran out"),
+        }
+    }
+}
+
+impl error::Error for OptionFault {}
+
 impl Items {
     /// Whether the flag stands in the words.
     pub fn has(&self, flag: &str) -> bool
@@ -76,7 +94,7 @@ impl Items {
 
     /// The number of the option, if it stands in the words.
     pub fn number(&self, option: &str) -> Option<u32>
-        ensures { result ≡ number_of option.now self.now }
+        ensures { result ≡ option_number option.now self.now }
     {
         for this in &self.numbers {
             if this.name.as_str() == option {

@@ -11,7 +11,7 @@ use Rattle.eb_blend.specs.Laws.{cut_into}
 use Rattle.eb_blend.specs.Parts.{WriterTokens, Parts, history, segments_of, few_counted, AreFronts, AllClosed, AllConverted}
 use Rattle.eb_place.specs.Room.{cut}
 use Rattle.eb_place.proofs.CutSegments.{closed_stays}
-use Rattle.eb_rounds.specs.Conversions.{converted_of}
+use Rattle.eb_rounds.specs.Conversions.{most_converted}
 use Rattle.eb_table.specs.Known.{Words}
 use Rattle.eb_parts.specs.declared.store.Store.{Store}
 use Rattle.eb_parts.specs.Stores.{Holds}
@@ -80,7 +80,7 @@ all_but_one (suc m) l f g = elim (cases_lt (suc m + 1) l) [
 ]
 
 by_numbers : (σ : Setting) (ns : List ℕ) (hs : List (List Doc)) → length ns ≡ length hs
-    → ((p : ℕ) → p < length hs → get_or ns p 0 ≡ length (cut σ (history hs p)) - 1) → ns ≡ map converted_of (begun σ hs)
+    → ((p : ℕ) → p < length hs → get_or ns p 0 ≡ length (cut σ (history hs p)) - 1) → ns ≡ map most_converted (begun σ hs)
 by_numbers σ [] [] e f = refl
 by_numbers σ [] (h ∷ hs) e f = absurd (omega (arith, e))
 by_numbers σ (n ∷ ns) [] e f = absurd (omega (arith, e))
@@ -98,16 +98,16 @@ converted_at σ hs known ns p lt fronts packed closed =
     all_but_one (get_or ns p 0) (length (cut σ (history hs p))) (λ s low. packed.each p s few (up s low)) (closed.each p lt)
 
 -- few numbers, each below another
-lower_sum : (ns : List ℕ) → sum (map converted_of ns) ≤ sum ns
+lower_sum : (ns : List ℕ) → sum (map most_converted ns) ≤ sum ns
 lower_sum [] = omega arith
-lower_sum (n ∷ ns) = omega (arith, sum_by-cons (λ (z : ℕ). z) n ns, sum_by-cons (λ (z : ℕ). z) (n - 1) (map converted_of ns), lower_sum ns)
+lower_sum (n ∷ ns) = omega (arith, sum_by-cons (λ (z : ℕ). z) n ns, sum_by-cons (λ (z : ℕ). z) (n - 1) (map most_converted ns), lower_sum ns)
 
 few_lower : (a b : ℕ) → a ≤ b → b ≤ 1024 → min a (2 ^ 32 - 1) ≡ a
 few_lower a b le few = omega (arith, le, few)
 
 pub converted_all : (s : Store) (parts : ℕ) (σ : Setting) (docs : List Doc) (known : List (List Doc)) (ns : List ℕ) (n : ℕ) → Holds s parts σ docs
     → AreFronts s.writer.histories known → AllConverted s.blend.setting known ns → AllClosed s.blend.setting s.writer.histories ns → length ns ≡ length s.blend.indexes → n ≡ few_counted ns
-    → n ≡ sum (map converted_of (begun σ (cut_into parts docs)))
+    → n ≡ sum (map most_converted (begun σ (cut_into parts docs)))
 converted_all s parts σ docs known ns n h fronts packed closed long is =
     let hs = cut_into parts docs in
     let hist : s.writer.histories ≡ hs = ap (λ (w : WriterTokens). w.histories) h.writer in
@@ -117,8 +117,8 @@ converted_all s parts σ docs known ns n h fronts packed closed long is =
     let c : AllClosed σ hs ns = subst (λ (z : Setting × List (List Doc)). AllClosed z.0 z.1 ns) (λ i. (setting i, hist i)) closed in
     let count = cut_length parts docs in
     let number : length ns ≡ length hs = long ∙ ap (λ (b : Parts). length b.indexes) h.blend ∙ h.number ∙ sym count in
-    let same : ns ≡ map converted_of (begun σ hs) = by_numbers σ ns hs number (λ i lt. converted_at σ hs known ns i lt f p c) in
+    let same : ns ≡ map most_converted (begun σ hs) = by_numbers σ ns hs number (λ i lt. converted_at σ hs known ns i lt f p c) in
     let length_is = begun_length σ hs in
     let low = sum_small (begun σ hs) (begun_small s parts σ docs h) in
     let few : sum (begun σ hs) ≤ 1024 = omega (arith, low, length_is, count, h.most) in
-    is ∙ ap few_counted same ∙ few_lower (sum (map converted_of (begun σ hs))) (sum (begun σ hs)) (lower_sum (begun σ hs)) few
+    is ∙ ap few_counted same ∙ few_lower (sum (map most_converted (begun σ hs))) (sum (begun σ hs)) (lower_sum (begun σ hs)) few

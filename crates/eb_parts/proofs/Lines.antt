@@ -20,7 +20,7 @@ use Rattle.eb_parts.specs.declared.line_run.LineRun.{LineRun}
 use Rattle.eb_parts.specs.declared.store.Store.{Store}
 use Rattle.eb_parts.specs.AcceptedInParts.{admit_in_parts}
 use Rattle.eb_parts.specs.LineRuns.{HasTaken, TakesLine}
-use Rattle.eb_parts.specs.Stores.{Holds, outcome, WithPlaced}
+use Rattle.eb_parts.specs.Stores.{Holds, document_outcome, WithPlaced}
 use Rattle.eb_parts.specs.Texts.{Asked, AreReadInParts, IsTextInParts, HasRefusalInParts, HasNoRefusalInParts, parts_line, segments_in}
 use Rattle.eb_parts.proofs.Admissions.{read_none, read_push, read_long}
 
@@ -98,17 +98,18 @@ takes_quiet old new r t0 t1 printed same none store parts stats number few asked
 -- a document line: what is put behind the text is what it comes to prints
 pub takes_document : (old new : LineRun) (d : Doc) (x : Option Refusal) (t0 t1 printed : List ℕ)
     → ((parts : ℕ) (σ : Setting) (docs : List Doc) → Holds old.store parts σ docs → WithPlaced new.store parts σ docs d x)
-    → new.parts ≡ old.parts → new.stats ≡ old.stats → new.number ≡ old.number + 1 → old.number ≤ 2 ^ 40 → new.queries ≡ old.queries → new.refused ≡ old.refused + one_if (is_refused (outcome d x))
-    → ((n : ℕ) (docs : List Doc) → printed ≡ output_of new.number n docs (outcome d x)) → t1 ≡ t0 ++ printed → TakesLine old new t0 t1 (document d)
+    → new.parts ≡ old.parts → new.stats ≡ old.stats → new.number ≡ old.number + 1 → old.number ≤ 2 ^ 40 → new.queries ≡ old.queries
+    → new.refused ≡ old.refused + one_if (is_refused (document_outcome d x))
+    → ((n : ℕ) (docs : List Doc) → printed ≡ output_of new.number n docs (document_outcome d x)) → t1 ≡ t0 ++ printed → TakesLine old new t0 t1 (document d)
 takes_document old new d x t0 t1 printed placed parts stats number few asked failed shown put = λ l reads a given so_far h.
     let p = placed a.parts a.setting (accepted h.readings) h.store in (
       printed,
-      one_more old new a given so_far printed l (document d) (outcome d x) h reads (sym p.admitted) p.holds parts stats number few
+      one_more old new a given so_far printed l (document d) (document_outcome d x) h reads (sym p.admitted) p.holds parts stats number few
           (asked_none x) failed (shown (length (accepted h.readings)) (accepted h.readings)),
       put,
     )
   where
-    asked_none : (x : Option Refusal) → new.queries ≡ old.queries + one_if (is_query (outcome d x))
+    asked_none : (x : Option Refusal) → new.queries ≡ old.queries + one_if (is_query (document_outcome d x))
     asked_none None = omega (arith, asked)
     asked_none (Some r) = omega (arith, asked)
 

@@ -2,7 +2,7 @@
 use Rattle.std.specs.Prelude.{◌≡◌, ℕ, ◌+◌, ◌^◌, ◌≤◌, List, ◌++◌, length}
 use Rattle.std.proofs.Common.{sym, ap, ◌∙◌, append_assoc}
 use Rattle.eb_io.specs.Lines.{Line}
-use Rattle.eb_lines.specs.Programs.{GoesOn, PrintsFront, prints_all}
+use Rattle.eb_lines.specs.Programs.{WorksOnGiven, PrintsFront, prints_all}
 use Rattle.eb_lines.specs.Progress.{accepted, queries, refusals, told, progress_after}
 use Rattle.eb_lines.specs.Reading.{Reading}
 use Rattle.eb_lines.specs.Reads.{Reads}
@@ -29,7 +29,7 @@ pub record HasTaken (s : LineRun) (a : Asked) (given : List Line) (so_far : List
 
 -- a line of this reading was taken, and what it prints was put behind the text
 abbrev pub TakesLine : LineRun → LineRun → List ℕ → List ℕ → Reading → Type 0
-TakesLine old new text_old text_new r = (l : Line) → Reads l r → GoesOn HasTaken old new text_old text_new l
+TakesLine old new text_old text_new r = (l : Line) → Reads l r → WorksOnGiven HasTaken old new text_old text_new l
 
 -- the lines given are those that printed
 pub taken_first : (s : LineRun) (a : Asked) (given : List Line) (so_far : List ℕ) → HasTaken s a given so_far

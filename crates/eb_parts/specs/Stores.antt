@@ -30,11 +30,11 @@ pub record Holds (s : Store) (parts : ℕ) (σ : Setting) (docs : List Doc) : Ty
   pub short : (p : ℕ) → length (cut σ (history (cut_into parts docs) p)) ≤ 64
 
 -- what a document comes to
-abbrev pub outcome : Doc → Option Refusal → Reading
-outcome d None = document d
-outcome d (Some r) = refused r
+abbrev pub document_outcome : Doc → Option Refusal → Reading
+document_outcome d None = document d
+document_outcome d (Some r) = refused r
 
 -- a document behind these was placed, or refused
 pub record WithPlaced (s : Store) (parts : ℕ) (σ : Setting) (docs : List Doc) (d : Doc) (r : Option Refusal) : Type 0 where
-  pub admitted : admit_in_parts parts σ docs (document d) ≡ outcome d r
-  pub holds : Holds s parts σ (docs ++ documents_in (outcome d r))
+  pub admitted : admit_in_parts parts σ docs (document d) ≡ document_outcome d r
+  pub holds : Holds s parts σ (docs ++ documents_in (document_outcome d r))

@@ -10,7 +10,7 @@ use Rattle.eb_lines.specs.Progress.{accepted, told}
 use Rattle.eb_lines.specs.Reading.{Reading}
 use Rattle.eb_lines.specs.Reads.{Reads}
 use Rattle.eb_place.specs.Room.{cut}
-use Rattle.eb_rounds.specs.Conversions.{converted_of}
+use Rattle.eb_rounds.specs.Conversions.{most_converted}
 use Rattle.eb_rounds.specs.Ending.{stats_line}
 use Rattle.eb_rounds.specs.LinesRead.{ComeTo, SomeRefused, NoneRefused}
 use Rattle.eb_rounds.specs.Text.{body, text}
@@ -32,7 +32,7 @@ segments_in a docs = map (λ h. length (cut a.setting h)) (cut_into a.parts docs
 
 -- where the segments are told, their line, of parts with so many segments each: of each part all but the last one are converted
 abbrev pub parts_line : Bool → List ℕ → List ℕ
-parts_line stats begun = stats_line stats (sum begun) (sum (map converted_of begun))
+parts_line stats begun = stats_line stats (sum begun) (sum (map most_converted begun))
 
 -- the answers and refusals of these lines: a query sees all documents that the lines before it added
 pub record IsBodyInParts (a : Asked) (lines : List Line) (printed : List ℕ) : Type 0 where

@@ -4,10 +4,10 @@ ghost use Rattle.eb_base.specs.Query.{Tree};
 ghost use Rattle.eb_io.specs.Lines.{Line, line, long_line};
 ghost use Rattle.eb_lines.specs.Kinds.{document_line, query_line, kind_of};
 ghost use Rattle.eb_lines.specs.Reads.{ReadsByKind};
-ghost use Rattle.eb_lines.specs.Programs.{IsRunning, GoesOn, Finishes};
+ghost use Rattle.eb_lines.specs.Programs.{IsRunning, WorksOnGiven, Finishes};
 ghost use Rattle.eb_lines.specs.Reading.{Reading, blank, document as reads_document, query, refused as is_refused};
 ghost use Rattle.eb_parts.specs.LineRuns.{HasTaken, TakesLine};
-ghost use Rattle.eb_parts.specs.Questions.{IsAsked};
+ghost use Rattle.eb_parts.specs.Questions.{AsksEachPart};
 ghost use Rattle.eb_parts.specs.Stores.{Holds};
 ghost use Rattle.eb_parts.specs.Texts.{Asked, IsTextInParts, HasRefusalInParts, HasNoRefusalInParts};
 
@@ -98,8 +98,8 @@ impl LineRun {
     ) -> Result<(), NoMemory>
         requires state { IsRunning HasTaken self.old }
         requires number { self.old.number ≤ 2 ^ 40 }
-        requires asked { (k : ℕ) × (q : Tree) × IsAsked question self.old.parts k q }
-        ensures ok { OnOk result ((k : ℕ) (q : Tree) → IsAsked question self.old.parts k q
+        requires asked { (k : ℕ) × (q : Tree) × AsksEachPart question self.old.parts k q }
+        ensures ok { OnOk result ((k : ℕ) (q : Tree) → AsksEachPart question self.old.parts k q
             → TakesLine self.old self.new text.old.items text.new.items (query k q)) }
         ensures err { OnErr result ((self.new ≡ self.old) × (text.new.items ≡ text.old.items)) }
     {
@@ -124,7 +124,7 @@ impl LineRun {
         requires state { IsRunning HasTaken self.old }
         requires number { self.old.number ≤ 2 ^ 40 }
         requires document { kind_of bytes.now ≡ document_line }
-        ensures ok { OnOk result (GoesOn HasTaken self.old self.new text.old.items text.new.items (line bytes.now)) }
+        ensures ok { OnOk result (WorksOnGiven HasTaken self.old self.new text.old.items text.new.items (line bytes.now)) }
         ensures err { OnErr result ((self.new ≡ self.old) × (text.new.items ≡ text.old.items)) }
     {
         match read_document_line(alloc, bytes)? {
@@ -164,7 +164,7 @@ impl LineRun {
     ) -> Result<(), NoMemory>
         requires state { IsRunning HasTaken self.old }
         requires number { self.old.number ≤ 2 ^ 40 }
-        ensures ok { OnOk result (GoesOn HasTaken self.old self.new text.old.items text.new.items (line bytes.now)) }
+        ensures ok { OnOk result (WorksOnGiven HasTaken self.old self.new text.old.items text.new.items (line bytes.now)) }
         ensures err { OnErr result ((self.new ≡ self.old) × (text.new.items ≡ text.old.items)) }
     {
         match line_kind(bytes) {
@@ -182,7 +182,7 @@ impl LineRun {
     pub(crate) fn take_long(&mut self, text: &mut Vec<u8>) -> Result<(), NoMemory>
         requires state { IsRunning HasTaken self.old }
         requires number { self.old.number ≤ 2 ^ 40 }
-        ensures ok { OnOk result (GoesOn HasTaken self.old self.new text.old.items text.new.items long_line) }
+        ensures ok { OnOk result (WorksOnGiven HasTaken self.old self.new text.old.items text.new.items long_line) }
         ensures err { OnErr result ((self.new ≡ self.old) × (text.new.items ≡ text.old.items)) }
     {
         self.refuse(Refusal::LongLine, text)

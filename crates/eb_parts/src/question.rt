@@ -33,8 +33,8 @@ pub(crate) fn read_question(
         }
         Err(QueryFault::BadNumber) => Ok(Err(Refusal::BadNumber)),
         Err(QueryFault::BadQuery { column }) => Ok(Err(Refusal::BadQuery(column))),
-        Err(QueryFault::TooDeep) => Ok(Err(Refusal::TooDeep)),
-        Err(QueryFault::TooManyNodes) => Ok(Err(Refusal::TooManyNodes)),
+        Err(QueryFault::TooDeep) => Ok(Err(Refusal::QueryTooDeep)),
+        Err(QueryFault::TooManyNodes) => Ok(Err(Refusal::QueryTooLarge)),
         Err(QueryFault::NoMemory) => Err(NoMemory),
     }
 }

@@ -9,7 +9,7 @@ ghost use Rattle.eb_blend.specs.Frames.{Asks, found_of, searched_of};
 ghost use Rattle.eb_blend.specs.Laws.{cut_into};
 ghost use Rattle.eb_blend.specs.Parts.{AreFronts, counted, lengths_of};
 ghost use Rattle.eb_place.specs.Room.{cut};
-ghost use Rattle.eb_rounds.specs.Conversions.{converted_of};
+ghost use Rattle.eb_rounds.specs.Conversions.{most_converted};
 ghost use Rattle.eb_parts.specs.Stores.{Holds, WithPlaced};
 
 use eb_base::{Config, Document, Gate, NoMemory};
@@ -164,7 +164,7 @@ impl Store {
         ensures segments { IfOk result (λ r. (parts : ℕ) (σ : Setting) (docs : List Doc) → Holds self.old parts σ docs
             → r.segments ≡ sum (map (λ h. length (cut σ h)) (cut_into parts docs))) }
         ensures converted { IfOk result (λ r. (parts : ℕ) (σ : Setting) (docs : List Doc) → Holds self.old parts σ docs
-            → r.converted ≡ sum (map converted_of (map (λ h. length (cut σ h)) (cut_into parts docs)))) }
+            → r.converted ≡ sum (map most_converted (map (λ h. length (cut σ h)) (cut_into parts docs)))) }
     {
         let reader = self.writer.reader(alloc, &self.blend)?;
         self.converter.meet(&self.blend, reader);

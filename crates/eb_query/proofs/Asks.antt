@@ -4,7 +4,7 @@ use Rattle.std.specs.List.{list_all}
 use Rattle.eb_base.specs.Query.{tree}
 use Rattle.eb_base.specs.declared.query.Query.{Query}
 use Rattle.eb_query.specs.Lexemes.{Placed, is_blank, lexemes}
-use Rattle.eb_query.specs.Number.{HasNumber, HasWatchNumber, digits_len, number_of, lexemes_of_line}
+use Rattle.eb_query.specs.Number.{HasQueryNumber, HasWatchNumber, digits_len, number_in_line, lexemes_of_line}
 use Rattle.eb_query.specs.Reading.{Outcome, IsOutcome, ReadsAs, with_number, asks, bad_query, too_deep, too_many_nodes}
 use Rattle.eb_query.specs.Refusal.{IsFaultOf, IsRefused, IsWatchRefused}
 use Rattle.eb_query.specs.WatchLine.{ReadsWatchAs, removes, reads, alone, with_text}
@@ -29,7 +29,7 @@ text_outcome line from o e q =
     subst (λ (ps : List Placed). p ps o) (text_lexemes line from e) (subst (p (lexemes 0 (from + 1) (drop from line))) q run)
 
 -- what the line asks, as the number is the line's
-asks_number : (line : List ℕ) (from number : ℕ) (q : Query) → from ≡ 1 + digits_len line → number ≡ number_of line
+asks_number : (line : List ℕ) (from number : ℕ) (q : Query) → from ≡ 1 + digits_len line → number ≡ number_in_line line
     → Finds line (outcome line (lexemes 0 (from + 1) (drop from line)) start) (Ok q) → IsOutcome line [] (lexemes_of_line line) (asks number (tree q))
 asks_number line from number q e n f = text_outcome line from (asks number (tree q)) e (f ∙ ap (λ (k : ℕ). asks k (tree q)) (sym n))
 
@@ -44,12 +44,12 @@ text_fault line from Holds e gives faults.TooManyNodes q = gives too_many_nodes 
 text_fault line from Holds e gives faults.NoMemory q = tt
 
 -- what a query line asks
-pub asked : (line : List ℕ) (from number : ℕ) (q : Query) → HasNumber line → from ≡ 1 + digits_len line → number ≡ number_of line
+pub asked : (line : List ℕ) (from number : ℕ) (q : Query) → HasQueryNumber line → from ≡ 1 + digits_len line → number ≡ number_in_line line
     → Finds line (outcome line (lexemes 0 (from + 1) (drop from line)) start) (Ok q) → ReadsAs line (asks number (tree q))
 asked line from number q h e n f = with_number h (asks_number line from number q e n f)
 
 -- why it is refused
-pub faulted : (line : List ℕ) (from : ℕ) → HasNumber line → from ≡ 1 + digits_len line → (f : QueryFault)
+pub faulted : (line : List ℕ) (from : ℕ) → HasQueryNumber line → from ≡ 1 + digits_len line → (f : QueryFault)
     → Finds line (outcome line (lexemes 0 (from + 1) (drop from line)) start) (Err f) → IsRefused line f
 faulted line from h e f q = text_fault line from (ReadsAs line) e (λ o r. with_number h r) f q
 
@@ -76,7 +76,7 @@ no_lexeme c (b ∷ bs) h = go (λ g. no_lexeme (suc c) bs g) _ _ (is_blank b) h
     go more p ps false k = cc
 
 -- a watch line that has no query text
-pub removed : (line : List ℕ) (from number : ℕ) → HasWatchNumber line → from ≡ 1 + digits_len line → number ≡ number_of line
+pub removed : (line : List ℕ) (from number : ℕ) → HasWatchNumber line → from ≡ 1 + digits_len line → number ≡ number_in_line line
     → list_all is_blank (drop from line) ≡ true → ReadsWatchAs line (removes number)
 removed line from number h e n b = subst (λ (k : ℕ). ReadsWatchAs line (removes k)) (sym n) (alone h (sym (text_lexemes line from e) ∙ blanks (from + 1) (drop from line) b))
 
@@ -85,7 +85,7 @@ has_text : (line : List ℕ) (from : ℕ) → from ≡ 1 + digits_len line → l
 has_text line from e b none = true≢false (sym (no_lexeme (from + 1) (drop from line) (text_lexemes line from e ∙ none)) ∙ b)
 
 -- what it sets
-pub watch_set : (line : List ℕ) (from number : ℕ) (q : Query) → HasWatchNumber line → from ≡ 1 + digits_len line → number ≡ number_of line
+pub watch_set : (line : List ℕ) (from number : ℕ) (q : Query) → HasWatchNumber line → from ≡ 1 + digits_len line → number ≡ number_in_line line
     → list_all is_blank (drop from line) ≡ false → Finds line (outcome line (lexemes 0 (from + 1) (drop from line)) start) (Ok q) → ReadsWatchAs line (reads (asks number (tree q)))
 watch_set line from number q h e n b f = with_text h (has_text line from e b) (asks_number line from number q e n f)
 

@@ -2,10 +2,10 @@
 use Rattle.std.proofs.Common.{◌≡◌, ℕ, suc, ◌≤◌, List, [], ◌∷◌, ◌++◌, length, refl, sym, ap, ◌∙◌, arith, subst, append_assoc, append-nil}
 use Rattle.eb_base.specs.Query.{Tree, word, phrase, window, since, negation, conjunction, disjunction, Trees, no_trees}
 use Rattle.eb_base.specs.Query.{trees, trees_of, and_of, or_of, size, IsFormed, AreFormed, AreSeveral, most_size}
-use Rattle.eb_query.specs.Grammar.{Lexeme, opening, closing, minus, or_word, leaf, broken, IsUnary, a_leaf, a_minus, a_group, IsAnd, last, beside, IsOr, final, either, Gives}
+use Rattle.eb_query.specs.Grammar.{Lexeme, opening, closing, minus, or_word, leaf, broken, IsUnary, a_leaf, a_minus, a_group, IsAnd, last, beside, IsOr, final, either, GivesTree}
 use Rattle.eb_query.specs.Lexemes.{Placed}
 use Rattle.eb_query.specs.Nesting.{Open, group, completed, closed, open_after, nesting, IsOpener, NestsWithin}
-use Rattle.eb_query.specs.Number.{number_of}
+use Rattle.eb_query.specs.Number.{number_in_line}
 use Rattle.eb_query.specs.Reading.{asks, IsOutcome, stands, complete}
 use Rattle.eb_query.specs.Nesting as nestings
 use Rattle.eb_query.proofs.WrittenLexemes.{unary_lexemes, part_lexemes, and_lexemes, or_lexemes, or_more_lexemes, query_lexemes}
@@ -87,7 +87,7 @@ mutual
       subst (λ (u : Tree). IsOr xs (and_of us ∷ u ∷ list ts) rest) p.2 (either b (or_more ts rest (part_lexemes v ++ (or_more_lexemes ts ++ rest)) p.0 f.1 p.1))
 
 -- the whole text gives the query
-pub query_derives : (t : Tree) → IsFormed t → Gives (query_lexemes t) t
+pub query_derives : (t : Tree) → IsFormed t → GivesTree (query_lexemes t) t
 query_derives (word t) f = (word t ∷ [], final (last a_leaf), refl)
 query_derives (phrase ts) f = (phrase ts ∷ [], final (last a_leaf), refl)
 query_derives (window ts w) f = (window ts w ∷ [], final (last a_leaf), refl)
@@ -115,10 +115,10 @@ opened (broken ∷ ls) l os i = opened ls l os i
 
 -- a text that gives a query and doesn't nest too deep has this outcome
 pub reads : (line : List ℕ) (t : Tree) → size t ≤ most_size → (before : List Lexeme) (ps : List Placed)
-    → Gives (before ++ kinds ps) t → NestsWithin (before ++ kinds ps) → IsOutcome line before ps (asks (number_of line) t)
-reads line t fits before [] g n = complete (subst (λ (ks : List Lexeme). Gives ks t) (append-nil before) g) fits
+    → GivesTree (before ++ kinds ps) t → NestsWithin (before ++ kinds ps) → IsOutcome line before ps (asks (number_in_line line) t)
+reads line t fits before [] g n = complete (subst (λ (ks : List Lexeme). GivesTree ks t) (append-nil before) g) fits
 reads line t fits before (p ∷ ps) g n =
     let e : before ++ p.lexeme ∷ kinds ps ≡ (before ++ p.lexeme ∷ []) ++ kinds ps = sym (append_assoc before (p.lexeme ∷ []) (kinds ps)) in
-    let h = subst (λ (ks : List Lexeme). Gives ks t) e g in
+    let h = subst (λ (ks : List Lexeme). GivesTree ks t) e g in
     stands (kinds ps, t, h) (λ i. let o = opened before p.lexeme [] i in let m = n (before ++ p.lexeme ∷ []) (kinds ps) e in omega arith)
     (reads line t fits (before ++ p.lexeme ∷ []) ps h (λ xs ys k. n xs ys (e ∙ k)))

@@ -4,10 +4,10 @@ use Rattle.std.proofs.lemmas.Bool.{ltb-true, and_parts}
 use Rattle.eb_base.specs.Query.{Tree, trees_of, and_of, or_of, size, IsFormed, AreFormed, IsWellFormed, leaf_of, window_of, most_size, most_reach, since}
 use Rattle.eb_text.specs.Tokens.{tokens_of}
 use Rattle.eb_query.specs.Digits.{is_no_digit, value_after}
-use Rattle.eb_query.specs.Grammar.{Lexeme, opening, closing, minus, or_word, leaf, broken, IsUnary, a_leaf, a_minus, a_group, IsAnd, last, beside, IsOr, final, either, Gives}
+use Rattle.eb_query.specs.Grammar.{Lexeme, opening, closing, minus, or_word, leaf, broken, IsUnary, a_leaf, a_minus, a_group, IsAnd, last, beside, IsOr, final, either, GivesTree}
 use Rattle.eb_query.specs.Lexemes.{Placed, is_blank, ends_run, text_lexeme, is_reach, reach_by, reach_of, window_lexeme, has_tilde, quoted_lexeme}
 use Rattle.eb_query.specs.Lexemes.{tilde_len, id_of, run_lexeme, of_leaf, quoted, bare, first, lexemes, is_quote}
-use Rattle.eb_query.specs.Number.{number_of}
+use Rattle.eb_query.specs.Number.{number_in_line}
 use Rattle.eb_query.specs.Reading.{Outcome, asks, too_many_nodes, IsOutcome, stands, cannot_stand, stands_too_deep, incomplete, large, complete}
 use Rattle.eb_query.specs.Machine.{start, sized, outcome}
 use Rattle.std.specs.List.{position_or_len, starts_with}
@@ -60,7 +60,7 @@ mutual
   or_formed (either {ls} {mid} {rest} {ts} {us} a o) s =
       let h = and_formed a s in let k = or_formed o h.1.1 in ((some_or (and_of ts) us (h.0.0, k.0.1), (h.0.0, k.0.1)), k.1)
 
-gives_formed : {ls : List Lexeme} {t : Tree} → Gives ls t → AreSound ls → IsFormed t
+gives_formed : {ls : List Lexeme} {t : Tree} → GivesTree ls t → AreSound ls → IsFormed t
 gives_formed {ls} {t} g s = subst IsFormed (sym g.2) (or_formed g.1 s).0.0
 
 sound_append : (ls : List Lexeme) (l : Lexeme) → AreSound ls → IsSound l → AreSound (ls ++ l ∷ [])
@@ -72,7 +72,7 @@ ArePlacedSound [] = Unit {0}
 ArePlacedSound (p ∷ ps) = IsSound p.lexeme × ArePlacedSound ps
 
 outcome_formed : {line : List ℕ} {before : List Lexeme} {ps : List Placed} {o : Outcome} → IsOutcome line before ps o
-    → (t : Tree) → o ≡ asks (number_of line) t → AreSound before → ArePlacedSound ps → IsWellFormed t
+    → (t : Tree) → o ≡ asks (number_in_line line) t → AreSound before → ArePlacedSound ps → IsWellFormed t
 outcome_formed (stands {before} {p} {ps} {o} c n r) t e b s = outcome_formed r t e (sound_append before p.lexeme b s.0) s.1
 outcome_formed (cannot_stand n) t e b s = cc
 outcome_formed (stands_too_deep c o n) t e b s = cc
@@ -171,13 +171,13 @@ lexemes_sound zero c (b ∷ bs) = go (is_blank b) (lexemes_sound zero (suc c) bs
     go false h i = (first_sound b bs, i)
 
 -- what the reader gives is formed well
-pub given_formed : (line : List ℕ) (c : ℕ) (bs : List ℕ) (t : Tree) → outcome line (lexemes 0 c bs) start ≡ asks (number_of line) t → IsWellFormed t
+pub given_formed : (line : List ℕ) (c : ℕ) (bs : List ℕ) (t : Tree) → outcome line (lexemes 0 c bs) start ≡ asks (number_in_line line) t → IsWellFormed t
 given_formed line c bs t e = outcome_formed (found line [] (lexemes 0 c bs) start refl) t e tt (lexemes_sound 0 c bs)
 
-pub sized_fits : (line : List ℕ) (t : Tree) → IsWellFormed t → sized line t ≡ asks (number_of line) t
+pub sized_fits : (line : List ℕ) (t : Tree) → IsWellFormed t → sized line t ≡ asks (number_in_line line) t
 sized_fits line t w = go (nat_lt most_size (size t)) refl
   where
-    go : (b : Bool) → nat_lt most_size (size t) ≡ b → cond b too_many_nodes (asks (number_of line) t) ≡ asks (number_of line) t
+    go : (b : Bool) → nat_lt most_size (size t) ≡ b → cond b too_many_nodes (asks (number_in_line line) t) ≡ asks (number_in_line line) t
     go true h = let k = ltb-true _ _ h in let l = w.within in absurd (omega arith)
     go false h = refl
 
@@ -185,5 +185,5 @@ pub sized_large : (line : List ℕ) (c : ℕ) (bs : List ℕ) (t : Tree) → out
 sized_large line c bs t e n = go (nat_lt most_size (size t)) refl
   where
     go : (b : Bool) → nat_lt most_size (size t) ≡ b → outcome line (lexemes 0 c bs) start ≡ too_many_nodes
-    go true h = e ∙ ap (λ (b : Bool). cond b too_many_nodes (asks (number_of line) t)) h
-    go false h = absurd (n (given_formed line c bs t (e ∙ ap (λ (b : Bool). cond b too_many_nodes (asks (number_of line) t)) h)))
+    go true h = e ∙ ap (λ (b : Bool). cond b too_many_nodes (asks (number_in_line line) t)) h
+    go false h = absurd (n (given_formed line c bs t (e ∙ ap (λ (b : Bool). cond b too_many_nodes (asks (number_in_line line) t)) h)))

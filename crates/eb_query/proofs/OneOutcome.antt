@@ -1,10 +1,10 @@
 -- A line has one reading.
 use Rattle.std.proofs.Common.{◌≡◌, ℕ, ◌+◌, length, ◌<◌, ◌≤◌, ◌⊎◌, inl, inr, List, [], ◌∷◌, ◌++◌, refl, sym, ap, ◌∙◌, arith}
 use Rattle.eb_base.specs.Query.{Tree, size, most_size}
-use Rattle.eb_query.specs.Grammar.{Lexeme, Gives, Continues}
+use Rattle.eb_query.specs.Grammar.{Lexeme, GivesTree, Continues}
 use Rattle.eb_query.specs.Lexemes.{Placed}
 use Rattle.eb_query.specs.Nesting.{nesting, IsOpener, most_open}
-use Rattle.eb_query.specs.Number.{number_of, HasNumber, HasWatchNumber, lexemes_of_line}
+use Rattle.eb_query.specs.Number.{number_in_line, HasQueryNumber, HasWatchNumber, lexemes_of_line}
 use Rattle.eb_query.specs.Reading.{Outcome, asks, bad_query, too_deep, too_many_nodes, IsOutcome, ReadsAs, bad_number}
 use Rattle.eb_query.specs.Reading.{without_number, with_number, stands, cannot_stand, stands_too_deep, incomplete, large, complete}
 use Rattle.eb_query.specs.WatchLine as watch
@@ -13,8 +13,8 @@ use Rattle.eb_query.proofs.Machine.{one_query}
 
 -- what the rules say at one lexeme, and at the end
 At : List ℕ → List Lexeme → List Placed → Outcome → Type 0
-At line before [] o = ((o ≡ bad_query (length line + 1)) × ((t : Tree) → Gives before t → ⊥)) ⊎ (t : Tree) × Gives before t
-    × (((o ≡ too_many_nodes) × (most_size < size t)) ⊎ ((o ≡ asks (number_of line) t) × (size t ≤ most_size)))
+At line before [] o = ((o ≡ bad_query (length line + 1)) × ((t : Tree) → GivesTree before t → ⊥)) ⊎ (t : Tree) × GivesTree before t
+    × (((o ≡ too_many_nodes) × (most_size < size t)) ⊎ ((o ≡ asks (number_in_line line) t) × (size t ≤ most_size)))
 At line before (p ∷ ps) o = ((o ≡ bad_query p.column) × (Continues (before ++ p.lexeme ∷ []) → ⊥))
     ⊎ (Continues (before ++ p.lexeme ∷ [])
     × (((o ≡ too_deep) × IsOpener p.lexeme × (most_open ≤ nesting before)) ⊎ ((IsOpener p.lexeme → nesting before < most_open) × IsOutcome line (before ++ p.lexeme ∷ []) ps o)))
@@ -41,12 +41,12 @@ end_same line before a b (inr h) (inr k) = go h.2 k.2
     s : size h.0 ≡ size k.0
     s = ap size e
 
-    go : ((a ≡ too_many_nodes) × (most_size < size h.0)) ⊎ ((a ≡ asks (number_of line) h.0) × (size h.0 ≤ most_size))
-        → ((b ≡ too_many_nodes) × (most_size < size k.0)) ⊎ ((b ≡ asks (number_of line) k.0) × (size k.0 ≤ most_size)) → a ≡ b
+    go : ((a ≡ too_many_nodes) × (most_size < size h.0)) ⊎ ((a ≡ asks (number_in_line line) h.0) × (size h.0 ≤ most_size))
+        → ((b ≡ too_many_nodes) × (most_size < size k.0)) ⊎ ((b ≡ asks (number_in_line line) k.0) × (size k.0 ≤ most_size)) → a ≡ b
     go (inl x) (inl y) = x.0 ∙ sym y.0
     go (inl x) (inr y) = let i = x.1 in let j = y.1 in absurd (omega (arith, s))
     go (inr x) (inl y) = let i = x.1 in let j = y.1 in absurd (omega (arith, s))
-    go (inr x) (inr y) = x.0 ∙ ap (asks (number_of line)) e ∙ sym y.0
+    go (inr x) (inr y) = x.0 ∙ ap (asks (number_in_line line)) e ∙ sym y.0
 
 same : (line : List ℕ) (ps : List Placed) (before : List Lexeme) (a b : Outcome) → IsOutcome line before ps a → IsOutcome line before ps b → a ≡ b
 unfolding At
@@ -69,7 +69,7 @@ same line (p ∷ ps) before a b h k = go (λ i j. same line ps (before ++ p.lexe
 
 -- what the rules say of the whole line
 Read : List ℕ → Outcome → Type 0
-Read line o = ((o ≡ bad_number) × (HasNumber line → ⊥)) ⊎ (HasNumber line × IsOutcome line [] (lexemes_of_line line) o)
+Read line o = ((o ≡ bad_number) × (HasQueryNumber line → ⊥)) ⊎ (HasQueryNumber line × IsOutcome line [] (lexemes_of_line line) o)
 
 read_as : {line : List ℕ} {o : Outcome} → ReadsAs line o → Read line o
 unfolding Read
@@ -89,7 +89,7 @@ one_outcome line a b h k = one_read line a b (read_as h) (read_as k)
 -- what the rules say of a watch line
 WatchRead : List ℕ → WatchOutcome → Type 0
 WatchRead line o = ((o ≡ reads bad_number) × (HasWatchNumber line → ⊥))
-    ⊎ (HasWatchNumber line × (((lexemes_of_line line ≡ []) × (o ≡ removes (number_of line)))
+    ⊎ (HasWatchNumber line × (((lexemes_of_line line ≡ []) × (o ≡ removes (number_in_line line)))
     ⊎ ((q : Outcome) × (lexemes_of_line line ≡ [] → ⊥) × IsOutcome line [] (lexemes_of_line line) q × (o ≡ reads q))))
 
 watch_read_as : {line : List ℕ} {o : WatchOutcome} → ReadsWatchAs line o → WatchRead line o

@@ -6,7 +6,7 @@ use Rattle.eb_base.specs.Query.{Tree, size, or_of, most_size}
 use Rattle.eb_query.specs.Grammar.{Lexeme, opening, closing, minus, or_word, leaf, broken}
 use Rattle.eb_query.specs.Lexemes.{Placed}
 use Rattle.eb_query.specs.Nesting.{Open, group, negation, completed, closed, open_after, nesting, IsOpener, most_open}
-use Rattle.eb_query.specs.Number.{number_of}
+use Rattle.eb_query.specs.Number.{number_in_line}
 use Rattle.eb_query.specs.Reading.{asks, too_many_nodes, IsOutcome, stands, cannot_stand, stands_too_deep, incomplete, large, complete}
 use Rattle.eb_query.proofs.Machine as machine
 use Rattle.eb_query.proofs.Machine.{run_append}
@@ -79,7 +79,7 @@ ended : (line : List ℕ) (before : List Lexeme) (o : Option Tree) → option_an
 ended line before None e = incomplete (λ t g. let h = machine.complete g in cc)
 ended line before (Some t) e = go (nat_lt most_size (size t)) refl
   where
-    go : (b : Bool) → nat_lt most_size (size t) ≡ b → IsOutcome line before [] (cond b too_many_nodes (asks (number_of line) t))
+    go : (b : Bool) → nat_lt most_size (size t) ≡ b → IsOutcome line before [] (cond b too_many_nodes (asks (number_in_line line) t))
     go true h = large (machine.sound before t e) (ltb-true _ _ h)
     go false h = complete (machine.sound before t e) (ltb-false _ _ h)
 

@@ -1,11 +1,11 @@
 -- The line of a number and a query reads back.
 use Rattle.std.proofs.Common.{◌≡◌, ℕ, suc, ◌+◌, ◌≤◌, List, [], ◌∷◌, ◌++◌, length, take, drop, refl, sym, ap, ◌∙◌, arith, subst, decimal}
 use Rattle.eb_base.specs.Query.{Tree, IsWellFormed}
-use Rattle.eb_query.specs.Grammar.{Lexeme, Gives}
+use Rattle.eb_query.specs.Grammar.{Lexeme, GivesTree}
 use Rattle.eb_query.specs.Nesting.{NestsWithin}
 use Rattle.eb_query.specs.Lexemes.{lexemes}
 use Rattle.eb_query.specs.Digits.{value_after}
-use Rattle.eb_query.specs.Number.{digits_len, number_of, is_blank_or_end, HasNumber, lexemes_of_line}
+use Rattle.eb_query.specs.Number.{digits_len, number_in_line, is_blank_or_end, HasQueryNumber, lexemes_of_line}
 use Rattle.eb_query.specs.Reading.{asks, IsOutcome, ReadsAs, with_number}
 use Rattle.eb_query.specs.Writing.{line_text, query_text, AreNamed}
 use Rattle.eb_query.specs.Laws.{kinds_of_line}
@@ -21,8 +21,8 @@ module _ (k : ℕ) (ds text : List ℕ) (d : IsDecimal 4 k ds) where
   unfolding digits_len
   line_digits = digits_first ds (32 ∷ text) d.digits refl
 
-  line_number : number_of (63 ∷ ds ++ 32 ∷ text) ≡ k
-  unfolding number_of
+  line_number : number_in_line (63 ∷ ds ++ 32 ∷ text) ≡ k
+  unfolding number_in_line
   line_number = ap (λ (n : ℕ). value_after 0 (take n (ds ++ 32 ∷ text))) line_digits ∙ ap (value_after 0) (front_taken ds (32 ∷ text)) ∙ d.value
 
   line_rest : drop (1 + digits_len (63 ∷ ds ++ 32 ∷ text)) (63 ∷ ds ++ 32 ∷ text) ≡ 32 ∷ text
@@ -30,7 +30,7 @@ module _ (k : ℕ) (ds text : List ℕ) (d : IsDecimal 4 k ds) where
       let e : 1 + digits_len (63 ∷ ds ++ 32 ∷ text) ≡ suc (length ds) = omega (arith, line_digits) in
       ap (λ (n : ℕ). drop n (63 ∷ ds ++ 32 ∷ text)) e ∙ front_dropped ds (32 ∷ text)
 
-  line_has : 1 ≤ k → k ≤ most_matches → HasNumber (63 ∷ ds ++ 32 ∷ text)
+  line_has : 1 ≤ k → k ≤ most_matches → HasQueryNumber (63 ∷ ds ++ 32 ∷ text)
   line_has h i = let e = line_digits in let n = line_number in let s = d.some in let f = d.few in
       record {
         up_to = record { some = omega arith; few = omega arith; within = omega arith; apart = ap is_blank_or_end line_rest };
@@ -51,5 +51,5 @@ read_back k t low high w named nests =
     let d = decimal_is 4 k (omega arith) (omega arith) (omega arith) in
     let l = line_lexemes k ds text d in
     let e : kinds (lexemes_of_line line) ≡ query_lexemes t = ap kinds l.1 ∙ written_lexemes t l.0 w.formed named in
-    let r = reads line t w.within [] (lexemes_of_line line) (subst (λ (ks : List Lexeme). Gives ks t) (sym e) (query_derives t w.formed)) nests in
+    let r = reads line t w.within [] (lexemes_of_line line) (subst (λ (ks : List Lexeme). GivesTree ks t) (sym e) (query_derives t w.formed)) nests in
     with_number (line_has k ds text d low high) (subst (λ (n : ℕ). IsOutcome line [] (lexemes_of_line line) (asks n t)) (line_number k ds text d) r)

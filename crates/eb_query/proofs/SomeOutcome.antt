@@ -3,7 +3,7 @@ use Rattle.std.proofs.Common.{◌≡◌, ℕ, ◌+◌, nat_lt, Bool, true, false
 use Rattle.std.proofs.lemmas.Bool.{ltb-true}
 use Rattle.eb_base.specs.Match.{most_matches}
 use Rattle.eb_query.specs.Lexemes.{Placed}
-use Rattle.eb_query.specs.Number.{digits_len, number_of, is_blank_or_end, HasNumberUpTo, HasNumber, HasWatchNumber, lexemes_of_line}
+use Rattle.eb_query.specs.Number.{digits_len, number_in_line, is_blank_or_end, HasNumberUpTo, HasQueryNumber, HasWatchNumber, lexemes_of_line}
 use Rattle.eb_query.specs.Reading.{Outcome, bad_number, ReadsAs, without_number, with_number}
 use Rattle.eb_query.specs.WatchLine as watch
 use Rattle.eb_query.specs.WatchLine.{WatchOutcome, ReadsWatchAs, removes, reads, alone, with_text}
@@ -12,9 +12,9 @@ use Rattle.eb_query.proofs.Outcomes.{found}
 
 has_number_up_to : (digits most : ℕ) (line : List ℕ) → HasNumberUpTo digits most line ⊎ (HasNumberUpTo digits most line → ⊥)
 has_number_up_to digits most line =
-    go (nat_lt 0 (digits_len line)) refl (nat_lt digits (digits_len line)) refl (nat_lt most (number_of line)) refl (is_blank_or_end (drop (1 + digits_len line) line)) refl
+    go (nat_lt 0 (digits_len line)) refl (nat_lt digits (digits_len line)) refl (nat_lt most (number_in_line line)) refl (is_blank_or_end (drop (1 + digits_len line) line)) refl
   where
-    go : (a : Bool) → nat_lt 0 (digits_len line) ≡ a → (b : Bool) → nat_lt digits (digits_len line) ≡ b → (c : Bool) → nat_lt most (number_of line) ≡ c
+    go : (a : Bool) → nat_lt 0 (digits_len line) ≡ a → (b : Bool) → nat_lt digits (digits_len line) ≡ b → (c : Bool) → nat_lt most (number_in_line line) ≡ c
         → (d : Bool) → is_blank_or_end (drop (1 + digits_len line) line) ≡ d → HasNumberUpTo digits most line ⊎ (HasNumberUpTo digits most line → ⊥)
     go false p b q c r d s = inr (λ h. let i = ltb-false _ _ p in let j = h.some in omega arith)
     go true p true q c r d s = inr (λ h. let i = ltb-true _ _ q in let j = h.few in omega arith)
@@ -22,10 +22,10 @@ has_number_up_to digits most line =
     go true p false q false r false s = inr (λ h. true≢false (sym h.apart ∙ s))
     go true p false q false r true s = inl (record { some = ltb-true _ _ p; few = ltb-false _ _ q; within = ltb-false _ _ r; apart = s })
 
-has_number : (line : List ℕ) → HasNumber line ⊎ (HasNumber line → ⊥)
-has_number line = go (has_number_up_to 4 most_matches line) (nat_lt 0 (number_of line)) refl
+has_number : (line : List ℕ) → HasQueryNumber line ⊎ (HasQueryNumber line → ⊥)
+has_number line = go (has_number_up_to 4 most_matches line) (nat_lt 0 (number_in_line line)) refl
   where
-    go : HasNumberUpTo 4 most_matches line ⊎ (HasNumberUpTo 4 most_matches line → ⊥) → (b : Bool) → nat_lt 0 (number_of line) ≡ b → HasNumber line ⊎ (HasNumber line → ⊥)
+    go : HasNumberUpTo 4 most_matches line ⊎ (HasNumberUpTo 4 most_matches line → ⊥) → (b : Bool) → nat_lt 0 (number_in_line line) ≡ b → HasQueryNumber line ⊎ (HasQueryNumber line → ⊥)
     go (inr n) b e = inr (λ h. n h.up_to)
     go (inl u) true e = inl (record { up_to = u; positive = ltb-true _ _ e })
     go (inl u) false e = inr (λ h. let i = ltb-false _ _ e in let j = h.positive in omega arith)
@@ -42,7 +42,7 @@ some_watch_outcome line = go (has_number_up_to 10 4294967295 line) (lexemes_of_l
   where
     go : HasWatchNumber line ⊎ (HasWatchNumber line → ⊥) → (ps : List Placed) → lexemes_of_line line ≡ ps → (o : WatchOutcome) × ReadsWatchAs line o
     go (inr n) ps e = (reads bad_number, watch.without_number n)
-    go (inl h) [] e = (removes (number_of line), alone h e)
+    go (inl h) [] e = (removes (number_in_line line), alone h e)
     go (inl h) (p ∷ ps) e =
         let some : lexemes_of_line line ≡ [] → ⊥ = λ none. cc in
         (reads (outcome line (lexemes_of_line line) start), with_text h some (found line [] (lexemes_of_line line) start refl))

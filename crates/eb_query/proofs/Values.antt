@@ -9,7 +9,7 @@ use Rattle.std.specs.Str.{IsCharBoundary}
 use Rattle.std.proofs.Common.{not}
 use Rattle.eb_query.proofs.Cuts.{rest_is, placed_at, blank_small}
 use Rattle.eb_query.specs.Digits.{value_after, is_no_digit}
-use Rattle.eb_query.specs.Number.{digits_len, number_of, is_blank_or_end}
+use Rattle.eb_query.specs.Number.{digits_len, number_in_line, is_blank_or_end}
 
 -- more than the value of n bytes
 unfoldable pub cap : ℕ → ℕ
@@ -39,8 +39,8 @@ pub digits_is : (line : List ℕ) (n : ℕ) → n ≡ position_or_len is_no_digi
 unfolding digits_len
 digits_is line n h = h ∙ ap (position_or_len is_no_digit) (rest_is line 1)
 
-pub number_is : (line : List ℕ) (n v : ℕ) → n ≡ digits_len line → v ≡ value_after 0 (take (n + 1 - 1) (drop 1 line)) → v ≡ number_of line
-unfolding number_of
+pub number_is : (line : List ℕ) (n v : ℕ) → n ≡ digits_len line → v ≡ value_after 0 (take (n + 1 - 1) (drop 1 line)) → v ≡ number_in_line line
+unfolding number_in_line
 number_is line n v e h = let f : n + 1 - 1 ≡ digits_len line = omega (arith, e) in h ∙ ap (λ (k : ℕ). value_after 0 (take k (drop 1 line))) f
 
 pub digits_within : (line : List ℕ) → 0 < length line → digits_len line + 1 ≤ length line

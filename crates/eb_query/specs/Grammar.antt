@@ -39,9 +39,9 @@ mutual
         → IsOr ls (and_of ts ∷ us) rest
 
 -- the whole list is an or, and this is what it asks
-abbrev pub Gives : List Lexeme → Tree → Type 0
-Gives ls t = (ts : List Tree) × IsOr ls ts [] × (t ≡ or_of ts)
+abbrev pub GivesTree : List Lexeme → Tree → Type 0
+GivesTree ls t = (ts : List Tree) × IsOr ls ts [] × (t ≡ or_of ts)
 
 -- some lexemes complete the list
 abbrev pub Continues : List Lexeme → Type 0
-Continues ls = (more : List Lexeme) × (t : Tree) × Gives (ls ++ more) t
+Continues ls = (more : List Lexeme) × (t : Tree) × GivesTree (ls ++ more) t

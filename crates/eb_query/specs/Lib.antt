@@ -13,3 +13,4 @@ pub mod Laws
 -- What only proofs name: the reader as a machine, and what its values stand for.
 pub mod Machine
 pub mod Views
+pub mod Faults

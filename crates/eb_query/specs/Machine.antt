@@ -4,7 +4,7 @@ use Rattle.std.specs.Prelude.{ℕ, zero, suc, ◌+◌, nat_lt, Bool, true, false
 use Rattle.eb_base.specs.Query.{Tree, negation, and_of, or_of, size, most_size}
 use Rattle.eb_query.specs.Grammar.{Lexeme, opening, closing, minus, or_word, leaf, broken}
 use Rattle.eb_query.specs.Lexemes.{Placed}
-use Rattle.eb_query.specs.Number.{number_of}
+use Rattle.eb_query.specs.Number.{number_in_line}
 use Rattle.eb_query.specs.Reading.{Outcome, asks, bad_query, too_deep, too_many_nodes}
 use Rattle.eb_query.specs.Nesting.{most_open}
 
@@ -83,7 +83,7 @@ is_deep l s = cond (is_opener l) (nat_le most_open (nest s)) false
 
 -- the outcome of a whole query
 abbrev pub sized : List ℕ → Tree → Outcome
-sized line t = cond (nat_lt most_size (size t)) too_many_nodes (asks (number_of line) t)
+sized line t = cond (nat_lt most_size (size t)) too_many_nodes (asks (number_in_line line) t)
 
 -- the outcome at the end of the line
 abbrev pub ending : List ℕ → Option Tree → Outcome

@@ -10,8 +10,8 @@ unfoldable pub digits_len : List ℕ → ℕ
 digits_len line = position_or_len is_no_digit (drop 1 line)
 
 -- the value of those digits
-unfoldable pub number_of : List ℕ → ℕ
-number_of line = value_after 0 (take (digits_len line) (drop 1 line))
+unfoldable pub number_in_line : List ℕ → ℕ
+number_in_line line = value_after 0 (take (digits_len line) (drop 1 line))
 
 -- a blank comes first, or there is no byte
 abbrev pub is_blank_or_end : List ℕ → Bool
@@ -22,13 +22,13 @@ is_blank_or_end (b ∷ bs) = is_blank b
 pub record HasNumberUpTo (most_digits most : ℕ) (line : List ℕ) : Type 0 where
   pub some : 1 ≤ digits_len line
   pub few : digits_len line ≤ most_digits
-  pub within : number_of line ≤ most
+  pub within : number_in_line line ≤ most
   pub apart : is_blank_or_end (drop (1 + digits_len line) line) ≡ true
 
 -- the number of a query line: one to four digits of a value from 1 to the most matches
-pub record HasNumber (line : List ℕ) : Type 0 where
+pub record HasQueryNumber (line : List ℕ) : Type 0 where
   pub up_to : HasNumberUpTo 4 most_matches line
-  pub positive : 1 ≤ number_of line
+  pub positive : 1 ≤ number_in_line line
 
 -- the number of a watch line: one to ten digits of a value that 32 bits hold
 abbrev pub HasWatchNumber : List ℕ → Type 0

@@ -1,10 +1,10 @@
 -- What a query line asks, or why it is refused.
 use Rattle.std.specs.Prelude.{ℕ, ◌+◌, ◌<◌, ◌≤◌, List, [], ◌∷◌, ◌++◌, length}
 use Rattle.eb_base.specs.Query.{Tree, size, most_size}
-use Rattle.eb_query.specs.Grammar.{Lexeme, Gives, Continues}
+use Rattle.eb_query.specs.Grammar.{Lexeme, GivesTree, Continues}
 use Rattle.eb_query.specs.Nesting.{nesting, IsOpener, most_open}
 use Rattle.eb_query.specs.Lexemes.{Placed}
-use Rattle.eb_query.specs.Number.{number_of, HasNumber, lexemes_of_line}
+use Rattle.eb_query.specs.Number.{number_in_line, HasQueryNumber, lexemes_of_line}
 
 -- what comes of a query line: it asks for so many matches of a query, or it is refused
 pub data Outcome : Type 0 where
@@ -30,17 +30,17 @@ pub data IsOutcome (line : List ℕ) : List Lexeme → List Placed → Outcome �
       → IsOutcome line before (p ∷ ps) too_deep
   -- the line ends, and the text isn't a query
   incomplete : {before : List Lexeme}
-      → ((t : Tree) → Gives before t → ⊥) → IsOutcome line before [] (bad_query (length line + 1))
+      → ((t : Tree) → GivesTree before t → ⊥) → IsOutcome line before [] (bad_query (length line + 1))
   -- the text is a query that is too large
   large : {before : List Lexeme} {t : Tree}
-      → Gives before t → most_size < size t → IsOutcome line before [] too_many_nodes
+      → GivesTree before t → most_size < size t → IsOutcome line before [] too_many_nodes
   -- the text is a query that is not too large
   complete : {before : List Lexeme} {t : Tree}
-      → Gives before t → size t ≤ most_size → IsOutcome line before [] (asks (number_of line) t)
+      → GivesTree before t → size t ≤ most_size → IsOutcome line before [] (asks (number_in_line line) t)
 
 -- The line, which begins with a question mark, reads as this outcome.
 pub data ReadsAs (line : List ℕ) : Outcome → Type 0 where
   -- it has no number
-  without_number : (HasNumber line → ⊥) → ReadsAs line bad_number
+  without_number : (HasQueryNumber line → ⊥) → ReadsAs line bad_number
   -- it has one, and its query text decides
-  with_number : {o : Outcome} → HasNumber line → IsOutcome line [] (lexemes_of_line line) o → ReadsAs line o
+  with_number : {o : Outcome} → HasQueryNumber line → IsOutcome line [] (lexemes_of_line line) o → ReadsAs line o

@@ -3,7 +3,7 @@ use Rattle.std.specs.Prelude.{◌≡◌, ℕ, ◌≤◌, true, false, List, map,
 use Rattle.eb_base.specs.Query.{tree, parts_of}
 use Rattle.eb_base.specs.declared.query.Query.{Query}
 use Rattle.eb_query.specs.Grammar.{Lexeme, opening, closing, minus, or_word, leaf, broken}
-use Rattle.eb_query.specs.Number.{number_of}
+use Rattle.eb_query.specs.Number.{number_in_line}
 use Rattle.eb_query.specs.Reading.{Outcome, asks, bad_query, too_deep, too_many_nodes}
 use Rattle.eb_query.specs.Machine.{Level, level, State, state, step, nest, is_deep}
 use Rattle.eb_query.specs.declared.lexeme.Lexeme as found
@@ -46,7 +46,7 @@ Steps Deep l s t = (r : State) × (step l s ≡ Some r) × (is_deep l s ≡ true
 
 -- the query text of the line has this outcome, unless memory ran out
 abbrev pub Finds : List ℕ → Outcome → Result Query QueryFault → Type 0
-Finds line o (Ok q) = o ≡ asks (number_of line) (tree q)
+Finds line o (Ok q) = o ≡ asks (number_in_line line) (tree q)
 Finds line o (Err faults.BadNumber) = ⊥
 Finds line o (Err (faults.BadQuery c)) = o ≡ bad_query c
 Finds line o (Err faults.TooDeep) = o ≡ too_deep

@@ -1,7 +1,7 @@
 -- What a watch line asks, or why it is refused.
 use Rattle.std.specs.Prelude.{◌≡◌, ℕ, List, [], Option, Some, None}
 use Rattle.eb_base.specs.Query.{Tree}
-use Rattle.eb_query.specs.Number.{number_of, HasWatchNumber, lexemes_of_line}
+use Rattle.eb_query.specs.Number.{number_in_line, HasWatchNumber, lexemes_of_line}
 use Rattle.eb_query.specs.Reading.{Outcome, asks, bad_number, IsOutcome}
 
 -- what comes of a watch line: the watch of this number is removed, or else an outcome as of a query line, where
@@ -15,7 +15,7 @@ pub data ReadsWatchAs (line : List ℕ) : WatchOutcome → Type 0 where
   -- it has no number
   without_number : (HasWatchNumber line → ⊥) → ReadsWatchAs line (reads bad_number)
   -- it has one, and nothing but blanks behind it
-  alone : HasWatchNumber line → lexemes_of_line line ≡ [] → ReadsWatchAs line (removes (number_of line))
+  alone : HasWatchNumber line → lexemes_of_line line ≡ [] → ReadsWatchAs line (removes (number_in_line line))
   -- it has one, and the query text behind it decides
   with_text : {o : Outcome} → HasWatchNumber line → (lexemes_of_line line ≡ [] → ⊥)
       → IsOutcome line [] (lexemes_of_line line) o → ReadsWatchAs line (reads o)

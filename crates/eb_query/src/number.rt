@@ -1,5 +1,5 @@
 ghost use Rattle.std.specs.Prelude.{◌≡◌, ◌+◌, ◌<◌, ◌≤◌, length, drop, IfSome, IfNone};
-ghost use Rattle.eb_query.specs.Number.{is_blank_or_end, digits_len, number_of, HasNumberUpTo, HasNumber};
+ghost use Rattle.eb_query.specs.Number.{is_blank_or_end, digits_len, number_in_line, HasNumberUpTo, HasQueryNumber};
 
 use crate::digits::{digits_at, value_of};
 use crate::lexeme::is_blank_byte;
@@ -31,7 +31,7 @@ pub fn number_up_to(line: &[u8], most_digits: usize, most: u32) -> Option<Number
     requires few { most_digits ≤ 16 }
     ensures none { IfNone result (HasNumberUpTo most_digits most line.now → ⊥) }
     ensures some { IfSome result (λ number. HasNumberUpTo most_digits most line.now) }
-    ensures value { IfSome result (λ number. number.value ≡ number_of line.now) }
+    ensures value { IfSome result (λ number. number.value ≡ number_in_line line.now) }
     ensures end { IfSome result (λ number. number.end ≡ 1 + digits_len line.now) }
 {
     let digits = digits_at(&line[1..]);
@@ -57,9 +57,9 @@ pub fn number_up_to(line: &[u8], most_digits: usize, most: u32) -> Option<Number
 /// value from 1 to [`MAX_NUMBER`], and behind them a blank or the end. Takes no memory.
 pub fn number_at(line: &[u8]) -> Option<Number>
     requires { 0 < length line.now }
-    ensures none { IfNone result (HasNumber line.now → ⊥) }
-    ensures some { IfSome result (λ number. HasNumber line.now) }
-    ensures value { IfSome result (λ number. number.value ≡ number_of line.now) }
+    ensures none { IfNone result (HasQueryNumber line.now → ⊥) }
+    ensures some { IfSome result (λ number. HasQueryNumber line.now) }
+    ensures value { IfSome result (λ number. number.value ≡ number_in_line line.now) }
     ensures end { IfSome result (λ number. number.end ≡ 1 + digits_len line.now) }
 {
     let number = number_up_to(line, 4, MAX_NUMBER)?;

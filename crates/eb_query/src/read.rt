@@ -13,6 +13,8 @@ use crate::number::number_at;
 use crate::reader::{Reader, Step};
 use eb_base::{NoMemory, Query};
 use std::alloc::Global;
+use std::error::Error;
+use std::fmt;
 
 /// Why a line is no query, or no watch. Where several hold, the number comes first, then the first lexeme from
 /// the left that fails, then the end of the line, and last the size.
@@ -36,6 +38,25 @@ pub enum QueryFault {
     /// Memory ran out, which says nothing of the line.
     NoMemory,
 }
+
+impl fmt::Display for QueryFault {
+    ghost use Rattle.std.specs.Prelude.{Some};
+    ghost use Rattle.eb_query.specs.Faults.{query_fault_text};
+
+    ghost output = { λ fault. Some (query_fault_text fault) };
+
+    fn fmt<W: fmt::Write>(&self, f: &mut fmt::Formatter<W>) -> fmt::Result {
+        match self {
+            QueryFault::BadNumber => f.write_str("bad number"),
+            QueryFault::BadQuery { column } => write!(f, "bad query at {column}"),
+            QueryFault::TooDeep => f.write_str("query too deep"),
+            QueryFault::TooManyNodes => f.write_str("query too large"),
+            QueryFault::NoMemory => f.write_str("memory ran out"),
+        }
+    }
+}
+
+impl Error for QueryFault {}
 
 impl From<NoMemory> for QueryFault {
     ghost use Rattle.std.specs.Prelude.{◌≡◌};

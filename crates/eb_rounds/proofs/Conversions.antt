@@ -9,7 +9,7 @@ use Rattle.eb_place.proofs.CutSegments.{closed_stays}
 use Rattle.eb_convert.specs.declared.conversion.Converted.{Converted}
 use Rattle.eb_convert.specs.declared.conversion.Converted.TheVariants.{One, Nothing}
 use Rattle.eb_engine.specs.Tokens.{AreClosed, ConverterToken, Converts}
-use Rattle.eb_rounds.specs.Conversions.{AreConverted, converted_of}
+use Rattle.eb_rounds.specs.Conversions.{AreConverted, most_converted}
 
 -- what is closed in a front is closed in the whole, which has no fewer segments
 front_closed : (σ : Setting) (xs ys : List Doc) (s : ℕ) → IsPrefix xs ys → s + 1 < length (cut σ xs) → length (cut σ xs) ≤ length (cut σ ys)
@@ -28,7 +28,7 @@ pub none_waits : (σ : Setting) (docs : List Doc) (n : ℕ) → length (cut σ d
 none_waits σ docs n few = record { each = λ s h. omega (arith, few, h) }
 
 -- all that can be is converted, and nothing else
-pub all_converted : (σ : Setting) (docs : List Doc) (n : ℕ) → AreConverted σ docs n → AreClosed σ docs n → n ≡ converted_of (length (cut σ docs))
+pub all_converted : (σ : Setting) (docs : List Doc) (n : ℕ) → AreConverted σ docs n → AreClosed σ docs n → n ≡ most_converted (length (cut σ docs))
 all_converted σ docs zero are closed =
     elim (cases_lt (0 + 1) (length (cut σ docs))) [ inl low ↦ (let less = are.each 0 low in omega (arith, less)) | inr high ↦ omega (arith, high) ]
 all_converted σ docs (suc k) are closed =

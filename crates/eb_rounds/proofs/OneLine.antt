@@ -7,12 +7,12 @@ use Rattle.eb_rounds.specs.declared.tasks.Asked.{Asked}
 use Rattle.eb_rounds.specs.declared.tasks.Given.{Given}
 use Rattle.eb_rounds.specs.Inputs.{HeldLine, Entry, ReadsLine, admitted_in, added}
 use Rattle.eb_rounds.specs.Works.{asked_entry, given_entry}
-use Rattle.eb_rounds.specs.Shown.{AreAnswered, AreAdded, IsRound, WorksOff, shown_text, quiet}
+use Rattle.eb_rounds.specs.Shown.{AreAnswered, AreAdded, IsRoundOfLines, WorksOff, shown_text, quiet}
 use Rattle.eb_rounds.proofs.Rounding.{answered_none, added_none}
 use Rattle.eb_rounds.proofs.Rounded.{each_asked, each_given, worked_off, few_counted, long_in}
 
 module _ (σ : Setting) (d0 d1 : List Doc) (t0 t1 : List ℕ) where
-  one_given : (e : Entry) (n f : ℕ) → AreAdded σ d0 d1 (e ∷ []) t0 t1 n f → IsRound σ d0 d1 [] (e ∷ []) t0 t1 0 n 0 f
+  one_given : (e : Entry) (n f : ℕ) → AreAdded σ d0 d1 (e ∷ []) t0 t1 n f → IsRoundOfLines σ d0 d1 [] (e ∷ []) t0 t1 0 n 0 f
   one_given e n f a = record {
     seen = d0;
     middle = t0;
@@ -23,7 +23,7 @@ module _ (σ : Setting) (d0 d1 : List Doc) (t0 t1 : List ℕ) where
     text = a.text;
   }
 
-  one_asked : (seen : List Doc) (e : Entry) (q f : ℕ) → AreAnswered d0 seen (e ∷ []) t0 t1 q f → IsPrefix seen d1 → d1 ≡ d0 → IsRound σ d0 d1 (e ∷ []) [] t0 t1 q 0 f 0
+  one_asked : (seen : List Doc) (e : Entry) (q f : ℕ) → AreAnswered d0 seen (e ∷ []) t0 t1 q f → IsPrefix seen d1 → d1 ≡ d0 → IsRoundOfLines σ d0 d1 (e ∷ []) [] t0 t1 q 0 f 0
   one_asked seen e q f a p same = record {
     seen = seen;
     middle = t1;

@@ -9,5 +9,5 @@ pub record AreConverted (σ : Setting) (docs : List Doc) (n : ℕ) : Type 0 wher
   pub each : (s : ℕ) → s + 1 < length (cut σ docs) → s < n
 
 -- how many of the segments begun are converted when all that can be is: all but the last one
-abbrev pub converted_of : ℕ → ℕ
-converted_of begun = begun - 1
+abbrev pub most_converted : ℕ → ℕ
+most_converted begun = begun - 1

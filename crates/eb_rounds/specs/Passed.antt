@@ -13,10 +13,10 @@ input_of (passed.QueryLine text) = query_line text.now
 input_of (passed.RefusedLine r) = refused_line r
 
 -- its kind
-abbrev pub kind_of : Input → Kind
-kind_of (passed.DocumentLine bytes) = DocumentLine
-kind_of (passed.QueryLine text) = QueryLine
-kind_of (passed.RefusedLine r) = RefusedLine
+abbrev pub input_kind : Input → Kind
+input_kind (passed.DocumentLine bytes) = DocumentLine
+input_kind (passed.QueryLine text) = QueryLine
+input_kind (passed.RefusedLine r) = RefusedLine
 
 -- a query line begins with `?` (63)
 abbrev pub HasMark : Input → Type 0

@@ -14,8 +14,8 @@ pub record Shown : Type 0 where
   pub line : Entry
   pub seen : ℕ
 
-abbrev pub line_of : Shown → Entry
-line_of s = s.line
+abbrev pub shown_entry : Shown → Entry
+shown_entry s = s.line
 
 -- what it prints among these documents
 abbrev pub output_in : List Doc → Shown → List ℕ
@@ -50,13 +50,13 @@ pub record WorkedOff (σ : Setting) (held : List HeldLine) (docs_old docs_new : 
   pub raw : List Entry
   pub shown : List Shown
   pub read : AllZip ReadsLine held raw
-  pub lines : map line_of shown ≡ admitted_in σ docs_old raw
-  pub docs : docs_new ≡ docs_old ++ added (map line_of shown)
+  pub lines : map shown_entry shown ≡ admitted_in σ docs_old raw
+  pub docs : docs_new ≡ docs_old ++ added (map shown_entry shown)
   pub numbers : Rises (length docs_old) shown (length docs_new)
   pub text : printed ≡ shown_text docs_new shown
-  pub documents : counts_new.documents ≡ counts_old.documents + length (added (map line_of shown))
-  pub queries : counts_new.queries ≡ counts_old.queries + count_by asks (map line_of shown)
-  pub refused : counts_new.refused ≡ counts_old.refused + count_by fails (map line_of shown)
+  pub documents : counts_new.documents ≡ counts_old.documents + length (added (map shown_entry shown))
+  pub queries : counts_new.queries ≡ counts_old.queries + count_by asks (map shown_entry shown)
+  pub refused : counts_new.refused ≡ counts_old.refused + count_by fails (map shown_entry shown)
 
 -- the lines were worked off, whatever was counted before: with so many documents, queries and refused lines more
 abbrev pub WorksOff : Setting → List HeldLine → List Doc → List Doc → List ℕ → List ℕ → ℕ → ℕ → ℕ → Type 0
@@ -76,7 +76,7 @@ need (refused r) = 68
 -- these lines without documents were worked off, over an index that held the old documents at first and the new ones at last
 pub record AreAnswered (docs_old docs_new : List Doc) (entries : List Entry) (text_old text_new : List ℕ) (answers refusals : ℕ) : Type 0 where
   pub shown : List Shown
-  pub lines : map line_of shown ≡ entries
+  pub lines : map shown_entry shown ≡ entries
   pub numbers : Rises (length docs_old) shown (length docs_new)
   pub text : text_new ≡ text_old ++ shown_text docs_new shown
   pub queries : answers ≡ count_by asks entries
@@ -94,7 +94,7 @@ pub record AreAdded (σ : Setting) (docs_old docs_new : List Doc) (entries : Lis
   pub refused : refusals ≡ count_by fails (admitted_in σ docs_old entries)
 
 -- a round of which the lines before the first document line were answered over a front of the documents that it leaves
-pub record IsRound (σ : Setting) (docs_old docs_new : List Doc) (ahead behind : List Entry) (text_old text_new : List ℕ) (answers additions first_refusals last_refusals : ℕ) : Type 0 where
+pub record IsRoundOfLines (σ : Setting) (docs_old docs_new : List Doc) (ahead behind : List Entry) (text_old text_new : List ℕ) (answers additions first_refusals last_refusals : ℕ) : Type 0 where
   pub seen : List Doc
   pub middle : List ℕ
   pub refusals : List ℕ

@@ -1,7 +1,7 @@
 ghost use Rattle.std.specs.Prelude.{◌≡◌, ◌+◌, ◌<◌, ◌≤◌, ◌↔◌, IsTrue, length};
 ghost use mathlib.Core.List.{IsPrefix};
 ghost use Rattle.eb_place.specs.Room.{cut};
-ghost use Rattle.eb_rounds.specs.Conversions.{AreConverted, converted_of};
+ghost use Rattle.eb_rounds.specs.Conversions.{AreConverted, most_converted};
 
 use eb_convert::Converted;
 use eb_engine::{Converter, Index, Writer};
@@ -59,7 +59,7 @@ pub fn close(index: &Index, writer: &mut Writer, converter: &mut Converter) -> S
     ensures index { converter.new.index ≡ converter.old.index }
     ensures told { IsPrefix writer.new.docs converter.new.docs }
     ensures segments { result.segments ≡ length (cut index.now.setting writer.new.docs) }
-    ensures converted { result.converted ≡ converted_of (length (cut index.now.setting writer.new.docs)) }
+    ensures converted { result.converted ≡ most_converted (length (cut index.now.setting writer.new.docs)) }
     ensures counted { converter.new.converted ≡ result.converted }
 {
     catch_up(index, writer, converter);

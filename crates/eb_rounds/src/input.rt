@@ -1,5 +1,5 @@
 ghost use Rattle.std.specs.Prelude.{◌≡◌};
-ghost use Rattle.eb_rounds.specs.Passed.{kind_of};
+ghost use Rattle.eb_rounds.specs.Passed.{input_kind};
 
 use eb_lines::Refusal;
 
@@ -28,7 +28,7 @@ pub enum Kind {
 impl<'a> Input<'a> {
     /// Its kind. Takes no memory.
     pub fn kind(&self) -> Kind
-        ensures { result ≡ kind_of self.now }
+        ensures { result ≡ input_kind self.now }
     {
         match self {
             Input::DocumentLine(_) => Kind::DocumentLine,

@@ -4,7 +4,7 @@ ghost use Rattle.std.specs.List.{AllZip};
 ghost use mathlib.Core.List.{IsPrefix};
 ghost use Rattle.eb_rounds.specs.Conversions.{AreConverted};
 ghost use Rattle.eb_rounds.specs.Inputs.{ReadsLine, document_line, query_line, refused_line};
-ghost use Rattle.eb_rounds.specs.Passed.{input_of, kind_of, HasMark, alone};
+ghost use Rattle.eb_rounds.specs.Passed.{input_of, input_kind, HasMark, alone};
 ghost use Rattle.eb_rounds.specs.Takes.{takes_kind};
 ghost use Rattle.eb_rounds.specs.Shown.{WorkedOff};
 ghost use Rattle.eb_rounds.specs.Standing.{Standing, documents_held, queries_held, no_counts, with_held, with_counts};
@@ -129,7 +129,7 @@ impl Rounds {
     /// Holds a line of the input, whose number is above those that were put before. A query line begins with `?`. Where
     /// memory doesn't suffice, nothing is held more.
     pub fn put(&mut self, number: u64, line: Input<'_>) -> Result<(), NoMemory>
-        requires takes { takes_kind self.old.held (kind_of line) ≡ true }
+        requires takes { takes_kind self.old.held (input_kind line) ≡ true }
         requires number { self.old.greatest < number }
         requires question_mark { HasMark line }
         ensures ok { OnOk result (self.new ≡ with_held self.old number (input_of line.entry)) }

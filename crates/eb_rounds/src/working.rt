@@ -2,7 +2,7 @@ ghost use Rattle.std.specs.Prelude.{◌≡◌, ◌+◌, ◌*◌, ◌≤◌, ◌^
 ghost use Rattle.std.specs.List.{list_any};
 ghost use mathlib.Core.List.{IsPrefix};
 ghost use Rattle.eb_rounds.specs.Conversions.{AreConverted};
-ghost use Rattle.eb_rounds.specs.Shown.{AreAnswered, AreAdded, IsRound};
+ghost use Rattle.eb_rounds.specs.Shown.{AreAnswered, AreAdded, IsRoundOfLines};
 ghost use Rattle.eb_rounds.specs.Works.{asked_entry, asked_need, is_answer, is_add, given_entry};
 
 use crate::adding::add_all;
@@ -166,7 +166,7 @@ fn work_round<R: Threads + Sync, G: Gate + Sync>(
     requires text { vec_len text.old + (sum_by asked_need asked.old + 68 * length given.now) ≤ vec_capacity text.old }
     requires refusals { (refusals.old.items ≡ []) × (vec_len refusals.old ≡ 0) × (68 * length given.now ≤ vec_capacity refusals.old) }
     ensures index { writer.new.index ≡ writer.old.index }
-    ensures round { IsRound index.now.setting writer.old.docs writer.new.docs
+    ensures round { IsRoundOfLines index.now.setting writer.old.docs writer.new.docs
         (map asked_entry asked.old) (map given_entry given.now) text.old.items text.new.items
         result.1.0 result.0.0 result.1.1 result.0.1 }
 {
@@ -207,7 +207,7 @@ fn convert_beside<R: Threads + Sync, G: Gate + Sync>(
     ensures converter { converter.new.index ≡ converter.old.index }
     ensures grown { converter.old.converted ≤ converter.new.converted }
     ensures converted { AreConverted index.now.setting converter.old.docs converter.new.converted }
-    ensures round { IsRound index.now.setting writer.old.docs writer.new.docs
+    ensures round { IsRoundOfLines index.now.setting writer.old.docs writer.new.docs
         (map asked_entry asked.old) (map given_entry given.now) text.old.items text.new.items
         result.1.0 result.0.0 result.1.1 result.0.1 }
 {
@@ -245,7 +245,7 @@ pub(crate) fn work_and_convert<R: Threads + Sync, G: Gate + Sync>(
     ensures converter { converter.new.index ≡ converter.old.index }
     ensures grown { converter.old.converted ≤ converter.new.converted }
     ensures converted { AreConverted index.now.setting writer.old.docs converter.new.converted }
-    ensures round { IsRound index.now.setting writer.old.docs writer.new.docs
+    ensures round { IsRoundOfLines index.now.setting writer.old.docs writer.new.docs
         (map asked_entry asked.old) (map given_entry given.now) text.old.items text.new.items
         result.1.0 result.0.0 result.1.1 result.0.1 }
 {

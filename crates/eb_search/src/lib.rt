@@ -8,6 +8,3 @@ mod visible;
 mod walking;
 
 pub use searching::{search, search_on};
-
-#[cfg(test)]
-mod tests;

@@ -11,7 +11,7 @@ use Rattle.eb_place.specs.Placing.{Store, pairs_of, placing, doc_stores}
 use Rattle.eb_place.specs.Moments.{placings, document_stores, empty_moment}
 use Rattle.eb_place.specs.NextStores.{stores_done, IsCurrent}
 use Rattle.eb_place.proofs.WordsAtMoment.{placings_push}
-use Rattle.eb_writer.specs.Progress.{Progress, Stands}
+use Rattle.eb_writer.specs.Progress.{PlacerProgress, PlacerStands}
 use Rattle.eb_writer.specs.Storing.{IsAccepted}
 use Rattle.eb_trials.specs.Added.{HasAdded, Holds}
 use Rattle.eb_trials.specs.Grown.{AreLeft}
@@ -19,12 +19,12 @@ use Rattle.eb_trials.specs.Recorded.{IsRecord}
 use Rattle.eb_trials.specs.declared.recording.RecordingPen.{RecordingPen}
 
 -- none is added yet
-pub none_added : {S : Type 0} (stands : S → Moment → Type 0) (s : S) (p : Progress) (m : Moment) → stands s m → Stands p m → HasAdded stands s p m []
+pub none_added : {S : Type 0} (stands : S → Moment → Type 0) (s : S) (p : PlacerProgress) (m : Moment) → stands s m → PlacerStands p m → HasAdded stands s p m []
 none_added stands s p m h k = record { moment = m; port = h; placer = k; setting = refl; accepted = sym (append-nil m.documents.accepted) }
 
 -- one more is
-pub one_added : {S : Type 0} (stands : S → Moment → Type 0) (s t : S) (p q : Progress) (m n : Moment) (docs : List Doc) (d : Doc)
-    → (a : HasAdded stands s p m docs) → stands t n → IsAccepted a.moment n d → Stands q n → HasAdded stands t q m (docs ++ d ∷ [])
+pub one_added : {S : Type 0} (stands : S → Moment → Type 0) (s t : S) (p q : PlacerProgress) (m n : Moment) (docs : List Doc) (d : Doc)
+    → (a : HasAdded stands s p m docs) → stands t n → IsAccepted a.moment n d → PlacerStands q n → HasAdded stands t q m (docs ++ d ∷ [])
 one_added stands s t p q m n docs d a h is k = record {
   moment = n;
   port = h;
@@ -70,7 +70,7 @@ left_behind m σ docs d left h is room e = record {
 }
 
 -- what a pen recorded of a history with one document more is left of its placing, where words hold the history
-pub left_for : (m : Moment) (σ : Setting) (docs : List Doc) (d : Doc) (x y : RecordingPen) (p : Progress) (n : ℕ) (stores : List (ℕ × ℕ)) (after : Moment)
+pub left_for : (m : Moment) (σ : Setting) (docs : List Doc) (d : Doc) (x y : RecordingPen) (p : PlacerProgress) (n : ℕ) (stores : List (ℕ × ℕ)) (after : Moment)
     → (a : HasAdded IsRecord x p (empty_moment σ) docs) → HasRoom a.moment.setting a.moment.documents.accepted d → IsAccepted a.moment after d → IsRecord y after
     → x.has_lost ≡ false → y.has_lost ≡ false → n ≡ length x.stores.items → stores ≡ y.stores.items → IsDocument d → Holds m σ docs → AreLeft m d (drop n stores)
 left_for m σ docs d x y p n stores after a room is r none still e f k h =

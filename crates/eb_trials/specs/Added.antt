@@ -3,15 +3,15 @@ use Rattle.std.specs.Prelude.{◌≡◌, ◌≤◌, ℕ, List, ◌++◌, length,
 use Rattle.eb_base.specs.Document.{Doc}
 use Rattle.eb_base.specs.Setting.{Setting}
 use Rattle.eb_place.specs.declared.moment.Moment.{Moment}
-use Rattle.eb_writer.specs.Progress.{Progress, Stands}
+use Rattle.eb_writer.specs.Progress.{PlacerProgress, PlacerStands}
 use Rattle.eb_cursor.specs.Accepted.{accepted_in}
 
 -- the port stands for a moment of the same setting with these documents accepted behind those of the first,
 -- and so does the placer
-pub record HasAdded {S : Type 0} (stands : S → Moment → Type 0) (s : S) (p : Progress) (m : Moment) (docs : List Doc) : Type 0 where
+pub record HasAdded {S : Type 0} (stands : S → Moment → Type 0) (s : S) (p : PlacerProgress) (m : Moment) (docs : List Doc) : Type 0 where
   pub moment : Moment
   pub port : stands s moment
-  pub placer : Stands p moment
+  pub placer : PlacerStands p moment
   pub setting : m.setting ≡ moment.setting
   pub accepted : moment.documents.accepted ≡ m.documents.accepted ++ docs
 

@@ -5,6 +5,7 @@ mod chains;
 mod cursors;
 mod dictionary;
 mod fullest;
+mod gates;
 mod leaps;
 mod made;
 mod packing;

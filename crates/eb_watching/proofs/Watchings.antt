@@ -12,13 +12,13 @@ use Rattle.eb_base.specs.Setting.{Setting}
 use Rattle.eb_engine.specs.Tokens.{Token}
 use Rattle.eb_io.specs.Lines.{Line}
 use Rattle.eb_place.specs.Room.{cut, has_room}
-use Rattle.eb_rounds.specs.Conversions.{converted_of}
+use Rattle.eb_rounds.specs.Conversions.{most_converted}
 use Rattle.eb_rounds.specs.Ending.{stats_line, stats_of}
 use Rattle.eb_lines.specs.Reading.{blank, document, query, refused}
 use Rattle.eb_lines.specs.declared.refusal.Refusal.{Refusal}
 use Rattle.eb_lines.specs.declared.refusal.Refusal.TheVariants.{Full, NoWatch, WatchTaken, WatchesFull}
 use Rattle.eb_lines.specs.Progress.{accepted, queries, refusals, is_query, is_refused, one_if, progress_after}
-use Rattle.eb_lines.specs.Programs.{IsRunning, WorksOn, GoesOn, Finishes}
+use Rattle.eb_lines.specs.Programs.{IsRunning, WorksOn, WorksOnGiven, Finishes}
 use Rattle.eb_lines.specs.Text.{answer_line, refusal_line, watch_line, summary_of}
 use Rattle.eb_lines.proofs.Advancing.{count_push}
 use Rattle.eb_watch.specs.Seen.{watches_of}
@@ -127,7 +127,7 @@ watching_on old new t0 t1 index writer converter watches stats number asked fail
 pub watching_at : (s : Watching) (t0 t1 : List ℕ) → t1 ≡ t0 → WorksOn HasWatched s s t0 t1
 watching_at s t0 t1 text = watching_on s s t0 t1 refl refl refl refl refl refl refl refl text
 
-pub watching_line : (old new : Watching) (t0 t1 : List ℕ) (l : Line) (r : WatchedReading) → ReadsWatched l r → TakesLine old new t0 t1 r → GoesOn HasWatched old new t0 t1 l
+pub watching_line : (old new : Watching) (t0 t1 : List ℕ) (l : Line) (r : WatchedReading) → ReadsWatched l r → TakesLine old new t0 t1 r → WorksOnGiven HasWatched old new t0 t1 l
 watching_line old new t0 t1 l r reads takes = λ a given so_far h. takes a given so_far l h reads
 
 -- ---- the kinds of lines
@@ -308,7 +308,7 @@ stays_err (Err x) s t0 t1 e = watching_at s t0 t1 e
 pub watching_ends : (s : Watching) (t0 t1 : List ℕ) (documents begun converted : ℕ) (a : Asked) (given : List Line) (so_far : List ℕ) (h : HasWatched s a given so_far)
     → documents ≡ length s.writer.docs
     → t1 ≡ t0 ++ (summary_of documents s.queries s.refused ++ stats_line s.stats begun converted)
-    → begun ≡ length (cut s.index.setting s.writer.docs) → converted ≡ converted_of (length (cut s.index.setting s.writer.docs))
+    → begun ≡ length (cut s.index.setting s.writer.docs) → converted ≡ most_converted (length (cut s.index.setting s.writer.docs))
     → Finishes HasWatched IsWatchText HasWatchRefusal HasNoWatchRefusal s t0 t1 s.refused a given so_far
 unfolding progress_after
 watching_ends s t0 t1 documents begun converted a given so_far h count put is_begun is_converted =
@@ -321,7 +321,7 @@ watching_ends s t0 t1 documents begun converted a given so_far h count put is_be
       whole = record { readings = h.readings; read = h.read; bytes = ap (λ b. b ++ last) h.printed };
       text = put ∙ ap (λ b. t0 ++ b) (ap₂ (λ x y. x ++ y)
           (ap₂ (λ n q. summary_of n q s.refused) (count ∙ ap length h.holds.documents) h.queries ∙ ap (λ r. summary_of (length ds) (queries (plains h.readings)) r) h.refused)
-          (ap₂ (λ b c. stats_line s.stats b c) (is_begun ∙ cuts) (is_converted ∙ ap converted_of cuts) ∙ ap (λ st. stats_of st a.setting ds) h.stats));
+          (ap₂ (λ b c. stats_line s.stats b c) (is_begun ∙ cuts) (is_converted ∙ ap most_converted cuts) ∙ ap (λ st. stats_of st a.setting ds) h.stats));
       some = λ n e. (h.readings, h.read, omega (arith, e, h.refused));
       none = λ e. (h.readings, h.read, sym h.refused ∙ e);
     }

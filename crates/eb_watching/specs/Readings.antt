@@ -5,7 +5,7 @@ use Rattle.eb_base.specs.Query.{Tree}
 use Rattle.eb_io.specs.Lines.{Line, line, long_line}
 use Rattle.eb_lines.specs.Reading.{Reading, blank, refused}
 use Rattle.eb_lines.specs.Reads.{Reads}
-use Rattle.eb_lines.specs.declared.refusal.Refusal.TheVariants.{LongLine, BadNumber, BadQuery, TooManyNodes, TooDeep}
+use Rattle.eb_lines.specs.declared.refusal.Refusal.TheVariants.{LongLine, BadNumber, BadQuery, QueryTooLarge, QueryTooDeep}
 use Rattle.eb_query.specs.Reading.{Outcome, asks, bad_number, bad_query, too_deep, too_many_nodes}
 use Rattle.eb_query.specs.WatchLine.{WatchOutcome, removes, reads, ReadsWatchAs}
 
@@ -31,8 +31,8 @@ abbrev pub of_watch_text : Outcome → WatchedReading
 of_watch_text (asks n q) = set_watch n q
 of_watch_text bad_number = plain (refused BadNumber)
 of_watch_text (bad_query column) = plain (refused (BadQuery column))
-of_watch_text too_deep = plain (refused TooDeep)
-of_watch_text too_many_nodes = plain (refused TooManyNodes)
+of_watch_text too_deep = plain (refused QueryTooDeep)
+of_watch_text too_many_nodes = plain (refused QueryTooLarge)
 
 abbrev pub of_watch_line : WatchOutcome → WatchedReading
 of_watch_line (removes n) = remove_watch n

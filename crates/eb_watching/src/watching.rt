@@ -5,7 +5,7 @@ ghost use Rattle.eb_base.specs.Match.{answer};
 ghost use Rattle.eb_base.specs.Query.{tree, IsWellFormed};
 ghost use Rattle.eb_cursor.specs.Frames.{query_of, k_of, ids_of};
 ghost use Rattle.eb_io.specs.Lines.{Line, line, long_line};
-ghost use Rattle.eb_lines.specs.Programs.{IsRunning, WorksOn, GoesOn, Finishes};
+ghost use Rattle.eb_lines.specs.Programs.{IsRunning, WorksOn, WorksOnGiven, Finishes};
 ghost use Rattle.eb_lines.specs.Reading.{blank, document as reads_document, query, refused as is_refused};
 ghost use Rattle.eb_lines.specs.Text.{refusal_line};
 ghost use Rattle.eb_lines.specs.Works.{reading_of};
@@ -264,8 +264,8 @@ impl Watching {
             Ok((number, None)) => self.remove(number, text),
             Err(QueryFault::BadNumber) => self.refuse(Refusal::BadNumber, text),
             Err(QueryFault::BadQuery { column }) => self.refuse(Refusal::BadQuery(column), text),
-            Err(QueryFault::TooDeep) => self.refuse(Refusal::TooDeep, text),
-            Err(QueryFault::TooManyNodes) => self.refuse(Refusal::TooManyNodes, text),
+            Err(QueryFault::TooDeep) => self.refuse(Refusal::QueryTooDeep, text),
+            Err(QueryFault::TooManyNodes) => self.refuse(Refusal::QueryTooLarge, text),
             Err(QueryFault::NoMemory) => Err(NoMemory),
         }
     }
@@ -280,7 +280,7 @@ impl Watching {
         requires state { IsRunning HasWatched self.old }
         requires number { self.old.number ≤ 2 ^ 40 }
         requires mark { slice_get bytes.now 0 ≡ Some 33 }
-        ensures ok { OnOk result (GoesOn HasWatched self.old self.new text.old.items text.new.items (line bytes.now)) }
+        ensures ok { OnOk result (WorksOnGiven HasWatched self.old self.new text.old.items text.new.items (line bytes.now)) }
         ensures err { OnErr result (WorksOn HasWatched self.old self.new text.old.items text.new.items) }
     {
         let Ok(watch) = str::from_utf8(bytes) else {
@@ -300,7 +300,7 @@ impl Watching {
         requires state { IsRunning HasWatched self.old }
         requires number { self.old.number ≤ 2 ^ 40 }
         requires mark { slice_get bytes.now 0 ≡ Some 33 → ⊥ }
-        ensures ok { OnOk result (GoesOn HasWatched self.old self.new text.old.items text.new.items (line bytes.now)) }
+        ensures ok { OnOk result (WorksOnGiven HasWatched self.old self.new text.old.items text.new.items (line bytes.now)) }
         ensures err { OnErr result (WorksOn HasWatched self.old self.new text.old.items text.new.items) }
     {
         let work = read_line(alloc, bytes)?;
@@ -318,7 +318,7 @@ impl Watching {
     ) -> Result<(), NoMemory>
         requires state { IsRunning HasWatched self.old }
         requires number { self.old.number ≤ 2 ^ 40 }
-        ensures ok { OnOk result (GoesOn HasWatched self.old self.new text.old.items text.new.items (line bytes.now)) }
+        ensures ok { OnOk result (WorksOnGiven HasWatched self.old self.new text.old.items text.new.items (line bytes.now)) }
         ensures err { OnErr result (WorksOn HasWatched self.old self.new text.old.items text.new.items) }
     {
         match bytes.first() {
@@ -331,7 +331,7 @@ impl Watching {
     pub(crate) fn take_long(&mut self, text: &mut Vec<u8>) -> Result<(), NoMemory>
         requires state { IsRunning HasWatched self.old }
         requires number { self.old.number ≤ 2 ^ 40 }
-        ensures ok { OnOk result (GoesOn HasWatched self.old self.new text.old.items text.new.items long_line) }
+        ensures ok { OnOk result (WorksOnGiven HasWatched self.old self.new text.old.items text.new.items long_line) }
         ensures err { OnErr result (WorksOn HasWatched self.old self.new text.old.items text.new.items) }
     {
         self.refuse(Refusal::LongLine, text)

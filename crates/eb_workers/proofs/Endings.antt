@@ -6,7 +6,7 @@ use Rattle.eb_lines.specs.Reading.{Reading}
 use Rattle.eb_lines.specs.Progress.{accepted, queries, refusals, progress_after}
 use Rattle.eb_lines.specs.Text.{summary_of}
 use Rattle.eb_place.specs.Room.{cut}
-use Rattle.eb_rounds.specs.Conversions.{converted_of}
+use Rattle.eb_rounds.specs.Conversions.{most_converted}
 use Rattle.eb_rounds.specs.Ending.{stats_line, stats_of}
 use Rattle.eb_rounds.specs.LinesRead.{HasRefusal, HasNoRefusal}
 use Rattle.eb_rounds.specs.Text.{body, body_from, summary}
@@ -42,14 +42,14 @@ summary_is rs d q r e f g = ap₂ (λ x y. summary_of x y r) e f ∙ ap (summary
 
 pub served_ends : (s : Serving) (t0 t1 : List ℕ) (documents begun converted : ℕ) (a : Asked) (given : List Line) (so_far : List ℕ)
     → t1 ≡ t0 ++ (summary_of documents s.queries s.refused ++ stats_line s.stats begun converted) → documents ≡ length s.office.writer.docs
-    → begun ≡ length (cut s.office.index.now.setting s.office.writer.docs) → converted ≡ converted_of (length (cut s.office.index.now.setting s.office.writer.docs)) → s.waiting.items ≡ []
+    → begun ≡ length (cut s.office.index.now.setting s.office.writer.docs) → converted ≡ most_converted (length (cut s.office.index.now.setting s.office.writer.docs)) → s.waiting.items ≡ []
     → HasServed s a given so_far → Finishes HasServed IsWorkersText (λ x. HasRefusal x.setting) (λ x. HasNoRefusal x.setting) s t0 t1 s.refused a given so_far
 served_ends s t0 t1 documents begun converted a given so_far put count segments packed none h =
     let rs = h.done ++ h.ahead in
     let cuts : length (cut s.office.index.now.setting s.office.writer.docs) ≡ length (cut a.setting (accepted rs)) = ap₂ (λ σ ds. length (cut σ ds)) h.setting h.documents in
     let same : summary_of documents s.queries s.refused ++ stats_line s.stats begun converted ≡ end_of a rs =
     ap₂ (λ x y. x ++ y) (summary_is rs documents s.queries s.refused (count ∙ ap length h.documents) h.queries h.refused)
-    (ap₂ (λ x y. stats_line s.stats x y) (segments ∙ cuts) (packed ∙ ap converted_of cuts) ∙ ap (λ x. stats_of x a.setting (accepted rs)) h.stats) in
+    (ap₂ (λ x y. stats_line s.stats x y) (segments ∙ cuts) (packed ∙ ap most_converted cuts) ∙ ap (λ x. stats_of x a.setting (accepted rs)) h.stats) in
     record {
       printed = end_of a rs;
       whole =

@@ -9,7 +9,7 @@ use Rattle.eb_cursor.specs.declared.frame.Frame.{Frame}
 use Rattle.eb_cursor.specs.Frames.{query_of, k_of, ids_of}
 use Rattle.eb_engine.specs.Tokens.{Token}
 use Rattle.eb_io.specs.Lines.{Line}
-use Rattle.eb_lines.specs.Programs.{IsRunning, WorksOn, GoesOn}
+use Rattle.eb_lines.specs.Programs.{IsRunning, WorksOn, WorksOnGiven}
 use Rattle.eb_lines.specs.Reading.{Reading}
 use Rattle.eb_lines.specs.Reads.{Reads}
 use Rattle.eb_lines.specs.Progress.{documents_in, accepted, queries, refusals, is_query, is_refused, one_if}
@@ -69,7 +69,7 @@ on_on old mid new t0 t1 t2 f g = λ a given so_far h.
     let y = g a given (so_far ++ x.0) x.1 in
     (x.0 ++ y.0, subst (HasServed new a given) (append_assoc so_far x.0 y.0) y.1, y.2 ∙ ap (λ t. t ++ y.0) x.2 ∙ append_assoc t0 x.0 y.0)
 
-pub on_line : (old mid new : Serving) (t0 t1 : List ℕ) (l : Line) (r : Reading) → WorksOn HasServed old mid t0 t1 → TakesLine mid new r → Reads l r → GoesOn HasServed old new t0 t1 l
+pub on_line : (old mid new : Serving) (t0 t1 : List ℕ) (l : Line) (r : Reading) → WorksOn HasServed old mid t0 t1 → TakesLine mid new r → Reads l r → WorksOnGiven HasServed old new t0 t1 l
 on_line old mid new t0 t1 l r f g reads = λ a given so_far h.
     let x = f a given so_far h in (x.0, g a given (so_far ++ x.0) l x.1 reads, x.2)
 

@@ -2,7 +2,7 @@
 ghost use Rattle.std.specs.Prelude.{◌≡◌, ◌+◌, length, MatchOption, ⊤};
 ghost use mathlib.Core.List.{IsPrefix};
 ghost use Rattle.eb_place.specs.Room.{cut};
-ghost use Rattle.eb_rounds.specs.Conversions.{converted_of};
+ghost use Rattle.eb_rounds.specs.Conversions.{most_converted};
 ghost use Rattle.eb_serve.specs.Jobs.{answerer};
 ghost use Rattle.eb_serve.specs.Rule.{IsAbove};
 
@@ -136,7 +136,7 @@ impl Office<'_> {
         ensures clerk { self.new.clerk ≡ self.old.clerk }
         ensures writer { self.new.writer ≡ self.old.writer }
         ensures segments { result.segments ≡ length (cut self.old.index.now.setting self.old.writer.docs) }
-        ensures converted { result.converted ≡ converted_of (length (cut self.old.index.now.setting self.old.writer.docs)) }
+        ensures converted { result.converted ≡ most_converted (length (cut self.old.index.now.setting self.old.writer.docs)) }
     {
         close(self.index, &mut self.writer, &mut self.converter)
     }

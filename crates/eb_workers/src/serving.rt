@@ -3,7 +3,7 @@ ghost use Rattle.std.specs.Prelude.{◌≡◌, ◌+◌, ◌<◌, ◌≤◌, ◌^
 ghost use Rattle.std.specs.VecDeque.{deque_len, deque_capacity};
 ghost use Rattle.eb_cursor.specs.Frames.{query_of, k_of};
 ghost use Rattle.eb_io.specs.Lines.{Line, line, long_line};
-ghost use Rattle.eb_lines.specs.Programs.{IsRunning, WorksOn, GoesOn, Finishes};
+ghost use Rattle.eb_lines.specs.Programs.{IsRunning, WorksOn, WorksOnGiven, Finishes};
 ghost use Rattle.eb_lines.specs.Reading.{blank, document as reads_document, query as reads_query, refused as is_refused};
 ghost use Rattle.eb_base.specs.Query.{tree};
 ghost use Rattle.eb_lines.specs.Works.{reading_of};
@@ -326,7 +326,7 @@ impl<'a> Serving<'a> {
     ) -> Result<(), NoMemory>
         requires running { IsRunning HasServed self.old }
         requires number { self.old.number ≤ 2 ^ 40 }
-        ensures ok { OnOk result (GoesOn HasServed self.old self.new text.old.items text.new.items (line bytes.now)) }
+        ensures ok { OnOk result (WorksOnGiven HasServed self.old self.new text.old.items text.new.items (line bytes.now)) }
         ensures err { OnErr result (WorksOn HasServed self.old self.new text.old.items text.new.items) }
     {
         self.make_room(rt, gate, text)?;
@@ -343,7 +343,7 @@ impl<'a> Serving<'a> {
     ) -> Result<(), NoMemory>
         requires running { IsRunning HasServed self.old }
         requires number { self.old.number ≤ 2 ^ 40 }
-        ensures ok { OnOk result (GoesOn HasServed self.old self.new text.old.items text.new.items long_line) }
+        ensures ok { OnOk result (WorksOnGiven HasServed self.old self.new text.old.items text.new.items long_line) }
         ensures err { OnErr result (WorksOn HasServed self.old self.new text.old.items text.new.items) }
     {
         self.make_room(rt, gate, text)?;

@@ -28,8 +28,8 @@ use Rattle.eb_place.proofs.NextStore.{accepted_lawful}
 use Rattle.eb_writer.specs.declared.plan.Found.{Found}
 use Rattle.eb_writer.specs.declared.plan.Plan.{Plan}
 use Rattle.eb_writer.specs.Counting.{IsIdle, tokens_in, IsUsedBy, IsReady, AreFound, IsPlan}
-use Rattle.eb_writer.specs.Storing.{before_it, tokens_until, IsPlaced, HasComeTo, IsAccepted, GoesOn, BeginsSegment, with_document}
-use Rattle.eb_writer.specs.Progress.{Progress, Stands, IsLastFull, HasNoRoom}
+use Rattle.eb_writer.specs.Storing.{before_it, tokens_until, IsPlaced, HasComeTo, IsAccepted, HasStoredMore, BeginsSegment, with_document}
+use Rattle.eb_writer.specs.Progress.{PlacerProgress, PlacerStands, IsLastFull, HasNoRoom}
 use Rattle.eb_writer.proofs.Idle.{idle_entered, idle_tokens, told_used, used_tells, tokens_same}
 use Rattle.eb_writer.proofs.Ends.{join_first, nothing_tokens}
 use Rattle.eb_writer.proofs.Coming.{joined}
@@ -39,7 +39,7 @@ abbrev pub nothing : Used
 nothing = record { documents = 0; terms = 0; text = 0; pool0 = 0; pool1 = 0; pool2 = 0; pool3 = 0 }
 
 -- a new placer stands where there is no document
-pub stands_first : (σ : Setting) → Stands record { setting = σ; segments = 0; documents = 0; used = nothing } (empty_moment σ)
+pub stands_first : (σ : Setting) → PlacerStands record { setting = σ; segments = 0; documents = 0; used = nothing } (empty_moment σ)
 unfolding cut
 stands_first σ = record { setting = refl; idle = refl; segments = refl; documents = refl; used = tells_nothing σ (0 - 1) }
 
@@ -53,11 +53,11 @@ last_is (x ∷ []) h = refl
 last_is (x ∷ y ∷ ys) h = ap (λ k. get_or (x ∷ y ∷ ys) k []) (let e : suc (suc (length ys)) - 1 ≡ suc (length ys) = omega arith in e)
     ∙ ap (λ k. get_or (y ∷ ys) k []) (let e : length ys ≡ suc (length ys) - 1 = omega arith in e) ∙ last_is (y ∷ ys) (omega arith)
 
-pub last_at : (p : Progress) (m : Moment) → Stands p m → 1 ≤ p.segments → get_or (cut m.setting m.documents.accepted) (p.segments - 1) [] ≡ last_of (cut m.setting m.documents.accepted)
+pub last_at : (p : PlacerProgress) (m : Moment) → PlacerStands p m → 1 ≤ p.segments → get_or (cut m.setting m.documents.accepted) (p.segments - 1) [] ≡ last_of (cut m.setting m.documents.accepted)
 last_at p m h some = ap (λ k. get_or (cut m.setting m.documents.accepted) (k - 1) []) h.segments ∙ last_is (cut m.setting m.documents.accepted) (omega (arith, h.segments))
 
 -- it is ready for one more document
-pub last_ready : (p : Progress) (m : Moment) → IsMoment m → Stands p m → 1 ≤ p.segments → IsReady m (p.segments - 1) p.used
+pub last_ready : (p : PlacerProgress) (m : Moment) → IsMoment m → PlacerStands p m → 1 ≤ p.segments → IsReady m (p.segments - 1) p.used
 last_ready p m is h some = record { idle = h.idle; inside = omega (arith, segments_few m is, h.segments); tells = h.used }
 
 used_nothing : IsUsedBy nothing []
@@ -65,7 +65,7 @@ unfolding distinct begun_after
 used_nothing = record { terms = refl; text = refl; pool0 = refl; pool1 = refl; pool2 = refl; pool3 = refl }
 
 -- so is the next segment
-pub next_ready : (p : Progress) (m : Moment) → IsMoment m → Stands p m → length (cut m.setting m.documents.accepted) < m.setting.segments → IsReady m p.segments nothing
+pub next_ready : (p : PlacerProgress) (m : Moment) → IsMoment m → PlacerStands p m → length (cut m.setting m.documents.accepted) < m.setting.segments → IsReady m p.segments nothing
 next_ready p m is h low =
     let s = p.segments in
     let none = get_or_past (cut m.setting m.documents.accepted) s [] (omega (arith, h.segments)) in
@@ -121,7 +121,7 @@ pub record JoinsLast (m : Moment) (d : Doc) (s : ℕ) : Type 0 where
   pub before : before_it m d ≡ get_or (cut m.setting m.documents.accepted) s []
   pub some : 1 ≤ length (before_it m d)
 
-pub joins_last : (p : Progress) (m : Moment) (d : Doc) → IsMoment m → IsDocument d → Stands p m → 1 ≤ p.segments
+pub joins_last : (p : PlacerProgress) (m : Moment) (d : Doc) → IsMoment m → IsDocument d → PlacerStands p m → 1 ≤ p.segments
     → fits m.setting (last_of (cut m.setting m.documents.accepted)) d ≡ true → JoinsLast m d (p.segments - 1)
 unfolding has_room
 joins_last p m d is limits h some f =
@@ -149,7 +149,7 @@ empty_before σ [] d f = elim (cases_Bool (fits σ [] d)) [
 empty_before σ (x ∷ xs) d f = λ i. if f (omega arith) i then last_of (x ∷ xs) else []
 
 -- or begins the next one
-pub begins_next : (p : Progress) (m : Moment) (d : Doc) → IsMoment m → IsDocument d → Stands p m → IsLastFull m d
+pub begins_next : (p : PlacerProgress) (m : Moment) (d : Doc) → IsMoment m → IsDocument d → PlacerStands p m → IsLastFull m d
     → length (cut m.setting m.documents.accepted) < m.setting.segments → BeginsSegment m d p.segments
 unfolding has_room
 begins_next p m d is limits h f low =
@@ -195,8 +195,8 @@ tells_accepted m k n d s u v is last p h tells same a count e =
     (record { terms = used.terms; text = used.text; pool0 = used.pool0; pool1 = used.pool1; pool2 = used.pool2; pool3 = used.pool3 }))
 
 -- and the placer stands there
-pub stands_accepted : (p q : Progress) (m n : Moment) (d : Doc) (s : ℕ) → Stands p m → IsPlaced m d s → IsAccepted m n d
-    → q.setting ≡ p.setting → q.segments ≡ s + 1 → q.documents ≡ p.documents + 1 → TellsSegment q.used n s → Stands q n
+pub stands_accepted : (p q : PlacerProgress) (m n : Moment) (d : Doc) (s : ℕ) → PlacerStands p m → IsPlaced m d s → IsAccepted m n d
+    → q.setting ≡ p.setting → q.segments ≡ s + 1 → q.documents ≡ p.documents + 1 → TellsSegment q.used n s → PlacerStands q n
 stands_accepted p q m n d s h placed a e segments documents tells =
     let σ = m.setting in
     let docs = m.documents.accepted in
@@ -219,7 +219,7 @@ tells_same m n s u l e h =
     let at : P m.setting m.documents = record { documents = h.documents; terms = h.terms; text = h.text; pool0 = h.pool0; pool1 = h.pool1; pool2 = h.pool2; pool3 = h.pool3 } in
     subst (λ (z : Setting × Documents). P z.0 z.1) (λ i. (l.setting i, sym e i)) at
 
-pub stands_same : (p : Progress) (m n : Moment) → IsNotBefore n m → n.documents ≡ m.documents → Stands p m → Stands p n
+pub stands_same : (p : PlacerProgress) (m n : Moment) → IsNotBefore n m → n.documents ≡ m.documents → PlacerStands p m → PlacerStands p n
 stands_same p m n l e h = record {
   setting = h.setting ∙ l.setting;
   idle = ap (λ (x : Documents). x.current) e ∙ h.idle;
@@ -235,7 +235,7 @@ full_same m n d l e h = subst (λ (z : Setting × Documents). 1 ≤ length (cut 
 pub accepted_same : (m n k : Moment) (d : Doc) → IsNotBefore n m → n.documents ≡ m.documents → IsAccepted n k d → IsAccepted m k d
 accepted_same m n k d l e a = record { later = later_on m n k l a.later; documents = a.documents ∙ ap (λ x. with_document x d) e }
 
-pub accepted_on : (m n k : Moment) (d : Doc) → GoesOn m n → IsAccepted n k d → IsAccepted m k d
+pub accepted_on : (m n k : Moment) (d : Doc) → HasStoredMore m n → IsAccepted n k d → IsAccepted m k d
 accepted_on m n k d l a = record { later = later_on m n k l.later a.later; documents = a.documents ∙ ap (λ z. record { accepted = z ++ d ∷ []; current = None }) l.accepted }
 
 pub before_same : (m n : Moment) (d : Doc) → IsNotBefore n m → n.documents.accepted ≡ m.documents.accepted → before_it n d ≡ before_it m d
@@ -244,7 +244,7 @@ before_same m n d l e = λ i. segment_before (sym l.setting i) (e i) d
 -- ---- the document's first token
 
 -- whether the document fits the last segment
-pub fits_last : (p : Progress) (m : Moment) (d : Doc) (plan : Plan) → Stands p m → 1 ≤ p.segments → IsPlan m (p.segments - 1) p.used d plan
+pub fits_last : (p : PlacerProgress) (m : Moment) (d : Doc) (plan : Plan) → PlacerStands p m → 1 ≤ p.segments → IsPlan m (p.segments - 1) p.used d plan
     → is_room p.setting plan.used ≡ fits m.setting (last_of (cut m.setting m.documents.accepted)) d
 fits_last p m d plan h some q =
     let seg = get_or (cut m.setting m.documents.accepted) (p.segments - 1) [] in
@@ -259,7 +259,7 @@ pub record Starts (m n : Moment) (d : Doc) (s : ℕ) (u : Used) (found : List Fo
   pub tokens : AreFound (terms_of (before_it n d)) d.terms found (length d.terms)
   pub counted : count ≡ length n.documents.accepted
 
-pub starts_last : (p : Progress) (m n : Moment) (d : Doc) (plan : Plan) → IsMoment m → IsMoment n → IsNotBefore n m → n.documents ≡ m.documents → Stands p m → 1 ≤ p.segments
+pub starts_last : (p : PlacerProgress) (m n : Moment) (d : Doc) (plan : Plan) → IsMoment m → IsMoment n → IsNotBefore n m → n.documents ≡ m.documents → PlacerStands p m → 1 ≤ p.segments
     → IsPlan m (p.segments - 1) p.used d plan → is_room p.setting plan.used ≡ true → Starts m n d (p.segments - 1) p.used plan.found p.documents
 starts_last p m n d plan is js l e h some q f =
     let s = p.segments - 1 in
@@ -276,15 +276,15 @@ starts_last p m n d plan is js l e h some q f =
       counted = hn.documents;
     }
 
-pub begins_same : (p : Progress) (m n : Moment) (d : Doc) → IsMoment n → IsNotBefore n m → n.documents ≡ m.documents → IsDocument d
-    → Stands p m → IsLastFull m d → length (cut m.setting m.documents.accepted) < m.setting.segments → BeginsSegment n d p.segments
+pub begins_same : (p : PlacerProgress) (m n : Moment) (d : Doc) → IsMoment n → IsNotBefore n m → n.documents ≡ m.documents → IsDocument d
+    → PlacerStands p m → IsLastFull m d → length (cut m.setting m.documents.accepted) < m.setting.segments → BeginsSegment n d p.segments
 begins_same p m n d js l e limits h f low =
     let hn = stands_same p m n l e h in
     begins_next p n d js limits hn (full_same m n d l e f) (subst (λ (σ : Setting). length (cut n.setting n.documents.accepted) < σ.segments) l.setting (omega (arith, low, h.segments, hn.segments)))
 
-pub starts_next : (p : Progress) (m n k : Moment) (d : Doc) (plan : Plan) → IsMoment m → IsMoment n → IsNotBefore n m
-    → n.documents ≡ m.documents → Stands p m → IsLastFull m d → length (cut m.setting m.documents.accepted) < m.setting.segments
-    → IsPlan m p.segments nothing d plan → GoesOn n k → HasComeTo k d p.segments 0 → Starts m k d p.segments nothing plan.found p.documents
+pub starts_next : (p : PlacerProgress) (m n k : Moment) (d : Doc) (plan : Plan) → IsMoment m → IsMoment n → IsNotBefore n m
+    → n.documents ≡ m.documents → PlacerStands p m → IsLastFull m d → length (cut m.setting m.documents.accepted) < m.setting.segments
+    → IsPlan m p.segments nothing d plan → HasStoredMore n k → HasComeTo k d p.segments 0 → Starts m k d p.segments nothing plan.found p.documents
 starts_next p m n k d plan is js l e h f low q on come =
     let s = p.segments in
     let b = begins_same p m n d js l e q.limits h f low in

@@ -31,7 +31,7 @@ use Rattle.eb_place.proofs.RegionStores.{count_by-append}
 use Rattle.eb_place.proofs.ListOfStores.{one_stored, next_at}
 use Rattle.eb_place.proofs.NextPuts.{next_pair}
 use Rattle.eb_writer.specs.Counting.{IsIdle}
-use Rattle.eb_writer.specs.Storing.{before_it, tokens_until, IsPlaced, HasComeTo, GoesOn, IsAccepted, BeginsSegment}
+use Rattle.eb_writer.specs.Storing.{before_it, tokens_until, IsPlaced, HasComeTo, HasStoredMore, IsAccepted, BeginsSegment}
 use Rattle.eb_writer.proofs.Idle.{idle_entered, idle_tokens}
 use Rattle.eb_writer.proofs.Coming.{joined}
 
@@ -98,7 +98,7 @@ nothing_tokens seg e = ap terms_of e
 take_none : {X : Type 0} (k : ℕ) (xs : List X) → k ≡ 0 → take k xs ≡ []
 take_none k xs e = ap (λ n. take n xs) e
 
-pub begun : (m : Moment) (d : Doc) (s : ℕ) → IsMoment m → BeginsSegment m d s → GoesOn m (after_store m d) × HasComeTo (after_store m d) d s 0
+pub begun : (m : Moment) (d : Doc) (s : ℕ) → IsMoment m → BeginsSegment m d s → HasStoredMore m (after_store m d) × HasComeTo (after_store m d) d s 0
 unfolding entered tokens_seen stores_in_region document_stores
 begun m d s is b =
     let σ = m.setting in

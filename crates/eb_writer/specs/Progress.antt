@@ -9,14 +9,14 @@ use Rattle.eb_place.specs.Tells.{TellsSegment}
 
 -- what a placer keeps: the setting of its index, how many segments it has begun, how many documents it has
 -- placed, and how much of the last segment is used
-pub record Progress : Type 0 where
+pub record PlacerProgress : Type 0 where
   pub setting : Setting
   pub segments : ℕ
   pub documents : ℕ
   pub used : Used
 
 -- the placer has the setting of the index, has done all placings of its words, and no document is being placed
-pub record Stands (p : Progress) (m : Moment) : Type 0 where
+pub record PlacerStands (p : PlacerProgress) (m : Moment) : Type 0 where
   pub setting : p.setting ≡ m.setting
   pub idle : m.documents.current ≡ None
   pub segments : p.segments ≡ length (cut m.setting m.documents.accepted)

@@ -48,7 +48,7 @@ pub record HasComeToPosting (m : Moment) (d : Doc) (s i : ℕ) : Type 0 where
       ++ stores_from m.setting m.documents.accepted d s (i + 1) (tokens_until m d i ++ term_at d.terms i ∷ []) (drop (i + 1) d.terms)
 
 -- more stores of the same placing are done
-pub record GoesOn (m n : Moment) : Type 0 where
+pub record HasStoredMore (m n : Moment) : Type 0 where
   pub later : IsNotBefore n m
   pub accepted : n.documents.accepted ≡ m.documents.accepted
 

@@ -11,6 +11,3 @@ mod storing;
 
 pub use laws::placer_stands_later;
 pub use placer::{Full, Placer};
-
-#[cfg(test)]
-mod tests;

@@ -10,7 +10,7 @@ ghost use Rattle.eb_place.specs.Tells.{TellsSegment};
 ghost use Rattle.eb_place.specs.Told.{Written};
 ghost use Rattle.eb_writer.specs.Counting.{AreFound};
 ghost use Rattle.eb_writer.specs.Storing.{HasComeTo, IsAccepted, before_it};
-ghost use Rattle.eb_writer.specs.Progress.{Stands, IsLastFull, HasNoRoom};
+ghost use Rattle.eb_writer.specs.Progress.{PlacerStands, IsLastFull, HasNoRoom};
 
 use crate::counting::make_plan;
 use crate::plan::{Found, Plan, plan_nothing};
@@ -37,7 +37,7 @@ const NOTHING: Used = Used {
 };
 
 /// Adds documents to an index, for its one writer: it knows how many segments are begun, and how much of
-/// the last one is used. The relation `Stands` of `specs/` says when it stands at a moment of the words.
+/// the last one is used. The relation `PlacerStands` of `specs/` says when it stands at a moment of the words.
 #[derive(Drop)]
 pub struct Placer {
     config: Config,
@@ -49,9 +49,9 @@ pub struct Placer {
 }
 
 impl Model for Placer {
-    ghost use Rattle.eb_writer.specs.Progress.{Progress};
+    ghost use Rattle.eb_writer.specs.Progress.{PlacerProgress};
 
-    ghost Value = { Progress };
+    ghost Value = { PlacerProgress };
 
     ghost view = { λ p. record { setting = p.config; segments = p.segments; documents = p.documents; used = p.used } };
 }
@@ -59,7 +59,7 @@ impl Model for Placer {
 impl Placer {
     /// A placer for an index of this setting that has no document. Takes no memory.
     pub fn new(config: Config) -> Placer
-        ensures { Stands result (empty_moment config) }
+        ensures { PlacerStands result (empty_moment config) }
     {
         Placer {
             config,
@@ -73,7 +73,7 @@ impl Placer {
     /// The placer that has begun so many segments and placed so many documents of an index of this setting, and has
     /// used so much of the last segment: one that was put down, from what `config`, `segments`, `documents` and `used`
     /// gave of it. No number is tested: it stands at a moment of the words where all four are those of that moment,
-    /// as `Stands` says, and at no other. Takes no memory.
+    /// as `PlacerStands` says, and at no other. Takes no memory.
     pub fn resume(config: Config, segments: u32, documents: u64, used: Used) -> Placer
         ensures { result ≡ record { setting = config; segments = segments; documents = documents; used = used } }
     {
@@ -96,7 +96,7 @@ impl Placer {
     /// The number of segments of the cut of the documents that it placed.
     pub fn segments(&self) -> u32
         ensures kept { result ≡ self.now.segments }
-        ensures cut { (m : Moment) → Stands self.now m → result ≡ length (cut m.setting m.documents.accepted) }
+        ensures cut { (m : Moment) → PlacerStands self.now m → result ≡ length (cut m.setting m.documents.accepted) }
     {
         self.segments
     }
@@ -104,7 +104,7 @@ impl Placer {
     /// The number of documents that it placed.
     pub fn documents(&self) -> u64
         ensures kept { result ≡ self.now.documents }
-        ensures accepted { (m : Moment) → Stands self.now m → result ≡ length m.documents.accepted }
+        ensures accepted { (m : Moment) → PlacerStands self.now m → result ≡ length m.documents.accepted }
     {
         self.documents
     }
@@ -112,7 +112,7 @@ impl Placer {
     /// How much of the last segment that is begun is used; all 0 where none is.
     pub fn used(&self) -> Used
         ensures kept { result ≡ self.now.used }
-        ensures segment { (m : Moment) → Stands self.now m → TellsSegment result m (length (cut m.setting m.documents.accepted) - 1) }
+        ensures segment { (m : Moment) → PlacerStands self.now m → TellsSegment result m (length (cut m.setting m.documents.accepted) - 1) }
     {
         self.used
     }
@@ -123,13 +123,13 @@ impl Placer {
     /// the dictionary for each distinct term, and of a bounded number of steps for each token; where the
     /// document begins a segment, twice that. Takes no memory.
     pub fn add<P: Pen>(&mut self, pen: &mut P, document: &Document) -> Result<u64, Full>
-        requires { (m : Moment) × P.stands pen.old m × Stands self.old m }
-        ensures ok { IfOk result (λ count. (m : Moment) → P.stands pen.old m → Stands self.old m
+        requires { (m : Moment) × P.stands pen.old m × PlacerStands self.old m }
+        ensures ok { IfOk result (λ count. (m : Moment) → P.stands pen.old m → PlacerStands self.old m
             → (n : Moment) × P.stands pen.new n × P.same pen.old pen.new × HasRoom m.setting m.documents.accepted document.now
-            × IsAccepted m n document.now × (count ≡ length m.documents.accepted + 1) × Stands self.new n) }
-        ensures full { OnErr result ((m : Moment) → P.stands pen.old m → Stands self.old m
+            × IsAccepted m n document.now × (count ≡ length m.documents.accepted + 1) × PlacerStands self.new n) }
+        ensures full { OnErr result ((m : Moment) → P.stands pen.old m → PlacerStands self.old m
             → (n : Moment) × P.stands pen.new n × P.keeps pen.old m pen.new n × HasNoRoom m document.now
-            × IsNotBefore n m × (n.documents ≡ m.documents) × Stands self.new n) }
+            × IsNotBefore n m × (n.documents ≡ m.documents) × PlacerStands self.new n) }
         ensures unchanged { OnErr result (self.new ≡ self.old) }
     {
         if let Some(count) = self.join_last(pen, document) {
@@ -143,14 +143,14 @@ impl Placer {
 
     // Adds a document to the last segment, where it fits; else none is stored.
     fn join_last<P: Pen>(&mut self, pen: &mut P, document: &Document) -> Option<u64>
-        requires { (m : Moment) × P.stands pen.old m × Stands self.old m }
+        requires { (m : Moment) × P.stands pen.old m × PlacerStands self.old m }
         ensures { MatchOption result
-            ((self.new ≡ self.old) × ((m : Moment) → P.stands pen.old m → Stands self.old m
+            ((self.new ≡ self.old) × ((m : Moment) → P.stands pen.old m → PlacerStands self.old m
             → (n : Moment) × P.stands pen.new n × P.keeps pen.old m pen.new n × IsLastFull m document.now
             × IsNotBefore n m × (n.documents ≡ m.documents)))
-            (λ count. (m : Moment) → P.stands pen.old m → Stands self.old m
+            (λ count. (m : Moment) → P.stands pen.old m → PlacerStands self.old m
             → (n : Moment) × P.stands pen.new n × P.same pen.old pen.new × HasRoom m.setting m.documents.accepted document.now
-            × IsAccepted m n document.now × (count ≡ length m.documents.accepted + 1) × Stands self.new n) }
+            × IsAccepted m n document.now × (count ≡ length m.documents.accepted + 1) × PlacerStands self.new n) }
     {
         if self.segments == 0 {
             return None;
@@ -175,12 +175,12 @@ impl Placer {
 
     // Adds a document that doesn't fit the last segment to the next one.
     fn begin_next<P: Pen>(&mut self, pen: &mut P, document: &Document) -> u64
-        requires { (m : Moment) × P.stands pen.old m × Stands self.old m × IsLastFull m document.now
+        requires { (m : Moment) × P.stands pen.old m × PlacerStands self.old m × IsLastFull m document.now
             × (length (cut m.setting m.documents.accepted) < m.setting.segments) }
         ensures { Written P.stands P.same pen.old pen.new
-            (λ m. Stands self.old m × IsLastFull m document.now × (length (cut m.setting m.documents.accepted) < m.setting.segments))
+            (λ m. PlacerStands self.old m × IsLastFull m document.now × (length (cut m.setting m.documents.accepted) < m.setting.segments))
             (λ m n. HasRoom m.setting m.documents.accepted document.now × IsAccepted m n document.now
-            × (result ≡ length m.documents.accepted + 1) × Stands self.new n) }
+            × (result ≡ length m.documents.accepted + 1) × PlacerStands self.new n) }
     {
         let segment = self.segments;
         make_plan::<P, Brand>(

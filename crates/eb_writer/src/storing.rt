@@ -6,7 +6,7 @@ ghost use Rattle.eb_place.specs.Walk.{IsTerm};
 ghost use Rattle.eb_place.specs.Told.{Written};
 ghost use Rattle.eb_writer.specs.Recall.{term_at};
 ghost use Rattle.eb_writer.specs.Counting.{AreFound};
-ghost use Rattle.eb_writer.specs.Storing.{HasComeTo, HasComeToPosting, GoesOn, IsNumbered, IsAccepted, BeginsSegment, before_it};
+ghost use Rattle.eb_writer.specs.Storing.{HasComeTo, HasComeToPosting, HasStoredMore, IsNumbered, IsAccepted, BeginsSegment, before_it};
 
 use crate::plan::Found;
 use eb_base::{Document, MAX_TOKENS};
@@ -18,7 +18,7 @@ use eb_terms::enter;
 pub(crate) fn begin<P: Pen>(pen: &mut P, document: &Document, segment: u32, count: u64)
     requires { (m : Moment) × P.stands pen.old m × BeginsSegment m document.now segment × (count ≡ length m.documents.accepted) }
     ensures { Written P.stands P.same pen.old pen.new (λ m. BeginsSegment m document.now segment × (count ≡ length m.documents.accepted))
-        (λ m n. GoesOn m n × HasComeTo n document.now segment 0) }
+        (λ m n. HasStoredMore m n × HasComeTo n document.now segment 0) }
 {
     let place = Places::new(pen.config()).first(segment);
     pen.store(document, place, count + 1);
@@ -36,7 +36,7 @@ pub(crate) fn store_tokens<P: Pen>(
         × AreFound (terms_of (before_it m document.now)) document.now.terms found.now (length document.now.terms) }
     ensures { Written P.stands P.same pen.old pen.new (λ m. HasComeTo m document.now segment 0 × TellsSegment used.old m segment
         × AreFound (terms_of (before_it m document.now)) document.now.terms found.now (length document.now.terms))
-        (λ m n. GoesOn m n × HasComeTo n document.now segment (length document.now.terms) × TellsSegment used.new n segment) }
+        (λ m n. HasStoredMore m n × HasComeTo n document.now segment (length document.now.terms) × TellsSegment used.new n segment) }
 {
     for at in 0..document.terms().len() {
         store_token(pen, document, segment, used, at, found[at].number);
@@ -56,7 +56,7 @@ fn store_token<P: Pen>(
         × (at < length document.now.terms) × IsNumbered m document.now at number }
     ensures { Written P.stands P.same pen.old pen.new (λ m. HasComeTo m document.now segment at × TellsSegment used.old m segment
         × (at < length document.now.terms) × IsNumbered m document.now at number)
-        (λ m n. GoesOn m n × HasComeTo n document.now segment (at + 1) × TellsSegment used.new n segment) }
+        (λ m n. HasStoredMore m n × HasComeTo n document.now segment (at + 1) × TellsSegment used.new n segment) }
 {
     let number = entered_number(pen, document, segment, used, at, number);
     let value = posting(used.documents, at as u32);
@@ -76,7 +76,7 @@ fn entered_number<P: Pen>(
         × (at < length document.now.terms) × IsNumbered m document.now at number }
     ensures { Written P.stands P.same pen.old pen.new (λ m. HasComeTo m document.now segment at × TellsSegment used.old m segment
         × (at < length document.now.terms) × IsNumbered m document.now at number)
-        (λ m n. GoesOn m n × HasComeToPosting n document.now segment at
+        (λ m n. HasStoredMore m n × HasComeToPosting n document.now segment at
         × IsTerm n segment (term_at document.now.terms at) result × TellsSegment used.new n segment) }
 {
     if number == used.terms {

@@ -2,7 +2,7 @@
 ghost use Rattle.std.specs.Prelude.{◌≡◌, ◌<◌, ℕ, List, MatchOption};
 ghost use Rattle.eb_place.specs.declared.moment.Moment.{Moment};
 ghost use Rattle.eb_flat.specs.Flat.{StandsFor};
-ghost use Rattle.eb_writer.specs.Progress.{Stands};
+ghost use Rattle.eb_writer.specs.Progress.{PlacerStands};
 ghost use Rattle.eb_chain.specs.Chains as chains;
 ghost use Rattle.eb_trials.specs.Grown.{Grows};
 
@@ -45,8 +45,8 @@ fn add_postings(
     postings: &mut Vec<u64>,
     more: usize,
 ) -> Result<(), Fail>
-    requires { (m : Moment) × StandsFor words.old m × Stands placer.old m }
-    ensures { (m : Moment) × StandsFor words.new m × Stands placer.new m }
+    requires { (m : Moment) × StandsFor words.old m × PlacerStands placer.old m }
+    ensures { (m : Moment) × StandsFor words.new m × PlacerStands placer.new m }
 {
     let mut left = more;
     for _ in 0..more {

@@ -3,7 +3,7 @@ ghost use Rattle.std.specs.Prelude.{◌≡◌, ◌<◌, IsTrue, IfOk, List};
 ghost use Rattle.eb_base.specs.Setting.{words_of};
 ghost use Rattle.eb_place.specs.declared.moment.Moment.{Moment};
 ghost use Rattle.eb_flat.specs.Flat.{StandsFor};
-ghost use Rattle.eb_writer.specs.Progress.{Stands};
+ghost use Rattle.eb_writer.specs.Progress.{PlacerStands};
 ghost use Rattle.eb_trials.specs.Added.{HasAdded, Holds};
 ghost use Rattle.eb_trials.specs.Grown.{Grows, HasGrown};
 
@@ -42,8 +42,8 @@ pub(super) fn document(alloc: Global, id: u64, text: &[u8]) -> Result<Document, 
 
 // Adds a document: the new count, none where there is no room.
 pub(super) fn added<P: Pen>(placer: &mut Placer, pen: &mut P, document: &Document) -> Option<u64>
-    requires { (m : Moment) × P.stands pen.old m × Stands placer.old m }
-    ensures { (m : Moment) × P.stands pen.new m × Stands placer.new m }
+    requires { (m : Moment) × P.stands pen.old m × PlacerStands placer.old m }
+    ensures { (m : Moment) × P.stands pen.new m × PlacerStands placer.new m }
 {
     match placer.add(pen, document) {
         Ok(count) => Some(count),
@@ -53,8 +53,8 @@ pub(super) fn added<P: Pen>(placer: &mut Placer, pen: &mut P, document: &Documen
 
 // Adds documents, in order, up to the first that has no room; whether all had.
 pub(super) fn add_all<P: Pen>(placer: &mut Placer, pen: &mut P, documents: &[Document]) -> bool
-    requires { (m : Moment) × P.stands pen.old m × Stands placer.old m }
-    ensures { IsTrue result → (m : Moment) → P.stands pen.old m → Stands placer.old m → HasAdded P.stands pen.new placer.new m documents.now }
+    requires { (m : Moment) × P.stands pen.old m × PlacerStands placer.old m }
+    ensures { IsTrue result → (m : Moment) → P.stands pen.old m → PlacerStands placer.old m → HasAdded P.stands pen.new placer.new m documents.now }
 {
     for document in documents {
         let Ok(_count) = placer.add(pen, document) else {

@@ -3,7 +3,7 @@ ghost use Rattle.std.specs.Prelude.{◌≡◌, ◌<◌, ℕ, List, IfOk, MatchOp
 ghost use Rattle.eb_place.specs.declared.moment.Moment.{Moment};
 ghost use Rattle.eb_block.specs.Reading.{ListStands};
 ghost use Rattle.eb_trials.specs.Recorded.{IsRecord};
-ghost use Rattle.eb_writer.specs.Progress.{Stands};
+ghost use Rattle.eb_writer.specs.Progress.{PlacerStands};
 
 use super::made::{add_all, added, document};
 use crate::RecordingPen;
@@ -376,8 +376,8 @@ fn postings_of(alloc: Global, lists: &[Wide], list: usize) -> Result<Vec<Posting
 
 // Adds an empty document until there are so many in all.
 fn fill(placer: &mut Placer, pen: &mut RecordingPen, empty: &Document, from: u64, upto: u64)
-    requires { (m : Moment) × IsRecord pen.old m × Stands placer.old m }
-    ensures { (m : Moment) × IsRecord pen.new m × Stands placer.new m }
+    requires { (m : Moment) × IsRecord pen.old m × PlacerStands placer.old m }
+    ensures { (m : Moment) × IsRecord pen.new m × PlacerStands placer.new m }
 {
     for _ in from..upto {
         let _ = added(placer, pen, empty);

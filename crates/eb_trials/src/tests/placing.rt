@@ -1,7 +1,8 @@
-//! What the placer stores, and in which order.
+//! What the placer stores and in which order, and where it begins the next segment.
 use super::made::{added, document};
 use crate::RecordingPen;
 use eb_base::Config;
+use eb_flat::FlatWords;
 use eb_writer::Placer;
 use std::test::Fail;
 
@@ -40,5 +41,21 @@ fn a_document_is_stored_word_by_word(rt: HostRuntime) -> Result<(), Fail> {
     assert_eq!(rt; added(&mut placer, &mut pen, &second), Some(2));
     assert_eq!(rt; pen.stores().get(17), Some(&(78852, 2)));
     assert!(rt; !pen.has_lost());
+    Ok(())
+}
+
+#[test]
+fn four_documents_have_room(rt: HostRuntime) -> Result<(), Fail> {
+    let alloc = rt.alloc();
+    let config = Config::new(2, 2, 1024)?;
+    let document = document(alloc, 7, b"a")?;
+    let mut words = FlatWords::new(alloc, config)?;
+    let mut placer = Placer::new(config);
+    assert_eq!(rt; added(&mut placer, &mut words, &document), Some(1));
+    assert_eq!(rt; added(&mut placer, &mut words, &document), Some(2));
+    assert_eq!(rt; added(&mut placer, &mut words, &document), Some(3));
+    assert_eq!(rt; added(&mut placer, &mut words, &document), Some(4));
+    assert_eq!(rt; added(&mut placer, &mut words, &document), None);
+    assert_eq!(rt; placer.segments(), 2);
     Ok(())
 }

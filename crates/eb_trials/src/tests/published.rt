@@ -3,7 +3,7 @@ ghost use Rattle.std.specs.Prelude.{◌≡◌, IfOk};
 ghost use Rattle.eb_place.specs.declared.moment.Moment.{Moment};
 ghost use Rattle.eb_place.specs.Moments.{empty_moment};
 ghost use Rattle.eb_trials.specs.Recorded.{IsRecord};
-ghost use Rattle.eb_writer.specs.Progress.{Stands};
+ghost use Rattle.eb_writer.specs.Progress.{PlacerStands};
 
 use super::asking::query;
 use super::cursors::made;
@@ -82,7 +82,7 @@ fn are_seen_whole(
     text: &[u8],
     documents: &[Document],
 ) -> Result<bool, Fail>
-    requires { (m : Moment) × IsRecord pen.old.pen m × Stands placer.old m }
+    requires { (m : Moment) × IsRecord pen.old.pen m × PlacerStands placer.old m }
     ensures { (m : Moment) × IsRecord pen.new.pen m }
 {
     let query = query(alloc, text)?;

@@ -3,7 +3,7 @@
 ghost use Rattle.std.specs.Prelude.{◌≡◌, ◌<◌};
 ghost use Rattle.eb_place.specs.declared.moment.Moment.{Moment};
 ghost use Rattle.eb_table.specs.Known.{MadeWith};
-ghost use Rattle.eb_writer.specs.Progress.{Stands};
+ghost use Rattle.eb_writer.specs.Progress.{PlacerStands};
 
 use super::chains::open;
 use super::made::document;
@@ -28,9 +28,9 @@ fn add_shared(
     document: &Document,
 ) -> Option<u64>
     requires made { MadeWith seat.old words.now }
-    requires stands { Stands placer.old seat.old.moment }
+    requires stands { PlacerStands placer.old seat.old.moment }
     ensures made { MadeWith seat.new words.now }
-    ensures stands { Stands placer.new seat.new.moment }
+    ensures stands { PlacerStands placer.new seat.new.moment }
 {
     let mut pen = WriterPort { seat, words };
     match placer.add(&mut pen, document) {
@@ -47,7 +47,7 @@ fn add_beside(
     document: &Document,
 ) -> (WriterSeat, u64)
     requires made { MadeWith seat words.now }
-    requires stands { Stands placer seat.moment }
+    requires stands { PlacerStands placer seat.moment }
     ensures { MadeWith result.0 words.now }
 {
     let mut seat = seat;
@@ -141,7 +141,7 @@ fn beside<R: Threads + Sync>(
     term: &Term,
 ) -> ((WriterSeat, u64), (ReaderSeat, bool))
     requires writer { MadeWith writer words.now }
-    requires placer { Stands placer writer.moment }
+    requires placer { PlacerStands placer writer.moment }
     requires reader { MadeWith reader words.now }
     ensures writer { MadeWith result.0.0 words.now }
     ensures reader { MadeWith result.1.0 words.now }
@@ -149,7 +149,7 @@ fn beside<R: Threads + Sync>(
     thread::join(
         rt,
         move || -> (WriterSeat, u64)
-            requires { MadeWith writer words.now × Stands placer writer.moment }
+            requires { MadeWith writer words.now × PlacerStands placer writer.moment }
             ensures { MadeWith result.0 words.entry.now }
         { add_beside(words, writer, placer, document) },
         move || -> (ReaderSeat, bool)

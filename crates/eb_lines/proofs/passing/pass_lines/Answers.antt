@@ -48,12 +48,12 @@ returns-in-ReadFault-clause-ends g c = λ a h.
     let at = c.in_default-settle.ensures.next a l0 (g.S.Source.left c.lines.source) p0 (c.lines.invariant.at a h) in
     c.stop.ensures.ends a l0 _ p0 c.take_next.new.lines (c.in-ReadFault.ensures.next a l0 p0 _ at)
 
-pub returns-in-TooLong-clause-ends : goal.returns-in-TooLong-clause-ends
-returns-in-TooLong-clause-ends g c = λ a h.
+pub returns-in-InputTooLong-clause-ends : goal.returns-in-InputTooLong-clause-ends
+returns-in-InputTooLong-clause-ends g c = λ a h.
     let l0 = g.S.Source.left c.args.source.now in
     let p0 = g.K.Sink.taken c.args.out.now in
     let at = c.in_default-settle.ensures.next a l0 (g.S.Source.left c.lines.source) p0 (c.lines.invariant.at a h) in
-    c.stop-in-TooLong.ensures.ends a l0 _ p0 c.take_next.new.lines (c.in-TooLong.ensures.next a l0 p0 _ at)
+    c.stop-in-InputTooLong.ensures.ends a l0 _ p0 c.take_next.new.lines (c.in-InputTooLong.ensures.next a l0 p0 _ at)
 
 pub returns-in-NoMemory-clause-ends : goal.returns-in-NoMemory-clause-ends
 returns-in-NoMemory-clause-ends g c = λ a h.
@@ -80,13 +80,13 @@ stop-requires g c =
     let end = c.in-ReadFault.ensures.next r.0 l0 p0 _ at in
     (c.take_next.new.lines, g.S.Source.left c.take_next.new.source, (r.0, l0, p0, end.0))
 
-pub stop-requires-in-TooLong : goal.stop-requires-in-TooLong
-stop-requires-in-TooLong g c =
+pub stop-requires-in-InputTooLong : goal.stop-requires-in-InputTooLong
+stop-requires-in-InputTooLong g c =
     let r = c.requires in
     let l0 = g.S.Source.left c.args.source.now in
     let p0 = g.K.Sink.taken c.args.out.now in
     let at = c.in_default-settle.ensures.next r.0 l0 (g.S.Source.left c.lines.source) p0 (c.lines.invariant.at r.0 r.1) in
-    let end = c.in-TooLong.ensures.next r.0 l0 p0 _ at in
+    let end = c.in-InputTooLong.ensures.next r.0 l0 p0 _ at in
     (c.take_next.new.lines, g.S.Source.left c.take_next.new.source, (r.0, l0, p0, end.0))
 
 pub returns-in_default-write_much-clause-ends : goal.returns-in_default-write_much-clause-ends

@@ -1,6 +1,6 @@
 use Rattle.std.proofs.Common.{List, ℕ, OnOk, sym, ap, subst, ◌∙◌, arith}
 use Rattle.eb_io.specs.Lines.{line, long_line}
-use Rattle.eb_lines.specs.Programs.{GoesOn, WorksOn}
+use Rattle.eb_lines.specs.Programs.{WorksOnGiven, WorksOn}
 use Rattle.eb_lines.specs.declared.passing.Upcoming.{Upcoming}
 use Rattle.eb_lines.specs.Passing.{Comes}
 use Rattle.eb_lines.proofs.PassingLines.{few_lines, at_line, stop_line, at_end, at_fault, at_limit, took, took_number, goes_number}
@@ -38,8 +38,8 @@ returns-in-Line-clause-next g c = λ a l0 p0 p1 at.
     let says = g.P.LineProgram.prints in
     let first = g.met.P.LineProgram.printed_first in
     let C : Upcoming → Type 0 = λ u. Comes runs says u a l0 (g.S.Source.left c.next_line.new.source) p0 p1 lines new more in
-    let G : List ℕ → Type 0 = λ b. OnOk c.take_line.result (GoesOn runs run new text more (line b)) in
-    subst C (sym c.say_taken.ensures) (took runs says first a c.take_line.result l0 _ p0 p1 lines new more (GoesOn runs run new text more (line lines.line)) (WorksOn runs run new text more)
+    let G : List ℕ → Type 0 = λ b. OnOk c.take_line.result (WorksOnGiven runs run new text more (line b)) in
+    subst C (sym c.say_taken.ensures) (took runs says first a c.take_line.result l0 _ p0 p1 lines new more (WorksOnGiven runs run new text more (line lines.line)) (WorksOn runs run new text more)
     (subst G c.line.ensures c.take_line.ensures.ok) c.take_line.ensures.err
     (λ goes. at_line runs says first a l0 _ _ p0 p1 h lines run text at t.0 t.1 n.end (λ e. ap g.S.Source.left (n.ended e)) n.limit n.within new more (line lines.line) t.2 goes)
     (λ on. stop_line runs says first a l0 _ _ p0 p1 h lines run text at t.0 t.1 n.end (λ e. ap g.S.Source.left (n.ended e)) n.limit n.within new more (line lines.line) t.2 on))
@@ -52,7 +52,7 @@ returns-in-Line-clause-number g c = λ e.
     let new = c.take_line.new.self in
     let runs = g.P.LineProgram.has_run in
     took_number runs g.P.LineProgram.number g.met.P.LineProgram.counts c.take_line.result run new
-    (GoesOn runs run new c.args.text.now.items c.take_line.new.text.items (line c.line.result.now)) c.take_line.ensures.ok
+    (WorksOnGiven runs run new c.args.text.now.items c.take_line.new.text.items (line c.line.result.now)) c.take_line.ensures.ok
     (λ goes. goes_number runs g.P.LineProgram.number g.met.P.LineProgram.counts run new c.args.text.now.items c.take_line.new.text.items
     (line c.line.result.now) (r.0, s.given, s.so_far, s.works) goes)
     (sym c.say_taken.ensures ∙ e)
@@ -71,7 +71,7 @@ returns-in-LongLine-clause-next g c = λ a l0 p0 p1 at.
     let says = g.P.LineProgram.prints in
     let first = g.met.P.LineProgram.printed_first in
     let C : Upcoming → Type 0 = λ u. Comes runs says u a l0 (g.S.Source.left c.next_line.new.source) p0 p1 lines new more in
-    subst C (sym c.say_taken-in-LongLine.ensures) (took runs says first a c.take_long.result l0 _ p0 p1 lines new more (GoesOn runs run new text more long_line) (WorksOn runs run new text more)
+    subst C (sym c.say_taken-in-LongLine.ensures) (took runs says first a c.take_long.result l0 _ p0 p1 lines new more (WorksOnGiven runs run new text more long_line) (WorksOn runs run new text more)
     c.take_long.ensures.ok c.take_long.ensures.err
     (λ goes. at_line runs says first a l0 _ _ p0 p1 h lines run text at t.0 t.1 n.end (λ e. ap g.S.Source.left (n.ended e)) n.limit n.within new more long_line t.2 goes)
     (λ on. stop_line runs says first a l0 _ _ p0 p1 h lines run text at t.0 t.1 n.end (λ e. ap g.S.Source.left (n.ended e)) n.limit n.within new more long_line t.2 on))
@@ -84,7 +84,7 @@ returns-in-LongLine-clause-number g c = λ e.
     let new = c.take_long.new.self in
     let runs = g.P.LineProgram.has_run in
     took_number runs g.P.LineProgram.number g.met.P.LineProgram.counts c.take_long.result run new
-    (GoesOn runs run new c.args.text.now.items c.take_long.new.text.items long_line) c.take_long.ensures.ok
+    (WorksOnGiven runs run new c.args.text.now.items c.take_long.new.text.items long_line) c.take_long.ensures.ok
     (λ goes. goes_number runs g.P.LineProgram.number g.met.P.LineProgram.counts run new c.args.text.now.items c.take_long.new.text.items long_line (r.0, s.given, s.so_far, s.works) goes)
     (sym c.say_taken-in-LongLine.ensures ∙ e)
 
@@ -104,9 +104,9 @@ returns-in-ReadFault-clause-next g c = λ a l0 p0 p1 at.
     p1 c.args.lines.now c.next_line.new.self c.args.program.now c.args.text.now.items at t.0 t.1 n.end
     (λ e. ap g.S.Source.left (n.ended e)) n.limit n.within t.2.0 t.2.1
 
-pub returns-in-TooLong-clause-next : goal.returns-in-TooLong-clause-next
-returns-in-TooLong-clause-next g c = λ a l0 p0 p1 at.
-    let n = c.in-TooLong.ensures in
+pub returns-in-InputTooLong-clause-next : goal.returns-in-InputTooLong-clause-next
+returns-in-InputTooLong-clause-next g c = λ a l0 p0 p1 at.
+    let n = c.in-InputTooLong.ensures in
     let t = n.told at.taken at.given at.lines in
     at_limit g.P.LineProgram.has_run g.P.LineProgram.prints g.met.P.LineProgram.printed_first a l0 _ _ p0
     p1 c.args.lines.now c.next_line.new.self c.args.program.now c.args.text.now.items at t.0 t.1 n.end

@@ -1,12 +1,12 @@
 use Rattle.std.proofs.Common.{List, [], refl, ap, sym, subst}
 use Rattle.eb_base.specs.Document.{Doc}
-use Rattle.earlybird.specs.Waiting.{HasWorked}
+use Rattle.earlybird.specs.Waiting.{HasWorkedOff}
 use Rattle.earlybird.proofs.Runs.{worked_none}
 use Rattle.earlybird.proofs.running.Running.new.Goals as goal
 
 pub returns : goal.returns
 returns c =
-    let W : List Doc → Type 0 = λ docs. HasWorked c.args.config c.args.overlap [] docs c.new.result [] in
+    let W : List Doc → Type 0 = λ docs. HasWorkedOff c.args.config c.args.overlap [] docs c.new.result [] in
     record {
       words = c.in_ok-index.index;
       index = refl;

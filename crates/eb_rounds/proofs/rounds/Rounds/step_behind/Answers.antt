@@ -1,7 +1,7 @@
 use Rattle.std.proofs.Common.{List, map, ap, sym, subst, arith}
 use Rattle.eb_base.specs.Document.{Doc}
 use Rattle.eb_engine.specs.Tokens.{Token}
-use Rattle.eb_rounds.specs.Shown.{Counted, IsRound}
+use Rattle.eb_rounds.specs.Shown.{Counted, IsRoundOfLines}
 use Rattle.eb_rounds.specs.Standing.{Standing}
 use Rattle.eb_rounds.specs.Works.{asked_entry, given_entry}
 use Rattle.eb_rounds.proofs.Rounded.{each_asked, each_given, worked_off, round_few, same_round}
@@ -31,7 +31,7 @@ returns-clause-ok g c =
     let given = c.in_ok-asked.given.items in
     let first = ap (λ (t : Token). t.docs) c.reader.ensures.this in
     let last = ap (λ (t : Token). t.docs) (sym c.reader-2.ensures.this) in
-    let D : List Doc → List Doc → Type 0 = λ old new. IsRound σ old new (map asked_entry asked) (map given_entry given) c.args.text.now.items c.work_and_convert-documents.new.text.items
+    let D : List Doc → List Doc → Type 0 = λ old new. IsRoundOfLines σ old new (map asked_entry asked) (map given_entry given) c.args.text.now.items c.work_and_convert-documents.new.text.items
     c.work_and_convert-documents.result.1.0 c.work_and_convert-documents.result.0.0 c.work_and_convert-documents.result.1.1 c.work_and_convert-documents.result.0.1 in
     let round = same_round _ _ _ asked _ given _ c.args.text.now.items _ _ _ _ _ _ c.as_mut_slice.ensures.value
     c.as_slice.ensures.value c.in_ok-asked.ensures.text c.work_and_convert-documents.ensures.round in

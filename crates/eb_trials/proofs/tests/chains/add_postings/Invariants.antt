@@ -1,7 +1,7 @@
 use Rattle.eb_place.specs.declared.moment.Moment.{Moment}
 use Rattle.eb_flat.specs.Flat.{StandsFor}
-use Rattle.eb_writer.specs.Progress.{Stands}
+use Rattle.eb_writer.specs.Progress.{PlacerStands}
 use Rattle.eb_trials.proofs.tests.chains.add_postings.Given as goal
 
 abbrev pub invariant-loop : goal.invariant-loop
-invariant-loop l = (m : Moment) × StandsFor l.words m × Stands l.placer m
+invariant-loop l = (m : Moment) × StandsFor l.words m × PlacerStands l.placer m

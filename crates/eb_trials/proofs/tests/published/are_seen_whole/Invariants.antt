@@ -1,7 +1,7 @@
 use Rattle.eb_place.specs.declared.moment.Moment.{Moment}
-use Rattle.eb_writer.specs.Progress.{Stands}
+use Rattle.eb_writer.specs.Progress.{PlacerStands}
 use Rattle.eb_trials.specs.Recorded.{IsRecord}
 use Rattle.eb_trials.proofs.tests.published.are_seen_whole.Given as goal
 
 abbrev pub invariant-loop-at : goal.invariant-loop-at
-invariant-loop-at l = (m : Moment) × IsRecord l.pen.pen m × Stands l.placer m
+invariant-loop-at l = (m : Moment) × IsRecord l.pen.pen m × PlacerStands l.placer m

@@ -1,14 +1,15 @@
+//! The ids that a search leaves, newest first, and what its gate is told.
 ghost use Rattle.std.specs.Prelude.{◌≡◌, ◌<◌, ◌≤◌};
 ghost use Rattle.eb_place.specs.declared.moment.Moment.{Moment};
 ghost use Rattle.eb_flat.specs.Flat.{StandsFor};
-ghost use Rattle.eb_writer.specs.Progress.{Stands};
 
-use crate::search;
-use eb_base::{Config, Document, Gate, Point, Query, Term, Terms};
+use super::made::{added, document};
+use eb_base::{Config, Gate, Point, Query, Term};
 use eb_cursor::Frame;
 use eb_flat::FlatWords;
 use eb_place::{Port, Steps};
-use eb_writer::{Full, Placer};
+use eb_search::search;
+use eb_writer::Placer;
 use std::alloc::Global;
 use std::cell::Cell;
 use std::marker::Brand;
@@ -92,25 +93,6 @@ impl Gate for Recorder<'_> {
     }
 }
 
-// Adds a document of the term `a` to words in a vector: the new count, or none where there is no room.
-fn added(
-    alloc: Global,
-    placer: &mut Placer,
-    words: &mut FlatWords,
-    id: u64,
-) -> Result<Option<u64>, Fail>
-    requires { (m : Moment) × StandsFor words.old m × Stands placer.old m }
-    ensures { (m : Moment) × StandsFor words.new m × Stands placer.new m }
-{
-    let mut terms = Terms::new(alloc);
-    terms.push(Term::new(alloc, b"a")?)?;
-    let document = Document::new(id, terms)?;
-    match placer.add(words, &document) {
-        Ok(count) => Ok(Some(count)),
-        Err(Full) => Ok(None),
-    }
-}
-
 // A frame for the term `a`.
 fn frame(alloc: Global, k: u32) -> Result<Frame, Fail>
     requires { (1 ≤ k) × (k ≤ 1000) }
@@ -149,7 +131,7 @@ fn the_newest_come_first(rt: HostRuntime) -> Result<(), Fail> {
     let mut words = FlatWords::new(rt.alloc(), config)?;
     let mut placer = Placer::new(config);
     for id in 1..5 {
-        added(rt.alloc(), &mut placer, &mut words, id)?;
+        added(&mut placer, &mut words, &document(rt.alloc(), id, b"a")?);
     }
     let loads = Cell::new(0);
     let gate = Recorder::new(&loads);

@@ -1,4 +1,4 @@
-use Rattle.eb_search.proofs.tests.searched.Given as goal
+use Rattle.eb_trials.proofs.tests.gates.searched.Given as goal
 
 abbrev pub ghosts-search_alone : goal.ghosts-search_alone
 ghosts-search_alone a = record { name = a.blank.name; parts = a.blank.parts }
