@@ -5,6 +5,7 @@ use Rattle.std.specs.List.{position_or_len}
 use Rattle.std.proofs.lemmas.Bool.{cases_Bool, cases_lt}
 use Rattle.std.proofs.lemmas.List.{length-take, length-append}
 use Rattle.std.proofs.lemmas.List.Sums.{sum_by-append}
+use Rattle.eb_place.proofs.NextStore.{accepted_lawful}
 use Rattle.eb_base.specs.Term.{Term}
 use Rattle.eb_base.specs.Document.{Doc}
 use Rattle.eb_base.specs.Setting.{Setting}
@@ -25,7 +26,7 @@ use Rattle.eb_place.proofs.FreshPoolWords.{Each}
 use Rattle.eb_place.proofs.FreshPoolWords.Each.{none, more}
 use Rattle.eb_place.proofs.DictionaryOfTerms.{Behind}
 use Rattle.eb_place.proofs.EntryStores.{is_entry, entries, entries_picked}
-use Rattle.eb_place.proofs.RegionStores.{picks_all}
+use Rattle.eb_place.proofs.RegionStores.{picks_all, count_none}
 use Rattle.eb_place.proofs.DictionaryAtMoment.{entered_done_is, cells_counted}
 use Rattle.eb_place.proofs.WordsAtMoment.{placed_all, lawful_front}
 use Rattle.eb_place.proofs.Prefixes.{prefix_self}
@@ -36,13 +37,10 @@ use Rattle.eb_place.proofs.ReachedLater.{later_reached}
 abbrev pub whole_moment : Moment → Moment
 whole_moment m = record { setting = m.setting; documents = record { accepted = m.documents.accepted; current = None }; conversions = record { converted = 0; packed = 0 } }
 
-pub whole_lawful : (m : Moment) → IsMoment m → IsLawful m.setting m.documents.accepted
-whole_lawful m is = lawful_front m.setting m.documents.accepted (current_of m.documents.current) is.lawful
-
 pub whole_is : (m : Moment) → IsMoment m → IsMoment (whole_moment m)
 whole_is m is = record {
   setting = is.setting;
-  lawful = subst (IsLawful m.setting) (sym (append-nil m.documents.accepted)) (whole_lawful m is);
+  lawful = subst (IsLawful m.setting) (sym (append-nil m.documents.accepted)) (accepted_lawful m is);
   begun = tt;
   closed = λ s h. absurd (omega arith);
   packs = λ h. absurd (omega arith);
@@ -100,10 +98,6 @@ pub seen_accepted : (m n : Moment) (s : ℕ) (t : Term) → IsMoment m → s < m
 seen_accepted m n s t is h l = omega (arith, seen_whole m s t is h, later_reached (whole_moment m) m s t (whole_before m), later_reached m n s t l)
 
 -- ---- the terms are entered
-
-count_none : (p : Store → _) (xs : List Store) → Each (λ (y : Store). p y ≡ false) xs → count_by p xs ≡ 0
-count_none p [] none = refl
-count_none p (x ∷ xs) (more h t) = rw h (count_none p xs t)
 
 behind_none : (s : ℕ) (terms : List Term) (xs : List Store) → Each (Behind s terms) xs → Each (λ (y : Store). is_in s cell_region y ≡ false) xs
 behind_none s terms [] none = none

@@ -4,6 +4,7 @@ use Rattle.std.proofs.lemmas.Bool.{lt-ltb, le-ltb}
 use Rattle.std.proofs.lemmas.List.{get_or-map}
 use Rattle.std.proofs.lemmas.Option.{get_or_from_slice_get}
 use mathlib.Core.List.{IsPrefix}
+use Rattle.eb_place.proofs.NextStore.{accepted_lawful}
 use Rattle.eb_base.specs.Document.{Doc}
 use Rattle.eb_base.specs.Query.{since}
 use Rattle.eb_place.specs.declared.moment.Moment.{Moment}
@@ -21,7 +22,6 @@ use Rattle.eb_cursor.specs.Posted.{doc_at, match_at}
 use Rattle.eb_cursor.specs.Ready.{IsPassed, IsBound, IsOnlyBound}
 use Rattle.eb_cursor.specs.Tops.{top}
 use Rattle.eb_cursor.specs.declared.cursor.Cursor.{Cursor}
-use Rattle.eb_cursor.proofs.Accepted.{whole_lawful}
 use Rattle.eb_cursor.proofs.Steps.{passed_min, passed_again}
 use Rattle.eb_cursor.proofs.Tops.{top_le, top_here, top_past, top_twice}
 
@@ -37,7 +37,7 @@ first_prefix m s docs a = (a.rest, sym a.are)
 
 pub first_is_low : (m : Moment) (s i : ℕ) (docs : List Doc) → IsMoment m → i < length docs → AreFirst m s docs → IsLow m s i
 first_is_low m s i docs is h a =
-    let placed = placed_all m.setting m.documents.accepted is.setting (whole_lawful m is) in
+    let placed = placed_all m.setting m.documents.accepted is.setting (accepted_lawful m is) in
     record { segment = a.inside; document = omega (arith, placed.few s, prefix_length docs (accepted_in m s) (first_prefix m s docs a)) }
 
 -- the id word of one of the first accepted documents of a segment

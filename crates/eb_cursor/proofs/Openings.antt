@@ -3,6 +3,7 @@ use Rattle.std.proofs.Common.{◌≡◌, ◌==◌, ℕ, Bool, true, false, zero,
 use Rattle.std.proofs.lemmas.Bool.{cases_lt}
 use Rattle.std.proofs.lemmas.List.{length-append, take_all}
 use mathlib.Core.List.{IsPrefix}
+use Rattle.eb_place.proofs.NextStore.{accepted_lawful}
 use Rattle.eb_base.specs.Term.{Term}
 use Rattle.eb_base.specs.Document.{Doc}
 use Rattle.eb_place.specs.declared.moment.Moment.{Moment}
@@ -34,7 +35,7 @@ use Rattle.eb_cursor.specs.Posted.{Narrow}
 use Rattle.eb_cursor.specs.Accepted.{accepted_in, AreFirst}
 use Rattle.eb_cursor.specs.Opened.{CanRead, Opened}
 use Rattle.eb_cursor.specs.declared.posting_list.PostingList.TheVariants.{Empty, Live, Packed}
-use Rattle.eb_cursor.proofs.Accepted.{whole_moment, whole_lawful, whole_segment, whole_before, seen_accepted, entered_accepted}
+use Rattle.eb_cursor.proofs.Accepted.{whole_moment, whole_segment, whole_before, seen_accepted, entered_accepted}
 use Rattle.eb_cursor.proofs.Firsts.{first_on}
 use Rattle.eb_cursor.proofs.PostingsOf.{postings_below, seen_below, narrow_each, narrow_front}
 
@@ -104,7 +105,7 @@ read_on m n s docs packed l h = record { first = first_on m n s docs l h.first; 
 -- documents that are the first of a segment: the segment is there, and none has more terms than places
 pub are_first : (m : Moment) (s : ℕ) (docs : List Doc) → IsMoment m → 1 ≤ length docs → IsPrefix docs (accepted_in m s) → AreFirst m s docs
 are_first m s docs is some p =
-    let placed = placed_all m.setting m.documents.accepted is.setting (whole_lawful m is) in
+    let placed = placed_all m.setting m.documents.accepted is.setting (accepted_lawful m is) in
     let there : s < length (cut m.setting m.documents.accepted) = in_list (cut m.setting m.documents.accepted) s (omega (arith, ap length (sym p.1), length-append docs p.0)) in
     record {
       inside = omega (arith, placed.short);

@@ -1,4 +1,4 @@
--- How many loads a search of one word makes.
+-- How many loads a search of one word makes, and one of an and of words.
 use Rattle.std.specs.Prelude.{◌≡◌, ℕ, ◌+◌, ◌≤◌, List, length}
 use mathlib.Core.List.{IsPrefix}
 use Rattle.eb_base.specs.Document.{Doc}
@@ -7,7 +7,7 @@ use Rattle.eb_base.specs.Term.{Term}
 use Rattle.eb_place.specs.declared.moment.Moment.{Moment}
 use Rattle.eb_place.specs.Moments.{IsMoment}
 use Rattle.eb_place.specs.Later.{IsNotBefore}
-use Rattle.eb_search.specs.Bounds.{load_bound}
+use Rattle.eb_search.specs.Bounds.{load_bound, and_bound}
 
 -- a search of the word from one moment to another, that answered so many ids over so many documents, made no more loads than its
 -- bound
@@ -25,3 +25,17 @@ pub record IsBounded (σ : Setting) (knew knows : List Doc) (t : Term) (ids befo
   pub knew_then : IsPrefix knew was.documents.accepted
   pub knows_now : IsPrefix knows now.documents.accepted
   pub loads : IsWithinBound was now t (length knows) ids before after
+
+-- a search of an and of the words that ended at a moment, and answered so many ids over so many documents, made no more loads
+-- than its bound
+pub record IsWithinAndBound (now : Moment) (ts : List Term) (counted ids before after : ℕ) : Type 0 where
+  pub few : after ≤ before + and_bound now counted ts ids
+
+-- a search of an and of the words that knows these first documents of the history when it ends, and answered so many ids, made no
+-- more loads than its bound at a moment at which they are accepted
+pub record IsAndBounded (σ : Setting) (knows : List Doc) (ts : List Term) (ids before after : ℕ) : Type 0 where
+  pub now : Moment
+  pub is : IsMoment now
+  pub setting : now.setting ≡ σ
+  pub knows_now : IsPrefix knows now.documents.accepted
+  pub loads : IsWithinAndBound now ts (length knows) ids before after

@@ -1,11 +1,12 @@
 //! What is done through a seat at the words: searches, adds and conversions.
 ghost use Rattle.std.specs.Prelude.{◌≡◌, ℕ, List, ◌+◌, ◌<◌, length, IfOk, OnErr};
-ghost use Rattle.eb_base.specs.Query.{word};
+ghost use Rattle.eb_base.specs.Query.{word, conjunction};
 ghost use Rattle.eb_convert.specs.Converting.{IsConversion};
+ghost use Rattle.eb_cursor.specs.AndCosts.{words_of};
 ghost use Rattle.eb_cursor.specs.Frames.{query_of, k_of, ids_of};
 ghost use Rattle.eb_place.specs.Later.{IsNotBefore};
 ghost use Rattle.eb_place.specs.Room.{HasRoom};
-ghost use Rattle.eb_engine.specs.Loads.{IsWithinBound};
+ghost use Rattle.eb_engine.specs.Loads.{IsWithinBound, IsWithinAndBound};
 ghost use Rattle.eb_search.specs.Searched.{Searched};
 ghost use Rattle.eb_table.specs.Known.{MadeWith};
 ghost use Rattle.eb_writer.specs.Progress.{PlacerStands, HasNoRoom};
@@ -37,6 +38,8 @@ pub(crate) fn search_words<G: Gate, L: Ledger>(
     ensures answer { Searched seat.old.moment seat.new.moment (query_of frame.old) (k_of frame.old) result (ids_of frame.new) }
     ensures loads { (t : List ℕ) → query_of frame.old ≡ word t
         → IsWithinBound seat.old.moment seat.new.moment t result (length (ids_of frame.new)) steps.old steps.new }
+    ensures rounds { (ts : List (List ℕ)) → query_of frame.old ≡ conjunction (words_of ts)
+        → IsWithinAndBound seat.new.moment ts result (length (ids_of frame.new)) steps.old steps.new }
 {
     let mut port = ReaderPort { seat, words };
     search(&mut port, frame, gate, steps)

@@ -1,10 +1,11 @@
 ghost use Rattle.std.specs.Prelude.{◌≡◌, ℕ, List, ◌≤◌, ◌⊎◌, length};
 ghost use mathlib.Core.List.{IsPrefix};
 ghost use Rattle.eb_base.specs.Match.{answer};
-ghost use Rattle.eb_base.specs.Query.{word};
+ghost use Rattle.eb_base.specs.Query.{word, conjunction};
+ghost use Rattle.eb_cursor.specs.AndCosts.{words_of};
 ghost use Rattle.eb_cursor.specs.Frames.{query_of, k_of, ids_of};
 ghost use Rattle.eb_place.specs.Moments.{IsMoment};
-ghost use Rattle.eb_engine.specs.Loads.{IsBounded};
+ghost use Rattle.eb_engine.specs.Loads.{IsBounded, IsAndBounded};
 ghost use Rattle.eb_engine.specs.Tokens.{index_of, first_of};
 
 use crate::calls::search_words;
@@ -74,7 +75,8 @@ impl Reader {
     /// of a word. A search of a word makes a bounded number of loads (`IsBounded`): one for the count, two for each
     /// segment of the setting, one for each id, and in each segment that holds one of these documents those that
     /// find the word and those of its list, which is the packed one where the segment was converted when the search
-    /// began. The reader must have been made with this index. Takes no memory.
+    /// began. So does a search of an And of words (`IsAndBounded`), by the documents that have the rarest of them in each
+    /// segment. The reader must have been made with this index. Takes no memory.
     pub fn search<G: Gate, L: Ledger>(
         &mut self,
         index: &Index,
@@ -91,6 +93,8 @@ impl Reader {
         ensures ids { ids_of frame.new ≡ answer (query_of frame.old) (k_of frame.old) self.new.docs }
         ensures loads { (t : List ℕ) → query_of frame.old ≡ word t
             → IsBounded index.now.setting self.old.docs self.new.docs t (length (ids_of frame.new)) steps.old steps.new }
+        ensures rounds { (ts : List (List ℕ)) → query_of frame.old ≡ conjunction (words_of ts)
+            → IsAndBounded index.now.setting self.new.docs ts (length (ids_of frame.new)) steps.old steps.new }
     {
         let count = search_words(&mut self.seat, &index.words, frame, gate, steps);
         self.seen = count;

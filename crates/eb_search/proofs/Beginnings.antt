@@ -5,6 +5,7 @@ use Rattle.std.proofs.lemmas.List.{length_push, get_or-set_same, get_or-set_othe
 use Rattle.std.proofs.lemmas.List.Sums.{sum_by-cons}
 use native.Mathlib.Decide.{ℕ_discrete}
 use mathlib.Core.List.{IsPrefix}
+use Rattle.eb_place.proofs.NextStore.{accepted_lawful}
 use Rattle.eb_base.specs.Document.{Doc}
 use Rattle.eb_base.specs.Setting.{Setting}
 use Rattle.eb_place.specs.declared.moment.Moment.{Moment}
@@ -18,7 +19,6 @@ use Rattle.eb_place.specs.Later.{IsNotBefore}
 use Rattle.eb_place.proofs.WordsAtMoment.{placed_all, lawful_front}
 use Rattle.eb_place.proofs.Prefixes.{prefix_trans}
 use Rattle.eb_place.proofs.FirstDocumentWords.{first_in, first_push, first_new, cut_sum, word_first}
-use Rattle.eb_cursor.proofs.Accepted.{whole_lawful}
 use Rattle.eb_search.specs.Visible.{documents_before, AreVisible}
 use Rattle.eb_search.proofs.Parts.{is_part}
 
@@ -148,5 +148,5 @@ some_all m docs firsts segment le h = record { accepted = h.accepted; words = re
 -- there are no more than the index has
 pub cut_short : (m : Moment) (docs : List Doc) → IsMoment m → IsPrefix docs m.documents.accepted → length (cut m.setting docs) ≤ m.setting.segments
 cut_short m docs is p =
-    let placed = placed_all m.setting docs is.setting (lawful_front m.setting docs p.0 (subst (IsLawful m.setting) (sym p.1) (whole_lawful m is))) in
+    let placed = placed_all m.setting docs is.setting (lawful_front m.setting docs p.0 (subst (IsLawful m.setting) (sym p.1) (accepted_lawful m is))) in
     placed.short

@@ -1,6 +1,7 @@
 -- The accepted documents of a segment, at later moments too.
 use Rattle.std.proofs.Common.{◌≡◌, ℕ, ◌+◌, ◌<◌, ◌≤◌, ◌^◌, List, [], ◌++◌, length, drop, get_or, slice_get, Some, ap, sym, ◌∙◌, subst, arith}
 use mathlib.Core.List.{IsPrefix}
+use Rattle.eb_place.proofs.NextStore.{accepted_lawful}
 use Rattle.eb_base.specs.Document.{Doc}
 use Rattle.eb_base.specs.Setting.{Setting}
 use Rattle.eb_place.specs.declared.moment.Moment.{Moment}
@@ -16,7 +17,6 @@ use Rattle.eb_place.proofs.Prefixes.{prefix_trans, prefix_length}
 use Rattle.eb_cursor.specs.Accepted.{accepted_in}
 use Rattle.eb_cursor.specs.Frames.{MayAsk}
 use Rattle.eb_cursor.specs.declared.frame.Frame.{Frame}
-use Rattle.eb_cursor.proofs.Accepted.{whole_lawful}
 use Rattle.eb_cursor.proofs.Bounds.{IsLow, first_is_low, loaded_first}
 use Rattle.eb_cursor.proofs.Openings.{are_first}
 use Rattle.eb_place.proofs.LaterMoments.{later_self}
@@ -83,7 +83,7 @@ pub is_step : (m : Moment) (docs : List Doc) (firsts : List ℕ) (begun s end : 
 is_step m docs firsts begun s end is v le e =
     let here : s < length (cut m.setting docs) = omega (arith, v.words.all) in
     let part = is_part m.setting docs s here in
-    let placed = placed_all m.setting m.documents.accepted is.setting (whole_lawful m is) in
+    let placed = placed_all m.setting m.documents.accepted is.setting (accepted_lawful m is) in
     let first = part_accepted m docs s v.accepted in
     let long = prefix_length _ _ first in
     record {

@@ -3,6 +3,7 @@ use Rattle.std.proofs.Common.{◌≡◌, ◌≤◌, ℕ, List, [], ◌∷◌, �
 use Rattle.std.proofs.lemmas.Bool.{cases_Bool}
 use Rattle.std.proofs.lemmas.List.{take-append-drop, length-take-le}
 use mathlib.Core.List.{IsPrefix}
+use Rattle.eb_place.proofs.NextStore.{accepted_lawful}
 use Rattle.eb_base.specs.Document.{Doc}
 use Rattle.eb_base.specs.Setting.{Setting}
 use Rattle.eb_place.specs.declared.moment.Moment.{Moment}
@@ -13,7 +14,6 @@ use Rattle.eb_place.specs.Later.{IsNotBefore}
 use Rattle.eb_place.proofs.WordsAtMoment.{placed_all}
 use Rattle.eb_place.proofs.Prefixes.{prefix_length}
 use Rattle.eb_cursor.specs.Accepted.{accepted_in}
-use Rattle.eb_cursor.proofs.Accepted.{whole_lawful}
 use Rattle.eb_trials.specs.Added.{Holds}
 
 longer_fold : (σ : Setting) (segs : List (List Doc)) (docs : List Doc) → length segs ≤ length (fold (with_doc σ) segs docs)
@@ -40,7 +40,7 @@ all_in_one σ segs (d ∷ ds) h =
 alone : (m : Moment) → IsMoment m → m.setting.segments ≡ 1 → accepted_in m 0 ≡ m.documents.accepted
 unfolding cut
 alone m is one =
-    let few = (placed_all m.setting m.documents.accepted is.setting (whole_lawful m is)).short in
+    let few = (placed_all m.setting m.documents.accepted is.setting (accepted_lawful m is)).short in
     all_in_one m.setting [] m.documents.accepted (omega arith)
 
 -- so many as it holds, and at least so many later

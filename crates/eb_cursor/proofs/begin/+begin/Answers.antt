@@ -9,12 +9,12 @@ use Rattle.eb_cursor.proofs.Tellings.{told_itself, told_as, told_on}
 use Rattle.eb_cursor.proofs.Openings.{read_on}
 use Rattle.eb_cursor.proofs.Steps.{tree_Word, tree_Phrase, tree_Window, tree_Since, tree_Not, tree_And, front_of}
 use Rattle.eb_cursor.proofs.Begins.{begun_word, begun_phrase, begun_since, begun_not, begun_and, each_ends, each_goes, some_none, some_goes, front_clear, back_clear}
-use Rattle.eb_place.proofs.LaterMoments.{later_on}
+use Rattle.eb_place.proofs.LaterMoments.{later_on, inside_later}
 use Rattle.eb_cursor.specs.AndCosts.{open_loads, rounds_cost}
 use Rattle.eb_cursor.specs.Costs.{AllSpan, IsPaid, opening_loads}
 use Rattle.eb_cursor.specs.declared.cursor.Cursor.{Cursor}
 use Rattle.eb_cursor.proofs.AndLoads.{words_split, spans_join, cost_low, cost_most, leaf_span, no_spans, clear_spans, sizes_words, if_under}
-use Rattle.eb_cursor.proofs.Owing.{all_span_later, opening_later, segment_later}
+use Rattle.eb_cursor.proofs.Owing.{all_span_later, opening_later}
 use Rattle.eb_cursor.proofs.begin.+begin.Goals as goal
 
 none_of : (o : Option ℕ) → is_some o ≡ false → o ≡ None
@@ -338,7 +338,7 @@ begin_each-returns-clause-spans g t c = λ ts e live. record {
       c.size.result c.in-Some.ensures.cases.0 c.size.ensures c.split_at_mut-own.ensures.front c.split_at_mut-own.ensures.back in
       let k = words_split ts (tree c.in-Some.part.now) (trees_in c.in-Some.others.now) (sym f.parts ∙ e) in
       let x = (c.begin.ensures.spans k.0 k.3 live).told m st h in
-      let inside = segment_later m x.0 s x.2 h in
+      let inside = inside_later m x.0 s x.2 h in
       let y = (c.begin_each.ensures.spans k.1 k.4 live).told x.0 x.1 inside in
       let own = all_span_later x.0 y.0 s (k.0 ∷ []) c.begin.new.cursors x.4.0 (g.met.P.Port.lawful _ x.0 x.1) y.2 x.4.1 in
       let more = opening_later x.0 y.0 s k.0 (g.met.P.Port.lawful _ x.0 x.1) (g.met.P.Port.lawful _ y.0 y.1) y.2 inside in (

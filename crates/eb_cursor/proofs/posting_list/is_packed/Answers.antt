@@ -1,11 +1,11 @@
 use Rattle.std.proofs.Common.{◌==◌, ap, refl, ◌∙◌}
+use Rattle.eb_place.proofs.LaterMoments.{inside_later}
 use Rattle.eb_base.specs.Setting.{Setting}
 use Rattle.eb_place.specs.Layout.{place}
 use Rattle.eb_place.specs.Layout.Slot.{slot}
 use Rattle.eb_place.specs.Layout.Region.{converted_region}
 use Rattle.eb_place.specs.Moments.{word}
 use Rattle.eb_cursor.proofs.Openings.{packed_if}
-use Rattle.eb_cursor.proofs.Owing.{segment_later}
 use Rattle.eb_cursor.proofs.posting_list.is_packed.Goals as goal
 
 pub returns-clause-told : goal.returns-clause-told
@@ -18,6 +18,6 @@ returns-clause-told g c = record {
         y.1,
         y.2,
         y.3,
-        packed_if y.0 c.args.segment c.load-word.result (c.load-word.result == 1) (g.met.P.Port.lawful _ y.0 y.1) (segment_later m y.0 c.args.segment y.2 inside) (y.4 ∙ ap (word y.0) at) refl,
+        packed_if y.0 c.args.segment c.load-word.result (c.load-word.result == 1) (g.met.P.Port.lawful _ y.0 y.1) (inside_later m y.0 c.args.segment y.2 inside) (y.4 ∙ ap (word y.0) at) refl,
       );
 }

@@ -3,7 +3,7 @@ use Rattle.std.proofs.lemmas.List.{length-take-le}
 use Rattle.eb_place.proofs.LaterMoments.{later_on}
 use Rattle.eb_place.proofs.Prefixes.{prefix_length}
 use Rattle.eb_cursor.specs.Frames.{ids_of}
-use Rattle.eb_engine.specs.Loads.{IsWithinBound}
+use Rattle.eb_engine.specs.Loads.{IsWithinBound, IsWithinAndBound}
 use Rattle.eb_table.specs.Known.{Words}
 use mathlib.Core.List.{IsPrefix}
 use Rattle.eb_base.specs.Document.{Doc}
@@ -34,4 +34,19 @@ returns-clause-loads g c = λ t is.
       knew_then = subst (λ (docs : List Doc). IsPrefix docs was.documents.accepted) (ap (λ (t : Token). t.docs) c.self.view_is) (front_of c.self.inside.seen was.documents.accepted);
       knows_now = front_of n all;
       loads = subst (λ k. IsWithinBound was now t k (length (ids_of c.search_words-count.new.frame)) c.args.steps.now c.search_words-count.new.steps) (sym (length-take-le n all long)) (e.loads t is);
+    }
+
+pub returns-clause-rounds : goal.returns-clause-rounds
+returns-clause-rounds g c = λ ts is.
+    let now = c.search_words-count.new.seat.moment in
+    let e = c.search_words-count.ensures in
+    let all : List Doc = now.documents.accepted in
+    let n : ℕ = c.search_words-count.result in
+    let long : n ≤ length all = omega (arith, e.answer.count, prefix_length _ _ e.answer.before.documents.accepted) in
+    record {
+      now = now;
+      is = e.made.moment;
+      setting = e.made.setting ∙ ap (λ (w : Words). w.setting) c.index.view_is;
+      knows_now = front_of n all;
+      loads = subst (λ k. IsWithinAndBound now ts k (length (ids_of c.search_words-count.new.frame)) c.args.steps.now c.search_words-count.new.steps) (sym (length-take-le n all long)) (e.rounds ts is);
     }
