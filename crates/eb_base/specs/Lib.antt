@@ -4,3 +4,4 @@ pub mod Query
 pub mod Match
 pub mod Setting
 pub mod MatchLaw
+pub mod Faults

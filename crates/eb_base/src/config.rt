@@ -1,6 +1,8 @@
 ghost use Rattle.std.specs.Prelude.{◌≡◌, ℕ, ◌+◌, ◌*◌, ◌<◌, ◌≤◌, ◌^◌, ◌↔◌, IfOk, IsErrOf, IsTrue};
 ghost use Rattle.eb_base.specs.Setting.{Setting, IsSetting, AreSegments, AreDocs, AreTerms, AreWords, words_of};
 
+use std::error::Error;
+use std::fmt;
 use std::marker::Model;
 
 /// The most segments of an index.
@@ -45,6 +47,26 @@ pub enum ConfigFault {
     /// The words of the index, `1 + segments * (2 + docs + 77 * terms)`, are more than 134,217,728.
     Words,
 }
+
+impl fmt::Display for ConfigFault {
+    ghost use Rattle.std.specs.Prelude.{Some};
+    ghost use Rattle.eb_base.specs.Faults.{config_fault_text};
+
+    ghost output = { λ fault. Some (config_fault_text fault) };
+
+    fn fmt<W: fmt::Write>(&self, f: &mut fmt::Formatter<W>) -> fmt::Result {
+        match self {
+            ConfigFault::Segments => f.write_str("not 1 to 64 segments"),
+            ConfigFault::Docs => f.write_str("not 1 to 16,777,216 documents a segment"),
+            ConfigFault::Terms => f.write_str(
+                "the terms of a segment are no power of two from 1,024 to 1,048,576",
+            ),
+            ConfigFault::Words => f.write_str("more than 134,217,728 words"),
+        }
+    }
+}
+
+impl Error for ConfigFault {}
 
 impl Config {
     /// The setting with these numbers; else the first of them that is out of range. Takes no memory.

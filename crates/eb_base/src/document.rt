@@ -2,6 +2,8 @@ ghost use Rattle.std.specs.Prelude.{◌≡◌, ℕ, ◌<◌, ◌≤◌, ◌↔�
 ghost use Rattle.eb_base.specs.Document.{IsDocument, bytes_of, most_tokens, most_bytes};
 
 use crate::terms::Terms;
+use std::error::Error;
+use std::fmt;
 use std::marker::Model;
 
 /// The most tokens of a document.
@@ -36,6 +38,22 @@ pub enum DocFault {
     /// There are no more than that, and they have more than [`MAX_BYTES`] bytes in all.
     TooManyBytes,
 }
+
+impl fmt::Display for DocFault {
+    ghost use Rattle.std.specs.Prelude.{Some};
+    ghost use Rattle.eb_base.specs.Faults.{doc_fault_text};
+
+    ghost output = { λ fault. Some (doc_fault_text fault) };
+
+    fn fmt<W: fmt::Write>(&self, f: &mut fmt::Formatter<W>) -> fmt::Result {
+        match self {
+            DocFault::TooManyTokens => f.write_str("more than 1,024 terms"),
+            DocFault::TooManyBytes => f.write_str("more than 16,384 bytes of terms"),
+        }
+    }
+}
+
+impl Error for DocFault {}
 
 impl Document {
     /// The document with this id and these terms. Refused as `TooManyTokens` exactly at 1,025 or more

@@ -15,9 +15,8 @@ use clap::error::ErrorKind;
 use clap::{ArgMatches, Error};
 use eb_base::NoMemory;
 use std::alloc::Global;
-use std::error;
-use std::fmt;
 use std::marker::Model;
+use std::{error, fmt};
 
 // A flag of a command, and whether it stands in the words.
 #[derive(Debug, Drop)]
