@@ -5,8 +5,8 @@ ghost use Rattle.eb_io.specs.Faults.{HasRisen};
 ghost use Rattle.eb_io.specs.Lines.{Line, line, lines_of};
 ghost use Rattle.earlybird.specs.Bench.{Closes, HasCounted, lines_until, ids_in, bench_line, PrintsFigures};
 
-use crate::printed::print_last;
-use crate::printing::put_figures;
+use crate::figures::put_figures;
+use crate::last_line::print_last;
 use crate::session::{Outcome, Session};
 use eb_base::{Config, Gate, NoMemory};
 use eb_gen::{line_of, query_of};

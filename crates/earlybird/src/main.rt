@@ -6,9 +6,9 @@ ghost use Rattle.std.specs.Prelude.{◌≡◌, ◌↔◌};
 
 mod bench;
 mod command;
+mod figures;
+mod last_line;
 mod laws;
-mod printed;
-mod printing;
 mod program;
 mod run;
 mod running;

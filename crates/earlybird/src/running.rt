@@ -1,4 +1,4 @@
-ghost use Rattle.std.specs.Prelude.{◌≡◌, ◌+◌, ◌<◌, ◌^◌, true, false, Some, None, ℕ, List, [], length, IfOk, OnErr, OnOk, IsTrue, ◌↔◌, slice_get};
+ghost use Rattle.std.specs.Prelude.{◌≡◌, ◌+◌, ◌<◌, ◌^◌, true, false, Some, None, ℕ, List, [], length, IfOk, OnErr, OnOk, slice_get};
 ghost use Rattle.eb_io.specs.Lines.{Line, line, long_line};
 ghost use Rattle.eb_rounds.specs.Passed.{HasMark, input_of, input_kind};
 ghost use Rattle.eb_rounds.specs.Standing.{queries_held};

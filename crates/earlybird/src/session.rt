@@ -1,8 +1,7 @@
-ghost use Rattle.std.specs.Prelude.{◌≡◌, ◌+◌, ◌<◌, ◌^◌, IfOk, IsTrue, ◌↔◌, length};
-ghost use Rattle.eb_base.specs.Document.{Doc};
+ghost use Rattle.std.specs.Prelude.{◌≡◌, ◌+◌, ◌<◌, ◌^◌, IfOk, length};
 ghost use Rattle.eb_base.specs.Setting.{Setting};
 ghost use Rattle.eb_base.specs.Match.{answer};
-ghost use Rattle.eb_cursor.specs.Frames.{query_of, k_of, ids_of};
+ghost use Rattle.eb_cursor.specs.Frames.{query_of, k_of};
 ghost use Rattle.eb_lines.specs.Reading.{blank, document as reads_document, query, refused};
 ghost use Rattle.eb_lines.specs.Progress.{Progress, with_line, nothing};
 ghost use Rattle.eb_rounds.specs.Admitted.{admit};

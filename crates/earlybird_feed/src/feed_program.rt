@@ -1,5 +1,5 @@
 //! The program over a feed: what it does with each line, and at the end.
-ghost use Rattle.eb_io.specs.Lines.{line, long_line};
+ghost use Rattle.eb_io.specs.Lines.{line};
 
 use crate::feeding::Feeding;
 use crate::printing::put_last;

@@ -3,7 +3,7 @@ ghost use Rattle.std.specs.Prelude.{false, ◌≡◌, ◌+◌, ◌<◌, ◌≤�
 ghost use Rattle.std.specs.Prelude.{IfOk, IfSome, IfNone, IsNone, OnErr, OnOk};
 ghost use Rattle.eb_base.specs.Match.{answer};
 ghost use Rattle.eb_base.specs.Query.{tree, IsWellFormed};
-ghost use Rattle.eb_cursor.specs.Frames.{query_of, k_of, ids_of};
+ghost use Rattle.eb_cursor.specs.Frames.{query_of, k_of};
 ghost use Rattle.eb_io.specs.Lines.{Line, line, long_line};
 ghost use Rattle.eb_lines.specs.Programs.{IsRunning, WorksOn, WorksOnGiven, Finishes};
 ghost use Rattle.eb_lines.specs.Reading.{blank, document as reads_document, query, refused as is_refused};

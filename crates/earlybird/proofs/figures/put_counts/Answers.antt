@@ -3,7 +3,7 @@ use Rattle.std.specs.Prelude.{codes}
 use Rattle.std.specs.Fmt.{decimal}
 use Rattle.std.specs.String.{string_bytes}
 use Rattle.earlybird.proofs.Benches.{five_parts}
-use Rattle.earlybird.proofs.printing.put_counts.Goals as goal
+use Rattle.earlybird.proofs.figures.put_counts.Goals as goal
 
 pub returns : goal.returns
 returns c =
