@@ -6,8 +6,8 @@ use Rattle.eb_lines.specs.Text.{answer_line}
 use Rattle.eb_watching.proofs.Watchings.{stays_err, takes_query, writer_here}
 use Rattle.eb_watching.proofs.watching.Watching.answer.Goals as goal
 
-pub search_all-seen-requires-clause-writer : goal.search_all-seen-requires-clause-writer
-search_all-seen-requires-clause-writer g c = writer_here c.args.self.now c.requires.state
+pub search_all-seen-requires : goal.search_all-seen-requires
+search_all-seen-requires g c = record { writer = writer_here c.args.self.now c.requires.state }
 
 pub returns-clause-ok : goal.returns-clause-ok
 returns-clause-ok g c =
