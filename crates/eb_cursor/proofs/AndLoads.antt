@@ -1,12 +1,13 @@
 -- What the words of an and owe.
-use Rattle.std.proofs.Common.{◌≡◌, Bool, true, false, if◌then◌else◌, ℕ, zero, suc, ◌+◌, ◌*◌, ◌<◌, ◌≤◌, List, [], ◌∷◌, ◌++◌, length, get_or, take, drop, slice_set, slice_index_or, ap, sym, subst, refl, ◌∙◌, arith}
+use Rattle.std.proofs.Common.{◌≡◌, ℕ, zero, suc, ◌+◌, ◌*◌, ◌<◌, ◌≤◌, Bool, true, false, if◌then◌else◌, ap, sym, subst, refl, ◌∙◌, arith}
+use Rattle.std.proofs.Common.{List, [], ◌∷◌, ◌++◌, length, get_or, take, drop, slice_set, slice_index_or}
 use Rattle.std.proofs.Math.Nat.{mul-le-mul_left, mul-suc}
 use Rattle.std.specs.List.{Contains}
 use Rattle.eb_base.specs.Document.{Doc}
 use Rattle.eb_base.specs.Query.{Tree, Trees, word, no_trees, trees, size, sizes}
 use Rattle.eb_base.specs.Term.{Term}
 use Rattle.eb_place.specs.declared.moment.Moment.{Moment}
-use Rattle.eb_cursor.specs.AndCosts.{words_of, has_term, documents_with, rounds_cost, all_rounds_cost, open_loads, AndOwes}
+use Rattle.eb_cursor.specs.AndCosts.{word_parts, document_has, documents_with, rounds_cost, all_rounds_cost, all_opening_loads, AndOwes}
 use Rattle.eb_place.specs.Moments.{IsMoment}
 use Rattle.eb_place.specs.Later.{IsNotBefore}
 use Rattle.eb_cursor.specs.Ready.{rest_of}
@@ -21,13 +22,14 @@ use Rattle.eb_cursor.proofs.Rounds.{round_falls, rounds_low, rounds_most}
 use Rattle.eb_cursor.proofs.Steps.{IsFront}
 
 -- the words are a first one and others
-pub words_split : (ts : List Term) (q : Tree) (qs : Trees) → trees q qs ≡ words_of ts → (t : Term) × (us : List Term) × (ts ≡ t ∷ us) × (q ≡ word t) × (qs ≡ words_of us)
+pub words_split : (ts : List Term) (q : Tree) (qs : Trees) → trees q qs ≡ word_parts ts → (t : Term) × (us : List Term) × (ts ≡ t ∷ us) × (q ≡ word t) × (qs ≡ word_parts us)
 words_split [] q qs e = absurd (cc e)
 words_split (t ∷ ts) q qs e = (t, ts, refl, cc e, cc e)
 
 -- ---- spans
 
-pub one_span : (m : Moment) (s : ℕ) (t : Term) (cursors : List Cursor) (d : Cursor) (most : ℕ) → AllSpan m s (t ∷ []) cursors most → (own : ℕ) × Spans m s t (get_or cursors 0 d).list own × (own ≤ most)
+pub one_span : (m : Moment) (s : ℕ) (t : Term) (cursors : List Cursor) (d : Cursor) (most : ℕ)
+    → AllSpan m s (t ∷ []) cursors most → (own : ℕ) × Spans m s t (get_or cursors 0 d).list own × (own ≤ most)
 one_span m s t [] d most h = absurd h
 one_span m s t (c ∷ cs) d most h = (h.0, h.2, omega (arith, h.4))
 
@@ -65,7 +67,7 @@ leaf_span n s t [] c left e h = absurd (omega (arith, e))
 leaf_span n s t (x ∷ []) c left e h = (left, 0, h, refl, omega arith)
 leaf_span n s t (x ∷ (y ∷ ys)) c left e h = absurd (omega (arith, e))
 
-pub no_spans : (n : Moment) (s : ℕ) (ts : List Term) (qs : Trees) (cursors : List Cursor) → qs ≡ no_trees → qs ≡ words_of ts → length cursors ≡ sizes qs → AllSpan n s ts cursors 0
+pub no_spans : (n : Moment) (s : ℕ) (ts : List Term) (qs : Trees) (cursors : List Cursor) → qs ≡ no_trees → qs ≡ word_parts ts → length cursors ≡ sizes qs → AllSpan n s ts cursors 0
 no_spans n s [] qs [] z e l = refl
 no_spans n s [] qs (c ∷ cs) z e l = absurd (omega (arith, l, ap sizes z))
 no_spans n s (t ∷ ts) qs cursors z e l = absurd (cc (sym z ∙ e))
@@ -77,7 +79,7 @@ clear_spans n s [] (c ∷ cs) h e = absurd (omega (arith, e))
 clear_spans n s (t ∷ ts) [] h e = absurd (omega (arith, e))
 clear_spans n s (t ∷ ts) (c ∷ cs) h e = (0, 0, subst (λ z. Spans n s t z 0) (sym h.2) tt, clear_spans n s ts cs h.3 (omega (arith, e)), omega arith)
 
-pub sizes_words : (ts : List Term) → sizes (words_of ts) ≡ length ts
+pub sizes_words : (ts : List Term) → sizes (word_parts ts) ≡ length ts
 sizes_words [] = refl
 sizes_words (t ∷ ts) = omega (arith, sizes_words ts)
 
@@ -92,26 +94,27 @@ one_more k a b h = let up : k * suc a ≤ k * b = mul-le-mul_left k (omega (arit
 
 pub cost_low : (docs : List Doc) (ts : List Term) (t : Term) (low end : ℕ) → low ≤ end → rounds_cost docs ts t low ≤ rounds_cost docs ts t end
 unfolding rounds_cost
-cost_low docs ts t low end h = mul-le-mul_left (round_loads ts) (rounds_low (has_term docs t) low end h)
+cost_low docs ts t low end h = mul-le-mul_left (round_loads ts) (rounds_low (document_has docs t) low end h)
 
 -- a round that falls, and not above the last document that has the term, is paid for
-pub cost_falls : (docs : List Doc) (ts : List Term) (t : Term) (found end : ℕ) → found < end → found ≤ top (has_term docs t) end
+pub cost_falls : (docs : List Doc) (ts : List Term) (t : Term) (found end : ℕ) → found < end → found ≤ top (document_has docs t) end
     → rounds_cost docs ts t found + round_loads ts ≤ rounds_cost docs ts t end
 unfolding rounds_cost
-cost_falls docs ts t found end h k = one_more (round_loads ts) _ _ (round_falls (has_term docs t) found end h k)
+cost_falls docs ts t found end h k = one_more (round_loads ts) _ _ (round_falls (document_has docs t) found end h k)
 
 -- all that can come over the documents
 pub cost_most : (docs : List Doc) (ts : List Term) (t : Term) → rounds_cost docs ts t (length docs) ≤ all_rounds_cost ts (documents_with docs t)
 unfolding rounds_cost all_rounds_cost
-cost_most docs ts t = mul-le-mul_left (round_loads ts) (rounds_most (has_term docs t) (length docs))
+cost_most docs ts t = mul-le-mul_left (round_loads ts) (rounds_most (document_has docs t) (length docs))
 
-under_there : (docs : List Doc) (ts : List Term) (t : Term) (end found k : ℕ) → k < length ts → slice_index_or ts k t ≡ t → AreUnder docs (words_of ts) end found → found ≤ top (has_term docs t) end
+under_there : (docs : List Doc) (ts : List Term) (t : Term) (end found k : ℕ)
+    → k < length ts → slice_index_or ts k t ≡ t → AreUnder docs (word_parts ts) end found → found ≤ top (document_has docs t) end
 under_there docs [] t end found k low e h = absurd (omega (arith, low))
 under_there docs (u ∷ us) t end found zero low e h = subst (λ z. found ≤ top (match_at docs (word z)) end) e h.0
 under_there docs (u ∷ us) t end found (suc k) low e h = under_there docs us t end found k (omega (arith, low)) e h.1
 
 -- a round ends at most one above the last match of each word
-pub under_at : (docs : List Doc) (ts : List Term) (t : Term) (qs : Trees) (end found : ℕ) → Contains ts t → qs ≡ words_of ts → AreUnder docs qs end found → found ≤ top (has_term docs t) end
+pub under_at : (docs : List Doc) (ts : List Term) (t : Term) (qs : Trees) (end found : ℕ) → Contains ts t → qs ≡ word_parts ts → AreUnder docs qs end found → found ≤ top (document_has docs t) end
 under_at docs ts t qs end found c e h = under_there docs ts t end found c.0 c.1 c.2 (subst (λ z. AreUnder docs z end found) e h)
 
 pub some_words : (ts : List Term) (t : Term) → Contains ts t → 0 < length ts
@@ -119,7 +122,7 @@ some_words ts t c = omega (arith, c.1)
 
 -- ---- at a later moment
 
-pub open_later : (m n : Moment) (s : ℕ) (ts : List Term) → IsMoment m → IsMoment n → IsNotBefore n m → s < m.setting.segments → open_loads m s ts ≤ open_loads n s ts
+pub open_later : (m n : Moment) (s : ℕ) (ts : List Term) → IsMoment m → IsMoment n → IsNotBefore n m → s < m.setting.segments → all_opening_loads m s ts ≤ all_opening_loads n s ts
 open_later m n s [] is js l h = omega arith
 open_later m n s (t ∷ ts) is js l h = omega (arith, opening_later m n s t is js l h, open_later m n s ts is js l h)
 

@@ -13,8 +13,8 @@ use Rattle.eb_cursor.specs.declared.cursor.Cursor.{Cursor}
 use Rattle.eb_cursor.specs.declared.window.Span.{Span}
 
 -- the greatest match of a query
-abbrev pub Finds : {S : Type 0} → (S → Moment → Type 0) → (S → Moment → S → Moment → Type 0) → S → S → Tree → List Cursor → List Cursor → ℕ → ℕ → Type 0
-Finds stands keeps s t q old new end found = (docs : List Doc) (last : ℕ) → end ≤ last → Told stands keeps s t (λ m. Ready (gives m) docs q old last) (Found q docs new end found)
+abbrev pub FindsMatch : {S : Type 0} → (S → Moment → Type 0) → (S → Moment → S → Moment → Type 0) → S → S → Tree → List Cursor → List Cursor → ℕ → ℕ → Type 0
+FindsMatch stands keeps s t q old new end found = (docs : List Doc) (last : ℕ) → end ≤ last → Told stands keeps s t (λ m. Ready (gives m) docs q old last) (Found q docs new end found)
 
 -- the greatest document that has the cursors' word
 abbrev pub FindsWord : {S : Type 0} → (S → Moment → Type 0) → (S → Moment → S → Moment → Type 0) → S → S → List Cursor → List Cursor → ℕ → ℕ → Type 0
@@ -94,9 +94,9 @@ FindsBound stands keeps s t x old new end found = (docs : List Doc) (last : ℕ)
 -- ---- beginning
 
 -- what opening lists in a segment gives, for each first documents of it that could be read
-abbrev pub Opens : {S : Type 0} → (S → Moment → Type 0) → (S → Moment → S → Moment → Type 0) → S → S → ℕ → Bool → (List Doc → Moment → Type 0) → Type 0
-Opens stands keeps s t segment packed After = (docs : List Doc) → Told stands keeps s t (λ m. CanRead m segment docs packed) (After docs)
+abbrev pub OpensIn : {S : Type 0} → (S → Moment → Type 0) → (S → Moment → S → Moment → Type 0) → S → S → ℕ → Bool → (List Doc → Moment → Type 0) → Type 0
+OpensIn stands keeps s t segment packed After = (docs : List Doc) → Told stands keeps s t (λ m. CanRead m segment docs packed) (After docs)
 
 -- what beginning in so many documents of a segment gives
-abbrev pub Begins : {S : Type 0} → (S → Moment → Type 0) → (S → Moment → S → Moment → Type 0) → S → S → ℕ → ℕ → Bool → (List Doc → Moment → Type 0) → Type 0
-Begins stands keeps s t segment documents packed After = (docs : List Doc) → length docs ≡ documents → Told stands keeps s t (λ m. CanRead m segment docs packed) (After docs)
+abbrev pub BeginsIn : {S : Type 0} → (S → Moment → Type 0) → (S → Moment → S → Moment → Type 0) → S → S → ℕ → ℕ → Bool → (List Doc → Moment → Type 0) → Type 0
+BeginsIn stands keeps s t segment documents packed After = (docs : List Doc) → length docs ≡ documents → Told stands keeps s t (λ m. CanRead m segment docs packed) (After docs)

@@ -1,5 +1,6 @@
 //! The first postings of each term of a query.
-ghost use Rattle.std.specs.Prelude.{◌≡◌, ℕ, ◌+◌, ◌*◌, ◌<◌, ◌≤◌, ◌^◌, false, List, [], ◌∷◌, length, if◌then◌else◌};
+ghost use Rattle.std.specs.Prelude.{◌≡◌, ℕ, ◌+◌, ◌*◌, ◌<◌, ◌≤◌, ◌^◌};
+ghost use Rattle.std.specs.Prelude.{false, List, [], ◌∷◌, length, if◌then◌else◌};
 ghost use Rattle.eb_base.specs.Document.{Doc};
 ghost use Rattle.eb_base.specs.Query.{tree, word, window, conjunction, size, sizes, IsFormed, AreFormed};
 ghost use Rattle.eb_place.specs.Postings.{places};
@@ -8,11 +9,11 @@ ghost use Rattle.eb_place.specs.Told.{Told};
 ghost use Rattle.eb_cursor.specs.Lists.{gives};
 ghost use Rattle.eb_cursor.specs.Accepted.{AreFirst};
 ghost use Rattle.eb_cursor.specs.Opened.{CanOpen};
-ghost use Rattle.eb_cursor.specs.Finds.{Opens, Begins};
+ghost use Rattle.eb_cursor.specs.Finds.{OpensIn, BeginsIn};
 ghost use Rattle.eb_cursor.specs.Posted.{is_posting};
 ghost use Rattle.eb_cursor.specs.Ready.{IsLeaf, IsBound, Ready};
 ghost use Rattle.eb_cursor.specs.Costs.{Costs, FirstCosts, Spans, AllSpan, IsPaid, IsReading, opening_loads, word_loads};
-ghost use Rattle.eb_cursor.specs.AndCosts.{words_of, documents_with, open_loads, and_loads, AndOwes};
+ghost use Rattle.eb_cursor.specs.AndCosts.{word_parts, documents_with, all_opening_loads, and_loads, AndOwes};
 ghost use Rattle.eb_cursor.specs.Asked.{trees_in};
 ghost use Rattle.eb_cursor.specs.Begun.{AreClear, CanBegin, Begun, BegunLeaves, BegunEach, BegunSome};
 
@@ -35,7 +36,7 @@ pub fn clear(cursors: &mut [Cursor])
     clear(rest);
 }
 
-// Opens the list of a term and reads its first posting.
+// OpensIn the list of a term and reads its first posting.
 fn open_leaf<P: Port, L: Ledger>(
     term: &Term,
     segment: u32,
@@ -44,7 +45,7 @@ fn open_leaf<P: Port, L: Ledger>(
     steps: &mut Steps<L>,
 ) -> Cursor
     requires { CanOpen P.stands port.old segment packed }
-    ensures leaf { Opens P.stands P.keeps port.old port.new segment packed
+    ensures leaf { OpensIn P.stands P.keeps port.old port.new segment packed
         (λ docs n. IsLeaf (gives n) (is_posting docs term.now) result (places * length docs)) }
     ensures costs { (was : Moment) → Told P.stands P.keeps port.old port.new (λ m. IsReading was m segment packed)
         (λ n. IsPaid (Costs n segment term.now result.list) steps.old (word_loads was n segment term.now) steps.new) }
@@ -62,7 +63,7 @@ fn open_leaf<P: Port, L: Ledger>(
     }
 }
 
-// Opens the lists of the terms of a phrase or a window, up to the first that stands in no document.
+// OpensIn the lists of the terms of a phrase or a window, up to the first that stands in no document.
 fn begin_leaves<P: Port, L: Ledger>(
     terms: &[Term],
     cursors: &mut [Cursor],
@@ -73,7 +74,7 @@ fn begin_leaves<P: Port, L: Ledger>(
 ) -> bool
     requires fits { length cursors.old ≡ length terms.now }
     requires first { CanOpen P.stands port.old segment packed }
-    ensures { Opens P.stands P.keeps port.old port.new segment packed (λ docs. BegunLeaves docs terms.now cursors.new result) }
+    ensures { OpensIn P.stands P.keeps port.old port.new segment packed (λ docs. BegunLeaves docs terms.now cursors.new result) }
 {
     let Some((own, rest)) = cursors.split_first_mut() else {
         return true;
@@ -95,7 +96,7 @@ fn end_if(some: bool, end: u64) -> u64
     if some { end } else { 0 }
 }
 
-// Begins a window of these terms, as `begin` does.
+// BeginsIn a window of these terms, as `begin` does.
 fn begin_window<P: Port, L: Ledger>(
     terms: &[Term],
     cursors: &mut [Cursor],
@@ -108,7 +109,7 @@ fn begin_window<P: Port, L: Ledger>(
     requires some { 0 < length terms.now }
     requires fits { length cursors.old ≡ length terms.now }
     requires first { CanBegin P.stands port.old segment documents packed }
-    ensures { (w : ℕ) → Begins P.stands P.keeps port.old port.new segment documents packed
+    ensures { (w : ℕ) → BeginsIn P.stands P.keeps port.old port.new segment documents packed
         (λ docs. Begun docs (window terms.now w) cursors.new result) }
 {
     let end = PLACES * u64::from(documents);
@@ -118,7 +119,7 @@ fn begin_window<P: Port, L: Ledger>(
     all
 }
 
-// Begins a bound on the id, as `begin` does. Loads nothing.
+// BeginsIn a bound on the id, as `begin` does. Loads nothing.
 fn begin_bound(cursor: &mut Cursor, segment: u32, documents: u32)
     ensures { (n : Moment) (docs : List Doc) (x : ℕ) → length docs ≡ documents → AreFirst n segment docs
         → IsBound (gives n) docs x cursor.new (length docs) }
@@ -129,7 +130,7 @@ fn begin_bound(cursor: &mut Cursor, segment: u32, documents: u32)
     cursor.current = last_before(end);
 }
 
-/// Begins a query, as [`begin`] does, whose loads are bounded where it is a word or an and of words. Packed lists
+/// BeginsIn a query, as [`begin`] does, whose loads are bounded where it is a word or an and of words. Packed lists
 /// are read only for a word; all parts of another query read live slices.
 pub fn begin_query<P: Port, L: Ledger>(
     query: &Query,
@@ -145,12 +146,12 @@ pub fn begin_query<P: Port, L: Ledger>(
     requires formed { IsFormed (tree query.now) }
     requires clear { AreClear cursors.old }
     requires first { CanBegin P.stands port.old segment documents packed }
-    ensures ready { Begins P.stands P.keeps port.old port.new segment documents packed
+    ensures ready { BeginsIn P.stands P.keeps port.old port.new segment documents packed
         (λ docs n. Ready (gives n) docs (tree query.now) cursors.new (length docs)) }
     ensures costs { (was : Moment) (t : List ℕ) → tree query.now ≡ word t → Told P.stands P.keeps port.old port.new
         (λ m. IsReading was m segment packed) (λ n. IsPaid (FirstCosts n segment t cursors.new) steps.old (word_loads was n segment t) steps.new) }
-    ensures rounds { (docs : List Doc) (ts : List (List ℕ)) (t : List ℕ) → tree query.now ≡ conjunction (words_of ts) → length docs ≡ documents
-        → Told P.stands P.keeps port.old port.new (λ m. segment < m.setting.segments)
+    ensures rounds { (docs : List Doc) (ts : List (List ℕ)) (t : List ℕ) → tree query.now ≡ conjunction (word_parts ts)
+        → length docs ≡ documents → Told P.stands P.keeps port.old port.new (λ m. segment < m.setting.segments)
         (λ n. IsPaid (AndOwes n segment docs ts t cursors.new) steps.old (and_loads n segment ts (documents_with docs t)) steps.new) }
 {
     match query {
@@ -174,7 +175,7 @@ pub fn begin_query<P: Port, L: Ledger>(
     }
 }
 
-/// Begins a query at the end of the first `documents` documents of a segment. False only where none of
+/// BeginsIn a query at the end of the first `documents` documents of a segment. False only where none of
 /// them matches; a term that stands in none ends a word, a phrase, a window and an and at once. In an and and
 /// a phrase the part leads that is likely the rarest. A bound on the id loads nothing yet.
 #[cycle(begin)]
@@ -192,7 +193,7 @@ pub fn begin<P: Port, L: Ledger>(
     requires formed { IsFormed (tree query.now) }
     requires clear { AreClear cursors.old }
     requires first { CanBegin P.stands port.old segment documents packed }
-    ensures begun { Begins P.stands P.keeps port.old port.new segment documents packed (λ docs. Begun docs (tree query.now) cursors.new result) }
+    ensures begun { BeginsIn P.stands P.keeps port.old port.new segment documents packed (λ docs. Begun docs (tree query.now) cursors.new result) }
     ensures spans { (t : List ℕ) → tree query.now ≡ word t → packed ≡ false
         → Told P.stands P.keeps port.old port.new (λ m. segment < m.setting.segments)
         (λ n. IsPaid (AllSpan n segment (t ∷ []) cursors.new) steps.old (opening_loads n segment t + 2) steps.new) }
@@ -262,7 +263,7 @@ pub fn begin<P: Port, L: Ledger>(
     }
 }
 
-// Begins an and of these parts, as `begin` does.
+// BeginsIn an and of these parts, as `begin` does.
 #[cycle(begin)]
 fn begin_and<P: Port, L: Ledger>(
     parts: &[Query],
@@ -278,9 +279,9 @@ fn begin_and<P: Port, L: Ledger>(
     requires formed { IsFormed (conjunction (trees_in parts.now)) }
     requires clear { AreClear cursors.old }
     requires first { CanBegin P.stands port.old segment documents packed }
-    ensures begun { Begins P.stands P.keeps port.old port.new segment documents packed
+    ensures begun { BeginsIn P.stands P.keeps port.old port.new segment documents packed
         (λ docs. Begun docs (conjunction (trees_in parts.now)) cursors.new result) }
-    ensures rounds { (docs : List Doc) (ts : List (List ℕ)) (t : List ℕ) → trees_in parts.now ≡ words_of ts → packed ≡ false
+    ensures rounds { (docs : List Doc) (ts : List (List ℕ)) (t : List ℕ) → trees_in parts.now ≡ word_parts ts → packed ≡ false
         → length docs ≡ documents → Told P.stands P.keeps port.old port.new (λ m. segment < m.setting.segments)
         (λ n. IsPaid (AndOwes n segment docs ts t cursors.new) steps.old (and_loads n segment ts (documents_with docs t)) steps.new) }
 {
@@ -294,7 +295,7 @@ fn begin_and<P: Port, L: Ledger>(
     all
 }
 
-// Begins the parts of an and, up to the first that matches no document.
+// BeginsIn the parts of an and, up to the first that matches no document.
 #[cycle(begin)]
 fn begin_each<P: Port, L: Ledger>(
     parts: &[Query],
@@ -310,11 +311,11 @@ fn begin_each<P: Port, L: Ledger>(
     requires formed { AreFormed (trees_in parts.now) }
     requires clear { AreClear cursors.old }
     requires first { CanBegin P.stands port.old segment documents packed }
-    ensures begun { Begins P.stands P.keeps port.old port.new segment documents packed
+    ensures begun { BeginsIn P.stands P.keeps port.old port.new segment documents packed
         (λ docs. BegunEach docs (trees_in parts.now) cursors.new result) }
-    ensures spans { (ts : List (List ℕ)) → trees_in parts.now ≡ words_of ts → packed ≡ false
+    ensures spans { (ts : List (List ℕ)) → trees_in parts.now ≡ word_parts ts → packed ≡ false
         → Told P.stands P.keeps port.old port.new (λ m. segment < m.setting.segments)
-        (λ n. IsPaid (AllSpan n segment ts cursors.new) steps.old (open_loads n segment ts) steps.new) }
+        (λ n. IsPaid (AllSpan n segment ts cursors.new) steps.old (all_opening_loads n segment ts) steps.new) }
 {
     let Some((part, others)) = parts.split_first() else {
         return true;
@@ -326,7 +327,7 @@ fn begin_each<P: Port, L: Ledger>(
     begin_each(others, rest, segment, packed, documents, port, steps)
 }
 
-// Begins the parts of an or.
+// BeginsIn the parts of an or.
 #[cycle(begin)]
 fn begin_some<P: Port, L: Ledger>(
     parts: &[Query],
@@ -342,7 +343,7 @@ fn begin_some<P: Port, L: Ledger>(
     requires formed { AreFormed (trees_in parts.now) }
     requires clear { AreClear cursors.old }
     requires first { CanBegin P.stands port.old segment documents packed }
-    ensures { Begins P.stands P.keeps port.old port.new segment documents packed
+    ensures { BeginsIn P.stands P.keeps port.old port.new segment documents packed
         (λ docs. BegunSome docs (trees_in parts.now) cursors.new result) }
 {
     let Some((part, others)) = parts.split_first() else {

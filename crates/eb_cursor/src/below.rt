@@ -5,9 +5,9 @@ ghost use Rattle.eb_base.specs.Query.{tree, word, conjunction};
 ghost use Rattle.eb_place.specs.Told.{Told};
 ghost use Rattle.eb_cursor.specs.Loads.{loads_left};
 ghost use Rattle.eb_cursor.specs.Costs.{FirstCosts, IsPaid, Pays, PaysSpans, look_loads, round_loads};
-ghost use Rattle.eb_cursor.specs.AndCosts.{words_of, call_loads, PaysRounds, PaysAnd};
+ghost use Rattle.eb_cursor.specs.AndCosts.{word_parts, call_loads, PaysRounds, PaysAnd};
 ghost use Rattle.eb_cursor.specs.Asked.{trees_in, CanAsk, CanAskAll, CanAskWord};
-ghost use Rattle.eb_cursor.specs.Finds.{Finds, FindsWord, FindsNot, FindsAll, FindsSome, Leads, GoesRound};
+ghost use Rattle.eb_cursor.specs.Finds.{FindsMatch, FindsWord, FindsNot, FindsAll, FindsSome, Leads, GoesRound};
 
 use crate::bound::bound_below;
 use crate::cursor::{Cursor, leaf_below, walk_below};
@@ -30,12 +30,12 @@ pub fn query_below<P: Port, L: Ledger>(
 ) -> u64
     requires small { (end ≤ 2 ^ 32) × (length cursors.old ≤ 64) }
     requires ready { CanAsk P.stands port.old (tree query.now) cursors.old end }
-    ensures found { Finds P.stands P.keeps port.old port.new (tree query.now) cursors.old cursors.new end result }
+    ensures found { FindsMatch P.stands P.keeps port.old port.new (tree query.now) cursors.old cursors.new end result }
     ensures loads { steps.new + loads_left cursors.new ≤ steps.old + loads_left cursors.old }
     ensures costs { (s : ℕ) (t : List ℕ) (most : ℕ) → tree query.now ≡ word t
         → Told P.stands P.keeps port.old port.new (λ m. FirstCosts m s t cursors.old most)
         (λ n. IsPaid (FirstCosts n s t cursors.new) steps.old most steps.new) }
-    ensures rounds { (ts : List (List ℕ)) (t : List ℕ) → tree query.now ≡ conjunction (words_of ts) → Contains ts t
+    ensures rounds { (ts : List (List ℕ)) (t : List ℕ) → tree query.now ≡ conjunction (word_parts ts) → Contains ts t
         → PaysAnd P.stands P.keeps port.old port.new ts t cursors.old cursors.new end steps.old steps.new }
 {
     match query {
@@ -73,7 +73,7 @@ pub fn below<P: Port, L: Ledger>(
 ) -> u64
     requires small { (end ≤ 2 ^ 32) × (length cursors.old ≤ 64) }
     requires ready { CanAsk P.stands port.old (tree query.now) cursors.old end }
-    ensures found { Finds P.stands P.keeps port.old port.new (tree query.now) cursors.old cursors.new end result }
+    ensures found { FindsMatch P.stands P.keeps port.old port.new (tree query.now) cursors.old cursors.new end result }
     ensures loads { steps.new + loads_left cursors.new ≤ steps.old + loads_left cursors.old }
     ensures spans { (t : List ℕ) → tree query.now ≡ word t
         → PaysSpans P.stands P.keeps port.old port.new (t ∷ []) cursors.old cursors.new look_loads steps.old steps.new }
@@ -115,7 +115,8 @@ fn word_below<P: Port, L: Ledger>(
     requires ready { CanAskWord P.stands port.old cursors.old end }
     ensures found { FindsWord P.stands P.keeps port.old port.new cursors.old cursors.new end result }
     ensures loads { steps.new + loads_left cursors.new ≤ steps.old + loads_left cursors.old }
-    ensures spans { (t : List ℕ) → PaysSpans P.stands P.keeps port.old port.new (t ∷ []) cursors.old cursors.new look_loads steps.old steps.new }
+    ensures spans { (t : List ℕ)
+        → PaysSpans P.stands P.keeps port.old port.new (t ∷ []) cursors.old cursors.new look_loads steps.old steps.new }
 {
     let found = leaf_below(&mut cursors[0], port, steps, PLACES * end);
     to_document_end(found)
@@ -158,9 +159,9 @@ pub fn and_below<P: Port, L: Ledger>(
 ) -> u64
     requires small { (end ≤ 2 ^ 32) × (length cursors.old ≤ 64) }
     requires ready { CanAsk P.stands port.old (conjunction (trees_in parts.now)) cursors.old end }
-    ensures found { Finds P.stands P.keeps port.old port.new (conjunction (trees_in parts.now)) cursors.old cursors.new end result }
+    ensures found { FindsMatch P.stands P.keeps port.old port.new (conjunction (trees_in parts.now)) cursors.old cursors.new end result }
     ensures loads { steps.new + loads_left cursors.new ≤ steps.old + loads_left cursors.old }
-    ensures rounds { (ts : List (List ℕ)) (t : List ℕ) → trees_in parts.now ≡ words_of ts → Contains ts t
+    ensures rounds { (ts : List (List ℕ)) (t : List ℕ) → trees_in parts.now ≡ word_parts ts → Contains ts t
         → PaysAnd P.stands P.keeps port.old port.new ts t cursors.old cursors.new end steps.old steps.new }
 {
     let Some((own, rest)) = cursors.split_first_mut() else {
@@ -186,7 +187,7 @@ fn led_below<P: Port, L: Ledger>(
     requires ready { CanAskAll P.stands port.old (trees_in parts.now) cursors.old end }
     ensures found { FindsAll P.stands P.keeps port.old port.new (trees_in parts.now) cursors.old cursors.new end result }
     ensures loads { steps.new + loads_left cursors.new ≤ steps.old + loads_left cursors.old }
-    ensures rounds { (ts : List (List ℕ)) (t : List ℕ) → trees_in parts.now ≡ words_of ts → Contains ts t
+    ensures rounds { (ts : List (List ℕ)) (t : List ℕ) → trees_in parts.now ≡ word_parts ts → Contains ts t
         → PaysRounds P.stands P.keeps port.old port.new ts t cursors.old cursors.new end result (call_loads ts) steps.old steps.new }
 {
     let start = lead_below(parts, cursors, lead, port, steps, end);
@@ -208,7 +209,7 @@ fn lead_below<P: Port, L: Ledger>(
     requires ready { CanAskAll P.stands port.old (trees_in parts.now) cursors.old end }
     ensures found { Leads P.stands P.keeps port.old port.new (trees_in parts.now) cursors.old cursors.new end result }
     ensures loads { steps.new + loads_left cursors.new ≤ steps.old + loads_left cursors.old }
-    ensures spans { (ts : List (List ℕ)) → trees_in parts.now ≡ words_of ts
+    ensures spans { (ts : List (List ℕ)) → trees_in parts.now ≡ word_parts ts
         → PaysSpans P.stands P.keeps port.old port.new ts cursors.old cursors.new look_loads steps.old steps.new }
 {
     let Some((part, others)) = parts.split_first() else {
@@ -239,7 +240,7 @@ fn all_below<P: Port, L: Ledger>(
     requires ready { CanAskAll P.stands port.old (trees_in parts.now) cursors.old end }
     ensures found { FindsAll P.stands P.keeps port.old port.new (trees_in parts.now) cursors.old cursors.new end result }
     ensures loads { steps.new + loads_left cursors.new ≤ steps.old + loads_left cursors.old }
-    ensures rounds { (ts : List (List ℕ)) (t : List ℕ) → trees_in parts.now ≡ words_of ts → Contains ts t
+    ensures rounds { (ts : List (List ℕ)) (t : List ℕ) → trees_in parts.now ≡ word_parts ts → Contains ts t
         → PaysRounds P.stands P.keeps port.old port.new ts t cursors.old cursors.new end result (round_loads ts) steps.old steps.new }
 {
     let mut place = end;
@@ -265,7 +266,7 @@ fn round_below<P: Port, L: Ledger>(
     requires ready { CanAskAll P.stands port.old (trees_in parts.now) cursors.old end }
     ensures found { GoesRound P.stands P.keeps port.old port.new (trees_in parts.now) cursors.old cursors.new end result }
     ensures loads { steps.new + loads_left cursors.new ≤ steps.old + loads_left cursors.old }
-    ensures spans { (ts : List (List ℕ)) → trees_in parts.now ≡ words_of ts
+    ensures spans { (ts : List (List ℕ)) → trees_in parts.now ≡ word_parts ts
         → PaysSpans P.stands P.keeps port.old port.new ts cursors.old cursors.new (round_loads ts) steps.old steps.new }
 {
     let Some((part, others)) = parts.split_first() else {

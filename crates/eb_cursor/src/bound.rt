@@ -9,7 +9,7 @@ ghost use Rattle.eb_cursor.specs.Accepted.{AreFirst};
 ghost use Rattle.eb_cursor.specs.Loads.{ahead, loads_left};
 ghost use Rattle.eb_cursor.specs.Posted.{doc_at, match_at};
 ghost use Rattle.eb_cursor.specs.Asked.{CanAskBound, CanAskSince, CanLoadIds};
-ghost use Rattle.eb_cursor.specs.Finds.{Finds, FindsBound};
+ghost use Rattle.eb_cursor.specs.Finds.{FindsMatch, FindsBound};
 
 use crate::cursor::{Cursor, last_before, place_after};
 use eb_place::{Places, Port, Steps};
@@ -93,7 +93,7 @@ pub fn bound_below<P: Port, L: Ledger>(
 ) -> u64
     requires small { end ≤ 2 ^ 32 }
     requires ready { CanAskSince P.stands port.old bound cursors.old end }
-    ensures found { Finds P.stands P.keeps port.old port.new (since bound) cursors.old cursors.new end result }
+    ensures found { FindsMatch P.stands P.keeps port.old port.new (since bound) cursors.old cursors.new end result }
     ensures loads { steps.new + loads_left cursors.new ≤ steps.old + loads_left cursors.old }
 {
     cursor_below(bound, &mut cursors[0], port, steps, end)

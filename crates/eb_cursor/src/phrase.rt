@@ -49,7 +49,8 @@ fn leaves_below<P: Port, L: Ledger>(
     requires ready { CanAskLeaves P.stands port.old cursors.old at end }
     ensures found { GoesOver P.stands P.keeps port.old port.new cursors.old cursors.new at end result }
     ensures loads { steps.new + loads_left cursors.new ≤ steps.old + loads_left cursors.old }
-    ensures spans { (ts : List (List ℕ)) → PaysSpans P.stands P.keeps port.old port.new ts cursors.old cursors.new (round_loads ts) steps.old steps.new }
+    ensures spans { (ts : List (List ℕ))
+        → PaysSpans P.stands P.keeps port.old port.new ts cursors.old cursors.new (round_loads ts) steps.old steps.new }
 {
     if end == 0 {
         return 0;

@@ -4,7 +4,7 @@ ghost use Rattle.std.specs.Bool.{MatchBool};
 ghost use Rattle.eb_place.specs.declared.moment.Moment.{Moment};
 ghost use Rattle.eb_place.specs.Told.{Told};
 ghost use Rattle.eb_cursor.specs.Costs.{Costs, Spans, leap_loads, opening_loads, IsPaid, IsReading, Pays, PaysBesides, word_loads};
-ghost use Rattle.eb_cursor.specs.Finds.{Opens};
+ghost use Rattle.eb_cursor.specs.Finds.{OpensIn};
 ghost use Rattle.eb_cursor.specs.Lists.{list_gives, CanGive, Gave, from_below};
 ghost use Rattle.eb_cursor.specs.Opened.{CanOpen, Opened};
 ghost use Rattle.eb_place.specs.PackedLists.{IsConverted};
@@ -51,7 +51,7 @@ impl PostingList {
         steps: &mut Steps<L>,
     ) -> PostingList
         requires { CanOpen P.stands port.old segment packed }
-        ensures opened { Opens P.stands P.keeps port.old port.new segment packed (λ docs n. Opened n docs term.now result) }
+        ensures opened { OpensIn P.stands P.keeps port.old port.new segment packed (λ docs n. Opened n docs term.now result) }
         ensures costs { (was : Moment) → Told P.stands P.keeps port.old port.new (λ m. IsReading was m segment packed)
             (λ n. IsPaid (Costs n segment term.now result) steps.old (word_loads was n segment term.now) steps.new) }
         ensures spans { packed ≡ false → Told P.stands P.keeps port.old port.new (λ m. segment < m.setting.segments)

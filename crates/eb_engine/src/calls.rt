@@ -2,7 +2,7 @@
 ghost use Rattle.std.specs.Prelude.{◌≡◌, ℕ, List, ◌+◌, ◌<◌, length, IfOk, OnErr};
 ghost use Rattle.eb_base.specs.Query.{word, conjunction};
 ghost use Rattle.eb_convert.specs.Converting.{IsConversion};
-ghost use Rattle.eb_cursor.specs.AndCosts.{words_of};
+ghost use Rattle.eb_cursor.specs.AndCosts.{word_parts};
 ghost use Rattle.eb_cursor.specs.Frames.{query_of, k_of, ids_of};
 ghost use Rattle.eb_place.specs.Later.{IsNotBefore};
 ghost use Rattle.eb_place.specs.Room.{HasRoom};
@@ -38,7 +38,7 @@ pub(crate) fn search_words<G: Gate, L: Ledger>(
     ensures answer { Searched seat.old.moment seat.new.moment (query_of frame.old) (k_of frame.old) result (ids_of frame.new) }
     ensures loads { (t : List ℕ) → query_of frame.old ≡ word t
         → IsWithinBound seat.old.moment seat.new.moment t result (length (ids_of frame.new)) steps.old steps.new }
-    ensures rounds { (ts : List (List ℕ)) → query_of frame.old ≡ conjunction (words_of ts)
+    ensures rounds { (ts : List (List ℕ)) → query_of frame.old ≡ conjunction (word_parts ts)
         → IsWithinAndBound seat.new.moment ts result (length (ids_of frame.new)) steps.old steps.new }
 {
     let mut port = ReaderPort { seat, words };

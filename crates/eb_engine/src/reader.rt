@@ -2,7 +2,7 @@ ghost use Rattle.std.specs.Prelude.{◌≡◌, ℕ, List, ◌≤◌, ◌⊎◌, 
 ghost use mathlib.Core.List.{IsPrefix};
 ghost use Rattle.eb_base.specs.Match.{answer};
 ghost use Rattle.eb_base.specs.Query.{word, conjunction};
-ghost use Rattle.eb_cursor.specs.AndCosts.{words_of};
+ghost use Rattle.eb_cursor.specs.AndCosts.{word_parts};
 ghost use Rattle.eb_cursor.specs.Frames.{query_of, k_of, ids_of};
 ghost use Rattle.eb_place.specs.Moments.{IsMoment};
 ghost use Rattle.eb_engine.specs.Loads.{IsBounded, IsAndBounded};
@@ -93,7 +93,7 @@ impl Reader {
         ensures ids { ids_of frame.new ≡ answer (query_of frame.old) (k_of frame.old) self.new.docs }
         ensures loads { (t : List ℕ) → query_of frame.old ≡ word t
             → IsBounded index.now.setting self.old.docs self.new.docs t (length (ids_of frame.new)) steps.old steps.new }
-        ensures rounds { (ts : List (List ℕ)) → query_of frame.old ≡ conjunction (words_of ts)
+        ensures rounds { (ts : List (List ℕ)) → query_of frame.old ≡ conjunction (word_parts ts)
             → IsAndBounded index.now.setting self.new.docs ts (length (ids_of frame.new)) steps.old steps.new }
     {
         let count = search_words(&mut self.seat, &index.words, frame, gate, steps);

@@ -2,7 +2,7 @@ ghost use Rattle.std.specs.Prelude.{◌≡◌, ℕ, List, ◌++◌, ◌∷◌, [
 ghost use mathlib.Core.List.{IsPrefix};
 ghost use Rattle.eb_base.specs.Match.{answer};
 ghost use Rattle.eb_base.specs.Query.{word, conjunction};
-ghost use Rattle.eb_cursor.specs.AndCosts.{words_of};
+ghost use Rattle.eb_cursor.specs.AndCosts.{word_parts};
 ghost use Rattle.eb_cursor.specs.Frames.{query_of, k_of, ids_of};
 ghost use Rattle.eb_place.specs.Moments.{IsMoment, empty_moment};
 ghost use Rattle.eb_place.specs.Room.{cut, HasRoom, has_room};
@@ -126,7 +126,7 @@ impl Writer {
         ensures ids { ids_of frame.new ≡ answer (query_of frame.old) (k_of frame.old) self.new.docs }
         ensures loads { (t : List ℕ) → query_of frame.old ≡ word t
             → IsBounded index.now.setting self.new.docs self.new.docs t (length (ids_of frame.new)) steps.old steps.new }
-        ensures rounds { (ts : List (List ℕ)) → query_of frame.old ≡ conjunction (words_of ts)
+        ensures rounds { (ts : List (List ℕ)) → query_of frame.old ≡ conjunction (word_parts ts)
             → IsAndBounded index.now.setting self.new.docs ts (length (ids_of frame.new)) steps.old steps.new }
     {
         let mut reader = self.reader(index);

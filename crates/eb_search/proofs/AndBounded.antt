@@ -9,7 +9,7 @@ use Rattle.eb_base.specs.Term.{Term}
 use Rattle.eb_place.specs.declared.moment.Moment.{Moment}
 use Rattle.eb_place.specs.Moments.{IsMoment}
 use Rattle.eb_place.specs.Later.{IsNotBefore}
-use Rattle.eb_cursor.specs.AndCosts.{words_of, documents_with, and_loads, call_loads, OwesAnd}
+use Rattle.eb_cursor.specs.AndCosts.{word_parts, documents_with, and_loads, call_loads, FrameOwesAnd}
 use Rattle.eb_cursor.specs.Frames.{ids_of}
 use Rattle.eb_cursor.specs.declared.frame.Frame.{Frame}
 use Rattle.eb_cursor.proofs.AndLoads.{open_later}
@@ -25,10 +25,10 @@ rarest_word docs (t ∷ u ∷ us) h = let r = rarest_word docs (u ∷ us) (omega
 ]
 
 -- an and has parts
-pub some_words : (q : Tree) (ts : List Term) → q ≡ conjunction (words_of ts) → IsFormed q → 0 < length ts
+pub some_words : (q : Tree) (ts : List Term) → q ≡ conjunction (word_parts ts) → IsFormed q → 0 < length ts
 some_words q ts e f = go ts (subst IsFormed e f)
   where
-    go : (us : List Term) → IsFormed (conjunction (words_of us)) → 0 < length us
+    go : (us : List Term) → IsFormed (conjunction (word_parts us)) → 0 < length us
     go [] h = absurd h.0
     go (u ∷ us) h = omega arith
 
@@ -41,7 +41,7 @@ ids_more ts k = let e : k + 1 ≡ suc k = omega arith in let f : (k + 1) * (1 + 
 pub record IsGoingAnd (s : ℕ) (docs : List Doc) (ts : List Term) (t : Term) (f g : Frame) (before after : ℕ) (n : Moment) : Type 0 where
   pub inside : s < n.setting.segments
   pub left : ℕ
-  pub owes : OwesAnd n g s docs ts t left
+  pub owes : FrameOwesAnd n g s docs ts t left
   pub loads : after + left + ids_loads ts (length (ids_of f)) ≤ before + 1 + and_loads n s ts (documents_with docs t) + ids_loads ts (length (ids_of g))
 
 -- ---- the segments

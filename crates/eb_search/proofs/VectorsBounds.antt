@@ -2,7 +2,7 @@
 use Rattle.std.proofs.Common.{◌≡◌, ℕ, List, [], ◌∷◌, refl}
 use Rattle.eb_base.specs.Document.{Doc}
 use Rattle.eb_base.specs.Term.{Term}
-use Rattle.eb_cursor.specs.AndCosts.{documents_with, has_term, all_rounds_cost, call_loads}
+use Rattle.eb_cursor.specs.AndCosts.{documents_with, document_has, all_rounds_cost, call_loads}
 use Rattle.eb_cursor.specs.Costs.{look_loads, rounds_left}
 use Rattle.eb_search.specs.Bounds.{rarest_count, ids_loads}
 
@@ -29,13 +29,13 @@ none_has_both_of_none : rarest_count [] (a ∷ b ∷ []) ≡ 0
 none_has_both_of_none = refl
 
 -- below all four, the last of which has both; and below three, the last of which has only `a`
-rounds_by_b : rounds_left (has_term four b) 4 ≡ 4
+rounds_by_b : rounds_left (document_has four b) 4 ≡ 4
 rounds_by_b = refl
 
-rounds_by_b_of_three : rounds_left (has_term four b) 3 ≡ 3
+rounds_by_b_of_three : rounds_left (document_has four b) 3 ≡ 3
 rounds_by_b_of_three = refl
 
-rounds_by_a : rounds_left (has_term four a) 4 ≡ 8
+rounds_by_a : rounds_left (document_has four a) 4 ≡ 8
 rounds_by_a = refl
 
 -- a look costs at most 85 loads besides what the spans pay; five rounds over two words, a call's round and look, and three ids

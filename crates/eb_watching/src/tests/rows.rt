@@ -40,7 +40,9 @@ const ROWS: [Row; 9] = [
     // each refusal of a watch line, in its order
     (
         b"!4294967296 a\n!00000000001 a\n!\n!1a\n!1 a\n!1 (\n!1 a\n!2\n!3 \"a\n",
-        b"1 refused: bad number\n2 refused: bad number\n3 refused: bad number\n4 refused: bad number\n6 refused: bad query at 5\n7 refused: watch taken\n8 refused: no watch\n9 refused: bad query at 4\nend: documents 0, queries 0, refused 8\n",
+        b"1 refused: bad number\n2 refused: bad number\n3 refused: bad number\n4 refused: bad number\n\
+          6 refused: bad query at 5\n7 refused: watch taken\n8 refused: no watch\n9 refused: bad query at 4\n\
+          end: documents 0, queries 0, refused 8\n",
         Status::Refused,
     ),
     // a watch line is UTF-8

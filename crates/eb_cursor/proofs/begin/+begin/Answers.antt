@@ -10,7 +10,7 @@ use Rattle.eb_cursor.proofs.Openings.{read_on}
 use Rattle.eb_cursor.proofs.Steps.{tree_Word, tree_Phrase, tree_Window, tree_Since, tree_Not, tree_And, front_of}
 use Rattle.eb_cursor.proofs.Begins.{begun_word, begun_phrase, begun_since, begun_not, begun_and, each_ends, each_goes, some_none, some_goes, front_clear, back_clear}
 use Rattle.eb_place.proofs.LaterMoments.{later_on, inside_later}
-use Rattle.eb_cursor.specs.AndCosts.{open_loads, rounds_cost}
+use Rattle.eb_cursor.specs.AndCosts.{all_opening_loads, rounds_cost}
 use Rattle.eb_cursor.specs.Costs.{AllSpan, IsPaid, opening_loads}
 use Rattle.eb_cursor.specs.declared.cursor.Cursor.{Cursor}
 use Rattle.eb_cursor.proofs.AndLoads.{words_split, spans_join, cost_low, cost_most, leaf_span, no_spans, clear_spans, sizes_words, if_under}
@@ -325,7 +325,7 @@ begin_each-returns-then-not-begin-clause-spans g t c = λ ts e live. record {
         (
           x.4.0 + 0,
           spans_join x.0 s ts k.0 k.1 c.begin.new.cursors c.split_at_mut-own.result.1.now x.4.0 0 k.2 x.4.1 others,
-          omega (arith, x.4.2, ap (open_loads x.0 s) k.2),
+          omega (arith, x.4.2, ap (all_opening_loads x.0 s) k.2),
         ),
       );
 }
@@ -349,7 +349,7 @@ begin_each-returns-clause-spans g t c = λ ts e live. record {
         (
           x.4.0 + y.4.0,
           spans_join y.0 s ts k.0 k.1 c.begin.new.cursors c.begin_each.new.cursors x.4.0 y.4.0 k.2 own y.4.1,
-          omega (arith, x.4.2, y.4.2, more, ap (open_loads y.0 s) k.2),
+          omega (arith, x.4.2, y.4.2, more, ap (all_opening_loads y.0 s) k.2),
         ),
       );
 }

@@ -1,7 +1,7 @@
 use Rattle.std.proofs.Common.{◌≡◌, ◌≢◌, ℕ, zero, suc, ◌+◌, ◌-◌, ◌<◌, ◌≤◌, List, [], ◌∷◌, length, not, Bool, arith, ap, ◌∙◌, sym, subst, refl, rules}
 use Rattle.eb_base.specs.Query.{Tree, tree, word, phrase, window, since, negation, conjunction, disjunction}
 use Rattle.eb_base.specs.declared.query.Query.{Query}
-use Rattle.eb_cursor.specs.AndCosts.{words_of, rounds_cost, AndOwes}
+use Rattle.eb_cursor.specs.AndCosts.{word_parts, rounds_cost, AndOwes}
 use Rattle.eb_cursor.specs.Asked.{trees_in}
 use Rattle.eb_cursor.specs.Lists.{gives}
 use Rattle.eb_cursor.specs.Ready.{Ready, AllReady}
@@ -494,8 +494,8 @@ and_below-returns-in_default-clause-rounds g t c = λ ts u e member docs r last 
 pub and_below-returns-clause-rounds : goal.and_below-returns-clause-rounds
 and_below-returns-clause-rounds g t c = λ ts u e member docs r last s most h st ready.
     let own = c.in-Some.own.now in
-    let same : conjunction (trees_in c.args.parts.now) ≡ conjunction (words_of ts) = ap conjunction e in
-    let asks = each_asks (gives r) docs (conjunction (words_of ts)) (words_of ts) c.args.cursors.now own c.in-Some.rest.now last refl c.in-Some.ensures.cases.0 ready in
+    let same : conjunction (trees_in c.args.parts.now) ≡ conjunction (word_parts ts) = ap conjunction e in
+    let asks = each_asks (gives r) docs (conjunction (word_parts ts)) (word_parts ts) c.args.cursors.now own c.in-Some.rest.now last refl c.in-Some.ensures.cases.0 ready in
     record {
       told = λ m at p.
           let o : AndOwes m s docs ts u (own ∷ c.in-Some.rest.now) most = subst (λ z. AndOwes m s docs ts u z most) c.in-Some.ensures.cases.0 p in

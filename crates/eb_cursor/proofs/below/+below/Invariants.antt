@@ -4,7 +4,7 @@ use Rattle.eb_base.specs.Document.{Doc}
 use Rattle.eb_base.specs.Query.{tree}
 use Rattle.eb_place.specs.Told.{Told}
 use Rattle.eb_cursor.specs.Lists.{gives}
-use Rattle.eb_cursor.specs.AndCosts.{words_of, PaysRounds}
+use Rattle.eb_cursor.specs.AndCosts.{word_parts, PaysRounds}
 use Rattle.eb_cursor.specs.Loads.{loads_left}
 use Rattle.eb_cursor.specs.Tops.{top}
 use Rattle.eb_cursor.specs.Posted.{match_at, each_at}
@@ -43,7 +43,7 @@ invariant-all_below-loop-place g l = record {
   found : (docs : List Doc) (last : ℕ) → l.initial.place ≤ last → Told g.P.Port.stands g.P.Port.keeps l.initial.port l.port
       (λ m. AllReady (gives m) docs (trees_in l.parts) l.initial.cursors last)
       (λ n. (top (each_at docs (trees_in l.parts)) l.initial.place ≡ top (each_at docs (trees_in l.parts)) l.place) × AllReady (gives n) docs (trees_in l.parts) l.cursors l.place);
-  rounds : (ts : List (List ℕ)) (t : List ℕ) → trees_in l.parts ≡ words_of ts → Contains ts t
+  rounds : (ts : List (List ℕ)) (t : List ℕ) → trees_in l.parts ≡ word_parts ts → Contains ts t
       → PaysRounds g.P.Port.stands g.P.Port.keeps l.initial.port l.port ts t l.initial.cursors l.cursors l.initial.place l.place 0 l.initial.steps l.steps;
 }
 

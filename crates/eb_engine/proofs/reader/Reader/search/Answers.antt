@@ -48,5 +48,6 @@ returns-clause-rounds g c = λ ts is.
       is = e.made.moment;
       setting = e.made.setting ∙ ap (λ (w : Words). w.setting) c.index.view_is;
       knows_now = front_of n all;
-      loads = subst (λ k. IsWithinAndBound now ts k (length (ids_of c.search_words-count.new.frame)) c.args.steps.now c.search_words-count.new.steps) (sym (length-take-le n all long)) (e.rounds ts is);
+      loads = subst (λ k. IsWithinAndBound now ts k (length (ids_of c.search_words-count.new.frame)) c.args.steps.now c.search_words-count.new.steps)
+          (sym (length-take-le n all long)) (e.rounds ts is);
     }
