@@ -1,8 +1,7 @@
 //! Bounds on ids: the ids of a segment's documents, loaded from the newest on, each at most once.
-ghost use Rattle.std.specs.Prelude.{◌≡◌, ℕ, ◌+◌, ◌*◌, ◌<◌, ◌≤◌, ◌^◌, List, length};
+ghost use Rattle.std.specs.Prelude.{◌≡◌, ◌+◌, ◌<◌, ◌≤◌, ◌^◌, List, length};
 ghost use Rattle.eb_base.specs.Document.{Doc};
 ghost use Rattle.eb_base.specs.Query.{since};
-ghost use Rattle.eb_place.specs.declared.moment.Moment.{Moment};
 ghost use Rattle.eb_place.specs.Told.{Told};
 ghost use Rattle.eb_cursor.specs.Tops.{top, before};
 ghost use Rattle.eb_cursor.specs.Accepted.{AreFirst};

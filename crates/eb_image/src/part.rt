@@ -1,4 +1,4 @@
-ghost use Rattle.std.specs.Prelude.{◌≡◌, ℕ, ◌++◌, ◌<◌, ◌≤◌, ◌^◌, List, length, IfOk, OnOk};
+ghost use Rattle.std.specs.Prelude.{◌≡◌, ◌++◌, ◌<◌, ◌≤◌, ◌^◌, length, IfOk, OnOk};
 ghost use Rattle.eb_base.specs.Document.{Doc, IsDocument};
 ghost use Rattle.eb_image.specs.Image.{part_of, term_bytes};
 ghost use Rattle.eb_image.specs.Reading.{IsPart, IsPartOf};

@@ -1,4 +1,4 @@
-ghost use Rattle.std.specs.Prelude.{◌≡◌, ℕ, ◌+◌, ◌<◌, ◌≤◌, ◌^◌, length, slice_index, MatchOption};
+ghost use Rattle.std.specs.Prelude.{◌≡◌, ◌+◌, ◌<◌, ◌≤◌, ◌^◌, length, slice_index, MatchOption};
 ghost use Rattle.eb_base.specs.Document.{most_tokens, most_bytes};
 ghost use Rattle.eb_image.specs.Reading.{IsNextPart, Begins};
 ghost use Rattle.eb_image.specs.Scan.{number_at, scan, IsShortest};

@@ -1,5 +1,5 @@
 //! Feeds of made documents beside the plain scan of what they are to keep.
-ghost use Rattle.std.specs.Prelude.{◌≡◌, ◌+◌, ◌<◌, ◌≤◌, ℕ, List, length};
+ghost use Rattle.std.specs.Prelude.{◌<◌, ℕ, List};
 ghost use Rattle.eb_base.specs.Document.{Doc};
 ghost use Rattle.eb_base.specs.Setting.{Setting};
 ghost use Rattle.eb_feed.specs.Held.{HasTaken};
