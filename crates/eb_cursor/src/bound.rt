@@ -3,7 +3,7 @@ ghost use Rattle.std.specs.Prelude.{◌≡◌, ◌+◌, ◌<◌, ◌≤◌, ◌^
 ghost use Rattle.eb_base.specs.Document.{Doc};
 ghost use Rattle.eb_base.specs.Query.{since};
 ghost use Rattle.eb_place.specs.Told.{Told};
-ghost use Rattle.eb_cursor.specs.Tops.{top, before};
+ghost use Rattle.eb_cursor.specs.Tops.{top, number_before};
 ghost use Rattle.eb_cursor.specs.Accepted.{AreFirst};
 ghost use Rattle.eb_cursor.specs.Loads.{ahead, loads_left};
 ghost use Rattle.eb_cursor.specs.Posted.{doc_at, match_at};
@@ -44,7 +44,7 @@ fn ids_below<P: Port, L: Ledger>(
     ensures found { (docs : List Doc) → end ≤ length docs → Told P.stands P.keeps port.old port.new
         (λ m. AreFirst m segment docs) (λ n. result ≡ top (match_at docs (since bound)) end) }
     ensures within { result ≤ end }
-    ensures loads { steps.new + before result ≤ steps.old + end }
+    ensures loads { steps.new + number_before result ≤ steps.old + end }
 {
     let mut place = end;
     while place > 0 {
