@@ -18,7 +18,7 @@ use Rattle.eb_base.specs.Match.{answer}
 use Rattle.eb_rounds.specs.Inputs.{ReadsLine, admitted_in, added}
 use Rattle.eb_rounds.specs.Shown.{shown_entry, shown_text, Counted, asks, fails, WorkedOff}
 use Rattle.eb_rounds.specs.Sees.{is_document_line, is_query_line, IsAsked, Sees}
-use Rattle.eb_rounds.specs.Rows.{count, NoQueryLine, QueriesFirst, joined, SeesWithin}
+use Rattle.eb_rounds.specs.Rows.{added_count, NoQueryLine, QueriesFirst, joined_numbers, SeesWithin}
 use Rattle.eb_rounds.specs.Standing.{Standing}
 use Rattle.eb_rounds.proofs.Seeing.{accepted-append, sees_on, front_is, back_is, next_within, told_front, told_back, told_none, told-rest}
 use Rattle.eb_rounds.proofs.Rounded.{long_in}
@@ -177,15 +177,15 @@ module _ (σ : Setting) (overlap : Bool) (given : List Line) (docs docs_new : Li
   pub first_is : QueriesFirst ss
   first_is = first_on σ docs back.0 (a.round back.0 back.1)
 
-  pub within : SeesWithin ss (seen_in ss w.shown) (count a.readings) (count a.readings + count ss)
+  pub within : SeesWithin ss (seen_in ss w.shown) (added_count a.readings) (added_count a.readings + added_count ss)
   within =
-      let low : length docs ≡ count a.readings = ap length a.adds in
-      let high : length docs_new ≡ count a.readings + count ss = ap length docs_are ∙ length-append (accepted a.readings) (accepted ss) in
-      subst (λ h. SeesWithin ss (seen_in ss w.shown) (count a.readings) h) high (subst (λ l. SeesWithin ss (seen_in ss w.shown) l (length docs_new)) low
+      let low : length docs ≡ added_count a.readings = ap length a.adds in
+      let high : length docs_new ≡ added_count a.readings + added_count ss = ap length docs_are ∙ length-append (accepted a.readings) (accepted ss) in
+      subst (λ h. SeesWithin ss (seen_in ss w.shown) (added_count a.readings) h) high (subst (λ l. SeesWithin ss (seen_in ss w.shown) l (length docs_new)) low
       (round_sees k (length docs) (length docs_new) ss w.shown lines_are w.numbers))
 
   -- with any numbers that go on so
-  pub goes_on : (n : ℕ → ℕ) → Sees overlap (a.readings ++ ss) n → ((j : ℕ) → IsAsked a.readings j → (n j ≡ a.numbers j) × (a.numbers j ≤ count a.readings))
+  pub goes_on : (n : ℕ → ℕ) → Sees overlap (a.readings ++ ss) n → ((j : ℕ) → IsAsked a.readings j → (n j ≡ a.numbers j) × (a.numbers j ≤ added_count a.readings))
       → ((i : ℕ) → IsAsked ss i → n (length a.readings + i) ≡ seen_in ss w.shown i)
       → HasSettled σ overlap given docs_new counts_new (so_far ++ printed)
   goes_on n sees front rest = record {
@@ -222,7 +222,7 @@ overlapped σ given docs docs_new held counts_new so_far printed a w =
     let m = seen_in more w.shown in
     let h = within σ true given docs docs_new held counts_new so_far printed a w in
     let q = first_is σ true given docs docs_new held counts_new so_far printed a w in
-    goes_on σ true given docs docs_new held counts_new so_far printed a w (joined (length rs) a.numbers m) (sees_on rs more a.numbers m a.sees h q)
+    goes_on σ true given docs docs_new held counts_new so_far printed a w (joined_numbers (length rs) a.numbers m) (sees_on rs more a.numbers m a.sees h q)
     (λ j e. (front_is rs more a.numbers m a.sees h q j (asked_low rs j e), le_trans (a.sees.most j e) (next_within rs j)))
     (λ i e. back_is rs more a.numbers m a.sees h q i)
 
@@ -236,7 +236,7 @@ held_some k (document d ∷ rs) i a = omega arith
 held_some k (query j q ∷ rs) i a = omega arith
 held_some k (refused x ∷ rs) i a = omega arith
 
-held_none : (k : ℕ) (rs : List Reading) → length (entries_from k rs) ≤ 0 → count rs ≡ 0
+held_none : (k : ℕ) (rs : List Reading) → length (entries_from k rs) ≤ 0 → added_count rs ≡ 0
 unfolding accepted
 held_none k [] le = refl
 held_none k (blank ∷ rs) le = held_none (k + 1) rs le
@@ -245,7 +245,7 @@ held_none k (query j q ∷ rs) le = absurd (omega (arith, le))
 held_none k (refused x ∷ rs) le = absurd (omega (arith, le))
 
 -- a query that is held alone
-alone : (k : ℕ) (rs : List Reading) (i : ℕ) → length (entries_from k rs) ≤ 1 → IsAsked rs i → count rs ≡ 0
+alone : (k : ℕ) (rs : List Reading) (i : ℕ) → length (entries_from k rs) ≤ 1 → IsAsked rs i → added_count rs ≡ 0
 unfolding accepted
 alone k [] i le a = absurd (cc a)
 alone k (blank ∷ rs) zero le a = absurd (cc a)
@@ -257,7 +257,7 @@ alone k (query j q ∷ rs) (suc i) le a = absurd (omega (arith, le, held_some (k
 alone k (refused x ∷ rs) zero le a = absurd (cc a)
 alone k (refused x ∷ rs) (suc i) le a = absurd (omega (arith, le, held_some (k + 1) rs i a))
 
-told_few : (rs : List Reading) (j : ℕ) → told rs j ≤ count rs
+told_few : (rs : List Reading) (j : ℕ) → told rs j ≤ added_count rs
 told_few rs j = omega (arith, told-rest rs j)
 
 -- without overlap

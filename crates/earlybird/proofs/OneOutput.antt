@@ -8,7 +8,7 @@ use Rattle.eb_rounds.specs.LinesRead.{AreRead}
 use Rattle.eb_lines.specs.Progress.{accepted, told, progress_after}
 use Rattle.eb_rounds.specs.Admitted.{admitted}
 use Rattle.eb_rounds.specs.Text.{text, summary}
-use Rattle.eb_rounds.specs.Rows.{count}
+use Rattle.eb_rounds.specs.Rows.{added_count}
 use Rattle.eb_rounds.specs.Sees.{Sees, SeesInOrder, SeesBetween}
 use Rattle.eb_rounds.specs.Ending.{stats_of}
 use Rattle.earlybird.specs.Output.{IsTextOf, asked}
@@ -33,7 +33,7 @@ one_text_of σ stats lines a b p q =
 
 -- ---- what lines print in order
 
-told_rises : (rs : List Reading) (i j : ℕ) → i ≤ j → count (take i rs) ≤ count (take j rs)
+told_rises : (rs : List Reading) (i j : ℕ) → i ≤ j → added_count (take i rs) ≤ added_count (take j rs)
 unfolding accepted
 told_rises [] zero j le = omega arith
 told_rises [] (suc i) zero le = omega arith

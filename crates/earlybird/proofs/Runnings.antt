@@ -3,7 +3,7 @@ use Rattle.std.proofs.Common.{◌≡◌, ℕ, ◌+◌, ◌≤◌, true, false, t
 use Rattle.std.specs.Prelude.{Result, Ok, Err, OnOk, OnErr}
 use Rattle.std.proofs.lemmas.Bool.Decides.{nat_tests}
 use Rattle.eb_base.specs.Setting.{Setting}
-use Rattle.eb_engine.specs.Tokens.{Token, ConverterToken}
+use Rattle.eb_engine.specs.Tokens.{HistoryToken, ConverterToken}
 use Rattle.eb_io.specs.Lines.{Line}
 use Rattle.eb_table.specs.Known.{Words}
 use Rattle.eb_rounds.specs.declared.input.Input.{Input}
@@ -25,7 +25,7 @@ use Rattle.earlybird.proofs.LineReadings.{asks_query, reads_quiet, free_of}
 use Rattle.earlybird.proofs.Waits.{off, of_settled, one_more, round_quiet, round_free}
 
 -- the run with these in place of its own
-abbrev pub with_parts : Running → Token → ConverterToken → Standing → ℕ → Running
+abbrev pub with_parts : Running → HistoryToken → ConverterToken → Standing → ℕ → Running
 with_parts r writer converter rounds number =
     record { overlap = r.overlap; stats = r.stats; index = r.index; writer = writer; converter = converter; rounds = rounds; number = number }
 

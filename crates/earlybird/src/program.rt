@@ -1,5 +1,4 @@
 //! The program over the lines of an input: what `run` does with each line, and at the end, with and without `--overlap`.
-ghost use Rattle.eb_io.specs.Lines.{line};
 
 use crate::running::Running;
 use eb_base::{Gate, NoMemory};

@@ -1,7 +1,7 @@
 -- What a run over a feed holds between two lines.
 use Rattle.std.specs.Prelude.{◌≡◌, ℕ, ◌+◌, List, [], ◌∷◌, ◌++◌, length}
 use Rattle.eb_base.specs.Setting.{Setting}
-use Rattle.eb_feed.specs.Held.{HasTaken}
+use Rattle.eb_feed.specs.Held.{IsFedWith}
 use Rattle.eb_lines.specs.Reading.{Reading}
 use Rattle.eb_lines.specs.Progress.{accepted, queries, refusals}
 use Rattle.earlybird_feed.specs.declared.feeding.Feeding.{Feeding}
@@ -9,7 +9,7 @@ use Rattle.earlybird_feed.specs.Text.{output_of}
 
 -- these lines were worked off: the feed took their documents, and their queries and refused lines are counted
 pub record HasFed (f : Feeding) (σ : Setting) (keep : ℕ) (rs : List Reading) : Type 0 where
-  pub feed : HasTaken f.feed σ keep (accepted rs)
+  pub feed : IsFedWith f.feed σ keep (accepted rs)
   pub number : f.number ≡ length rs
   pub queries : f.queries ≡ queries rs
   pub refused : f.refused ≡ refusals rs

@@ -1,5 +1,4 @@
 //! The program over a feed: what it does with each line, and at the end.
-ghost use Rattle.eb_io.specs.Lines.{line};
 
 use crate::feeding::Feeding;
 use crate::printing::put_last;
@@ -16,7 +15,6 @@ pub(crate) struct FeedProgram<'a, G: Gate> {
 }
 
 impl<G: Gate> LineProgram for FeedProgram<'_, G> {
-    ghost use Rattle.std.specs.Prelude.{◌≡◌};
     ghost use Rattle.earlybird_feed.specs.Asked.{Asked as WhatIsAsked, HasRun, printed_first as some_first, comes_first, counts_lines};
     ghost use Rattle.earlybird_feed.specs.Output.{IsBodyOf, IsTextOf, HasRefusal, HasNoRefusal};
 

@@ -4,7 +4,7 @@ ghost use Rattle.eb_base.specs.Match.{answer};
 ghost use Rattle.eb_base.specs.Setting.{Setting};
 ghost use Rattle.eb_cursor.specs.Frames.{query_of, k_of, ids_of};
 ghost use Rattle.eb_feed.specs.Generations.{kept};
-ghost use Rattle.eb_feed.specs.Held.{HasTaken};
+ghost use Rattle.eb_feed.specs.Held.{IsFedWith};
 ghost use Rattle.eb_io.specs.Lines.{line, long_line};
 ghost use Rattle.eb_lines.specs.Reading.{Reading, blank, document as reads_document, query, refused};
 ghost use Rattle.eb_lines.specs.Reads.{Reads};
@@ -39,10 +39,10 @@ fn search_kept<G: Gate, L: Ledger>(
     blank: Blank,
 ) -> u64
     requires blank { (blank.name ≡ L.name) × (blank.parts ≡ L.parts) × (0 < blank.parts) }
-    requires feed { (σ : Setting) × (keep : ℕ) × (history : List Doc) × HasTaken feed.old σ keep history }
-    ensures taken { (σ : Setting) (keep : ℕ) (history : List Doc) → HasTaken feed.old σ keep history → HasTaken feed.new σ keep history }
-    ensures seen { (σ : Setting) (keep : ℕ) (history : List Doc) → HasTaken feed.old σ keep history → result ≡ length history }
-    ensures ids { (σ : Setting) (keep : ℕ) (history : List Doc) → HasTaken feed.old σ keep history
+    requires feed { (σ : Setting) × (keep : ℕ) × (history : List Doc) × IsFedWith feed.old σ keep history }
+    ensures taken { (σ : Setting) (keep : ℕ) (history : List Doc) → IsFedWith feed.old σ keep history → IsFedWith feed.new σ keep history }
+    ensures seen { (σ : Setting) (keep : ℕ) (history : List Doc) → IsFedWith feed.old σ keep history → result ≡ length history }
+    ensures ids { (σ : Setting) (keep : ℕ) (history : List Doc) → IsFedWith feed.old σ keep history
         → ids_of frame.new ≡ answer (query_of frame.old) (k_of frame.old) (kept σ keep history) }
     ensures few { length (ids_of frame.new) ≤ k_of frame.old }
 {

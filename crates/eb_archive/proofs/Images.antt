@@ -9,7 +9,7 @@ use Rattle.std.proofs.lemmas.List.{take_at}
 use Rattle.std.proofs.lemmas.List.Concat.{flat_map-cons}
 use Rattle.eb_base.specs.Document.{Doc, IsDocument}
 use Rattle.eb_base.specs.Setting.{Setting, IsSetting}
-use Rattle.eb_image.specs.Image.{head_of, part_of, last_byte, image_of, IsFront}
+use Rattle.eb_image.specs.Image.{head_of, document_part, last_byte, image_of, IsFront}
 use Rattle.eb_image.specs.Reading.{IsHead, IsNextPart, Begins, HasNone, IsBad}
 use Rattle.eb_image.proofs.Parts.{part_front, part_not_last, head_front}
 use Rattle.eb_image.proofs.Taken.{front_both}
@@ -18,14 +18,14 @@ use Rattle.eb_archive.specs.Loaded.{IsImage}
 
 -- the head and the parts of these documents
 abbrev pub read_bytes : Setting → List Doc → List ℕ
-read_bytes σ docs = head_of σ ++ flat_map part_of docs
+read_bytes σ docs = head_of σ ++ flat_map document_part docs
 
-cut_parts : (d : Doc) (ds : List Doc) (x : List ℕ) → flat_map part_of (d ∷ ds) ++ x ≡ part_of d ++ (flat_map part_of ds ++ x)
-cut_parts d ds x = ap (λ (b : List ℕ). b ++ x) (flat_map-cons part_of d ds) ∙ append_assoc (part_of d) (flat_map part_of ds) x
+cut_parts : (d : Doc) (ds : List Doc) (x : List ℕ) → flat_map document_part (d ∷ ds) ++ x ≡ document_part d ++ (flat_map document_part ds ++ x)
+cut_parts d ds x = ap (λ (b : List ℕ). b ++ x) (flat_map-cons document_part d ds) ∙ append_assoc (document_part d) (flat_map document_part ds) x
 
 -- where parts come first in the parts and the end of an image, they are the first of its parts
-parts_in : (docs others : List Doc) (x y : List ℕ) → All IsDocument docs → All IsDocument others → flat_map part_of docs ++ x ≡ flat_map part_of others ++ 0 ∷ y
-    → (more : List Doc) × (others ≡ docs ++ more) × (x ≡ flat_map part_of more ++ 0 ∷ y)
+parts_in : (docs others : List Doc) (x y : List ℕ) → All IsDocument docs → All IsDocument others → flat_map document_part docs ++ x ≡ flat_map document_part others ++ 0 ∷ y
+    → (more : List Doc) × (others ≡ docs ++ more) × (x ≡ flat_map document_part more ++ 0 ∷ y)
 parts_in [] others x y fd fo e = (others, refl, e)
 parts_in (d ∷ ds) [] x y fd fo e = absurd (part_not_last d _ y (sym (cut_parts d ds x) ∙ e))
 parts_in (d ∷ ds) (o ∷ os) x y fd fo e =
@@ -36,21 +36,21 @@ parts_in (d ∷ ds) (o ∷ os) x y fd fo e =
 module _ (σ : Setting) (docs : List Doc) (fs : IsSetting σ) (fd : All IsDocument docs) where
   -- and so the head and parts in an image
   pub image_in : (whole x y : List ℕ) (i : IsImage whole) → read_bytes σ docs ++ x ≡ whole ++ y
-      → (σ ≡ i.setting) × ((more : List Doc) × (i.documents ≡ docs ++ more) × (x ≡ flat_map part_of more ++ 0 ∷ y))
+      → (σ ≡ i.setting) × ((more : List Doc) × (i.documents ≡ docs ++ more) × (x ≡ flat_map document_part more ++ 0 ∷ y))
   unfolding image_of
   image_in whole x y i e =
-      let left : read_bytes σ docs ++ x ≡ head_of σ ++ (flat_map part_of docs ++ x) = append_assoc (head_of σ) (flat_map part_of docs) x in
-      let right : whole ++ y ≡ head_of i.setting ++ (flat_map part_of i.documents ++ 0 ∷ y) =
-      ap (λ b. b ++ y) i.is ∙ append_assoc (head_of i.setting) (flat_map part_of i.documents ++ last_byte) y
-      ∙ ap (λ b. head_of i.setting ++ b) (append_assoc (flat_map part_of i.documents) last_byte y) in
+      let left : read_bytes σ docs ++ x ≡ head_of σ ++ (flat_map document_part docs ++ x) = append_assoc (head_of σ) (flat_map document_part docs) x in
+      let right : whole ++ y ≡ head_of i.setting ++ (flat_map document_part i.documents ++ 0 ∷ y) =
+      ap (λ b. b ++ y) i.is ∙ append_assoc (head_of i.setting) (flat_map document_part i.documents ++ last_byte) y
+      ∙ ap (λ b. head_of i.setting ++ b) (append_assoc (flat_map document_part i.documents) last_byte y) in
       let heads = head_front σ i.setting _ _ fs i.allowed (sym left ∙ e ∙ right) in
       (heads.0, parts_in docs i.documents x y fd i.lawful.documents heads.1)
 
   -- something comes next in it
-  next_in : (more : List Doc) (x y : List ℕ) → All IsDocument more → x ≡ flat_map part_of more ++ 0 ∷ y → (next : List ℕ) × IsNextPart next × ((rest : List ℕ) × (x ≡ next ++ rest))
+  next_in : (more : List Doc) (x y : List ℕ) → All IsDocument more → x ≡ flat_map document_part more ++ 0 ∷ y → (next : List ℕ) × IsNextPart next × ((rest : List ℕ) × (x ≡ next ++ rest))
   next_in [] x y f e = (last_byte, inl refl, (y, e))
   next_in (m ∷ ms) x y f e =
-      (part_of m, inr (record { document = m; within = f 0 m (omega arith); is = refl }), (flat_map part_of ms ++ 0 ∷ y, e ∙ cut_parts m ms (0 ∷ y)))
+      (document_part m, inr (record { document = m; within = f 0 m (omega arith); is = refl }), (flat_map document_part ms ++ 0 ∷ y, e ∙ cut_parts m ms (0 ∷ y)))
 
   next_of : (whole x y : List ℕ) (i : IsImage whole) → read_bytes σ docs ++ x ≡ whole ++ y → (next : List ℕ) × IsNextPart next × ((rest : List ℕ) × (x ≡ next ++ rest))
   next_of whole x y i e =
@@ -107,21 +107,21 @@ module _ (σ : Setting) (docs : List Doc) (d : Doc) (fs : IsSetting σ) (fd : Al
       push (x ∷ xs) f zero z lt = f 0 z (omega arith)
       push (x ∷ xs) f (suc k) z lt = push xs (λ j y less. f (suc j) y (omega (arith, less))) k z (omega (arith, lt))
 
-  pub read_push : read_bytes σ docs ++ part_of d ≡ read_bytes σ (docs ++ d ∷ [])
+  pub read_push : read_bytes σ docs ++ document_part d ≡ read_bytes σ (docs ++ d ∷ [])
   read_push =
-      append_assoc (head_of σ) (flat_map part_of docs) (part_of d)
-      ∙ ap (λ b. head_of σ ++ b) (ap (λ b. flat_map part_of docs ++ b) (sym (append-nil (part_of d))) ∙ sym (flat_map-append part_of docs (d ∷ [])))
+      append_assoc (head_of σ) (flat_map document_part docs) (document_part d)
+      ∙ ap (λ b. head_of σ ++ b) (ap (λ b. flat_map document_part docs ++ b) (sym (append-nil (document_part d))) ∙ sym (flat_map-append document_part docs (d ∷ [])))
 
-  pub none_part : HasNone IsImage (read_bytes σ docs ++ part_of d)
+  pub none_part : HasNone IsImage (read_bytes σ docs ++ document_part d)
   none_part = subst (HasNone IsImage) (sym read_push) (none_read σ (docs ++ d ∷ []) fs all_push)
 
   -- the document has no room behind the others
-  pub bad_room : (left : Option (List ℕ)) → has_room σ docs d ≡ false → IsBad IsImage (read_bytes σ docs ++ part_of d) left
+  pub bad_room : (left : Option (List ℕ)) → has_room σ docs d ≡ false → IsBad IsImage (read_bytes σ docs ++ document_part d) left
   bad_room left full = record {
     none = none_part;
     never = inl (λ begins. no_room begins.0 begins.1 begins.2);
   } where
-    no_room : (whole : List ℕ) → IsImage whole → IsFront (read_bytes σ docs ++ part_of d) whole → ⊥
+    no_room : (whole : List ℕ) → IsImage whole → IsFront (read_bytes σ docs ++ document_part d) whole → ⊥
     no_room whole i front =
         let e : read_bytes σ (docs ++ d ∷ []) ++ front.rest ≡ whole ++ [] = ap (λ b. b ++ front.rest) (sym read_push) ∙ sym front.is ∙ sym (append-nil whole) in
         let in_it = image_in σ (docs ++ d ∷ []) fs all_push whole front.rest [] i e in
@@ -142,7 +142,7 @@ unfolding image_of
 head_in whole x y i e = (
   head_of i.setting,
   record { setting = i.setting; allowed = i.allowed; is = refl },
-  ((flat_map part_of i.documents ++ last_byte) ++ y, e ∙ ap (λ b. b ++ y) i.is ∙ append_assoc (head_of i.setting) (flat_map part_of i.documents ++ last_byte) y),
+  ((flat_map document_part i.documents ++ last_byte) ++ y, e ∙ ap (λ b. b ++ y) i.is ∙ append_assoc (head_of i.setting) (flat_map document_part i.documents ++ last_byte) y),
 )
 
 pub none_head : (t : List ℕ) → HasNone IsHead t → HasNone IsImage t

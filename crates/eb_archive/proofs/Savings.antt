@@ -6,11 +6,11 @@ use Rattle.std.specs.List.{flat_map}
 use Rattle.std.proofs.lemmas.Grind.{flat_map-append}
 use Rattle.eb_base.specs.Document.{Doc}
 use Rattle.eb_base.specs.Setting.{Setting}
-use Rattle.eb_image.specs.Image.{head_of, part_of, image_of, last_byte}
+use Rattle.eb_image.specs.Image.{head_of, document_part, image_of, last_byte}
 use Rattle.eb_io.specs.Lines.{Line, line}
 use Rattle.eb_place.specs.Room.{has_room, HasRoom}
 use Rattle.eb_table.specs.Known.{Words}
-use Rattle.eb_engine.specs.Tokens.{Token}
+use Rattle.eb_engine.specs.Tokens.{HistoryToken}
 use Rattle.eb_lines.specs.Reading.{Reading, document, refused}
 use Rattle.eb_lines.specs.declared.refusal.Refusal.TheVariants.{Full}
 use Rattle.eb_lines.specs.Progress.{documents_in, accepted, refusals, is_refused, one_if}
@@ -32,7 +32,7 @@ module _ (old new : Saving) (σ : Setting) (given : List Line) (so_far : List �
   a_is : admit σ (accepted h.readings) r ≡ a
   a_is = ap (λ ds. admit σ ds r) (sym h.documents) ∙ sym is
 
-  pub one_more : HasSaved new σ (given ++ l ∷ []) (so_far ++ flat_map part_of (documents_in a))
+  pub one_more : HasSaved new σ (given ++ l ∷ []) (so_far ++ flat_map document_part (documents_in a))
   one_more = record {
     words = h.words;
     index = index ∙ h.index;
@@ -44,8 +44,8 @@ module _ (old new : Saving) (σ : Setting) (given : List Line) (so_far : List �
     number = number ∙ omega (arith, h.number, length-append given (l ∷ []));
     refused = refused_more ∙ ap (λ n. n + one_if (is_refused a)) h.refused ∙ sym (refusals-push h.readings a);
     few = omega (arith, number, refused_more, low, h.few);
-    written = ap (λ b. b ++ flat_map part_of (documents_in a)) h.written ∙ append_assoc (head_of σ) (flat_map part_of (accepted h.readings)) (flat_map part_of (documents_in a))
-        ∙ ap (λ b. head_of σ ++ b) (sym (flat_map-append part_of (accepted h.readings) (documents_in a)) ∙ ap (flat_map part_of) (sym (accepted-push h.readings a)));
+    written = ap (λ b. b ++ flat_map document_part (documents_in a)) h.written ∙ append_assoc (head_of σ) (flat_map document_part (accepted h.readings)) (flat_map document_part (documents_in a))
+        ∙ ap (λ b. head_of σ ++ b) (sym (flat_map-append document_part (accepted h.readings) (documents_in a)) ∙ ap (flat_map document_part) (sym (accepted-push h.readings a)));
   }
 
 -- a line that adds nothing
@@ -55,24 +55,24 @@ pub takes_quiet : (old new : Saving) (r a : Reading) → ((σ : Setting) → old
 takes_quiet old new r a is none index writer number more low text = λ l reads σ given so_far h.
     let setting : old.index.setting ≡ σ = ap (λ (w : Words). w.setting) h.index ∙ h.setting in
     let docs : new.writer.docs ≡ old.writer.docs ++ documents_in a =
-    ap (λ (t : Token). t.docs) writer ∙ sym (append-nil old.writer.docs) ∙ ap (λ ds. old.writer.docs ++ ds) (sym none) in (
-      flat_map part_of (documents_in a),
-      one_more old new σ given so_far l r a h reads (sym (is σ setting)) index (ap (λ (t : Token). t.index) writer) docs number more low,
-      sym (append-nil text) ∙ ap (λ ds. text ++ flat_map part_of ds) (sym none),
+    ap (λ (t : HistoryToken). t.docs) writer ∙ sym (append-nil old.writer.docs) ∙ ap (λ ds. old.writer.docs ++ ds) (sym none) in (
+      flat_map document_part (documents_in a),
+      one_more old new σ given so_far l r a h reads (sym (is σ setting)) index (ap (λ (t : HistoryToken). t.index) writer) docs number more low,
+      sym (append-nil text) ∙ ap (λ ds. text ++ flat_map document_part ds) (sym none),
     )
 
 -- a document line whose document is added
 pub takes_document : (old new : Saving) (d : Doc) (text part text_new : List ℕ) → HasRoom old.index.setting old.writer.docs d → new.index ≡ old.index
-    → new.writer ≡ (let t : Token = record { index = old.writer.index; docs = old.writer.docs ++ d ∷ [] } in t)
-    → new.number ≡ old.number + 1 → new.refused ≡ old.refused → part ≡ part_of d → text_new ≡ text ++ part → TakesLine old new text text_new (document d)
+    → new.writer ≡ (let t : HistoryToken = record { index = old.writer.index; docs = old.writer.docs ++ d ∷ [] } in t)
+    → new.number ≡ old.number + 1 → new.refused ≡ old.refused → part ≡ document_part d → text_new ≡ text ++ part → TakesLine old new text text_new (document d)
 takes_document old new d text part text_new room index writer number refused_same is put = λ l reads σ given so_far h.
     let setting : old.index.setting ≡ σ = ap (λ (w : Words). w.setting) h.index ∙ h.setting in
     let fits : has_room σ old.writer.docs d ≡ true = subst (λ (s : Setting). HasRoom s old.writer.docs d) setting room in
     let admitted : document d ≡ admit σ old.writer.docs (document d) = sym (ap (λ b. if b then document d else refused Full) fits) in (
-      flat_map part_of (d ∷ []),
-      one_more old new σ given so_far l (document d) (document d) h reads admitted index (ap (λ (t : Token). t.index) writer)
-          (ap (λ (t : Token). t.docs) writer) number (omega (arith, refused_same)) (omega arith),
-      put ∙ ap (λ b. text ++ b) (is ∙ sym (append-nil (part_of d))),
+      flat_map document_part (d ∷ []),
+      one_more old new σ given so_far l (document d) (document d) h reads admitted index (ap (λ (t : HistoryToken). t.index) writer)
+          (ap (λ (t : HistoryToken). t.docs) writer) number (omega (arith, refused_same)) (omega arith),
+      put ∙ ap (λ b. text ++ b) (is ∙ sym (append-nil (document_part d))),
     )
 
 -- a document line whose document has no room
@@ -84,17 +84,17 @@ takes_full old new d text room index writer number refused_more =
     refl index writer number refused_more (omega arith) text
 
 -- before the first line
-pub saved_none : (s : Saving) (w : Words) (σ : Setting) → s.index ≡ w → w.setting ≡ σ → s.writer ≡ (let t : Token = record { index = w; docs = [] } in t) → s.number ≡ 0
+pub saved_none : (s : Saving) (w : Words) (σ : Setting) → s.index ≡ w → w.setting ≡ σ → s.writer ≡ (let t : HistoryToken = record { index = w; docs = [] } in t) → s.number ≡ 0
     → s.refused ≡ 0 → HasSaved s σ [] (head_of σ)
 unfolding accepted refusals
 saved_none s w σ index setting writer number refused_none = record {
   words = w;
   index = index;
   setting = setting;
-  writer = ap (λ (t : Token). t.index) writer;
+  writer = ap (λ (t : HistoryToken). t.index) writer;
   readings = [];
   read = read_none ReadsToSave σ [];
-  documents = ap (λ (t : Token). t.docs) writer;
+  documents = ap (λ (t : HistoryToken). t.docs) writer;
   number = number;
   refused = refused_none;
   few = omega (arith, number, refused_none);
@@ -119,7 +119,7 @@ saving_ends s t0 t1 σ given so_far put h = record {
   whole = record {
     readings = h.readings;
     read = h.read;
-    bytes = ap (λ b. b ++ last_byte) h.written ∙ append_assoc (head_of σ) (flat_map part_of (accepted h.readings)) last_byte;
+    bytes = ap (λ b. b ++ last_byte) h.written ∙ append_assoc (head_of σ) (flat_map document_part (accepted h.readings)) last_byte;
   };
   text = put;
   some = λ n e. (h.readings, h.read, omega (arith, e, h.refused));

@@ -4,7 +4,7 @@ use Rattle.std.proofs.Common.{arith, append_assoc, append-nil}
 use Rattle.std.specs.List.{flat_map}
 use Rattle.eb_base.specs.Document.{Doc, IsDocument}
 use Rattle.eb_base.specs.Setting.{Setting, IsSetting}
-use Rattle.eb_image.specs.Image.{head_of, part_of, last_byte, image_of}
+use Rattle.eb_image.specs.Image.{head_of, document_part, last_byte, image_of}
 use Rattle.eb_image.specs.Reading.{IsHead, IsNextPart, IsPart, IsBad, HasNone}
 use Rattle.eb_image.specs.declared.fault.ImageFault.TheVariants as fault
 use Rattle.eb_image.specs.declared.fault.ImageFault.{ImageFault}
@@ -30,7 +30,7 @@ module _ (s : Store) (σ : Setting) (docs : List Doc) (first now left : Option (
     allowed = allowed;
     lawful = h.lawful;
     store = h.store;
-    taken = on (read_bytes σ docs) last_byte first now left h.taken e ∙ ap (λ b. after b left) (append_assoc (head_of σ) (flat_map part_of docs) last_byte);
+    taken = on (read_bytes σ docs) last_byte first now left h.taken e ∙ ap (λ b. after b left) (append_assoc (head_of σ) (flat_map document_part docs) last_byte);
   }
 
   pub takes_none : (t : List ℕ) → now ≡ after t left → HasNone IsNextPart t → IsReadingStopped fault.ReadFault first left
@@ -41,8 +41,8 @@ module _ (s : Store) (σ : Setting) (docs : List Doc) (first now left : Option (
 
   pub takes_short : (t : List ℕ) → now ≡ after t left → IsPart t → IsReadingStopped fault.NoMemory first left
   takes_short t e p = record {
-    bytes = read_bytes σ docs ++ part_of p.document;
-    taken = on (read_bytes σ docs) (part_of p.document) first now left h.taken (e ∙ ap (λ b. after b left) p.is);
+    bytes = read_bytes σ docs ++ document_part p.document;
+    taken = on (read_bytes σ docs) (document_part p.document) first now left h.taken (e ∙ ap (λ b. after b left) p.is);
     why = none_part σ docs p.document allowed h.lawful.documents p.within;
   }
 
@@ -53,18 +53,18 @@ module _ (s : Store) (σ : Setting) (docs : List Doc) (first now left : Option (
   takes_fault fault.ReadFault bad failed short = let t = failed refl in takes_none t.0 t.1 t.2
   takes_fault fault.NoMemory bad failed short = let t = short refl in takes_short t.0 t.1 t.2
 
-  pub takes_full : (d : Doc) → IsDocument d → now ≡ after (part_of d) left → has_room σ docs d ≡ false → IsReadingStopped fault.BadImage first left
+  pub takes_full : (d : Doc) → IsDocument d → now ≡ after (document_part d) left → has_room σ docs d ≡ false → IsReadingStopped fault.BadImage first left
   takes_full d within e full = record {
-    bytes = read_bytes σ docs ++ part_of d;
-    taken = on (read_bytes σ docs) (part_of d) first now left h.taken e;
+    bytes = read_bytes σ docs ++ document_part d;
+    taken = on (read_bytes σ docs) (document_part d) first now left h.taken e;
     why = bad_room σ docs d allowed h.lawful.documents within left full;
   }
 
-  pub takes_part : (new : Store) (d : Doc) → IsDocument d → now ≡ after (part_of d) left → HasRoom σ docs d → Holds new σ (docs ++ d ∷ []) → HasRead new σ (docs ++ d ∷ []) first left
+  pub takes_part : (new : Store) (d : Doc) → IsDocument d → now ≡ after (document_part d) left → HasRoom σ docs d → Holds new σ (docs ++ d ∷ []) → HasRead new σ (docs ++ d ∷ []) first left
   takes_part new d within e room store = record {
     lawful = lawful_push σ docs d h.lawful within room;
     store = store;
-    taken = on (read_bytes σ docs) (part_of d) first now left h.taken e ∙ ap (λ b. after b left) (read_push σ docs d allowed h.lawful.documents within);
+    taken = on (read_bytes σ docs) (document_part d) first now left h.taken e ∙ ap (λ b. after b left) (read_push σ docs d allowed h.lawful.documents within);
   }
 
 -- before the first part

@@ -3,7 +3,7 @@ use Rattle.std.specs.Prelude.{◌≡◌, ℕ, List, [], ◌∷◌, ◌++◌, Opt
 use Rattle.std.specs.List.{flat_map}
 use Rattle.eb_base.specs.Document.{Doc}
 use Rattle.eb_base.specs.Setting.{Setting, IsSetting}
-use Rattle.eb_image.specs.Image.{head_of, part_of, image_of}
+use Rattle.eb_image.specs.Image.{head_of, document_part, image_of}
 use Rattle.eb_image.specs.declared.fault.ImageFault.{ImageFault}
 use Rattle.eb_image.specs.declared.fault.ImageFault.TheVariants as fault
 use Rattle.eb_io.specs.Source.{after}
@@ -24,7 +24,7 @@ status_of fault.NoMemory = NoMemory
 pub record HasRead (s : Store) (σ : Setting) (docs : List Doc) (first left : Option (List ℕ)) : Type 0 where
   pub lawful : IsLawful σ docs
   pub store : Holds s σ docs
-  pub taken : first ≡ after (head_of σ ++ flat_map part_of docs) left
+  pub taken : first ≡ after (head_of σ ++ flat_map document_part docs) left
 
 -- an image was read, exactly its bytes, and the index holds its documents
 pub record IsFilled (s : Store) (first left : Option (List ℕ)) : Type 0 where

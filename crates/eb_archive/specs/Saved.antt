@@ -3,7 +3,7 @@ use Rattle.std.specs.Prelude.{◌≡◌, ℕ, List, [], ◌++◌, Option}
 use Rattle.std.specs.List.{flat_map}
 use Rattle.eb_base.specs.Setting.{Setting}
 use Rattle.eb_io.specs.Lines.{Line, line, long_line}
-use Rattle.eb_image.specs.Image.{head_of, part_of, image_of}
+use Rattle.eb_image.specs.Image.{head_of, document_part, image_of}
 use Rattle.eb_lines.specs.declared.refusal.Refusal.TheVariants.{LongLine}
 use Rattle.eb_lines.specs.declared.status.Status.{Status}
 use Rattle.eb_lines.specs.Kinds.{Kind, blank_line, document_line, query_line, bad_line, kind_of}
@@ -33,7 +33,7 @@ AreReadToSave σ = AreReadBehind ReadsToSave σ []
 pub record AreParts (σ : Setting) (lines : List Line) (printed : List ℕ) : Type 0 where
   pub readings : List Reading
   pub read : AreReadToSave σ lines readings
-  pub bytes : printed ≡ head_of σ ++ flat_map part_of (accepted readings)
+  pub bytes : printed ≡ head_of σ ++ flat_map document_part (accepted readings)
 
 -- the image of the documents that these lines add
 pub record IsSaved (σ : Setting) (lines : List Line) (printed : List ℕ) : Type 0 where

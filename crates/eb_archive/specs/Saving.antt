@@ -2,7 +2,7 @@
 use Rattle.std.specs.Prelude.{◌≡◌, ℕ, ◌≤◌, List, ◌++◌, length}
 use Rattle.std.specs.List.{flat_map}
 use Rattle.eb_base.specs.Setting.{Setting}
-use Rattle.eb_image.specs.Image.{head_of, part_of}
+use Rattle.eb_image.specs.Image.{head_of, document_part}
 use Rattle.eb_io.specs.Lines.{Line}
 use Rattle.eb_lines.specs.Programs.{WorksOnGiven}
 use Rattle.eb_lines.specs.Progress.{accepted, refusals}
@@ -24,7 +24,7 @@ pub record HasSaved (s : Saving) (σ : Setting) (given : List Line) (so_far : Li
   pub number : s.number ≡ length given
   pub refused : s.refused ≡ refusals readings
   pub few : s.refused ≤ s.number
-  pub written : so_far ≡ head_of σ ++ flat_map part_of (accepted readings)
+  pub written : so_far ≡ head_of σ ++ flat_map document_part (accepted readings)
 
 -- a line of this reading was taken, and its part was put behind the text
 abbrev pub TakesLine : Saving → Saving → List ℕ → List ℕ → Reading → Type 0

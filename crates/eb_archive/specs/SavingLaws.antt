@@ -3,7 +3,7 @@ use Rattle.std.specs.Prelude.{ℕ, List, ◌++◌}
 use Rattle.std.specs.List.{flat_map}
 use Rattle.std.proofs.Common.{ap, ◌∙◌, append_assoc}
 use Rattle.eb_base.specs.Setting.{Setting}
-use Rattle.eb_image.specs.Image.{head_of, part_of, image_of, last_byte}
+use Rattle.eb_image.specs.Image.{head_of, document_part, image_of, last_byte}
 use Rattle.eb_io.specs.Lines.{Line}
 use Rattle.eb_lines.specs.Programs.{PrintsFront, prints_all}
 use Rattle.eb_lines.specs.Progress.{accepted}
@@ -24,6 +24,6 @@ parts_first σ lines printed p = (
   record {
     readings = p.readings;
     read = p.read;
-    bytes = ap (λ b. b ++ last_byte) p.bytes ∙ append_assoc (head_of σ) (flat_map part_of (accepted p.readings)) last_byte;
+    bytes = ap (λ b. b ++ last_byte) p.bytes ∙ append_assoc (head_of σ) (flat_map document_part (accepted p.readings)) last_byte;
   },
 )

@@ -1,5 +1,5 @@
 //! An image is read into the index of its setting.
-ghost use Rattle.std.specs.Prelude.{◌≡◌, ◌≤◌, ℕ, List, [], Option, OnOk, MatchResult, ⊤, IsErrOf};
+ghost use Rattle.std.specs.Prelude.{◌≤◌, ℕ, List, [], Option, MatchResult, IsErrOf};
 ghost use Rattle.eb_base.specs.Document.{Doc};
 ghost use Rattle.eb_base.specs.Setting.{Setting, IsSetting};
 ghost use Rattle.eb_io.specs.Faults.{HasRisen};

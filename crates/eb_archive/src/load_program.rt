@@ -1,5 +1,4 @@
 //! The program over an index that was loaded: what `load` does with each line, and at the end.
-ghost use Rattle.eb_io.specs.Lines.{line};
 
 use crate::loading::Loading;
 use eb_base::{Gate, NoMemory};

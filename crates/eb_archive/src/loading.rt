@@ -1,5 +1,5 @@
 //! What a load does with each line behind the image.
-ghost use Rattle.std.specs.Prelude.{◌≡◌, ◌≤◌, ◌^◌, ℕ, List, [], length, IfOk, OnErr, OnOk};
+ghost use Rattle.std.specs.Prelude.{◌≡◌, ◌≤◌, ◌^◌, ℕ, List, [], IfOk, OnErr, OnOk};
 ghost use Rattle.eb_cursor.specs.Frames.{query_of, k_of};
 ghost use Rattle.eb_lines.specs.Programs.{IsRunning, WorksOnGiven, Finishes};
 ghost use Rattle.eb_io.specs.Lines.{Line, line, long_line};

@@ -1,7 +1,7 @@
 //! What `save` does with each line, and at the end.
 ghost use Rattle.std.specs.Prelude.{◌≡◌, ◌+◌, ◌≤◌, ◌^◌, ◌++◌, ℕ, List, [], length, vec_len, vec_capacity, IfOk, OnErr, OnOk};
 ghost use Rattle.eb_image.specs.Image.{head_of};
-ghost use Rattle.eb_io.specs.Lines.{Line, line};
+ghost use Rattle.eb_io.specs.Lines.{line};
 ghost use Rattle.eb_lines.specs.Kinds.{document_line, kind_of};
 ghost use Rattle.eb_lines.specs.Programs.{IsRunning, WorksOnGiven};
 ghost use Rattle.eb_lines.specs.Reading.{blank, document as reads_document, refused as is_refused};

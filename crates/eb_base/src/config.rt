@@ -1,5 +1,5 @@
-ghost use Rattle.std.specs.Prelude.{◌≡◌, ℕ, ◌+◌, ◌*◌, ◌<◌, ◌≤◌, ◌^◌, ◌↔◌, IfOk, IsErrOf, IsTrue};
-ghost use Rattle.eb_base.specs.Setting.{Setting, IsSetting, AreSegments, AreDocs, AreTerms, AreWords, words_of};
+ghost use Rattle.std.specs.Prelude.{◌≡◌, ◌+◌, ◌*◌, ◌<◌, ◌≤◌, ◌^◌, ◌↔◌, IfOk, IsErrOf, IsTrue};
+ghost use Rattle.eb_base.specs.Setting.{Setting, IsSetting, AreSegments, AreDocs, AreTerms, words_of};
 
 use std::error::Error;
 use std::fmt;

@@ -9,7 +9,7 @@ use Rattle.eb_place.specs.Room.{cut}
 use Rattle.eb_place.proofs.CutSegments.{closed_stays}
 use Rattle.eb_convert.specs.declared.conversion.Converted.{Converted}
 use Rattle.eb_convert.specs.declared.conversion.Converted.TheVariants.{One, Nothing}
-use Rattle.eb_engine.specs.Tokens.{Token, ConverterToken, Converts, AreClosed}
+use Rattle.eb_engine.specs.Tokens.{HistoryToken, ConverterToken, Converts, AreClosed}
 use Rattle.eb_blend.specs.Parts.{histories_of, converter_histories_of, converted_of, history}
 use Rattle.eb_blend.proofs.Each.{history_at, converter_history_at, new_converted, other_converted}
 
@@ -26,12 +26,12 @@ converted_at : (cs : List ConverterToken) (n : ℕ) (c : ConverterToken) → n <
 converted_at cs n c lt a = get_or-map (λ (x : ConverterToken). x.converted) cs n c 0 lt ∙ ap (λ (x : ConverterToken). x.converted) (sym a)
 
 -- one part more is heard
-pub closed_more : (σ : Setting) (ts : List Token) (cs : List ConverterToken) (n : ℕ) (t new : Token) (c : ConverterToken) → n < length ts → n < length cs
+pub closed_more : (σ : Setting) (ts : List HistoryToken) (cs : List ConverterToken) (n : ℕ) (t new : HistoryToken) (c : ConverterToken) → n < length ts → n < length cs
     → t ≡ get_or ts n t → c ≡ get_or cs n c → new ≡ t
     → AreClosed σ new.docs c.converted → ((p : ℕ) → p < n → AreClosed σ (history (histories_of ts) p) (get_or (converted_of cs) p 0))
     → (p : ℕ) → p < n + 1 → AreClosed σ (history (histories_of ts) p) (get_or (converted_of cs) p 0)
 closed_more σ ts cs n t new c l m a b e now f p lt =
-    let here = sym (history_at ts n t l a ∙ ap (λ (x : Token). x.docs) (sym e)) in
+    let here = sym (history_at ts n t l a ∙ ap (λ (x : HistoryToken). x.docs) (sym e)) in
     let there = sym (converted_at cs n c m b) in
     elim (cases_eq p n) [
       | inl s ↦ subst (λ r. AreClosed σ (history (histories_of ts) r) (get_or (converted_of cs) r 0)) (sym s) (subst (λ (z : List Doc × ℕ). AreClosed σ z.0 z.1) (λ i. (here i, there i)) now)

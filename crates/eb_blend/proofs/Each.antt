@@ -16,27 +16,27 @@ use Rattle.eb_base.specs.Document.{Doc}
 use Rattle.eb_place.proofs.Prefixes.{prefix_self, prefix_trans}
 use Rattle.eb_place.specs.Room.{cut}
 use Rattle.eb_table.specs.Known.{Words}
-use Rattle.eb_engine.specs.Tokens.{Token, ConverterToken}
+use Rattle.eb_engine.specs.Tokens.{HistoryToken, ConverterToken}
 use Rattle.eb_blend.specs.Parts.{indexes_of, histories_of, converter_indexes_of, converter_histories_of, history, lengths_of, counted}
 use Rattle.eb_blend.specs.Parts.{joined, part_of, with_document, AreFronts, converted_of, few_counted, segments_of}
 
 -- the token of a part was made with the index of the part
-pub made_at : (ts : List Token) (ws : List Words) (n : ℕ) (t : Token) (w : Words) → indexes_of ts ≡ ws → n < length ts → t ≡ get_or ts n t → w ≡ get_or ws n w → t.index ≡ w
-made_at ts ws n t w e lt a b = ap (λ (x : Token). x.index) a ∙ sym (get_or-map (λ (x : Token). x.index) ts n t w lt) ∙ ap (λ (z : List Words). get_or z n w) e ∙ sym b
+pub made_at : (ts : List HistoryToken) (ws : List Words) (n : ℕ) (t : HistoryToken) (w : Words) → indexes_of ts ≡ ws → n < length ts → t ≡ get_or ts n t → w ≡ get_or ws n w → t.index ≡ w
+made_at ts ws n t w e lt a b = ap (λ (x : HistoryToken). x.index) a ∙ sym (get_or-map (λ (x : HistoryToken). x.index) ts n t w lt) ∙ ap (λ (z : List Words). get_or z n w) e ∙ sym b
 
 pub converter_made_at : (ts : List ConverterToken) (ws : List Words) (n : ℕ) (t : ConverterToken) (w : Words) → converter_indexes_of ts ≡ ws → n < length ts → t ≡ get_or ts n t
     → w ≡ get_or ws n w → t.index ≡ w
 converter_made_at ts ws n t w e lt a b = ap (λ (x : ConverterToken). x.index) a ∙ sym (get_or-map (λ (x : ConverterToken). x.index) ts n t w lt) ∙ ap (λ (z : List Words). get_or z n w) e ∙ sym b
 
 -- there are as many indexes as tokens
-pub as_many : (ts : List Token) (ws : List Words) → indexes_of ts ≡ ws → length ts ≡ length ws
+pub as_many : (ts : List HistoryToken) (ws : List Words) → indexes_of ts ≡ ws → length ts ≡ length ws
 as_many ts ws e = sym (length_map ts) ∙ ap length e
   where
-    length_map : (ts : List Token) → length (indexes_of ts) ≡ length ts
+    length_map : (ts : List HistoryToken) → length (indexes_of ts) ≡ length ts
     length_map [] = refl
     length_map (t ∷ ts) = ap suc (length_map ts)
 
-pub length_histories : (ts : List Token) → length (histories_of ts) ≡ length ts
+pub length_histories : (ts : List HistoryToken) → length (histories_of ts) ≡ length ts
 length_histories [] = refl
 length_histories (t ∷ ts) = ap suc (length_histories ts)
 
@@ -52,8 +52,8 @@ length_converter_histories [] = refl
 length_converter_histories (t ∷ ts) = ap suc (length_converter_histories ts)
 
 -- a part's token is changed for one of the same index
-pub indexes_set : (ts : List Token) (n : ℕ) (t new : Token) → t ≡ get_or ts n t → new.index ≡ t.index → indexes_of (set ts n new) ≡ indexes_of ts
-indexes_set ts n t new a e = map-set_same (λ (x : Token). x.index) ts n new t (e ∙ ap (λ (x : Token). x.index) a)
+pub indexes_set : (ts : List HistoryToken) (n : ℕ) (t new : HistoryToken) → t ≡ get_or ts n t → new.index ≡ t.index → indexes_of (set ts n new) ≡ indexes_of ts
+indexes_set ts n t new a e = map-set_same (λ (x : HistoryToken). x.index) ts n new t (e ∙ ap (λ (x : HistoryToken). x.index) a)
 
 pub converter_indexes_set : (ts : List ConverterToken) (n : ℕ) (t new : ConverterToken) → t ≡ get_or ts n t → new.index ≡ t.index → converter_indexes_of (set ts n new) ≡ converter_indexes_of ts
 converter_indexes_set ts n t new a e = map-set_same (λ (x : ConverterToken). x.index) ts n new t (e ∙ ap (λ (x : ConverterToken). x.index) a)
@@ -80,18 +80,18 @@ grown hs n h lt pre = record {
   ];
 }
 
-pub history_at : (ts : List Token) (n : ℕ) (t : Token) → n < length ts → t ≡ get_or ts n t → history (histories_of ts) n ≡ t.docs
-history_at ts n t lt a = get_or-map (λ (x : Token). x.docs) ts n t [] lt ∙ ap (λ (x : Token). x.docs) (sym a)
+pub history_at : (ts : List HistoryToken) (n : ℕ) (t : HistoryToken) → n < length ts → t ≡ get_or ts n t → history (histories_of ts) n ≡ t.docs
+history_at ts n t lt a = get_or-map (λ (x : HistoryToken). x.docs) ts n t [] lt ∙ ap (λ (x : HistoryToken). x.docs) (sym a)
 
 pub converter_history_at : (ts : List ConverterToken) (n : ℕ) (t : ConverterToken) → n < length ts → t ≡ get_or ts n t → history (converter_histories_of ts) n ≡ t.docs
 converter_history_at ts n t lt a = get_or-map (λ (x : ConverterToken). x.docs) ts n t [] lt ∙ ap (λ (x : ConverterToken). x.docs) (sym a)
 
 -- a part's token learns more
-pub fronts_set : (ts : List Token) (n : ℕ) (t new : Token) → n < length ts → t ≡ get_or ts n t → IsPrefix t.docs new.docs → AreFronts (histories_of ts) (histories_of (set ts n new))
+pub fronts_set : (ts : List HistoryToken) (n : ℕ) (t new : HistoryToken) → n < length ts → t ≡ get_or ts n t → IsPrefix t.docs new.docs → AreFronts (histories_of ts) (histories_of (set ts n new))
 fronts_set ts n t new lt a pre =
     let long : n < length (histories_of ts) = omega (arith, lt, length_histories ts) in
     let g = grown (histories_of ts) n new.docs long (subst (λ (z : List Doc). IsPrefix z new.docs) (sym (history_at ts n t lt a)) pre) in
-    subst (λ (z : List (List Doc)). AreFronts (histories_of ts) z) (sym (map-set (λ (x : Token). x.docs) ts n new)) g
+    subst (λ (z : List (List Doc)). AreFronts (histories_of ts) z) (sym (map-set (λ (x : HistoryToken). x.docs) ts n new)) g
 
 pub converter_fronts_set : (ts : List ConverterToken) (n : ℕ) (t new : ConverterToken) → n < length ts → t ≡ get_or ts n t → IsPrefix t.docs new.docs
     → AreFronts (converter_histories_of ts) (converter_histories_of (set ts n new))
@@ -112,12 +112,12 @@ length_map f [] = refl
 length_map f (x ∷ xs) = ap suc (length_map f xs)
 
 -- one part more is searched
-pub found_more : (fs : List Frame) (ts : List Token) (n : ℕ) (f : Frame) (t : Token) (q : Tree) (k : ℕ) → n < length fs → n < length ts
+pub found_more : (fs : List Frame) (ts : List HistoryToken) (n : ℕ) (f : Frame) (t : HistoryToken) (q : Tree) (k : ℕ) → n < length fs → n < length ts
     → take n (map ids_of fs) ≡ take n (map (answer q k) (histories_of ts)) → ids_of f ≡ answer q k t.docs
     → take (n + 1) (map ids_of (set fs n f)) ≡ take (n + 1) (map (answer q k) (histories_of (set ts n t)))
 found_more fs ts n f t q k l m h e =
     let left = ap (take (n + 1)) (map-set ids_of fs n f) ∙ take_set (map ids_of fs) n (ids_of f) (omega (arith, l, length_map ids_of fs)) in
-    let docs = map-set (λ (x : Token). x.docs) ts n t in
+    let docs = map-set (λ (x : HistoryToken). x.docs) ts n t in
     let right = ap (λ (z : List (List Doc)). take (n + 1) (map (answer q k) z)) docs ∙ ap (take (n + 1)) (map-set (answer q k) (histories_of ts) n t.docs)
     ∙ take_set (map (answer q k) (histories_of ts)) n (answer q k t.docs) (omega (arith, m, length_map (answer q k) (histories_of ts), length_histories ts)) in
     left ∙ (λ i. h i ++ e i ∷ []) ∙ sym right
@@ -129,16 +129,16 @@ take_next (x ∷ xs) zero y lt e = ap (λ z. z ∷ []) e
 take_next (x ∷ xs) (suc n) y lt e = let s : suc n + 1 ≡ suc (n + 1) = omega arith in rw s (ap (λ z. x ∷ z) (take_next xs n y (omega (arith, lt)) e))
 
 -- one part more is looked at
-pub lengths_more : (ns : List ℕ) (ts : List Token) (n : ℕ) (x : ℕ) (t : Token) → n < length ns → n < length ts → t ≡ get_or ts n t
+pub lengths_more : (ns : List ℕ) (ts : List HistoryToken) (n : ℕ) (x : ℕ) (t : HistoryToken) → n < length ns → n < length ts → t ≡ get_or ts n t
     → take n ns ≡ take n (lengths_of (histories_of ts)) → x ≡ length t.docs
     → take (n + 1) (set ns n x) ≡ take (n + 1) (lengths_of (histories_of ts))
 lengths_more ns ts n x t l m a h e =
     let inside : n < length (lengths_of (histories_of ts)) = omega (arith, m, length_map length (histories_of ts), length_histories ts) in
     take_set ns n x l ∙ (λ i. h i ++ e i ∷ []) ∙ sym (take_next (lengths_of (histories_of ts)) n (length t.docs) inside (own ts n t m a))
   where
-    own : (ts : List Token) (n : ℕ) (t : Token) → n < length ts → t ≡ get_or ts n t → get_or (lengths_of (histories_of ts)) n (length t.docs) ≡ length t.docs
+    own : (ts : List HistoryToken) (n : ℕ) (t : HistoryToken) → n < length ts → t ≡ get_or ts n t → get_or (lengths_of (histories_of ts)) n (length t.docs) ≡ length t.docs
     own [] n t lt a = absurd (omega (arith, lt))
-    own (u ∷ ts) zero t lt a = ap (λ (z : Token). length z.docs) (sym a)
+    own (u ∷ ts) zero t lt a = ap (λ (z : HistoryToken). length z.docs) (sym a)
     own (u ∷ ts) (suc n) t lt a = own ts n t (omega (arith, lt)) a
 
 pub sum_push : (ns : List ℕ) (n x : ℕ) (count : ℕ) → n < length ns → count ≡ counted (take n ns) → min (count + x) (2 ^ 64 - 1) ≡ counted (take (n + 1) (set ns n x))
@@ -167,12 +167,13 @@ fronts_all hs all n e le f = record {
 }
 
 -- one part more is heard
-pub heard_more : (ts : List Token) (cs : List ConverterToken) (n : ℕ) (t new : Token) (c : ConverterToken) → n < length ts → n < length cs → t ≡ get_or ts n t → c ≡ get_or cs n c → new ≡ t
+pub heard_more : (ts : List HistoryToken) (cs : List ConverterToken) (n : ℕ) (t new : HistoryToken) (c : ConverterToken) → n < length ts → n < length cs
+    → t ≡ get_or ts n t → c ≡ get_or cs n c → new ≡ t
     → IsPrefix c.docs new.docs → ((p : ℕ) → p < n → IsPrefix (history (converter_histories_of cs) p) (history (histories_of ts) p))
     → (p : ℕ) → p < n + 1 → IsPrefix (history (converter_histories_of cs) p) (history (histories_of ts) p)
 heard_more ts cs n t new c l m a b e pre f p lt =
     let here = sym (converter_history_at cs n c m b) in
-    let there = sym (history_at ts n t l a ∙ ap (λ (x : Token). x.docs) (sym e)) in
+    let there = sym (history_at ts n t l a ∙ ap (λ (x : HistoryToken). x.docs) (sym e)) in
     elim (cases_eq p n) [
       | inl s ↦ subst (λ r. IsPrefix (history (converter_histories_of cs) r) (history (histories_of ts) r)) (sym s)
           (subst (λ (z : List Doc × List Doc). IsPrefix z.0 z.1) (λ i. (here i, there i)) pre)
@@ -213,12 +214,12 @@ sum_set (h ∷ hs) (suc n) d lt =
     omega (arith, r, sum_by-cons (λ (z : ℕ). z) (length h) (lengths_of (set hs n (history hs n ++ d ∷ []))), sum_by-cons (λ (z : ℕ). z) (length h) (lengths_of hs))
 
 -- the histories after an add
-pub added_is : (ts : List Token) (n : ℕ) (t new : Token) (d : Doc) → n < length ts → t ≡ get_or ts n t → new ≡ record { index = t.index; docs = t.docs ++ d ∷ [] } → n ≡ d.id % length ts
+pub added_is : (ts : List HistoryToken) (n : ℕ) (t new : HistoryToken) (d : Doc) → n < length ts → t ≡ get_or ts n t → new ≡ record { index = t.index; docs = t.docs ++ d ∷ [] } → n ≡ d.id % length ts
     → histories_of (set ts n new) ≡ with_document (histories_of ts) d
 added_is ts n t new d lt a e at =
     let here : n ≡ part_of (histories_of ts) d = at ∙ ap (λ m. d.id % m) (sym (length_histories ts)) in
-    let docs : new.docs ≡ history (histories_of ts) n ++ d ∷ [] = ap (λ (x : Token). x.docs) e ∙ ap (λ (z : List Doc). z ++ d ∷ []) (sym (history_at ts n t lt a)) in
-    map-set (λ (x : Token). x.docs) ts n new ∙ ap (set (histories_of ts) n) docs ∙ ap (λ m. set (histories_of ts) m (history (histories_of ts) m ++ d ∷ [])) here
+    let docs : new.docs ≡ history (histories_of ts) n ++ d ∷ [] = ap (λ (x : HistoryToken). x.docs) e ∙ ap (λ (z : List Doc). z ++ d ∷ []) (sym (history_at ts n t lt a)) in
+    map-set (λ (x : HistoryToken). x.docs) ts n new ∙ ap (set (histories_of ts) n) docs ∙ ap (λ m. set (histories_of ts) m (history (histories_of ts) m ++ d ∷ [])) here
 
 pub counted_more : (hs : List (List Doc)) (d : Doc) (count : ℕ) → 1 ≤ length hs → count ≡ counted (lengths_of hs) → min (count + 1) (2 ^ 64 - 1) ≡ counted (lengths_of (with_document hs d))
 counted_more hs d count some e =
@@ -245,11 +246,11 @@ pub inside_front : {A : Type 0} (new l all : List A) (r : A) → l ≡ new ++ r 
 inside_front new l all r e p = omega (arith, ap length (whole_is new l all r e p), length-append new (r ∷ p.0))
 
 -- one part more has taken in its reader
-pub met_more : (ts rs : List Token) (n : ℕ) (t new r : Token) → n < length ts → n < length rs → t ≡ get_or ts n t → r ≡ get_or rs n r → new ≡ t → IsPrefix r.docs new.docs
+pub met_more : (ts rs : List HistoryToken) (n : ℕ) (t new r : HistoryToken) → n < length ts → n < length rs → t ≡ get_or ts n t → r ≡ get_or rs n r → new ≡ t → IsPrefix r.docs new.docs
     → ((p : ℕ) → n + 1 ≤ p → IsPrefix (history (histories_of rs) p) (history (histories_of ts) p)) → (p : ℕ) → n ≤ p → IsPrefix (history (histories_of rs) p) (history (histories_of ts) p)
 met_more ts rs n t new r l m a b e pre f p le =
     let here = sym (history_at rs n r m b) in
-    let there = sym (history_at ts n t l a ∙ ap (λ (x : Token). x.docs) (sym e)) in
+    let there = sym (history_at ts n t l a ∙ ap (λ (x : HistoryToken). x.docs) (sym e)) in
     elim (cases_eq p n) [
       | inl s ↦ subst (λ k. IsPrefix (history (histories_of rs) k) (history (histories_of ts) k)) (sym s) (subst (λ (z : List Doc × List Doc). IsPrefix z.0 z.1) (λ i. (here i, there i)) pre)
       | inr ne ↦ f p (omega (arith, le, ne))
@@ -259,7 +260,7 @@ met_more ts rs n t new r l m a b e pre f p le =
 pub none_before : (hs : List (List Doc)) (p : ℕ) (h : List Doc) → length hs ≤ p → IsPrefix (history hs p) h
 none_before hs p h le = subst (λ (z : List Doc). IsPrefix z h) (sym (beyond hs p le)) (h, refl)
 
-pub no_token : (o : Option Token) → ((x : Token) → o ≡ Some x → ⊥) → o ≡ None
+pub no_token : (o : Option HistoryToken) → ((x : HistoryToken) → o ≡ Some x → ⊥) → o ≡ None
 no_token None h = refl
 no_token (Some x) h = absurd (h x refl)
 
@@ -283,7 +284,8 @@ pub other_converted : (cs : List ConverterToken) (n : ℕ) (new : ConverterToken
 other_converted cs n new p ne = ap (λ (z : List ℕ). get_or z p 0) (map-set (λ (x : ConverterToken). x.converted) cs n new) ∙ get_or-set_other (converted_of cs) n p new.converted 0 ne
 
 -- one converter more has taken in its reader
-pub converter_met_more : (cs : List ConverterToken) (rs : List Token) (n : ℕ) (new : ConverterToken) (r : Token) → n < length cs → n < length rs → r ≡ get_or rs n r → IsPrefix r.docs new.docs
+pub converter_met_more : (cs : List ConverterToken) (rs : List HistoryToken) (n : ℕ) (new : ConverterToken) (r : HistoryToken) → n < length cs → n < length rs
+    → r ≡ get_or rs n r → IsPrefix r.docs new.docs
     → ((p : ℕ) → n + 1 ≤ p → IsPrefix (history (histories_of rs) p) (history (converter_histories_of cs) p))
     → (p : ℕ) → n ≤ p → IsPrefix (history (histories_of rs) p) (history (converter_histories_of (set cs n new)) p)
 converter_met_more cs rs n new r l m b pre f p le =
@@ -318,15 +320,15 @@ pub length_converted : (cs : List ConverterToken) → length (converted_of cs) �
 length_converted cs = length_map (λ (z : ConverterToken). z.converted) cs
 
 -- the number of segments of a part
-abbrev pub segments_in : Token → ℕ
+abbrev pub segments_in : HistoryToken → ℕ
 segments_in t = length (cut t.index.setting t.docs)
 
-pub segments_are : (ts : List Token) → segments_of (indexes_of ts) (histories_of ts) ≡ map segments_in ts
+pub segments_are : (ts : List HistoryToken) → segments_of (indexes_of ts) (histories_of ts) ≡ map segments_in ts
 segments_are [] = refl
 segments_are (t ∷ ts) = ap (λ z. segments_in t ∷ z) (segments_are ts)
 
-pub segments_got : (ts : List Token) (n : ℕ) (t : Token) (x : ℕ) → n < length ts → t ≡ get_or ts n t → x ≡ segments_in t → get_or (map segments_in ts) n x ≡ x
+pub segments_got : (ts : List HistoryToken) (n : ℕ) (t : HistoryToken) (x : ℕ) → n < length ts → t ≡ get_or ts n t → x ≡ segments_in t → get_or (map segments_in ts) n x ≡ x
 segments_got ts n t x lt a e = get_or-map segments_in ts n t x lt ∙ ap segments_in (sym a) ∙ sym e
 
-pub length_segments : (ts : List Token) → length (map segments_in ts) ≡ length ts
+pub length_segments : (ts : List HistoryToken) → length (map segments_in ts) ≡ length ts
 length_segments ts = length_map segments_in ts

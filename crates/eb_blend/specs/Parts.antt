@@ -5,7 +5,7 @@ use Rattle.eb_base.specs.Document.{Doc}
 use Rattle.eb_base.specs.Setting.{Setting}
 use Rattle.eb_place.specs.Room.{cut}
 use Rattle.eb_table.specs.Known.{Words}
-use Rattle.eb_engine.specs.Tokens.{Token, ConverterToken, AreClosed}
+use Rattle.eb_engine.specs.Tokens.{HistoryToken, ConverterToken, AreClosed}
 
 -- the setting of each part, and the index of each part
 pub record Parts : Type 0 where
@@ -29,10 +29,10 @@ pub record ConverterTokens : Type 0 where
   pub histories : List (List Doc)
   pub converted : List ℕ
 
-abbrev pub indexes_of : List Token → List Words
+abbrev pub indexes_of : List HistoryToken → List Words
 indexes_of ts = map (λ t. t.index) ts
 
-abbrev pub histories_of : List Token → List (List Doc)
+abbrev pub histories_of : List HistoryToken → List (List Doc)
 histories_of ts = map (λ t. t.docs) ts
 
 -- the same of a converter's parts

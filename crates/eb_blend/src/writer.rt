@@ -1,4 +1,4 @@
-ghost use Rattle.std.specs.Prelude.{◌≡◌, ◌≤◌, ◌<◌, [], replicate, None, Some, IfOk, IfErr, IfSome, OnErr, ℕ, sum};
+ghost use Rattle.std.specs.Prelude.{◌≡◌, ◌≤◌, ◌<◌, [], replicate, None, Some, IfOk, IfErr, IfSome, OnErr, ℕ};
 ghost use Rattle.eb_place.specs.Room.{HasRoom};
 ghost use Rattle.eb_blend.specs.Parts.{WriterTokens, indexes_of, histories_of, converter_indexes_of, converter_histories_of, converted_of, lengths_of, counted};
 ghost use Rattle.eb_blend.specs.Parts.{few_counted, segments_of, history, part_of, with_document, IsAbove, AreFronts, AllClosed};

@@ -1,4 +1,4 @@
-ghost use Rattle.std.specs.Prelude.{◌≡◌, ℕ, List, [], ◌∷◌, ◌++◌, ◌+◌, ◌-◌, ◌*◌, ◌/◌, ◌%◌, ◌^◌, ◌<◌, ◌≤◌, length, take, fold, max, slice_index};
+ghost use Rattle.std.specs.Prelude.{◌≡◌, ℕ, List, [], ◌∷◌, ◌++◌, ◌+◌, ◌-◌, ◌*◌, ◌/◌, ◌%◌, ◌^◌, ◌<◌, ◌≤◌, length, take, fold, max};
 ghost use Rattle.eb_place.specs.Packed.{block, differences, fields, lowest_words, width_of};
 ghost use Rattle.eb_place.specs.Falling.{IsFalling};
 ghost use Rattle.eb_block.specs.Blocks.{IsPackable, BeginsWith};

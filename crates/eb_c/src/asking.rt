@@ -1,5 +1,5 @@
 //! Questions to an index that was begun.
-ghost use Rattle.std.specs.Prelude.{◌≡◌, ◌<◌, ◌≤◌, List, length, min};
+ghost use Rattle.std.specs.Prelude.{◌≡◌, ◌<◌, List, length, min};
 ghost use Rattle.eb_base.specs.Document.{Doc};
 ghost use Rattle.eb_base.specs.Match.{answer as answer_of};
 ghost use Rattle.eb_place.specs.declared.moment.Moment.{Moment};

@@ -1,4 +1,4 @@
-ghost use Rattle.std.specs.Prelude.{◌≡◌, ℕ, List, [], ◌∷◌, ◌++◌, ◌+◌, ◌*◌, ◌≤◌, ◌<◌, ◌^◌, length, take, drop};
+ghost use Rattle.std.specs.Prelude.{◌≡◌, ℕ, List, [], ◌∷◌, ◌++◌, ◌+◌, ◌*◌, ◌≤◌, ◌<◌, length, take, drop};
 ghost use Rattle.eb_base.specs.Term.{Term};
 ghost use Rattle.eb_place.specs.declared.moment.Moment.{Moment};
 ghost use Rattle.eb_place.specs.Layout.Slot.{slot};
@@ -7,11 +7,8 @@ ghost use Rattle.eb_place.specs.Placing.{Store, in_row};
 ghost use Rattle.std.specs.Bool.{MatchBool};
 ghost use Rattle.eb_place.specs.Moments.{IsClosed};
 ghost use Rattle.eb_place.specs.Later.{IsNotBefore};
-ghost use Rattle.eb_place.specs.NextStores.{after_put};
 ghost use Rattle.eb_chain.specs.Chains.{Stands};
-ghost use Rattle.eb_place.specs.Packed.{packed_list};
 ghost use Rattle.eb_place.specs.Walk.{IsTerm};
-ghost use Rattle.eb_place.specs.Falling.{IsFalling, AllBelow};
 ghost use Rattle.eb_place.specs.Told.{Told, Written};
 ghost use Rattle.eb_convert.specs.Progress.{IsLeft, IsBlockNext, IsBlockDone, AreBlocksDone, term_stores, packed_of, terms_left, HasTerm, HasNoTerm, IsBegunAt};
 ghost use Rattle.eb_convert.specs.Converting.{first_word, IsConversion};

@@ -6,12 +6,12 @@ use Rattle.eb_base.specs.Document.{Doc}
 use Rattle.eb_base.specs.Query.{Tree, Trees, size, sizes, word, phrase, window, since, negation, conjunction, disjunction, no_trees, trees, IsFormed, AreFormed}
 use Rattle.eb_place.specs.Postings.{places}
 use Rattle.eb_place.specs.declared.moment.Moment.{Moment}
-use Rattle.eb_cursor.specs.Tops.{top, before}
+use Rattle.eb_cursor.specs.Tops.{top, number_before}
 use Rattle.eb_cursor.specs.Loads.{ahead}
 use Rattle.eb_cursor.specs.Lists.{Gives, gives, Gave}
-use Rattle.eb_cursor.specs.Posted.{terms_at, is_term, is_posting, is_start, has_room, is_run_from, first_below, reach_end, last_of, is_window_end, match_at, each_at, some_at, Narrow, document_end}
+use Rattle.eb_cursor.specs.Posted.{terms_at, is_term, is_posting, is_start, has_places, is_run_from, first_below, reach_end, last_term, is_window_end, match_at, each_at, some_at, Narrow, document_end}
 use Rattle.eb_cursor.specs.Opened.{Opened}
-use Rattle.eb_cursor.specs.Ready.{IsLeaf, IsLeft, IsOnly, IsBound, IsOnlyBound, IsPassed, AllLeaves, AllBehind, Ready, AllReady, upto, rest_of}
+use Rattle.eb_cursor.specs.Ready.{IsLeaf, AreStillGiven, IsOnly, IsBound, IsOnlyBound, IsPassed, AllLeaves, AllBehind, Ready, AllReady, upto, rest_of}
 use Rattle.eb_cursor.specs.Begun.{AreClear, AllAt, HasAbsent, BegunLeaves, Begun, BegunEach, BegunSome}
 use Rattle.eb_cursor.specs.declared.posting_list.PostingList.{PostingList}
 use Rattle.eb_cursor.specs.declared.cursor.Cursor.{Cursor}
@@ -114,7 +114,7 @@ pub back_clear : (qs : Trees) (q : Tree) (qs' : Trees) (cursors own rest : List 
 back_clear qs q qs' cursors own rest e h = subst AreClear (sym e.back) (clear_drop (size q) cursors h)
 
 leaf_clear : (g : Gives) (f : ℕ → Bool) (c : Cursor) → c.current ≡ None → IsLeaf g f c 0
-leaf_clear g f c e = let told : IsLeft g c.current c.list [] = rw e refl in record { left = []; told = told; falls = tt; rest = refl }
+leaf_clear g f c e = let told : AreStillGiven g c.current c.list [] = rw e refl in record { left = []; told = told; falls = tt; rest = refl }
 
 passed_zero : (f : ℕ → Bool) (low : ℕ) → IsPassed f low 0
 passed_zero f low = record { same = λ h. let e : low ≡ 0 = omega arith in rw e refl }
@@ -208,7 +208,8 @@ begun_word n docs q t cursors c may i one w absent leaf = record {
 no_start : (docs : List Doc) (ts : List (List ℕ)) (n j : ℕ) → 0 < length ts → length ts ≤ places → 0 < n → j < length ts - 1 → is_start docs ts (places * n + 1 - length ts + j) ≡ false
 no_start docs ts n j h i p k =
     let over : places < (places * n + 1 - length ts + j) % places + length ts = omega arith in
-    and_left (has_room (length ts) (places * n + 1 - length ts + j)) (is_run_from docs ts (places * n + 1 - length ts + j)) (lt-leb ((places * n + 1 - length ts + j) % places + length ts) places over)
+    and_left (has_places (length ts) (places * n + 1 - length ts + j)) (is_run_from docs ts (places * n + 1 - length ts + j))
+    (lt-leb ((places * n + 1 - length ts + j) % places + length ts) places over)
 
 phrase_passed : (docs : List Doc) (ts : List (List ℕ)) (n : ℕ) → 0 < length ts → length ts ≤ places → 0 < n → IsPassed (is_start docs ts) (places * n + 1 - length ts) (places * n)
 phrase_passed docs ts n h i p = record {
@@ -236,7 +237,7 @@ phrase_set g docs ts cursors d low lead segment some len w passed leaves =
     )
 
 never_starts : (docs : List Doc) (ts : List (List ℕ)) → ((x : ℕ) → is_run_from docs ts x ≡ false) → (n : ℕ) → top (is_start docs ts) n ≡ 0
-never_starts docs ts h n = top_never (is_start docs ts) (λ x. and_right (has_room (length ts) x) (is_run_from docs ts x) (h x)) n
+never_starts docs ts h n = top_never (is_start docs ts) (λ x. and_right (has_places (length ts) x) (is_run_from docs ts x) (h x)) n
 
 phrase_ready : (n : Moment) (docs : List Doc) (ts : List (List ℕ)) (cursors : List Cursor) (d : Cursor) (low lead segment end : ℕ) (may : Bool) → 2 ≤ length ts → length ts ≤ 64
     → 0 < length docs → end ≡ places * length docs + 1 - length ts → low ≡ (if may then end else 0) → length cursors ≡ length ts → Narrow docs → BegunLeaves docs ts cursors may n
@@ -272,20 +273,20 @@ behind_from : (g : Gives) (docs : List Doc) (ts : List (List ℕ)) (cursors : Li
 behind_from g docs [] cursors low end h r = r
 behind_from g docs (t ∷ ts) [] low end h r = r
 behind_from g docs (t ∷ ts) (c ∷ cs) low end h r =
-    (leaf_lower g (is_posting docs t) c (before (first_below docs ts low)) end (omega (arith, first_low docs ts low)) r.0, behind_from g docs ts cs low end h r.1)
+    (leaf_lower g (is_posting docs t) c (number_before (first_below docs ts low)) end (omega (arith, first_low docs ts low)) r.0, behind_from g docs ts cs low end h r.1)
 
 -- where a term stands nowhere no window ends
 absent_first : (docs : List Doc) (ts : List (List ℕ)) → HasAbsent docs ts → (end : ℕ) → first_below docs ts end ≡ 0
 absent_first docs [] h end = absurd h
 absent_first docs (t ∷ ts) h end = elim h [
-  | inl none ↦ top_never (is_posting docs t) none (before (first_below docs ts end))
-  | inr more ↦ ap (λ (k : ℕ). top (is_posting docs t) (before k)) (absent_first docs ts more end)
+  | inl none ↦ top_never (is_posting docs t) none (number_before (first_below docs ts end))
+  | inr more ↦ ap (λ (k : ℕ). top (is_posting docs t) (number_before k)) (absent_first docs ts more end)
 ]
 
 absent_window : (docs : List Doc) (ts : List (List ℕ)) (w : ℕ) → HasAbsent docs ts → (x : ℕ) → is_window_end docs ts w x ≡ false
 absent_window docs ts w h x =
     let none : reach_end w (first_below docs ts (suc x)) < suc x = omega (arith, ap (reach_end w) (absent_first docs ts h (suc x))) in
-    and_right (is_posting docs (last_of ts) x) (leb (suc x) (reach_end w (first_below docs ts (suc x)))) (lt-leb (suc x) (reach_end w (first_below docs ts (suc x))) none)
+    and_right (is_posting docs (last_term ts) x) (leb (suc x) (reach_end w (first_below docs ts (suc x)))) (lt-leb (suc x) (reach_end w (first_below docs ts (suc x))) none)
 
 window_set : (g : Gives) (docs : List Doc) (ts : List (List ℕ)) (w : ℕ) (cursors : List Cursor) (d : Cursor) (low lead segment : ℕ) → 0 < length cursors
     → length cursors ≡ length ts → Narrow docs → IsPassed (is_window_end docs ts w) low (places * length docs) → (0 < low → AllBehind g docs ts cursors low)

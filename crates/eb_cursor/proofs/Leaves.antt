@@ -1,19 +1,19 @@
 -- A leaf: the current posting and what its list still gives.
 use Rattle.std.proofs.Common.{◌≡◌, ℕ, suc, ◌<◌, ◌≤◌, Bool, List, [], ◌∷◌, Option, None, Some, MatchOption, sym, ap, ◌∙◌, subst, arith}
 use Rattle.eb_cursor.specs.Tops.{top, below}
-use Rattle.eb_cursor.specs.Lists.{Gives, from_below, IsFalling, IsUnder}
+use Rattle.eb_cursor.specs.Lists.{Gives, from_below, IsDescending, IsUnder}
 use Rattle.eb_cursor.specs.Loads.{ahead}
-use Rattle.eb_cursor.specs.Ready.{IsLeft, IsLeaf}
+use Rattle.eb_cursor.specs.Ready.{AreStillGiven, IsLeaf}
 use Rattle.eb_cursor.specs.declared.posting_list.PostingList.{PostingList}
 use Rattle.eb_cursor.specs.declared.cursor.Cursor.{Cursor}
 use Rattle.eb_cursor.proofs.Tellings.{Later}
 use Rattle.eb_cursor.proofs.Tops.{from_below_in, from_below_past, from_below_twice, from_below-below, top_none, top_first}
 
 -- what is left, where the current posting is known
-left_some : (g : Gives) (o : Option ℕ) (list : PostingList) (zs : List ℕ) (p : ℕ) → o ≡ Some p → IsLeft g o list zs → (ys : List ℕ) × (zs ≡ p ∷ ys) × g.lists list ys
+left_some : (g : Gives) (o : Option ℕ) (list : PostingList) (zs : List ℕ) (p : ℕ) → o ≡ Some p → AreStillGiven g o list zs → (ys : List ℕ) × (zs ≡ p ∷ ys) × g.lists list ys
 left_some g o list zs p e h = rw e at h
 
-left_none : (g : Gives) (o : Option ℕ) (list : PostingList) (zs : List ℕ) → o ≡ None → IsLeft g o list zs → zs ≡ []
+left_none : (g : Gives) (o : Option ℕ) (list : PostingList) (zs : List ℕ) → o ≡ None → AreStillGiven g o list zs → zs ≡ []
 left_none g o list zs e h = rw e at h
 
 pub leaf_found : (g : Gives) (f : ℕ → Bool) (s : Cursor) (p e : ℕ) → s.current ≡ Some p → p < e → IsLeaf g f s e → suc p ≡ top f e
@@ -33,7 +33,7 @@ leaf_lower g f s e last h leaf = record {
   rest = sym (from_below_twice e last leaf.left h) ∙ ap (from_below e) leaf.rest ∙ from_below-below f e last h;
 }
 
-left_later : (g g' : Gives) → Later g g' → (o : Option ℕ) (list : PostingList) (zs : List ℕ) → IsLeft g o list zs → IsLeft g' o list zs
+left_later : (g g' : Gives) → Later g g' → (o : Option ℕ) (list : PostingList) (zs : List ℕ) → AreStillGiven g o list zs → AreStillGiven g' o list zs
 left_later g g' w None list zs h = h
 left_later g g' w (Some p) list zs h = (h.0, h.1, w.lists list h.0 h.2)
 
@@ -50,7 +50,7 @@ leaf_later g g' w f s last leaf = record {
 abbrev pub Given : Gives → PostingList → List ℕ → Option ℕ → Type 0
 Given g list xs r = MatchOption r (xs ≡ []) (λ p. (ys : List ℕ) × (xs ≡ p ∷ ys) × g.lists list ys)
 
-pub gave_left : (g : Gives) (list : PostingList) (xs : List ℕ) (r : Option ℕ) → Given g list xs r → IsLeft g r list xs
+pub gave_left : (g : Gives) (list : PostingList) (xs : List ℕ) (r : Option ℕ) → Given g list xs r → AreStillGiven g r list xs
 gave_left g list xs None h = h
 gave_left g list xs (Some p) h = h
 
@@ -60,7 +60,7 @@ leaf_left g f s p e is leaf = left_some g s.current s.list leaf.left p is leaf.t
 
 pub leaf_next : (g g' : Gives) (f : ℕ → Bool) (s s' : Cursor) (p e : ℕ) (ys : List ℕ) → e ≤ p → (leaf : IsLeaf g f s e) → leaf.left ≡ p ∷ ys → Given g' s'.list ys s'.current → IsLeaf g' f s' e
 leaf_next g g' f s s' p e ys h leaf is gave =
-    let falls : IsFalling (p ∷ ys) = subst IsFalling is leaf.falls in
+    let falls : IsDescending (p ∷ ys) = subst IsDescending is leaf.falls in
     record {
       left = ys;
       told = gave_left g' s'.list ys s'.current gave;
@@ -75,6 +75,6 @@ ahead_under g list xs p (Some q) u h = let k : q < p = subst (IsUnder p) h.1 u i
 pub leaf_ahead : (g g' : Gives) (f : ℕ → Bool) (s s' : Cursor) (p e : ℕ) (ys : List ℕ) → s.current ≡ Some p
     → (leaf : IsLeaf g f s e) → leaf.left ≡ p ∷ ys → Given g' s'.list ys s'.current → ahead s'.current < ahead s.current
 leaf_ahead g g' f s s' p e ys is leaf same gave =
-    let falls : IsFalling (p ∷ ys) = subst IsFalling same leaf.falls in
+    let falls : IsDescending (p ∷ ys) = subst IsDescending same leaf.falls in
     let k : ahead s'.current < suc p = ahead_under g' s'.list ys p s'.current falls.0 gave in
     rw is k

@@ -30,7 +30,7 @@ use Rattle.eb_block.specs.Reading.{ListStands}
 use Rattle.eb_block.specs.declared.packed_list.PackedList.{PackedList}
 use Rattle.eb_chain.specs.Chains.{Stands}
 use Rattle.eb_chain.specs.declared.chain.Chain.{Chain}
-use Rattle.eb_cursor.specs.Lists.{from_below, IsFalling}
+use Rattle.eb_cursor.specs.Lists.{from_below, IsDescending}
 use Rattle.eb_cursor.specs.Posted.{Narrow}
 use Rattle.eb_cursor.specs.Accepted.{accepted_in, AreFirst}
 use Rattle.eb_cursor.specs.Opened.{CanRead, Opened}
@@ -74,7 +74,7 @@ chain_opens m n s docs t c is js l a stands =
     record {
       postings = reverse (seen n s t);
       told = (s, t, seen_count n s t, stands);
-      falls = subst (λ (z : List ℕ). IsFalling (reverse z)) (sym is_front) w.0;
+      falls = subst (λ (z : List ℕ). IsDescending (reverse z)) (sym is_front) w.0;
       all = ap (λ (z : List ℕ). from_below (places * length docs) (reverse z)) is_front ∙ w.1;
     }
 
@@ -94,7 +94,7 @@ packed_opens m n s docs t p budget js l a stands =
     record {
       postings = newest_first n s t;
       told = (s, t, budget, stands);
-      falls = subst (λ (z : List ℕ). IsFalling (reverse z)) (sym all) w.0;
+      falls = subst (λ (z : List ℕ). IsDescending (reverse z)) (sym all) w.0;
       all = ap (λ (z : List ℕ). from_below (places * length docs) (reverse z)) all ∙ w.1;
     }
 

@@ -9,7 +9,7 @@ use Rattle.eb_base.specs.Match.{has_phrase}
 use Rattle.eb_place.specs.Postings.{places}
 use Rattle.eb_cursor.specs.Tops.{top}
 use Rattle.eb_cursor.specs.Lists.{Gives}
-use Rattle.eb_cursor.specs.Posted.{terms_at, is_term, is_posting, match_at, is_run_from, has_room, is_start, Narrow, document_end}
+use Rattle.eb_cursor.specs.Posted.{terms_at, is_term, is_posting, match_at, is_run_from, has_places, is_start, Narrow, document_end}
 use Rattle.eb_cursor.specs.Ready.{IsLeaf, AllLeaves, IsPassed, Ready, upto}
 use Rattle.eb_cursor.specs.Asked.{IsLedRun, IsRun}
 use Rattle.eb_cursor.specs.declared.cursor.Cursor.{Cursor}
@@ -44,18 +44,18 @@ top_shift f i (suc x) = let e : suc x + i ≡ suc (x + i) = omega arith in
 
 -- ---- room
 
-pub room_here : (n x : ℕ) → x % places + n ≤ places → suc x ≡ top (has_room n) (suc x)
-room_here n x h = sym (top_here (has_room n) x (le-leb (x % places + n) places h))
+pub room_here : (n x : ℕ) → x % places + n ≤ places → suc x ≡ top (has_places n) (suc x)
+room_here n x h = sym (top_here (has_places n) x (le-leb (x % places + n) places h))
 
-pub room_past : (n x k : ℕ) → n ≤ places → 0 < n → x % places + n ≡ places + k → suc x - k ≡ top (has_room n) (suc x)
+pub room_past : (n x k : ℕ) → n ≤ places → 0 < n → x % places + n ≡ places + k → suc x - k ≡ top (has_places n) (suc x)
 room_past n x k h p e =
     let m : suc (x - k) + k ≡ suc x = omega arith in
     let here : (x - k) % places + n ≤ places = omega arith in
-    let stays : top (has_room n) (suc (x - k) + k) ≡ top (has_room n) (suc (x - k)) =
-    top_stays (has_room n) (suc (x - k)) k (λ j i. let over : places < (suc (x - k) + j) % places + n = omega arith in lt-leb ((suc (x - k) + j) % places + n) places over) in
-    let at : suc (x - k) ≡ top (has_room n) (suc (x - k)) = room_here n (x - k) here in
+    let stays : top (has_places n) (suc (x - k) + k) ≡ top (has_places n) (suc (x - k)) =
+    top_stays (has_places n) (suc (x - k)) k (λ j i. let over : places < (suc (x - k) + j) % places + n = omega arith in lt-leb ((suc (x - k) + j) % places + n) places over) in
+    let at : suc (x - k) ≡ top (has_places n) (suc (x - k)) = room_here n (x - k) here in
     let l : suc x - k ≡ suc (x - k) = omega arith in
-    l ∙ at ∙ sym stays ∙ ap (top (has_room n)) m
+    l ∙ at ∙ sym stays ∙ ap (top (has_places n)) m
 
 -- ---- one round
 
@@ -160,26 +160,26 @@ pub led_starts : (g : Gives) (docs : List Doc) (ts : List (List ℕ)) (cursors :
 led_starts g docs ts cursors end found run =
     let k : ℕ → Bool = λ x. is_run_from docs ts (x + 0) in
     let under : top (is_start docs ts) end ≤ top k end =
-    top_implied k (is_start docs ts) (λ n p. let z : n ≡ n + 0 = omega arith in subst (λ y. is_run_from docs ts y ≡ true) z (and_parts (has_room (length ts) n) (is_run_from docs ts n) p).1) end in
+    top_implied k (is_start docs ts) (λ n p. let z : n ≡ n + 0 = omega arith in subst (λ y. is_run_from docs ts y ≡ true) z (and_parts (has_places (length ts) n) (is_run_from docs ts n) p).1) end in
     let most : top k end ≤ found = run.most in
     top_between (is_start docs ts) found end (omega (arith, under, most)) run.falls
 
 -- ---- the starts
 
 pub start_round : (docs : List Doc) (ts : List (List ℕ)) (n place room found : ℕ) → n ≡ length ts
-    → room ≡ top (has_room n) place → (g : Gives) (cursors : List Cursor) → IsRun g docs ts cursors 0 room found
+    → room ≡ top (has_places n) place → (g : Gives) (cursors : List Cursor) → IsRun g docs ts cursors 0 room found
     → (found ≤ place) × (top (is_start docs ts) place ≡ top (is_start docs ts) found) × (found ≡ place → top (is_start docs ts) place ≡ place) × AllLeaves g docs ts cursors found
 start_round docs ts n place room found len told g cursors run =
     let h : ℕ → Bool = is_run_from docs ts in
     let hs : (x : ℕ) → top h x ≡ top (λ y. is_run_from docs ts (y + 0)) x = top_same h (λ y. is_run_from docs ts (y + 0)) (λ m. let k : m ≡ m + 0 = omega arith in ap (is_run_from docs ts) k) in
-    let told1 : room ≡ top (has_room (length ts)) place = subst (λ k. room ≡ top (has_room k) place) len told in
-    let two = and_round (has_room (length ts)) h place room found told1 run.falls (hs room ∙ run.same ∙ sym (hs found)) (λ k. hs room ∙ run.all k) in
+    let told1 : room ≡ top (has_places (length ts)) place = subst (λ k. room ≡ top (has_places k) place) len told in
+    let two = and_round (has_places (length ts)) h place room found told1 run.falls (hs room ∙ run.same ∙ sym (hs found)) (λ k. hs room ∙ run.all k) in
     let z : found + 0 ≡ found = omega arith in
-    (omega (arith, run.falls, top_le (has_room (length ts)) place), two.0, two.1, subst (λ y. AllLeaves g docs ts cursors y) z run.ready)
+    (omega (arith, run.falls, top_le (has_places (length ts)) place), two.0, two.1, subst (λ y. AllLeaves g docs ts cursors y) z run.ready)
 
 -- what a round over the leaves gave, from a place on
 pub start_round_of : (g g' : Gives) (docs : List Doc) (ts : List (List ℕ)) (cursors cursors' : List Cursor) (count place room found last : ℕ)
-    → count ≡ length cursors → room ≡ top (has_room count) place → AllLeaves g docs ts cursors last → IsRun g' docs ts cursors' 0 room found
+    → count ≡ length cursors → room ≡ top (has_places count) place → AllLeaves g docs ts cursors last → IsRun g' docs ts cursors' 0 room found
     → (found ≤ place) × (top (is_start docs ts) place ≡ top (is_start docs ts) found) × (found ≡ place → top (is_start docs ts) place ≡ place) × AllLeaves g' docs ts cursors' found
 start_round_of g g' docs ts cursors cursors' count place room found last len told r run =
     start_round docs ts count place room found (len ∙ leaves_length g docs ts cursors last r) told g' cursors' run
@@ -241,13 +241,13 @@ phrase_block docs w ps h n = record {
       let room : (places * n + a.0) % places + length ps ≤ places = omega arith in (
         a.0,
         k,
-        and_from (has_room (length ps) (places * n + a.0)) (is_run_from docs ps (places * n + a.0)) (le-leb ((places * n + a.0) % places + length ps) places room)
+        and_from (has_places (length ps) (places * n + a.0)) (is_run_from docs ps (places * n + a.0)) (le-leb ((places * n + a.0) % places + length ps) places room)
             (start_run docs ps n a.0 in_doc ∙ a.2),
       );
   none = λ e k i. elim (cases_lt places (k + length ps)) [
     | inl j ↦ let over : places < (places * n + k) % places + length ps = omega arith in
-        and_left (has_room (length ps) (places * n + k)) (is_run_from docs ps (places * n + k)) (lt-leb ((places * n + k) % places + length ps) places over)
-    | inr j ↦ and_right (has_room (length ps) (places * n + k)) (is_run_from docs ps (places * n + k)) (start_run docs ps n k j ∙ phrase_none ps (terms_at docs n) e k)
+        and_left (has_places (length ps) (places * n + k)) (is_run_from docs ps (places * n + k)) (lt-leb ((places * n + k) % places + length ps) places over)
+    | inr j ↦ and_right (has_places (length ps) (places * n + k)) (is_run_from docs ps (places * n + k)) (start_run docs ps n k j ∙ phrase_none ps (terms_at docs n) e k)
   ];
 }
 

@@ -11,7 +11,7 @@ use Rattle.eb_place.proofs.WordsOfHistories.{postings_in, postings_append}
 use Rattle.eb_place.proofs.FreshPoolWords.{Each}
 use Rattle.eb_place.proofs.FreshPoolWords.Each.{none, more}
 use Rattle.eb_cursor.specs.Tops.{below}
-use Rattle.eb_cursor.specs.Lists.{from_below, IsFalling, IsUnder}
+use Rattle.eb_cursor.specs.Lists.{from_below, IsDescending, IsUnder}
 use Rattle.eb_cursor.specs.Posted.{terms_at, is_term, is_posting, Narrow}
 use Rattle.eb_cursor.proofs.Tops.{from_below_in, from_below_past, from_below-below}
 
@@ -87,11 +87,11 @@ under_below : (f : ℕ → Bool) (n m : ℕ) → n ≤ m → IsUnder m (below f 
 under_below f zero m h = tt
 under_below f (suc n) m h = elim (cases_Bool (f n)) [ inl e ↦ rw e (omega arith) | inr e ↦ rw e (under_below f n m (omega arith)) ]
 
-falling_below : (f : ℕ → Bool) (n : ℕ) → IsFalling (below f n)
+falling_below : (f : ℕ → Bool) (n : ℕ) → IsDescending (below f n)
 falling_below f zero = tt
 falling_below f (suc n) = elim (cases_Bool (f n)) [ inl e ↦ rw e (under_below f n n (omega arith), falling_below f n) | inr e ↦ rw e (falling_below f n) ]
 
-falling_drop : (j : ℕ) (xs : List ℕ) → IsFalling xs → IsFalling (drop j xs)
+falling_drop : (j : ℕ) (xs : List ℕ) → IsDescending xs → IsDescending (drop j xs)
 falling_drop zero xs h = h
 falling_drop (suc j) [] h = tt
 falling_drop (suc j) (x ∷ xs) h = falling_drop j xs h.1
@@ -116,7 +116,8 @@ reverse-take k xs h =
 -- a front of the postings of a segment, read backwards, falls; and where it has all postings of the first
 -- documents, it is these below their end
 pub seen_below : (t : Term) (docs rest : List Doc) (k : ℕ) → Narrow (docs ++ rest) → Narrow docs → length (postings t docs) ≤ k → k ≤ length (postings t (docs ++ rest))
-    → IsFalling (reverse (take k (postings t (docs ++ rest)))) × (from_below (places * length docs) (reverse (take k (postings t (docs ++ rest)))) ≡ below (is_posting docs t) (places * length docs))
+    → IsDescending (reverse (take k (postings t (docs ++ rest))))
+    × (from_below (places * length docs) (reverse (take k (postings t (docs ++ rest)))) ≡ below (is_posting docs t) (places * length docs))
 seen_below t docs rest k w v few most =
     let P : List ℕ = postings t (docs ++ rest) in
     let F : ℕ → Bool = is_posting (docs ++ rest) t in
@@ -132,7 +133,7 @@ seen_below t docs rest k w v few most =
     let size : length (below (is_posting docs t) M) ≡ length (postings t docs) = ap length (sym (postings_below t docs v)) ∙ length-reverse (postings t docs) in
     let long : length (below F N) ≡ length P = ap length (sym whole) ∙ length-reverse P in
     let out : from_below M (drop j (below F N)) ≡ from_below M (below F N) = left_out M j (below F N) (omega (arith, ap length low, ap length same, size, long)) in
-    (subst IsFalling (sym back) (falling_drop j (below F N) (falling_below F N)), ap (from_below M) back ∙ out ∙ low ∙ same)
+    (subst IsDescending (sym back) (falling_drop j (below F N) (falling_below F N)), ap (from_below M) back ∙ out ∙ low ∙ same)
   where
     front_terms : (docs rest : List Doc) (n : ℕ) → n < length docs → terms_at (docs ++ rest) n ≡ terms_at docs n
     front_terms [] rest n h = absurd (omega arith)

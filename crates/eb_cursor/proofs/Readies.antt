@@ -5,7 +5,7 @@ use Rattle.std.proofs.Math.Seq.{take-append_seam, drop-append_seam}
 use Rattle.eb_base.specs.Document.{Doc}
 use Rattle.eb_base.specs.Query.{Tree, Trees, size, sizes, word, phrase, window, since, negation, conjunction, disjunction, no_trees, trees}
 use Rattle.eb_place.specs.Postings.{places}
-use Rattle.eb_cursor.specs.Tops.{top, before}
+use Rattle.eb_cursor.specs.Tops.{top, number_before}
 use Rattle.eb_cursor.specs.Lists.{Gives}
 use Rattle.eb_cursor.specs.Posted.{is_posting, is_start, is_window_end, first_below, match_at, each_at}
 use Rattle.eb_cursor.specs.Ready.{IsOnly, IsOnlyBound, IsBound, AllLeaves, AllBehind, IsPassed, upto, rest_of, Ready, AllReady}
@@ -29,7 +29,8 @@ pub behind_lower : (g : Gives) (docs : List Doc) (ts : List (List ℕ)) (cursors
 behind_lower g docs [] cursors e end h r = r
 behind_lower g docs (t ∷ ts) [] e end h r = r
 behind_lower g docs (t ∷ ts) (s ∷ ss) e end h r = (
-  leaf_lower g (is_posting docs t) s (before (first_below docs ts e)) (before (first_below docs ts end)) (before_up (first_below docs ts e) (first_below docs ts end) (first_up docs ts e end h)) r.0,
+  leaf_lower g (is_posting docs t) s (number_before (first_below docs ts e)) (number_before (first_below docs ts end))
+      (before_up (first_below docs ts e) (first_below docs ts end) (first_up docs ts e end h)) r.0,
   behind_lower g docs ts ss e end h r.1,
 )
 
@@ -79,7 +80,7 @@ leaves_length g docs (t ∷ ts) (s ∷ ss) end r = omega (arith, leaves_length g
 pub behind_later : (g g' : Gives) → Later g g' → (docs : List Doc) (ts : List (List ℕ)) (cursors : List Cursor) (end : ℕ) → AllBehind g docs ts cursors end → AllBehind g' docs ts cursors end
 behind_later g g' w docs [] cursors end r = r
 behind_later g g' w docs (t ∷ ts) [] end r = r
-behind_later g g' w docs (t ∷ ts) (s ∷ ss) end r = (leaf_later g g' w (is_posting docs t) s (before (first_below docs ts end)) r.0, behind_later g g' w docs ts ss end r.1)
+behind_later g g' w docs (t ∷ ts) (s ∷ ss) end r = (leaf_later g g' w (is_posting docs t) s (number_before (first_below docs ts end)) r.0, behind_later g g' w docs ts ss end r.1)
 
 pub bound_later : (g g' : Gives) → Later g g' → (docs : List Doc) (x : ℕ) (s : Cursor) (last : ℕ) → IsBound g docs x s last → IsBound g' docs x s last
 bound_later g g' w docs x s last r = record {

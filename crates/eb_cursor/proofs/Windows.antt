@@ -8,9 +8,9 @@ use Rattle.eb_base.specs.Query.{window}
 use Rattle.eb_base.specs.Match.{Stand}
 use Rattle.eb_base.proofs.Matching.{match_decides}
 use Rattle.eb_place.specs.Postings.{places}
-use Rattle.eb_cursor.specs.Tops.{top, before}
+use Rattle.eb_cursor.specs.Tops.{top, number_before}
 use Rattle.eb_cursor.specs.Lists.{Gives}
-use Rattle.eb_cursor.specs.Posted.{doc_at, terms_at, is_term, is_posting, match_at, last_of, first_below, reach_end, is_window_end, Narrow, document_end}
+use Rattle.eb_cursor.specs.Posted.{doc_at, terms_at, is_term, is_posting, match_at, last_term, first_below, reach_end, is_window_end, Narrow, document_end}
 use Rattle.eb_cursor.specs.Ready.{IsLeaf, AllBehind, IsPassed, Ready, upto}
 use Rattle.eb_cursor.specs.declared.cursor.Cursor.{Cursor}
 use Rattle.eb_cursor.proofs.Tops.{top_le, top_between, top_twice, top_implied, top_here, top_passes}
@@ -32,7 +32,7 @@ window_under docs ts w place = go (top (is_window_end docs ts w) place) refl
     go zero e = omega arith
     go (suc y) e =
         let ends : is_window_end docs ts w y ≡ true = top_passes (is_window_end docs ts w) place y e in
-        let near = leb-true (suc y) (reach_end w (first_below docs ts (suc y))) (and_parts (is_posting docs (last_of ts) y) (leb (suc y) (reach_end w (first_below docs ts (suc y)))) ends).1 in
+        let near = leb-true (suc y) (reach_end w (first_below docs ts (suc y))) (and_parts (is_posting docs (last_term ts) y) (leb (suc y) (reach_end w (first_below docs ts (suc y)))) ends).1 in
         let low : suc y ≤ place = omega (arith, top_le (is_window_end docs ts w) place) in
         let up = reach_up w (first_below docs ts (suc y)) (first_below docs ts place) (first_up docs ts (suc y) place low) in
         omega (arith, near, up, e)
@@ -43,29 +43,29 @@ pub window_falls : (docs : List Doc) (ts : List (List ℕ)) (w place reached : �
 window_falls docs ts w place reached e h = sym (top_between (is_window_end docs ts w) reached place (omega (arith, window_under docs ts w place)) h)
 
 -- the terms begin where they do in front of the greatest place of the last
-first_at_last : (docs : List Doc) (t : List ℕ) (ts : List (List ℕ)) (place : ℕ) → first_below docs (t ∷ ts) place ≡ first_below docs (t ∷ ts) (top (is_posting docs (last_of (t ∷ ts))) place)
+first_at_last : (docs : List Doc) (t : List ℕ) (ts : List (List ℕ)) (place : ℕ) → first_below docs (t ∷ ts) place ≡ first_below docs (t ∷ ts) (top (is_posting docs (last_term (t ∷ ts))) place)
 first_at_last docs t [] place = sym (top_twice (is_posting docs t) place)
-first_at_last docs t (u ∷ ts) place = ap (λ (k : ℕ). top (is_posting docs t) (before k)) (first_at_last docs u ts place)
+first_at_last docs t (u ∷ ts) place = ap (λ (k : ℕ). top (is_posting docs t) (number_before k)) (first_at_last docs u ts place)
 
 -- a window ends at the greatest place of the last term where that is within reach
-pub window_here : (docs : List Doc) (ts : List (List ℕ)) (w place last : ℕ) → 0 < length ts → last ≡ top (is_posting docs (last_of ts)) place
+pub window_here : (docs : List Doc) (ts : List (List ℕ)) (w place last : ℕ) → 0 < length ts → last ≡ top (is_posting docs (last_term ts)) place
     → last ≤ reach_end w (first_below docs ts place) → last ≡ top (is_window_end docs ts w) place
 window_here docs [] w place last some e h = absurd (omega arith)
 window_here docs (t ∷ ts) w place last some e h = go last e h
   where
-    under : top (is_window_end docs (t ∷ ts) w) place ≤ top (is_posting docs (last_of (t ∷ ts))) place
-    under = top_implied (is_posting docs (last_of (t ∷ ts))) (is_window_end docs (t ∷ ts) w)
-        (λ n p. (and_parts (is_posting docs (last_of (t ∷ ts)) n) (leb (suc n) (reach_end w (first_below docs (t ∷ ts) (suc n)))) p).0) place
+    under : top (is_window_end docs (t ∷ ts) w) place ≤ top (is_posting docs (last_term (t ∷ ts))) place
+    under = top_implied (is_posting docs (last_term (t ∷ ts))) (is_window_end docs (t ∷ ts) w)
+        (λ n p. (and_parts (is_posting docs (last_term (t ∷ ts)) n) (leb (suc n) (reach_end w (first_below docs (t ∷ ts) (suc n)))) p).0) place
 
-    go : (n : ℕ) → n ≡ top (is_posting docs (last_of (t ∷ ts))) place → n ≤ reach_end w (first_below docs (t ∷ ts) place) → n ≡ top (is_window_end docs (t ∷ ts) w) place
+    go : (n : ℕ) → n ≡ top (is_posting docs (last_term (t ∷ ts))) place → n ≤ reach_end w (first_below docs (t ∷ ts) place) → n ≡ top (is_window_end docs (t ∷ ts) w) place
     go zero i near = omega (arith, under)
     go (suc x) i near =
-        let stands : is_posting docs (last_of (t ∷ ts)) x ≡ true = top_passes (is_posting docs (last_of (t ∷ ts))) place x (sym i) in
+        let stands : is_posting docs (last_term (t ∷ ts)) x ≡ true = top_passes (is_posting docs (last_term (t ∷ ts))) place x (sym i) in
         let same : first_below docs (t ∷ ts) place ≡ first_below docs (t ∷ ts) (suc x) = first_at_last docs t ts place ∙ ap (first_below docs (t ∷ ts)) (sym i) in
         let within : suc x ≤ reach_end w (first_below docs (t ∷ ts) (suc x)) = subst (λ (k : ℕ). suc x ≤ reach_end w k) same near in
-        let ends : is_window_end docs (t ∷ ts) w x ≡ true = and_from (is_posting docs (last_of (t ∷ ts)) x)
+        let ends : is_window_end docs (t ∷ ts) w x ≡ true = and_from (is_posting docs (last_term (t ∷ ts)) x)
         (leb (suc x) (reach_end w (first_below docs (t ∷ ts) (suc x)))) stands (le-leb (suc x) (reach_end w (first_below docs (t ∷ ts) (suc x))) within) in
-        let low : x < place = omega (arith, i, top_le (is_posting docs (last_of (t ∷ ts))) place) in
+        let low : x < place = omega (arith, i, top_le (is_posting docs (last_term (t ∷ ts))) place) in
         omega (arith, top_reaches (is_window_end docs (t ∷ ts) w) x place ends low, under, i)
 
 -- ---- from places to documents
@@ -81,7 +81,7 @@ stand_within terms [] first last h = absurd h
 stand_within terms (t ∷ []) first last h = (omega (arith, h.1), omega (arith, h.1, there_in terms first t h.0))
 stand_within terms (t ∷ u ∷ ts) first last h = let r = stand_within terms (u ∷ ts) h.1.0 last h.1.2 in (omega (arith, r.0, h.1.1), r.1)
 
-stand_last : (terms ts : List (List ℕ)) (first last : ℕ) → Stand terms ts first last → slice_get terms last ≡ Some (last_of ts)
+stand_last : (terms ts : List (List ℕ)) (first last : ℕ) → Stand terms ts first last → slice_get terms last ≡ Some (last_term ts)
 stand_last terms [] first last h = absurd h
 stand_last terms (t ∷ []) first last h = ap (slice_get terms) h.1 ∙ h.0
 stand_last terms (t ∷ u ∷ ts) first last h = stand_last terms (u ∷ ts) h.1.0 last h.1.2
@@ -107,10 +107,10 @@ stand_first docs narrow n (t ∷ []) first last h =
 stand_first docs narrow n (t ∷ u ∷ ts) first last h =
     let behind = stand_first docs narrow n (u ∷ ts) h.1.0 last h.1.2 in
     let low = before_of (places * n + h.1.0) (first_below docs (u ∷ ts) (suc (places * n + last))) behind in
-    top_reaches (is_posting docs t) (places * n + first) (before (first_below docs (u ∷ ts) (suc (places * n + last)))) (posting_here docs narrow t n first h.0) (omega (arith, low, h.1.1))
+    top_reaches (is_posting docs t) (places * n + first) (number_before (first_below docs (u ∷ ts) (suc (places * n + last)))) (posting_here docs narrow t n first h.0) (omega (arith, low, h.1.1))
 
 -- terms that can begin in a document whose last place holds the last term stand there in their order
-first_stands : (docs : List Doc) (n k : ℕ) (t : List ℕ) (ts : List (List ℕ)) (a : ℕ) → k < places → is_posting docs (last_of (t ∷ ts)) (places * n + k) ≡ true
+first_stands : (docs : List Doc) (n k : ℕ) (t : List ℕ) (ts : List (List ℕ)) (a : ℕ) → k < places → is_posting docs (last_term (t ∷ ts)) (places * n + k) ≡ true
     → first_below docs (t ∷ ts) (suc (places * n + k)) ≡ suc a → places * n ≤ a
     → (j : ℕ) × (a ≡ places * n + j) × (j ≤ k) × Stand (terms_at docs n) (t ∷ ts) j k
 first_stands docs n k t [] a low own e h =
@@ -121,9 +121,9 @@ first_stands docs n k t (u ∷ ts) a low own e h = go (first_below docs (u ∷ t
     go : (b : ℕ) → first_below docs (u ∷ ts) (suc (places * n + k)) ≡ b
         → ((x : ℕ) → first_below docs (u ∷ ts) (suc (places * n + k)) ≡ suc x → places * n ≤ x → (j : ℕ) × (x ≡ places * n + j) × (j ≤ k) × Stand (terms_at docs n) (u ∷ ts) j k)
         → (j : ℕ) × (a ≡ places * n + j) × (j ≤ k) × Stand (terms_at docs n) (t ∷ u ∷ ts) j k
-    go zero i behind = let no : 0 ≡ suc a = sym (ap (λ (x : ℕ). top (is_posting docs t) (before x)) i) ∙ e in absurd (omega (arith, no))
+    go zero i behind = let no : 0 ≡ suc a = sym (ap (λ (x : ℕ). top (is_posting docs t) (number_before x)) i) ∙ e in absurd (omega (arith, no))
     go (suc b) i behind =
-        let is : top (is_posting docs t) b ≡ suc a = sym (ap (λ (x : ℕ). top (is_posting docs t) (before x)) i) ∙ e in
+        let is : top (is_posting docs t) b ≡ suc a = sym (ap (λ (x : ℕ). top (is_posting docs t) (number_before x)) i) ∙ e in
         let less : a < b = omega (arith, is, top_le (is_posting docs t) b) in
         let r = behind b i (omega (arith, less, h)) in
         front r.0 r.1 r.2 r.3 less (top_passes (is_posting docs t) b a is)
@@ -141,12 +141,12 @@ window_some docs narrow ts w n e =
     let m = (match_decides (window ts w) (doc_at docs n)).0 e in
     let within = stand_within (terms_at docs n) ts m.0 m.1 m.2 in
     let low : m.1 < places = omega (arith, within.1, narrow.narrow n) in
-    let last = posting_here docs narrow (last_of ts) n m.1 (stand_last (terms_at docs n) ts m.0 m.1 m.2) in
+    let last = posting_here docs narrow (last_term ts) n m.1 (stand_last (terms_at docs n) ts m.0 m.1 m.2) in
     let up = reach_up w (suc (places * n + m.0)) (first_below docs ts (suc (places * n + m.1))) (stand_first docs narrow n ts m.0 m.1 m.2) in
     let near : suc (places * n + m.1) ≤ reach_end w (suc (places * n + m.0)) = near_in n m.0 m.1 w within.0 low m.3 in (
       m.1,
       low,
-      and_from (is_posting docs (last_of ts) (places * n + m.1)) (leb (suc (places * n + m.1)) (reach_end w (first_below docs ts (suc (places * n + m.1))))) last
+      and_from (is_posting docs (last_term ts) (places * n + m.1)) (leb (suc (places * n + m.1)) (reach_end w (first_below docs ts (suc (places * n + m.1))))) last
           (le-leb (suc (places * n + m.1)) (reach_end w (first_below docs ts (suc (places * n + m.1)))) (omega (arith, near, up))),
     )
   where
@@ -157,8 +157,8 @@ window_there : (docs : List Doc) (ts : List (List ℕ)) (w n k : ℕ) → 0 < le
 window_there docs [] w n k some low e = absurd (omega arith)
 window_there docs (t ∷ ts) w n k some low e = go (first_below docs (t ∷ ts) (suc (places * n + k))) refl
   where
-    parts : (is_posting docs (last_of (t ∷ ts)) (places * n + k) ≡ true) × (leb (suc (places * n + k)) (reach_end w (first_below docs (t ∷ ts) (suc (places * n + k)))) ≡ true)
-    parts = and_parts (is_posting docs (last_of (t ∷ ts)) (places * n + k)) (leb (suc (places * n + k)) (reach_end w (first_below docs (t ∷ ts) (suc (places * n + k))))) e
+    parts : (is_posting docs (last_term (t ∷ ts)) (places * n + k) ≡ true) × (leb (suc (places * n + k)) (reach_end w (first_below docs (t ∷ ts) (suc (places * n + k)))) ≡ true)
+    parts = and_parts (is_posting docs (last_term (t ∷ ts)) (places * n + k)) (leb (suc (places * n + k)) (reach_end w (first_below docs (t ∷ ts) (suc (places * n + k))))) e
 
     near : suc (places * n + k) ≤ reach_end w (first_below docs (t ∷ ts) (suc (places * n + k)))
     near = leb-true (suc (places * n + k)) (reach_end w (first_below docs (t ∷ ts) (suc (places * n + k)))) parts.1
@@ -196,7 +196,7 @@ pub behind_upto : (g : Gives) (docs : List Doc) (ts : List (List ℕ)) (cursors 
 behind_upto g docs [] [] d v k i y r = r
 behind_upto g docs [] (s ∷ ss) d v k i y r = let e : s ∷ ss ≡ [] = r in cc
 behind_upto g docs (t ∷ ts) [] d v k i y r = absurd r
-behind_upto g docs (t ∷ ts) (s ∷ ss) d v k i y r = (leaf_upto g (is_posting docs t) s v k i (before (first_below docs ts y)) r.0, r.1)
+behind_upto g docs (t ∷ ts) (s ∷ ss) d v k i y r = (leaf_upto g (is_posting docs t) s v k i (number_before (first_below docs ts y)) r.0, r.1)
 
 pub window_asks : (g : Gives) (docs : List Doc) (ts : List (List ℕ)) (w : ℕ) (cursors : List Cursor) (d : Cursor) (start end last : ℕ)
     → start ≡ min (places * end) (get_or cursors 0 d).upto → (start ≡ 0 → ⊥) → Ready g docs (window ts w) cursors last
@@ -245,74 +245,74 @@ window_told g g' docs ts v cursors cursors2 d d' start end last found m h len w 
 
 -- the first leaf of a window, and the others
 abbrev pub FrontBehind : Gives → List Doc → List (List ℕ) → Cursor → List Cursor → ℕ → Type 0
-FrontBehind g docs ts s ss y = (t : List ℕ) × (us : List (List ℕ)) × (ts ≡ t ∷ us) × IsLeaf g (is_posting docs t) s (before (first_below docs us y)) × AllBehind g docs us ss y
+FrontBehind g docs ts s ss y = (t : List ℕ) × (us : List (List ℕ)) × (ts ≡ t ∷ us) × IsLeaf g (is_posting docs t) s (number_before (first_below docs us y)) × AllBehind g docs us ss y
 
 pub behind_asks : (g : Gives) (docs : List Doc) (ts : List (List ℕ)) (cursors : List Cursor) (s : Cursor) (ss : List Cursor) (y : ℕ) → cursors ≡ s ∷ ss
     → AllBehind g docs ts cursors y → FrontBehind g docs ts s ss y
 behind_asks g docs [] cursors s ss y e r = let k : s ∷ ss ≡ [] = sym e ∙ r in cc
 behind_asks g docs (t ∷ us) [] s ss y e r = absurd r
 behind_asks g docs (t ∷ us) (x ∷ xs) s ss y e r = let a : x ≡ s = cc in let b : xs ≡ ss = cc in
-    (t, us, refl, subst (λ z. IsLeaf g (is_posting docs t) z (before (first_below docs us y))) a r.0, subst (λ z. AllBehind g docs us z y) b r.1)
+    (t, us, refl, subst (λ z. IsLeaf g (is_posting docs t) z (number_before (first_below docs us y))) a r.0, subst (λ z. AllBehind g docs us z y) b r.1)
 
 -- the leaf of the last term
 pub last_leaf : (g : Gives) (docs : List Doc) (us : List (List ℕ)) (s : Cursor) (ss : List Cursor) (t : List ℕ) (end y : ℕ) → end ≤ y → length ss ≡ 0
-    → IsLeaf g (is_posting docs t) s (before (first_below docs us y)) → AllBehind g docs us ss y → (us ≡ []) × (ss ≡ []) × IsLeaf g (is_posting docs t) s end
+    → IsLeaf g (is_posting docs t) s (number_before (first_below docs us y)) → AllBehind g docs us ss y → (us ≡ []) × (ss ≡ []) × IsLeaf g (is_posting docs t) s end
 last_leaf g docs [] s ss t end y h e leaf r = (refl, r, leaf_lower g (is_posting docs t) s end y h leaf)
 last_leaf g docs (u ∷ us) s [] t end y h e leaf r = absurd r
 last_leaf g docs (u ∷ us) s (x ∷ xs) t end y h e leaf r = absurd (omega arith)
 
 pub span_last : (g : Gives) (docs : List Doc) (ts us : List (List ℕ)) (t : List ℕ) (s' : Cursor) (ss : List Cursor) (end place : ℕ) → ts ≡ t ∷ us → us ≡ [] → ss ≡ []
     → (place ≡ top (is_posting docs t) end) × IsLeaf g (is_posting docs t) s' end
-    → (place ≡ first_below docs ts end) × (place ≡ top (is_posting docs (last_of ts)) end) × AllBehind g docs ts (s' ∷ ss) end
+    → (place ≡ first_below docs ts end) × (place ≡ top (is_posting docs (last_term ts)) end) × AllBehind g docs ts (s' ∷ ss) end
 span_last g docs ts us t s' ss end place e i k w =
     let one : ts ≡ t ∷ [] = e ∙ ap (λ (z : List (List ℕ)). t ∷ z) i in
     let all : AllBehind g docs (t ∷ []) (s' ∷ ss) end = (w.1, k) in
-    let told : (place ≡ first_below docs (t ∷ []) end) × (place ≡ top (is_posting docs (last_of (t ∷ []))) end) × AllBehind g docs (t ∷ []) (s' ∷ ss) end = (w.0, w.0, all) in
-    subst (λ (z : List (List ℕ)). (place ≡ first_below docs z end) × (place ≡ top (is_posting docs (last_of z)) end) × AllBehind g docs z (s' ∷ ss) end) (sym one) told
+    let told : (place ≡ first_below docs (t ∷ []) end) × (place ≡ top (is_posting docs (last_term (t ∷ []))) end) × AllBehind g docs (t ∷ []) (s' ∷ ss) end = (w.0, w.0, all) in
+    subst (λ (z : List (List ℕ)). (place ≡ first_below docs z end) × (place ≡ top (is_posting docs (last_term z)) end) × AllBehind g docs z (s' ∷ ss) end) (sym one) told
 
 -- the last of terms is that of those behind the first, where there are some
-last_behind : (t : List ℕ) (us : List (List ℕ)) → 0 < length us → last_of (t ∷ us) ≡ last_of us
+last_behind : (t : List ℕ) (us : List (List ℕ)) → 0 < length us → last_term (t ∷ us) ≡ last_term us
 last_behind t [] h = absurd (omega arith)
 last_behind t (u ∷ us) h = refl
 
 -- the terms behind don't stand in their order
 pub span_none : (g g' : Gives) → Later g g' → (docs : List Doc) (ts us : List (List ℕ)) (t : List ℕ) (s : Cursor) (ss : List Cursor) (end last first behind_last : ℕ) → ts ≡ t ∷ us
     → 0 < length ss → end ≤ last → first ≡ 0
-    → (first ≡ first_below docs us end) × (behind_last ≡ top (is_posting docs (last_of us)) end) × AllBehind g' docs us ss end
-    → IsLeaf g (is_posting docs t) s (before (first_below docs us last))
-    → (first ≡ first_below docs ts end) × (behind_last ≡ top (is_posting docs (last_of ts)) end) × AllBehind g' docs ts (s ∷ ss) end
+    → (first ≡ first_below docs us end) × (behind_last ≡ top (is_posting docs (last_term us)) end) × AllBehind g' docs us ss end
+    → IsLeaf g (is_posting docs t) s (number_before (first_below docs us last))
+    → (first ≡ first_below docs ts end) × (behind_last ≡ top (is_posting docs (last_term ts)) end) × AllBehind g' docs ts (s ∷ ss) end
 span_none g g' w docs ts us t s ss end last first behind_last e some h none r leaf =
     let zero_is : first_below docs us end ≡ 0 = sym r.0 ∙ none in
-    let none_is : first ≡ first_below docs (t ∷ us) end = none ∙ sym (ap (λ (k : ℕ). top (is_posting docs t) (before k)) zero_is) in
+    let none_is : first ≡ first_below docs (t ∷ us) end = none ∙ sym (ap (λ (k : ℕ). top (is_posting docs t) (number_before k)) zero_is) in
     let last_is = r.1 ∙ ap (λ (z : List ℕ). top (is_posting docs z) end) (sym (last_behind t us (omega (arith, behind_length g' docs us ss end r.2)))) in
-    let own : IsLeaf g' (is_posting docs t) s (before (first_below docs us end)) = leaf_lower g' (is_posting docs t) s (before (first_below docs us end))
-    (before (first_below docs us last)) (before_up (first_below docs us end) (first_below docs us last) (first_up docs us end last h))
-    (leaf_later g g' w (is_posting docs t) s (before (first_below docs us last)) leaf) in
-    let told : (first ≡ first_below docs (t ∷ us) end) × (behind_last ≡ top (is_posting docs (last_of (t ∷ us))) end) × AllBehind g' docs (t ∷ us) (s ∷ ss) end = (none_is, last_is, (own, r.2)) in
-    subst (λ (z : List (List ℕ)). (first ≡ first_below docs z end) × (behind_last ≡ top (is_posting docs (last_of z)) end) × AllBehind g' docs z (s ∷ ss) end) (sym e) told
+    let own : IsLeaf g' (is_posting docs t) s (number_before (first_below docs us end)) = leaf_lower g' (is_posting docs t) s (number_before (first_below docs us end))
+    (number_before (first_below docs us last)) (before_up (first_below docs us end) (first_below docs us last) (first_up docs us end last h))
+    (leaf_later g g' w (is_posting docs t) s (number_before (first_below docs us last)) leaf) in
+    let told : (first ≡ first_below docs (t ∷ us) end) × (behind_last ≡ top (is_posting docs (last_term (t ∷ us))) end) × AllBehind g' docs (t ∷ us) (s ∷ ss) end = (none_is, last_is, (own, r.2)) in
+    subst (λ (z : List (List ℕ)). (first ≡ first_below docs z end) × (behind_last ≡ top (is_posting docs (last_term z)) end) × AllBehind g' docs z (s ∷ ss) end) (sym e) told
 
 -- the first leaf is asked below the terms behind it
 pub front_asked : (g g' : Gives) → Later g g' → (docs : List Doc) (us : List (List ℕ)) (t : List ℕ) (s : Cursor) (end last first : ℕ) → end ≤ last → first ≡ first_below docs us end
-    → IsLeaf g (is_posting docs t) s (before (first_below docs us last)) → IsLeaf g' (is_posting docs t) s (first - 1)
+    → IsLeaf g (is_posting docs t) s (number_before (first_below docs us last)) → IsLeaf g' (is_posting docs t) s (first - 1)
 front_asked g g' w docs us t s end last first h e leaf =
-    let low : first - 1 ≤ before (first_below docs us last) = omega (arith, before_is first, before_up first (first_below docs us last) (omega (arith, e, first_up docs us end last h))) in
-    leaf_lower g' (is_posting docs t) s (first - 1) (before (first_below docs us last)) low (leaf_later g g' w (is_posting docs t) s (before (first_below docs us last)) leaf)
+    let low : first - 1 ≤ number_before (first_below docs us last) = omega (arith, before_is first, before_up first (first_below docs us last) (omega (arith, e, first_up docs us end last h))) in
+    leaf_lower g' (is_posting docs t) s (first - 1) (number_before (first_below docs us last)) low (leaf_later g g' w (is_posting docs t) s (number_before (first_below docs us last)) leaf)
 
 pub span_step : (g g' : Gives) → Later g g' → (docs : List Doc) (ts us : List (List ℕ)) (t : List ℕ) (s' : Cursor) (ss : List Cursor) (end behind behind_last first : ℕ) → ts ≡ t ∷ us → 0 < length ss
-    → (behind ≡ first_below docs us end) × (behind_last ≡ top (is_posting docs (last_of us)) end) × AllBehind g docs us ss end
+    → (behind ≡ first_below docs us end) × (behind_last ≡ top (is_posting docs (last_term us)) end) × AllBehind g docs us ss end
     → (first ≡ top (is_posting docs t) (behind - 1)) × IsLeaf g' (is_posting docs t) s' (behind - 1)
-    → (first ≡ first_below docs ts end) × (behind_last ≡ top (is_posting docs (last_of ts)) end) × AllBehind g' docs ts (s' ∷ ss) end
+    → (first ≡ first_below docs ts end) × (behind_last ≡ top (is_posting docs (last_term ts)) end) × AllBehind g' docs ts (s' ∷ ss) end
 span_step g g' w docs ts us t s' ss end behind behind_last first e some r own =
-    let at : behind - 1 ≡ before (first_below docs us end) = sym (before_is behind) ∙ ap before r.0 in
+    let at : behind - 1 ≡ number_before (first_below docs us end) = sym (before_is behind) ∙ ap number_before r.0 in
     let last_is = r.1 ∙ ap (λ (z : List ℕ). top (is_posting docs z) end) (sym (last_behind t us (omega (arith, behind_length g docs us ss end r.2)))) in
-    let told : (first ≡ first_below docs (t ∷ us) end) × (behind_last ≡ top (is_posting docs (last_of (t ∷ us))) end) × AllBehind g' docs (t ∷ us) (s' ∷ ss) end =
+    let told : (first ≡ first_below docs (t ∷ us) end) × (behind_last ≡ top (is_posting docs (last_term (t ∷ us))) end) × AllBehind g' docs (t ∷ us) (s' ∷ ss) end =
     (own.0 ∙ ap (top (is_posting docs t)) at, last_is, (subst (λ (k : ℕ). IsLeaf g' (is_posting docs t) s' k) at own.1, behind_later g g' w docs us ss end r.2)) in
-    subst (λ (z : List (List ℕ)). (first ≡ first_below docs z end) × (behind_last ≡ top (is_posting docs (last_of z)) end) × AllBehind g' docs z (s' ∷ ss) end) (sym e) told
+    subst (λ (z : List (List ℕ)). (first ≡ first_below docs z end) × (behind_last ≡ top (is_posting docs (last_term z)) end) × AllBehind g' docs z (s' ∷ ss) end) (sym e) told
 
 -- the terms of a window begin below the end
 pub first_within : (docs : List Doc) (ts : List (List ℕ)) (end : ℕ) → 0 < length ts → first_below docs ts end ≤ end
 first_within docs [] end h = absurd (omega arith)
-first_within docs (t ∷ ts) end h = omega (arith, top_le (is_posting docs t) (before (first_below docs ts end)), first_low docs ts end)
+first_within docs (t ∷ ts) end h = omega (arith, top_le (is_posting docs t) (number_before (first_below docs ts end)), first_low docs ts end)
 
 pub top_zero : (f : ℕ → Bool) (place : ℕ) → place ≤ 0 → place ≡ top f place
 top_zero f zero h = refl

@@ -39,9 +39,9 @@ IsUnder m [] = Unit {0}
 IsUnder m (z ∷ zs) = z < m
 
 -- each is below the one before it
-abbrev pub IsFalling : List ℕ → Type 0
-IsFalling [] = Unit {0}
-IsFalling (z ∷ zs) = IsUnder z zs × IsFalling zs
+abbrev pub IsDescending : List ℕ → Type 0
+IsDescending [] = Unit {0}
+IsDescending (z ∷ zs) = IsUnder z zs × IsDescending zs
 
 -- at some moment that the port stands for, the list still gives some postings
 abbrev pub CanGive : {S : Type 0} → (S → Moment → Type 0) → S → PostingList → Type 0

@@ -5,7 +5,7 @@ use Rattle.eb_place.specs.Postings.{places}
 use Rattle.eb_place.specs.declared.moment.Moment.{Moment}
 use Rattle.eb_place.specs.PackedLists.{IsConverted}
 use Rattle.eb_cursor.specs.Accepted.{AreFirst}
-use Rattle.eb_cursor.specs.Lists.{list_gives, IsFalling, from_below}
+use Rattle.eb_cursor.specs.Lists.{list_gives, IsDescending, from_below}
 use Rattle.eb_cursor.specs.Tops.{below}
 use Rattle.eb_cursor.specs.Posted.{is_posting}
 use Rattle.eb_cursor.specs.declared.posting_list.PostingList.{PostingList}
@@ -19,7 +19,7 @@ pub record CanRead (m : Moment) (s : ℕ) (docs : List Doc) (packed : Bool) : Ty
 pub record Opened (m : Moment) (docs : List Doc) (t : List ℕ) (list : PostingList) : Type 0 where
   pub postings : List ℕ
   pub told : list_gives m list postings
-  pub falls : IsFalling postings
+  pub falls : IsDescending postings
   pub all : from_below (places * length docs) postings ≡ below (is_posting docs t) (places * length docs)
 
 -- at some moment that the port stands for, some first accepted documents of the segment can be read

@@ -4,7 +4,7 @@ use Rattle.eb_base.specs.Document.{Doc}
 use Rattle.eb_base.specs.Query.{Tree, Trees}
 use Rattle.eb_base.specs.Match.{is_match, each_matches, some_matches}
 use Rattle.eb_place.specs.Postings.{places}
-use Rattle.eb_cursor.specs.Tops.{top, before}
+use Rattle.eb_cursor.specs.Tops.{top, number_before}
 
 -- a document, one of id 0 without terms where there is none
 abbrev pub doc_in : Option Doc → Doc
@@ -46,12 +46,12 @@ is_run_from docs [] x = true
 is_run_from docs (t ∷ ts) x = is_posting docs t x && is_run_from docs ts (suc x)
 
 -- whether there are this many places from here to the end of those of the document
-abbrev pub has_room : ℕ → ℕ → Bool
-has_room n x = leb (x % places + n) places
+abbrev pub has_places : ℕ → ℕ → Bool
+has_places n x = leb (x % places + n) places
 
 -- whether a phrase begins at this place
 abbrev pub is_start : List Doc → List (List ℕ) → ℕ → Bool
-is_start docs ts x = has_room (length ts) x && is_run_from docs ts x
+is_start docs ts x = has_places (length ts) x && is_run_from docs ts x
 
 -- no document has more terms than places
 pub record Narrow (docs : List Doc) : Type 0 where
@@ -63,16 +63,16 @@ document_end zero = 0
 document_end (suc x) = suc (x / places)
 
 -- the last of the terms
-abbrev pub last_of : List (List ℕ) → List ℕ
-last_of [] = []
-last_of (t ∷ []) = t
-last_of (t ∷ u ∷ ts) = last_of (u ∷ ts)
+abbrev pub last_term : List (List ℕ) → List ℕ
+last_term [] = []
+last_term (t ∷ []) = t
+last_term (t ∷ u ∷ ts) = last_term (u ∷ ts)
 
 -- one more than the greatest place at which the terms can begin that stand in their order below the end, each
 -- as near as it can to the one behind it; 0 where they don't so stand, and one more than the end without terms
 abbrev pub first_below : List Doc → List (List ℕ) → ℕ → ℕ
 first_below docs [] end = suc end
-first_below docs (t ∷ ts) end = top (is_posting docs t) (before (first_below docs ts end))
+first_below docs (t ∷ ts) end = top (is_posting docs t) (number_before (first_below docs ts end))
 
 -- the end below which the last term of a window stands whose first term stands before `first`: at most `w`
 -- places behind it, and in its document
@@ -81,4 +81,4 @@ reach_end w first = min (first + w) (places * document_end first)
 
 -- whether a window of these terms ends at this place
 abbrev pub is_window_end : List Doc → List (List ℕ) → ℕ → ℕ → Bool
-is_window_end docs ts w x = is_posting docs (last_of ts) x && leb (suc x) (reach_end w (first_below docs ts (suc x)))
+is_window_end docs ts w x = is_posting docs (last_term ts) x && leb (suc x) (reach_end w (first_below docs ts (suc x)))

@@ -3,23 +3,23 @@ use Rattle.std.specs.Prelude.{◌≡◌, ℕ, suc, ◌*◌, ◌<◌, ◌≤◌, 
 use Rattle.eb_base.specs.Document.{Doc}
 use Rattle.eb_base.specs.Query.{Tree, Trees, size, word, phrase, window, since, negation, conjunction, disjunction, no_trees, trees}
 use Rattle.eb_place.specs.Postings.{places}
-use Rattle.eb_cursor.specs.Tops.{top, below, before}
+use Rattle.eb_cursor.specs.Tops.{top, below, number_before}
 use Rattle.eb_cursor.specs.Posted.{is_posting, is_start, first_below, is_window_end, match_at, each_at, Narrow}
 use Rattle.eb_cursor.specs.Loads.{ahead}
-use Rattle.eb_cursor.specs.Lists.{Gives, IsFalling, from_below}
+use Rattle.eb_cursor.specs.Lists.{Gives, IsDescending, from_below}
 use Rattle.eb_cursor.specs.declared.posting_list.PostingList.{PostingList}
 use Rattle.eb_cursor.specs.declared.cursor.Cursor.{Cursor}
 
 -- the current posting and those that the list still gives
-abbrev pub IsLeft : Gives → Option ℕ → PostingList → List ℕ → Type 0
-IsLeft g None list zs = zs ≡ []
-IsLeft g (Some p) list zs = (ys : List ℕ) × (zs ≡ p ∷ ys) × g.lists list ys
+abbrev pub AreStillGiven : Gives → Option ℕ → PostingList → List ℕ → Type 0
+AreStillGiven g None list zs = zs ≡ []
+AreStillGiven g (Some p) list zs = (ys : List ℕ) × (zs ≡ p ∷ ys) × g.lists list ys
 
 -- a leaf that has passed none of the numbers below an end that pass the test
 pub record IsLeaf (g : Gives) (f : ℕ → Bool) (cursor : Cursor) (last : ℕ) : Type 0 where
   pub left : List ℕ
-  pub told : IsLeft g cursor.current cursor.list left
-  pub falls : IsFalling left
+  pub told : AreStillGiven g cursor.current cursor.list left
+  pub falls : IsDescending left
   pub rest : from_below last left ≡ below f last
 
 -- the one cursor of a word is ready
@@ -51,7 +51,7 @@ AllLeaves g docs (t ∷ ts) (s ∷ ss) end = IsLeaf g (is_posting docs t) s end 
 abbrev pub AllBehind : Gives → List Doc → List (List ℕ) → List Cursor → ℕ → Type 0
 AllBehind g docs [] cursors end = cursors ≡ []
 AllBehind g docs (t ∷ ts) [] end = ⊥
-AllBehind g docs (t ∷ ts) (s ∷ ss) end = IsLeaf g (is_posting docs t) s (before (first_below docs ts end)) × AllBehind g docs ts ss end
+AllBehind g docs (t ∷ ts) (s ∷ ss) end = IsLeaf g (is_posting docs t) s (number_before (first_below docs ts end)) × AllBehind g docs ts ss end
 
 -- the cursor of a bound on the id has passed no document below `last` whose id is greater. Of the documents below the
 -- end that it has come to, at most the id of the last is loaded, and then that one is greater

@@ -1,5 +1,5 @@
 //! The first postings of each term of a query.
-ghost use Rattle.std.specs.Prelude.{◌≡◌, ℕ, ◌+◌, ◌*◌, ◌<◌, ◌≤◌, ◌^◌};
+ghost use Rattle.std.specs.Prelude.{◌≡◌, ℕ, ◌+◌, ◌*◌, ◌<◌, ◌≤◌};
 ghost use Rattle.std.specs.Prelude.{false, List, [], ◌∷◌, length, if◌then◌else◌};
 ghost use Rattle.eb_base.specs.Document.{Doc};
 ghost use Rattle.eb_base.specs.Query.{tree, word, window, conjunction, size, sizes, IsFormed, AreFormed};

@@ -1,10 +1,9 @@
 //! Bounds on ids: the ids of a segment's documents, loaded from the newest on, each at most once.
-ghost use Rattle.std.specs.Prelude.{◌≡◌, ℕ, ◌+◌, ◌*◌, ◌<◌, ◌≤◌, ◌^◌, List, length};
+ghost use Rattle.std.specs.Prelude.{◌≡◌, ◌+◌, ◌<◌, ◌≤◌, ◌^◌, List, length};
 ghost use Rattle.eb_base.specs.Document.{Doc};
 ghost use Rattle.eb_base.specs.Query.{since};
-ghost use Rattle.eb_place.specs.declared.moment.Moment.{Moment};
 ghost use Rattle.eb_place.specs.Told.{Told};
-ghost use Rattle.eb_cursor.specs.Tops.{top, before};
+ghost use Rattle.eb_cursor.specs.Tops.{top, number_before};
 ghost use Rattle.eb_cursor.specs.Accepted.{AreFirst};
 ghost use Rattle.eb_cursor.specs.Loads.{ahead, loads_left};
 ghost use Rattle.eb_cursor.specs.Posted.{doc_at, match_at};
@@ -45,7 +44,7 @@ fn ids_below<P: Port, L: Ledger>(
     ensures found { (docs : List Doc) → end ≤ length docs → Told P.stands P.keeps port.old port.new
         (λ m. AreFirst m segment docs) (λ n. result ≡ top (match_at docs (since bound)) end) }
     ensures within { result ≤ end }
-    ensures loads { steps.new + before result ≤ steps.old + end }
+    ensures loads { steps.new + number_before result ≤ steps.old + end }
 {
     let mut place = end;
     while place > 0 {

@@ -1,5 +1,5 @@
 //! What a part of a query remembers.
-ghost use Rattle.std.specs.Prelude.{◌≡◌, ℕ, ◌+◌, ◌*◌, ◌<◌, ◌≤◌, ◌^◌};
+ghost use Rattle.std.specs.Prelude.{◌≡◌, ◌+◌, ◌*◌, ◌<◌, ◌≤◌, ◌^◌};
 ghost use Rattle.eb_cursor.specs.declared.posting_list.PostingList.TheVariants.{Empty};
 ghost use Rattle.eb_cursor.specs.Loads.{ahead};
 ghost use Rattle.eb_cursor.specs.Asked.{CanAskLeaf};

@@ -3,7 +3,7 @@ ghost use Rattle.std.specs.Prelude.{◌≡◌, ℕ, ◌+◌, ◌*◌, ◌<◌, �
 ghost use Rattle.eb_place.specs.Postings.{places};
 ghost use Rattle.eb_cursor.specs.Loads.{loads_left};
 ghost use Rattle.eb_cursor.specs.Costs.{PaysSpans, round_loads};
-ghost use Rattle.eb_cursor.specs.Posted.{document_end, has_room};
+ghost use Rattle.eb_cursor.specs.Posted.{document_end, has_places};
 ghost use Rattle.eb_cursor.specs.Asked.{CanAskPhrase, CanAskLeaves};
 ghost use Rattle.eb_cursor.specs.Finds.{FindsPhrase, FindsStart, LeadsRun, GoesOver};
 ghost use Rattle.eb_cursor.specs.Tops.{top};
@@ -25,7 +25,7 @@ pub fn to_document_end(place: u64) -> u64
 // The greatest end at or below this one, from before which `count` places lie in one document.
 fn room_below(count: u64, end: u64) -> u64
     requires { (0 < count) × (count ≤ places) }
-    ensures { result ≡ top (has_room count) end }
+    ensures { result ≡ top (has_places count) end }
 {
     if end == 0 {
         return 0;

@@ -1,5 +1,5 @@
 //! Windows: the terms of a window, from the last to the first, leap over its possible places.
-ghost use Rattle.std.specs.Prelude.{◌≡◌, ℕ, ◌+◌, ◌*◌, ◌<◌, ◌≤◌, ◌^◌, List, length};
+ghost use Rattle.std.specs.Prelude.{◌≡◌, ◌+◌, ◌*◌, ◌<◌, ◌≤◌, ◌^◌, length};
 ghost use Rattle.eb_cursor.specs.Loads.{loads_left};
 ghost use Rattle.eb_cursor.specs.Posted.{reach_end};
 ghost use Rattle.eb_cursor.specs.Asked.{CanAskWindow, CanAskBehind};

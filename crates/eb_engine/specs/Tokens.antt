@@ -9,7 +9,7 @@ use Rattle.eb_table.specs.Known.{Words, Known}
 
 -- of a writer: its index, and its history, which is the documents that it added, in order. Of a reader: its index, and the documents
 -- that it knows, which are the first ones of the writer's history
-pub record Token : Type 0 where
+pub record HistoryToken : Type 0 where
   pub index : Words
   pub docs : List Doc
 

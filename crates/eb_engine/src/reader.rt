@@ -30,9 +30,9 @@ pub struct Reader {
 impl Model for Reader {
     ghost use Rattle.std.specs.Prelude.{◌≤◌, length};
     ghost use Rattle.eb_place.specs.Moments.{IsMoment};
-    ghost use Rattle.eb_engine.specs.Tokens.{Token, index_of, first_of};
+    ghost use Rattle.eb_engine.specs.Tokens.{HistoryToken, index_of, first_of};
 
-    ghost Value = { Token };
+    ghost Value = { HistoryToken };
 
     ghost view = { λ r. record { index = index_of r.seat; docs = first_of r.seen r.seat } };
 

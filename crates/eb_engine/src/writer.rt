@@ -32,9 +32,9 @@ pub struct Writer {
 impl Model for Writer {
     ghost use Rattle.eb_place.specs.Moments.{IsMoment};
     ghost use Rattle.eb_writer.specs.Progress.{PlacerStands};
-    ghost use Rattle.eb_engine.specs.Tokens.{Token, index_of};
+    ghost use Rattle.eb_engine.specs.Tokens.{HistoryToken, index_of};
 
-    ghost Value = { Token };
+    ghost Value = { HistoryToken };
 
     ghost view = { λ w. record { index = index_of w.seat; docs = w.seat.moment.documents.accepted } };
 

@@ -9,27 +9,27 @@ use Rattle.std.proofs.lemmas.List.Concat.{flat_map-cons}
 use Rattle.std.proofs.lemmas.List.Sums.{sum_by-cons}
 use Rattle.std.proofs.Math.Seq.{take-suc}
 use Rattle.eb_base.specs.Document.{Doc, IsDocument, bytes_of}
-use Rattle.eb_image.specs.Image.{term_bytes, part_of}
+use Rattle.eb_image.specs.Image.{term_bytes, document_part}
 use Rattle.eb_image.specs.Reading.{IsPartOf}
-use Rattle.eb_image.specs.Scan.{number_at}
+use Rattle.eb_image.specs.Scan.{two_byte_number}
 use Rattle.eb_image.proofs.Scans.{two_whole}
 
-pub part_terms : (d : Doc) → drop 11 (part_of d) ≡ flat_map term_bytes d.terms
-unfolding part_of
+pub part_terms : (d : Doc) → drop 11 (document_part d) ≡ flat_map term_bytes d.terms
+unfolding document_part
 part_terms d = refl
 
-pub part_len : (d : Doc) → 11 ≤ length (part_of d)
-unfolding part_of
+pub part_len : (d : Doc) → 11 ≤ length (document_part d)
+unfolding document_part
 part_len d = omega arith
 
-pub part_count : (d : Doc) (bytes : List ℕ) → IsDocument d → bytes ≡ part_of d → number_at bytes 9 ≡ length d.terms
-unfolding part_of
+pub part_count : (d : Doc) (bytes : List ℕ) → IsDocument d → bytes ≡ document_part d → two_byte_number bytes 9 ≡ length d.terms
+unfolding document_part
 part_count d bytes fd e =
     two_whole (length d.terms) 9 bytes (flat_map term_bytes d.terms) (omega (arith, fd.limits.tokens)) (ap (drop 9) e)
 
-pub part_id : (d : Doc) (bytes : List ℕ) → IsDocument d → bytes ≡ part_of d
+pub part_id : (d : Doc) (bytes : List ℕ) → IsDocument d → bytes ≡ document_part d
     → from_be_bytes w64 (get_or bytes 1 0 ∷ get_or bytes 2 0 ∷ get_or bytes 3 0 ∷ get_or bytes 4 0 ∷ get_or bytes 5 0 ∷ get_or bytes 6 0 ∷ get_or bytes 7 0 ∷ get_or bytes 8 0 ∷ []) ≡ d.id
-unfolding part_of
+unfolding document_part
 part_id d bytes fd e =
     ap (λ (t : List ℕ). from_be_bytes w64 (get_or t 1 0 ∷ get_or t 2 0 ∷ get_or t 3 0 ∷ get_or t 4 0 ∷ get_or t 5 0 ∷ get_or t 6 0 ∷ get_or t 7 0 ∷ get_or t 8 0 ∷ [])) e
     ∙ from_be_bytes-to_be_bytes_8 d.id fd.id
@@ -37,7 +37,7 @@ part_id d bytes fd e =
 -- the term at a place in the bytes, and what stands behind it
 pub record Step (bytes : List ℕ) (at i : ℕ) (terms : List (List ℕ)) : Type 0 where
   pub term : List ℕ
-  pub number : number_at bytes at ≡ length term
+  pub number : two_byte_number bytes at ≡ length term
   pub within : at + 2 + length term ≤ length bytes
   pub letters : take (length term) (drop (at + 2) bytes) ≡ term
   pub rest : drop (at + 2 + length term) bytes ≡ flat_map term_bytes (drop (i + 1) terms)
@@ -77,7 +77,7 @@ pub same_doc : (d e : Doc) (id : ℕ) (terms : List (List ℕ)) → id ≡ d.id 
 same_doc d e id terms i t is =
     is ∙ (ap (λ (n : ℕ). let r : Doc = record { id = n; terms = terms } in r) i ∙ ap (λ (ts : List (List ℕ)). let r : Doc = record { id = d.id; terms = ts } in r) t)
 
-pub is_part_of : (d e : Doc) (bytes : List ℕ) → IsDocument d → bytes ≡ part_of d → e ≡ d → IsPartOf e bytes
+pub is_part_of : (d e : Doc) (bytes : List ℕ) → IsDocument d → bytes ≡ document_part d → e ≡ d → IsPartOf e bytes
 is_part_of d e bytes fd is same =
     let P : Doc → Type 0 = λ x. IsPartOf x bytes in
     subst P (sym same) (record { within = fd; is = is })

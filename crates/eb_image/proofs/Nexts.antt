@@ -5,17 +5,17 @@ use Rattle.std.specs.List.{flat_map}
 use Rattle.std.proofs.lemmas.Bool.{cases_lt}
 use Rattle.std.proofs.lemmas.Nat.{be_bytes_8}
 use Rattle.eb_base.specs.Document.{Doc, IsDocument, most_bytes, most_tokens}
-use Rattle.eb_image.specs.Image.{term_bytes, part_of, last_byte, IsFront}
+use Rattle.eb_image.specs.Image.{term_bytes, document_part, last_byte, IsFront}
 use Rattle.eb_image.specs.Reading.{IsPart, IsNextPart, Begins}
-use Rattle.eb_image.specs.Scan.{number_at, scan, IsShortest}
+use Rattle.eb_image.specs.Scan.{two_byte_number, scan, IsShortest}
 use Rattle.eb_image.proofs.Bytes.{IsBytes, window, length-window, window-add, window_fits, window_all}
 use Rattle.eb_image.proofs.Parts.{next_alone}
 use Rattle.eb_image.proofs.Scans.{scan_sound, scan_complete, scan_past, terms_len, front_byte, two_front_of, two_in_window}
 
 -- where the terms end, the bytes are those of a part, with 0 for each that is missing
-pub part_found : (bytes : List ℕ) (count end : ℕ) → IsBytes bytes → get_or bytes 0 0 ≡ 1 → count ≡ number_at bytes 9 → count ≤ most_tokens
+pub part_found : (bytes : List ℕ) (count end : ℕ) → IsBytes bytes → get_or bytes 0 0 ≡ 1 → count ≡ two_byte_number bytes 9 → count ≤ most_tokens
     → scan count 11 most_bytes bytes ≡ Some end → IsPart (window bytes 0 end)
-unfolding part_of
+unfolding document_part
 part_found bytes count end fits one num few e =
     let t = scan_sound count 11 most_bytes end bytes fits e in
     let id = from_be_bytes w64 (window bytes 1 8) in
@@ -38,23 +38,23 @@ part_found bytes count end fits one num few e =
     }
 
 pub record Least (bytes : List ℕ) (d : Doc) : Type 0 where
-  pub few : number_at bytes 9 ≤ length d.terms
+  pub few : two_byte_number bytes 9 ≤ length d.terms
   pub end : ℕ
-  pub scans : scan (number_at bytes 9) 11 most_bytes bytes ≡ Some end
-  pub least : end ≤ length (part_of d)
+  pub scans : scan (two_byte_number bytes 9) 11 most_bytes bytes ≡ Some end
+  pub least : end ≤ length (document_part d)
 
 -- what a scan finds in the first bytes of a part
-pub part_least : (bytes rest : List ℕ) (d : Doc) → IsDocument d → part_of d ≡ bytes ++ rest → Least bytes d
-unfolding part_of
+pub part_least : (bytes rest : List ℕ) (d : Doc) → IsDocument d → document_part d ≡ bytes ++ rest → Least bytes d
+unfolding document_part
 part_least bytes rest d fd e =
     let flat = flat_map term_bytes d.terms in
-    let nine : drop 9 (part_of d) ≡ to_be_bytes w16 (length d.terms) ++ flat = refl in
-    let eleven : drop 11 (part_of d) ≡ flat = refl in
-    let len : length (part_of d) ≡ 11 + length flat = omega arith in
-    let num = two_front_of (length d.terms) 9 bytes rest (part_of d) flat (omega (arith, fd.limits.tokens)) e nine in
+    let nine : drop 9 (document_part d) ≡ to_be_bytes w16 (length d.terms) ++ flat = refl in
+    let eleven : drop 11 (document_part d) ≡ flat = refl in
+    let len : length (document_part d) ≡ 11 + length flat = omega arith in
+    let num = two_front_of (length d.terms) 9 bytes rest (document_part d) flat (omega (arith, fd.limits.tokens)) e nine in
     elim (cases_lt 10 (length bytes)) [
       | inl less ↦
-          let found = scan_complete d.terms 11 most_bytes bytes rest (part_of d) e eleven fd.limits.bytes (omega arith) in
+          let found = scan_complete d.terms 11 most_bytes bytes rest (document_part d) e eleven fd.limits.bytes (omega arith) in
           record {
             few = num.0;
             end = found.0;
@@ -64,14 +64,14 @@ part_least bytes rest d fd e =
       | inr past ↦
           record {
             few = num.0;
-            end = 11 + 2 * number_at bytes 9;
-            scans = scan_past (number_at bytes 9) 11 most_bytes bytes (omega arith);
+            end = 11 + 2 * two_byte_number bytes 9;
+            scans = scan_past (two_byte_number bytes 9) 11 most_bytes bytes (omega arith);
             least = omega (arith, num.0, terms_len d.terms, len);
           }
     ]
 
-part_byte : (d : Doc) → get_or (part_of d) 0 0 ≡ 1
-unfolding part_of
+part_byte : (d : Doc) → get_or (document_part d) 0 0 ≡ 1
+unfolding document_part
 part_byte d = refl
 
 -- of what begins with these bytes, the first byte
@@ -100,7 +100,7 @@ part_begun bytes some one (whole, inl x, front) =
 part_begun bytes some one (whole, inr p, front) =
     (p.document, part_least bytes front.rest p.document p.within (sym p.is ∙ front.is))
 
-few_begun : (bytes : List ℕ) → Begins IsNextPart bytes → 0 < length bytes → get_or bytes 0 0 ≡ 1 → number_at bytes 9 ≤ most_tokens
+few_begun : (bytes : List ℕ) → Begins IsNextPart bytes → 0 < length bytes → get_or bytes 0 0 ≡ 1 → two_byte_number bytes 9 ≤ most_tokens
 few_begun bytes (whole, inl x, front) some one =
     let zero_is : get_or bytes 0 0 ≡ 0 = front_byte bytes front.rest whole 0 front.is some ∙ ap (λ (t : List ℕ). get_or t 0 0) x in
     absurd (omega (arith, zero_is, one))
@@ -108,7 +108,7 @@ few_begun bytes (whole, inr p, front) some one =
     let l = part_least bytes front.rest p.document p.within (sym p.is ∙ front.is) in
     omega (arith, l.few, p.within.limits.tokens)
 
-pub not_many : (bytes : List ℕ) (count : ℕ) → 0 < length bytes → get_or bytes 0 0 ≡ 1 → count ≡ number_at bytes 9 → most_tokens < count → Begins IsNextPart bytes → ⊥
+pub not_many : (bytes : List ℕ) (count : ℕ) → 0 < length bytes → get_or bytes 0 0 ≡ 1 → count ≡ two_byte_number bytes 9 → most_tokens < count → Begins IsNextPart bytes → ⊥
 not_many bytes count some one num many b =
     let few = few_begun bytes b some one in
     omega (arith, few, num, many)
@@ -116,12 +116,12 @@ not_many bytes count some one num many b =
 none_some : (n : ℕ) (x : Option ℕ) → x ≡ None → x ≡ Some n → ⊥
 none_some n x a b = cc
 
-pub not_scanned : (bytes : List ℕ) (count : ℕ) → 0 < length bytes → get_or bytes 0 0 ≡ 1 → count ≡ number_at bytes 9 → scan count 11 most_bytes bytes ≡ None → Begins IsNextPart bytes → ⊥
+pub not_scanned : (bytes : List ℕ) (count : ℕ) → 0 < length bytes → get_or bytes 0 0 ≡ 1 → count ≡ two_byte_number bytes 9 → scan count 11 most_bytes bytes ≡ None → Begins IsNextPart bytes → ⊥
 not_scanned bytes count some one num none b =
     let l = (part_begun bytes some one b).1 in
-    none_some l.end (scan (number_at bytes 9) 11 most_bytes bytes) (ap (λ (n : ℕ). scan n 11 most_bytes bytes) (sym num) ∙ none) l.scans
+    none_some l.end (scan (two_byte_number bytes 9) 11 most_bytes bytes) (ap (λ (n : ℕ). scan n 11 most_bytes bytes) (sym num) ∙ none) l.scans
 
-pub not_long : (bytes : List ℕ) (count end : ℕ) → IsBytes bytes → get_or bytes 0 0 ≡ 1 → count ≡ number_at bytes 9 → count ≤ most_tokens
+pub not_long : (bytes : List ℕ) (count end : ℕ) → IsBytes bytes → get_or bytes 0 0 ≡ 1 → count ≡ two_byte_number bytes 9 → count ≤ most_tokens
     → scan count 11 most_bytes bytes ≡ Some end → end < length bytes → Begins IsNextPart bytes → ⊥
 not_long bytes count end fits one num few e long b =
     let part = part_found bytes count end fits one num few e in
@@ -138,18 +138,18 @@ some_same : (a b : ℕ) (x : Option ℕ) → x ≡ Some a → x ≡ Some b → a
 some_same a b x p q = cc
 
 -- no part that begins with these bytes is shorter
-shortest_least : (bytes : List ℕ) (count end : ℕ) → 0 < length bytes → get_or bytes 0 0 ≡ 1 → count ≡ number_at bytes 9
+shortest_least : (bytes : List ℕ) (count end : ℕ) → 0 < length bytes → get_or bytes 0 0 ≡ 1 → count ≡ two_byte_number bytes 9
     → scan count 11 most_bytes bytes ≡ Some end → (other : List ℕ) → IsNextPart other → IsFront bytes other → end ≤ length other
 shortest_least bytes count end some one num e other (inl x) front =
     let zero_is : get_or bytes 0 0 ≡ 0 = front_byte bytes front.rest other 0 front.is some ∙ ap (λ (t : List ℕ). get_or t 0 0) x in
     absurd (omega (arith, zero_is, one))
 shortest_least bytes count end some one num e other (inr p) front =
     let l = part_least bytes front.rest p.document p.within (sym p.is ∙ front.is) in
-    let same = some_same end l.end (scan (number_at bytes 9) 11 most_bytes bytes) (ap (λ (n : ℕ). scan n 11 most_bytes bytes) (sym num) ∙ e) l.scans in
+    let same = some_same end l.end (scan (two_byte_number bytes 9) 11 most_bytes bytes) (ap (λ (n : ℕ). scan n 11 most_bytes bytes) (sym num) ∙ e) l.scans in
     let len = ap length p.is in
     omega (arith, same, l.least, len)
 
-pub shortest_found : (bytes : List ℕ) (count end : ℕ) → IsBytes bytes → 0 < length bytes → get_or bytes 0 0 ≡ 1 → count ≡ number_at bytes 9
+pub shortest_found : (bytes : List ℕ) (count end : ℕ) → IsBytes bytes → 0 < length bytes → get_or bytes 0 0 ≡ 1 → count ≡ two_byte_number bytes 9
     → count ≤ most_tokens → scan count 11 most_bytes bytes ≡ Some end → length bytes ≤ end → IsShortest bytes end
 shortest_found bytes count end fits some one num few e short = record {
   whole = window bytes 0 end;
@@ -165,7 +165,7 @@ shortest_found bytes count end fits some one num few e short = record {
 }
 
 pub next_len : (whole : List ℕ) → IsNextPart whole → 1 ≤ length whole
-unfolding part_of
+unfolding document_part
 next_len whole (inl x) = let len = ap length x in omega (arith, len)
 next_len whole (inr p) = let len = ap length p.is in omega (arith, len)
 

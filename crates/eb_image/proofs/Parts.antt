@@ -8,7 +8,7 @@ use Rattle.std.proofs.lemmas.List.Concat.{flat_map-cons}
 use Rattle.std.proofs.lemmas.List.Sums.{sum_by-cons}
 use Rattle.eb_base.specs.Document.{Doc, IsDocument, bytes_of}
 use Rattle.eb_base.specs.Setting.{Setting, IsSetting, AreTerms}
-use Rattle.eb_image.specs.Image.{mark, head_of, term_bytes, part_of, last_byte, image_of, ImagesDiffer}
+use Rattle.eb_image.specs.Image.{mark, head_of, term_bytes, document_part, last_byte, image_of, ImagesDiffer}
 use Rattle.eb_image.specs.Reading.{IsNextPart}
 use Rattle.eb_image.proofs.Bytes.{same_front, two_front, four_front, eight_front}
 
@@ -36,8 +36,8 @@ terms_front (t ∷ ts) (u ∷ us) x y len lt lu e =
     (ap (λ (z : List ℕ). z ∷ ts) first.0 ∙ ap (λ (zs : List (List ℕ)). u ∷ zs) rest.0, rest.1)
 
 cut_part : (d : Doc) (x : List ℕ)
-    → part_of d ++ x ≡ 1 ∷ (to_be_bytes w64 d.id ++ (to_be_bytes w16 (length d.terms) ++ (flat_map term_bytes d.terms ++ x)))
-unfolding part_of
+    → document_part d ++ x ≡ 1 ∷ (to_be_bytes w64 d.id ++ (to_be_bytes w16 (length d.terms) ++ (flat_map term_bytes d.terms ++ x)))
+unfolding document_part
 cut_part d x =
     let a = to_be_bytes w64 d.id in
     let b = to_be_bytes w16 (length d.terms) in
@@ -50,7 +50,7 @@ tail_of a b x y e = cc
 pub head_byte : (a b : ℕ) (x y : List ℕ) → a ∷ x ≡ b ∷ y → a ≡ b
 head_byte a b x y e = cc
 
-pub part_front : (d e : Doc) (x y : List ℕ) → IsDocument d → IsDocument e → part_of d ++ x ≡ part_of e ++ y → (d ≡ e) × (x ≡ y)
+pub part_front : (d e : Doc) (x y : List ℕ) → IsDocument d → IsDocument e → document_part d ++ x ≡ document_part e ++ y → (d ≡ e) × (x ≡ y)
 part_front d e x y fd fe is =
     let both = tail_of _ _ _ _ (sym (cut_part d x) ∙ (is ∙ cut_part e y)) in
     let id = eight_front d.id e.id _ _ fd.id fe.id both in
@@ -60,25 +60,25 @@ part_front d e x y fd fe is =
     let two : record { id = e.id; terms = d.terms } ≡ e = ap (λ (t : List (List ℕ)). let r : Doc = record { id = e.id; terms = t } in r) terms.0 in
     (one ∙ two, terms.1)
 
-pub part_not_last : (d : Doc) (x y : List ℕ) → part_of d ++ x ≡ 0 ∷ y → ⊥
+pub part_not_last : (d : Doc) (x y : List ℕ) → document_part d ++ x ≡ 0 ∷ y → ⊥
 part_not_last d x y e = let one = head_byte 1 0 _ y (sym (cut_part d x) ∙ e) in omega (arith, one)
 
 pub parts_front : (docs others : List Doc) (x y : List ℕ) → All IsDocument docs → All IsDocument others
-    → flat_map part_of docs ++ 0 ∷ x ≡ flat_map part_of others ++ 0 ∷ y → (docs ≡ others) × (x ≡ y)
+    → flat_map document_part docs ++ 0 ∷ x ≡ flat_map document_part others ++ 0 ∷ y → (docs ≡ others) × (x ≡ y)
 parts_front [] [] x y fd fo e = (refl, tail_of _ _ _ _ e)
 parts_front [] (o ∷ os) x y fd fo e =
-    let right : flat_map part_of (o ∷ os) ++ 0 ∷ y ≡ part_of o ++ (flat_map part_of os ++ 0 ∷ y) =
-    ap (λ (b : List ℕ). b ++ 0 ∷ y) (flat_map-cons part_of o os) ∙ append_assoc (part_of o) (flat_map part_of os) (0 ∷ y) in
+    let right : flat_map document_part (o ∷ os) ++ 0 ∷ y ≡ document_part o ++ (flat_map document_part os ++ 0 ∷ y) =
+    ap (λ (b : List ℕ). b ++ 0 ∷ y) (flat_map-cons document_part o os) ∙ append_assoc (document_part o) (flat_map document_part os) (0 ∷ y) in
     absurd (part_not_last o _ x (sym right ∙ sym e))
 parts_front (d ∷ ds) [] x y fd fo e =
-    let left : flat_map part_of (d ∷ ds) ++ 0 ∷ x ≡ part_of d ++ (flat_map part_of ds ++ 0 ∷ x) =
-    ap (λ (b : List ℕ). b ++ 0 ∷ x) (flat_map-cons part_of d ds) ∙ append_assoc (part_of d) (flat_map part_of ds) (0 ∷ x) in
+    let left : flat_map document_part (d ∷ ds) ++ 0 ∷ x ≡ document_part d ++ (flat_map document_part ds ++ 0 ∷ x) =
+    ap (λ (b : List ℕ). b ++ 0 ∷ x) (flat_map-cons document_part d ds) ∙ append_assoc (document_part d) (flat_map document_part ds) (0 ∷ x) in
     absurd (part_not_last d _ y (sym left ∙ e))
 parts_front (d ∷ ds) (o ∷ os) x y fd fo e =
-    let left : flat_map part_of (d ∷ ds) ++ 0 ∷ x ≡ part_of d ++ (flat_map part_of ds ++ 0 ∷ x) =
-    ap (λ (b : List ℕ). b ++ 0 ∷ x) (flat_map-cons part_of d ds) ∙ append_assoc (part_of d) (flat_map part_of ds) (0 ∷ x) in
-    let right : flat_map part_of (o ∷ os) ++ 0 ∷ y ≡ part_of o ++ (flat_map part_of os ++ 0 ∷ y) =
-    ap (λ (b : List ℕ). b ++ 0 ∷ y) (flat_map-cons part_of o os) ∙ append_assoc (part_of o) (flat_map part_of os) (0 ∷ y) in
+    let left : flat_map document_part (d ∷ ds) ++ 0 ∷ x ≡ document_part d ++ (flat_map document_part ds ++ 0 ∷ x) =
+    ap (λ (b : List ℕ). b ++ 0 ∷ x) (flat_map-cons document_part d ds) ∙ append_assoc (document_part d) (flat_map document_part ds) (0 ∷ x) in
+    let right : flat_map document_part (o ∷ os) ++ 0 ∷ y ≡ document_part o ++ (flat_map document_part os ++ 0 ∷ y) =
+    ap (λ (b : List ℕ). b ++ 0 ∷ y) (flat_map-cons document_part o os) ∙ append_assoc (document_part o) (flat_map document_part os) (0 ∷ y) in
     let first = part_front d o _ _ (fd 0 d (omega arith)) (fo 0 o (omega arith)) (sym left ∙ (e ∙ right)) in
     let rest = parts_front ds os x y (λ k z lt. fd (suc k) z (omega arith)) (λ k z lt. fo (suc k) z (omega arith)) first.1 in
     (ap (λ (z : Doc). z ∷ ds) first.0 ∙ ap (λ (zs : List Doc). o ∷ zs) rest.0, rest.1)
@@ -106,9 +106,9 @@ head_front σ τ x y fs ft e =
 pub images_differ_all : ImagesDiffer
 unfolding image_of
 images_differ_all σ τ docs others fs ft fd fo front =
-    let left : image_of σ docs ++ front.rest ≡ head_of σ ++ (flat_map part_of docs ++ 0 ∷ front.rest) =
-    append_assoc (head_of σ) (flat_map part_of docs ++ last_byte) front.rest
-    ∙ ap (λ (t : List ℕ). head_of σ ++ t) (append_assoc (flat_map part_of docs) last_byte front.rest) in
+    let left : image_of σ docs ++ front.rest ≡ head_of σ ++ (flat_map document_part docs ++ 0 ∷ front.rest) =
+    append_assoc (head_of σ) (flat_map document_part docs ++ last_byte) front.rest
+    ∙ ap (λ (t : List ℕ). head_of σ ++ t) (append_assoc (flat_map document_part docs) last_byte front.rest) in
     let heads = head_front σ τ _ _ fs ft (sym left ∙ sym front.is) in
     let parts = parts_front docs others front.rest [] fd fo heads.1 in
     (heads.0, parts.0)

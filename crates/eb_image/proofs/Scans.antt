@@ -11,7 +11,7 @@ use Rattle.std.proofs.lemmas.List.Sums.{sum_by-cons}
 use Rattle.eb_base.specs.Term.{AreBytes}
 use Rattle.eb_base.specs.Document.{bytes_of}
 use Rattle.eb_image.specs.Image.{term_bytes}
-use Rattle.eb_image.specs.Scan.{number_at, scan}
+use Rattle.eb_image.specs.Scan.{two_byte_number, scan}
 use Rattle.eb_image.proofs.Bytes.{IsBytes, window, length-window, window-add, window_fits, IsBytes-window}
 
 guard_some : (b : Bool) (x : Option ℕ) (y : ℕ) → cond b None x ≡ Some y → (b ≡ false) × (x ≡ Some y)
@@ -19,11 +19,11 @@ guard_some true x y e = absurd cc
 guard_some false x y e = (refl, e)
 
 -- the number in a window of two
-pub two_in_window : (bytes : List ℕ) (at : ℕ) → IsBytes bytes → to_be_bytes w16 (number_at bytes at) ≡ window bytes at 2
+pub two_in_window : (bytes : List ℕ) (at : ℕ) → IsBytes bytes → to_be_bytes w16 (two_byte_number bytes at) ≡ window bytes at 2
 two_in_window bytes at fits =
-    be_bytes_2 (window bytes at 2) (number_at bytes at) refl (window_fits bytes at 2 fits) (omega arith)
+    be_bytes_2 (window bytes at 2) (two_byte_number bytes at) refl (window_fits bytes at 2 fits) (omega arith)
 
-pub number_small : (bytes : List ℕ) (at : ℕ) → IsBytes bytes → number_at bytes at < 2 ^ 16
+pub number_small : (bytes : List ℕ) (at : ℕ) → IsBytes bytes → two_byte_number bytes at < 2 ^ 16
 number_small bytes at fits = omega (arith, fits at, fits (at + 1))
 
 -- the terms that stand behind a place, where a scan ends there
@@ -61,7 +61,7 @@ scan_sound zero at room end bytes fits e = record {
   stand = refl;
 }
 scan_sound (suc n) at room end bytes fits e =
-    let len = number_at bytes at in
+    let len = two_byte_number bytes at in
     let g = guard_some (ltb room len) (scan n (at + (2 + len)) (room - len) bytes) end e in
     let le : len ≤ room = ltb-false _ _ g.0 in
     let rest = scan_sound n (at + (2 + len)) (room - len) end bytes fits g.1 in
@@ -90,14 +90,14 @@ scan_past zero at room bytes le = ap some_of (omega arith)
 scan_past (suc n) at room bytes le =
     let a : get_or bytes at 0 ≡ 0 = get_or_past bytes at 0 le in
     let b : get_or bytes (at + 1) 0 ≡ 0 = get_or_past bytes (at + 1) 0 (omega arith) in
-    let z : number_at bytes at ≡ 0 = omega (arith, a, b) in
+    let z : two_byte_number bytes at ≡ 0 = omega (arith, a, b) in
     let no : ltb room 0 ≡ false = le-ltb room 0 (omega arith) in
     let next = scan_past n (at + (2 + 0)) (room - 0) bytes (omega arith) in
     let sum : at + (2 + 0) + 2 * n ≡ at + 2 * suc n = omega arith in
     let open_it : (k : ℕ) → k ≡ 0 → cond (ltb room k) None (scan n (at + (2 + k)) (room - k) bytes) ≡ Some (at + 2 * suc n) =
     λ k e. subst (λ (j : ℕ). cond (ltb room j) None (scan n (at + (2 + j)) (room - j) bytes) ≡ Some (at + 2 * suc n)) (sym e)
     (subst (λ (v : Bool). cond v None (scan n (at + (2 + 0)) (room - 0) bytes) ≡ Some (at + 2 * suc n)) (sym no) (next ∙ ap some_of sum)) in
-    open_it (number_at bytes at) z
+    open_it (two_byte_number bytes at) z
 
 pub terms_len : (ts : List (List ℕ)) → 2 * length ts ≤ length (flat_map term_bytes ts)
 terms_len [] = omega arith
@@ -112,7 +112,7 @@ terms_len (t ∷ ts) =
 pub front_byte : (bytes rest whole : List ℕ) (k : ℕ) → whole ≡ bytes ++ rest → k < length bytes → get_or bytes k 0 ≡ get_or whole k 0
 front_byte bytes rest whole k e lt = sym (ap (λ (t : List ℕ). get_or t k 0) e ∙ get_or_append_left bytes rest 0 k lt)
 
-pub two_whole : (n at : ℕ) (whole x : List ℕ) → n < 2 ^ 16 → drop at whole ≡ to_be_bytes w16 n ++ x → number_at whole at ≡ n
+pub two_whole : (n at : ℕ) (whole x : List ℕ) → n < 2 ^ 16 → drop at whole ≡ to_be_bytes w16 n ++ x → two_byte_number whole at ≡ n
 two_whole n at whole x lt e =
     let z : at + 0 ≡ at = omega arith in
     let a : get_or whole at 0 ≡ get_or (to_be_bytes w16 n ++ x) 0 0 =
@@ -124,7 +124,7 @@ two_whole n at whole x lt e =
 
 -- the number in the first bytes of others is the number in these, or less where bytes are missing
 pub two_front_of : (n at : ℕ) (bytes rest whole x : List ℕ) → n < 2 ^ 16 → whole ≡ bytes ++ rest → drop at whole ≡ to_be_bytes w16 n ++ x
-    → (number_at bytes at ≤ n) × (at + 1 < length bytes → number_at bytes at ≡ n)
+    → (two_byte_number bytes at ≤ n) × (at + 1 < length bytes → two_byte_number bytes at ≡ n)
 two_front_of n at bytes rest whole x lt e d =
     let is = two_whole n at whole x lt d in
     let low : (k : ℕ) → get_or bytes k 0 ≤ get_or whole k 0 =
@@ -137,7 +137,7 @@ two_front_of n at bytes rest whole x lt e d =
           omega (arith, is, front_byte bytes rest whole at e (omega arith), front_byte bytes rest whole (at + 1) e less),
     )
 
-scan_more : (n at room num end : ℕ) (bytes : List ℕ) → number_at bytes at ≡ num → num ≤ room
+scan_more : (n at room num end : ℕ) (bytes : List ℕ) → two_byte_number bytes at ≡ num → num ≤ room
     → scan n (at + (2 + num)) (room - num) bytes ≡ Some end → scan (suc n) at room bytes ≡ Some end
 unfolding scan
 scan_more n at room num end bytes e le next =
@@ -167,14 +167,14 @@ scan_complete (t ∷ ts) at room bytes rest whole e d le lt =
           let next = scan_complete ts (at + (2 + length t)) (room - length t) bytes rest whole e d2 (omega arith) (omega arith) in
           (next.0, scan_more (length ts) at room (length t) next.0 bytes (num.1 less) (omega arith) next.1, omega (arith, all, next.2))
       | inr past ↦
-          let k = number_at bytes at in
+          let k = two_byte_number bytes at in
           let next = scan_past (length ts) (at + (2 + k)) (room - k) bytes (omega arith) in
           let many = terms_len ts in
           (at + (2 + k) + 2 * length ts, scan_more (length ts) at room k _ bytes refl (omega (arith, num.0)) next, omega (arith, all, num.0, many))
     ]
 
 -- one step of a scan
-pub scan_on : (k n at room num : ℕ) (bytes : List ℕ) → k ≡ suc n → num ≡ number_at bytes at → num ≤ room
+pub scan_on : (k n at room num : ℕ) (bytes : List ℕ) → k ≡ suc n → num ≡ two_byte_number bytes at → num ≤ room
     → scan k at room bytes ≡ scan n (at + (2 + num)) (room - num) bytes
 unfolding scan
 scan_on k n at room num bytes ks e le =
@@ -182,7 +182,7 @@ scan_on k n at room num bytes ks e le =
     ∙ subst (λ (v : ℕ). cond (ltb room v) None (scan n (at + (2 + v)) (room - v) bytes) ≡ scan n (at + (2 + num)) (room - num) bytes) e
     (ap (λ (b : Bool). cond b None (scan n (at + (2 + num)) (room - num) bytes)) (le-ltb room num le))
 
-pub scan_off : (k n at room num : ℕ) (bytes : List ℕ) → k ≡ suc n → num ≡ number_at bytes at → room < num
+pub scan_off : (k n at room num : ℕ) (bytes : List ℕ) → k ≡ suc n → num ≡ two_byte_number bytes at → room < num
     → scan k at room bytes ≡ None
 unfolding scan
 scan_off k n at room num bytes ks e lt =

@@ -18,8 +18,8 @@ abbrev pub term_bytes : List ℕ → List ℕ
 term_bytes t = to_be_bytes w16 (length t) ++ t
 
 -- a document's part: the byte 1, the id in eight bytes, the number of terms in two bytes, and the terms in order
-unfoldable pub part_of : Doc → List ℕ
-part_of d = 1 ∷ (to_be_bytes w64 d.id ++ (to_be_bytes w16 (length d.terms) ++ flat_map term_bytes d.terms))
+unfoldable pub document_part : Doc → List ℕ
+document_part d = 1 ∷ (to_be_bytes w64 d.id ++ (to_be_bytes w16 (length d.terms) ++ flat_map term_bytes d.terms))
 
 -- the byte behind the last part
 abbrev pub last_byte : List ℕ
@@ -27,7 +27,7 @@ last_byte = 0 ∷ []
 
 -- an image: the head, the parts of the documents in order, and the byte 0
 unfoldable pub image_of : Setting → List Doc → List ℕ
-image_of σ docs = head_of σ ++ (flat_map part_of docs ++ last_byte)
+image_of σ docs = head_of σ ++ (flat_map document_part docs ++ last_byte)
 
 -- some bytes that come first in others, or are all of them
 pub record IsFront (bytes whole : List ℕ) : Type 0 where

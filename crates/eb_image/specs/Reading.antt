@@ -3,7 +3,7 @@ use Rattle.std.specs.Prelude.{◌≡◌, ℕ, ◌⊎◌, List, Option}
 use Rattle.eb_base.specs.Document.{Doc, IsDocument}
 use Rattle.eb_base.specs.Setting.{Setting, IsSetting}
 use Rattle.eb_io.specs.Source.{IsEmpty}
-use Rattle.eb_image.specs.Image.{head_of, part_of, last_byte, IsFront}
+use Rattle.eb_image.specs.Image.{head_of, document_part, last_byte, IsFront}
 
 -- the head of an allowed setting
 pub record IsHead (bytes : List ℕ) : Type 0 where
@@ -20,12 +20,12 @@ pub record IsHeadOf (σ : Setting) (bytes : List ℕ) : Type 0 where
 pub record IsPart (bytes : List ℕ) : Type 0 where
   pub document : Doc
   pub within : IsDocument document
-  pub is : bytes ≡ part_of document
+  pub is : bytes ≡ document_part document
 
 -- the part of this document, which is within the limits
 pub record IsPartOf (d : Doc) (bytes : List ℕ) : Type 0 where
   pub within : IsDocument d
-  pub is : bytes ≡ part_of d
+  pub is : bytes ≡ document_part d
 
 -- what may stand behind a head or a part: the part of a document within the limits, or the byte 0
 abbrev pub IsNextPart : List ℕ → Type 0

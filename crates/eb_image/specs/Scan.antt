@@ -9,15 +9,15 @@ abbrev pub longest_part : ℕ
 longest_part = 11 + 2 * most_tokens + most_bytes
 
 -- the number in the two bytes at this place
-abbrev pub number_at : List ℕ → ℕ → ℕ
-number_at bytes at = 256 * slice_index bytes at + slice_index bytes (at + 1)
+abbrev pub two_byte_number : List ℕ → ℕ → ℕ
+two_byte_number bytes at = 256 * slice_index bytes at + slice_index bytes (at + 1)
 
 -- where so many terms end that begin at this place and have room for so many bytes
 unfoldable pub scan : ℕ → ℕ → ℕ → List ℕ → Option ℕ
 scan zero at room bytes = Some at
 scan (suc n) at room bytes =
-    if nat_lt room (number_at bytes at) then None
-    else scan n (at + (2 + number_at bytes at)) (room - number_at bytes at) bytes
+    if nat_lt room (two_byte_number bytes at) then None
+    else scan n (at + (2 + two_byte_number bytes at)) (room - two_byte_number bytes at) bytes
 
 -- the shortest part, or byte 0, that the bytes begin has this length
 pub record IsShortest (bytes : List ℕ) (n : ℕ) : Type 0 where

@@ -1,6 +1,6 @@
-ghost use Rattle.std.specs.Prelude.{◌≡◌, ℕ, ◌++◌, ◌<◌, ◌≤◌, ◌^◌, List, length, IfOk, OnOk};
+ghost use Rattle.std.specs.Prelude.{◌≡◌, ◌++◌, ◌<◌, ◌≤◌, ◌^◌, length, IfOk, OnOk};
 ghost use Rattle.eb_base.specs.Document.{Doc, IsDocument};
-ghost use Rattle.eb_image.specs.Image.{part_of, term_bytes};
+ghost use Rattle.eb_image.specs.Image.{document_part, term_bytes};
 ghost use Rattle.eb_image.specs.Reading.{IsPart, IsPartOf};
 ghost use Rattle.eb_image.specs.Scan.{longest_part};
 
@@ -23,7 +23,7 @@ fn put_term(bytes: &mut Vec<u8>, term: &Term) -> Result<(), NoMemory>
 /// bytes, and for each term its length in two bytes and its bytes (this project's profile, docs/FORMATS.md). Takes
 /// memory.
 pub fn write_part(alloc: Global, document: &Document) -> Result<Vec<u8>, NoMemory>
-    ensures { IfOk result (λ bytes. bytes.items ≡ part_of document.now) }
+    ensures { IfOk result (λ bytes. bytes.items ≡ document_part document.now) }
 {
     let terms = document.terms();
     let mut bytes = Vec::new(alloc);
@@ -40,8 +40,8 @@ pub fn write_part(alloc: Global, document: &Document) -> Result<Vec<u8>, NoMemor
 fn terms_of(alloc: Global, bytes: &[u8], count: usize) -> Result<Terms, NoMemory>
     requires part { IsPart bytes.now }
     requires within { length bytes.now ≤ longest_part }
-    requires count { (d : Doc) → IsDocument d → bytes.now ≡ part_of d → count ≡ length d.terms }
-    ensures { IfOk result (λ terms. (d : Doc) → IsDocument d → bytes.now ≡ part_of d → terms ≡ d.terms) }
+    requires count { (d : Doc) → IsDocument d → bytes.now ≡ document_part d → count ≡ length d.terms }
+    ensures { IfOk result (λ terms. (d : Doc) → IsDocument d → bytes.now ≡ document_part d → terms ≡ d.terms) }
 {
     let mut terms = Terms::new(alloc);
     let mut at = BEFORE_TERMS;

@@ -2,7 +2,7 @@ ghost use Rattle.std.specs.Prelude.{◌≡◌, ℕ, ◌<◌, ◌≤◌, List, le
 ghost use Rattle.eb_base.specs.Document.{IsDocument};
 ghost use Rattle.eb_io.specs.Faults.{HasRisen};
 ghost use Rattle.eb_io.specs.Source.{after};
-ghost use Rattle.eb_image.specs.Image.{part_of, last_byte};
+ghost use Rattle.eb_image.specs.Image.{document_part, last_byte};
 ghost use Rattle.eb_image.specs.Reading.{IsNextPart, IsPart, IsBad, HasBegun};
 
 use crate::fault::{HeadFault, ImageFault};
@@ -64,7 +64,7 @@ impl ImageReader {
     ) -> Result<Option<(Document, ImageReader)>, ImageFault>
         // the bytes taken are the part of the document, which is within the limits
         ensures part { IfOk result (λ read. IfSome read (λ part.
-            IsDocument part.0 × (S.left source.old ≡ after (part_of part.0) (S.left source.new)))) }
+            IsDocument part.0 × (S.left source.old ≡ after (document_part part.0) (S.left source.new)))) }
         ensures none { result ≡ Ok None → S.left source.old ≡ after last_byte (S.left source.new) }
         ensures bad { IsErrOf result ImageFault.BadImage
             → (taken : List ℕ) × (S.left source.old ≡ after taken (S.left source.new)) × IsBad IsNextPart taken (S.left source.new) }

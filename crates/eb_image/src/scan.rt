@@ -1,7 +1,7 @@
-ghost use Rattle.std.specs.Prelude.{◌≡◌, ℕ, ◌+◌, ◌<◌, ◌≤◌, ◌^◌, length, slice_index, MatchOption};
+ghost use Rattle.std.specs.Prelude.{◌≡◌, ◌+◌, ◌<◌, ◌≤◌, ◌^◌, length, slice_index, MatchOption};
 ghost use Rattle.eb_base.specs.Document.{most_tokens, most_bytes};
 ghost use Rattle.eb_image.specs.Reading.{IsNextPart, Begins};
-ghost use Rattle.eb_image.specs.Scan.{number_at, scan, IsShortest};
+ghost use Rattle.eb_image.specs.Scan.{two_byte_number, scan, IsShortest};
 
 use eb_base::{MAX_BYTES, MAX_TOKENS};
 
@@ -26,7 +26,7 @@ fn byte_at(bytes: &[u8], at: usize) -> usize
 // The number in the two bytes at this place.
 pub(crate) fn two_bytes_at(bytes: &[u8], at: usize) -> usize
     requires { at < 2 ^ 32 }
-    ensures value { result ≡ number_at bytes.now at }
+    ensures value { result ≡ two_byte_number bytes.now at }
     ensures small { result < 2 ^ 16 }
 {
     256 * byte_at(bytes, at) + byte_at(bytes, at + 1)

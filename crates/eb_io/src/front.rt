@@ -1,4 +1,4 @@
-ghost use Rattle.std.specs.Prelude.{◌≡◌, ℕ, ◌≤◌, ◌<◌, ◌^◌, ◌↔◌, length, take, min, IsTrue};
+ghost use Rattle.std.specs.Prelude.{◌≡◌, ◌<◌, ◌^◌, ◌↔◌, length, take, min, IsTrue};
 ghost use Rattle.eb_io.specs.Memory.{IsListed};
 
 // Copies as many of the first bytes as there is room for, and no more than `most`.

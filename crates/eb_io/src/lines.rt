@@ -1,9 +1,9 @@
-ghost use Rattle.std.specs.Prelude.{◌≡◌, ◌≢◌, ℕ, ◌+◌, ◌<◌, ◌≤◌, ◌↔◌, ◌⊎◌, true, false, List, [], ◌∷◌};
+ghost use Rattle.std.specs.Prelude.{◌≡◌, ◌≢◌, ℕ, ◌+◌, ◌<◌, ◌≤◌, ◌↔◌, ◌⊎◌, true, false, List, []};
 ghost use Rattle.std.specs.Prelude.{◌++◌, length, take, drop, vec_capacity, IfOk, IsTrue, MatchOption};
 ghost use Rattle.std.specs.List.{Contains};
 ghost use Rattle.eb_io.specs.Faults.{HasRisen};
 ghost use Rattle.eb_io.specs.Source.{after, got, IsCount, IsEmpty};
-ghost use Rattle.eb_io.specs.Lines.{Line, longest_line, without_cr, line_from, IsUncut, IsFirstLf};
+ghost use Rattle.eb_io.specs.Lines.{Line, without_cr, line_from, IsUncut, IsFirstLf};
 
 use crate::source::{Got, Source};
 use eb_base::NoMemory;

@@ -1,4 +1,4 @@
-ghost use Rattle.std.specs.Prelude.{◌≡◌, ℕ, ◌<◌, ◌≤◌, List, [], ◌++◌, length, take, Some, IfOk, OnOk, OnErr};
+ghost use Rattle.std.specs.Prelude.{◌≡◌, ◌<◌, ◌≤◌, [], ◌++◌, length, take, Some, IfOk, OnOk, OnErr};
 ghost use Rattle.eb_io.specs.Faults.{HasRisen, one_more};
 ghost use Rattle.eb_io.specs.Sink.{put_count};
 ghost use Rattle.eb_io.specs.Memory.{Takes};

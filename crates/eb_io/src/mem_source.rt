@@ -1,4 +1,4 @@
-ghost use Rattle.std.specs.Prelude.{◌≡◌, ℕ, ◌+◌, ◌<◌, ◌≤◌, List, [], ◌++◌, length, drop, Some, IfOk, if◌then◌else◌};
+ghost use Rattle.std.specs.Prelude.{◌≡◌, ◌+◌, ◌<◌, ◌≤◌, ◌++◌, length, drop, Some, IfOk};
 ghost use Rattle.eb_io.specs.Faults.{HasRisen, one_more};
 ghost use Rattle.eb_io.specs.Source.{got, got_count, IsCount};
 ghost use Rattle.eb_io.specs.Memory.{Answers};

@@ -58,7 +58,7 @@ pub struct LentWordsMut<'a> {
 
 impl Port for LentWordsMut<'_> {
     ghost use Rattle.std.specs.Prelude.{◌≡◌};
-    ghost use Rattle.std.proofs.Common.{refl, ap, ◌∙◌};
+    ghost use Rattle.std.proofs.Common.{refl, ◌∙◌};
     ghost use Rattle.eb_flat.specs.Flat.{StandsFor};
 
     ghost stands = { λ s m. StandsFor (record { setting = s.config; words = s.words.now }) m };

@@ -1,5 +1,5 @@
 //! The lines of an input are passed to a program, one after the other.
-ghost use Rattle.std.specs.Prelude.{◌≡◌, ◌+◌, ◌<◌, ◌≤◌, ◌++◌, List, [], ℕ, Option, MatchResult, OnErr, OnOk, ⊤};
+ghost use Rattle.std.specs.Prelude.{◌≡◌, ◌+◌, ◌<◌, ◌≤◌, List, [], ℕ, Option, MatchResult, OnOk, ⊤};
 ghost use Rattle.eb_io.specs.Faults.{HasRisen};
 ghost use Rattle.eb_io.specs.Held.{Held};
 ghost use Rattle.eb_lines.specs.Passing.{IsAt, IsAtEnd, IsStopped, IsSomewhere, MayStop, Comes, Ends, upcoming_of};

@@ -1,5 +1,5 @@
 //! What a program does with the lines of an input.
-ghost use Rattle.std.specs.Prelude.{◌≡◌, ◌≤◌, ◌++◌, ◌^◌, List, [], ◌∷◌, ℕ, length, MatchResult, OnErr, OnOk, ⊤};
+ghost use Rattle.std.specs.Prelude.{◌≡◌, ◌≤◌, ◌++◌, ◌^◌, List, ℕ, length, MatchResult, OnErr, OnOk, ⊤};
 ghost use Rattle.eb_io.specs.Lines.{Line, line, long_line};
 ghost use Rattle.eb_lines.specs.Programs.{IsRunning, WorksOn, WorksOnGiven, PrintsFront, HasPrinted, Finishes};
 

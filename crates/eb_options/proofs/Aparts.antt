@@ -3,7 +3,7 @@ use Rattle.std.proofs.Common.{◌≡◌, ℕ, ◌++◌, Bool, true, false, true�
 use Rattle.std.specs.Prelude.{option_map, option_and_then, Err, IsErrOf}
 use Rattle.std.specs.List.{list_any, after_first}
 use Rattle.clap.specs.Walk.{Text}
-use Rattle.eb_options.specs.Items.{AreNames, Items, Parts, Value, flag_in, items_of, number_in, with_each, is_equals, is_one_of, name_in, parts_of, value_in, with_flag, with_value}
+use Rattle.eb_options.specs.Items.{AreNames, Items, Parts, Value, flag_in, items_of, number_in, with_each, is_equals, is_one_of, name_in, flags_and_values, value_in, with_flag, with_option}
 use Rattle.eb_options.specs.Apart.{before, flags_alone, values_in, without_flags}
 use Rattle.eb_options.proofs.Walking.{among, both, name_front}
 
@@ -53,35 +53,35 @@ module _ (flags options : List Text) (ok : AreNames options) where
   flag_first word alone None = refl
   flag_first word alone (Some values) = refl
 
-  value_first : (value : Value) (alone : List Text) (values : Option (List Value)) → option_map (with_value value) (parts_with alone values) ≡ parts_with alone (before value values)
+  value_first : (value : Value) (alone : List Text) (values : Option (List Value)) → option_map (with_option value) (parts_with alone values) ≡ parts_with alone (before value values)
   value_first value alone None = refl
   value_first value alone (Some values) = refl
 
   abbrev Same : Option Text → List Text → Type 0
-  Same s words = parts_of flags options s words ≡ parts_with (flags_alone flags options (waits s) words) (values_in options s (without_flags flags options (waits s) words))
+  Same s words = flags_and_values flags options s words ≡ parts_with (flags_alone flags options (waits s) words) (values_in options s (without_flags flags options (waits s) words))
 
   module _ (word : Text) (rest : List Text) (more : (s : Option Text) → Same s rest) where
     option_first : (value : Option Text) → is_one_of flags word ≡ false → is_one_of options (name_in word) ≡ true → value_in word ≡ value → Same None (word ∷ rest)
-    unfolding parts_of values_in without_flags flags_alone
+    unfolding flags_and_values values_in without_flags flags_alone
     option_first None plain known is =
         let waiting : is_one_of options word ≡ true = bare word is ∙ known in
         rw (plain, waiting, known, is) (more (Some (name_in word)))
     option_first (Some v) plain known is =
         let idle : is_one_of options word ≡ false = valued word v is in
-        rw (plain, idle, known, is) (ap (option_map (with_value (name_in word, v))) (more None) ∙ value_first (name_in word, v) _ _)
+        rw (plain, idle, known, is) (ap (option_map (with_option (name_in word, v))) (more None) ∙ value_first (name_in word, v) _ _)
 
     first : (f o : Bool) → is_one_of flags word ≡ f → is_one_of options (name_in word) ≡ o → Same None (word ∷ rest)
-    unfolding parts_of values_in without_flags flags_alone
+    unfolding flags_and_values values_in without_flags flags_alone
     first true o e g = rw e (ap (option_map (with_flag word)) (more None) ∙ flag_first word _ _)
     first false true e g = option_first (value_in word) e g refl
     first false false e g = rw (e, g) refl
 
   pub parts_are : (s : Option Text) (words : List Text) → Same s words
-  unfolding parts_of values_in without_flags flags_alone
+  unfolding flags_and_values values_in without_flags flags_alone
   parts_are None [] = refl
   parts_are (Some name) [] = refl
   parts_are None (word ∷ rest) = first word rest (λ s. parts_are s rest) (is_one_of flags word) (is_one_of options (name_in word)) refl refl
-  parts_are (Some name) (word ∷ rest) = ap (option_map (with_value (name, word))) (parts_are None rest) ∙ value_first (name, word) _ _
+  parts_are (Some name) (word ∷ rest) = ap (option_map (with_option (name, word))) (parts_are None rest) ∙ value_first (name, word) _ _
 
 -- ---- word by word
 

@@ -54,21 +54,21 @@ pub record Parts : Type 0 where
 abbrev pub with_flag : List ℕ → Parts → Parts
 with_flag word parts = record parts { flags = word ∷ parts.flags }
 
-abbrev pub with_value : Value → Parts → Parts
-with_value value parts = record parts { values = value ∷ parts.values }
+abbrev pub with_option : Value → Parts → Parts
+with_option value parts = record parts { values = value ∷ parts.values }
 
 -- the words as flags and values, each `--x` for a flag, and `--x V` or `--x=V` for an option, in any order; the option in
 -- front, if any, waits for its value
-unfoldable pub parts_of : List (List ℕ) → List (List ℕ) → Option (List ℕ) → List (List ℕ) → Option Parts
-parts_of flags options None [] = Some (record { flags = []; values = [] })
-parts_of flags options None (word ∷ rest) =
-    if is_one_of flags word then option_map (with_flag word) (parts_of flags options None rest)
+unfoldable pub flags_and_values : List (List ℕ) → List (List ℕ) → Option (List ℕ) → List (List ℕ) → Option Parts
+flags_and_values flags options None [] = Some (record { flags = []; values = [] })
+flags_and_values flags options None (word ∷ rest) =
+    if is_one_of flags word then option_map (with_flag word) (flags_and_values flags options None rest)
     else (if is_one_of options (name_in word)
-    then option_map_or (λ value. option_map (with_value (name_in word, value)) (parts_of flags options None rest)) (value_in word)
-    (parts_of flags options (Some (name_in word)) rest)
+    then option_map_or (λ value. option_map (with_option (name_in word, value)) (flags_and_values flags options None rest)) (value_in word)
+    (flags_and_values flags options (Some (name_in word)) rest)
     else None)
-parts_of flags options (Some name) [] = None
-parts_of flags options (Some name) (value ∷ rest) = option_map (with_value (name, value)) (parts_of flags options None rest)
+flags_and_values flags options (Some name) [] = None
+flags_and_values flags options (Some name) (value ∷ rest) = option_map (with_option (name, value)) (flags_and_values flags options None rest)
 
 -- ---- items
 
@@ -106,7 +106,7 @@ with_each found (name ∷ names) = option_and_then (λ this. option_map (λ more
 -- number of one to nine digits
 abbrev pub items_of : List (List ℕ) → List (List ℕ) → List (List ℕ) → Option Items
 items_of flags options words = option_and_then (λ parts. option_and_then (λ there. option_map (λ numbers. record { flags = there; numbers = numbers })
-    (with_each (number_in parts.values) options)) (with_each (flag_in parts.flags) flags)) (parts_of flags options None words)
+    (with_each (number_in parts.values) options)) (with_each (flag_in parts.flags) flags)) (flags_and_values flags options None words)
 
 -- the flag stands there
 abbrev pub has : List ℕ → Items → Bool

@@ -1,4 +1,4 @@
-ghost use Rattle.std.specs.Prelude.{◌≡◌, List, false, map, IfOk, string_bytes};
+ghost use Rattle.std.specs.Prelude.{◌≡◌, false, map, IfOk, string_bytes};
 ghost use Rattle.clap.specs.Words.{FailsBy, fault_of, found_of};
 ghost use Rattle.clap.specs.Simple.{matches_of, app_of, on_top, new_app};
 ghost use Rattle.clap.specs.Walk.{rows_of, rule_of};

@@ -1,4 +1,4 @@
-ghost use Rattle.std.specs.Prelude.{◌≡◌, ◌≤◌};
+ghost use Rattle.std.specs.Prelude.{◌≡◌};
 ghost use Rattle.eb_options.specs.Numbers.{are_digits, number};
 
 // Whether the word is one to `most` digits.

@@ -1,5 +1,4 @@
 //! The program over parts: what it does with each line, and at the end.
-ghost use Rattle.eb_io.specs.Lines.{line};
 
 use crate::line_run::LineRun;
 use eb_base::{Gate, NoMemory};

@@ -1,5 +1,5 @@
 //! The blend that a run over parts fills and asks.
-ghost use Rattle.std.specs.Prelude.{◌≡◌, ◌<◌, ◌≤◌, ◌^◌, ℕ, List, [], length, map, sum, IfOk, OnOk};
+ghost use Rattle.std.specs.Prelude.{◌≡◌, ◌<◌, ◌≤◌, ◌^◌, ℕ, List, [], length, map, sum, IfOk};
 ghost use Rattle.eb_base.specs.Document.{Doc};
 ghost use Rattle.eb_base.specs.Match.{answer};
 ghost use Rattle.eb_base.specs.Query.{Tree};

@@ -1,6 +1,6 @@
 #![tactic(auto, unfolding(crate::specs::Layout::place, crate::specs::Layout::start, crate::specs::Layout::size, crate::specs::Layout::pool_slot))]
 
-ghost use Rattle.std.specs.Prelude.{◌≡◌, ◌+◌, ◌*◌, ◌/◌, ◌%◌, ◌^◌, ◌<◌};
+ghost use Rattle.std.specs.Prelude.{◌≡◌, ◌+◌, ◌*◌, ◌%◌, ◌^◌, ◌<◌};
 ghost use Rattle.eb_base.specs.Setting.{words_of};
 ghost use Rattle.eb_place.specs.Layout.{place, pool_slot, pool_region, start, segment_words, IsInPool};
 ghost use Rattle.eb_place.specs.Layout.Slot.{slot};

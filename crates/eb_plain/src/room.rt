@@ -1,5 +1,4 @@
-ghost use Rattle.std.specs.Prelude.{◌≡◌, ℕ, ◌+◌, ◌*◌, ◌<◌, ◌≤◌, ◌^◌, ◌++◌, length, sum_by, IfOk, OnOk, bytes_eq};
-ghost use Rattle.std.specs.List.{list_any};
+ghost use Rattle.std.specs.Prelude.{◌≡◌, ◌+◌, ◌*◌, ◌<◌, ◌≤◌, ◌^◌, ◌++◌, length, sum_by, IfOk, OnOk};
 ghost use Rattle.eb_base.specs.Document.{IsDocument, most_tokens, most_bytes};
 ghost use Rattle.eb_place.specs.Postings.{count_of, distinct};
 ghost use Rattle.eb_place.specs.Room.{all_slices};

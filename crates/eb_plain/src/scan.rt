@@ -1,4 +1,4 @@
-ghost use Rattle.std.specs.Prelude.{◌≡◌, List, map, bytes_eq, IsTrue, ◌↔◌};
+ghost use Rattle.std.specs.Prelude.{◌≡◌, bytes_eq, IsTrue, ◌↔◌};
 ghost use Rattle.std.specs.List.{list_any, starts_with};
 ghost use Rattle.eb_base.specs.Query.{tree, parts_of, trees_of};
 ghost use Rattle.eb_base.specs.Match.{Matches, has_phrase, has_in_order, has_window};

@@ -4,7 +4,7 @@ use Rattle.std.proofs.lemmas.Fmt.{digits_decimal, digits_value-decimal, decimal_
 use Rattle.std.proofs.lemmas.Str.Parse.{IsNumeralModel, IsDigitsTest, numerals_by_fold}
 use Rattle.std.specs.Int.{IsInRange}
 use Rattle.std.specs.List.{AllByRecursion, position_or_len}
-use Rattle.eb_query.specs.Digits.{is_no_digit, value_after}
+use Rattle.eb_query.specs.Digits.{is_no_digit, decimal_after}
 
 or_false : (a b : Bool) → (a || b) ≡ false → (a ≡ false) × (b ≡ false)
 or_false true b h = cc
@@ -23,15 +23,15 @@ AreDigits ds = AllByRecursion (λ d. is_no_digit d ≡ false) ds
 digits_test : IsDigitsTest (λ ds. AreDigits ds)
 digits_test = record { empty = tt; parts = λ c cs h. (in_range c h.0, h.1); more = λ c cs r h. (digit c r, h) }
 
-pub own : IsNumeralModel (λ ds. AreDigits ds) (value_after 0)
-own = numerals_by_fold _ digits_test value_after (search rules)
+pub own : IsNumeralModel (λ ds. AreDigits ds) (decimal_after 0)
+own = numerals_by_fold _ digits_test decimal_after (search rules)
 
 -- one to k digits of this value
 pub record IsDecimal (k n : ℕ) (ds : List ℕ) : Type 0 where
   pub digits : AreDigits ds
   pub some : 1 ≤ length ds
   pub few : length ds ≤ k
-  pub value : value_after 0 ds ≡ n
+  pub value : decimal_after 0 ds ≡ n
 
 pub decimal_is : (k n : ℕ) → 0 < k → n < 10 ^ k → n < 2 ^ 64 → IsDecimal k n (decimal n)
 decimal_is k n some few small = record {

@@ -3,7 +3,7 @@ use Rattle.std.proofs.Common.{◌≡◌, ℕ, zero, suc, ◌+◌, nat_lt, Bool, 
 use Rattle.std.proofs.lemmas.Bool.{ltb-true, and_parts}
 use Rattle.eb_base.specs.Query.{Tree, trees_of, and_of, or_of, size, IsFormed, AreFormed, IsWellFormed, leaf_of, window_of, most_size, most_reach, since}
 use Rattle.eb_text.specs.Tokens.{tokens_of}
-use Rattle.eb_query.specs.Digits.{is_no_digit, value_after}
+use Rattle.eb_query.specs.Digits.{is_no_digit, decimal_after}
 use Rattle.eb_query.specs.Grammar.{Lexeme, opening, closing, minus, or_word, leaf, broken, IsUnary, a_leaf, a_minus, a_group, IsAnd, last, beside, IsOr, final, either, GivesTree}
 use Rattle.eb_query.specs.Lexemes.{Placed, is_blank, ends_run, text_lexeme, is_reach, reach_by, reach_of, window_lexeme, has_tilde, quoted_lexeme}
 use Rattle.eb_query.specs.Lexemes.{tilde_len, id_of, run_lexeme, of_leaf, quoted, bare, first, lexemes, is_quote}
@@ -100,12 +100,12 @@ window_sound (t ∷ u ∷ ts) w low high = (omega arith, low, high)
 reach_sound : (text : List ℕ) (n : ℕ) (bs : List ℕ) → IsSound (of_leaf (option_and_then (window_of (tokens_of text)) (reach_by n bs)))
 reach_sound text n bs = go (is_reach n bs) refl
   where
-    go : (b : Bool) → is_reach n bs ≡ b → IsSound (of_leaf (option_and_then (window_of (tokens_of text)) (cond b (Some (value_after 0 (take n bs))) None)))
+    go : (b : Bool) → is_reach n bs ≡ b → IsSound (of_leaf (option_and_then (window_of (tokens_of text)) (cond b (Some (decimal_after 0 (take n bs))) None)))
     go false e = tt
     go true e =
         let values = (and_parts _ _ (and_parts _ _ e).1).0 in
         let within = and_parts _ _ values in
-        window_sound (tokens_of text) (value_after 0 (take n bs)) (leb-true _ _ within.0) (leb-true _ _ within.1)
+        window_sound (tokens_of text) (decimal_after 0 (take n bs)) (leb-true _ _ within.0) (leb-true _ _ within.1)
 
 behind_sound : (text bs : List ℕ) → IsSound (window_lexeme text bs)
 unfolding window_lexeme reach_of

@@ -1,11 +1,11 @@
 -- Terms joined one after another.
 use Rattle.std.proofs.Common.{◌≡◌, ℕ, zero, suc, ◌+◌, List, [], ◌∷◌, ◌++◌, drop, Some, slice_get, refl, sym, ap, ◌∙◌, arith, drop-cons, append_assoc, append-nil}
 use Rattle.std.proofs.lemmas.Option.{slice_get_within, get_or_from_slice_get}
-use Rattle.eb_query.specs.Writing.{joined}
+use Rattle.eb_query.specs.Writing.{spaced_terms}
 use Rattle.eb_query.proofs.Tails.{joined_tail}
 use Rattle.eb_query.specs.Gaps.{and_gap}
 
-joined_step : (t : List ℕ) (ts : List (List ℕ)) (n : ℕ) → joined (t ∷ ts) ≡ t ++ joined_tail (suc n) ts
+joined_step : (t : List ℕ) (ts : List (List ℕ)) (n : ℕ) → spaced_terms (t ∷ ts) ≡ t ++ joined_tail (suc n) ts
 joined_step t [] n = sym (append-nil t)
 joined_step t (u ∷ ts) n = refl
 

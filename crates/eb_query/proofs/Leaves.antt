@@ -12,7 +12,7 @@ use Rattle.std.specs.Str.{IsUtf8, IsCharBoundary}
 use Rattle.std.specs.Str.Parse.{ParsesUnsigned}
 use Rattle.eb_base.specs.Query.{window_of}
 use Rattle.eb_text.specs.Tokens.{tokens_of}
-use Rattle.eb_query.specs.Digits.{is_no_digit, value_after}
+use Rattle.eb_query.specs.Digits.{is_no_digit, decimal_after}
 use Rattle.eb_query.specs.Grammar.{Lexeme}
 use Rattle.eb_query.specs.Lexemes.{is_quote, of_leaf, reach_by, reach_of, window_lexeme, has_tilde, quoted_lexeme, tilde_len, quoted, most_id, id_of}
 use Rattle.eb_query.proofs.Cuts.{rest_is, placed_at, quoted_some, quoted_part, quoted_window, tilde_digits}
@@ -88,11 +88,11 @@ parsed {E = E} ds r some few all parses =
     let within = found_within is_no_digit ds (position_or_len is_no_digit ds) refl in
     let whole : position_or_len is_no_digit ds ≡ length ds = omega arith in
     rw (eq-eqb (position_or_len is_no_digit ds) (length ds) whole, le-leb 1 (length ds) some, le-leb (length ds) 20 few)
-    (go r (parse_digits own 64 ds r parses (all_digits ds all)) (nat_le (value_after 0 ds) most_id) refl)
+    (go r (parse_digits own 64 ds r parses (all_digits ds all)) (nat_le (decimal_after 0 ds) most_id) refl)
   where
-    go : (r : Result ℕ E) → OkIff r ((0 < length ds) × (value_after 0 ds < 2 ^ 64)) (value_after 0 ds) → (b : Bool) → nat_le (value_after 0 ds) most_id ≡ b
-        → result_ok r ≡ cond (nat_le (value_after 0 ds) most_id) (Some (value_after 0 ds)) None
+    go : (r : Result ℕ E) → OkIff r ((0 < length ds) × (decimal_after 0 ds < 2 ^ 64)) (decimal_after 0 ds) → (b : Bool) → nat_le (decimal_after 0 ds) most_id ≡ b
+        → result_ok r ≡ cond (nat_le (decimal_after 0 ds) most_id) (Some (decimal_after 0 ds)) None
     go (Ok x) k true e = rw e (ap (λ (n : ℕ). Some n) k.1)
-    go (Ok x) k false e = let small = k.0.1 in absurd (true≢false (sym (le-leb (value_after 0 ds) most_id (omega arith)) ∙ e))
+    go (Ok x) k false e = let small = k.0.1 in absurd (true≢false (sym (le-leb (decimal_after 0 ds) most_id (omega arith)) ∙ e))
     go (Err x) k true e = let small = leb-true _ _ e in absurd (k (omega arith, omega arith))
     go (Err x) k false e = rw e refl

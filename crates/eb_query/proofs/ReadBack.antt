@@ -4,7 +4,7 @@ use Rattle.eb_base.specs.Query.{Tree, IsWellFormed}
 use Rattle.eb_query.specs.Grammar.{Lexeme, GivesTree}
 use Rattle.eb_query.specs.Nesting.{NestsWithin}
 use Rattle.eb_query.specs.Lexemes.{lexemes}
-use Rattle.eb_query.specs.Digits.{value_after}
+use Rattle.eb_query.specs.Digits.{decimal_after}
 use Rattle.eb_query.specs.Number.{digits_len, number_in_line, is_blank_or_end, HasQueryNumber, lexemes_of_line}
 use Rattle.eb_query.specs.Reading.{asks, IsOutcome, ReadsAs, with_number}
 use Rattle.eb_query.specs.Writing.{line_text, query_text, AreNamed}
@@ -23,7 +23,7 @@ module _ (k : ℕ) (ds text : List ℕ) (d : IsDecimal 4 k ds) where
 
   line_number : number_in_line (63 ∷ ds ++ 32 ∷ text) ≡ k
   unfolding number_in_line
-  line_number = ap (λ (n : ℕ). value_after 0 (take n (ds ++ 32 ∷ text))) line_digits ∙ ap (value_after 0) (front_taken ds (32 ∷ text)) ∙ d.value
+  line_number = ap (λ (n : ℕ). decimal_after 0 (take n (ds ++ 32 ∷ text))) line_digits ∙ ap (decimal_after 0) (front_taken ds (32 ∷ text)) ∙ d.value
 
   line_rest : drop (1 + digits_len (63 ∷ ds ++ 32 ∷ text)) (63 ∷ ds ++ 32 ∷ text) ≡ 32 ∷ text
   line_rest =

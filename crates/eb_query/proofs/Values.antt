@@ -8,7 +8,7 @@ use Rattle.std.specs.List.{position_or_len}
 use Rattle.std.specs.Str.{IsCharBoundary}
 use Rattle.std.proofs.Common.{not}
 use Rattle.eb_query.proofs.Cuts.{rest_is, placed_at, blank_small}
-use Rattle.eb_query.specs.Digits.{value_after, is_no_digit}
+use Rattle.eb_query.specs.Digits.{decimal_after, is_no_digit}
 use Rattle.eb_query.specs.Number.{digits_len, number_in_line, is_blank_or_end}
 
 -- more than the value of n bytes
@@ -32,16 +32,16 @@ cap_fifteen = lit≤ tt
 pub cap_small : (i : ℕ) → i < 16 → cap i ≤ 10 ^ 17
 cap_small i h = let e : 15 - i + i ≡ 15 = omega arith in let r : cap i ≤ cap 15 = rw e at (cap_rises i (15 - i)) in let f = cap_fifteen in omega arith
 
-pub value_next : (ds : List ℕ) (i v d : ℕ) → i < length ds → d ≡ get_or ds i 0 → value_after v (drop i ds) ≡ value_after (10 * v + (d - 48)) (drop (i + 1) ds)
+pub value_next : (ds : List ℕ) (i v d : ℕ) → i < length ds → d ≡ get_or ds i 0 → decimal_after v (drop i ds) ≡ decimal_after (10 * v + (d - 48)) (drop (i + 1) ds)
 value_next ds i v d h e = rw (add-one, drop-cons ds i 0 h, ← e) refl
 
 pub digits_is : (line : List ℕ) (n : ℕ) → n ≡ position_or_len is_no_digit (take (length line - 1) (drop 1 line)) → n ≡ digits_len line
 unfolding digits_len
 digits_is line n h = h ∙ ap (position_or_len is_no_digit) (rest_is line 1)
 
-pub number_is : (line : List ℕ) (n v : ℕ) → n ≡ digits_len line → v ≡ value_after 0 (take (n + 1 - 1) (drop 1 line)) → v ≡ number_in_line line
+pub number_is : (line : List ℕ) (n v : ℕ) → n ≡ digits_len line → v ≡ decimal_after 0 (take (n + 1 - 1) (drop 1 line)) → v ≡ number_in_line line
 unfolding number_in_line
-number_is line n v e h = let f : n + 1 - 1 ≡ digits_len line = omega (arith, e) in h ∙ ap (λ (k : ℕ). value_after 0 (take k (drop 1 line))) f
+number_is line n v e h = let f : n + 1 - 1 ≡ digits_len line = omega (arith, e) in h ∙ ap (λ (k : ℕ). decimal_after 0 (take k (drop 1 line))) f
 
 pub digits_within : (line : List ℕ) → 0 < length line → digits_len line + 1 ≤ length line
 unfolding digits_len

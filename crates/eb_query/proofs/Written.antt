@@ -7,7 +7,7 @@ use Rattle.eb_base.specs.Query.{Tree, word, phrase, window, since, negation, con
 use Rattle.eb_query.specs.Grammar.{Lexeme, opening, closing, minus, or_word, leaf}
 use Rattle.eb_text.specs.Tokens.{tokens_of}
 use Rattle.eb_query.specs.Lexemes.{Placed, is_blank, is_run_end, text_lexeme, window_lexeme, quoted_lexeme, tilde_len, most_id, run_lexeme, of_leaf, bare, first, lexemes, is_quote}
-use Rattle.eb_query.specs.Writing.{joined, in_quotes, window_text, since_text, in_parentheses, unary_text, part_text, and_text}
+use Rattle.eb_query.specs.Writing.{spaced_terms, in_quotes, window_text, since_text, in_parentheses, unary_text, part_text, and_text}
 use Rattle.eb_query.specs.Writing.{and_more_text, or_text, or_more_text, query_text, IsNamed, AreNamed, AllNamed}
 use Rattle.eb_query.proofs.WrittenLexemes.{unary_lexemes, part_lexemes, and_lexemes, or_lexemes, or_more_lexemes, query_lexemes}
 use Rattle.eb_query.proofs.Decimals.{IsDecimal, decimal_is, digits_first, front_taken, front_dropped}
@@ -101,11 +101,11 @@ window_leaf (t ∷ []) w h = absurd (omega arith)
 window_leaf (t ∷ u ∷ ts) w h = refl
 
 -- the quoted terms of a window, a tilde and the digits of its reach
-window_cut : (ts : List (List ℕ)) (w : ℕ) (ds rest : List ℕ) → 2 ≤ length ts → 1 ≤ w → w ≤ most_reach → IsDecimal 4 w ds → IsNamed (joined ts) ts → is_run_end rest ≡ true
-    → Cuts ((in_quotes (joined ts) ++ 126 ∷ ds) ++ rest) (leaf (window ts w) ∷ []) rest
+window_cut : (ts : List (List ℕ)) (w : ℕ) (ds rest : List ℕ) → 2 ≤ length ts → 1 ≤ w → w ≤ most_reach → IsDecimal 4 w ds → IsNamed (spaced_terms ts) ts → is_run_end rest ≡ true
+    → Cuts ((in_quotes (spaced_terms ts) ++ 126 ∷ ds) ++ rest) (leaf (window ts w) ∷ []) rest
 unfolding window_lexeme
 window_cut ts w ds rest several low high d h end =
-    let text = joined ts in
+    let text = spaced_terms ts in
     let behind = 126 ∷ ds ++ rest in
     let n : 1 + length ds ≡ suc (length ds) = omega arith in
     let e : (in_quotes text ++ 126 ∷ ds) ++ rest ≡ 34 ∷ text ++ 34 ∷ behind = simp append_assoc in
@@ -159,7 +159,7 @@ since_text_cut x rest h end = since_cut x (decimal x) rest h (decimal_is 20 x (o
 mutual
   unary_cut : (t : Tree) (rest : List ℕ) → IsFormed t → AreNamed t → is_run_end rest ≡ true → Cuts (unary_text t ++ rest) (unary_lexemes t) rest
   unary_cut (word t) rest f h end = leaf_cut t rest (t ∷ []) (word t) h refl end
-  unary_cut (phrase ts) rest f h end = leaf_cut (joined ts) rest ts (phrase ts) h (phrase_leaf ts f) end
+  unary_cut (phrase ts) rest f h end = leaf_cut (spaced_terms ts) rest ts (phrase ts) h (phrase_leaf ts f) end
   unary_cut (window ts w) rest f h end = window_text_cut ts w rest f h end
   unary_cut (since x) rest f h end = since_text_cut x rest h end
   unary_cut (negation t) rest f h end = minus_then (unary_text t) rest (unary_lexemes t) (unary_cut t rest f h end)
@@ -168,7 +168,7 @@ mutual
 
   part_cut : (t : Tree) (rest : List ℕ) → IsFormed t → AreNamed t → is_run_end rest ≡ true → Cuts (part_text t ++ rest) (part_lexemes t) rest
   part_cut (word t) rest f h end = leaf_cut t rest (t ∷ []) (word t) h refl end
-  part_cut (phrase ts) rest f h end = leaf_cut (joined ts) rest ts (phrase ts) h (phrase_leaf ts f) end
+  part_cut (phrase ts) rest f h end = leaf_cut (spaced_terms ts) rest ts (phrase ts) h (phrase_leaf ts f) end
   part_cut (window ts w) rest f h end = window_text_cut ts w rest f h end
   part_cut (since x) rest f h end = since_text_cut x rest h end
   part_cut (negation t) rest f h end = minus_then (unary_text t) rest (unary_lexemes t) (unary_cut t rest f h end)

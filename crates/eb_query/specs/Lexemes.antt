@@ -6,7 +6,7 @@ use Rattle.std.specs.List.{position_or_len, starts_with}
 use Rattle.std.specs.Str.{bytes_eq}
 use Rattle.eb_base.specs.Query.{Tree, since, leaf_of, window_of, most_reach}
 use Rattle.eb_text.specs.Tokens.{tokens_of}
-use Rattle.eb_query.specs.Digits.{is_no_digit, value_after}
+use Rattle.eb_query.specs.Digits.{is_no_digit, decimal_after}
 use Rattle.eb_query.specs.Grammar.{Lexeme, opening, closing, minus, or_word, leaf, broken}
 
 -- a lexeme, and the place of its first byte in the line, counted from 1
@@ -44,11 +44,11 @@ is_run_end (b ∷ bs) = ends_run b
 -- what ends a run behind them, or nothing
 abbrev pub is_reach : ℕ → List ℕ → Bool
 is_reach n bs =
-    (nat_le 1 n && nat_le n 4) && ((nat_le 1 (value_after 0 (take n bs)) && nat_le (value_after 0 (take n bs)) most_reach) && is_run_end (drop n bs))
+    (nat_le 1 n && nat_le n 4) && ((nat_le 1 (decimal_after 0 (take n bs)) && nat_le (decimal_after 0 (take n bs)) most_reach) && is_run_end (drop n bs))
 
 -- the reach that the first n bytes write, if they do
 abbrev pub reach_by : ℕ → List ℕ → Option ℕ
-reach_by n bs = if is_reach n bs then Some (value_after 0 (take n bs)) else None
+reach_by n bs = if is_reach n bs then Some (decimal_after 0 (take n bs)) else None
 
 -- the reach that the digits in front write, if they do
 unfoldable pub reach_of : List ℕ → Option ℕ
@@ -89,11 +89,11 @@ most_id = 18446744073709551615
 -- the bytes are one to twenty digits of a value that an id may have
 abbrev pub is_id : List ℕ → Bool
 is_id ds =
-    (nat_le 1 (length ds) && nat_le (length ds) 20) && (eqb (position_or_len is_no_digit ds) (length ds) && nat_le (value_after 0 ds) most_id)
+    (nat_le 1 (length ds) && nat_le (length ds) 20) && (eqb (position_or_len is_no_digit ds) (length ds) && nat_le (decimal_after 0 ds) most_id)
 
 -- the id that the bytes write, if they do
 unfoldable pub id_of : List ℕ → Option ℕ
-id_of ds = if is_id ds then Some (value_after 0 ds) else None
+id_of ds = if is_id ds then Some (decimal_after 0 ds) else None
 
 -- a run: `OR` is the operator, one that begins with `since:` is a bound, any other is a text
 unfoldable pub run_lexeme : List ℕ → Lexeme

@@ -1,7 +1,7 @@
 -- The number of a line, which follows its first byte.
 use Rattle.std.specs.Prelude.{◌≡◌, ℕ, ◌+◌, ◌≤◌, Bool, true, List, [], ◌∷◌, take, drop}
 use Rattle.std.specs.List.{position_or_len}
-use Rattle.eb_query.specs.Digits.{is_no_digit, value_after}
+use Rattle.eb_query.specs.Digits.{is_no_digit, decimal_after}
 use Rattle.eb_query.specs.Lexemes.{Placed, is_blank, lexemes}
 use Rattle.eb_base.specs.Match.{most_matches}
 
@@ -11,7 +11,7 @@ digits_len line = position_or_len is_no_digit (drop 1 line)
 
 -- the value of those digits
 unfoldable pub number_in_line : List ℕ → ℕ
-number_in_line line = value_after 0 (take (digits_len line) (drop 1 line))
+number_in_line line = decimal_after 0 (take (digits_len line) (drop 1 line))
 
 -- a blank comes first, or there is no byte
 abbrev pub is_blank_or_end : List ℕ → Bool

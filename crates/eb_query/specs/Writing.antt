@@ -7,10 +7,10 @@ use Rattle.eb_base.specs.Query.{Tree, word, phrase, window, since, negation, con
 use Rattle.eb_text.specs.Tokens.{tokens_of}
 
 -- terms with one space between
-abbrev pub joined : List (List ℕ) → List ℕ
-joined [] = []
-joined (t ∷ []) = t
-joined (t ∷ u ∷ ts) = t ++ 32 ∷ joined (u ∷ ts)
+abbrev pub spaced_terms : List (List ℕ) → List ℕ
+spaced_terms [] = []
+spaced_terms (t ∷ []) = t
+spaced_terms (t ∷ u ∷ ts) = t ++ 32 ∷ spaced_terms (u ∷ ts)
 
 -- the text between two quotation marks
 abbrev pub in_quotes : List ℕ → List ℕ
@@ -18,7 +18,7 @@ in_quotes text = 34 ∷ text ++ 34 ∷ []
 
 -- the quoted terms of a window, a tilde and the reach in decimal
 abbrev pub window_text : List (List ℕ) → ℕ → List ℕ
-window_text ts w = in_quotes (joined ts) ++ 126 ∷ decimal w
+window_text ts w = in_quotes (spaced_terms ts) ++ 126 ∷ decimal w
 
 -- `since:` and the number of a bound in decimal
 abbrev pub since_text : ℕ → List ℕ
@@ -32,7 +32,7 @@ abbrev mutual
   -- a query as a part of an and, and behind a minus: an and and an or stand in parentheses
   pub unary_text : Tree → List ℕ
   unary_text (word t) = in_quotes t
-  unary_text (phrase ts) = in_quotes (joined ts)
+  unary_text (phrase ts) = in_quotes (spaced_terms ts)
   unary_text (window ts w) = window_text ts w
   unary_text (since x) = since_text x
   unary_text (negation t) = 45 ∷ unary_text t
@@ -42,7 +42,7 @@ abbrev mutual
   -- a query as a part of an or: only an or stands in parentheses
   pub part_text : Tree → List ℕ
   part_text (word t) = in_quotes t
-  part_text (phrase ts) = in_quotes (joined ts)
+  part_text (phrase ts) = in_quotes (spaced_terms ts)
   part_text (window ts w) = window_text ts w
   part_text (since x) = since_text x
   part_text (negation t) = 45 ∷ unary_text t
@@ -72,7 +72,7 @@ abbrev mutual
 -- a query alone: no parentheses round it
 abbrev pub query_text : Tree → List ℕ
 query_text (word t) = in_quotes t
-query_text (phrase ts) = in_quotes (joined ts)
+query_text (phrase ts) = in_quotes (spaced_terms ts)
 query_text (window ts w) = window_text ts w
 query_text (since x) = since_text x
 query_text (negation t) = 45 ∷ unary_text t
@@ -92,8 +92,8 @@ abbrev mutual
   -- the text of each word, phrase and window can be named, and each bound is on an id that can be
   pub AreNamed : Tree → Type 0
   AreNamed (word t) = IsNamed t (t ∷ [])
-  AreNamed (phrase ts) = IsNamed (joined ts) ts
-  AreNamed (window ts w) = IsNamed (joined ts) ts
+  AreNamed (phrase ts) = IsNamed (spaced_terms ts) ts
+  AreNamed (window ts w) = IsNamed (spaced_terms ts) ts
   AreNamed (since x) = x ≤ most_id
   AreNamed (negation t) = AreNamed t
   AreNamed (conjunction ts) = AllNamed ts

@@ -1,6 +1,6 @@
 ghost use Rattle.std.specs.Prelude.{◌≡◌, ◌≤◌, length};
 ghost use Rattle.std.specs.List.{position_or_len};
-ghost use Rattle.eb_query.specs.Digits.{value_after, is_no_digit};
+ghost use Rattle.eb_query.specs.Digits.{decimal_after, is_no_digit};
 
 // Whether the byte is no ASCII digit.
 fn is_no_digit_byte(byte: u8) -> bool
@@ -24,7 +24,7 @@ pub fn digits_at(bytes: &[u8]) -> usize
 /// The value of at most 16 digits.
 pub fn value_of(digits: &[u8]) -> u64
     requires { length digits.now ≤ 16 }
-    ensures { result ≡ value_after 0 digits.now }
+    ensures { result ≡ decimal_after 0 digits.now }
 {
     let mut value: u64 = 0;
     for digit in digits {

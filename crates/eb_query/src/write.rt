@@ -1,6 +1,6 @@
 ghost use Rattle.std.specs.Prelude.{◌≡◌, ◌≤◌, ◌++◌, IfOk, OnOk, decimal};
 ghost use Rattle.eb_base.specs.Query.{tree, trees_of, parts_of, IsWellFormed};
-ghost use Rattle.eb_query.specs.Writing.{joined, in_quotes, window_text, since_text, unary_text, part_text, and_text, or_text, line_text};
+ghost use Rattle.eb_query.specs.Writing.{spaced_terms, in_quotes, window_text, since_text, unary_text, part_text, and_text, or_text, line_text};
 ghost use Rattle.eb_query.specs.Gaps.{and_gap, or_gap};
 ghost use Rattle.eb_base.specs.Match.{most_matches};
 
@@ -37,7 +37,7 @@ fn put_or(out: &mut Vec<u8>, at: usize) -> Result<(), NoMemory>
 
 // Puts the terms, with a space between.
 fn put_terms(out: &mut Vec<u8>, terms: &Terms) -> Result<(), NoMemory>
-    ensures { OnOk result (out.new.items ≡ out.old.items ++ joined terms.now) }
+    ensures { OnOk result (out.new.items ≡ out.old.items ++ spaced_terms terms.now) }
 {
     for at in 0..terms.len() {
         put_gap(out, at)?;
@@ -48,7 +48,7 @@ fn put_terms(out: &mut Vec<u8>, terms: &Terms) -> Result<(), NoMemory>
 
 // Puts the terms between two quotation marks, with a space between.
 fn put_quoted(out: &mut Vec<u8>, terms: &Terms) -> Result<(), NoMemory>
-    ensures { OnOk result (out.new.items ≡ out.old.items ++ in_quotes (joined terms.now)) }
+    ensures { OnOk result (out.new.items ≡ out.old.items ++ in_quotes (spaced_terms terms.now)) }
 {
     out.push(b'"')?;
     put_terms(out, terms)?;

@@ -1,9 +1,9 @@
-ghost use Rattle.std.specs.Prelude.{◌≡◌, List, map, IfOk, Some, slice_get, string_bytes};
+ghost use Rattle.std.specs.Prelude.{◌≡◌, map, IfOk, Some, slice_get};
 ghost use Rattle.std.specs.List.{AllZip};
 ghost use Rattle.eb_doc.specs.DocumentLine.{document_of};
 ghost use Rattle.eb_rounds.specs.Inputs.{ReadsInput, ReadsLine, query_line};
 ghost use Rattle.eb_lines.specs.Reads.{IsOfDocument};
-ghost use Rattle.eb_rounds.specs.Works.{first_input, first_line, then_line, asked_reading, given_reading, asked_entry, given_entry};
+ghost use Rattle.eb_rounds.specs.Works.{first_line, then_line, asked_reading, given_reading, asked_entry, given_entry};
 
 use crate::held::{FirstInput, FirstLine, ThenInput, ThenLine};
 use crate::tasks::{Asked, AskedWork, Given, GivenWork};

@@ -12,7 +12,7 @@ use Rattle.eb_serve.specs.declared.rule.View.TheVariants.{Opening, At}
 use Rattle.eb_serve.specs.Jobs.{answer_pair}
 use Rattle.eb_serve.specs.Rule.{idle, IsPutter}
 use Rattle.eb_serve.specs.Rule.{IsMadeAnswer, IsOpening, AnswersOf, KeepsAnswers}
-use Rattle.eb_serve.specs.Steps.{index_of_view, Moves, opened, answer_in, answer_out, IsTakenAnswer}
+use Rattle.eb_serve.specs.Steps.{index_of_view, Moves, opened, after_answer, answer_out, IsTakenAnswer}
 use Rattle.eb_serve.proofs.Weighing.{weigh_last, weigh_answers_last}
 use Rattle.eb_serve.proofs.Moving.{alone_at, is_at, not_opening, seat_at, moved, joined, first_seats, moves_at}
 
@@ -32,22 +32,22 @@ answers_at items views by index h keeps at =
 
 -- the queue of answers: push, pop, split
 pub puts_answer : (n by : ℕ) (v : View) (x : Answer) (index : Words) (h : Hand) → v ≡ At index h → h.puts ≡ true → IsMadeAnswer index x
-    → Pushes KeepsAnswers n by v x (Moves v (λ k. answer_in k x))
-puts_answer n by v x index h is puts made = subst (λ (u : View). Pushes KeepsAnswers n by u x (Moves u (λ k. answer_in k x))) (sym is) (λ items views room keeps at.
+    → Pushes KeepsAnswers n by v x (Moves v (λ k. after_answer k x))
+puts_answer n by v x index h is puts made = subst (λ (u : View). Pushes KeepsAnswers n by u x (Moves u (λ k. after_answer k x))) (sym is) (λ items views room keeps at.
     let r = answers_at items views by index h keeps at in
     let b = r.0 in (
-      At index (answer_in h x),
+      At index (after_answer h x),
       inr (
         index,
         record {
           clerk = b.clerk;
           made = All-push (IsMadeAnswer index) items x b.made made;
-          balanced = moved index (IsPutter b.clerk) (map answer_pair items) (map answer_pair (items ++ x ∷ [])) 0 0 views by h (answer_in h x) b.balanced at
+          balanced = moved index (IsPutter b.clerk) (map answer_pair items) (map answer_pair (items ++ x ∷ [])) 0 0 views by h (after_answer h x) b.balanced at
               (record { puts = r.1.puts; takes = λ e. absurd (true≢false (sym puts ∙ e)) })
               (λ g. let a = weigh_last g h.put (answer_pair x) in let c = weigh_answers_last g items x in omega (arith, a, c)) (omega arith);
         },
       ),
-      moves_at (λ k. answer_in k x) index h,
+      moves_at (λ k. after_answer k x) index h,
     ))
 
 pub takes_answer : (by : ℕ) (v : View) (index : Words) (h : Hand) → v ≡ At index h → h.puts ≡ false

@@ -12,7 +12,7 @@ use Rattle.eb_serve.specs.declared.rule.Hand.{Hand}
 use Rattle.eb_serve.specs.declared.rule.View.{View}
 use Rattle.eb_serve.specs.declared.rule.View.TheVariants.{Opening, At}
 use Rattle.eb_serve.specs.Jobs.{pair_of}
-use Rattle.eb_serve.specs.Rule.{idle, pairs_of, stops_of, weigh, hand_of, Balanced, IsTaker}
+use Rattle.eb_serve.specs.Rule.{idle, job_pairs, stops_of, weigh, hand_of, Balanced, IsTaker}
 use Rattle.eb_serve.specs.Rule.{IsMadeTask, IsOpening, JobsOf, KeepsJobs}
 use Rattle.eb_serve.specs.Steps.{put_in, taken_out, index_of_view, Moves, opened, IsTaken, MayPut}
 use Rattle.eb_serve.proofs.Weighing.{weigh_last, weigh_tasks_last, stops_last, stops_first, rising_last, total_zero}
@@ -37,7 +37,7 @@ put_kind clerk by h (a_job j) is puts may = record { puts = λ e. let o = is.put
 put_kind clerk by h Stop is puts may = record { puts = is.puts; takes = λ e. absurd (true≢false (sym puts ∙ e)) }
 
 put_pairs : (g : Pair → ℕ) (h : Hand) (x : Task) (items : List Task)
-    → (weigh g (put_in h x).put + weigh g h.taken) + weigh g (pairs_of items) ≡ (weigh g h.put + weigh g (put_in h x).taken) + weigh g (pairs_of (items ++ x ∷ []))
+    → (weigh g (put_in h x).put + weigh g h.taken) + weigh g (job_pairs items) ≡ (weigh g h.put + weigh g (put_in h x).taken) + weigh g (job_pairs (items ++ x ∷ []))
 put_pairs g h (a_job j) items = let a = weigh_last g h.put (pair_of j) in let b = weigh_tasks_last g items (a_job j) in omega (arith, a, b)
 put_pairs g h Stop items = let b = weigh_tasks_last g items Stop in omega (arith, b)
 
@@ -51,7 +51,7 @@ taken_kind clerk by h (a_job j) is = record { puts = is.puts; takes = is.takes }
 taken_kind clerk by h Stop is = record { puts = is.puts; takes = is.takes }
 
 taken_pairs : (g : Pair → ℕ) (h : Hand) (x : Task) (items : List Task)
-    → (weigh g (taken_out h x).put + weigh g h.taken) + weigh g (pairs_of (x ∷ items)) ≡ (weigh g h.put + weigh g (taken_out h x).taken) + weigh g (pairs_of items)
+    → (weigh g (taken_out h x).put + weigh g h.taken) + weigh g (job_pairs (x ∷ items)) ≡ (weigh g h.put + weigh g (taken_out h x).taken) + weigh g (job_pairs items)
 taken_pairs g h (a_job j) items = let a = weigh_last g h.taken (pair_of j) in omega (arith, a)
 taken_pairs g h Stop items = omega arith
 
@@ -88,7 +88,7 @@ puts_task n by v x index h is puts made may = subst (λ (u : View). Pushes Keeps
         record {
           clerk = b.clerk;
           made = All-push (IsMadeTask index) items x b.made made;
-          balanced = moved index (IsTaker b.clerk) (pairs_of items) (pairs_of (items ++ x ∷ [])) (stops_of items) (stops_of (items ++ x ∷ []))
+          balanced = moved index (IsTaker b.clerk) (job_pairs items) (job_pairs (items ++ x ∷ [])) (stops_of items) (stops_of (items ++ x ∷ []))
               views by h (put_in h x) b.balanced at (put_kind b.clerk by h x r.1 puts may) (λ g. put_pairs g h x items) (put_stops h x items);
         },
       ),
@@ -105,7 +105,7 @@ takes_task by v index h is = subst (λ (u : View). Pops KeepsJobs by u (λ x w. 
         record {
           clerk = b.clerk;
           made = All-tail (IsMadeTask index) x items b.made;
-          balanced = moved index (IsTaker b.clerk) (pairs_of (x ∷ items)) (pairs_of items) (stops_of (x ∷ items)) (stops_of items) views by h (taken_out h x) b.balanced at
+          balanced = moved index (IsTaker b.clerk) (job_pairs (x ∷ items)) (job_pairs items) (stops_of (x ∷ items)) (stops_of items) views by h (taken_out h x) b.balanced at
               (taken_kind b.clerk by h x r.1) (λ g. taken_pairs g h x items) (taken_stops h x items);
         },
       ),
@@ -114,7 +114,7 @@ takes_task by v index h is = subst (λ (u : View). Pops KeepsJobs by u (λ x w. 
         λ d k e. subst (λ (u : View). IsMadeTask (index_of_view index u) x × ((hand_of u).puts ≡ true → (hand_of u).stops_put ≡ 0 → stops_of (x ∷ []) ≡ 0)) e (
           All-head (IsMadeTask index) x items b.made,
           λ puts none.
-              let z = no_stop index b.clerk (pairs_of (x ∷ items)) (stops_of (x ∷ items)) views by h b.balanced at puts none in
+              let z = no_stop index b.clerk (job_pairs (x ∷ items)) (stops_of (x ∷ items)) views by h b.balanced at puts none in
               let s = stops_first x items in
               omega (arith, z, s),
         ),
@@ -133,9 +133,9 @@ splits_jobs by v index is items views keeps at = ⊎_elim (λ (e : v ≡ Opening
         let at' : get_elem? views by ≡ some (At index h) = at ∙ ap (λ (u : View). some u) e in
         let r = jobs_at items views by index h keeps at' in
         let b = r.0 in
-        let same = moved index (IsTaker b.clerk) (pairs_of items) (pairs_of items) (stops_of items) (stops_of items) views by h h b.balanced at' r.1
+        let same = moved index (IsTaker b.clerk) (job_pairs items) (job_pairs items) (stops_of items) (stops_of items) views by h h b.balanced at' r.1
         (λ g. omega arith) (omega arith) in
-        let more = joined index (IsTaker b.clerk) (pairs_of items) (stops_of items) (set views by (At index h)) false same (idle_taker b.clerk) in
+        let more = joined index (IsTaker b.clerk) (job_pairs items) (stops_of items) (set views by (At index h)) false same (idle_taker b.clerk) in
         subst (λ (u : View). KeepsJobs items (set views by (At index (opened true u)) ++ At index (idle false) ∷ [])) (sym e)
         (inr (index, record { clerk = b.clerk; made = b.made; balanced = more }))
 

@@ -10,7 +10,7 @@ use Rattle.eb_serve.specs.declared.rule.Pair.{Pair}
 use Rattle.eb_serve.specs.declared.rule.Hand.{Hand}
 use Rattle.eb_serve.specs.declared.rule.View.{View}
 use Rattle.eb_serve.specs.Jobs.{answer_pair}
-use Rattle.eb_serve.specs.Rule.{pairs_of, stops_of, weigh, hand_of, total, IsAbove, IsRising}
+use Rattle.eb_serve.specs.Rule.{job_pairs, stops_of, weigh, hand_of, total, IsAboveEach, IsRising}
 
 pub total_set : (f : Hand → ℕ) (views : List View) (by : ℕ) (v w : View) → get_elem? views by ≡ some v → total f (set views by w) + f (hand_of v) ≡ total f views + f (hand_of w)
 total_set f [] by v w e = absurd (some-ne-none v (sym e))
@@ -27,14 +27,14 @@ weigh_last g (x ∷ xs) p = let h = weigh_last g xs p in omega (arith, h)
 
 -- how much the task's pair weighs
 abbrev pub weight : (Pair → ℕ) → Task → ℕ
-weight g t = weigh g (pairs_of (t ∷ []))
+weight g t = weigh g (job_pairs (t ∷ []))
 
-pub weigh_tasks_last : (g : Pair → ℕ) (ts : List Task) (t : Task) → weigh g (pairs_of (ts ++ t ∷ [])) ≡ weigh g (pairs_of ts) + weight g t
+pub weigh_tasks_last : (g : Pair → ℕ) (ts : List Task) (t : Task) → weigh g (job_pairs (ts ++ t ∷ [])) ≡ weigh g (job_pairs ts) + weight g t
 weigh_tasks_last g [] t = omega arith
 weigh_tasks_last g (a_job j ∷ ts) t = let h = weigh_tasks_last g ts t in omega (arith, h)
 weigh_tasks_last g (Stop ∷ ts) t = weigh_tasks_last g ts t
 
-pub weigh_tasks_first : (g : Pair → ℕ) (t : Task) (ts : List Task) → weigh g (pairs_of (t ∷ ts)) ≡ weight g t + weigh g (pairs_of ts)
+pub weigh_tasks_first : (g : Pair → ℕ) (t : Task) (ts : List Task) → weigh g (job_pairs (t ∷ ts)) ≡ weight g t + weigh g (job_pairs ts)
 weigh_tasks_first g (a_job j) ts = omega arith
 weigh_tasks_first g Stop ts = omega arith
 
@@ -51,7 +51,7 @@ pub weigh_answers_last : (g : Pair → ℕ) (xs : List Answer) (a : Answer) → 
 weigh_answers_last g [] a = omega arith
 weigh_answers_last g (x ∷ xs) a = let h = weigh_answers_last g xs a in omega (arith, h)
 
-pub rising_last : (ps : List Pair) (p : Pair) → IsRising ps → IsAbove p.number ps → IsRising (ps ++ p ∷ [])
+pub rising_last : (ps : List Pair) (p : Pair) → IsRising ps → IsAboveEach p.number ps → IsRising (ps ++ p ∷ [])
 rising_last [] p r a = (All-nil _, tt)
 rising_last (x ∷ xs) p r a = (All-push (λ q. x.number < q.number) xs p r.0 (All-head (λ q. q.number < p.number) x xs a), rising_last xs p r.1 (All-tail (λ q. q.number < p.number) x xs a))
 

@@ -93,8 +93,8 @@ abbrev pub with_answer : WorkerBook → Pair → WorkerBook
 with_answer w p = record { queues = w.queues; index = w.index; taken = w.taken; stops = w.stops; put = w.put ++ p ∷ [] }
 
 -- the worker is one of these queues and of this index
-abbrev pub IsReady : Queues → Words → WorkerBook → Type 0
-IsReady queues index w = (w.queues ≡ queues) × (w.index ≡ index)
+abbrev pub IsWorkerOf : Queues → Words → WorkerBook → Type 0
+IsWorkerOf queues index w = (w.queues ≡ queues) × (w.index ≡ index)
 
 -- the clerk is that of these queues and of this index, and has put no stop
 abbrev pub IsOpen : Queues → Words → ClerkBook → Type 0

@@ -1,7 +1,7 @@
 -- What a job and an answer are to a contract.
 use Rattle.std.specs.Prelude.{ℕ}
 use Rattle.eb_cursor.specs.declared.frame.Frame.{Frame}
-use Rattle.eb_engine.specs.Tokens.{Token}
+use Rattle.eb_engine.specs.Tokens.{HistoryToken}
 use Rattle.eb_serve.specs.declared.job.Job.{Job}
 use Rattle.eb_serve.specs.declared.job.Answer.{Answer}
 use Rattle.eb_serve.specs.declared.rule.Pair.{Pair}
@@ -19,7 +19,7 @@ abbrev pub asking : Job → Frame
 asking j = j.frame
 
 -- a job's reader
-abbrev pub asker : Job → Token
+abbrev pub asker : Job → HistoryToken
 asker j = j.reader
 
 -- the pair of an answer
@@ -31,5 +31,5 @@ abbrev pub answering : Answer → Frame
 answering a = a.frame
 
 -- an answer's reader
-abbrev pub answerer : Answer → Token
+abbrev pub answerer : Answer → HistoryToken
 answerer a = a.reader

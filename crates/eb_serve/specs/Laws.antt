@@ -10,7 +10,7 @@ use Rattle.eb_serve.specs.declared.rule.Hand.{Hand}
 use Rattle.eb_serve.specs.declared.rule.View.{View}
 use Rattle.eb_serve.specs.declared.rule.View.TheVariants.{At}
 use Rattle.eb_serve.specs.Jobs.{answer_pair}
-use Rattle.eb_serve.specs.Rule.{pairs_of, weigh, total, JobsOf, AnswersOf}
+use Rattle.eb_serve.specs.Rule.{job_pairs, weigh, total, JobsOf, AnswersOf}
 
 -- how often a number stands in a list
 abbrev pub times : ℕ → List Pair → ℕ
@@ -23,13 +23,13 @@ stands p ps = weigh (λ q. cond (q.number == p.number && q.told == p.told) 1 0) 
 -- no number stands twice among the queue of jobs and what the clerk and the workers took of it: each job is taken at most once
 abbrev pub JobsAreTakenOnce : Type 0
 JobsAreTakenOnce = (index : Words) (items : List Task) (views : List View) → JobsOf index items views → (n : ℕ)
-    → total (λ h. times n h.taken) views + times n (pairs_of items) ≤ 1
+    → total (λ h. times n h.taken) views + times n (job_pairs items) ≤ 1
 
 -- each pair in the queue of jobs, and each that was taken of it, is one that the clerk put
 abbrev pub JobsAreKnown : Type 0
 JobsAreKnown = (index : Words) (items : List Task) (views : List View) (jobs : JobsOf index items views) (clerk : Hand)
     → get_elem? views jobs.clerk ≡ some (At index clerk) → (p : Pair)
-    → total (λ h. stands p h.taken) views + stands p (pairs_of items) ≤ stands p clerk.put
+    → total (λ h. stands p h.taken) views + stands p (job_pairs items) ≤ stands p clerk.put
 
 -- each pair stands in the queue of answers and in what the clerk took of it together as often as in what the workers put
 abbrev pub AnswersAreKept : Type 0

@@ -26,10 +26,10 @@ hand_of Opening = idle true
 hand_of (At index h) = h
 
 -- the pairs of the jobs among these, in order
-abbrev pub pairs_of : List Task → List Pair
-pairs_of [] = []
-pairs_of (a_job j ∷ ts) = pair_of j ∷ pairs_of ts
-pairs_of (Stop ∷ ts) = pairs_of ts
+abbrev pub job_pairs : List Task → List Pair
+job_pairs [] = []
+job_pairs (a_job j ∷ ts) = pair_of j ∷ job_pairs ts
+job_pairs (Stop ∷ ts) = job_pairs ts
 
 -- how many of these are stops
 abbrev pub stops_of : List Task → ℕ
@@ -48,8 +48,8 @@ total f [] = 0
 total f (v ∷ vs) = f (hand_of v) + total f vs
 
 -- a number is above those of the pairs
-abbrev pub IsAbove : ℕ → List Pair → Type 0
-IsAbove n ps = All (λ p. p.number < n) ps
+abbrev pub IsAboveEach : ℕ → List Pair → Type 0
+IsAboveEach n ps = All (λ p. p.number < n) ps
 
 -- the numbers rise
 abbrev pub IsRising : List Pair → Type 0
@@ -90,7 +90,7 @@ IsOpening items views = (items ≡ []) × (views ≡ Opening ∷ [])
 pub record JobsOf (index : Words) (items : List Task) (views : List View) : Type 0 where
   pub clerk : ℕ
   pub made : All (IsMadeTask index) items
-  pub balanced : Balanced index (IsTaker clerk) (pairs_of items) (stops_of items) views
+  pub balanced : Balanced index (IsTaker clerk) (job_pairs items) (stops_of items) views
 
 -- the rule of the answers of an index: `items` are the answers that were put and not taken, in order
 pub record AnswersOf (index : Words) (items : List Answer) (views : List View) : Type 0 where

@@ -9,7 +9,7 @@ use Rattle.eb_serve.specs.declared.rule.Hand.{Hand}
 use Rattle.eb_serve.specs.declared.rule.View.{View}
 use Rattle.eb_serve.specs.declared.rule.View.TheVariants.{Opening, At}
 use Rattle.eb_serve.specs.Jobs.{pair_of, asker, answer_pair}
-use Rattle.eb_serve.specs.Rule.{hand, idle, stops_of, IsAbove, IsMadeTask, IsMadeAnswer}
+use Rattle.eb_serve.specs.Rule.{hand, idle, stops_of, IsAboveEach, IsMadeTask, IsMadeAnswer}
 
 -- the index is the same, and what was put and taken is this
 abbrev pub Moves : View → (Hand → Hand) → View → Type 0
@@ -23,12 +23,12 @@ put_in h (a_job j) = hand h.puts (h.put ++ pair_of j ∷ []) h.stops_put h.taken
 put_in h Stop = hand h.puts h.put (suc h.stops_put) h.taken h.stops_taken
 
 -- an answer more was put
-abbrev pub answer_in : Hand → Answer → Hand
-answer_in h a = hand h.puts (h.put ++ answer_pair a ∷ []) h.stops_put h.taken h.stops_taken
+abbrev pub after_answer : Hand → Answer → Hand
+after_answer h a = hand h.puts (h.put ++ answer_pair a ∷ []) h.stops_put h.taken h.stops_taken
 
 -- a job may be put where its number is above those before
 abbrev pub MayPut : Hand → Task → Type 0
-MayPut h (a_job j) = IsAbove (pair_of j).number h.put
+MayPut h (a_job j) = IsAboveEach (pair_of j).number h.put
 MayPut h Stop = Unit {0}
 
 -- the pass may put this task
@@ -86,8 +86,8 @@ opened puts Opening = idle puts
 opened puts (At index h) = h
 
 -- the pass is the first, and knows nothing yet, or is of this index
-abbrev pub IsFirst : Words → View → Type 0
-IsFirst index v = (v ≡ Opening) ⊎ ((h : Hand) × (v ≡ At index h))
+abbrev pub IsFirstPass : Words → View → Type 0
+IsFirstPass index v = (v ≡ Opening) ⊎ ((h : Hand) × (v ≡ At index h))
 
 -- the index of a pass, or this one where it knows none yet
 abbrev pub index_of_view : Words → View → Words

@@ -2,7 +2,7 @@
 ghost use Rattle.std.specs.Prelude.{◌≡◌, true, false, MatchOption};
 ghost use Rattle.crossbeam_queue.specs.Passes.{view, IsPassOf, IsSamePass};
 ghost use Rattle.eb_serve.specs.Rule.{idle};
-ghost use Rattle.eb_serve.specs.Steps.{opened, IsFirst, put_in, answer_in, MayPutTask, MayPutAnswer};
+ghost use Rattle.eb_serve.specs.Steps.{opened, IsFirstPass, put_in, after_answer, MayPutTask, MayPutAnswer};
 ghost use Rattle.eb_serve.specs.Steps.{Moves, taken_out, job_out, answer_out, IsTaken, IsTakenJob, IsTakenAnswer, KnowsIndex, MayTakeJob, TakesAnswers};
 ghost use Rattle.eb_serve.specs.declared.rule.View.TheVariants.{At};
 
@@ -45,7 +45,7 @@ pub(crate) fn put_answer<R: Wait>(
     requires pass { IsPassOf queue.now pass.old }
     requires rule { MayPutAnswer (view pass.old) answer }
     ensures pass { IsSamePass pass.old pass.new }
-    ensures moved { Moves (view pass.old) (λ h. answer_in h answer) (view pass.new) }
+    ensures moved { Moves (view pass.old) (λ h. after_answer h answer) (view pass.new) }
 {
     let mut answer = answer;
     for _ in rt.forever() {
@@ -135,7 +135,7 @@ pub(crate) fn cut_taker<N: Named>(
 ) -> Pass<Task, View>
     requires named { index.now ≡ N.index }
     requires pass { IsPassOf queue.now pass.old }
-    requires rule { IsFirst N.index (view pass.old) }
+    requires rule { IsFirstPass N.index (view pass.old) }
     ensures pass { IsSamePass pass.old pass.new × IsPassOf queue.now result }
     ensures old { view pass.new ≡ At N.index (opened true (view pass.old)) }
     ensures new { view result ≡ At N.index (idle false) }
@@ -152,7 +152,7 @@ pub(crate) fn cut_putter<N: Named>(
 ) -> Pass<Answer, View>
     requires named { index.now ≡ N.index }
     requires pass { IsPassOf queue.now pass.old }
-    requires rule { IsFirst N.index (view pass.old) }
+    requires rule { IsFirstPass N.index (view pass.old) }
     ensures pass { IsSamePass pass.old pass.new × IsPassOf queue.now result }
     ensures old { view pass.new ≡ At N.index (opened false (view pass.old)) }
     ensures new { view result ≡ At N.index (idle true) }

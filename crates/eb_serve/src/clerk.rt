@@ -1,6 +1,6 @@
 ghost use Rattle.std.specs.Prelude.{◌≡◌, ◌⊎◌, MatchOption};
 ghost use Rattle.eb_serve.specs.Jobs.{pair_of, asker, answer_pair, answerer};
-ghost use Rattle.eb_serve.specs.Rule.{IsAbove};
+ghost use Rattle.eb_serve.specs.Rule.{IsAboveEach};
 ghost use Rattle.eb_serve.specs.Desk.{with_put, with_stop, with_taken, with_answered};
 
 use crate::calls::{put_task, sure_answer, take_answer, take_job};
@@ -40,7 +40,7 @@ impl Clerk {
     pub fn ask<R: Wait>(&mut self, rt: &R, desk: &Desk, job: Job)
         requires desk { self.old.queues ≡ desk.now.queues }
         requires made { (asker job).index ≡ self.old.index }
-        requires rising { IsAbove (pair_of job).number self.old.put }
+        requires rising { IsAboveEach (pair_of job).number self.old.put }
         requires open { self.old.stops ≡ 0 }
         ensures { self.new ≡ with_put self.old (pair_of job) }
     {

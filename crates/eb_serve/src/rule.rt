@@ -131,9 +131,9 @@ impl Lesson<Task, View> for TookTask {
 pub struct PutAnswer;
 
 impl Outcome<Answer, View> for PutAnswer {
-    ghost use Rattle.eb_serve.specs.Steps.{answer_in, Moves};
+    ghost use Rattle.eb_serve.specs.Steps.{after_answer, Moves};
 
-    ghost then = { λ v x w. Moves v (λ h. answer_in h x) w };
+    ghost then = { λ v x w. Moves v (λ h. after_answer h x) w };
 }
 
 /// An answer was taken.

@@ -1,5 +1,5 @@
 ghost use Rattle.std.specs.Prelude.{◌≡◌, ℕ, ◌<◌, length, All, slice_index_or};
-ghost use Rattle.eb_serve.specs.Desk.{IsReady, HasWorked, with_stops};
+ghost use Rattle.eb_serve.specs.Desk.{IsWorkerOf, HasWorked, with_stops};
 
 use crate::clerk::Clerk;
 use crate::desk::Desk;
@@ -21,7 +21,7 @@ pub fn work_all<R: Threads + Wait + Sync, G: Gate + Sync>(
     gate: &G,
     workers: &mut [Worker],
 )
-    requires { All (λ w. IsReady desk.now.queues index.now w) workers.old }
+    requires { All (λ w. IsWorkerOf desk.now.queues index.now w) workers.old }
     ensures { (i : ℕ) (d : _) → i < length workers.old
         → (count : ℕ) × HasWorked (slice_index_or workers.old i d) (slice_index_or workers.new i d) count }
 {
@@ -34,7 +34,7 @@ pub fn work_all<R: Threads + Wait + Sync, G: Gate + Sync>(
         workers,
         threads,
         &|_place: usize, worker: &mut Worker|
-            requires { IsReady desk.now.queues index.now worker.now }
+            requires { IsWorkerOf desk.now.queues index.now worker.now }
             ensures { (count : ℕ) × HasWorked worker.entry.now worker.exit.now count }
         {
             worker.work(rt, desk, index, gate);

@@ -19,7 +19,7 @@ use Rattle.eb_place.specs.Later.{Further, Goes, Reaches, ReachesPacked, IsNotBef
 use Rattle.eb_place.specs.Meets.{later_documents}
 use Rattle.eb_place.proofs.MeetOfParts.{documents_meet}
 use Rattle.eb_place.proofs.WordsAtMoment.{placed_all}
-use Rattle.eb_table.specs.InLine.{same_doc, begins, further, goes, reaches, in_line, reaches_packed, unreal}
+use Rattle.eb_table.specs.InLine.{same_doc, is_front_of, further, goes, reaches, in_line, reaches_packed, unreal}
 
 same_doc_decides : (d e : Doc) → Decides (same_doc d e) (d ≡ e)
 same_doc_decides d e =
@@ -29,7 +29,7 @@ same_doc_decides d e =
 same_docs_decides : (xs ys : List Doc) → Decides (pointwise same_doc xs ys) (xs ≡ ys)
 same_docs_decides = pointwise_decides same_doc_decides
 
-begins_decides : (xs ys : List Doc) → Decides (begins xs ys) (IsPrefix xs ys)
+begins_decides : (xs ys : List Doc) → Decides (is_front_of xs ys) (IsPrefix xs ys)
 begins_decides xs ys =
     let d = same_docs_decides (take (length xs) ys) xs in (
       (λ t. (drop (length xs) ys, ap (λ (l : List Doc). l ++ drop (length xs) ys) (sym (d.0 t)) ∙ take-append-drop (length xs) ys)),
@@ -46,14 +46,14 @@ further_decides c (Some e) = Decides-and (same_doc c.0 e.0) (leb c.1 e.1) (same_
 goes_decides : (docs : List Doc) (c : Option (Doc × ℕ)) (b : Documents) → Decides (goes docs c b) (Goes docs c b)
 goes_decides docs None b = ((λ _. tt), λ _. refl)
 goes_decides docs (Some c) b =
-    Decides-or (pointwise same_doc docs b.accepted && further c b.current) (begins (docs ++ c.0 ∷ []) b.accepted)
+    Decides-or (pointwise same_doc docs b.accepted && further c b.current) (is_front_of (docs ++ c.0 ∷ []) b.accepted)
     (Decides-and (pointwise same_doc docs b.accepted) (further c b.current) (same_docs_decides docs b.accepted) (further_decides c b.current))
     (begins_decides (docs ++ c.0 ∷ []) b.accepted)
 
 pub reaches_decides : (a b : Documents) → Decides (reaches a b) (Reaches a b)
 unfolding reaches
 reaches_decides a b =
-    let d = Decides-and (begins a.accepted b.accepted) (goes a.accepted a.current b) (begins_decides a.accepted b.accepted) (goes_decides a.accepted a.current b) in
+    let d = Decides-and (is_front_of a.accepted b.accepted) (goes a.accepted a.current b) (begins_decides a.accepted b.accepted) (goes_decides a.accepted a.current b) in
     ((λ t. let p = d.0 t in record { accepted = p.0; current = p.1 }), λ r. d.1 (r.accepted, r.current))
 
 pub in_line_decides : (a b : Documents) → Decides (in_line a b) (Reaches a (later_documents a b) × Reaches b (later_documents a b))

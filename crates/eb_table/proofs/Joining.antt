@@ -13,7 +13,7 @@ use Rattle.eb_place.proofs.MeetOfParts.{documents_meet}
 use Rattle.eb_place.proofs.MeetOfMoments.{conversions_meet}
 use Rattle.eb_table.specs.declared.view.View.{View}
 use Rattle.eb_table.specs.declared.view.View.TheVariants.{Opening, Writer, Converter, Reader, Spent}
-use Rattle.eb_table.specs.Rule.{moment_of, IsLive, Fits, Running, KeepsWords}
+use Rattle.eb_table.specs.Rule.{moment_of, IsLive, MayKnow, Running, KeepsWords}
 use Rattle.eb_table.specs.InLine.{unreal}
 use Rattle.eb_table.specs.Steps.{at_moment, met, met_moment}
 use Rattle.eb_table.proofs.InLine.{reaches_decides, in_line_passes, packed_decides}
@@ -22,21 +22,21 @@ use Rattle.eb_table.proofs.Views.{fits_set, stays_at, kind_stays, running}
 both_true : (a b : Bool) → a ≡ true → b ≡ true → (a && b) ≡ true
 both_true a b e f = rw (e, f) refl
 
-joined : (w c by : ℕ) (whole n : Moment) (v : View) → IsLive v → Fits w c whole by v → IsNotBefore whole n → Fits w c whole by (at_moment v (met_moment v n))
+joined : (w c by : ℕ) (whole n : Moment) (v : View) → IsLive v → MayKnow w c whole by v → IsNotBefore whole n → MayKnow w c whole by (at_moment v (met_moment v n))
 joined w c by whole n (Opening m) live f l = absurd live
 joined w c by whole n Spent live f l = absurd live
 joined w c by whole n (Writer m) live f l =
     let r : Reaches n.documents m.documents = subst (Reaches n.documents) (sym f.1) l.documents in
     let p = conversions_meet m.conversions n.conversions whole.conversions f.2.conversions l.conversions in
     let made : Moment = record { setting = m.setting; documents = m.documents; conversions = later_conversions m.conversions n.conversions } in
-    let fits : Fits w c whole by (Writer made) = (f.0, f.1, record { setting = f.2.setting; documents = f.2.documents; conversions = p.third }) in
-    subst (λ (t : Bool). Fits w c whole by (Writer (cond t made (unreal m.setting)))) (sym ((reaches_decides _ _).1 r)) fits
+    let fits : MayKnow w c whole by (Writer made) = (f.0, f.1, record { setting = f.2.setting; documents = f.2.documents; conversions = p.third }) in
+    subst (λ (t : Bool). MayKnow w c whole by (Writer (cond t made (unreal m.setting)))) (sym ((reaches_decides _ _).1 r)) fits
 joined w c by whole n (Converter m) live f l =
     let r = documents_meet m.documents n.documents whole.documents f.2.documents l.documents in
     let p : ReachesPacked n.conversions m.conversions = subst (ReachesPacked n.conversions) (sym f.1) l.conversions in
     let made : Moment = record { setting = m.setting; documents = later_documents m.documents n.documents; conversions = m.conversions } in
-    let fits : Fits w c whole by (Converter made) = (f.0, f.1, record { setting = f.2.setting; documents = r.third; conversions = f.2.conversions }) in
-    subst (λ (t : Bool). Fits w c whole by (Converter (cond t made (unreal m.setting))))
+    let fits : MayKnow w c whole by (Converter made) = (f.0, f.1, record { setting = f.2.setting; documents = r.third; conversions = f.2.conversions }) in
+    subst (λ (t : Bool). MayKnow w c whole by (Converter (cond t made (unreal m.setting))))
     (sym (both_true _ _ (in_line_passes _ _ _ f.2.documents l.documents) ((packed_decides _ _).1 p))) fits
 joined w c by whole n (Reader m) live f l =
     let r = documents_meet m.documents n.documents whole.documents f.documents l.documents in

@@ -11,12 +11,12 @@ use Rattle.eb_place.proofs.LaterMoments.{later_self}
 use Rattle.eb_place.proofs.ImagesOfMoments.{get_or-image}
 use Rattle.eb_table.specs.declared.view.View.{View}
 use Rattle.eb_table.specs.declared.view.View.TheVariants.{Opening, Writer, Converter, Reader, Spent}
-use Rattle.eb_table.specs.Rule.{moment_of, IsLive, Fits, Running, KeepsWords}
-use Rattle.eb_table.specs.Steps.{at_moment, Leaves, Loaded}
+use Rattle.eb_table.specs.Rule.{moment_of, IsLive, MayKnow, Running, KeepsWords}
+use Rattle.eb_table.specs.Steps.{at_moment, Leaves, LoadedWord}
 use Rattle.eb_table.proofs.Views.{fits_set, stays_at, kind_stays, running}
 
 -- a load leaves the words, and its seat may know the moment that they are of
-looked : (w c by : ℕ) (whole : Moment) (v : View) → IsLive v → Fits w c whole by v → Fits w c whole by (at_moment v whole) × IsNotBefore whole (moment_of v) × Leaves v whole
+looked : (w c by : ℕ) (whole : Moment) (v : View) → IsLive v → MayKnow w c whole by v → MayKnow w c whole by (at_moment v whole) × IsNotBefore whole (moment_of v) × Leaves v whole
 looked w c by whole (Opening m) live f = absurd live
 looked w c by whole (Writer m) live f = ((f.0, refl, later_self whole), f.2, sym f.1)
 looked w c by whole (Converter m) live f = ((f.0, refl, later_self whole), f.2, sym f.1)
@@ -24,7 +24,7 @@ looked w c by whole (Reader m) live f = (later_self whole, f, tt)
 looked w c by whole Spent live f = absurd live
 
 pub loads : (σ : Setting) (slots id : ℕ) (v : View) (place : ℕ) → IsLive v → place < words_of σ
-    → Allows (KeepsWords σ) slots id (v, []) place (λ n. n) (Loaded (step slots place 0 0 none) (v, []))
+    → Allows (KeepsWords σ) slots id (v, []) place (λ n. n) (LoadedWord (step slots place 0 0 none) (v, []))
 loads σ slots id v place live inside s h _ at _ =
     let r = running σ s h id v live at in
     let l = looked r.writer r.converter id h.whole v live (r.each id v at) in
@@ -52,7 +52,7 @@ loads σ slots id v place live inside s h _ at _ =
 
 -- the same, at what a seat has
 pub loads_at : (σ : Setting) (slots id : ℕ) (me : Me (Unit {0}) View) (place : ℕ) → IsLive me.0 → me.1 ≡ [] → place < words_of σ
-    → Allows (KeepsWords σ) slots id me place (λ n. n) (Loaded (step slots place 0 0 none) me)
+    → Allows (KeepsWords σ) slots id me place (λ n. n) (LoadedWord (step slots place 0 0 none) me)
 loads_at σ slots id me place live e inside =
-    subst (λ (c : List (ℕ × Unit {0})). Allows (KeepsWords σ) slots id (me.0, c) place (λ n. n) (Loaded (step slots place 0 0 none) (me.0, c))) (sym e)
+    subst (λ (c : List (ℕ × Unit {0})). Allows (KeepsWords σ) slots id (me.0, c) place (λ n. n) (LoadedWord (step slots place 0 0 none) (me.0, c))) (sym e)
     (loads σ slots id me.0 place live inside)

@@ -16,7 +16,7 @@ use Rattle.eb_table.specs.declared.view.View.{View}
 use Rattle.eb_table.specs.declared.view.View.TheVariants.{Writer, Converter, Reader}
 use Rattle.eb_table.specs.Rule.{moment_of}
 use Rattle.eb_table.specs.InLine.{reaches, in_line, reaches_packed, unreal}
-use Rattle.eb_table.specs.Steps.{at_moment, IsLoaded, Loaded, met, met_moment}
+use Rattle.eb_table.specs.Steps.{at_moment, IsLoaded, LoadedWord, met, met_moment}
 use Rattle.eb_table.specs.Known.{Known, Words, MadeWith}
 use Rattle.eb_table.proofs.InLine.{reaches_decides, in_line_decides, packed_decides, not_unreal}
 use Rattle.atomic_table.specs.Seated.{TableId}
@@ -77,7 +77,7 @@ reader_met m n l place found same i =
 
 -- what a seat knows, once it took in a reader's and loaded a word
 module _ (w : Words) (a b : Known) (t u : TableId) (mine other joined last : Me (Unit {0}) View) (found : ℕ) (own : known t mine ≡ a) (that : known u other ≡ b)
-    (first : MadeWith a w) (second : MadeWith b w) (made : joined ≡ (met mine.0 other.0, [])) (told : Loaded (step 0 0 0 0 none) joined found last) where
+    (first : MadeWith a w) (second : MadeWith b w) (made : joined ≡ (met mine.0 other.0, [])) (told : LoadedWord (step 0 0 0 0 none) joined found last) where
   same : (moment_of mine.0).setting ≡ (moment_of other.0).setting
   same = (λ i. (own i).moment.setting) ∙ (first.setting ∙ sym ((λ i. (that i).moment.setting) ∙ second.setting))
 

@@ -24,12 +24,12 @@ use Rattle.eb_place.proofs.ReachedLater.{later_started}
 use Rattle.eb_place.proofs.ImagesOfMoments.{image_changed}
 use Rattle.eb_table.specs.declared.view.View.{View}
 use Rattle.eb_table.specs.declared.view.View.TheVariants.{Opening, Writer, Converter, Reader, Spent}
-use Rattle.eb_table.specs.Rule.{moment_of, Fits, Running, KeepsWords}
+use Rattle.eb_table.specs.Rule.{moment_of, MayKnow, Running, KeepsWords}
 use Rattle.eb_table.specs.Steps.{Put}
 use Rattle.eb_table.proofs.Views.{there_less, fits_set, stays_at, running}
 
-others_fit_too : (w c : ℕ) (whole whole' : Moment) (j : ℕ) (u : View) → j ≢ c → IsNotBefore whole' whole → whole.documents ≡ whole'.documents → Fits w c whole j u
-    → Fits w c whole' j u
+others_fit_too : (w c : ℕ) (whole whole' : Moment) (j : ℕ) (u : View) → j ≢ c → IsNotBefore whole' whole → whole.documents ≡ whole'.documents → MayKnow w c whole j u
+    → MayKnow w c whole' j u
 others_fit_too w c whole whole' j (Opening m) apart l same f = f
 others_fit_too w c whole whole' j (Writer m) apart l same f = (f.0, f.1 ∙ same, later_on _ _ _ f.2 l)
 others_fit_too w c whole whole' j (Converter m) apart l same f = absurd (apart f.0)
@@ -84,7 +84,7 @@ puts σ slots id m p v next s h _ at _ =
     let same = put_documents whole in
     let at_converter : r.converter ≡ id = sym f.0 in
     let packs : (after_put m).conversions ≡ whole'.conversions = same_put m whole p v f.2 f.1 next in
-    let mine : Fits r.writer r.converter whole' id new = (
+    let mine : MayKnow r.writer r.converter whole' id new = (
       f.0,
       packs,
       record {

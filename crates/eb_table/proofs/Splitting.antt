@@ -12,7 +12,7 @@ use Rattle.eb_place.specs.Later.{IsNotBefore}
 use Rattle.eb_place.proofs.LaterMoments.{later_self}
 use Rattle.eb_table.specs.declared.view.View.{View}
 use Rattle.eb_table.specs.declared.view.View.TheVariants.{Opening, Writer, Converter, Reader, Spent}
-use Rattle.eb_table.specs.Rule.{moment_of, IsLive, IsUnspent, Fits, Running, KeepsWords}
+use Rattle.eb_table.specs.Rule.{moment_of, IsLive, IsUnspent, MayKnow, Running, KeepsWords}
 use Rattle.eb_table.specs.Steps.{left_of, right_of}
 use Rattle.eb_table.proofs.Views.{alone_at, running}
 
@@ -27,9 +27,9 @@ first_split σ by e = subst (λ (i : ℕ). Running (empty_moment σ) (set (Openi
       each = both;
     }
   where
-    both : (j : ℕ) (u : View) → get_elem? (Writer (empty_moment σ) ∷ Converter (empty_moment σ) ∷ []) j ≡ some u → Fits 0 1 (empty_moment σ) j u
-    both zero u at = subst (Fits 0 1 (empty_moment σ) 0) (some-injective (Writer (empty_moment σ)) u at) (refl, refl, later_self (empty_moment σ))
-    both (suc zero) u at = subst (Fits 0 1 (empty_moment σ) 1) (some-injective (Converter (empty_moment σ)) u at) (refl, refl, later_self (empty_moment σ))
+    both : (j : ℕ) (u : View) → get_elem? (Writer (empty_moment σ) ∷ Converter (empty_moment σ) ∷ []) j ≡ some u → MayKnow 0 1 (empty_moment σ) j u
+    both zero u at = subst (MayKnow 0 1 (empty_moment σ) 0) (some-injective (Writer (empty_moment σ)) u at) (refl, refl, later_self (empty_moment σ))
+    both (suc zero) u at = subst (MayKnow 0 1 (empty_moment σ) 1) (some-injective (Converter (empty_moment σ)) u at) (refl, refl, later_self (empty_moment σ))
     both (suc (suc j)) u at = absurd (some-ne-none u (sym at))
 
 splits_first : (σ : Setting) (id : ℕ) (m : Moment) → Splits (KeepsWords σ) id (Opening m) (Writer m) (Converter m)
@@ -45,7 +45,7 @@ splits_first σ id m s h at = ⊎_elim
     h.views
 
 -- of any other
-known_later : (w c by : ℕ) (whole : Moment) (v : View) → IsLive v → Fits w c whole by v → IsNotBefore whole (moment_of v)
+known_later : (w c by : ℕ) (whole : Moment) (v : View) → IsLive v → MayKnow w c whole by v → IsNotBefore whole (moment_of v)
 known_later w c by whole (Opening m) live f = absurd live
 known_later w c by whole (Writer m) live f = f.2
 known_later w c by whole (Converter m) live f = f.2
@@ -63,7 +63,7 @@ splits_on σ id v live s h at =
       writes = (r.writes.0, at_longer s.views (new ∷ []) r.writer _ r.writes.1);
       converts = (r.converts.0, at_longer s.views (new ∷ []) r.converter _ r.converts.1);
       each = λ j u e. ⊎_elim (λ (was : get_elem? s.views j ≡ some u). r.each j u was)
-          (λ (is : new ≡ u). subst (Fits r.writer r.converter h.whole j) is (known_later r.writer r.converter id h.whole v live (r.each id v at))) (at_snoc s.views new u j e);
+          (λ (is : new ≡ u). subst (MayKnow r.writer r.converter h.whole j) is (known_later r.writer r.converter id h.whole v live (r.each id v at))) (at_snoc s.views new u j e);
     } in
     record { whole = h.whole; setting = h.setting; moment = h.moment; words = h.words; views = inr (subst (λ (l : List View). Running h.whole (l ++ new ∷ [])) (sym same) views') }
 

@@ -17,12 +17,12 @@ use Rattle.eb_place.proofs.NextStore.{word_stored, next_in_table, setting_stored
 use Rattle.eb_place.proofs.ImagesOfMoments.{image_changed}
 use Rattle.eb_table.specs.declared.view.View.{View}
 use Rattle.eb_table.specs.declared.view.View.TheVariants.{Opening, Writer, Converter, Reader, Spent}
-use Rattle.eb_table.specs.Rule.{moment_of, Fits, Running, KeepsWords}
+use Rattle.eb_table.specs.Rule.{moment_of, MayKnow, Running, KeepsWords}
 use Rattle.eb_table.specs.Steps.{Stored}
 use Rattle.eb_table.proofs.Views.{there_less, fits_set, stays_at, running}
 
-others_fit : (w c : ℕ) (whole whole' : Moment) (j : ℕ) (u : View) → j ≢ w → IsNotBefore whole' whole → whole.conversions ≡ whole'.conversions → Fits w c whole j u
-    → Fits w c whole' j u
+others_fit : (w c : ℕ) (whole whole' : Moment) (j : ℕ) (u : View) → j ≢ w → IsNotBefore whole' whole → whole.conversions ≡ whole'.conversions → MayKnow w c whole j u
+    → MayKnow w c whole' j u
 others_fit w c whole whole' j (Opening m) apart l same f = f
 others_fit w c whole whole' j (Writer m) apart l same f = absurd (apart f.0)
 others_fit w c whole whole' j (Converter m) apart l same f = (f.0, f.1 ∙ same, later_on _ _ _ f.2 l)
@@ -61,7 +61,7 @@ stores σ slots id m d p v next s h _ at _ =
     let same = stored_conversions whole d in
     let at_writer : r.writer ≡ id = sym f.0 in
     let docs : (after_store m d).documents ≡ whole'.documents = same_stored m whole d f.2.setting f.1 in
-    let mine : Fits r.writer r.converter whole' id new = (
+    let mine : MayKnow r.writer r.converter whole' id new = (
       f.0,
       docs,
       record {

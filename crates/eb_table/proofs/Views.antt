@@ -11,7 +11,7 @@ use Rattle.eb_place.specs.declared.moment.Moment.{Moment}
 use Rattle.eb_place.specs.Moments.{empty_moment}
 use Rattle.eb_table.specs.declared.view.View.{View}
 use Rattle.eb_table.specs.declared.view.View.TheVariants.{Opening}
-use Rattle.eb_table.specs.Rule.{IsLive, Fits, Running, KeepsWords}
+use Rattle.eb_table.specs.Rule.{IsLive, MayKnow, Running, KeepsWords}
 use Rattle.eb_table.specs.Steps.{at_moment}
 
 -- the state of the words
@@ -27,12 +27,12 @@ pub alone_at : (x v : View) (i : ℕ) → get_elem? (x ∷ []) i ≡ some v → 
 alone_at x v zero e = (refl, some-injective x v e)
 alone_at x v (suc i) e = absurd (some-ne-none v (sym e))
 
-pub fits_set : (w c : ℕ) (whole : Moment) (views : List View) (by : ℕ) (new : View) → ((j : ℕ) (u : View) → j ≢ by → get_elem? views j ≡ some u → Fits w c whole j u)
-    → Fits w c whole by new
-    → (j : ℕ) (u : View) → get_elem? (set views by new) j ≡ some u → Fits w c whole j u
+pub fits_set : (w c : ℕ) (whole : Moment) (views : List View) (by : ℕ) (new : View) → ((j : ℕ) (u : View) → j ≢ by → get_elem? views j ≡ some u → MayKnow w c whole j u)
+    → MayKnow w c whole by new
+    → (j : ℕ) (u : View) → get_elem? (set views by new) j ≡ some u → MayKnow w c whole j u
 fits_set w c whole views by new others mine j u e =
     ⊎_elim
-    (λ (x : (j ≡ by) × (new ≡ u)). subst (λ (y : ℕ × View). Fits w c whole y.0 y.1) (λ i. (sym x.0 i, x.1 i)) mine)
+    (λ (x : (j ≡ by) × (new ≡ u)). subst (λ (y : ℕ × View). MayKnow w c whole y.0 y.1) (λ i. (sym x.0 i, x.1 i)) mine)
     (λ (x : (j ≢ by) × (get_elem? views j ≡ some u)). others j u x.0 x.1)
     (at_set views by j new u e)
 

@@ -37,12 +37,12 @@ IsUnspent v = Unit {0}
 
 -- what seat number `by` may know where `whole` is the moment of the words, and these are the numbers of the writer's and the
 -- converter's seats: no moment after it, the writer all of its documents part, the converter all of its conversion part
-abbrev pub Fits : ℕ → ℕ → Moment → ℕ → View → Type 0
-Fits w c whole by (Opening m) = ⊥
-Fits w c whole by (Writer m) = (by ≡ w) × (m.documents ≡ whole.documents) × IsNotBefore whole m
-Fits w c whole by (Converter m) = (by ≡ c) × (m.conversions ≡ whole.conversions) × IsNotBefore whole m
-Fits w c whole by (Reader m) = IsNotBefore whole m
-Fits w c whole by Spent = Unit {0}
+abbrev pub MayKnow : ℕ → ℕ → Moment → ℕ → View → Type 0
+MayKnow w c whole by (Opening m) = ⊥
+MayKnow w c whole by (Writer m) = (by ≡ w) × (m.documents ≡ whole.documents) × IsNotBefore whole m
+MayKnow w c whole by (Converter m) = (by ≡ c) × (m.conversions ≡ whole.conversions) × IsNotBefore whole m
+MayKnow w c whole by (Reader m) = IsNotBefore whole m
+MayKnow w c whole by Spent = Unit {0}
 
 -- one writer, one converter, and readers
 pub record Running (whole : Moment) (views : List View) : Type 0 where
@@ -50,7 +50,7 @@ pub record Running (whole : Moment) (views : List View) : Type 0 where
   pub converter : ℕ
   pub writes : (m : Moment) × (get_elem? views writer ≡ some (Writer m))
   pub converts : (m : Moment) × (get_elem? views converter ≡ some (Converter m))
-  pub each : (by : ℕ) (v : View) → get_elem? views by ≡ some v → Fits writer converter whole by v
+  pub each : (by : ℕ) (v : View) → get_elem? views by ≡ some v → MayKnow writer converter whole by v
 
 -- the rule: the words are the image of a moment of the setting. Either the one seat is opening and the moment is the empty one,
 -- or there are one writer, one converter and readers, of which none knows a moment after that of the words

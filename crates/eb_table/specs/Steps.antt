@@ -35,8 +35,8 @@ pub record IsLoaded (v : View) (place found : ℕ) (n : Moment) : Type 0 where
   pub moment : IsMoment n
   pub value : found ≡ word n place
 
-abbrev pub Loaded : Step (Unit {0}) → Me (Unit {0}) View → ℕ → Me (Unit {0}) View → Type 0
-Loaded s me found new = (n : Moment) × (new ≡ (at_moment me.0 n, me.1)) × IsLoaded me.0 s.word found n
+abbrev pub LoadedWord : Step (Unit {0}) → Me (Unit {0}) View → ℕ → Me (Unit {0}) View → Type 0
+LoadedWord s me found new = (n : Moment) × (new ≡ (at_moment me.0 n, me.1)) × IsLoaded me.0 s.word found n
 
 -- ---- the writer's store, and the converter's
 

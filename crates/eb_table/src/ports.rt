@@ -2,7 +2,7 @@
 ghost use Rattle.std.specs.Prelude.{◌≡◌};
 ghost use Rattle.std.proofs.Common.{refl, ◌∙◌, subst};
 ghost use Rattle.eb_place.specs.Moments.{IsMoment};
-ghost use Rattle.eb_table.specs.Known.{StandsFor};
+ghost use Rattle.eb_table.specs.Known.{KnowsMoment};
 
 use crate::seats::{ConverterSeat, ReaderSeat, WriterSeat};
 use crate::words::SharedWords;
@@ -22,7 +22,7 @@ pub struct ReaderPort<'a> {
 }
 
 impl<'a> Port for ReaderPort<'a> {
-    ghost stands = { λ s m. StandsFor s.seat.now s.words.now m };
+    ghost stands = { λ s m. KnowsMoment s.seat.now s.words.now m };
 
     ghost keeps = { λ s m t n. (t.seat.ghost_name ≡ s.seat.ghost_name) × (t.words.now ≡ s.words.now) };
 
@@ -59,7 +59,7 @@ pub struct WriterPort<'a> {
 }
 
 impl<'a> Port for WriterPort<'a> {
-    ghost stands = { λ s m. StandsFor s.seat.now s.words.now m };
+    ghost stands = { λ s m. KnowsMoment s.seat.now s.words.now m };
 
     ghost keeps = { λ s m t n. (t.seat.ghost_name ≡ s.seat.ghost_name) × (t.words.now ≡ s.words.now) × (n.documents ≡ m.documents) };
 
@@ -104,7 +104,7 @@ pub struct ConverterPort<'a> {
 }
 
 impl<'a> Port for ConverterPort<'a> {
-    ghost stands = { λ s m. StandsFor s.seat.now s.words.now m };
+    ghost stands = { λ s m. KnowsMoment s.seat.now s.words.now m };
 
     ghost keeps = { λ s m t n. (t.seat.ghost_name ≡ s.seat.ghost_name) × (t.words.now ≡ s.words.now) × (n.conversions ≡ m.conversions) };
 

@@ -2,7 +2,7 @@ ghost use Rattle.std.specs.Prelude.{◌≡◌, ◌<◌};
 ghost use Rattle.eb_base.specs.Setting.{words_of};
 ghost use Rattle.eb_place.specs.Later.{IsNotBefore};
 ghost use Rattle.eb_place.specs.NextStores.{IsNext, after_store, IsNextPut, after_put};
-ghost use Rattle.eb_table.specs.Known.{MadeWith, HasLoaded};
+ghost use Rattle.eb_table.specs.Known.{MadeWith, SeatLoaded};
 ghost use Rattle.eb_table.specs.declared.view.View.TheVariants.{Writer, Reader, Converter};
 
 use crate::view::View;
@@ -73,7 +73,7 @@ impl ReaderSeat {
     pub(crate) fn load(&mut self, words: &SharedWords, place: u64) -> u64
         requires made { MadeWith self.old words.now }
         requires place { place < words_of words.now.setting }
-        ensures { HasLoaded Reader self.old place result self.new }
+        ensures { SeatLoaded Reader self.old place result self.new }
     {
         words.load_word(&mut self.seat, place)
     }
@@ -109,7 +109,7 @@ impl WriterSeat {
     pub(crate) fn load(&mut self, words: &SharedWords, place: u64) -> u64
         requires made { MadeWith self.old words.now }
         requires place { place < words_of words.now.setting }
-        ensures { HasLoaded Writer self.old place result self.new }
+        ensures { SeatLoaded Writer self.old place result self.new }
     {
         words.load_word(&mut self.seat, place)
     }
@@ -156,7 +156,7 @@ impl ConverterSeat {
     pub(crate) fn load(&mut self, words: &SharedWords, place: u64) -> u64
         requires made { MadeWith self.old words.now }
         requires place { place < words_of words.now.setting }
-        ensures { HasLoaded Converter self.old place result self.new }
+        ensures { SeatLoaded Converter self.old place result self.new }
     {
         words.load_word(&mut self.seat, place)
     }

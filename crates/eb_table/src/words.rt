@@ -3,7 +3,7 @@ ghost use Rattle.eb_base.specs.Setting.{words_of};
 ghost use Rattle.eb_place.specs.Moments.{IsMoment, empty_moment};
 ghost use Rattle.eb_place.specs.NextStores.{IsNext, after_store, IsNextPut, after_put};
 ghost use Rattle.eb_table.specs.Rule.{IsLive, IsUnspent, moment_of};
-ghost use Rattle.eb_table.specs.Steps.{Loaded, left_of, right_of, met};
+ghost use Rattle.eb_table.specs.Steps.{LoadedWord, left_of, right_of, met};
 ghost use Rattle.eb_table.specs.Known.{MadeWith, IsSeat};
 ghost use Rattle.eb_table.specs.declared.view.View.TheVariants.{Opening, Writer, Reader, Converter};
 ghost use Rattle.atomic_table.specs.Table.{step};
@@ -85,7 +85,7 @@ impl SharedWords {
         requires made { seat.old.table_id ≡ self.now.table }
         requires place { place < words_of self.now.setting }
         ensures same { seat.new.table_id ≡ seat.old.table_id }
-        ensures told { Loaded (step 0 place 0 0 none) seat.old.me result seat.new.me }
+        ensures told { LoadedWord (step 0 place 0 0 none) seat.old.me result seat.new.me }
     {
         self.table.shared.load::<LoadStep>(seat, place as usize)
     }

@@ -23,7 +23,7 @@ use Rattle.eb_place.proofs.EnteredTerms.{term_later, front_later, text_same}
 use Rattle.eb_place.proofs.StoresWithinTable.{length-text_of}
 use Rattle.eb_place.proofs.LaterMoments.{inside_later}
 use Rattle.eb_terms.specs.Finding.{cells_in}
-use Rattle.eb_terms.specs.Comparing.{term_at, cell_of, IsNumber, Holds, IsText, words_compared}
+use Rattle.eb_terms.specs.Comparing.{term_at, cell_of, IsNumber, CellHolds, IsText, words_compared}
 
 -- a cell is one of those of a later moment
 pub cell_later : (m n : Moment) (c : ℕ) → IsNotBefore n m → c < cells_in m → c < cells_in n
@@ -32,7 +32,7 @@ cell_later m n c l h = subst (λ (σ : Setting). c < 2 * σ.terms) l.setting h
 -- ---- what a word tells
 
 -- a cell without a number
-pub holds_none : (m : Moment) (s c w : ℕ) → w ≡ word m (place m.setting (slot s cell_region c)) → w ≡ 0 → Holds m s c None
+pub holds_none : (m : Moment) (s c w : ℕ) → w ≡ word m (place m.setting (slot s cell_region c)) → w ≡ 0 → CellHolds m s c None
 holds_none m s c w e z = ap (nat_lt 0) (sym e ∙ z)
 
 -- a cell with a number

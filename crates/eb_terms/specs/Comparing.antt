@@ -25,9 +25,9 @@ abbrev pub IsNumber : Moment → ℕ → ℕ → Type 0
 IsNumber m s number = number < length (entered m s)
 
 -- what a cell tells: that it is free, or the number of the term whose cell it is
-abbrev pub Holds : Moment → ℕ → ℕ → Option ℕ → Type 0
-Holds m s cell None = is_filled m s cell ≡ false
-Holds m s cell (Some number) = IsNumber m s number × (cell_of m s number ≡ cell)
+abbrev pub CellHolds : Moment → ℕ → ℕ → Option ℕ → Type 0
+CellHolds m s cell None = is_filled m s cell ≡ false
+CellHolds m s cell (Some number) = IsNumber m s number × (cell_of m s number ≡ cell)
 
 -- the text of the term of this number begins here
 pub record IsText (m : Moment) (s k at : ℕ) : Type 0 where

@@ -36,5 +36,5 @@ unfoldable pub filled_run : Moment → ℕ → Term → ℕ
 filled_run m s t = prefix_len (λ k. is_filled m s ((home_cell (cells_in m) t + k) % cells_in m)) (range_with_len 0 (cells_in m))
 
 -- the most loads of a search: three and the text words of the term, for each cell of the run and the one behind it
-abbrev pub most_loads : Moment → ℕ → Term → ℕ
-most_loads m s t = (filled_run m s t + 1) * (3 + text_words t)
+abbrev pub most_finding_loads : Moment → ℕ → Term → ℕ
+most_finding_loads m s t = (filled_run m s t + 1) * (3 + text_words t)

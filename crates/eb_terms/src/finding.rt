@@ -1,9 +1,9 @@
-ghost use Rattle.std.specs.Prelude.{◌≡◌, ℕ, ◌+◌, ◌*◌, ◌<◌, ◌≤◌, ◌↔◌, IsTrue};
+ghost use Rattle.std.specs.Prelude.{◌≡◌, ◌+◌, ◌*◌, ◌<◌, ◌≤◌, ◌↔◌, IsTrue};
 ghost use Rattle.eb_place.specs.declared.moment.Moment.{Moment};
 ghost use Rattle.eb_place.specs.Placing.{text_of};
 ghost use Rattle.eb_place.specs.Later.{IsNotBefore};
 ghost use Rattle.eb_place.specs.Told.{Told};
-ghost use Rattle.eb_terms.specs.Finding.{IsAnswer, most_loads};
+ghost use Rattle.eb_terms.specs.Finding.{IsAnswer, most_finding_loads};
 ghost use Rattle.eb_terms.specs.Comparing.{IsNumber, term_at, words_compared};
 
 use crate::hashing::home;
@@ -29,7 +29,7 @@ pub fn find<P: Port, L: Ledger>(
     requires { (m : Moment) × P.stands port.old m × (segment < m.setting.segments) }
     ensures told { (m : Moment) → P.stands port.old m
         → (n : Moment) × P.stands port.new n × IsNotBefore n m × P.keeps port.old m port.new n
-        × IsAnswer m n segment term.now result × (steps.new ≤ steps.old + most_loads n segment term.now) }
+        × IsAnswer m n segment term.now result × (steps.new ≤ steps.old + most_finding_loads n segment term.now) }
 {
     let cells = 2 * port.config().terms();
     let first = home(term, cells);

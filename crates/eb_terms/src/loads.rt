@@ -1,10 +1,10 @@
-ghost use Rattle.std.specs.Prelude.{◌≡◌, ℕ, ◌+◌, ◌*◌, ◌<◌, get_or};
+ghost use Rattle.std.specs.Prelude.{◌≡◌, ℕ, ◌+◌, ◌<◌, get_or};
 ghost use Rattle.eb_place.specs.declared.moment.Moment.{Moment};
 ghost use Rattle.eb_place.specs.Room.{text_words};
 ghost use Rattle.eb_place.specs.Placing.{text_of};
 ghost use Rattle.eb_place.specs.Told.{Told};
 ghost use Rattle.eb_terms.specs.Finding.{cells_in};
-ghost use Rattle.eb_terms.specs.Comparing.{Holds, IsNumber, IsText, term_at};
+ghost use Rattle.eb_terms.specs.Comparing.{CellHolds, IsNumber, IsText, term_at};
 
 use eb_place::{Places, Port, Steps};
 use std::sync::ledger::Ledger;
@@ -17,7 +17,7 @@ pub(crate) fn number_in<P: Port, L: Ledger>(
     steps: &mut Steps<L>,
 ) -> Option<u32>
     requires { (m : Moment) × P.stands port.old m × (segment < m.setting.segments) × (cell < cells_in m) }
-    ensures told { Told P.stands P.keeps port.old port.new (λ m. (segment < m.setting.segments) × (cell < cells_in m)) (λ n. Holds n segment cell result) }
+    ensures told { Told P.stands P.keeps port.old port.new (λ m. (segment < m.setting.segments) × (cell < cells_in m)) (λ n. CellHolds n segment cell result) }
     ensures step { steps.new ≡ steps.old + 1 }
 {
     let places = Places::new(port.config());

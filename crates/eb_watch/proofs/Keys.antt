@@ -12,7 +12,7 @@ use Rattle.eb_base.proofs.Matching.{match_decides}
 use Rattle.eb_base.specs.Document.{Doc}
 use Rattle.eb_base.specs.Query.{Tree, Trees, word, phrase, window, since, negation, conjunction, disjunction, no_trees, trees}
 use Rattle.eb_base.specs.Match.{Stand, Matches, EachMatches, SomeMatches, is_match}
-use Rattle.eb_watch.specs.Key.{watch_key, first_key, all_keys, first_term, joined, key_has, is_candidate}
+use Rattle.eb_watch.specs.Key.{watch_key, first_key, all_keys, first_term, joined_keys, key_has, is_candidate}
 use Rattle.eb_watch.specs.KeyLaw.{HasOneOf, KeyLaw}
 
 alone : (t : List ℕ) → Contains (t ∷ []) t
@@ -40,12 +40,12 @@ either : (d : Doc) (a b : Option (List (List ℕ))) → IfSome a (λ key. HasOne
 either d None b h k = k
 either d (Some x) b h k = h
 
-in_first : (d : Doc) (a b : Option (List (List ℕ))) → IfSome a (λ key. HasOneOf key d) → IfSome (joined a b) (λ key. HasOneOf key d)
+in_first : (d : Doc) (a b : Option (List (List ℕ))) → IfSome a (λ key. HasOneOf key d) → IfSome (joined_keys a b) (λ key. HasOneOf key d)
 in_first d None b h = tt
 in_first d (Some x) None h = tt
 in_first d (Some x) (Some y) h = (h.0, Contains-append_left x y h.0 h.1, h.2)
 
-in_rest : (d : Doc) (a b : Option (List (List ℕ))) → IfSome b (λ key. HasOneOf key d) → IfSome (joined a b) (λ key. HasOneOf key d)
+in_rest : (d : Doc) (a b : Option (List (List ℕ))) → IfSome b (λ key. HasOneOf key d) → IfSome (joined_keys a b) (λ key. HasOneOf key d)
 in_rest d None b h = tt
 in_rest d (Some x) None h = tt
 in_rest d (Some x) (Some y) h = (h.0, Contains-append_right x y h.0 h.1, h.2)

@@ -11,9 +11,9 @@ first_term [] = None
 first_term (t ∷ ts) = Some (t ∷ [])
 
 -- the terms of two keys, where both are there
-abbrev pub joined : Option (List (List ℕ)) → Option (List (List ℕ)) → Option (List (List ℕ))
-joined None other = None
-joined (Some ts) other = option_map (λ us. ts ++ us) other
+abbrev pub joined_keys : Option (List (List ℕ)) → Option (List (List ℕ)) → Option (List (List ℕ))
+joined_keys None other = None
+joined_keys (Some ts) other = option_map (λ us. ts ++ us) other
 
 -- the key of a query, a list of terms or nothing
 --   word: its term; phrase and window: the first term; since and negation: nothing
@@ -35,7 +35,7 @@ abbrev mutual
 
   pub all_keys : Trees → Option (List (List ℕ))
   all_keys no_trees = Some []
-  all_keys (trees q qs) = joined (watch_key q) (all_keys qs)
+  all_keys (trees q qs) = joined_keys (watch_key q) (all_keys qs)
 
 -- the query has no key
 abbrev pub is_keyless : Tree → Bool

@@ -3,5 +3,5 @@ use Rattle.std.specs.Prelude.{ℕ, List, Option, option_map}
 use Rattle.std.specs.declared.vec.Vec.{Vec}
 
 -- the terms of the key
-abbrev pub terms_of : {Z : Type 0} → Option (Vec (List ℕ) Z) → Option (List (List ℕ))
-terms_of key = option_map (λ v. v.items) key
+abbrev pub key_terms : {Z : Type 0} → Option (Vec (List ℕ) Z) → Option (List (List ℕ))
+key_terms key = option_map (λ v. v.items) key

@@ -3,7 +3,7 @@ ghost use Rattle.std.specs.Prelude.{◌≡◌, ℕ, false, List, bytes_eq, OnOk,
 ghost use Rattle.std.specs.List.{list_any};
 ghost use Rattle.std.specs.Option.{is_none};
 ghost use Rattle.eb_watch.specs.Key.{key_has};
-ghost use Rattle.eb_watch.specs.Terms.{terms_of};
+ghost use Rattle.eb_watch.specs.Terms.{key_terms};
 ghost use Rattle.eb_watch.specs.Index.{leads, LeadsAlso, LeadsNoMore, LeadsElsewhere, LeadsAsBefore, HasAlso, HasNoMore, HasAsBefore};
 
 use eb_base::{NoMemory, Term};
@@ -72,8 +72,8 @@ pub(crate) fn put_key(
     number: u32,
 ) -> Result<(), NoMemory>
     requires free { (t : List ℕ) → leads by_term.old t number ≡ false }
-    ensures terms { OnOk result (LeadsAlso by_term.old by_term.new (key_has (terms_of key.now)) number) }
-    ensures keyless { OnOk result (HasAlso keyless.old keyless.new (is_none (terms_of key.now)) number) }
+    ensures terms { OnOk result (LeadsAlso by_term.old by_term.new (key_has (key_terms key.now)) number) }
+    ensures keyless { OnOk result (HasAlso keyless.old keyless.new (is_none (key_terms key.now)) number) }
     ensures same_terms { OnErr result (LeadsAsBefore by_term.old by_term.new) }
     ensures same_keyless { OnErr result (HasAsBefore keyless.old keyless.new) }
 {
@@ -98,8 +98,8 @@ pub(crate) fn take_key(
     key: &Option<Vec<Term>>,
     number: u32,
 )
-    ensures terms { LeadsNoMore by_term.old by_term.new (key_has (terms_of key.now)) number }
-    ensures keyless { HasNoMore keyless.old keyless.new (is_none (terms_of key.now)) number }
+    ensures terms { LeadsNoMore by_term.old by_term.new (key_has (key_terms key.now)) number }
+    ensures keyless { HasNoMore keyless.old keyless.new (is_none (key_terms key.now)) number }
 {
     match key {
         Some(terms) => take_all(by_term, terms.as_slice(), number),

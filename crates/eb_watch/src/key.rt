@@ -2,7 +2,7 @@
 ghost use Rattle.std.specs.Prelude.{◌≡◌, ◌∷◌, [], IfOk};
 ghost use Rattle.eb_base.specs.Query.{tree, parts_of, trees_of};
 ghost use Rattle.eb_watch.specs.Key.{watch_key, first_key, all_keys, first_term};
-ghost use Rattle.eb_watch.specs.Terms.{terms_of};
+ghost use Rattle.eb_watch.specs.Terms.{key_terms};
 
 use eb_base::{NoMemory, Queries, Query, Term, Terms};
 use std::alloc::Global;
@@ -10,7 +10,7 @@ use std::alloc::Global;
 // The key of the query: terms of which each document that matches it has one. Takes memory.
 #[cycle(key)]
 pub(crate) fn key_of(alloc: Global, query: &Query) -> Result<Option<Vec<Term>>, NoMemory>
-    ensures { IfOk result (λ key. terms_of key ≡ watch_key (tree query.now)) }
+    ensures { IfOk result (λ key. key_terms key ≡ watch_key (tree query.now)) }
 {
     match query {
         Query::Word(term) => key_of_term(alloc, term),
@@ -26,7 +26,7 @@ pub(crate) fn key_of(alloc: Global, query: &Query) -> Result<Option<Vec<Term>>, 
 // The key of the first part that has one.
 #[cycle(key)]
 fn first_key_of(alloc: Global, parts: &Queries) -> Result<Option<Vec<Term>>, NoMemory>
-    ensures { IfOk result (λ key. terms_of key ≡ first_key (trees_of (parts_of parts.now))) }
+    ensures { IfOk result (λ key. key_terms key ≡ first_key (trees_of (parts_of parts.now))) }
 {
     for part in parts.as_slice() {
         let key = key_of(alloc, part)?;
@@ -40,7 +40,7 @@ fn first_key_of(alloc: Global, parts: &Queries) -> Result<Option<Vec<Term>>, NoM
 // The terms of all parts' keys, where each part has one.
 #[cycle(key)]
 fn all_keys_of(alloc: Global, parts: &Queries) -> Result<Option<Vec<Term>>, NoMemory>
-    ensures { IfOk result (λ key. terms_of key ≡ all_keys (trees_of (parts_of parts.now))) }
+    ensures { IfOk result (λ key. key_terms key ≡ all_keys (trees_of (parts_of parts.now))) }
 {
     let mut terms = Vec::new(alloc);
     for part in parts.as_slice() {
@@ -54,7 +54,7 @@ fn all_keys_of(alloc: Global, parts: &Queries) -> Result<Option<Vec<Term>>, NoMe
 
 // The term, as a key.
 fn key_of_term(alloc: Global, term: &Term) -> Result<Option<Vec<Term>>, NoMemory>
-    ensures { IfOk result (λ key. terms_of key ≡ Some (term.now ∷ [])) }
+    ensures { IfOk result (λ key. key_terms key ≡ Some (term.now ∷ [])) }
 {
     let mut key = Vec::new(alloc);
     key.push(Term::new(alloc, term.bytes())?)?;
@@ -63,7 +63,7 @@ fn key_of_term(alloc: Global, term: &Term) -> Result<Option<Vec<Term>>, NoMemory
 
 // The first of the terms, as a key.
 fn key_of_terms(alloc: Global, terms: &Terms) -> Result<Option<Vec<Term>>, NoMemory>
-    ensures { IfOk result (λ key. terms_of key ≡ first_term terms.now) }
+    ensures { IfOk result (λ key. key_terms key ≡ first_term terms.now) }
 {
     match terms.as_slice() {
         [first, ..] => key_of_term(alloc, first),

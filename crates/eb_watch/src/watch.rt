@@ -2,7 +2,7 @@
 ghost use Rattle.std.specs.Prelude.{◌≡◌};
 ghost use Rattle.eb_base.specs.Query.{tree};
 ghost use Rattle.eb_watch.specs.Key.{watch_key};
-ghost use Rattle.eb_watch.specs.Terms.{terms_of};
+ghost use Rattle.eb_watch.specs.Terms.{key_terms};
 
 use eb_base::{Query, Term};
 
@@ -11,5 +11,5 @@ use eb_base::{Query, Term};
 pub(crate) struct Watch {
     pub(crate) query: Query,
     pub(crate) key: Option<Vec<Term>>,
-    ghost keyed: { terms_of key ≡ watch_key (tree query) },
+    ghost keyed: { key_terms key ≡ watch_key (tree query) },
 }

@@ -9,7 +9,7 @@ use Rattle.eb_base.specs.Document.{Doc}
 use Rattle.eb_base.specs.Match.{answer, is_match}
 use Rattle.eb_base.specs.Query.{Tree}
 use Rattle.eb_base.specs.Setting.{Setting}
-use Rattle.eb_engine.specs.Tokens.{Token}
+use Rattle.eb_engine.specs.Tokens.{HistoryToken}
 use Rattle.eb_io.specs.Lines.{Line}
 use Rattle.eb_place.specs.Room.{cut, has_room}
 use Rattle.eb_rounds.specs.Conversions.{most_converted}
@@ -108,8 +108,8 @@ watching_on old new t0 t1 index writer converter watches stats number asked fail
       words = h.holds.words;
       index = index ∙ h.holds.index;
       setting = h.holds.setting;
-      writer = ap (λ (t : Token). t.index) writer ∙ h.holds.writer;
-      documents = ap (λ (t : Token). t.docs) writer ∙ h.holds.documents;
+      writer = ap (λ (t : HistoryToken). t.index) writer ∙ h.holds.writer;
+      documents = ap (λ (t : HistoryToken). t.docs) writer ∙ h.holds.documents;
       converter = (λ i. (converter i).index) ∙ h.holds.converter;
       watches = watches ∙ h.holds.watches;
     };
@@ -140,8 +140,8 @@ pub record IsSame (old new : Watching) : Type 0 where
   pub watches : watches_of new.watches ≡ watches_of old.watches
 
 holds_still : (old new : Watching) (σ : Setting) (docs : List Doc) (ws : List Watched) → IsSame old new → Holds old σ docs ws → Holds new σ (docs ++ []) ws
-holds_still old new σ docs ws s = holds_on old new σ docs [] ws ws s.index (ap (λ (t : Token). t.index) s.writer)
-    (ap (λ (t : Token). t.docs) s.writer ∙ sym (append-nil old.writer.docs)) (λ i. (s.converter i).index) (λ e. s.watches ∙ e)
+holds_still old new σ docs ws s = holds_on old new σ docs [] ws ws s.index (ap (λ (t : HistoryToken). t.index) s.writer)
+    (ap (λ (t : HistoryToken). t.docs) s.writer ∙ sym (append-nil old.writer.docs)) (λ i. (s.converter i).index) (λ e. s.watches ∙ e)
 
 pub takes_blank : (old new : Watching) → IsSame old new → new.stats ≡ old.stats → new.number ≡ old.number + 1 → new.queries ≡ old.queries → new.refused ≡ old.refused
     → (text : List ℕ) → TakesLine old new text text (plain blank)
@@ -232,8 +232,8 @@ module _ (old new : Watching) (t0 t1 : List ℕ) (index : new.index ≡ old.inde
       let out = watched_output (old.number + 1) ds ws raw in (
         out,
         one_more old new a given so_far l raw h reads raw (is a.setting ds ∙ ap (λ vs. admit_watched a.setting ds vs raw) h.holds.watches)
-            (holds_on old new a.setting ds (documents_of raw) ws (watches_after ws raw) index (ap (λ (t : Token). t.index) writer)
-            (ap (λ (t : Token). t.docs) writer ∙ sym (append-nil old.writer.docs) ∙ ap (λ xs. old.writer.docs ++ xs) (sym none)) (λ i. (converter i).index)
+            (holds_on old new a.setting ds (documents_of raw) ws (watches_after ws raw) index (ap (λ (t : HistoryToken). t.index) writer)
+            (ap (λ (t : HistoryToken). t.docs) writer ∙ sym (append-nil old.writer.docs) ∙ ap (λ xs. old.writer.docs ++ xs) (sym none)) (λ i. (converter i).index)
             (λ e. watches ∙ ap (λ vs. watches_after vs raw) e) h.holds)
             stats number (asked ∙ omega (arith, no_query)) (failed ∙ omega (arith, no_refusal)) (omega (arith, no_query)) (omega (arith, no_refusal)),
         text ∙ sym (append-nil t0) ∙ ap (λ b. t0 ++ b) (sym (silent ds ws)),

@@ -1,5 +1,4 @@
 //! The program with watches: what it does with each line, and at the end.
-ghost use Rattle.eb_io.specs.Lines.{line};
 
 use crate::watching::Watching;
 use eb_base::{Gate, NoMemory};

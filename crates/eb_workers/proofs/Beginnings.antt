@@ -7,7 +7,7 @@ use Rattle.eb_lines.specs.Reads.{Reads}
 use Rattle.eb_rounds.proofs.LinesRead.{read_none}
 use Rattle.eb_rounds.proofs.Texts.{body_none}
 use Rattle.eb_serve.specs.Desk.{Queues, ClerkBook, new_clerk}
-use Rattle.eb_serve.specs.Rule.{IsAbove}
+use Rattle.eb_serve.specs.Rule.{IsAboveEach}
 use Rattle.eb_table.specs.Known.{Words}
 use Rattle.eb_workers.specs.declared.office.Office.{Office}
 use Rattle.eb_workers.specs.declared.office.Side.{Side}
@@ -49,7 +49,7 @@ served_none s o stats office clerk writer docs converter told counts items =
       refused = counts.2;
       few_queries = omega (arith, counts.1);
       few_refused = omega (arith, counts.2);
-      above = subst (IsAbove (s.number + 1)) (sym put) (All-nil _);
+      above = subst (IsAboveEach (s.number + 1)) (sym put) (All-nil _);
       least = λ j e. (let no : ⊥ = cc (get_behind [] j (omega arith), e) in absurd no);
       most = λ j. omega arith;
       waiting = subst (λ (xs : List Waiting). AreWaiting s.office.writer.docs 0 [] xs) (sym items) tt;

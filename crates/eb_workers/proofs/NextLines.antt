@@ -6,7 +6,7 @@ use Rattle.eb_lines.specs.Progress.{documents_in, accepted, told, is_query}
 use Rattle.eb_lines.specs.Text.{answer_line}
 use Rattle.eb_lines.proofs.Advancing.{told-length}
 use Rattle.eb_rounds.specs.Sees.{is_asked, IsAsked}
-use Rattle.eb_rounds.specs.Rows.{joined}
+use Rattle.eb_rounds.specs.Rows.{joined_numbers}
 use Rattle.eb_rounds.specs.Text.{output_of, body_from}
 use Rattle.eb_rounds.proofs.Seeing.{told_front}
 use Rattle.eb_rounds.proofs.Texts.{body_append, body_one}
@@ -48,7 +48,7 @@ split_waiting docs t (r ∷ rest) w ws h = (r, rest, refl, h.0, h.1)
 -- lines that are done, and one more behind them
 module _ (docs : List Doc) (done : List Reading) (r : Reading) (w : Waiting) (n : ℕ → ℕ) (ready : IsReady w) (stands : WaitsAs docs (length (accepted done)) r w) where
   abbrev pub numbers_on : ℕ → ℕ
-  numbers_on = joined (length done) n (λ i. seen_by w)
+  numbers_on = joined_numbers (length done) n (λ i. seen_by w)
 
   at_end : numbers_on (length done) ≡ seen_by w
   at_end = joined_back (length done) n (λ i. seen_by w) (length done) (omega arith)

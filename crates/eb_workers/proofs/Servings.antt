@@ -7,7 +7,7 @@ use Rattle.eb_base.specs.Document.{Doc}
 use Rattle.eb_base.specs.Match.{answer}
 use Rattle.eb_cursor.specs.declared.frame.Frame.{Frame}
 use Rattle.eb_cursor.specs.Frames.{query_of, k_of, ids_of}
-use Rattle.eb_engine.specs.Tokens.{Token}
+use Rattle.eb_engine.specs.Tokens.{HistoryToken}
 use Rattle.eb_io.specs.Lines.{Line}
 use Rattle.eb_lines.specs.Programs.{IsRunning, WorksOn, WorksOnGiven}
 use Rattle.eb_lines.specs.Reading.{Reading}
@@ -20,7 +20,7 @@ use Rattle.eb_rounds.specs.LinesRead.{AreRead}
 use Rattle.eb_rounds.specs.Text.{body_from}
 use Rattle.eb_rounds.proofs.LinesRead.{read_push, read_long}
 use Rattle.eb_rounds.proofs.Texts.{body_grown}
-use Rattle.eb_serve.specs.Rule.{IsAbove}
+use Rattle.eb_serve.specs.Rule.{IsAboveEach}
 use Rattle.eb_serve.specs.declared.rule.Pair.{Pair}
 use Rattle.eb_table.specs.Known.{Words}
 use Rattle.eb_workers.specs.declared.office.Office.{Office}
@@ -38,7 +38,7 @@ use Rattle.eb_workers.proofs.NextLines.{split_waiting, numbers_on, least_on, mos
 
 pub served_further : (old new : Serving) (a : Asked) (given : List Line) (so_far : List ℕ) → IsFurther old new → HasServed old a given so_far → HasServed new a given so_far
 served_further old new a given so_far f h =
-    let docs : new.office.writer.docs ≡ old.office.writer.docs = ap (λ (t : Token). t.docs) f.writer in
+    let docs : new.office.writer.docs ≡ old.office.writer.docs = ap (λ (t : HistoryToken). t.docs) f.writer in
     record {
       staffed = f.keeps.staffed;
       setting = ap (λ (x : Words). x.setting) f.keeps.index ∙ h.setting;
@@ -53,7 +53,7 @@ served_further old new a given so_far f h =
       refused = f.refused ∙ h.refused;
       few_queries = omega (arith, f.queries, f.number, h.few_queries);
       few_refused = omega (arith, f.refused, f.number, h.few_refused);
-      above = subst (λ n. IsAbove (n + 1) new.office.clerk.put) (sym f.number) (subst (IsAbove (old.number + 1)) (sym f.put) h.above);
+      above = subst (λ n. IsAboveEach (n + 1) new.office.clerk.put) (sym f.number) (subst (IsAboveEach (old.number + 1)) (sym f.put) h.above);
       least = h.least;
       most = λ j. subst (λ (ds : List Doc). h.numbers j ≤ length ds) (sym docs) (h.most j);
       waiting = subst (λ (ds : List Doc). AreWaiting ds (length (accepted h.done)) h.ahead new.waiting.items) (sym docs) (f.waiting (length (accepted h.done)) h.ahead h.waiting);
@@ -78,7 +78,7 @@ goes_running old new t0 t1 r f = let w = f r.0 r.1 r.2 r.3 in (r.0, r.1, r.2 ++ 
 
 pub further_trans : (old mid new : Serving) → IsFurther old mid → IsFurther mid new → IsFurther old new
 further_trans old mid new f g =
-    let docs : mid.office.writer.docs ≡ old.office.writer.docs = ap (λ (t : Token). t.docs) f.writer in
+    let docs : mid.office.writer.docs ≡ old.office.writer.docs = ap (λ (t : HistoryToken). t.docs) f.writer in
     record {
       keeps = record { staffed = g.keeps.staffed; index = g.keeps.index ∙ f.keeps.index };
       writer = g.writer ∙ f.writer;
@@ -99,7 +99,7 @@ pub further_in : (old new : Serving) (at seen : ℕ) (frame : Frame) (known : Li
     → new.waiting.items ≡ set old.waiting.items at (waits.Answered seen frame) → ids_of frame ≡ answer (query_of frame) (k_of frame) known → seen ≡ length known
     → IsPrefix known new.office.writer.docs → IsFurther old new
 further_in old new at seen frame known keeps writer put stats number queries refused awaits items ids count prefix =
-    let docs : new.office.writer.docs ≡ old.office.writer.docs = ap (λ (t : Token). t.docs) writer in
+    let docs : new.office.writer.docs ≡ old.office.writer.docs = ap (λ (t : HistoryToken). t.docs) writer in
     let whole : known ++ prefix.0 ≡ old.office.writer.docs = prefix.1 ∙ docs in
     let front : take seen old.office.writer.docs ≡ known = ap₂ (λ n ds. take n ds) count (sym whole) ∙ take-append_seam known prefix.0 in
     let le : seen ≤ length old.office.writer.docs = omega (arith, count, ap length whole, length-append known prefix.0) in
@@ -147,7 +147,7 @@ module _ (old new : Serving) (w : Waiting) (ws : List Waiting) (text text_new : 
         refused = refused_same ∙ h.refused ∙ ap refusals (sym all);
         few_queries = omega (arith, queries_same, number, h.few_queries);
         few_refused = omega (arith, refused_same, number, h.few_refused);
-        above = subst (λ m. IsAbove (m + 1) new.office.clerk.put) (sym number) (subst (λ (o : Office). IsAbove (old.number + 1) o.clerk.put) (sym office) h.above);
+        above = subst (λ m. IsAboveEach (m + 1) new.office.clerk.put) (sym number) (subst (λ (o : Office). IsAboveEach (old.number + 1) o.clerk.put) (sym office) h.above);
         least = least_on docs h.done r w h.numbers ready s.3 h.least;
         most = λ j. subst (λ (ds : List Doc). numbers_on docs h.done r w h.numbers ready s.3 j ≤ length ds) (sym same) (most_on docs h.done r w h.numbers ready s.3 h.most j);
         waiting =
@@ -166,7 +166,7 @@ module _ (old new : Serving) (w : Waiting) (ws : List Waiting) (text text_new : 
 module _ (old new : Serving) (r : Reading) (w : Waiting) (own : Reading) (is : admit old.office.index.now.setting old.office.writer.docs r ≡ own) (keeps : Keeps old.office new.office)
     (docs : new.office.writer.docs ≡ old.office.writer.docs ++ documents_in own)
     (stats : new.stats ≡ old.stats) (number : new.number ≡ old.number + 1) (asks : new.queries ≡ old.queries + one_if (is_query own))
-    (fails : new.refused ≡ old.refused + one_if (is_refused own)) (low : (one_if (is_query own) ≤ 1) × (one_if (is_refused own) ≤ 1)) (above : IsAbove (new.number + 1) new.office.clerk.put)
+    (fails : new.refused ≡ old.refused + one_if (is_refused own)) (low : (one_if (is_query own) ≤ 1) × (one_if (is_refused own) ≤ 1)) (above : IsAboveEach (new.number + 1) new.office.clerk.put)
     (items : new.waiting.items ≡ old.waiting.items ++ w ∷ []) (stands : WaitsAs (old.office.writer.docs ++ documents_in own) (length old.office.writer.docs) own w) where
   pub served_line : TakesLine old new r
   served_line a given so_far l h reads =
@@ -206,7 +206,7 @@ module _ (old new : Serving) (r : Reading) (w : Waiting) (own : Reading) (is : a
 
 -- ---- the lines that wait
 
-pub above_more : (n : ℕ) (ps : List Pair) → IsAbove n ps → IsAbove (n + 1) ps
+pub above_more : (n : ℕ) (ps : List Pair) → IsAboveEach n ps → IsAboveEach (n + 1) ps
 above_more n ps a = All-weaker (λ (q : Pair). q.number < n) (λ q. q.number < n + 1) (λ q h. omega (arith, h)) ps a
 
 -- the same lines wait

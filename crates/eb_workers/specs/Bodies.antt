@@ -6,7 +6,7 @@ use Rattle.std.proofs.lemmas.Bool.Decides.{nat_tests}
 use Rattle.eb_base.specs.Document.{Doc}
 use Rattle.eb_lines.specs.Reading.{Reading}
 use Rattle.eb_rounds.specs.Sees.{is_asked, IsAsked}
-use Rattle.eb_rounds.specs.Rows.{joined}
+use Rattle.eb_rounds.specs.Rows.{joined_numbers}
 use Rattle.eb_rounds.specs.Text.{body_from}
 use Rattle.eb_rounds.proofs.Seeing.{get_front}
 use Rattle.eb_rounds.proofs.Texts.{body_same}
@@ -14,14 +14,14 @@ use Rattle.eb_rounds.proofs.Texts.{body_same}
 -- ---- the numbers of the first k lines, and then others
 
 module _ (k : ℕ) (n m : ℕ → ℕ) where
-  pub joined_front : (j : ℕ) → j < k → joined k n m j ≡ n j
+  pub joined_front : (j : ℕ) → j < k → joined_numbers k n m j ≡ n j
   joined_front j low = let is : nat_lt j k ≡ true = grind (arith, nat_tests) in rw is refl
 
-  pub joined_back : (j : ℕ) → k ≤ j → joined k n m j ≡ m (j - k)
+  pub joined_back : (j : ℕ) → k ≤ j → joined_numbers k n m j ≡ m (j - k)
   joined_back j high = let is : nat_lt j k ≡ false = grind (arith, nat_tests) in rw is refl
 
-  pub joined_body : (docs : List Doc) (rs : List Reading) → length rs ≡ k → body_from (joined k n m) docs 0 rs ≡ body_from n docs 0 rs
-  joined_body docs rs e = body_same (joined k n m) n docs docs 0 rs (λ i low high. let same = joined_front i (omega (arith, high, e)) in (same, refl))
+  pub joined_body : (docs : List Doc) (rs : List Reading) → length rs ≡ k → body_from (joined_numbers k n m) docs 0 rs ≡ body_from n docs 0 rs
+  joined_body docs rs e = body_same (joined_numbers k n m) n docs docs 0 rs (λ i low high. let same = joined_front i (omega (arith, high, e)) in (same, refl))
 
 pub side : (j k : ℕ) → (j < k) ⊎ (k ≤ j)
 side j k = elim (cases_Bool (nat_lt j k)) [

@@ -7,7 +7,7 @@ use Rattle.eb_lines.specs.Reads.{Reads}
 use Rattle.eb_rounds.specs.Sees.{IsAsked}
 use Rattle.eb_rounds.specs.LinesRead.{AreRead}
 use Rattle.eb_rounds.specs.Text.{body_from}
-use Rattle.eb_serve.specs.Rule.{IsAbove}
+use Rattle.eb_serve.specs.Rule.{IsAboveEach}
 use Rattle.eb_workers.specs.declared.serving.Serving.{Serving}
 use Rattle.eb_workers.specs.Output.{Asked}
 use Rattle.eb_workers.specs.Offices.{IsStaffed, Keeps}
@@ -28,7 +28,7 @@ pub record HasServed (s : Serving) (a : Asked) (given : List Line) (so_far : Lis
   pub refused : s.refused ≡ refusals (done ++ ahead)
   pub few_queries : s.queries ≤ s.number
   pub few_refused : s.refused ≤ s.number
-  pub above : IsAbove (s.number + 1) s.office.clerk.put
+  pub above : IsAboveEach (s.number + 1) s.office.clerk.put
   pub least : (j : ℕ) → IsAsked done j → told done j ≤ numbers j
   pub most : (j : ℕ) → numbers j ≤ length s.office.writer.docs
   pub waiting : AreWaiting s.office.writer.docs (length (accepted done)) ahead s.waiting.items

@@ -5,7 +5,7 @@ use Rattle.eb_lines.specs.Programs.{PrintsFront}
 use Rattle.eb_lines.specs.Reading.{Reading}
 use Rattle.eb_lines.specs.Progress.{accepted, told, progress_after}
 use Rattle.eb_lines.proofs.Advancing.{told_within}
-use Rattle.eb_rounds.specs.Rows.{joined}
+use Rattle.eb_rounds.specs.Rows.{joined_numbers}
 use Rattle.eb_rounds.specs.Ending.{stats_of}
 use Rattle.eb_rounds.specs.Text.{body, body_from, summary}
 use Rattle.eb_rounds.proofs.Seeing.{told_front}
@@ -23,7 +23,7 @@ module _ (s : Serving) (a : Asked) (given : List Line) (so_far : List ℕ) (h : 
   back i = told all_readings (length h.done + i)
 
   abbrev pub numbers_all : ℕ → ℕ
-  numbers_all = joined (length h.done) h.numbers back
+  numbers_all = joined_numbers (length h.done) h.numbers back
 
   back_is : (j : ℕ) → length h.done ≤ j → numbers_all j ≡ told all_readings j
   back_is j high =

@@ -4,7 +4,7 @@ ghost use mathlib.Core.List.{IsPrefix};
 ghost use Rattle.eb_place.specs.Room.{cut};
 ghost use Rattle.eb_rounds.specs.Conversions.{most_converted};
 ghost use Rattle.eb_serve.specs.Jobs.{answerer};
-ghost use Rattle.eb_serve.specs.Rule.{IsAbove};
+ghost use Rattle.eb_serve.specs.Rule.{IsAboveEach};
 
 use eb_base::{Document, Gate};
 use eb_cursor::Frame;
@@ -85,10 +85,10 @@ impl Office<'_> {
     // Asks the query of a frame, under the number of its line, with a reader that knows all documents.
     pub(crate) fn ask<R: Wait>(&mut self, rt: &R, number: u64, frame: Frame)
         requires staffed { IsStaffed self.old }
-        requires above { IsAbove number self.old.clerk.put }
+        requires above { IsAboveEach number self.old.clerk.put }
         ensures keeps { Keeps self.old self.new }
         ensures writer { self.new.writer ≡ self.old.writer }
-        ensures above { IsAbove (number + 1) self.new.clerk.put }
+        ensures above { IsAboveEach (number + 1) self.new.clerk.put }
     {
         let reader = self.writer.reader(self.index);
         self.clerk

@@ -1,5 +1,4 @@
 //! The program over the lines of an input: what a run with workers does with each line, and at the end.
-ghost use Rattle.eb_io.specs.Lines.{line};
 
 use crate::serving::Serving;
 use eb_base::{Gate, NoMemory};

@@ -4,7 +4,7 @@ ghost use Rattle.eb_io.specs.Faults.{HasRisen};
 ghost use Rattle.eb_io.specs.Lines.{longest_input};
 ghost use Rattle.eb_lines.specs.Outcomes.{IsWorkedOff};
 ghost use Rattle.eb_lines.specs.Passing.{Ends};
-ghost use Rattle.eb_serve.specs.Desk.{IsReady};
+ghost use Rattle.eb_serve.specs.Desk.{IsWorkerOf};
 ghost use Rattle.eb_rounds.specs.LinesRead.{HasRefusal, HasNoRefusal};
 ghost use Rattle.eb_workers.specs.Output.{Asked, asked, IsWorkersBody, IsWorkersText, WroteWorkers, MeansWorkers};
 ghost use Rattle.eb_workers.specs.Offices.{IsNewSide};
@@ -107,7 +107,7 @@ fn serve_beside<R: Threads + Wait + Sync, S: Source, K: Sink, G: Gate + Sync>(
     out: &mut K,
     count: u32,
 ) -> Status
-    requires workers { All (λ w. IsReady desk.now.queues index.now w) workers.old }
+    requires workers { All (λ w. IsWorkerOf desk.now.queues index.now w) workers.old }
     requires side { IsNewSide desk.now.queues index.now side.old }
     ensures ends { let a = asked index.now.setting stats in
         Ends (IsWorkersBody a) (IsWorkersText a) (HasRefusal a.setting) (HasNoRefusal a.setting) result
@@ -118,7 +118,7 @@ fn serve_beside<R: Threads + Wait + Sync, S: Source, K: Sink, G: Gate + Sync>(
     let (_, (status, _)) = join_mut(
         rt,
         &mut ||
-            requires { All (λ w. IsReady desk.now.queues index.now w) workers.now }
+            requires { All (λ w. IsWorkerOf desk.now.queues index.now w) workers.now }
         { work_all(rt, desk, index, gate, workers) },
         &mut ||
             requires { IsNewSide desk.now.queues index.now side.now }

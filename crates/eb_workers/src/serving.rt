@@ -1,5 +1,5 @@
 //! A run with workers between two lines: the office, and the lines that wait.
-ghost use Rattle.std.specs.Prelude.{◌≡◌, ◌+◌, ◌<◌, ◌≤◌, ◌^◌, ℕ, List, [], true, length, IfOk, IfSome, OnErr, OnOk, IsTrue, ◌↔◌};
+ghost use Rattle.std.specs.Prelude.{◌≡◌, ◌+◌, ◌<◌, ◌≤◌, ◌^◌, ℕ, List, [], true, IfOk, IfSome, OnErr, OnOk, IsTrue};
 ghost use Rattle.std.specs.VecDeque.{deque_len, deque_capacity};
 ghost use Rattle.eb_cursor.specs.Frames.{query_of, k_of};
 ghost use Rattle.eb_io.specs.Lines.{Line, line, long_line};

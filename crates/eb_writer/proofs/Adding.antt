@@ -28,7 +28,7 @@ use Rattle.eb_place.proofs.NextStore.{accepted_lawful}
 use Rattle.eb_writer.specs.declared.plan.Found.{Found}
 use Rattle.eb_writer.specs.declared.plan.Plan.{Plan}
 use Rattle.eb_writer.specs.Counting.{IsIdle, tokens_in, IsUsedBy, IsReady, AreFound, IsPlan}
-use Rattle.eb_writer.specs.Storing.{before_it, tokens_until, IsPlaced, HasComeTo, IsAccepted, HasStoredMore, BeginsSegment, with_document}
+use Rattle.eb_writer.specs.Storing.{before_it, tokens_until, IsPlaced, HasComeTo, IsAccepted, HasStoredMore, BeginsSegment, with_accepted}
 use Rattle.eb_writer.specs.Progress.{PlacerProgress, PlacerStands, IsLastFull, HasNoRoom}
 use Rattle.eb_writer.proofs.Idle.{idle_entered, idle_tokens, told_used, used_tells, tokens_same}
 use Rattle.eb_writer.proofs.Ends.{join_first, nothing_tokens}
@@ -233,7 +233,7 @@ full_same m n d l e h = subst (λ (z : Setting × Documents). 1 ≤ length (cut 
 
 -- what holds of the accepted documents
 pub accepted_same : (m n k : Moment) (d : Doc) → IsNotBefore n m → n.documents ≡ m.documents → IsAccepted n k d → IsAccepted m k d
-accepted_same m n k d l e a = record { later = later_on m n k l a.later; documents = a.documents ∙ ap (λ x. with_document x d) e }
+accepted_same m n k d l e a = record { later = later_on m n k l a.later; documents = a.documents ∙ ap (λ x. with_accepted x d) e }
 
 pub accepted_on : (m n k : Moment) (d : Doc) → HasStoredMore m n → IsAccepted n k d → IsAccepted m k d
 accepted_on m n k d l a = record { later = later_on m n k l.later a.later; documents = a.documents ∙ ap (λ z. record { accepted = z ++ d ∷ []; current = None }) l.accepted }

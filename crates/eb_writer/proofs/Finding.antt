@@ -12,7 +12,7 @@ use Rattle.eb_place.proofs.TermNumbersStay.{number_here, number_stays, number_ab
 use Rattle.eb_place.proofs.ReachedLater.{later_term}
 use Rattle.eb_chain.specs.Needs.{IsTailWord}
 use Rattle.eb_writer.specs.declared.plan.Found.{Found}
-use Rattle.eb_writer.specs.Recall.{term_at, StoodAt}
+use Rattle.eb_writer.specs.Recall.{token_at, StoodAt}
 use Rattle.eb_writer.specs.Counting.{tokens_in, IsFound, AreFound, IsFirst}
 use Rattle.eb_writer.proofs.Recalling.{count_take}
 use Rattle.eb_writer.proofs.Idle.{IsKnown, tokens_same}
@@ -32,7 +32,7 @@ element (x ∷ xs) (suc i) d h = element xs i d (omega arith)
 
 pub count_few : (u : Term) (ts : List Term) (i : ℕ) → i ≤ length ts → count_of u (take i ts) ≤ i
 count_few u ts zero h = omega (arith, count_of-nil u)
-count_few u ts (suc i) h = omega (arith, count_few u ts i (omega arith), count_take u ts i (omega arith), Rattle.eb_writer.proofs.Tallies.one_low (Rattle.std.proofs.Common.bytes_eq u (term_at ts i)))
+count_few u ts (suc i) h = omega (arith, count_few u ts i (omega arith), count_take u ts i (omega arith), Rattle.eb_writer.proofs.Tallies.one_low (Rattle.std.proofs.Common.bytes_eq u (token_at ts i)))
 
 -- a front and what stands behind a shorter one
 take_rest : {X : Type 0} (xs : List X) (q i : ℕ) → q ≤ i → (rest : List X) × (take i xs ≡ take q xs ++ rest)
@@ -42,7 +42,7 @@ take_rest [] (suc q) (suc i) h = ([], refl)
 take_rest (x ∷ xs) (suc q) zero h = absurd (omega arith)
 take_rest (x ∷ xs) (suc q) (suc i) h = let r = take_rest xs q i (omega arith) in (r.0, ap (λ z. x ∷ z) r.1)
 
-take_at_end : (ts : List Term) (p : ℕ) → p < length ts → take (suc p) ts ≡ take p ts ++ term_at ts p ∷ []
+take_at_end : (ts : List Term) (p : ℕ) → p < length ts → take (suc p) ts ≡ take p ts ++ token_at ts p ∷ []
 take_at_end [] p h = absurd (omega arith)
 take_at_end (x ∷ xs) zero h = refl
 take_at_end (x ∷ xs) (suc p) h = ap (λ z. x ∷ z) (take_at_end xs p (omega arith))
@@ -50,7 +50,7 @@ take_at_end (x ∷ xs) (suc p) h = ap (λ z. x ∷ z) (take_at_end xs p (omega a
 -- a token whose term stood at place p last
 pub again : (A ts : List Term) (i p : ℕ) (k : Found) → i < length ts → StoodAt ts i p → IsFound A ts p k → IsFound A ts i record { number = k.number; tail = k.tail; earlier = k.earlier + 1 }
 again A ts i p k low st h =
-    let t = term_at ts i in
+    let t = token_at ts i in
     let e = st.same in
     let F : List Term = A ++ take p ts in
     let r = take_rest ts (suc p) i st.earlier in
@@ -66,10 +66,10 @@ again A ts i p k low st h =
     }
 
 -- a token whose term doesn't stand earlier
-pub first : (A ts : List Term) (i next : ℕ) (t : Term) (k : Found) → t ≡ term_at ts i → count_of (term_at ts i) (take i ts) ≡ 0
+pub first : (A ts : List Term) (i next : ℕ) (t : Term) (k : Found) → t ≡ token_at ts i → count_of (token_at ts i) (take i ts) ≡ 0
     → next ≡ length (distinct (A ++ take i ts)) → IsFirst A t next k → IsFound A ts i k
 first A ts i next t k e z n h' =
-    let u = term_at ts i in
+    let u = token_at ts i in
     let h : IsFirst A u next k = subst (λ y. IsFirst A y next k) e h' in
     record {
       number = elim (cases_lt 0 (count_of u A)) [

@@ -9,7 +9,7 @@ use Rattle.eb_place.specs.Postings.{count_of}
 use Rattle.eb_place.proofs.TermCounts.{one_if, count_of-nil, count_of-cons}
 use Rattle.eb_writer.specs.declared.recall.Recall.{Recall}
 use Rattle.eb_writer.specs.declared.recall.TheConstants.{BUCKETS}
-use Rattle.eb_writer.specs.Recall.{bucket, term_at, LeadsBack, Remembers, StoodAt}
+use Rattle.eb_writer.specs.Recall.{bucket, token_at, LeadsBack, Remembers, StoodAt}
 
 -- the element that is given is that at its place
 pub at_place : {X : Type 0} (xs : List X) (i : ℕ) (x y : X) → slice_get xs i ≡ Some x → get_or xs i y ≡ x
@@ -18,7 +18,7 @@ at_place (z ∷ xs) zero x y e = cc
 at_place (z ∷ xs) (suc i) x y e = at_place xs i x y e
 
 -- the first tokens with one more
-pub count_take : (u : Term) (ts : List Term) (p : ℕ) → p < length ts → count_of u (take (suc p) ts) ≡ count_of u (take p ts) + one_if (bytes_eq u (term_at ts p))
+pub count_take : (u : Term) (ts : List Term) (p : ℕ) → p < length ts → count_of u (take (suc p) ts) ≡ count_of u (take p ts) + one_if (bytes_eq u (token_at ts p))
 count_take u [] p h = absurd (omega arith)
 count_take u (t ∷ ts) zero h = count_of-cons u t [] ∙ omega (arith, count_of-nil u)
 count_take u (t ∷ ts) (suc p) h = omega (arith, count_of-cons u t (take (suc p) ts), count_of-cons u t (take p ts), count_take u ts p (omega arith))
@@ -30,8 +30,8 @@ other u t h = elim (cases_Bool (bytes_eq u t)) [
 ]
 
 -- another token adds nothing
-pub count_other : (u : Term) (ts : List Term) (p : ℕ) → p < length ts → u ≢ term_at ts p → count_of u (take (suc p) ts) ≡ count_of u (take p ts)
-count_other u ts p l h = omega (arith, count_take u ts p l, ap one_if (other u (term_at ts p) h))
+pub count_other : (u : Term) (ts : List Term) (p : ℕ) → p < length ts → u ≢ token_at ts p → count_of u (take (suc p) ts) ≡ count_of u (take p ts)
+count_other u ts p l h = omega (arith, count_take u ts p l, ap one_if (other u (token_at ts p) h))
 
 -- a bucket is one of them
 pub bucket_low : (t : Term) → bucket t < BUCKETS
@@ -44,16 +44,16 @@ leads_nothing ts b = record { back = omega arith; there = λ p e. absurd cc; pas
 -- how far a search is: no token of the term at place i stands at `next` or behind it, before place i
 pub record IsSought (ts : List Term) (i next : ℕ) : Type 0 where
   pub back : next ≤ i
-  pub there : (p : ℕ) → next ≡ suc p → bucket (term_at ts p) ≡ bucket (term_at ts i)
-  pub passed : count_of (term_at ts i) (take i ts) ≡ count_of (term_at ts i) (take next ts)
+  pub there : (p : ℕ) → next ≡ suc p → bucket (token_at ts p) ≡ bucket (token_at ts i)
+  pub passed : count_of (token_at ts i) (take i ts) ≡ count_of (token_at ts i) (take next ts)
 
-pub sought_first : (ts : List Term) (i last : ℕ) → LeadsBack ts i (bucket (term_at ts i)) last → IsSought ts i last
-sought_first ts i last h = record { back = h.back; there = h.there; passed = h.passed (term_at ts i) refl }
+pub sought_first : (ts : List Term) (i last : ℕ) → LeadsBack ts i (bucket (token_at ts i)) last → IsSought ts i last
+sought_first ts i last h = record { back = h.back; there = h.there; passed = h.passed (token_at ts i) refl }
 
 pub sought_more : (ts : List Term) (i p next last : ℕ) → i < length ts → next ≡ suc p → IsSought ts i next
-    → term_at ts i ≢ term_at ts p → LeadsBack ts p (bucket (term_at ts p)) last → IsSought ts i last
+    → token_at ts i ≢ token_at ts p → LeadsBack ts p (bucket (token_at ts p)) last → IsSought ts i last
 sought_more ts i p next last low e h away l =
-    let t = term_at ts i in
+    let t = token_at ts i in
     let b = h.there p e in
     record {
       back = omega (arith, h.back, l.back);
@@ -61,18 +61,18 @@ sought_more ts i p next last low e h away l =
       passed = h.passed ∙ ap (λ k. count_of t (take k ts)) e ∙ count_other t ts p (omega (arith, h.back)) away ∙ l.passed t (sym b);
     }
 
-pub sought_found : (ts : List Term) (i p next : ℕ) → next ≡ suc p → IsSought ts i next → term_at ts p ≡ term_at ts i → StoodAt ts i p
-sought_found ts i p next e h same = record { earlier = omega (arith, h.back); same = same; last = h.passed ∙ ap (λ k. count_of (term_at ts i) (take k ts)) e }
+pub sought_found : (ts : List Term) (i p next : ℕ) → next ≡ suc p → IsSought ts i next → token_at ts p ≡ token_at ts i → StoodAt ts i p
+sought_found ts i p next e h same = record { earlier = omega (arith, h.back); same = same; last = h.passed ∙ ap (λ k. count_of (token_at ts i) (take k ts)) e }
 
-pub sought_none : (ts : List Term) (i : ℕ) → IsSought ts i 0 → count_of (term_at ts i) (take i ts) ≡ 0
-sought_none ts i h = h.passed ∙ count_of-nil (term_at ts i)
+pub sought_none : (ts : List Term) (i : ℕ) → IsSought ts i 0 → count_of (token_at ts i) (take i ts) ≡ 0
+sought_none ts i h = h.passed ∙ count_of-nil (token_at ts i)
 
 -- the bucket of the token itself leads back to it
-pub leads_here : (ts : List Term) (i : ℕ) → LeadsBack ts (i + 1) (bucket (term_at ts i)) (i + 1)
-leads_here ts i = record { back = omega arith; there = λ p e. ap (λ k. bucket (term_at ts k)) (let f : p ≡ i = omega arith in f); passed = λ u e. refl }
+pub leads_here : (ts : List Term) (i : ℕ) → LeadsBack ts (i + 1) (bucket (token_at ts i)) (i + 1)
+leads_here ts i = record { back = omega arith; there = λ p e. ap (λ k. bucket (token_at ts k)) (let f : p ≡ i = omega arith in f); passed = λ u e. refl }
 
 -- the other buckets lead back as before
-pub leads_on : (ts : List Term) (i b last : ℕ) → i < length ts → b ≢ bucket (term_at ts i) → LeadsBack ts i b last → LeadsBack ts (i + 1) b last
+pub leads_on : (ts : List Term) (i b last : ℕ) → i < length ts → b ≢ bucket (token_at ts i) → LeadsBack ts i b last → LeadsBack ts (i + 1) b last
 leads_on ts i b last low h l = record {
   back = omega (arith, l.back);
   there = l.there;
@@ -98,10 +98,10 @@ length_set (x ∷ xs) zero v = refl
 length_set (x ∷ xs) (suc i) v = ap suc (length_set xs i v)
 
 -- one more token is remembered
-pub remembers_more : (r : Recall) (ts : List Term) (i b : ℕ) → i < length ts → length ts ≤ most_tokens → b ≡ bucket (term_at ts i) → Remembers r ts i
+pub remembers_more : (r : Recall) (ts : List Term) (i b : ℕ) → i < length ts → length ts ≤ most_tokens → b ≡ bucket (token_at ts i) → Remembers r ts i
     → Remembers record { latest = slice_set r.latest b (i + 1); before = slice_set r.before i (get_or r.latest b 0) } ts (i + 1)
 remembers_more r ts i b low few e h =
-    let bl = bucket_low (term_at ts i) in
+    let bl = bucket_low (token_at ts i) in
     record {
       buckets = length_set r.latest b (i + 1) ∙ h.buckets;
       tokens = length_set r.before i (get_or r.latest b 0) ∙ h.tokens;
@@ -112,10 +112,10 @@ remembers_more r ts i b low few e h =
         | no q ↦ subst (LeadsBack ts (i + 1) c) (sym (set_other r.latest b c (i + 1) (λ z. q (sym z)))) (leads_on ts i c (get_or r.latest c 0) low (λ z. q (z ∙ sym e)) (h.latest c l))
       ];
       before = λ p l. elim (ℕ_discrete p i) [
-        | yes q ↦ subst (λ k. LeadsBack ts k (bucket (term_at ts k)) (get_or (slice_set r.before i (get_or r.latest b 0)) k 0)) (sym q)
-            (subst (LeadsBack ts i (bucket (term_at ts i)))
+        | yes q ↦ subst (λ k. LeadsBack ts k (bucket (token_at ts k)) (get_or (slice_set r.before i (get_or r.latest b 0)) k 0)) (sym q)
+            (subst (LeadsBack ts i (bucket (token_at ts i)))
             (sym (set_here r.before i (get_or r.latest b 0) (omega (arith, h.tokens)))) (subst (λ k. LeadsBack ts i k (get_or r.latest b 0)) e (h.latest b (omega (arith, e)))))
-        | no q ↦ subst (LeadsBack ts p (bucket (term_at ts p))) (sym (set_other r.before i p (get_or r.latest b 0) (λ z. q (sym z)))) (h.before p (below p i l q))
+        | no q ↦ subst (LeadsBack ts p (bucket (token_at ts p))) (sym (set_other r.before i p (get_or r.latest b 0) (λ z. q (sym z)))) (h.before p (below p i l q))
       ];
     }
   where

@@ -12,7 +12,7 @@ use Rattle.eb_place.specs.Tells.{TellsSegment}
 use Rattle.eb_chain.specs.Needs.{IsTailWord}
 use Rattle.eb_writer.specs.declared.plan.Found.{Found}
 use Rattle.eb_writer.specs.declared.plan.Plan.{Plan}
-use Rattle.eb_writer.specs.Recall.{term_at}
+use Rattle.eb_writer.specs.Recall.{token_at}
 
 -- no document is being placed
 abbrev pub IsIdle : Moment → Type 0
@@ -34,9 +34,9 @@ pub record IsUsedBy (u : Used) (ts : List Term) : Type 0 where
 -- of the token at place i of a document that comes behind the tokens of a segment: the number that its term
 -- has or will get, the term's tail word before the document, and how often the term stands earlier in it
 pub record IsFound (before ts : List Term) (i : ℕ) (k : Found) : Type 0 where
-  pub number : k.number ≡ number_of (term_at ts i) (before ++ take i ts)
-  pub tail : IsTailWord (count_of (term_at ts i) before) k.tail
-  pub earlier : k.earlier ≡ count_of (term_at ts i) (take i ts)
+  pub number : k.number ≡ number_of (token_at ts i) (before ++ take i ts)
+  pub tail : IsTailWord (count_of (token_at ts i) before) k.tail
+  pub earlier : k.earlier ≡ count_of (token_at ts i) (take i ts)
 
 -- the first n tokens of a document are found
 pub record AreFound (before ts : List Term) (found : List Found) (n : ℕ) : Type 0 where

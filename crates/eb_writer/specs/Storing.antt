@@ -11,7 +11,7 @@ use Rattle.eb_place.specs.Later.{IsNotBefore}
 use Rattle.eb_place.specs.NextStores.{stores_done, IsCurrent}
 use Rattle.eb_place.specs.Seen.{entered, tokens_seen}
 use Rattle.eb_chain.specs.Appends.{tokens_before, stores_from}
-use Rattle.eb_writer.specs.Recall.{term_at}
+use Rattle.eb_writer.specs.Recall.{token_at}
 use Rattle.eb_writer.specs.Counting.{IsIdle}
 
 -- the documents that stand before d in its segment
@@ -44,8 +44,8 @@ pub record HasComeToPosting (m : Moment) (d : Doc) (s i : ℕ) : Type 0 where
   pub placed : IsPlaced m d s
   pub low : i < length d.terms
   pub left : drop (stores_done m.documents.current) (doc_stores m.setting m.documents.accepted d)
-      ≡ append_stores s (tokens_until m d i) (term_at d.terms i) (count_of (term_at d.terms i) (tokens_until m d i)) (posting_of (length (before_it m d)) i)
-      ++ stores_from m.setting m.documents.accepted d s (i + 1) (tokens_until m d i ++ term_at d.terms i ∷ []) (drop (i + 1) d.terms)
+      ≡ append_stores s (tokens_until m d i) (token_at d.terms i) (count_of (token_at d.terms i) (tokens_until m d i)) (posting_of (length (before_it m d)) i)
+      ++ stores_from m.setting m.documents.accepted d s (i + 1) (tokens_until m d i ++ token_at d.terms i ∷ []) (drop (i + 1) d.terms)
 
 -- more stores of the same placing are done
 pub record HasStoredMore (m n : Moment) : Type 0 where
@@ -54,16 +54,16 @@ pub record HasStoredMore (m n : Moment) : Type 0 where
 
 -- the number of the term of the token at place i, or that it will get
 abbrev pub IsNumbered : Moment → Doc → ℕ → ℕ → Type 0
-IsNumbered m d i k = k ≡ number_of (term_at d.terms i) (tokens_until m d i)
+IsNumbered m d i k = k ≡ number_of (token_at d.terms i) (tokens_until m d i)
 
 -- the documents with d accepted behind them
-abbrev pub with_document : Documents → Doc → Documents
-with_document x d = record { accepted = x.accepted ++ d ∷ []; current = None }
+abbrev pub with_accepted : Documents → Doc → Documents
+with_accepted x d = record { accepted = x.accepted ++ d ∷ []; current = None }
 
 -- all of its stores are done, and no others: d is accepted
 pub record IsAccepted (m n : Moment) (d : Doc) : Type 0 where
   pub later : IsNotBefore n m
-  pub documents : n.documents ≡ with_document m.documents d
+  pub documents : n.documents ≡ with_accepted m.documents d
 
 -- d has room, no document is being placed, and d begins segment s
 pub record BeginsSegment (m : Moment) (d : Doc) (s : ℕ) : Type 0 where

@@ -5,7 +5,7 @@ ghost use Rattle.eb_place.specs.declared.moment.Moment.{Moment};
 ghost use Rattle.eb_place.specs.Postings.{count_of, number_of, distinct};
 ghost use Rattle.eb_place.specs.Later.{IsNotBefore};
 ghost use Rattle.eb_chain.specs.Needs.{IsTailWord};
-ghost use Rattle.eb_writer.specs.Recall.{Remembers, term_at};
+ghost use Rattle.eb_writer.specs.Recall.{Remembers};
 ghost use Rattle.eb_writer.specs.Counting.{IsIdle, tokens_in, IsUsedBy, IsFound, AreFound, IsFirst, IsReady, IsPlan, IsSmall};
 
 use crate::plan::{Found, Plan};

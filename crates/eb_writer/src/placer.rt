@@ -1,5 +1,4 @@
-ghost use Rattle.std.specs.Prelude.{◌≡◌, ◌<◌, ◌≤◌, ◌+◌, ◌-◌, ◌++◌, ◌*◌, ◌/◌, ◌&&◌, List, length, nat_le, IfOk, OnErr, MatchOption};
-ghost use Rattle.eb_base.specs.Document.{Doc};
+ghost use Rattle.std.specs.Prelude.{◌≡◌, ◌<◌, ◌+◌, ◌-◌, ◌*◌, ◌/◌, ◌&&◌, length, nat_le, IfOk, OnErr, MatchOption};
 ghost use Rattle.eb_place.specs.declared.moment.Moment.{Moment};
 ghost use Rattle.eb_place.specs.Layout.{pool_slices};
 ghost use Rattle.eb_place.specs.Postings.{terms_of};

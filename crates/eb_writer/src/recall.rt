@@ -1,7 +1,7 @@
 ghost use Rattle.std.specs.Prelude.{◌≡◌, ◌<◌, ◌≤◌, ◌+◌, length, take, MatchOption};
 ghost use Rattle.eb_base.specs.Document.{most_tokens};
 ghost use Rattle.eb_place.specs.Postings.{count_of};
-ghost use Rattle.eb_writer.specs.Recall.{Remembers, StoodAt, term_at};
+ghost use Rattle.eb_writer.specs.Recall.{Remembers, StoodAt, token_at};
 
 use eb_base::{MAX_TOKENS, Terms};
 use eb_terms::home;
@@ -33,7 +33,7 @@ pub(crate) fn recall_nothing(terms: &Terms) -> Recall
 // Where the term of the token at a place stood last before it, if it did.
 pub(crate) fn last_place(recall: &Recall, terms: &Terms, at: usize) -> Option<usize>
     requires { (at < length terms.now) × (length terms.now ≤ most_tokens) × Remembers recall.now terms.now at }
-    ensures { MatchOption result (count_of (term_at terms.now at) (take at terms.now) ≡ 0) (λ place. StoodAt terms.now at place) }
+    ensures { MatchOption result (count_of (token_at terms.now at) (take at terms.now) ≡ 0) (λ place. StoodAt terms.now at place) }
 {
     let term = terms.get(at);
     let mut next = recall.latest[home(term, BUCKETS as u32) as usize];

@@ -4,7 +4,7 @@ ghost use Rattle.eb_place.specs.Postings.{terms_of};
 ghost use Rattle.eb_place.specs.Tells.{TellsSegment};
 ghost use Rattle.eb_place.specs.Walk.{IsTerm};
 ghost use Rattle.eb_place.specs.Told.{Written};
-ghost use Rattle.eb_writer.specs.Recall.{term_at};
+ghost use Rattle.eb_writer.specs.Recall.{token_at};
 ghost use Rattle.eb_writer.specs.Counting.{AreFound};
 ghost use Rattle.eb_writer.specs.Storing.{HasComeTo, HasComeToPosting, HasStoredMore, IsNumbered, IsAccepted, BeginsSegment, before_it};
 
@@ -77,7 +77,7 @@ fn entered_number<P: Pen>(
     ensures { Written P.stands P.same pen.old pen.new (λ m. HasComeTo m document.now segment at × TellsSegment used.old m segment
         × (at < length document.now.terms) × IsNumbered m document.now at number)
         (λ m n. HasStoredMore m n × HasComeToPosting n document.now segment at
-        × IsTerm n segment (term_at document.now.terms at) result × TellsSegment used.new n segment) }
+        × IsTerm n segment (token_at document.now.terms at) result × TellsSegment used.new n segment) }
 {
     if number == used.terms {
         return enter(pen, document, segment, used, document.terms().get(at));

@@ -1,7 +1,7 @@
-ghost use Rattle.std.specs.Prelude.{◌≡◌, ◌<◌, ◌≤◌, ◌^◌, ℕ, List};
+ghost use Rattle.std.specs.Prelude.{◌≡◌, ◌<◌, ℕ, List};
 ghost use Rattle.eb_base.specs.Document.{Doc};
 ghost use Rattle.eb_base.specs.Setting.{Setting};
-ghost use Rattle.eb_feed.specs.Held.{HasTaken};
+ghost use Rattle.eb_feed.specs.Held.{IsFedWith};
 
 use crate::Feed;
 use eb_base::{Config, Document, OpenGate, Query, Term, Terms};
@@ -15,8 +15,8 @@ use std::test::Fail;
 
 // Adds a document of one term.
 fn added(alloc: Global, feed: &mut Feed, id: u64, term: &[u8]) -> Result<u64, Fail>
-    requires { (σ : Setting) × (keep : ℕ) × (history : List Doc) × HasTaken feed.old σ keep history }
-    ensures { (σ : Setting) × (keep : ℕ) × (history : List Doc) × HasTaken feed.new σ keep history }
+    requires { (σ : Setting) × (keep : ℕ) × (history : List Doc) × IsFedWith feed.old σ keep history }
+    ensures { (σ : Setting) × (keep : ℕ) × (history : List Doc) × IsFedWith feed.new σ keep history }
 {
     let mut terms = Terms::new(alloc);
     terms.push(Term::new(alloc, term)?)?;
@@ -30,16 +30,16 @@ fn added(alloc: Global, feed: &mut Feed, id: u64, term: &[u8]) -> Result<u64, Fa
 // Searches with a counter of its own.
 fn search_alone<L: Ledger>(feed: &mut Feed, frame: &mut Frame, blank: Blank) -> u64
     requires blank { (blank.name ≡ L.name) × (blank.parts ≡ L.parts) × (0 < blank.parts) }
-    requires feed { (σ : Setting) × (keep : ℕ) × (history : List Doc) × HasTaken feed.old σ keep history }
-    ensures { (σ : Setting) × (keep : ℕ) × (history : List Doc) × HasTaken feed.new σ keep history }
+    requires feed { (σ : Setting) × (keep : ℕ) × (history : List Doc) × IsFedWith feed.old σ keep history }
+    ensures { (σ : Setting) × (keep : ℕ) × (history : List Doc) × IsFedWith feed.new σ keep history }
 {
     let mut steps = Steps::<L>::new(blank);
     feed.search(frame, &OpenGate, &mut steps)
 }
 
 pub(super) fn searched(feed: &mut Feed, frame: &mut Frame) -> u64
-    requires { (σ : Setting) × (keep : ℕ) × (history : List Doc) × HasTaken feed.old σ keep history }
-    ensures { (σ : Setting) × (keep : ℕ) × (history : List Doc) × HasTaken feed.new σ keep history }
+    requires { (σ : Setting) × (keep : ℕ) × (history : List Doc) × IsFedWith feed.old σ keep history }
+    ensures { (σ : Setting) × (keep : ℕ) × (history : List Doc) × IsFedWith feed.new σ keep history }
 {
     search_alone::<Brand>(feed, frame, Blank::new(1))
 }
@@ -53,8 +53,8 @@ fn step(
     id: u64,
     found: &[u64],
 ) -> Result<(), Fail>
-    requires { (σ : Setting) × (keep : ℕ) × (history : List Doc) × HasTaken feed.old σ keep history }
-    ensures { (σ : Setting) × (keep : ℕ) × (history : List Doc) × HasTaken feed.new σ keep history }
+    requires { (σ : Setting) × (keep : ℕ) × (history : List Doc) × IsFedWith feed.old σ keep history }
+    ensures { (σ : Setting) × (keep : ℕ) × (history : List Doc) × IsFedWith feed.new σ keep history }
 {
     let count = added(alloc, feed, id, b"a")?;
     let seen = searched(feed, frame);

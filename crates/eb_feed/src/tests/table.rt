@@ -1,8 +1,8 @@
 //! Feeds of made documents beside the plain scan of what they are to keep.
-ghost use Rattle.std.specs.Prelude.{◌≡◌, ◌+◌, ◌<◌, ◌≤◌, ℕ, List, length};
+ghost use Rattle.std.specs.Prelude.{◌<◌, ℕ, List};
 ghost use Rattle.eb_base.specs.Document.{Doc};
 ghost use Rattle.eb_base.specs.Setting.{Setting};
-ghost use Rattle.eb_feed.specs.Held.{HasTaken};
+ghost use Rattle.eb_feed.specs.Held.{IsFedWith};
 
 use super::row::searched;
 use crate::Feed;
@@ -84,8 +84,8 @@ fn kept_of(row: &Row) -> &[Document] {
 
 // Adds a document to the feed, and behind the plain history.
 fn add(alloc: Global, row: &mut Row, config: &Config, document: Document) -> Result<(), Fail>
-    requires { (σ : Setting) × (keep : ℕ) × (history : List Doc) × HasTaken row.old.feed σ keep history }
-    ensures { (σ : Setting) × (keep : ℕ) × (history : List Doc) × HasTaken row.new.feed σ keep history }
+    requires { (σ : Setting) × (keep : ℕ) × (history : List Doc) × IsFedWith row.old.feed σ keep history }
+    ensures { (σ : Setting) × (keep : ℕ) × (history : List Doc) × IsFedWith row.new.feed σ keep history }
 {
     if row.feed.accepted() < u64::MAX {
         row.feed.add(&document);
@@ -103,8 +103,8 @@ fn add(alloc: Global, row: &mut Row, config: &Config, document: Document) -> Res
 
 // Asks for the newest documents with a term, and compares.
 fn ask(rt: &impl Abort, alloc: Global, row: &mut Row, number: u64) -> Result<(), Fail>
-    requires { (σ : Setting) × (keep : ℕ) × (history : List Doc) × HasTaken row.old.feed σ keep history }
-    ensures { (σ : Setting) × (keep : ℕ) × (history : List Doc) × HasTaken row.new.feed σ keep history }
+    requires { (σ : Setting) × (keep : ℕ) × (history : List Doc) × IsFedWith row.old.feed σ keep history }
+    ensures { (σ : Setting) × (keep : ℕ) × (history : List Doc) × IsFedWith row.new.feed σ keep history }
 {
     let query = Query::Word(term(alloc, number % 7, 0, 0)?);
     let want = newest(alloc, &query, 9, kept_of(row))?;

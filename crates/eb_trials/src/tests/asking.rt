@@ -1,10 +1,7 @@
 //! Queries written as texts, and what cursors find of them.
-ghost use Rattle.std.specs.Prelude.{◌≡◌, ◌≤◌, ◌<◌, ℕ, List, length};
-ghost use Rattle.eb_base.specs.Document.{Doc};
+ghost use Rattle.std.specs.Prelude.{◌≤◌, ◌<◌, length};
 ghost use Rattle.eb_place.specs.declared.moment.Moment.{Moment};
-ghost use Rattle.eb_place.specs.Later.{IsNotBefore};
 ghost use Rattle.eb_cursor.specs.Accepted.{accepted_in};
-ghost use Rattle.eb_cursor.specs.Frames.{MayAsk};
 
 use super::made::terms;
 use eb_base::{Queries, Query, Term, Terms};

@@ -1,6 +1,6 @@
 //! Leaps: what a chain gives at or below a number, against the list of what it stands for, while its words
 //! grow between any two loads.
-ghost use Rattle.std.specs.Prelude.{◌≡◌, ◌<◌, ℕ};
+ghost use Rattle.std.specs.Prelude.{◌≡◌, ◌<◌};
 ghost use Rattle.eb_place.specs.declared.moment.Moment.{Moment};
 ghost use Rattle.eb_trials.specs.Grown.{Grows};
 

@@ -1,5 +1,5 @@
 //! A search after each store: nothing of a document or of a conversion is seen before its last store.
-ghost use Rattle.std.specs.Prelude.{◌≡◌, IfOk};
+ghost use Rattle.std.specs.Prelude.{IfOk};
 ghost use Rattle.eb_place.specs.declared.moment.Moment.{Moment};
 ghost use Rattle.eb_place.specs.Moments.{empty_moment};
 ghost use Rattle.eb_trials.specs.Recorded.{IsRecord};

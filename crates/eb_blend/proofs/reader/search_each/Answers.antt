@@ -3,7 +3,7 @@ use Rattle.std.proofs.lemmas.List.Elements.{All-set, All-get_or}
 use Rattle.eb_base.specs.Match.{answer}
 use Rattle.eb_cursor.specs.declared.frame.Frame.{Frame}
 use Rattle.eb_cursor.specs.Frames.{query_of, k_of}
-use Rattle.eb_engine.specs.Tokens.{Token}
+use Rattle.eb_engine.specs.Tokens.{HistoryToken}
 use mathlib.Core.List.{IsPrefix}
 use Rattle.eb_blend.proofs.Each.{indexes_set, fronts_set, fronts_trans, found_more}
 use Rattle.eb_blend.proofs.reader.search_each.Goals as goal
@@ -21,8 +21,8 @@ loop-at-preserved g c =
     let lt : n < length ts = omega (arith, c.loop-at-test.true) in
     let lf : n < length fs = omega (arith, c.loop-at-test.true, c.requires.frames, c.loop-at.auto.frames, c.loop-at.auto.readers) in
     record {
-      indexes = indexes_set ts n t new c.index-readers-at.is (e.index ∙ ap (λ (x : Token). x.index) (sym c.index-readers-at.is)) ∙ inv.indexes;
-      fronts = fronts_trans _ _ _ inv.fronts (fronts_set ts n t new lt c.index-readers-at.is (subst (λ (x : Token). IsPrefix x.docs new.docs) (sym c.index-readers-at.is) e.known));
+      indexes = indexes_set ts n t new c.index-readers-at.is (e.index ∙ ap (λ (x : HistoryToken). x.index) (sym c.index-readers-at.is)) ∙ inv.indexes;
+      fronts = fronts_trans _ _ _ inv.fronts (fronts_set ts n t new lt c.index-readers-at.is (subst (λ (x : HistoryToken). IsPrefix x.docs new.docs) (sym c.index-readers-at.is) e.known));
       ask = λ q k a.
           let old = All-get_or (λ (x : Frame). (query_of x ≡ q) × (k_of x ≡ k)) fs n f lf (inv.ask q k a) in
           All-set (λ (x : Frame). (query_of x ≡ q) × (k_of x ≡ k)) fs n c.search.new.frame

@@ -3,7 +3,7 @@ use Rattle.std.proofs.lemmas.List.Elements.{All-get_or}
 use mathlib.Core.List.{IsPrefix}
 use Rattle.eb_base.specs.Setting.{Setting}
 use Rattle.eb_table.specs.Known.{Words}
-use Rattle.eb_engine.specs.Tokens.{Token, ConverterToken, AreClosed}
+use Rattle.eb_engine.specs.Tokens.{HistoryToken, ConverterToken, AreClosed}
 use Rattle.eb_blend.specs.Parts.{histories_of, converter_histories_of, converted_of, AreFronts, AllClosed}
 use Rattle.eb_blend.proofs.Closings.{closed_more}
 use Rattle.eb_blend.proofs.Each.{as_many, as_many_converters, set_same, heard_more, fronts_all, length_histories, length_converter_histories}
@@ -25,7 +25,7 @@ loop-at-preserved c =
     let sames : length c.loop-at.converters ≡ length cs = ap length inv.converters in
     let lt : n < length ts = omega (arith, c.loop-at-test.true, same) in
     let lc : n < length cs = omega (arith, lt, many, most) in
-    let a : t ≡ get_or ts n t = c.index-writers-at.is ∙ ap (λ (z : List Token). get_or z n t) inv.writers in
+    let a : t ≡ get_or ts n t = c.index-writers-at.is ∙ ap (λ (z : List HistoryToken). get_or z n t) inv.writers in
     let b : v ≡ get_or cs n v = c.index-converters-at.is ∙ ap (λ (z : List ConverterToken). get_or z n v) inv.converters in
     let this : c.hear.new.self ≡ t = e.this ∙ sym c.index-writers-at.is in
     let that : c.hear.new.converter ≡ v = e.converter ∙ sym c.index-converters-at.is in
@@ -51,7 +51,7 @@ returns-clause-fronts c =
     let end = c.loop-at-test.false in
     let f = fronts_all (converter_histories_of cs) (histories_of ts) c.loop-at.at (omega (arith, many, most, length_histories ts, length_converter_histories cs))
     (omega (arith, many, most, length_converter_histories cs, end, same)) inv.fronts in
-    subst (λ (z : List Token). AreFronts (converter_histories_of cs) (histories_of z)) (sym inv.writers) f
+    subst (λ (z : List HistoryToken). AreFronts (converter_histories_of cs) (histories_of z)) (sym inv.writers) f
 
 pub returns-clause-closed : goal.returns-clause-closed
 returns-clause-closed c = λ σ all.
@@ -59,5 +59,5 @@ returns-clause-closed c = λ σ all.
     let ts = c.args.writers.now in
     let same : length c.loop-at.writers ≡ length ts = ap length inv.writers in
     let end = c.loop-at-test.false in
-    subst (λ (z : List Token). AllClosed σ (histories_of z) (converted_of c.args.converters.now)) (sym inv.writers)
+    subst (λ (z : List HistoryToken). AllClosed σ (histories_of z) (converted_of c.args.converters.now)) (sym inv.writers)
     (record { each = λ p lt. inv.closed σ all p (omega (arith, lt, length_histories ts, end, same)) })

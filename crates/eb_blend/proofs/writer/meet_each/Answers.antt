@@ -1,5 +1,5 @@
 use Rattle.std.proofs.Common.{◌≡◌, ◌<◌, ◌++◌, ◌∷◌, [], None, List, length, length-append, get_or, ap, sym, subst, ◌∙◌, arith}
-use Rattle.eb_engine.specs.Tokens.{Token}
+use Rattle.eb_engine.specs.Tokens.{HistoryToken}
 use Rattle.eb_blend.specs.Parts.{histories_of, AreFronts}
 use Rattle.eb_blend.proofs.Each.{as_many, set_same, met_more, front_less, last_of_front, inside_front, length_histories, no_token}
 use Rattle.eb_blend.proofs.writer.meet_each.Goals as goal
@@ -23,7 +23,7 @@ loop-reader-preserved c =
     let inside = inside_front left c.loop-reader.readers.items rs r items inv.front in
     let lr : n < length rs = omega (arith, at, inside) in
     let lt : n < length ts = omega (arith, lr, many, most) in
-    let a : t ≡ get_or ts n t = c.index-writers-at.is ∙ ap (λ (z : List Token). get_or z n t) inv.same in
+    let a : t ≡ get_or ts n t = c.index-writers-at.is ∙ ap (λ (z : List HistoryToken). get_or z n t) inv.same in
     let b : r ≡ get_or rs n r = last_of_front left c.loop-reader.readers.items rs r items inv.front ∙ ap (λ m. get_or rs m r) (sym at) in
     let this : c.meet.new.self ≡ t = c.meet.ensures.this ∙ sym c.index-writers-at.is in
     record {
@@ -44,5 +44,5 @@ returns-clause-fronts c =
     let zero : length c.loop-reader.readers.items ≡ 0 = grind (arith, none, some) in
     let many : length ts ≡ length ws = as_many ts ws c.requires.made in
     let most : length rs ≡ length ws = as_many rs ws c.requires.readers in
-    subst (λ (z : List Token). AreFronts (histories_of rs) (histories_of z)) (sym inv.same)
+    subst (λ (z : List HistoryToken). AreFronts (histories_of rs) (histories_of z)) (sym inv.same)
     (record { parts = omega (arith, many, most, length_histories ts, length_histories rs); each = λ p. inv.done p (omega (arith, zero)) })

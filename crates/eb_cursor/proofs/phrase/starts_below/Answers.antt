@@ -1,6 +1,6 @@
 use Rattle.std.proofs.Common.{◌≢◌, ◌≤◌, length, arith, ◌∙◌, sym, subst, refl}
 use Rattle.eb_cursor.specs.Lists.{gives}
-use Rattle.eb_cursor.specs.Posted.{has_room}
+use Rattle.eb_cursor.specs.Posted.{has_places}
 use Rattle.eb_cursor.specs.Ready.{AllLeaves}
 use Rattle.eb_cursor.proofs.Tops.{top_le}
 use Rattle.eb_cursor.proofs.Readies.{leaves_lower}
@@ -17,7 +17,7 @@ loop-place-init g c = record {
 
 pub leaves_below-found-requires-clause-small : goal.leaves_below-found-requires-clause-small
 leaves_below-found-requires-clause-small g c =
-    omega (arith, c.room_below-room.ensures, top_le (has_room (length c.args.cursors.now)) c.loop-place.place, c.loop-place.invariant.falls, c.loop-place.auto.cursors)
+    omega (arith, c.room_below-room.ensures, top_le (has_places (length c.args.cursors.now)) c.loop-place.place, c.loop-place.invariant.falls, c.loop-place.auto.cursors)
 
 pub leaves_below-found-requires-clause-ready : goal.leaves_below-found-requires-clause-ready
 leaves_below-found-requires-clause-ready g c = let r = c.requires.ready in
@@ -27,13 +27,13 @@ leaves_below-found-requires-clause-ready g c = let r = c.requires.ready in
       r.2,
       c.loop-place.place,
       i.1,
-      omega (arith, c.room_below-room.ensures, top_le (has_room (length c.args.cursors.now)) c.loop-place.place),
+      omega (arith, c.room_below-room.ensures, top_le (has_places (length c.args.cursors.now)) c.loop-place.place),
       leaves_at (gives i.0) r.1 r.2 c.loop-place.cursors c.loop-place.place i.4.1,
     )
 
 pub returns-then-found-place-clause-found : goal.returns-then-found-place-clause-found
 returns-then-found-place-clause-found g c = λ docs ts last h.
-    let under : c.room_below-room.result ≤ c.loop-place.place = omega (arith, c.room_below-room.ensures, top_le (has_room (length c.args.cursors.now)) c.loop-place.place) in
+    let under : c.room_below-room.result ≤ c.loop-place.place = omega (arith, c.room_below-room.ensures, top_le (has_places (length c.args.cursors.now)) c.loop-place.place) in
     told_on g.met.P.Port.lawful g.met.P.Port.keeps_on (c.loop-place.invariant.found docs ts last h) (c.leaves_below-found.ensures.found docs ts c.loop-place.place under)
     (λ l r. r) (λ l m w r i. leaves_at (gives m) docs ts c.loop-place.cursors c.loop-place.place i.1)
     (λ l m n w1 w2 r i run.
@@ -44,7 +44,7 @@ returns-then-found-place-clause-found g c = λ docs ts last h.
 pub loop-place-smaller : goal.loop-place-smaller
 loop-place-smaller g c =
     let r = c.requires.ready in
-    let under : c.room_below-room.result ≤ c.loop-place.place = omega (arith, c.room_below-room.ensures, top_le (has_room (length c.args.cursors.now)) c.loop-place.place) in
+    let under : c.room_below-room.result ≤ c.loop-place.place = omega (arith, c.room_below-room.ensures, top_le (has_places (length c.args.cursors.now)) c.loop-place.place) in
     let i = (c.loop-place.invariant.found r.1 r.2 r.3 r.5).told r.0 r.4 (leaves_of (gives r.0) r.1 r.2 c.args.cursors.now r.3 r.6) in
     let x = (c.leaves_below-found.ensures.found r.1 r.2 c.loop-place.place under).told i.0 i.1 (leaves_at (gives i.0) r.1 r.2 c.loop-place.cursors c.loop-place.place i.4.1) in
     let w = start_round_of (gives i.0) (gives x.0) r.1 r.2 c.loop-place.cursors c.leaves_below-found.new.cursors
@@ -55,7 +55,7 @@ loop-place-smaller g c =
 
 pub loop-place-preserved : goal.loop-place-preserved
 loop-place-preserved g c =
-    let under : c.room_below-room.result ≤ c.loop-place.place = omega (arith, c.room_below-room.ensures, top_le (has_room (length c.args.cursors.now)) c.loop-place.place) in
+    let under : c.room_below-room.result ≤ c.loop-place.place = omega (arith, c.room_below-room.ensures, top_le (has_places (length c.args.cursors.now)) c.loop-place.place) in
     let r = c.requires.ready in
     let i = (c.loop-place.invariant.found r.1 r.2 r.3 r.5).told r.0 r.4 (leaves_of (gives r.0) r.1 r.2 c.args.cursors.now r.3 r.6) in
     let x = (c.leaves_below-found.ensures.found r.1 r.2 c.loop-place.place under).told i.0 i.1 (leaves_at (gives i.0) r.1 r.2 c.loop-place.cursors c.loop-place.place i.4.1) in

@@ -1,6 +1,6 @@
 use Rattle.std.proofs.Common.{◌≡◌, ℕ, ◌<◌, ◌≤◌, length, arith, ◌∙◌, sym, subst, refl}
 use Rattle.eb_cursor.specs.Lists.{gives}
-use Rattle.eb_cursor.specs.Posted.{is_posting, is_window_end, first_below, reach_end, last_of}
+use Rattle.eb_cursor.specs.Posted.{is_posting, is_window_end, first_below, reach_end, last_term}
 use Rattle.eb_cursor.proofs.Tops.{top_le}
 use Rattle.eb_cursor.proofs.Readies.{behind_lower}
 use Rattle.eb_cursor.proofs.Windows.{window_here, window_falls, first_within, behind_length, top_zero}
@@ -36,7 +36,8 @@ returns-then-span-reached-clause-found g c = λ docs ts last h.
     let within : c.span_below-span.result.last ≤ reach_end c.args.reach (first_below docs ts c.loop-place.place) =
     subst (λ (k : ℕ). c.span_below-span.result.last ≤ reach_end c.args.reach k) x.0 (omega (arith, c.if-span-reached.true, c.end_of_reach-reached.ensures)) in (
       window_here docs ts c.args.reach c.loop-place.place c.span_below-span.result.last some x.1 within ∙ sym i.0,
-      behind_lower (gives n) docs ts c.span_below-span.new.cursors c.span_below-span.result.last c.loop-place.place (omega (arith, x.1, top_le (is_posting docs (last_of ts)) c.loop-place.place)) x.2,
+      behind_lower (gives n) docs ts c.span_below-span.new.cursors c.span_below-span.result.last c.loop-place.place
+          (omega (arith, x.1, top_le (is_posting docs (last_term ts)) c.loop-place.place)) x.2,
     ))
 
 pub loop-place-smaller : goal.loop-place-smaller
@@ -44,14 +45,14 @@ loop-place-smaller g c = let r = c.requires.ready in
     let i = (c.loop-place.invariant.found r.1 r.2 r.3 r.5).told r.0 r.4 r.6 in
     let x = (c.span_below-span.ensures.found r.1 r.2 c.loop-place.place (omega arith)).told i.0 i.1 i.4.1 in
     let over : c.end_of_reach-reached.result < c.span_below-span.result.last = c.if-span-reached.false in
-    omega (arith, x.4.1, top_le (is_posting r.1 (last_of r.2)) c.loop-place.place, over)
+    omega (arith, x.4.1, top_le (is_posting r.1 (last_term r.2)) c.loop-place.place, over)
 
 pub loop-place-preserved : goal.loop-place-preserved
 loop-place-preserved g c = let r = c.requires.ready in
     let i = (c.loop-place.invariant.found r.1 r.2 r.3 r.5).told r.0 r.4 r.6 in
     let x = (c.span_below-span.ensures.found r.1 r.2 c.loop-place.place (omega arith)).told i.0 i.1 i.4.1 in
     let over : c.end_of_reach-reached.result < c.span_below-span.result.last = c.if-span-reached.false in
-    let falls : c.end_of_reach-reached.result ≤ c.loop-place.place = omega (arith, x.4.1, top_le (is_posting r.1 (last_of r.2)) c.loop-place.place, over) in
+    let falls : c.end_of_reach-reached.result ≤ c.loop-place.place = omega (arith, x.4.1, top_le (is_posting r.1 (last_term r.2)) c.loop-place.place, over) in
     record {
       falls = omega (arith, falls, c.loop-place.invariant.falls);
       loads = omega (arith, c.span_below-span.ensures.loads, c.loop-place.invariant.loads);

@@ -2,11 +2,11 @@ use Rattle.std.proofs.Common.{◌≡◌, ℕ, List, ◌∷◌, ◌++◌, length,
 use Rattle.std.specs.Int.{w16, w64, to_be_bytes}
 use Rattle.std.specs.List.{flat_map}
 use Rattle.std.proofs.Math.Seq.{take-length}
-use Rattle.eb_image.specs.Image.{part_of, term_bytes}
+use Rattle.eb_image.specs.Image.{document_part, term_bytes}
 use Rattle.eb_image.proofs.part.write_part.Goals as goal
 
 pub returns : goal.returns
-unfolding part_of
+unfolding document_part
 returns c =
     let d = c.args.document.now in
     let n : c.loop-term.term-index ≡ length d.terms =

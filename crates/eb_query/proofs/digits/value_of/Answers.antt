@@ -1,5 +1,5 @@
 use Rattle.std.proofs.Common.{arith, ◌∙◌, sym, refl, ap, ℕ, ◌+◌, ◌*◌, drop}
-use Rattle.eb_query.specs.Digits.{value_after}
+use Rattle.eb_query.specs.Digits.{decimal_after}
 use Rattle.eb_query.proofs.Values.{cap, cap_next, cap_small, value_next}
 use Rattle.eb_query.proofs.digits.value_of.Goals as goal
 
@@ -23,7 +23,7 @@ loop-digit-preserved c =
     let e = c.from.ensures in let f = c.saturating_sub.ensures in let k = c.loop-digit.invariant.small in
     let d = c.type_inv.digits c.loop-digit.digit-index in let n = cap_next c.loop-digit.digit-index in
     record {
-      told = ap (λ (x : ℕ). value_after (10 * c.loop-digit.value + x) (drop (c.loop-digit.digit-index + 1) c.args.digits.now)) (e ∙ f)
+      told = ap (λ (x : ℕ). decimal_after (10 * c.loop-digit.value + x) (drop (c.loop-digit.digit-index + 1) c.args.digits.now)) (e ∙ f)
           ∙ sym (value_next c.args.digits.now c.loop-digit.digit-index c.loop-digit.value _ c.loop-digit-test.true refl) ∙ c.loop-digit.invariant.told;
       small = omega arith;
     }

@@ -2,7 +2,7 @@ use Rattle.std.proofs.Common.{ap, sym, subst, ◌∙◌}
 use Rattle.eb_serve.specs.declared.job.Answer.{Answer}
 use Rattle.eb_serve.specs.declared.rule.View.TheVariants.{At}
 use Rattle.eb_serve.specs.Rule.{IsMadeAnswer}
-use Rattle.eb_serve.specs.Steps.{answer_in}
+use Rattle.eb_serve.specs.Steps.{after_answer}
 use Rattle.eb_serve.proofs.AnswersKept.{puts_answer}
 use Rattle.eb_serve.proofs.calls.put_answer.Goals as goal
 
@@ -12,4 +12,4 @@ try_push_as-requires-clause-rule g c =
     puts_answer _ _ _ _ r.0 r.1 (c.loop.invariant.1 ∙ r.2) r.3 (subst (IsMadeAnswer r.0) (sym c.loop.invariant.2) r.4)
 
 pub returns-in-Ok-clause-moved : goal.returns-in-Ok-clause-moved
-returns-in-Ok-clause-moved g c = λ index h e. c.in-Ok.ensures.rule index h (c.loop.invariant.1 ∙ e) ∙ ap (λ (a : Answer). At index (answer_in h a)) c.loop.invariant.2
+returns-in-Ok-clause-moved g c = λ index h e. c.in-Ok.ensures.rule index h (c.loop.invariant.1 ∙ e) ∙ ap (λ (a : Answer). At index (after_answer h a)) c.loop.invariant.2

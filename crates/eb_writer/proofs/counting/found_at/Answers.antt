@@ -1,6 +1,6 @@
 use Rattle.std.proofs.Common.{sym, arith, []}
 use Rattle.eb_place.proofs.LaterMoments.{later_self}
-use Rattle.eb_writer.specs.Recall.{term_at}
+use Rattle.eb_writer.specs.Recall.{token_at}
 use Rattle.eb_writer.specs.Counting.{tokens_in}
 use Rattle.eb_writer.proofs.Recalling.{at_place}
 use Rattle.eb_writer.proofs.Finding.{element, count_few, again, first}
@@ -14,7 +14,7 @@ overflow_add-result g c =
     let st = c.in-Some.ensures in
     let low = st.earlier in
     let k = r.4.each p _ st.earlier (element c.args.found.now p record { number = 0; tail = 0; earlier = 0 } (omega (arith, r.4.places, q.0, q.1))) in
-    omega (arith, k.earlier, count_few (term_at c.args.terms.now p) c.args.terms.now p (omega (arith, q.0)), q.0, q.1)
+    omega (arith, k.earlier, count_few (token_at c.args.terms.now p) c.args.terms.now p (omega (arith, q.0)), q.0, q.1)
 
 pub returns-in-Some : goal.returns-in-Some
 returns-in-Some g c m st idle inside found next =

@@ -5,7 +5,7 @@ use Rattle.eb_base.proofs.Copying.{take_got}
 use Rattle.eb_place.specs.Postings.{distinct, count_of, number_of}
 use Rattle.eb_place.proofs.LaterMoments.{later_self, later_on, inside_later}
 use Rattle.eb_place.proofs.TermCounts.{count_of-append}
-use Rattle.eb_writer.specs.Recall.{term_at}
+use Rattle.eb_writer.specs.Recall.{token_at}
 use Rattle.eb_writer.specs.Counting.{tokens_in, IsUsedBy, IsFound, AreFound}
 use Rattle.eb_writer.proofs.Recalling.{at_place}
 use Rattle.eb_writer.proofs.Idle.{ready_used, small_first, tokens_same, idle_same}
@@ -65,7 +65,7 @@ with_token-plan-requires-clause-tail g c =
     let o = c.found_at-token.ensures k.0 k.1 (idle_same m k.0 f ready.idle) (inside_later m k.0 s k.2 ready.inside) (subst (λ (z : List Term). AreFound z ts c.loop-at.plan.found i) (sym q) k.4)
     (k.5.terms ∙ ap (λ (z : List Term). length (distinct (z ++ take i ts))) (sym q)) in
     let token = subst (λ (z : List Term). IsFound z ts i c.found_at-token.result) q o.4 in
-    (count_of (term_at ts i) (tokens_in m s), token.tail)
+    (count_of (token_at ts i) (tokens_in m s), token.tail)
 
 pub with_token-plan-requires-clause-few : goal.with_token-plan-requires-clause-few
 with_token-plan-requires-clause-few g c =
@@ -85,7 +85,7 @@ with_token-plan-requires-clause-few g c =
     let doc = c.terms-terms.ensures.document in
     let tokens = doc.limits.tokens in
     let same = ap length c.terms-terms.ensures.terms in
-    omega (arith, token.earlier, count_few (term_at ts i) ts i (omega (arith, c.loop-at-test.true, c.len-at-end.ensures)), c.loop-at-test.true, c.len-at-end.ensures, tokens, same)
+    omega (arith, token.earlier, count_few (token_at ts i) ts i (omega (arith, c.loop-at-test.true, c.len-at-end.ensures)), c.loop-at-test.true, c.len-at-end.ensures, tokens, same)
 
 pub with_token-plan-requires-clause-short : goal.with_token-plan-requires-clause-short
 with_token-plan-requires-clause-short g c =
@@ -124,8 +124,8 @@ loop-at-preserved g c = (
       let t = c.get.result.now in
       let at = at_place ts i t [] c.get.ensures in
       let A = tokens_in m s in
-      let u = c.with_token-plan.ensures.used (count_of (term_at ts i) A) (A ++ take i ts) token.tail
-      (omega (arith, token.earlier, count_of-append (term_at ts i) A (take i ts), ap (λ z. count_of z (A ++ take i ts)) at)) (token.number ∙ ap (λ z. number_of z (A ++ take i ts)) at) k.5 in (
+      let u = c.with_token-plan.ensures.used (count_of (token_at ts i) A) (A ++ take i ts) token.tail
+      (omega (arith, token.earlier, count_of-append (token_at ts i) A (take i ts), ap (λ z. count_of z (A ++ take i ts)) at)) (token.number ∙ ap (λ z. number_of z (A ++ take i ts)) at) k.5 in (
         o.0,
         o.1,
         later_on m k.0 o.0 k.2 o.2,
@@ -150,8 +150,8 @@ loop-at-preserved g c = (
       let t = c.get.result.now in
       let at = at_place ts i t [] c.get.ensures in
       let A = tokens_in m s in
-      let u = c.with_token-plan.ensures.used (count_of (term_at ts i) A) (A ++ take i ts) token.tail
-      (omega (arith, token.earlier, count_of-append (term_at ts i) A (take i ts), ap (λ z. count_of z (A ++ take i ts)) at)) (token.number ∙ ap (λ z. number_of z (A ++ take i ts)) at) k.5 in
+      let u = c.with_token-plan.ensures.used (count_of (token_at ts i) A) (A ++ take i ts) token.tail
+      (omega (arith, token.earlier, count_of-append (token_at ts i) A (take i ts), ap (λ z. count_of z (A ++ take i ts)) at)) (token.number ∙ ap (λ z. number_of z (A ++ take i ts)) at) k.5 in
       let bytes = c.terms-terms.ensures.document.limits.bytes in
       small_more c.loop-at.plan.used c.with_token-plan.result t (A ++ take i ts) i
       (omega (arith, bytes, ap (sum_by length) c.terms-terms.ensures.terms, token_short ts i t c.get.ensures)) k.5 u c.loop-at.invariant.2),

@@ -1,7 +1,7 @@
 use Rattle.std.proofs.Common.{[], ◌≡◌, ◌-◌, sym, ◌∙◌, ap, subst, arith, get_or}
 use Rattle.std.proofs.lemmas.Slice.Eq.{bytes_eq-Decides}
 use Rattle.std.proofs.lemmas.Bool.{false≢true}
-use Rattle.eb_writer.specs.Recall.{bucket, term_at, LeadsBack}
+use Rattle.eb_writer.specs.Recall.{bucket, token_at, LeadsBack}
 use Rattle.eb_writer.proofs.Recalling.{at_place, bucket_low, sought_first, sought_more, sought_found, sought_none, IsSought}
 use Rattle.eb_writer.proofs.recall.last_place.Goals as goal
 
@@ -11,8 +11,8 @@ loop-next-init c =
     let i = c.args.at in
     let r = c.requires.2 in
     let t = at_place ts i c.get-term.result.now [] c.get-term.ensures in
-    let b : c.home.result ≡ bucket (term_at ts i) = c.home.ensures ∙ ap bucket (sym t) in
-    sought_first ts i _ (subst (λ k. LeadsBack ts i (bucket (term_at ts i)) (get_or c.args.recall.now.latest k 0)) (sym b) (r.latest (bucket (term_at ts i)) (bucket_low (term_at ts i))))
+    let b : c.home.result ≡ bucket (token_at ts i) = c.home.ensures ∙ ap bucket (sym t) in
+    sought_first ts i _ (subst (λ k. LeadsBack ts i (bucket (token_at ts i)) (get_or c.args.recall.now.latest k 0)) (sym b) (r.latest (bucket (token_at ts i)) (bucket_low (token_at ts i))))
 
 pub get-requires : goal.get-requires
 get-requires c = omega (arith, c.loop-next.invariant.back, c.requires.0, c.loop-next-test.true)

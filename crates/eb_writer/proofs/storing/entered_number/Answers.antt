@@ -4,7 +4,7 @@ use Rattle.eb_place.specs.declared.moment.Documents.{Documents}
 use Rattle.eb_place.proofs.LaterMoments.{later_self, inside_later}
 use Rattle.eb_terms.specs.Entering.{IsNextTerm, HasEntered}
 use Rattle.eb_terms.proofs.Probing.{term_of}
-use Rattle.eb_writer.specs.Recall.{term_at}
+use Rattle.eb_writer.specs.Recall.{token_at}
 use Rattle.eb_writer.specs.Storing.{tokens_until}
 use Rattle.eb_writer.proofs.Recalling.{at_place}
 use Rattle.eb_writer.proofs.Tallies.{number_tells_new, number_tells_old}
@@ -19,8 +19,8 @@ enter-requires g c =
     let s = c.args.segment in
     let i = c.args.at in
     let t = c.get.result.now in
-    let at : term_at d.terms i ≡ t = at_place d.terms i t [] (subst (λ (z : List Term). slice_get z i ≡ Some t) c.terms.ensures.terms c.get.ensures) in
-    let new = number_tells_new (term_at d.terms i) (tokens_until m d i) (sym r.5 ∙ c.if-number-used.true ∙ r.3.terms ∙ ap length r.2.entered) in
+    let at : token_at d.terms i ≡ t = at_place d.terms i t [] (subst (λ (z : List Term). slice_get z i ≡ Some t) c.terms.ensures.terms c.get.ensures) in
+    let new = number_tells_new (token_at d.terms i) (tokens_until m d i) (sym r.5 ∙ c.if-number-used.true ∙ r.3.terms ∙ ap length r.2.entered) in
     (m, r.1, r.3, subst (IsNextTerm m d s) at (next_term m d s i r.4 new r.2))
 
 pub returns-then-number-used : goal.returns-then-number-used
@@ -30,8 +30,8 @@ returns-then-number-used g c = record {
       let s = c.args.segment in
       let i = c.args.at in
       let t = c.get.result.now in
-      let at : term_at d.terms i ≡ t = at_place d.terms i t [] (subst (λ (z : List Term). slice_get z i ≡ Some t) c.terms.ensures.terms c.get.ensures) in
-      let new = number_tells_new (term_at d.terms i) (tokens_until m d i) (sym q.3 ∙ c.if-number-used.true ∙ q.1.terms ∙ ap length q.0.entered) in
+      let at : token_at d.terms i ≡ t = at_place d.terms i t [] (subst (λ (z : List Term). slice_get z i ≡ Some t) c.terms.ensures.terms c.get.ensures) in
+      let new = number_tells_new (token_at d.terms i) (tokens_until m d i) (sym q.3 ∙ c.if-number-used.true ∙ q.1.terms ∙ ap length q.0.entered) in
       let n = c.enter.ensures.written m st (q.1, subst (IsNextTerm m d s) at (next_term m d s i q.2 new q.0)) in
       let e = subst (λ z. HasEntered m n.0 d s z c.enter.result) (sym at) n.3.0 in
       let inside = (joined m d s (g.met.P.Port.lawful _ m st) q.0.placed).inside in (
@@ -41,7 +41,7 @@ returns-then-number-used g c = record {
         (
           record { later = e.later; accepted = ap (λ (x : Documents). x.accepted) e.documents },
           entered_posting m n.0 d s i c.enter.result q.2 new q.0 e,
-          term_of n.0 s (term_at d.terms i) c.enter.result (inside_later m n.0 s e.later inside) e.number,
+          term_of n.0 s (token_at d.terms i) c.enter.result (inside_later m n.0 s e.later inside) e.number,
           n.3.1,
         ),
       ));
@@ -53,7 +53,7 @@ returns g c = record {
       (let d = c.args.document.now in
       let s = c.args.segment in
       let i = c.args.at in
-      let old = number_tells_old (term_at d.terms i) (tokens_until m d i) (λ z. c.if-number-used.false (q.3 ∙ z ∙ sym (q.1.terms ∙ ap length q.0.entered))) in
+      let old = number_tells_old (token_at d.terms i) (tokens_until m d i) (λ z. c.if-number-used.false (q.3 ∙ z ∙ sym (q.1.terms ∙ ap length q.0.entered))) in
       let inside = (joined m d s (g.met.P.Port.lawful _ m st) q.0.placed).inside in (
         m,
         st,

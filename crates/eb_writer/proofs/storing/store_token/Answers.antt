@@ -2,7 +2,7 @@ use Rattle.std.proofs.Common.{◌∙◌, ap, arith}
 use Rattle.eb_place.specs.declared.moment.Documents.{Documents}
 use Rattle.eb_place.specs.Postings.{posting_of}
 use Rattle.eb_place.proofs.LaterMoments.{later_on}
-use Rattle.eb_writer.specs.Recall.{term_at}
+use Rattle.eb_writer.specs.Recall.{token_at}
 use Rattle.eb_writer.proofs.Coming.{posting_next, next_token}
 use Rattle.eb_writer.proofs.Ends.{used_documents, documents_low}
 use Rattle.eb_writer.proofs.storing.store_token.Goals as goal
@@ -26,7 +26,7 @@ append-requires g c =
     let n = c.entered_number-number.ensures.written r.0 r.1 (r.2, r.3, r.4, r.5) in
     let is = g.met.P.Port.lawful _ n.0 n.1 in
     let e = c.posting-value.ensures ∙ ap (λ k. posting_of k i) (used_documents n.0 d s c.entered_number-number.new.used is n.3.1.placed n.3.3) in
-    (n.0, term_at d.terms i, n.1, n.3.2, n.3.3, posting_next n.0 d s i c.posting-value.result e n.3.1)
+    (n.0, token_at d.terms i, n.1, n.3.2, n.3.3, posting_next n.0 d s i c.posting-value.result e n.3.1)
 
 pub returns : goal.returns
 returns g c = record {
@@ -37,7 +37,7 @@ returns g c = record {
       let n = c.entered_number-number.ensures.written m st h in
       let is = g.met.P.Port.lawful _ n.0 n.1 in
       let e = c.posting-value.ensures ∙ ap (λ k. posting_of k i) (used_documents n.0 d s c.entered_number-number.new.used is n.3.1.placed n.3.3) in
-      let o = (c.append.ensures (term_at d.terms i)).written n.0 n.1 (n.3.2, n.3.3, posting_next n.0 d s i c.posting-value.result e n.3.1) in (
+      let o = (c.append.ensures (token_at d.terms i)).written n.0 n.1 (n.3.2, n.3.3, posting_next n.0 d s i c.posting-value.result e n.3.1) in (
         o.0,
         o.1,
         g.met.P.Port.same_on _ _ _ n.2 o.2,

@@ -2,7 +2,7 @@ use Rattle.std.proofs.Common.{◌≡◌, ◌<◌, ◌++◌, ◌∙◌, ap, sym, 
 use Rattle.eb_place.specs.Postings.{terms_of, number_of}
 use Rattle.eb_place.specs.Placing.{segment_before}
 use Rattle.eb_place.proofs.LaterMoments.{later_self, later_on}
-use Rattle.eb_writer.specs.Recall.{term_at}
+use Rattle.eb_writer.specs.Recall.{token_at}
 use Rattle.eb_writer.specs.Storing.{HasComeTo}
 use Rattle.eb_writer.proofs.Finding.{element}
 use Rattle.eb_writer.proofs.storing.store_tokens.Goals as goal
@@ -30,7 +30,7 @@ store_token-requires g c =
     let low : i < length d.terms = omega (arith, ap length c.terms.ensures.terms, c.len-at-end.ensures, c.loop-at-test.true) in
     let k = found.each i _ low (element c.args.found.now i record { number = 0; tail = 0; earlier = 0 } (omega (arith, found.places, low, few))) in
     let seg : segment_before m.setting m.documents.accepted d ≡ segment_before n.0.setting n.0.documents.accepted d = λ j. segment_before (n.3.0.later.setting j) (sym n.3.0.accepted j) d in
-    (n.0, n.1, n.3.1, n.3.2, low, k.number ∙ ap (λ z. number_of (term_at d.terms i) (terms_of z ++ take i d.terms)) seg)
+    (n.0, n.1, n.3.1, n.3.2, low, k.number ∙ ap (λ z. number_of (token_at d.terms i) (terms_of z ++ take i d.terms)) seg)
 
 pub loop-at-preserved : goal.loop-at-preserved
 loop-at-preserved g c = record {
@@ -43,7 +43,7 @@ loop-at-preserved g c = record {
       let found = h.2 in
       let k = found.each i _ low (element c.args.found.now i record { number = 0; tail = 0; earlier = 0 } (omega (arith, found.places, low, few))) in
       let seg : segment_before m.setting m.documents.accepted d ≡ segment_before n.0.setting n.0.documents.accepted d = λ j. segment_before (n.3.0.later.setting j) (sym n.3.0.accepted j) d in
-      let o = c.store_token.ensures.written n.0 n.1 (n.3.1, n.3.2, low, k.number ∙ ap (λ z. number_of (term_at d.terms i) (terms_of z ++ take i d.terms)) seg) in
+      let o = c.store_token.ensures.written n.0 n.1 (n.3.1, n.3.2, low, k.number ∙ ap (λ z. number_of (token_at d.terms i) (terms_of z ++ take i d.terms)) seg) in
       (o.0, o.1, g.met.P.Port.same_on _ _ _ n.2 o.2, (record { later = later_on m n.0 o.0 n.3.0.later o.3.0.later; accepted = o.3.0.accepted ∙ n.3.0.accepted }, o.3.1, o.3.2)));
 }
 

@@ -1,5 +1,5 @@
 use Rattle.std.proofs.Common.{◌+◌, refl, ap}
-use Rattle.eb_engine.specs.Tokens.{Token}
+use Rattle.eb_engine.specs.Tokens.{HistoryToken}
 use Rattle.eb_rounds.specs.Passed.{input_of}
 use Rattle.earlybird.proofs.Runnings.{err_any, unchanged_on, run_line, with_parts}
 use Rattle.earlybird.proofs.running.Running.work.Goals as goal
@@ -10,7 +10,7 @@ returns-in_err-work_line-clause-err g c =
     let new = with_parts old c.work_line.new.writer c.work_line.new.converter c.work_line.new.self old.number in
     let e = c.work_line.ensures in
     let x = c.in_err-work_line.ensures.err in
-    err_any c.from_residual.result (unchanged_on old new c.args.text.now.items c.work_line.new.text.items refl refl refl e.writer e.converter refl x.0 (ap (λ (t : Token). t.docs) x.1) x.3)
+    err_any c.from_residual.result (unchanged_on old new c.args.text.now.items c.work_line.new.text.items refl refl refl e.writer e.converter refl x.0 (ap (λ (t : HistoryToken). t.docs) x.1) x.3)
 
 pub returns-clause-ok : goal.returns-clause-ok
 returns-clause-ok g c = λ l is a given so_far h.

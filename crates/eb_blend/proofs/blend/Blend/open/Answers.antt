@@ -2,7 +2,7 @@ use Rattle.std.proofs.Common.{◌≡◌, ◌+◌, ◌++◌, ◌∷◌, [], List,
 use Rattle.std.proofs.lemmas.List.Elements.{All-push}
 use Rattle.std.specs.List.{All}
 use Rattle.eb_table.specs.Known.{Words}
-use Rattle.eb_engine.specs.Tokens.{Token, ConverterToken}
+use Rattle.eb_engine.specs.Tokens.{HistoryToken, ConverterToken}
 use Rattle.eb_blend.specs.Parts.{indexes_of, histories_of, converter_indexes_of, converter_histories_of, converted_of}
 use Rattle.eb_blend.proofs.Copies.{map_push, replicate_push}
 use Rattle.eb_blend.proofs.blend.Blend.open.Goals as goal
@@ -21,8 +21,8 @@ loop-part-preserved c =
       settings = subst (λ (z : List Words). All (λ (x : Words). x.setting ≡ c.args.config) z) (sym is)
           (All-push (λ (x : Words). x.setting ≡ c.args.config) c.loop-part.indexes.items index inv.settings c.in_ok-index.ensures.setting);
       number = ap length is ∙ length-append c.loop-part.indexes.items (index ∷ []) ∙ ap (λ m. m + 1) inv.number;
-      writers = ap indexes_of ws ∙ map_push (λ (x : Token). x.index) c.loop-part.writers.items c.in_ok-index.writer ∙ (λ i. inv.writers i ++ (w i).index ∷ []) ∙ sym is;
-      empty = ap histories_of ws ∙ map_push (λ (x : Token). x.docs) c.loop-part.writers.items c.in_ok-index.writer ∙ (λ i. inv.empty i ++ (w i).docs ∷ []) ∙ replicate_push n [];
+      writers = ap indexes_of ws ∙ map_push (λ (x : HistoryToken). x.index) c.loop-part.writers.items c.in_ok-index.writer ∙ (λ i. inv.writers i ++ (w i).index ∷ []) ∙ sym is;
+      empty = ap histories_of ws ∙ map_push (λ (x : HistoryToken). x.docs) c.loop-part.writers.items c.in_ok-index.writer ∙ (λ i. inv.empty i ++ (w i).docs ∷ []) ∙ replicate_push n [];
       converters = ap converter_indexes_of vs ∙ map_push (λ (x : ConverterToken). x.index) c.loop-part.converters.items c.in_ok-index.converter
           ∙ (λ i. inv.converters i ++ (v i).index ∷ []) ∙ sym is;
       unknown = ap converter_histories_of vs ∙ map_push (λ (x : ConverterToken). x.docs) c.loop-part.converters.items c.in_ok-index.converter

@@ -3,7 +3,7 @@ use Rattle.std.proofs.lemmas.List.{with_items_is}
 use Rattle.eb_base.specs.Match.{answer}
 use Rattle.eb_cursor.specs.declared.frame.Frame.{Frame}
 use Rattle.eb_cursor.specs.Frames.{ids_of}
-use Rattle.eb_engine.specs.Tokens.{Token}
+use Rattle.eb_engine.specs.Tokens.{HistoryToken}
 use Rattle.eb_blend.specs.Blended.{falling, blended}
 use Rattle.eb_blend.specs.Frames.{AllAsk}
 use Rattle.eb_blend.specs.Parts.{histories_of, lengths_of, joined}
@@ -50,6 +50,6 @@ returns-clause-ids g c = λ q k a.
     let lent : AllAsk q k c.as_mut_slice-2.result.now = subst (λ (z : List Frame). AllAsk q k z) (sym c.as_mut_slice-2.ensures.value) a.frames in
     let found : map ids_of c.search_each.new.frames ≡ map (answer q k) (histories_of c.search_each.new.readers) = c.search_each.ensures.found q k lent in
     let hs = ap histories_of readers in
-    let ls = c.blend-2.ensures.lengths ∙ lengths ∙ c.count_each-count.ensures.lengths ∙ ap (λ (z : List Token). lengths_of (histories_of z)) (c.as_slice-2.ensures.value ∙ readers) in
+    let ls = c.blend-2.ensures.lengths ∙ lengths ∙ c.count_each-count.ensures.lengths ∙ ap (λ (z : List HistoryToken). lengths_of (histories_of z)) (c.as_slice-2.ensures.value ∙ readers) in
     c.blend-2.ensures.ids ∙ (λ i. take (a.most i) (falling (joined (map ids_of (frames i))))) ∙ ap (λ (z : List (List ℕ)). take k (falling (joined z))) found
     ∙ sym (blended_is q k (histories_of c.search_each.new.readers)) ∙ (λ i. blended q k (sym hs i) (sym ls i))

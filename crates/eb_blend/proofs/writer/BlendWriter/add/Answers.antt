@@ -5,7 +5,7 @@ use Rattle.eb_base.specs.Document.{Doc}
 use Rattle.eb_base.specs.Setting.{Setting}
 use Rattle.eb_place.specs.Room.{HasRoom}
 use Rattle.eb_table.specs.Known.{Words}
-use Rattle.eb_engine.specs.Tokens.{Token}
+use Rattle.eb_engine.specs.Tokens.{HistoryToken}
 use Rattle.eb_blend.specs.Parts.{Parts, WriterTokens, indexes_of, histories_of, lengths_of, counted, history, part_of, with_document, IsAbove}
 use Rattle.eb_blend.proofs.Each.{as_many, added_is, counted_more, none_is, indexes_set, length_histories, history_at}
 use Rattle.eb_blend.proofs.writer.BlendWriter.add.Goals as goal
@@ -44,7 +44,7 @@ returns-clause-ok g c =
     let t = c.index_mut.result.now in
     let ok = c.in-Ok.ensures.ok in
     let is = added_is ts n t c.add.new.self d lt c.index_mut.ensures.value ok.1 at in
-    let same = indexes_set ts n t c.add.new.self c.index_mut.ensures.value (ap (λ (x : Token). x.index) ok.1) in
+    let same = indexes_set ts n t c.add.new.self c.index_mut.ensures.value (ap (λ (x : HistoryToken). x.index) ok.1) in
     let cnt = counted_more (histories_of ts) d c.self.inside.accepted (omega (arith, some, length_histories ts)) c.self.invariant in
     let a = c.saturating_add-self-inside.ensures in
     let sum : c.saturating_add-self-inside.result ≡ counted (lengths_of (with_document (histories_of ts) d)) = grind (arith, a, cnt) in

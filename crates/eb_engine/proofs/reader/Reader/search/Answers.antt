@@ -7,14 +7,14 @@ use Rattle.eb_engine.specs.Loads.{IsWithinBound, IsWithinAndBound}
 use Rattle.eb_table.specs.Known.{Words}
 use mathlib.Core.List.{IsPrefix}
 use Rattle.eb_base.specs.Document.{Doc}
-use Rattle.eb_engine.specs.Tokens.{Token, first_of}
+use Rattle.eb_engine.specs.Tokens.{HistoryToken, first_of}
 use Rattle.eb_engine.proofs.Knows.{finds_more, front_of}
 use Rattle.eb_engine.proofs.reader.Reader.search.Goals as goal
 
 pub returns-clause-known : goal.returns-clause-known
 returns-clause-known g c =
     let now = c.search_words-count.new.seat in
-    subst (λ (docs : List Doc). IsPrefix docs (first_of c.search_words-count.result now)) (ap (λ (t : Token). t.docs) c.self.view_is)
+    subst (λ (docs : List Doc). IsPrefix docs (first_of c.search_words-count.result now)) (ap (λ (t : HistoryToken). t.docs) c.self.view_is)
     (finds_more c.self.inside.seat now c.self.inside.seen c.search_words-count.result _ _ _ c.self.invariant.1 c.search_words-count.ensures.answer)
 
 pub returns-clause-loads : goal.returns-clause-loads
@@ -31,7 +31,7 @@ returns-clause-loads g c = λ t is.
       is = e.made.moment;
       later = later_on _ _ _ e.answer.after e.answer.before;
       setting = e.made.setting ∙ ap (λ (w : Words). w.setting) c.index.view_is;
-      knew_then = subst (λ (docs : List Doc). IsPrefix docs was.documents.accepted) (ap (λ (t : Token). t.docs) c.self.view_is) (front_of c.self.inside.seen was.documents.accepted);
+      knew_then = subst (λ (docs : List Doc). IsPrefix docs was.documents.accepted) (ap (λ (t : HistoryToken). t.docs) c.self.view_is) (front_of c.self.inside.seen was.documents.accepted);
       knows_now = front_of n all;
       loads = subst (λ k. IsWithinBound was now t k (length (ids_of c.search_words-count.new.frame)) c.args.steps.now c.search_words-count.new.steps) (sym (length-take-le n all long)) (e.loads t is);
     }

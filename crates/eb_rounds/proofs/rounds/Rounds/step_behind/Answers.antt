@@ -1,6 +1,6 @@
 use Rattle.std.proofs.Common.{List, map, ap, sym, subst, arith}
 use Rattle.eb_base.specs.Document.{Doc}
-use Rattle.eb_engine.specs.Tokens.{Token}
+use Rattle.eb_engine.specs.Tokens.{HistoryToken}
 use Rattle.eb_rounds.specs.Shown.{Counted, IsRoundOfLines}
 use Rattle.eb_rounds.specs.Standing.{Standing}
 use Rattle.eb_rounds.specs.Works.{asked_entry, given_entry}
@@ -29,8 +29,8 @@ returns-clause-ok g c =
     let σ = c.args.index.now.setting in
     let asked = c.in_ok-asked.asked.items in
     let given = c.in_ok-asked.given.items in
-    let first = ap (λ (t : Token). t.docs) c.reader.ensures.this in
-    let last = ap (λ (t : Token). t.docs) (sym c.reader-2.ensures.this) in
+    let first = ap (λ (t : HistoryToken). t.docs) c.reader.ensures.this in
+    let last = ap (λ (t : HistoryToken). t.docs) (sym c.reader-2.ensures.this) in
     let D : List Doc → List Doc → Type 0 = λ old new. IsRoundOfLines σ old new (map asked_entry asked) (map given_entry given) c.args.text.now.items c.work_and_convert-documents.new.text.items
     c.work_and_convert-documents.result.1.0 c.work_and_convert-documents.result.0.0 c.work_and_convert-documents.result.1.1 c.work_and_convert-documents.result.0.1 in
     let round = same_round _ _ _ asked _ given _ c.args.text.now.items _ _ _ _ _ _ c.as_mut_slice.ensures.value

@@ -4,7 +4,7 @@ use Rattle.std.specs.Map.{keys_of}
 use Rattle.std.proofs.lemmas.Map.Keys.{IsStrictlyIncreasing-from_sorted}
 use Rattle.eb_base.specs.Query.{Tree, left_after, most_size}
 use Rattle.eb_watch.specs.Key.{watch_key, is_keyless, key_has}
-use Rattle.eb_watch.specs.Terms.{terms_of}
+use Rattle.eb_watch.specs.Terms.{key_terms}
 use Rattle.eb_watch.specs.Watches.{Watched, is_set, without_watch}
 use Rattle.eb_watch.specs.Index.{finds}
 use Rattle.eb_watch.specs.Held.{watched, all_well_formed}
@@ -45,9 +45,9 @@ invariant_of-self-2 c =
       formed = subst (λ (ws : List Watched). all_well_formed ws ≡ true) (sym now) (all_without (λ q. is_some (left_after q most_size)) (watched es) number s.formed);
       terms_lead = λ t n.
           let p : Tree → Bool = λ q. key_has (watch_key q) t in
-          c.take_key.ensures.terms t n ∙ ap (λ (b : Bool). b && not ((n == number) && key_has (terms_of v.key) t)) (s.terms_lead t n)
+          c.take_key.ensures.terms t n ∙ ap (λ (b : Bool). b && not ((n == number) && key_has (key_terms v.key) t)) (s.terms_lead t n)
           ∙ ap (λ k. finds p (watched es) n && not ((n == number) && key_has k t)) v.keyed ∙ removed p es new number v rises found c.remove.ensures.entries n;
       are_keyless = λ n.
-          c.take_key.ensures.keyless n ∙ ap (λ (b : Bool). b && not ((n == number) && is_none (terms_of v.key))) (s.are_keyless n)
+          c.take_key.ensures.keyless n ∙ ap (λ (b : Bool). b && not ((n == number) && is_none (key_terms v.key))) (s.are_keyless n)
           ∙ ap (λ k. finds is_keyless (watched es) n && not ((n == number) && is_none k)) v.keyed ∙ removed is_keyless es new number v rises found c.remove.ensures.entries n;
     }

@@ -9,7 +9,7 @@ use Rattle.std.proofs.lemmas.Map.Keys.{IsStrictlyIncreasing-from_sorted}
 use Rattle.eb_base.proofs.Trees.{well_formed_is}
 use Rattle.eb_base.specs.Query.{Tree, tree, left_after, most_size}
 use Rattle.eb_watch.specs.Key.{watch_key, is_keyless, key_has}
-use Rattle.eb_watch.specs.Terms.{terms_of}
+use Rattle.eb_watch.specs.Terms.{key_terms}
 use Rattle.eb_watch.specs.Watches.{Watched, is_set, with_watch}
 use Rattle.eb_watch.specs.Index.{leads, finds}
 use Rattle.eb_watch.specs.Held.{watched, all_well_formed}
@@ -56,12 +56,12 @@ invariant_of-self-in_default-insert c =
       terms_lead = λ t n.
           let p : Tree → Bool = λ q. key_has (watch_key q) t in
           at_ok c.put_key.result fine c.put_key.ensures.terms t n
-          ∙ ap (λ (b : Bool). ((n == number) && key_has (terms_of key) t) || b) (s.terms_lead t n)
+          ∙ ap (λ (b : Bool). ((n == number) && key_has (key_terms key) t) || b) (s.terms_lead t n)
           ∙ ap (λ k. ((n == number) && key_has k t) || finds p (watched es) n) c.in-Ok.ensures
           ∙ inserted p es new number _ none c.in_default-insert.ensures.entries n;
       are_keyless = λ n.
           at_ok c.put_key.result fine c.put_key.ensures.keyless n
-          ∙ ap (λ (b : Bool). ((n == number) && is_none (terms_of key)) || b) (s.are_keyless n)
+          ∙ ap (λ (b : Bool). ((n == number) && is_none (key_terms key)) || b) (s.are_keyless n)
           ∙ ap (λ k. ((n == number) && is_none k) || finds is_keyless (watched es) n) c.in-Ok.ensures
           ∙ inserted is_keyless es new number _ none c.in_default-insert.ensures.entries n;
     }
@@ -76,7 +76,7 @@ invariant_of-self-in-Err c =
     let new = c.insert.new.self.entries in
     let free : is_set (watched es) number ≡ false = sym (set_watched es number) ∙ sym c.contains_key.ensures ∙ c.if-contains_key.false in
     let fine = sym c.is_err.ensures.value ∙ c.if-is_err.false in
-    let same : terms_of held ≡ terms_of key = ap (λ pair. terms_of pair.1.key) c.in-Err.ensures.value_returned in
+    let same : key_terms held ≡ key_terms key = ap (λ pair. key_terms pair.1.key) c.in-Err.ensures.value_returned in
     record {
       rising = IsStrictlyIncreasing-from_sorted (keys_of new) c.in-Err.ensures.ordered;
       few = omega (arith, ap length c.in-Err.ensures.err, s.few);
@@ -85,15 +85,15 @@ invariant_of-self-in-Err c =
           let p : Tree → Bool = λ q. key_has (watch_key q) t in
           c.take_key.ensures.terms t n
           ∙ ap (λ k. leads c.put_key.new.by_term t n && not ((n == number) && key_has k t)) same
-          ∙ ap (λ (b : Bool). b && not ((n == number) && key_has (terms_of key) t)) (at_ok c.put_key.result fine c.put_key.ensures.terms t n)
-          ∙ ap (λ (b : Bool). (((n == number) && key_has (terms_of key) t) || b) && not ((n == number) && key_has (terms_of key) t)) (s.terms_lead t n)
-          ∙ restored p (watched es) number free n (key_has (terms_of key) t)
+          ∙ ap (λ (b : Bool). b && not ((n == number) && key_has (key_terms key) t)) (at_ok c.put_key.result fine c.put_key.ensures.terms t n)
+          ∙ ap (λ (b : Bool). (((n == number) && key_has (key_terms key) t) || b) && not ((n == number) && key_has (key_terms key) t)) (s.terms_lead t n)
+          ∙ restored p (watched es) number free n (key_has (key_terms key) t)
           ∙ ap (λ l. finds p (watched l) n) (sym c.in-Err.ensures.err);
       are_keyless = λ n.
           c.take_key.ensures.keyless n
           ∙ ap (λ k. contains nat_cmp c.put_key.new.keyless n && not ((n == number) && is_none k)) same
-          ∙ ap (λ (b : Bool). b && not ((n == number) && is_none (terms_of key))) (at_ok c.put_key.result fine c.put_key.ensures.keyless n)
-          ∙ ap (λ (b : Bool). (((n == number) && is_none (terms_of key)) || b) && not ((n == number) && is_none (terms_of key))) (s.are_keyless n)
-          ∙ restored is_keyless (watched es) number free n (is_none (terms_of key))
+          ∙ ap (λ (b : Bool). b && not ((n == number) && is_none (key_terms key))) (at_ok c.put_key.result fine c.put_key.ensures.keyless n)
+          ∙ ap (λ (b : Bool). (((n == number) && is_none (key_terms key)) || b) && not ((n == number) && is_none (key_terms key))) (s.are_keyless n)
+          ∙ restored is_keyless (watched es) number free n (is_none (key_terms key))
           ∙ ap (λ l. finds is_keyless (watched l) n) (sym c.in-Err.ensures.err);
     }

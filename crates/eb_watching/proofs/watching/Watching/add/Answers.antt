@@ -1,5 +1,5 @@
 use Rattle.std.proofs.Common.{ℕ, List, ◌+◌, ◌++◌, refl, ap, ◌∙◌}
-use Rattle.eb_engine.specs.Tokens.{Token}
+use Rattle.eb_engine.specs.Tokens.{HistoryToken}
 use Rattle.eb_lines.specs.Reading.{document}
 use Rattle.eb_lines.specs.Text.{watch_line}
 use Rattle.eb_lines.specs.declared.refusal.Refusal.TheVariants.{Full}
@@ -39,6 +39,7 @@ pub returns-clause-ok : goal.returns-clause-ok
 returns-clause-ok g c =
     let old = c.args.self.now in
     let added = if_some _ c.in_ok-told.told c.in-Some.numbers c.in-Some.is c.in_ok-told.ensures.added in
-    takes_document old _ c.args.document.now c.as_slice.result.now _ _ added.0 refl (ap (λ (t : Token). t.index) added.1) (ap (λ (t : Token). t.docs) added.1) c.convert.ensures.index refl
+    takes_document old _ c.args.document.now c.as_slice.result.now _ _ added.0 refl (ap (λ (t : HistoryToken). t.index) added.1) (ap (λ (t : HistoryToken). t.docs) added.1)
+    c.convert.ensures.index refl
     (c.as_slice.ensures.value ∙ added.2) refl refl refl refl
     (c.put_watches.ensures.text ∙ ap (λ (t : List ℕ). t ++ watch_line (old.number + 1) c.as_slice.result.now) c.in_ok-reserve.ensures.items)
