@@ -16,6 +16,8 @@ use crate::plan::{Found, Plan, plan_nothing};
 use crate::storing::{begin, finish, store_tokens};
 use eb_base::{Config, Document, MAX_TOKENS};
 use eb_place::{Pen, Used};
+use std::error::Error;
+use std::fmt;
 use std::marker::{Brand, Model};
 use std::sync::ledger::Blank;
 
@@ -23,6 +25,18 @@ use std::sync::ledger::Blank;
 /// the index are begun.
 #[derive(Clone, Copy, Debug, PartialEq, Eq)]
 pub struct Full;
+
+impl fmt::Display for Full {
+    ghost use Rattle.std.specs.Prelude.{Some, codes};
+
+    ghost output = { λ _. Some (codes "the index is full") };
+
+    fn fmt<W: fmt::Write>(&self, f: &mut fmt::Formatter<W>) -> fmt::Result {
+        f.write_str("the index is full")
+    }
+}
+
+impl Error for Full {}
 
 // What is used of a segment at first.
 const NOTHING: Used = Used {
