@@ -10,19 +10,20 @@ use Rattle.eb_rounds.specs.declared.input.Input.{Input}
 use Rattle.eb_rounds.specs.declared.input.Input.TheVariants as passed
 use Rattle.eb_rounds.specs.Inputs.{HeldInput, HeldLine, held_line}
 use Rattle.eb_rounds.specs.Passed.{input_of, input_kind}
-use Rattle.eb_rounds.specs.Shown.{WorkedOff}
+use Rattle.eb_base.specs.Document.{Doc}
+use Rattle.eb_rounds.specs.Shown.{Counted, WorkedOff, WorkedOffBoth}
 use Rattle.eb_rounds.specs.declared.input.Kind.{Kind}
 use Rattle.eb_rounds.specs.declared.input.Kind.TheVariants as kind
-use Rattle.eb_rounds.specs.Standing.{Standing, documents_held, queries_held, refused_held, with_held}
+use Rattle.eb_rounds.specs.Standing.{Standing, documents_held, queries_held, refused_held, with_held, with_round}
 use Rattle.eb_rounds.specs.Takes.{takes_kind}
 use Rattle.earlybird.specs.declared.running.Running.{Running}
 use Rattle.earlybird.specs.Holding.{held_as, before_held}
-use Rattle.earlybird.specs.Waiting.{HasWorkedOff, AreRound}
+use Rattle.earlybird.specs.Waiting.{HasGathered, AreRound}
 use Rattle.eb_lines.specs.Programs.{WorksOn, WorksOnGiven}
 use Rattle.earlybird.specs.Output.{Asked}
-use Rattle.earlybird.specs.Running.{HasRun}
+use Rattle.earlybird.specs.Running.{HasRun, HoldsNone}
 use Rattle.earlybird.proofs.LineReadings.{asks_query, reads_quiet, free_of}
-use Rattle.earlybird.proofs.Waits.{off, of_settled, one_more, round_quiet, round_free}
+use Rattle.earlybird.proofs.Waits.{off_none, both_off, gathered_none, round_opened, one_more, round_quiet, round_free}
 
 -- the run with these in place of its own
 abbrev pub with_parts : Running → HistoryToken → ConverterToken → Standing → ℕ → Running
@@ -39,9 +40,25 @@ takes_none kind.DocumentLine = refl
 takes_none kind.QueryLine = refl
 takes_none kind.RefusedLine = refl
 
-pub queries_none : (held : List HeldLine) → held ≡ [] → queries_held held ≡ 0
+queries_none : (held : List HeldLine) → held ≡ [] → queries_held held ≡ 0
 unfolding queries_held
 queries_none held e = ap queries_held e
+
+pub none_waits : (r : Running) → HoldsNone r → queries_held r.rounds.ahead + queries_held r.rounds.held ≡ 0
+none_waits r none = ap₂ (λ x y. x + y) (queries_none r.rounds.ahead none.0) (queries_none r.rounds.held none.1)
+
+-- a round alone, with none ahead of it
+none_ahead : (σ : Setting) (held : List HeldLine) (docs docs_new : List Doc) (counts counts_new : Counted) (printed : List ℕ)
+    → WorkedOff σ held docs docs_new counts counts_new printed → WorkedOffBoth σ [] held docs docs_new counts counts_new printed
+none_ahead σ held docs docs_new counts counts_new printed w = record {
+  docs_between = docs;
+  counts_between = counts;
+  printed_first = [];
+  printed_then = printed;
+  before = off_none σ docs counts;
+  behind = w;
+  text = refl;
+}
 
 -- ---- one after another
 
@@ -74,11 +91,12 @@ module _ (old new : Running) (a : Asked) (given : List Line) (so_far : List ℕ)
   setting_is = ap (λ (x : Words). x.setting) h.index ∙ h.setting
 
   -- the held lines are worked off
-  pub run_off : (printed : List ℕ) → new.number ≡ old.number → WorkedOff old.index.setting old.rounds.held old.writer.docs new.writer.docs old.rounds.counts new.rounds.counts printed
-      → new.rounds.held ≡ [] → new.rounds.greatest ≡ old.rounds.greatest → HasRun new a given (so_far ++ printed)
+  pub run_off : (printed : List ℕ) → new.number ≡ old.number → WorkedOffBoth old.index.setting old.rounds.ahead old.rounds.held old.writer.docs new.writer.docs old.rounds.counts new.rounds.counts printed
+      → HoldsNone new → new.rounds.greatest ≡ old.rounds.greatest → HasRun new a given (so_far ++ printed)
   run_off printed number w none greatest =
-      let worked = subst (λ (s : Setting). WorkedOff s old.rounds.held old.writer.docs new.writer.docs old.rounds.counts new.rounds.counts printed) setting_is w in
-      let s = off a.setting a.overlap given old.writer.docs new.writer.docs old.rounds new.rounds.counts so_far printed h.worked worked (λ e. omega (arith, ap length (h.order e))) in
+      let worked = subst (λ (s : Setting). WorkedOffBoth s old.rounds.ahead old.rounds.held old.writer.docs new.writer.docs old.rounds.counts new.rounds.counts printed) setting_is w in
+      let s = both_off a.setting a.overlap given old.writer.docs new.writer.docs old.rounds new.rounds.counts so_far printed h.worked worked
+      (λ e. (omega (arith, ap length (h.order e).0), omega (arith, ap length (h.order e).1))) in
       record {
         words = h.words;
         index = index ∙ h.index;
@@ -88,7 +106,7 @@ module _ (old new : Running) (a : Asked) (given : List Line) (so_far : List ℕ)
         mode = mode ∙ h.mode;
         stats = stats ∙ h.stats;
         number = number ∙ h.number;
-        worked = of_settled a.setting a.overlap given new.writer.docs new.rounds (so_far ++ printed) s none (omega (arith, greatest, h.worked.greatest));
+        worked = gathered_none a.setting a.overlap given new.writer.docs new.rounds (so_far ++ printed) s none.0 none.1 (omega (arith, greatest, h.worked.greatest));
         order = λ e. none;
       }
 
@@ -103,8 +121,24 @@ module _ (old new : Running) (a : Asked) (given : List Line) (so_far : List ℕ)
     mode = mode ∙ h.mode;
     stats = stats ∙ h.stats;
     number = number ∙ h.number;
-    worked = subst (λ s. HasWorkedOff a.setting a.overlap given new.writer.docs s so_far) (sym rounds) (subst (λ ds. HasWorkedOff a.setting a.overlap given ds old.rounds so_far) (sym docs) h.worked);
-    order = λ e. ap (λ (s : Standing). s.held) rounds ∙ h.order e;
+    worked = subst (λ s. HasGathered a.setting a.overlap given new.writer.docs s so_far) (sym rounds) (subst (λ ds. HasGathered a.setting a.overlap given ds old.rounds so_far) (sym docs) h.worked);
+    order = λ e. (ap (λ (s : Standing). s.ahead) rounds ∙ (h.order e).0, ap (λ (s : Standing). s.held) rounds ∙ (h.order e).1);
+  }
+
+  -- a round is opened
+  pub run_opened : new.number ≡ old.number → new.writer.docs ≡ old.writer.docs → old.rounds.ahead ≡ [] → new.rounds ≡ with_round old.rounds → HasRun new a given so_far
+  run_opened number docs ahead rounds = record {
+    words = h.words;
+    index = index ∙ h.index;
+    setting = h.setting;
+    writer = writer ∙ h.writer;
+    converter = converter ∙ h.converter;
+    mode = mode ∙ h.mode;
+    stats = stats ∙ h.stats;
+    number = number ∙ h.number;
+    worked = subst (λ s. HasGathered a.setting a.overlap given new.writer.docs s so_far) (sym rounds)
+        (round_opened a.setting a.overlap given new.writer.docs old.rounds so_far (subst (λ ds. HasGathered a.setting a.overlap given ds old.rounds so_far) (sym docs) h.worked) ahead);
+    order = λ e. (ap (λ (s : Standing). s.ahead) rounds ∙ (h.order e).1, ap (λ (s : Standing). s.held) rounds);
   }
 
   module _ (l : Line) (number : new.number ≡ old.number + 1) where
@@ -114,11 +148,11 @@ module _ (old new : Running) (a : Asked) (given : List Line) (so_far : List ℕ)
     number_is : new.number ≡ length (given ++ l ∷ [])
     number_is = omega (arith, number, h.number, given_long)
 
-    free_round : documents_held old.rounds.held ≡ 0 → AreRound (h.worked.waiting ++ l ∷ [])
-    free_round none = round_free h.worked.waiting l (free_of (length h.worked.done) h.worked.waiting (sym (ap documents_held h.worked.lines) ∙ none))
+    free_round : documents_held old.rounds.held ≡ 0 → AreRound (h.worked.behind ++ l ∷ [])
+    free_round none = round_free h.worked.behind l (free_of (length h.worked.before) h.worked.behind (sym (ap documents_held h.worked.lines) ∙ none))
 
-    quiet_round : asks_query (held_as l) ≡ false → AreRound (h.worked.waiting ++ l ∷ [])
-    quiet_round quiet = round_quiet h.worked.waiting l h.worked.round (λ r reads. reads_quiet l r quiet reads)
+    quiet_round : asks_query (held_as l) ≡ false → AreRound (h.worked.behind ++ l ∷ [])
+    quiet_round quiet = round_quiet h.worked.behind l h.worked.round (λ r reads. reads_quiet l r quiet reads)
 
     no_documents : documents_held [] ≡ 0
     unfolding documents_held
@@ -127,16 +161,18 @@ module _ (old new : Running) (a : Asked) (given : List Line) (so_far : List ℕ)
     -- in order mode the line is worked off
     pub run_line : (i : HeldInput) (printed : List ℕ) → old.overlap ≡ false → held_as l ≡ Some i
         → WorkedOff old.index.setting (held_line (old.number + 1) i) old.writer.docs new.writer.docs old.rounds.counts new.rounds.counts printed
-        → new.rounds.held ≡ old.rounds.held → new.rounds.greatest ≡ old.number + 1 → HasRun new a (given ++ l ∷ []) (so_far ++ printed)
-    run_line i printed in_order is w same greatest =
-        let none : old.rounds.held ≡ [] = h.order (sym h.mode ∙ in_order) in
+        → new.rounds.ahead ≡ old.rounds.ahead → new.rounds.held ≡ old.rounds.held → new.rounds.greatest ≡ old.number + 1 → HasRun new a (given ++ l ∷ []) (so_far ++ printed)
+    run_line i printed in_order is w same_ahead same greatest =
+        let nothing = h.order (sym h.mode ∙ in_order) in
+        let none : old.rounds.held ≡ [] = nothing.1 in
         let at : old.number + 1 ≡ length given + 1 = ap (λ n. n + 1) h.number in
-        let v : Standing = record { held = held_line (length given + 1) i; counts = old.rounds.counts; greatest = length given + 1 } in
+        let v : Standing = record { ahead = []; held = held_line (length given + 1) i; counts = old.rounds.counts; greatest = length given + 1 } in
         let lines : v.held ≡ old.rounds.held ++ before_held (length given + 1) (held_as l) [] = ap₂ (λ hs o. hs ++ before_held (length given + 1) o []) (sym none) (sym is) in
-        let x = one_more a.setting a.overlap given l old.writer.docs old.rounds v so_far h.worked (free_round (ap documents_held none ∙ no_documents)) lines refl (omega arith) in
+        let x = one_more a.setting a.overlap given l old.writer.docs old.rounds v so_far h.worked (free_round (ap documents_held none ∙ no_documents)) (sym nothing.0) lines refl (omega arith) in
         let W : Setting → List HeldLine → Type 0 = λ s held. WorkedOff s held old.writer.docs new.writer.docs old.rounds.counts new.rounds.counts printed in
         let worked = subst (λ n. W a.setting (held_line n i)) at (subst (λ s. W s (held_line (old.number + 1) i)) setting_is w) in
-        let s = off a.setting a.overlap (given ++ l ∷ []) old.writer.docs new.writer.docs v new.rounds.counts so_far printed x worked (λ e. omega arith) in
+        let both = none_ahead a.setting v.held old.writer.docs new.writer.docs old.rounds.counts new.rounds.counts printed worked in
+        let s = both_off a.setting a.overlap (given ++ l ∷ []) old.writer.docs new.writer.docs v new.rounds.counts so_far printed x both (λ e. (omega arith, omega arith)) in
         record {
           words = h.words;
           index = index ∙ h.index;
@@ -146,14 +182,16 @@ module _ (old new : Running) (a : Asked) (given : List Line) (so_far : List ℕ)
           mode = mode ∙ h.mode;
           stats = stats ∙ h.stats;
           number = number_is;
-          worked = of_settled a.setting a.overlap (given ++ l ∷ []) new.writer.docs new.rounds (so_far ++ printed) s (same ∙ none) (omega (arith, greatest, h.number, given_long));
-          order = λ e. same ∙ none;
+          worked = gathered_none a.setting a.overlap (given ++ l ∷ []) new.writer.docs new.rounds (so_far ++ printed) s (same_ahead ∙ nothing.0) (same ∙ none)
+              (omega (arith, greatest, h.number, given_long));
+          order = λ e. (same_ahead ∙ nothing.0, same ∙ none);
         }
 
     -- the line is held, or passed over
-    more : (docs : new.writer.docs ≡ old.writer.docs) → AreRound (h.worked.waiting ++ l ∷ []) → new.rounds.held ≡ old.rounds.held ++ before_held (length given + 1) (held_as l) []
-        → new.rounds.counts ≡ old.rounds.counts → new.rounds.greatest ≤ length given + 1 → (a.overlap ≡ false → new.rounds.held ≡ []) → HasRun new a (given ++ l ∷ []) so_far
-    more docs round lines counts greatest order = record {
+    more : (docs : new.writer.docs ≡ old.writer.docs) → AreRound (h.worked.behind ++ l ∷ []) → new.rounds.ahead ≡ old.rounds.ahead
+        → new.rounds.held ≡ old.rounds.held ++ before_held (length given + 1) (held_as l) [] → new.rounds.counts ≡ old.rounds.counts → new.rounds.greatest ≤ length given + 1
+        → (a.overlap ≡ false → HoldsNone new) → HasRun new a (given ++ l ∷ []) so_far
+    more docs round ahead lines counts greatest order = record {
       words = h.words;
       index = index ∙ h.index;
       setting = h.setting;
@@ -162,12 +200,12 @@ module _ (old new : Running) (a : Asked) (given : List Line) (so_far : List ℕ)
       mode = mode ∙ h.mode;
       stats = stats ∙ h.stats;
       number = number_is;
-      worked = subst (λ ds. HasWorkedOff a.setting a.overlap (given ++ l ∷ []) ds new.rounds so_far) (sym docs)
-          (one_more a.setting a.overlap given l old.writer.docs old.rounds new.rounds so_far h.worked round lines counts greatest);
+      worked = subst (λ ds. HasGathered a.setting a.overlap (given ++ l ∷ []) ds new.rounds so_far) (sym docs)
+          (one_more a.setting a.overlap given l old.writer.docs old.rounds new.rounds so_far h.worked round ahead lines counts greatest);
       order = order;
     }
 
-    input_round : (input : Input) → takes_kind old.rounds.held (input_kind input) ≡ true → held_as l ≡ Some (input_of input) → AreRound (h.worked.waiting ++ l ∷ [])
+    input_round : (input : Input) → takes_kind old.rounds.held (input_kind input) ≡ true → held_as l ≡ Some (input_of input) → AreRound (h.worked.behind ++ l ∷ [])
     input_round (passed.DocumentLine bytes) takes is = quiet_round (ap asks_query is)
     input_round (passed.QueryLine text) takes is = free_round (grind (arith, nat_tests))
     input_round (passed.RefusedLine r) takes is = quiet_round (ap asks_query is)
@@ -180,14 +218,16 @@ module _ (old new : Running) (a : Asked) (given : List Line) (so_far : List ℕ)
         let greatest = ap (λ (s : Standing). s.greatest) rounds in
         let lines : new.rounds.held ≡ old.rounds.held ++ before_held (length given + 1) (held_as l) [] =
         held ∙ ap₂ (λ n o. old.rounds.held ++ before_held (n + 1) o []) h.number (sym is) in
-        more docs (input_round input takes is) lines counts (omega (arith, greatest, h.number)) (λ e. absurd (true≢false (sym overlaps ∙ h.mode ∙ e)))
+        more docs (input_round input takes is) (ap (λ (s : Standing). s.ahead) rounds) lines counts (omega (arith, greatest, h.number)) (λ e. absurd (true≢false (sym overlaps ∙ h.mode ∙ e)))
 
     pub run_blank : new.writer.docs ≡ old.writer.docs → held_as l ≡ None → new.rounds ≡ old.rounds → HasRun new a (given ++ l ∷ []) so_far
     run_blank docs is rounds =
         let held = ap (λ (s : Standing). s.held) rounds in
         let lines : new.rounds.held ≡ old.rounds.held ++ before_held (length given + 1) (held_as l) [] =
         held ∙ sym (append-nil old.rounds.held) ∙ ap (λ o. old.rounds.held ++ before_held (length given + 1) o []) (sym is) in
-        more docs (quiet_round (ap asks_query is)) lines (ap (λ (s : Standing). s.counts) rounds) (omega (arith, ap (λ (s : Standing). s.greatest) rounds, h.worked.greatest)) (λ e. held ∙ h.order e)
+        let ahead = ap (λ (s : Standing). s.ahead) rounds in
+        more docs (quiet_round (ap asks_query is)) ahead lines (ap (λ (s : Standing). s.counts) rounds)
+        (omega (arith, ap (λ (s : Standing). s.greatest) rounds, h.worked.greatest)) (λ e. (ahead ∙ (h.order e).0, held ∙ (h.order e).1))
 
 -- ---- the held lines, worked off or not
 
@@ -197,8 +237,12 @@ module _ (old new : Running) (t0 t1 : List ℕ) (mode : new.overlap ≡ old.over
   unchanged_on rounds docs text = λ a given so_far h.
       ([], subst (HasRun new a given) (sym (append-nil so_far)) (run_same old new a given so_far h mode stats index writer converter number docs rounds), text ∙ sym (append-nil t0))
 
+  pub opened_on : new.rounds ≡ with_round old.rounds → old.rounds.ahead ≡ [] → new.writer.docs ≡ old.writer.docs → t1 ≡ t0 → WorksOn HasRun old new t0 t1
+  opened_on rounds ahead docs text = λ a given so_far h.
+      ([], subst (HasRun new a given) (sym (append-nil so_far)) (run_opened old new a given so_far h mode stats index writer converter number docs ahead rounds), text ∙ sym (append-nil t0))
+
   pub held_on : {T E : Type 0} (r : Result T E)
-      → OnOk r ((printed : List ℕ) × WorkedOff old.index.setting old.rounds.held old.writer.docs new.writer.docs old.rounds.counts new.rounds.counts printed × (t1 ≡ t0 ++ printed))
-      → OnOk r ((new.rounds.held ≡ []) × (new.rounds.greatest ≡ old.rounds.greatest)) → OnErr r (WorksOn HasRun old new t0 t1) → WorksOn HasRun old new t0 t1
-  held_on (Ok x) done held err = λ a given so_far h. (done.0, run_off old new a given so_far h mode stats index writer converter done.0 number done.1 held.0 held.1, done.2)
+      → OnOk r ((printed : List ℕ) × WorkedOffBoth old.index.setting old.rounds.ahead old.rounds.held old.writer.docs new.writer.docs old.rounds.counts new.rounds.counts printed × (t1 ≡ t0 ++ printed))
+      → OnOk r ((new.rounds.ahead ≡ []) × (new.rounds.held ≡ []) × (new.rounds.greatest ≡ old.rounds.greatest)) → OnErr r (WorksOn HasRun old new t0 t1) → WorksOn HasRun old new t0 t1
+  held_on (Ok x) done held err = λ a given so_far h. (done.0, run_off old new a given so_far h mode stats index writer converter done.0 number done.1 (held.0, held.1) held.2, done.2)
   held_on (Err e) done held err = err

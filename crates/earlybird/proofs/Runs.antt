@@ -17,11 +17,11 @@ use Rattle.eb_rounds.specs.Text.{body_from, summary}
 use Rattle.eb_table.specs.Known.{Words}
 use Rattle.earlybird.specs.declared.running.Running.{Running}
 use Rattle.earlybird.specs.Output.{Asked, IsBodyOf, IsTextOf}
-use Rattle.earlybird.specs.Running.{HasRun, end_of, body_text}
-use Rattle.earlybird.specs.Waiting.{HasWorkedOff, HasSettled, counts_of}
+use Rattle.earlybird.specs.Running.{HasRun, HoldsNone, end_of, body_text}
+use Rattle.earlybird.specs.Waiting.{HasGathered, HasSettled, counts_of}
 use Rattle.earlybird.proofs.Admissions.{read_none}
 use Rattle.earlybird.proofs.OneOutput.{sees_told}
-use Rattle.earlybird.proofs.Waits.{of_settled, settled}
+use Rattle.earlybird.proofs.Waits.{gathered_none, all_settled}
 
 -- ---- before the first line
 
@@ -29,10 +29,10 @@ settled_none : (σ : Setting) (overlap : Bool) → HasSettled σ overlap [] [] n
 unfolding accepted queries refusals body_from
 settled_none σ overlap = record { readings = []; numbers = told []; read = read_none σ; sees = sees_told overlap []; adds = refl; counted = refl; printed = refl }
 
-pub worked_none : (σ : Setting) (overlap : Bool) (held : Standing) → held ≡ record { held = []; counts = no_counts; greatest = 0 } → HasWorkedOff σ overlap [] [] held []
+pub worked_none : (σ : Setting) (overlap : Bool) (held : Standing) → held ≡ record { ahead = []; held = []; counts = no_counts; greatest = 0 } → HasGathered σ overlap [] [] held []
 worked_none σ overlap held e =
     let s = subst (λ c. HasSettled σ overlap [] [] c []) (sym (ap (λ (h : Standing). h.counts) e)) (settled_none σ overlap) in
-    of_settled σ overlap [] [] held [] s (ap (λ (h : Standing). h.held) e) (omega (arith, ap (λ (h : Standing). h.greatest) e))
+    gathered_none σ overlap [] [] held [] s (ap (λ (h : Standing). h.ahead) e) (ap (λ (h : Standing). h.held) e) (omega (arith, ap (λ (h : Standing). h.greatest) e))
 
 abbrev body_of : (a : Asked) (given : List Line) (so_far : List ℕ) (docs : List Doc) (counts : Counted) → HasSettled a.setting a.overlap given docs counts so_far → IsBodyOf a given so_far
 body_of a given so_far docs counts s = record { readings = s.readings; numbers = s.numbers; read = s.read; sees = s.sees; bytes = s.printed }
@@ -42,11 +42,11 @@ body_none a = body_of a [] [] [] no_counts (settled_none a.setting a.overlap)
 
 -- ---- where no line is held
 
-abbrev last : (r : Running) (a : Asked) (given : List Line) (so_far : List ℕ) → HasRun r a given so_far → r.rounds.held ≡ [] → HasSettled a.setting a.overlap given r.writer.docs r.rounds.counts so_far
-last r a given so_far h none = settled a.setting a.overlap given r.writer.docs r.rounds so_far h.worked none
+abbrev last : (r : Running) (a : Asked) (given : List Line) (so_far : List ℕ) → HasRun r a given so_far → HoldsNone r → HasSettled a.setting a.overlap given r.writer.docs r.rounds.counts so_far
+last r a given so_far h none = all_settled a.setting a.overlap given r.writer.docs r.rounds so_far h.worked none.0 none.1
 
 -- all lines given are worked off, and the run printed what they print
-pub run_body : (r : Running) (a : Asked) (given : List Line) (so_far : List ℕ) → HasRun r a given so_far → r.rounds.held ≡ [] → IsBodyOf a given so_far
+pub run_body : (r : Running) (a : Asked) (given : List Line) (so_far : List ℕ) → HasRun r a given so_far → HoldsNone r → IsBodyOf a given so_far
 run_body r a given so_far h none = body_of a given so_far r.writer.docs r.rounds.counts (last r a given so_far h none)
 
 summary_is : (rs : List Reading) (d q r : ℕ) (counts : Counted) → (d ≡ counts.documents) × (q ≡ counts.queries) × (r ≡ counts.refused) → counts ≡ counts_of rs
@@ -62,7 +62,7 @@ pub run_finishes : {P : Type 0} (has_run : P → Asked → List Line → List �
     → t1 ≡ t0 ++ (summary_of documents answers refused ++ stats_line r.stats begun converted)
     → (documents ≡ r.rounds.counts.documents) × (answers ≡ r.rounds.counts.queries) × (refused ≡ r.rounds.counts.refused)
     → begun ≡ length (cut r.index.setting r.writer.docs) → converted ≡ most_converted (length (cut r.index.setting r.writer.docs))
-    → r.rounds.held ≡ [] → HasRun r a given so_far
+    → HoldsNone r → HasRun r a given so_far
     → Finishes has_run IsTextOf (λ x. HasRefusal x.setting) (λ x. HasNoRefusal x.setting) p t0 t1 refused a given so_far
 run_finishes has_run p r t0 t1 documents answers refused begun converted a given so_far put counts segments packed none h =
     let s = last r a given so_far h none in

@@ -6,18 +6,18 @@ use Rattle.eb_base.specs.Setting.{Setting}
 use Rattle.eb_io.specs.Lines.{Line}
 use Rattle.eb_lines.specs.Reading.{Reading}
 use Rattle.eb_rounds.specs.Inputs.{HeldInput, HeldLine, admitted_in, added}
-use Rattle.eb_rounds.specs.Shown.{Counted, shown_text, WorkedOff}
+use Rattle.eb_rounds.specs.Shown.{Counted, shown_text, WorkedOff, WorkedOffBoth}
 use Rattle.eb_rounds.specs.Rows.{NoQueryLine, QueriesFirst}
 use Rattle.eb_rounds.specs.Sees.{is_document_line, is_query_line}
-use Rattle.eb_rounds.specs.Standing.{Standing}
+use Rattle.eb_rounds.specs.Standing.{Standing, with_round}
 use Rattle.eb_lines.specs.Reads.{Reads}
 use Rattle.earlybird.specs.Holding.{held_as, before_held, held_from}
-use Rattle.earlybird.specs.Waiting.{HasWorkedOff, HasSettled, AreRound}
+use Rattle.earlybird.specs.Waiting.{HasWorkedOff, HasGathered, HasSettled, AreRound, round_ahead}
 use Rattle.earlybird.proofs.Going.{overlapped, in_order}
 
 -- ---- nothing is held
 
-off_none : (σ : Setting) (docs : List Doc) (counts : Counted) → WorkedOff σ [] docs docs counts counts []
+pub off_none : (σ : Setting) (docs : List Doc) (counts : Counted) → WorkedOff σ [] docs docs counts counts []
 unfolding shown_text admitted_in added
 off_none σ docs counts = record {
   raw = [];
@@ -36,7 +36,7 @@ none_round : AreRound []
 none_round [] h = tt
 none_round (r ∷ rs) h = absurd h
 
-pub of_settled : (σ : Setting) (overlap : Bool) (given : List Line) (docs : List Doc) (held : Standing) (so_far : List ℕ)
+of_settled : (σ : Setting) (overlap : Bool) (given : List Line) (docs : List Doc) (held : Standing) (so_far : List ℕ)
     → HasSettled σ overlap given docs held.counts so_far → held.held ≡ [] → held.greatest ≤ length given
     → HasWorkedOff σ overlap given docs held so_far
 of_settled σ overlap given docs held so_far s none le = record {
@@ -55,15 +55,15 @@ of_settled σ overlap given docs held so_far s none le = record {
   printed = s.printed;
 }
 
--- the held lines are worked off; in order one at most is held
-pub off : (σ : Setting) (overlap : Bool) (given : List Line) (docs docs_new : List Doc) (held : Standing) (counts_new : Counted) (so_far printed : List ℕ)
+-- a round's lines are worked off; in order one at most is held
+off : (σ : Setting) (overlap : Bool) (given : List Line) (docs docs_new : List Doc) (held : Standing) (counts_new : Counted) (so_far printed : List ℕ)
     → HasWorkedOff σ overlap given docs held so_far
     → WorkedOff σ held.held docs docs_new held.counts counts_new printed → (overlap ≡ false → length held.held ≤ 1) → HasSettled σ overlap given docs_new counts_new (so_far ++ printed)
 off σ true given docs docs_new held counts_new so_far printed a w few = overlapped σ given docs docs_new held counts_new so_far printed a w
 off σ false given docs docs_new held counts_new so_far printed a w few = in_order σ given docs docs_new held counts_new so_far printed a w (few refl)
 
 -- where no line is held, all are done: those that wait are blank
-pub settled : (σ : Setting) (overlap : Bool) (given : List Line) (docs : List Doc) (held : Standing) (so_far : List ℕ) → HasWorkedOff σ overlap given docs held so_far → held.held ≡ []
+settled : (σ : Setting) (overlap : Bool) (given : List Line) (docs : List Doc) (held : Standing) (so_far : List ℕ) → HasWorkedOff σ overlap given docs held so_far → held.held ≡ []
     → HasSettled σ overlap given docs held.counts so_far
 settled σ overlap given docs held so_far a none =
     let w : WorkedOff σ held.held docs docs held.counts held.counts [] = subst (λ hs. WorkedOff σ hs docs docs held.counts held.counts []) (sym none) (off_none σ docs held.counts) in
@@ -107,24 +107,87 @@ round_quiet ls l a quiet rs h =
 pub round_free : (ls : List Line) (l : Line) → ((rs : List Reading) → AllZip Reads ls rs → AllByRecursion (λ x. is_document_line x ≡ false) rs) → AreRound (ls ++ l ∷ [])
 round_free ls l free rs h = let m = zip_split Reads ls l rs h in subst QueriesFirst (sym m.2) (first_free m.0 m.1 (free m.0 m.3))
 
--- a line is given, and held if it isn't blank; the round stays one
-pub one_more : (σ : Setting) (overlap : Bool) (given : List Line) (l : Line) (docs : List Doc) (held held_new : Standing) (so_far : List ℕ) (a : HasWorkedOff σ overlap given docs held so_far)
-    → AreRound (a.waiting ++ l ∷ []) → held_new.held ≡ held.held ++ before_held (length given + 1) (held_as l) [] → held_new.counts ≡ held.counts → held_new.greatest ≤ length given + 1
-    → HasWorkedOff σ overlap (given ++ l ∷ []) docs held_new so_far
-one_more σ overlap given l docs held held_new so_far a round lines counts greatest = record {
-  done = a.done;
-  waiting = a.waiting ++ l ∷ [];
-  readings = a.readings;
-  numbers = a.numbers;
-  parts = ap (λ ls. ls ++ l ∷ []) a.parts ∙ append_assoc a.done a.waiting (l ∷ []);
-  read = a.read;
-  sees = a.sees;
-  adds = a.adds;
-  lines =
-      let all : length given ≡ length a.done + length a.waiting = ap length a.parts ∙ length-append a.done a.waiting in
-      lines ∙ ap₂ (λ x n. x ++ before_held (n + 1) (held_as l) []) a.lines all ∙ sym (held_push (length a.done) a.waiting l);
+-- ---- the round ahead and the open one
+
+-- where all lines are done but some, these are a round
+abbrev wait_behind : (σ : Setting) (overlap : Bool) (before behind given : List Line) (docs : List Doc) (held : Standing) (so_far : List ℕ)
+    → HasSettled σ overlap before docs held.counts so_far → given ≡ before ++ behind → held.held ≡ held_from (length before) behind → AreRound behind → held.greatest ≤ length given
+    → HasWorkedOff σ overlap given docs held so_far
+wait_behind σ overlap before behind given docs held so_far s parts lines round le = record {
+  done = before;
+  waiting = behind;
+  readings = s.readings;
+  numbers = s.numbers;
+  parts = parts;
+  read = s.read;
+  sees = s.sees;
+  adds = s.adds;
+  lines = lines;
   round = round;
-  counts = counts ∙ a.counts;
+  counts = s.counted;
+  greatest = le;
+  printed = s.printed;
+}
+
+-- nothing waits behind these lines
+abbrev none_behind : (σ : Setting) (overlap : Bool) (given : List Line) (docs : List Doc) (s : Standing) (so_far : List ℕ)
+    → HasWorkedOff σ overlap given docs (round_ahead s) so_far → s.held ≡ [] → s.greatest ≤ length given → HasGathered σ overlap given docs s so_far
+none_behind σ overlap given docs s so_far w none le = record {
+  before = given;
+  behind = [];
+  parts = sym (append-nil given);
+  worked = w;
+  lines = none;
+  round = none_round;
+  greatest = le;
+}
+
+pub gathered_none : (σ : Setting) (overlap : Bool) (given : List Line) (docs : List Doc) (s : Standing) (so_far : List ℕ)
+    → HasSettled σ overlap given docs s.counts so_far → s.ahead ≡ [] → s.held ≡ [] → s.greatest ≤ length given → HasGathered σ overlap given docs s so_far
+gathered_none σ overlap given docs s so_far x ahead held le =
+    none_behind σ overlap given docs s so_far (of_settled σ overlap given docs (round_ahead s) so_far x ahead (omega arith)) held le
+
+-- both rounds are worked off
+pub both_off : (σ : Setting) (overlap : Bool) (given : List Line) (docs docs_new : List Doc) (s : Standing) (counts_new : Counted) (so_far printed : List ℕ)
+    → HasGathered σ overlap given docs s so_far → WorkedOffBoth σ s.ahead s.held docs docs_new s.counts counts_new printed
+    → (overlap ≡ false → (length s.ahead ≤ 1) × (length s.held ≤ 1)) → HasSettled σ overlap given docs_new counts_new (so_far ++ printed)
+both_off σ overlap given docs docs_new s counts_new so_far printed g w few =
+    let x = off σ overlap g.before docs w.docs_between (round_ahead s) w.counts_between so_far w.printed_first g.worked w.before (λ e. (few e).0) in
+    let m : Standing = record { ahead = []; held = s.held; counts = w.counts_between; greatest = 0 } in
+    let y = wait_behind σ overlap g.before g.behind given w.docs_between m (so_far ++ w.printed_first) x g.parts g.lines g.round (omega arith) in
+    let z = off σ overlap given w.docs_between docs_new m counts_new (so_far ++ w.printed_first) w.printed_then y w.behind (λ e. (few e).1) in
+    subst (HasSettled σ overlap given docs_new counts_new) (append_assoc so_far w.printed_first w.printed_then ∙ ap (λ t. so_far ++ t) (sym w.text)) z
+
+-- where no line is held, all are done
+pub all_settled : (σ : Setting) (overlap : Bool) (given : List Line) (docs : List Doc) (s : Standing) (so_far : List ℕ) → HasGathered σ overlap given docs s so_far
+    → s.ahead ≡ [] → s.held ≡ [] → HasSettled σ overlap given docs s.counts so_far
+all_settled σ overlap given docs s so_far g ahead held =
+    let x = settled σ overlap g.before docs (round_ahead s) so_far g.worked ahead in
+    let m : Standing = record { ahead = []; held = s.held; counts = s.counts; greatest = 0 } in
+    settled σ overlap given docs m so_far (wait_behind σ overlap g.before g.behind given docs m so_far x g.parts g.lines g.round (omega arith)) held
+
+-- a round is opened where none is ahead
+pub round_opened : (σ : Setting) (overlap : Bool) (given : List Line) (docs : List Doc) (s : Standing) (so_far : List ℕ) → HasGathered σ overlap given docs s so_far
+    → s.ahead ≡ [] → HasGathered σ overlap given docs (with_round s) so_far
+round_opened σ overlap given docs s so_far g ahead =
+    let x = settled σ overlap g.before docs (round_ahead s) so_far g.worked ahead in
+    let w = wait_behind σ overlap g.before g.behind given docs (round_ahead (with_round s)) so_far x g.parts g.lines g.round (omega arith) in
+    none_behind σ overlap given docs (with_round s) so_far w refl g.greatest
+
+-- a line is given, and held if it isn't blank; the open round stays one
+pub one_more : (σ : Setting) (overlap : Bool) (given : List Line) (l : Line) (docs : List Doc) (s s_new : Standing) (so_far : List ℕ) (g : HasGathered σ overlap given docs s so_far)
+    → AreRound (g.behind ++ l ∷ []) → s_new.ahead ≡ s.ahead → s_new.held ≡ s.held ++ before_held (length given + 1) (held_as l) [] → s_new.counts ≡ s.counts
+    → s_new.greatest ≤ length given + 1 → HasGathered σ overlap (given ++ l ∷ []) docs s_new so_far
+one_more σ overlap given l docs s s_new so_far g round ahead lines counts greatest = record {
+  before = g.before;
+  behind = g.behind ++ l ∷ [];
+  parts = ap (λ ls. ls ++ l ∷ []) g.parts ∙ append_assoc g.before g.behind (l ∷ []);
+  worked =
+      let W : List HeldLine → Counted → Type 0 = λ hs c. HasWorkedOff σ overlap g.before docs (record { ahead = []; held = hs; counts = c; greatest = 0 }) so_far in
+      subst (λ c. W s_new.ahead c) (sym counts) (subst (λ hs. W hs s.counts) (sym ahead) g.worked);
+  lines =
+      let all : length given ≡ length g.before + length g.behind = ap length g.parts ∙ length-append g.before g.behind in
+      lines ∙ ap₂ (λ x n. x ++ before_held (n + 1) (held_as l) []) g.lines all ∙ sym (held_push (length g.before) g.behind l);
+  round = round;
   greatest = omega (arith, greatest, length-append given (l ∷ []));
-  printed = a.printed;
 }

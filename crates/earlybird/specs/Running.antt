@@ -12,7 +12,11 @@ use Rattle.eb_rounds.specs.Text.{body, summary}
 use Rattle.eb_table.specs.Known.{Words}
 use Rattle.earlybird.specs.declared.running.Running.{Running}
 use Rattle.earlybird.specs.Output.{Asked, IsBodyOf, IsTextOf}
-use Rattle.earlybird.specs.Waiting.{HasWorkedOff}
+use Rattle.earlybird.specs.Waiting.{HasGathered}
+
+-- no line is held
+abbrev pub HoldsNone : Running → Type 0
+HoldsNone r = (r.rounds.ahead ≡ []) × (r.rounds.held ≡ [])
 
 -- of these lines the run has worked off some, as it was asked, and they printed this text: the history of the index's writer
 -- is the documents that the run accepted; in order mode none of the lines is held
@@ -25,15 +29,15 @@ pub record HasRun (r : Running) (a : Asked) (given : List Line) (so_far : List �
   pub mode : r.overlap ≡ a.overlap
   pub stats : r.stats ≡ a.stats
   pub number : r.number ≡ length given
-  pub worked : HasWorkedOff a.setting a.overlap given r.writer.docs r.rounds so_far
-  pub order : a.overlap ≡ false → r.rounds.held ≡ []
+  pub worked : HasGathered a.setting a.overlap given r.writer.docs r.rounds so_far
+  pub order : a.overlap ≡ false → HoldsNone r
 
 -- what may be called between two lines, and works off the held lines, if memory suffices
 pub record WorksOffHeld {W Z E : Type 0} (pre : W → MutBor Running → MutBor (Vec ℕ Z) → Type 0)
     (post : W → MutBor Running → MutBor (Vec ℕ Z) → Result (Unit {0}) E → MutBor Running → MutBor (Vec ℕ Z) → Type 0) (worker : W) : Type 0 where
   pub may : (old : MutBor Running) (text : MutBor (Vec ℕ Z)) → IsRunning HasRun old.now → pre worker old text
   pub on : (old new : MutBor Running) (text more : MutBor (Vec ℕ Z)) (r : Result (Unit {0}) E) → post worker old text r new more → WorksOn HasRun old.now new.now text.now.items more.now.items
-  pub none : (old new : MutBor Running) (text more : MutBor (Vec ℕ Z)) (r : Result (Unit {0}) E) → post worker old text r new more → OnOk r (new.now.rounds.held ≡ [])
+  pub none : (old new : MutBor Running) (text more : MutBor (Vec ℕ Z)) (r : Result (Unit {0}) E) → post worker old text r new more → OnOk r (HoldsNone new.now)
   pub same : (old new : MutBor Running) (text more : MutBor (Vec ℕ Z)) (r : Result (Unit {0}) E) → post worker old text r new more
       → (new.now.overlap ≡ old.now.overlap) × (new.now.number ≡ old.now.number)
 
@@ -45,8 +49,13 @@ HasRunBy pre post worker r a given so_far = WorksOffHeld pre post worker × HasR
 -- the lines that are worked off are the first ones, and printed this
 pub run_first : (r : Running) (a : Asked) (given : List Line) (so_far : List ℕ) → HasRun r a given so_far → PrintsFront IsBodyOf a given so_far
 run_first r a given so_far h =
-    let w = h.worked in
-    (w.done, w.waiting, [], w.parts, record { readings = w.readings; numbers = w.numbers; read = w.read; sees = w.sees; bytes = append-nil so_far ∙ w.printed })
+    let w = h.worked.worked in (
+      w.done,
+      w.waiting ++ h.worked.behind,
+      [],
+      h.worked.parts ∙ ap (λ ls. ls ++ h.worked.behind) w.parts ∙ append_assoc w.done w.waiting h.worked.behind,
+      record { readings = w.readings; numbers = w.numbers; read = w.read; sees = w.sees; bytes = append-nil so_far ∙ w.printed },
+    )
 
 -- what stands behind the body in the whole text of lines of these readings
 abbrev pub end_of : Asked → List Reading → List ℕ

@@ -1,5 +1,5 @@
 -- How far a run has come between two lines, where some lines are held.
-use Rattle.std.specs.Prelude.{◌≡◌, ℕ, ◌≤◌, Bool, List, ◌++◌, length}
+use Rattle.std.specs.Prelude.{◌≡◌, ℕ, ◌≤◌, Bool, List, [], ◌++◌, length}
 use Rattle.std.specs.List.{AllZip}
 use Rattle.eb_base.specs.Document.{Doc}
 use Rattle.eb_base.specs.Setting.{Setting}
@@ -22,7 +22,7 @@ AreRound lines = (rs : List Reading) → AllZip Reads lines rs → QueriesFirst 
 abbrev pub counts_of : List Reading → Counted
 counts_of rs = record { documents = length (accepted rs); queries = queries rs; refused = refusals rs }
 
--- of the lines given these are done, and these wait; those done printed this text
+-- of the lines given these are done, and these wait as one round; those done printed this text
 pub record HasWorkedOff (σ : Setting) (overlap : Bool) (given : List Line) (docs : List Doc) (held : Standing) (so_far : List ℕ) : Type 0 where
   pub done : List Line
   pub waiting : List Line
@@ -37,6 +37,20 @@ pub record HasWorkedOff (σ : Setting) (overlap : Bool) (given : List Line) (doc
   pub counts : held.counts ≡ counts_of readings
   pub greatest : held.greatest ≤ length given
   pub printed : so_far ≡ body numbers readings
+
+-- the round before the open one, by itself
+abbrev pub round_ahead : Standing → Standing
+round_ahead s = record { ahead = []; held = s.ahead; counts = s.counts; greatest = 0 }
+
+-- of the lines given the first wait as the round ahead, or are done, and the others wait as the open round
+pub record HasGathered (σ : Setting) (overlap : Bool) (given : List Line) (docs : List Doc) (s : Standing) (so_far : List ℕ) : Type 0 where
+  pub before : List Line
+  pub behind : List Line
+  pub parts : given ≡ before ++ behind
+  pub worked : HasWorkedOff σ overlap before docs (round_ahead s) so_far
+  pub lines : s.held ≡ held_from (length before) behind
+  pub round : AreRound behind
+  pub greatest : s.greatest ≤ length given
 
 -- all lines given are done, and printed this text
 pub record HasSettled (σ : Setting) (overlap : Bool) (given : List Line) (docs : List Doc) (counts : Counted) (so_far : List ℕ) : Type 0 where

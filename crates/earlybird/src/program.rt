@@ -22,10 +22,9 @@ pub(crate) struct RunProgram<
 
 impl<G: Gate, W: Fn(&mut Running, &mut Vec<u8>) -> Result<(), NoMemory>> LineProgram
     for RunProgram<'_, G, W> {
-    ghost use Rattle.std.specs.Prelude.{◌≡◌, []};
     ghost use Rattle.eb_rounds.specs.LinesRead.{HasRefusal, HasNoRefusal};
     ghost use Rattle.earlybird.specs.Output.{Asked as AskedRun, IsBodyOf, IsTextOf};
-    ghost use Rattle.earlybird.specs.Running.{HasRunBy, run_first, body_first};
+    ghost use Rattle.earlybird.specs.Running.{HasRunBy, HoldsNone, run_first, body_first};
 
     ghost Asked = { AskedRun };
 
@@ -39,7 +38,7 @@ impl<G: Gate, W: Fn(&mut Running, &mut Vec<u8>) -> Result<(), NoMemory>> LinePro
 
     ghost accepts = { λ a. HasNoRefusal a.setting };
 
-    ghost settled = { λ p. p.running.rounds.held ≡ [] };
+    ghost settled = { λ p. HoldsNone p.running };
 
     ghost number = { λ p. p.running.number };
 

@@ -21,7 +21,7 @@ ghost use Rattle.eb_gen.specs.Made.{made};
 ghost use Rattle.eb_io.specs.Lines.{longest_input, lines_of};
 ghost use Rattle.eb_lines.specs.Programs.{IsRunning, WorksOn};
 ghost use Rattle.earlybird.specs.Output.{Ends, Wrote, Means};
-ghost use Rattle.earlybird.specs.Running.{HasRun};
+ghost use Rattle.earlybird.specs.Running.{HasRun, HoldsNone};
 ghost use Rattle.earlybird.specs.StatusLine.{status_line};
 
 use crate::bench::run_bench;
@@ -242,7 +242,7 @@ fn run_lines<R: Threads + Sync, S: Source, K: Sink, G: Gate + Sync>(
         worker: |running: &mut Running, text: &mut Vec<u8>| -> Result<(), NoMemory>
             requires { IsRunning HasRun running.old }
             ensures on { WorksOn HasRun running.old running.new text.old.items text.new.items }
-            ensures none { OnOk result (running.new.rounds.held ≡ []) }
+            ensures none { OnOk result (HoldsNone running.new) }
             ensures same { (running.new.overlap ≡ running.old.overlap) × (running.new.number ≡ running.old.number) }
         { running.work_held(rt, alloc, gate, text) },
         running,

@@ -1,4 +1,4 @@
-ghost use Rattle.std.specs.Prelude.{◌≡◌, ◌+◌, ◌<◌, ◌^◌, true, false, Some, None, ℕ, List, [], length, IfOk, OnErr, OnOk, slice_get};
+ghost use Rattle.std.specs.Prelude.{◌≡◌, ◌+◌, ◌<◌, ◌^◌, true, false, Some, None, ℕ, List, [], length, IfOk, OnErr, OnOk, IsTrue, slice_get};
 ghost use Rattle.eb_io.specs.Lines.{Line, line, long_line};
 ghost use Rattle.eb_rounds.specs.Passed.{HasMark, input_of, input_kind};
 ghost use Rattle.eb_rounds.specs.Standing.{queries_held};
@@ -8,7 +8,7 @@ ghost use Rattle.eb_rounds.specs.Conversions.{most_converted};
 ghost use Rattle.earlybird.specs.Holding.{held_as};
 ghost use Rattle.eb_lines.specs.Programs.{IsRunning, WorksOn, WorksOnGiven};
 ghost use Rattle.earlybird.specs.Output.{asked};
-ghost use Rattle.earlybird.specs.Running.{HasRun, WorksOffHeld};
+ghost use Rattle.earlybird.specs.Running.{HasRun, HoldsNone, WorksOffHeld};
 
 use eb_base::{Config, Gate, NoMemory};
 use eb_engine::{Converter, Index, Writer};
@@ -80,7 +80,7 @@ impl Running {
     ) -> Result<(), NoMemory>
         requires { IsRunning HasRun self.old }
         ensures on { WorksOn HasRun self.old self.new text.old.items text.new.items }
-        ensures none { OnOk result (self.new.rounds.held ≡ []) }
+        ensures none { OnOk result (HoldsNone self.new) }
         ensures mode { self.new.overlap ≡ self.old.overlap }
         ensures number { self.new.number ≡ self.old.number }
     {
@@ -104,7 +104,7 @@ impl Running {
         requires state { IsRunning HasRun self.old }
         requires worker { WorksOffHeld W.pre W.post worker.now }
         ensures on { WorksOn HasRun self.old self.new text.old.items text.new.items }
-        ensures answered { OnOk result (queries_held self.new.rounds.held ≡ 0) }
+        ensures answered { OnOk result (queries_held self.new.rounds.ahead + queries_held self.new.rounds.held ≡ 0) }
         ensures number { self.new.number ≡ self.old.number }
     {
         if self.rounds.has_query() {
@@ -114,7 +114,15 @@ impl Running {
         }
     }
 
-    // Works off the held lines where no line of this kind goes behind them.
+    // Whether a line of this kind, which doesn't go behind the held ones, opens a round: a query line behind documents alone,
+    // which are read beside what comes behind it.
+    fn opens_round(&self, kind: Kind) -> bool
+        ensures { IsTrue result → self.now.rounds.ahead ≡ [] }
+    {
+        kind == Kind::QueryLine && !self.rounds.has_query() && !self.rounds.has_round_ahead()
+    }
+
+    // Where no line of this kind goes behind the held lines, opens a round for it, or works them off.
     fn make_way<W: Fn(&mut Running, &mut Vec<u8>) -> Result<(), NoMemory>>(
         &mut self,
         kind: Kind,
@@ -129,10 +137,13 @@ impl Running {
         ensures number { self.new.number ≡ self.old.number }
     {
         if self.rounds.takes(kind) {
-            Ok(())
-        } else {
-            worker(self, text)
+            return Ok(());
         }
+        if self.opens_round(kind) {
+            self.rounds.open_round();
+            return Ok(());
+        }
+        worker(self, text)
     }
 
     // Holds the next line, where one of its kind goes behind those that are held.

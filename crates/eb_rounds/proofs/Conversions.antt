@@ -23,6 +23,10 @@ few_left σ xs ys n p few = record { each = λ s h. let g = front_closed σ xs y
 pub converted_front : (σ : Setting) (xs ys : List Doc) (n : ℕ) → IsPrefix xs ys → AreConverted σ ys n → AreConverted σ xs n
 converted_front σ xs ys n p are = record { each = λ s h. let g = front_closed σ xs ys s p h in are.each s (omega (arith, g, h)) }
 
+-- and among more
+pub converted_among : (σ : Setting) (docs : List Doc) (n m : ℕ) → AreConverted σ docs n → n ≤ m → AreConverted σ docs m
+converted_among σ docs n m are le = record { each = λ s h. omega (arith, are.each s h, le) }
+
 -- no segment waits
 pub none_waits : (σ : Setting) (docs : List Doc) (n : ℕ) → length (cut σ docs) ≤ n + 1 → AreConverted σ docs n
 none_waits σ docs n few = record { each = λ s h. omega (arith, few, h) }

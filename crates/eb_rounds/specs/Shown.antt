@@ -58,6 +58,16 @@ pub record WorkedOff (σ : Setting) (held : List HeldLine) (docs_old docs_new : 
   pub queries : counts_new.queries ≡ counts_old.queries + count_by asks (map shown_entry shown)
   pub refused : counts_new.refused ≡ counts_old.refused + count_by fails (map shown_entry shown)
 
+-- two rounds were worked off, one after the other
+pub record WorkedOffBoth (σ : Setting) (ahead held : List HeldLine) (docs_old docs_new : List Doc) (counts_old counts_new : Counted) (printed : List ℕ) : Type 0 where
+  pub docs_between : List Doc
+  pub counts_between : Counted
+  pub printed_first : List ℕ
+  pub printed_then : List ℕ
+  pub before : WorkedOff σ ahead docs_old docs_between counts_old counts_between printed_first
+  pub behind : WorkedOff σ held docs_between docs_new counts_between counts_new printed_then
+  pub text : printed ≡ printed_first ++ printed_then
+
 -- the lines were worked off, whatever was counted before: with so many documents, queries and refused lines more
 abbrev pub WorksOff : Setting → List HeldLine → List Doc → List Doc → List ℕ → List ℕ → ℕ → ℕ → ℕ → Type 0
 WorksOff σ held docs_old docs_new text_old text_new d q r = (before after : Counted)

@@ -3,8 +3,10 @@ use Rattle.std.specs.Prelude.{ℕ, ◌+◌, Bool, true, false, List, [], ◌∷�
 use Rattle.eb_rounds.specs.Inputs.{HeldInput, document_line, query_line, refused_line, HeldLine}
 use Rattle.eb_rounds.specs.Shown.{Counted}
 
--- the held lines in order, the counts of what was worked off, and the greatest number that was put
+-- the held lines in order, those of the round before that is closed and those of the round that is open, the counts of what was
+-- worked off, and the greatest number that was put
 pub record Standing : Type 0 where
+  pub ahead : List HeldLine
   pub held : List HeldLine
   pub counts : Counted
   pub greatest : ℕ
@@ -39,12 +41,17 @@ no_counts = record { documents = 0; queries = 0; refused = 0 }
 
 -- one held line more
 abbrev pub with_held : Standing → ℕ → HeldInput → Standing
-with_held s number input = record { held = s.held ++ record { number = number; input = input } ∷ []; counts = s.counts; greatest = number }
+with_held s number input = record { ahead = s.ahead; held = s.held ++ record { number = number; input = input } ∷ []; counts = s.counts; greatest = number }
 
 -- one line more is worked off, and counted
 abbrev pub with_counts : Standing → ℕ → ℕ → ℕ → ℕ → Standing
 with_counts s number documents queries refused = record {
+  ahead = s.ahead;
   held = s.held;
   counts = record { documents = s.counts.documents + documents; queries = s.counts.queries + queries; refused = s.counts.refused + refused };
   greatest = number;
 }
+
+-- a round more is open, and the lines held before are ahead of it
+abbrev pub with_round : Standing → Standing
+with_round s = record { ahead = s.held; held = []; counts = s.counts; greatest = s.greatest }

@@ -1,7 +1,9 @@
 -- The work of a held line stands for what the line is.
-use Rattle.std.specs.Prelude.{ℕ, Bool, true, false, string_bytes}
+use Rattle.std.specs.Prelude.{◌≡◌, ℕ, ◌+◌, ◌*◌, ◌≤◌, ◌++◌, Bool, true, false, List, [], length, map, string_bytes, sum_by, vec_len, vec_capacity}
+use Rattle.std.specs.List.{AllZip}
 use Rattle.eb_rounds.specs.Shown.{need}
 use Rattle.eb_cursor.specs.Frames.{query_of, k_of}
+use Rattle.eb_rounds.specs.declared.held.Held.{Held}
 use Rattle.eb_rounds.specs.declared.held.FirstInput.{FirstInput}
 use Rattle.eb_rounds.specs.declared.held.FirstInput.TheVariants as first
 use Rattle.eb_rounds.specs.declared.held.ThenInput.{ThenInput}
@@ -10,13 +12,14 @@ use Rattle.eb_rounds.specs.declared.held.FirstLine.{FirstLine}
 use Rattle.eb_rounds.specs.declared.held.ThenLine.{ThenLine}
 use Rattle.eb_rounds.specs.declared.tasks.Asked.{Asked}
 use Rattle.eb_rounds.specs.declared.tasks.Given.{Given}
+use Rattle.eb_rounds.specs.declared.tasks.Tasks.{Tasks}
 use Rattle.eb_rounds.specs.declared.tasks.AskedWork.{AskedWork}
 use Rattle.eb_rounds.specs.declared.tasks.AskedWork.TheVariants as asked
 use Rattle.eb_rounds.specs.declared.tasks.GivenWork.{GivenWork}
 use Rattle.eb_rounds.specs.declared.tasks.GivenWork.TheVariants as given
 use Rattle.eb_lines.specs.Reading.{Reading, document, query, refused}
 use Rattle.eb_lines.specs.Progress.{is_query}
-use Rattle.eb_rounds.specs.Inputs.{HeldInput, document_line, query_line, refused_line, HeldLine, Entry}
+use Rattle.eb_rounds.specs.Inputs.{HeldInput, document_line, query_line, refused_line, HeldLine, Entry, ReadsLine}
 
 abbrev pub first_input : FirstInput → HeldInput
 first_input (first.Query line) = query_line (string_bytes line.text)
@@ -60,3 +63,29 @@ is_add_work (given.Refuse r) = false
 
 abbrev pub is_add : Given → Bool
 is_add t = is_add_work t.work
+
+-- the lines of a round in order, and what they are read as
+abbrev pub lines_of_round : Held → List HeldLine
+lines_of_round h = map first_line h.first.items ++ map then_line h.last.items
+
+abbrev pub entries_of : Tasks → List Entry
+entries_of t = map asked_entry t.asked.items ++ map given_entry t.given.items
+
+-- the most bytes that a round prints
+abbrev pub need_of_tasks : Tasks → ℕ
+need_of_tasks t = sum_by asked_need t.asked.items + 68 * length t.given.items
+
+-- room was taken for the refusals of document lines
+abbrev pub HasRoomForRefusals : Tasks → Type 0
+HasRoomForRefusals t = (t.refusals.items ≡ []) × (vec_len t.refusals ≡ 0) × (68 * length t.given.items ≤ vec_capacity t.refusals)
+
+-- how many lines that are
+abbrev pub count_of_tasks : Tasks → ℕ
+count_of_tasks t = length t.asked.items + length t.given.items
+
+-- the lines of the round are read as these, each under its number, and room was taken
+pub record IsReadAs (h : Held) (t : Tasks) : Type 0 where
+  pub read : AllZip ReadsLine (lines_of_round h) (entries_of t)
+  pub refusals : HasRoomForRefusals t
+  pub asked : length t.asked.items ≡ length h.first.items
+  pub given : length t.given.items ≡ length h.last.items

@@ -7,9 +7,9 @@ ghost use Rattle.eb_rounds.specs.Works.{asked_entry, asked_need, given_entry};
 
 use crate::adding::add_all;
 use crate::answering::answer_all;
+use crate::counts::Counts;
 use crate::input::Input;
 use crate::reading::{document_work, query_work};
-use crate::rounds::Counts;
 use crate::tasks::{Asked, Given, GivenWork};
 use crate::working::need_of;
 use eb_base::{Gate, NoMemory};

@@ -5,7 +5,7 @@ ghost use Rattle.eb_lines.specs.Text.{summary_of};
 ghost use Rattle.eb_rounds.specs.Ending.{stats_line};
 
 use crate::converting::SegmentCounts;
-use crate::rounds::Counts;
+use crate::counts::Counts;
 use eb_base::NoMemory;
 use eb_lines::put_summary;
 use std::alloc::Global;

@@ -1,17 +1,17 @@
-ghost use Rattle.std.specs.Prelude.{◌≡◌, map, IfOk, Some, slice_get};
+ghost use Rattle.std.specs.Prelude.{◌≡◌, ◌≤◌, ◌^◌, length, IfOk, Some, slice_get};
 ghost use Rattle.std.specs.List.{AllZip};
 ghost use Rattle.eb_doc.specs.DocumentLine.{document_of};
 ghost use Rattle.eb_rounds.specs.Inputs.{ReadsInput, ReadsLine, query_line};
 ghost use Rattle.eb_lines.specs.Reads.{IsOfDocument};
-ghost use Rattle.eb_rounds.specs.Works.{first_line, then_line, asked_reading, given_reading, asked_entry, given_entry};
+ghost use Rattle.eb_rounds.specs.Works.{first_line, then_line, asked_reading, given_reading, asked_entry, given_entry, IsReadAs};
 
-use crate::held::{FirstInput, FirstLine, ThenInput, ThenLine};
-use crate::tasks::{Asked, AskedWork, Given, GivenWork};
+use crate::held::{FirstInput, FirstLine, Held, ThenInput, ThenLine};
+use crate::tasks::{Asked, AskedWork, Given, GivenWork, Tasks};
 use eb_base::NoMemory;
 use eb_lines::{read_document_line, read_query_text};
 use rayon::prelude::*;
 use std::alloc::{AllocError, Global};
-use std::thread::Threads;
+use std::thread::{Threads, join};
 
 // What is to be done for a document line.
 pub(crate) fn document_work(alloc: Global, bytes: &[u8]) -> Result<GivenWork, NoMemory>
@@ -63,7 +63,7 @@ fn read_first(alloc: Global, line: &FirstLine) -> Result<Asked, NoMemory>
 }
 
 // How few document lines are worth a thread of their own.
-const LEAST_LINES: usize = 128;
+const LEAST_LINES: usize = 256;
 
 // Reads the lines in list order, by several threads.
 fn read_all_then<R: Threads + Sync>(
@@ -101,8 +101,8 @@ fn read_all_first<R: Threads + Sync>(
         .collect::<Result<Vec<_>, NoMemory>>(rt, alloc)
 }
 
-// Reads the held lines in list order, by several threads where there are many.
-pub(crate) fn read_round<R: Threads + Sync>(
+// Reads the lines of a round in list order, by several threads where there are many.
+fn read_lines<R: Threads + Sync>(
     rt: &R,
     alloc: Global,
     first: &[FirstLine],
@@ -118,4 +118,49 @@ pub(crate) fn read_round<R: Threads + Sync>(
         return Err(NoMemory);
     };
     Ok((asked, given))
+}
+
+// The same, and takes room for the refusals of the document lines.
+fn read_round<R: Threads + Sync>(rt: &R, alloc: Global, round: &Held) -> Result<Tasks, NoMemory>
+    requires { length round.now.last.items ≤ 2 ^ 16 }
+    ensures { IfOk result (IsReadAs round.now) }
+{
+    let (asked, given) = read_lines(rt, alloc, round.first.as_slice(), round.last.as_slice())?;
+    let refusals = Vec::with_capacity(alloc, 68 * given.len())?;
+    Ok(Tasks {
+        asked,
+        given,
+        refusals,
+    })
+}
+
+// Reads the lines of two rounds in list order, side by side where both have many, and takes room for their refusals.
+pub(crate) fn read_rounds<R: Threads + Sync>(
+    rt: &R,
+    alloc: Global,
+    ahead: &Held,
+    held: &Held,
+) -> Result<(Tasks, Tasks), NoMemory>
+    requires ahead { length ahead.now.last.items ≤ 2 ^ 16 }
+    requires held { length held.now.last.items ≤ 2 ^ 16 }
+    ensures ahead { IfOk result (λ r. IsReadAs ahead.now r.0) }
+    ensures held { IfOk result (λ r. IsReadAs held.now r.1) }
+{
+    if ahead.last.len() < LEAST_LINES || held.last.len() < LEAST_LINES {
+        let first = read_round(rt, alloc, ahead)?;
+        let then = read_round(rt, alloc, held)?;
+        return Ok((first, then));
+    }
+    let (first, then) = join(
+        rt,
+        || -> Result<Tasks, NoMemory>
+            requires { length ahead.now.last.items ≤ 2 ^ 16 }
+            ensures { IfOk result (IsReadAs ahead.entry.now) }
+        { read_round(rt, alloc, ahead) },
+        || -> Result<Tasks, NoMemory>
+            requires { length held.now.last.items ≤ 2 ^ 16 }
+            ensures { IfOk result (IsReadAs held.entry.now) }
+        { read_round(rt, alloc, held) },
+    );
+    Ok((first?, then?))
 }

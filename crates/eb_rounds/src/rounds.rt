@@ -1,89 +1,72 @@
-ghost use Rattle.std.specs.Prelude.{◌≡◌, ◌+◌, ◌*◌, ◌<◌, ◌≤◌, ◌^◌, ◌++◌, true, Some, slice_get, ℕ, List, []};
-ghost use Rattle.std.specs.Prelude.{length, map, sum_by, vec_len, vec_capacity, IfOk, OnErr, OnOk, IsTrue, ◌↔◌};
+ghost use Rattle.std.specs.Prelude.{◌≡◌, ◌+◌, ◌<◌, ◌≤◌, ◌^◌, ◌++◌, true, Some, slice_get, ℕ, List, []};
+ghost use Rattle.std.specs.Prelude.{length, vec_len, vec_capacity, IfOk, OnErr, OnOk, IsTrue, ◌↔◌};
 ghost use Rattle.std.specs.List.{AllZip};
 ghost use mathlib.Core.List.{IsPrefix};
 ghost use Rattle.eb_rounds.specs.Conversions.{AreConverted};
 ghost use Rattle.eb_rounds.specs.Inputs.{ReadsLine, document_line, query_line, refused_line};
 ghost use Rattle.eb_rounds.specs.Passed.{input_of, input_kind, HasMark, alone};
 ghost use Rattle.eb_rounds.specs.Takes.{takes_kind};
-ghost use Rattle.eb_rounds.specs.Shown.{WorkedOff};
-ghost use Rattle.eb_rounds.specs.Standing.{Standing, documents_held, queries_held, no_counts, with_held, with_counts};
-ghost use Rattle.eb_rounds.specs.Works.{asked_entry, asked_need, given_entry, first_line, then_line};
+ghost use Rattle.eb_rounds.specs.Shown.{WorkedOff, WorkedOffBoth};
+ghost use Rattle.eb_rounds.specs.Standing.{Standing, documents_held, queries_held, no_counts, with_held, with_counts, with_round};
+ghost use Rattle.eb_rounds.specs.Works.{entries_of, need_of_tasks, HasRoomForRefusals};
 
 use crate::alone::work_alone;
 use crate::converting::catch_up;
-use crate::held::{FirstInput, FirstLine, QueryLine, ThenInput, ThenLine};
+use crate::counts::Counts;
+use crate::held::{FirstInput, FirstLine, Held, QueryLine, ThenInput, ThenLine};
 use crate::input::{Input, Kind};
-use crate::reading::read_round;
-use crate::tasks::{Asked, Given};
-use crate::working::{make_room, work_and_convert};
+use crate::reading::read_rounds;
+use crate::tasks::Tasks;
+use crate::working::{needs_of, work_tasks};
 use eb_base::{Gate, NoMemory};
 use eb_engine::{Converter, Index, Reader, Writer};
 use eb_lines::Refusal;
 use std::alloc::Global;
 use std::marker::Model;
+use std::mem;
 use std::thread::Threads;
 
-/// How many documents were accepted, queries answered and lines refused.
-#[derive(Clone, Copy, Debug, PartialEq, Eq)]
-pub struct Counts {
-    /// The accepted documents.
-    pub documents: u64,
-    /// The answered queries.
-    pub queries: u64,
-    /// The refused lines.
-    pub refused: u64,
-}
-
-/// The lines that are held for a round, and the counts of what was worked off. No query line is held behind a document
-/// line, and at most 4,096 document lines, 512 query lines and 4,096 refused lines are held (this project's profile,
-/// docs/FORMATS.md).
+/// The lines that are held, of a round that is open and of one before it that isn't, and the counts of what was worked off. In
+/// a round no query line is behind a document line, and at most 4,096 document lines, 512 query lines and 4,096 refused lines
+/// are held of it (this project's profile, docs/FORMATS.md).
 #[derive(Drop)]
 pub struct Rounds {
     alloc: Global,
-    // query lines, with the refused lines among them
-    first: Vec<FirstLine>,
-    // document lines, with the refused lines behind the first of them
-    last: Vec<ThenLine>,
-    // how many of them are query lines, document lines and refused lines
-    queries: u64,
-    documents: u64,
-    refused: u64,
+    // the round before, and the one that is open
+    ahead: Held,
+    held: Held,
     greatest: u64,
     counts: Counts,
 }
 
 impl Model for Rounds {
-    ghost use Rattle.std.specs.Prelude.{◌≡◌, ◌+◌, ◌≤◌, ◌++◌, [], length, map};
+    ghost use Rattle.std.specs.Prelude.{◌+◌};
     ghost use Rattle.eb_rounds.specs.Standing.{Standing};
-    ghost use Rattle.eb_rounds.specs.Works.{first_line, then_line};
+    ghost use Rattle.eb_rounds.specs.Works.{lines_of_round};
 
     ghost Value = { Standing };
 
     ghost view = { λ r. record {
-      held = map first_line r.first.items ++ map then_line r.last.items;
+      ahead = lines_of_round r.ahead;
+      held = lines_of_round r.held;
       counts = record { documents = r.counts.documents; queries = r.counts.queries; refused = r.counts.refused };
       greatest = r.greatest;
     } };
 
-    ghost use Rattle.eb_rounds.specs.Kept.{IsKept};
+    ghost use Rattle.eb_rounds.specs.Kept.{AreKept};
 
-    ghost invariant = { λ r. IsKept r.first.items r.last.items r.queries r.documents r.refused r.greatest
-        (r.counts.documents + (r.counts.queries + r.counts.refused)) };
+    ghost invariant = { λ r. AreKept r.ahead r.held r.greatest (r.counts.documents + (r.counts.queries + r.counts.refused)) };
 }
 
 impl Rounds {
     /// No line is held, nothing is counted, and no number was put. Takes no memory.
     pub fn new(alloc: Global) -> Rounds
-        ensures { result ≡ record { held = []; counts = no_counts; greatest = 0 } }
+        ensures { result ≡ record { ahead = []; held = []; counts = no_counts; greatest = 0 } }
     {
         Rounds {
             alloc,
-            first: Vec::new(alloc),
-            last: Vec::new(alloc),
-            queries: 0,
-            documents: 0,
-            refused: 0,
+            ahead: Held::new(alloc),
+            held: Held::new(alloc),
             greatest: 0,
             counts: Counts {
                 documents: 0,
@@ -100,30 +83,45 @@ impl Rounds {
         self.counts
     }
 
-    /// Whether a line of this kind may be held: a document line where fewer than 4,096 are, a query line where fewer than
-    /// 512 and no document line are, a refused line where fewer than 4,096 are. Takes no memory.
+    /// Whether a line of this kind may be held of the open round: a document line where fewer than 4,096 are, a query line
+    /// where fewer than 512 and no document line are, a refused line where fewer than 4,096 are. Takes no memory.
     pub fn takes(&self, kind: Kind) -> bool
         ensures { result ≡ takes_kind self.now.held kind }
     {
         match kind {
-            Kind::DocumentLine => self.documents < 4096,
-            Kind::QueryLine => self.queries < 512 && self.documents == 0,
-            Kind::RefusedLine => self.refused < 4096,
+            Kind::DocumentLine => self.held.documents < 4096,
+            Kind::QueryLine => self.held.queries < 512 && self.held.documents == 0,
+            Kind::RefusedLine => self.held.refused < 4096,
         }
     }
 
     /// Whether a query line is held. Takes no memory.
     pub fn has_query(&self) -> bool
-        ensures { IsTrue result ↔ (0 < queries_held self.now.held) }
+        ensures { IsTrue result ↔ (0 < queries_held self.now.ahead + queries_held self.now.held) }
     {
-        self.queries > 0
+        self.ahead.queries > 0 || self.held.queries > 0
+    }
+
+    /// Whether lines of a round before the open one are held. Takes no memory.
+    pub fn has_round_ahead(&self) -> bool
+        ensures { IsTrue result ↔ (0 < length self.now.ahead) }
+    {
+        self.ahead.first.len() + self.ahead.last.len() > 0
+    }
+
+    /// Opens a round behind the held lines: these are worked off with its lines, and read beside them. Takes no memory.
+    pub fn open_round(&mut self)
+        requires { self.old.ahead ≡ [] }
+        ensures { self.new ≡ with_round self.old }
+    {
+        mem::swap(&mut self.ahead, &mut self.held);
     }
 
     // Whether a document line is held.
     fn has_document(&self) -> bool
         ensures { IsTrue result ↔ (0 < documents_held self.now.held) }
     {
-        self.documents > 0
+        self.held.documents > 0
     }
 
     /// Holds a line of the input, whose number is above those that were put before. A query line begins with `?`. Where
@@ -150,11 +148,11 @@ impl Rounds {
         ensures err { OnErr result (self.new ≡ self.old) }
     {
         let line = Vec::from_slice(self.alloc, line)?;
-        self.last.push(ThenLine {
+        self.held.last.push(ThenLine {
             number,
             input: ThenInput::Document(line),
         })?;
-        self.documents += 1;
+        self.held.documents += 1;
         self.greatest = number;
         Ok(())
     }
@@ -168,11 +166,11 @@ impl Rounds {
         ensures err { OnErr result (self.new ≡ self.old) }
     {
         let line = QueryLine::new(String::from_str(self.alloc, line)?);
-        self.first.push(FirstLine {
+        self.held.first.push(FirstLine {
             number,
             input: FirstInput::Query(line),
         })?;
-        self.queries += 1;
+        self.held.queries += 1;
         self.greatest = number;
         Ok(())
     }
@@ -185,11 +183,11 @@ impl Rounds {
         ensures ok { OnOk result (self.new ≡ with_held self.old number (refused_line refusal)) }
         ensures err { OnErr result (self.new ≡ self.old) }
     {
-        self.first.push(FirstLine {
+        self.held.first.push(FirstLine {
             number,
             input: FirstInput::Refused(refusal),
         })?;
-        self.refused += 1;
+        self.held.refused += 1;
         self.greatest = number;
         Ok(())
     }
@@ -202,11 +200,11 @@ impl Rounds {
         ensures ok { OnOk result (self.new ≡ with_held self.old number (refused_line refusal)) }
         ensures err { OnErr result (self.new ≡ self.old) }
     {
-        self.last.push(ThenLine {
+        self.held.last.push(ThenLine {
             number,
             input: ThenInput::Refused(refusal),
         })?;
-        self.refused += 1;
+        self.held.refused += 1;
         self.greatest = number;
         Ok(())
     }
@@ -231,44 +229,43 @@ impl Rounds {
         rt: &R,
         alloc: Global,
         text: &mut Vec<u8>,
-    ) -> Result<(Vec<Asked>, Vec<Given>, Vec<u8>), NoMemory>
-        ensures few { length self.now.held ≤ 2 ^ 14 }
-        ensures read { IfOk result (λ r. AllZip ReadsLine self.now.held (map asked_entry r.0.items ++ map given_entry r.1.items)) }
+    ) -> Result<(Tasks, Tasks), NoMemory>
+        ensures few { (length self.now.ahead ≤ 2 ^ 14) × (length self.now.held ≤ 2 ^ 14) }
+        ensures ahead { IfOk result (λ r. AllZip ReadsLine self.now.ahead (entries_of r.0)) }
+        ensures held { IfOk result (λ r. AllZip ReadsLine self.now.held (entries_of r.1)) }
         ensures text { text.new.items ≡ text.old.items }
-        ensures room { IfOk result (λ r. vec_len text.new + (sum_by asked_need r.0.items + 68 * length r.1.items) ≤ vec_capacity text.new) }
-        ensures refusals { IfOk result (λ r. (r.2.items ≡ []) × (vec_len r.2 ≡ 0) × (68 * length r.1.items ≤ vec_capacity r.2)) }
+        ensures room { IfOk result (λ r. vec_len text.new + (need_of_tasks r.0 + need_of_tasks r.1) ≤ vec_capacity text.new) }
+        ensures refusals { IfOk result (λ r. HasRoomForRefusals r.0 × HasRoomForRefusals r.1) }
     {
-        let (asked, given) = read_round(rt, alloc, self.first.as_slice(), self.last.as_slice())?;
-        let refusals = make_room(alloc, asked.as_slice(), given.as_slice(), text)?;
-        Ok((asked, given, refusals))
+        let (ahead, held) = read_rounds(rt, alloc, &self.ahead, &self.held)?;
+        text.reserve(needs_of(&ahead) + needs_of(&held))?;
+        Ok((ahead, held))
     }
 
     // Counts what was worked off, and holds no line any more.
-    fn close(&mut self, documents: u64, queries: u64, refused: u64)
-        requires { documents + (queries + refused) ≤ length self.old.held }
+    fn close(&mut self, counts: Counts)
+        requires { counts.documents + (counts.queries + counts.refused) ≤ length self.old.ahead + length self.old.held }
         ensures { self.new ≡ record {
+          ahead = [];
           held = [];
           counts = record {
-            documents = self.old.counts.documents + documents;
-            queries = self.old.counts.queries + queries;
-            refused = self.old.counts.refused + refused;
+            documents = self.old.counts.documents + counts.documents;
+            queries = self.old.counts.queries + counts.queries;
+            refused = self.old.counts.refused + counts.refused;
           };
           greatest = self.old.greatest;
         } }
     {
-        self.first.clear();
-        self.last.clear();
-        self.queries = 0;
-        self.documents = 0;
-        self.refused = 0;
-        self.counts.documents += documents;
-        self.counts.queries += queries;
-        self.counts.refused += refused;
+        self.ahead.clear();
+        self.held.clear();
+        self.counts.documents += counts.documents;
+        self.counts.queries += counts.queries;
+        self.counts.refused += counts.refused;
     }
 
-    /// Works off the held lines: they are read by several threads where there are many, and then documents are added beside
-    /// answering the queries, which one reader answers in order, and beside converting each segment that was closed before.
-    /// The result is what they print, line for line. Afterwards no line is held, and reader and converter know the writer's
+    /// Works off the held lines: they are read by several threads where there are many, and then, round after round, documents
+    /// are added beside answering the queries, which one reader answers in order, and beside converting each segment that was
+    /// closed before. The result is what they print, line for line. Afterwards no line is held, and reader and converter know the writer's
     /// history. Where memory doesn't suffice, which shows before the first document is added, nothing is done. The tokens
     /// must have been made with this index.
     pub fn step<R: Threads + Sync, G: Gate + Sync>(
@@ -288,8 +285,9 @@ impl Rounds {
         ensures reader { reader.new.index ≡ reader.old.index }
         ensures converter { converter.new.index ≡ converter.old.index }
         ensures ok { IfOk result
-            (λ text. WorkedOff index.now.setting self.old.held writer.old.docs writer.new.docs self.old.counts self.new.counts text.items) }
-        ensures held { OnOk result ((self.new.held ≡ []) × (self.new.greatest ≡ self.old.greatest)) }
+            (λ text. WorkedOffBoth index.now.setting self.old.ahead self.old.held writer.old.docs writer.new.docs
+            self.old.counts self.new.counts text.items) }
+        ensures held { OnOk result ((self.new.ahead ≡ []) × (self.new.held ≡ []) × (self.new.greatest ≡ self.old.greatest)) }
         ensures told { OnOk result (IsPrefix writer.new.docs converter.new.docs × IsPrefix writer.new.docs reader.new.docs) }
         ensures converted { OnOk result (AreConverted index.now.setting writer.old.docs converter.new.converted) }
         ensures grown { converter.old.converted ≤ converter.new.converted }
@@ -318,29 +316,24 @@ impl Rounds {
         ensures writer { writer.new.index ≡ writer.old.index }
         ensures converter { converter.new.index ≡ converter.old.index }
         ensures ok { OnOk result ((printed : List ℕ)
-            × WorkedOff index.now.setting self.old.held writer.old.docs writer.new.docs self.old.counts self.new.counts printed
+            × WorkedOffBoth index.now.setting self.old.ahead self.old.held writer.old.docs writer.new.docs
+            self.old.counts self.new.counts printed
             × (text.new.items ≡ text.old.items ++ printed)) }
-        ensures held { OnOk result ((self.new.held ≡ []) × (self.new.greatest ≡ self.old.greatest)) }
+        ensures held { OnOk result ((self.new.ahead ≡ []) × (self.new.held ≡ []) × (self.new.greatest ≡ self.old.greatest)) }
         ensures told { OnOk result (IsPrefix writer.new.docs converter.new.docs) }
         ensures converted { OnOk result (AreConverted index.now.setting writer.old.docs converter.new.converted) }
         ensures grown { converter.old.converted ≤ converter.new.converted }
         ensures err { OnErr result ((self.new ≡ self.old) × (writer.new ≡ writer.old) × (converter.new ≡ converter.old) × (text.new.items ≡ text.old.items)) }
     {
-        let (mut asked, given, mut refusals) = self.prepare(rt, alloc, text)?;
+        let (mut ahead, mut held) = self.prepare(rt, alloc, text)?;
+        let first = work_tasks(rt, index, writer, converter, &mut ahead, gate, text);
+        let then = work_tasks(rt, index, writer, converter, &mut held, gate, text);
         converter.meet(index, writer.reader(index));
-        let ((documents, full), (queries, refused)) = work_and_convert(
-            rt,
-            index,
-            writer,
-            converter,
-            asked.as_mut_slice(),
-            given.as_slice(),
-            gate,
-            text,
-            &mut refusals,
-        );
-        converter.meet(index, writer.reader(index));
-        self.close(documents, queries, refused + full);
+        self.close(Counts {
+            documents: first.documents + then.documents,
+            queries: first.queries + then.queries,
+            refused: first.refused + then.refused,
+        });
         Ok(())
     }
 
@@ -380,7 +373,7 @@ impl Rounds {
         ensures ok { OnOk result ((printed : List ℕ)
             × WorkedOff index.now.setting (alone number line.entry) writer.old.docs writer.new.docs self.old.counts self.new.counts printed
             × (text.new.items ≡ text.old.items ++ printed)) }
-        ensures held { OnOk result ((self.new.held ≡ self.old.held) × (self.new.greatest ≡ number)) }
+        ensures held { OnOk result ((self.new.ahead ≡ self.old.ahead) × (self.new.held ≡ self.old.held) × (self.new.greatest ≡ number)) }
         ensures told { OnOk result (IsPrefix writer.new.docs converter.new.docs) }
         ensures converted { OnOk result (AreConverted index.now.setting writer.new.docs converter.new.converted) }
         ensures grown { converter.old.converted ≤ converter.new.converted }

@@ -1,17 +1,18 @@
-ghost use Rattle.std.specs.Prelude.{◌≡◌, ◌+◌, ◌*◌, ◌≤◌, ◌^◌, [], length, map, sum_by, vec_len, vec_capacity, IfOk, OnOk};
-ghost use Rattle.std.specs.List.{list_any};
+ghost use Rattle.std.specs.Prelude.{◌≡◌, ◌+◌, ◌*◌, ◌≤◌, ◌^◌, List, [], length, map, sum_by, vec_len, vec_capacity};
+ghost use Rattle.std.specs.List.{AllZip, list_any};
 ghost use mathlib.Core.List.{IsPrefix};
 ghost use Rattle.eb_rounds.specs.Conversions.{AreConverted};
-ghost use Rattle.eb_rounds.specs.Shown.{AreAnswered, AreAdded, IsRoundOfLines};
-ghost use Rattle.eb_rounds.specs.Works.{asked_entry, asked_need, is_answer, is_add, given_entry};
+ghost use Rattle.eb_rounds.specs.Inputs.{HeldLine, ReadsLine};
+ghost use Rattle.eb_rounds.specs.Shown.{AreAnswered, AreAdded, IsRoundOfLines, WorksOff};
+ghost use Rattle.eb_rounds.specs.Works.{asked_entry, asked_need, is_answer, is_add, given_entry, entries_of, need_of_tasks, count_of_tasks, HasRoomForRefusals};
 
 use crate::adding::add_all;
 use crate::answering::answer_all;
 use crate::converting::{convert_all, has_waiting};
-use crate::tasks::{Asked, AskedWork, Given, GivenWork};
-use eb_base::{Gate, NoMemory};
+use crate::counts::Counts;
+use crate::tasks::{Asked, AskedWork, Given, GivenWork, Tasks};
+use eb_base::Gate;
 use eb_engine::{Converter, Index, Reader, Writer};
-use std::alloc::Global;
 use std::thread::{Threads, join_mut};
 
 // The most bytes that a line prints.
@@ -25,8 +26,8 @@ pub(crate) fn need_of(task: &Asked) -> usize
     }
 }
 
-// The most bytes that the lines print.
-fn needs_of(tasks: &[Asked]) -> usize
+// The most bytes that the lines before the first document line print.
+fn needs_of_asked(tasks: &[Asked]) -> usize
     requires { length tasks.now ≤ 2 ^ 16 }
     ensures needs { result ≡ sum_by asked_need tasks.now }
     ensures small { result ≤ 2 ^ 40 * length tasks.now }
@@ -38,24 +39,14 @@ fn needs_of(tasks: &[Asked]) -> usize
     needs
 }
 
-// Takes all memory that working the lines off needs: room behind the text for all that they print, and a list for the
-// refusals of document lines, which are made beside the answers.
-pub(crate) fn make_room(
-    alloc: Global,
-    asked: &[Asked],
-    given: &[Given],
-    text: &mut Vec<u8>,
-) -> Result<Vec<u8>, NoMemory>
-    requires asked { length asked.now ≤ 2 ^ 16 }
-    requires given { length given.now ≤ 2 ^ 16 }
-    ensures text { text.new.items ≡ text.old.items }
-    ensures room { OnOk result (vec_len text.new + (sum_by asked_need asked.now + 68 * length given.now) ≤ vec_capacity text.new) }
-    ensures refusals { IfOk result (λ v. (v.items ≡ []) × (vec_len v ≡ 0) × (68 * length given.now ≤ vec_capacity v)) }
+// The most bytes that the lines of a round print.
+pub(crate) fn needs_of(tasks: &Tasks) -> usize
+    requires asked { length tasks.now.asked.items ≤ 2 ^ 16 }
+    requires given { length tasks.now.given.items ≤ 2 ^ 16 }
+    ensures needs { result ≡ need_of_tasks tasks.now }
+    ensures small { result ≤ 2 ^ 57 }
 {
-    let most = 68 * given.len();
-    let refusals = Vec::with_capacity(alloc, most)?;
-    text.reserve(needs_of(asked) + most)?;
-    Ok(refusals)
+    needs_of_asked(tasks.asked.as_slice()) + 68 * tasks.given.len()
 }
 
 // Whether some line is a query that is to be answered.
@@ -166,6 +157,8 @@ fn work_round<R: Threads + Sync, G: Gate + Sync>(
     requires text { vec_len text.old + (sum_by asked_need asked.old + 68 * length given.now) ≤ vec_capacity text.old }
     requires refusals { (refusals.old.items ≡ []) × (vec_len refusals.old ≡ 0) × (68 * length given.now ≤ vec_capacity refusals.old) }
     ensures index { writer.new.index ≡ writer.old.index }
+    ensures len { vec_len text.new ≤ vec_len text.old + (sum_by asked_need asked.old + 68 * length given.now) }
+    ensures room { vec_capacity text.old ≤ vec_capacity text.new }
     ensures round { IsRoundOfLines index.now.setting writer.old.docs writer.new.docs
         (map asked_entry asked.old) (map given_entry given.now) text.old.items text.new.items
         result.1.0 result.0.0 result.1.1 result.0.1 }
@@ -207,6 +200,8 @@ fn convert_beside<R: Threads + Sync, G: Gate + Sync>(
     ensures converter { converter.new.index ≡ converter.old.index }
     ensures grown { converter.old.converted ≤ converter.new.converted }
     ensures converted { AreConverted index.now.setting converter.old.docs converter.new.converted }
+    ensures len { vec_len text.new ≤ vec_len text.old + (sum_by asked_need asked.old + 68 * length given.now) }
+    ensures room { vec_capacity text.old ≤ vec_capacity text.new }
     ensures round { IsRoundOfLines index.now.setting writer.old.docs writer.new.docs
         (map asked_entry asked.old) (map given_entry given.now) text.old.items text.new.items
         result.1.0 result.0.0 result.1.1 result.0.1 }
@@ -225,7 +220,7 @@ fn convert_beside<R: Threads + Sync, G: Gate + Sync>(
 
 // Works off the lines of a round, and converts all segments that are closed before it: beside the lines where both is to be
 // done. The converter knows the history. Takes no memory.
-pub(crate) fn work_and_convert<R: Threads + Sync, G: Gate + Sync>(
+fn work_and_convert<R: Threads + Sync, G: Gate + Sync>(
     rt: &R,
     index: &Index,
     writer: &mut Writer,
@@ -245,6 +240,8 @@ pub(crate) fn work_and_convert<R: Threads + Sync, G: Gate + Sync>(
     ensures converter { converter.new.index ≡ converter.old.index }
     ensures grown { converter.old.converted ≤ converter.new.converted }
     ensures converted { AreConverted index.now.setting writer.old.docs converter.new.converted }
+    ensures len { vec_len text.new ≤ vec_len text.old + (sum_by asked_need asked.old + 68 * length given.now) }
+    ensures room { vec_capacity text.old ≤ vec_capacity text.new }
     ensures round { IsRoundOfLines index.now.setting writer.old.docs writer.new.docs
         (map asked_entry asked.old) (map given_entry given.now) text.old.items text.new.items
         result.1.0 result.0.0 result.1.1 result.0.1 }
@@ -259,4 +256,49 @@ pub(crate) fn work_and_convert<R: Threads + Sync, G: Gate + Sync>(
     }
     convert_all(index, converter);
     work_round(rt, index, writer, asked, given, gate, text, refusals)
+}
+
+// Tells the converter the history, works off the lines of a round, and converts all segments that are closed before it. Takes
+// no memory.
+pub(crate) fn work_tasks<R: Threads + Sync, G: Gate + Sync>(
+    rt: &R,
+    index: &Index,
+    writer: &mut Writer,
+    converter: &mut Converter,
+    tasks: &mut Tasks,
+    gate: &G,
+    text: &mut Vec<u8>,
+) -> Counts
+    requires writer { writer.old.index ≡ index.now }
+    requires converter { converter.old.index ≡ index.now }
+    requires few { count_of_tasks tasks.old ≤ 2 ^ 16 }
+    requires text { vec_len text.old + need_of_tasks tasks.old ≤ vec_capacity text.old }
+    requires refusals { HasRoomForRefusals tasks.old }
+    ensures index { writer.new.index ≡ writer.old.index }
+    ensures converter { converter.new.index ≡ converter.old.index }
+    ensures grown { converter.old.converted ≤ converter.new.converted }
+    ensures converted { AreConverted index.now.setting writer.old.docs converter.new.converted }
+    ensures len { vec_len text.new ≤ vec_len text.old + need_of_tasks tasks.old }
+    ensures room { vec_capacity text.old ≤ vec_capacity text.new }
+    ensures works { (held : List HeldLine) → AllZip ReadsLine held (entries_of tasks.old)
+        → WorksOff index.now.setting held writer.old.docs writer.new.docs text.old.items text.new.items result.documents result.queries result.refused }
+    ensures few { result.documents + (result.queries + result.refused) ≤ count_of_tasks tasks.old }
+{
+    converter.meet(index, writer.reader(index));
+    let ((documents, full), (queries, refused)) = work_and_convert(
+        rt,
+        index,
+        writer,
+        converter,
+        tasks.asked.as_mut_slice(),
+        tasks.given.as_slice(),
+        gate,
+        text,
+        &mut tasks.refusals,
+    );
+    Counts {
+        documents,
+        queries,
+        refused: refused + full,
+    }
 }

@@ -1,12 +1,12 @@
 use Rattle.std.proofs.Common.{List, [], refl, ap, sym, subst}
 use Rattle.eb_base.specs.Document.{Doc}
-use Rattle.earlybird.specs.Waiting.{HasWorkedOff}
+use Rattle.earlybird.specs.Waiting.{HasGathered}
 use Rattle.earlybird.proofs.Runs.{worked_none}
 use Rattle.earlybird.proofs.running.Running.new.Goals as goal
 
 pub returns : goal.returns
 returns c =
-    let W : List Doc → Type 0 = λ docs. HasWorkedOff c.args.config c.args.overlap [] docs c.new.result [] in
+    let W : List Doc → Type 0 = λ docs. HasGathered c.args.config c.args.overlap [] docs c.new.result [] in
     record {
       words = c.in_ok-index.index;
       index = refl;
@@ -17,5 +17,5 @@ returns c =
       stats = refl;
       number = refl;
       worked = subst W (sym (ap (λ t. t.docs) c.in_ok-index.ensures.writer)) (worked_none c.args.config c.args.overlap c.new.result c.new.ensures);
-      order = λ e. ap (λ s. s.held) c.new.ensures;
+      order = λ e. (ap (λ s. s.ahead) c.new.ensures, ap (λ s. s.held) c.new.ensures);
     }

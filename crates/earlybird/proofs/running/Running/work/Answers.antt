@@ -19,4 +19,4 @@ returns-clause-ok g c = λ l is a given so_far h.
     let e = c.work_line.ensures in
     let p = c.in_ok-work_line.ensures.ok in
     let held = c.in_ok-work_line.ensures.held in
-    (p.0, run_line old new a given so_far h refl refl refl e.writer e.converter l refl (input_of c.args.input) p.0 c.requires.order is p.1 held.0 held.1, p.2)
+    (p.0, run_line old new a given so_far h refl refl refl e.writer e.converter l refl (input_of c.args.input) p.0 c.requires.order is p.1 held.0 held.1 held.2, p.2)

@@ -1,42 +1,58 @@
-use Rattle.std.proofs.Common.{List, map, ap, sym, subst, arith}
+use Rattle.std.proofs.Common.{◌+◌, ◌++◌, List, ap, refl, sym, subst, ◌∙◌, arith, append_assoc}
 use Rattle.eb_base.specs.Document.{Doc}
 use Rattle.eb_engine.specs.Tokens.{HistoryToken}
-use Rattle.eb_rounds.specs.Shown.{Counted, IsRoundOfLines}
+use Rattle.eb_rounds.specs.Shown.{Counted, WorkedOff}
 use Rattle.eb_rounds.specs.Standing.{Standing}
-use Rattle.eb_rounds.specs.Works.{asked_entry, given_entry}
-use Rattle.eb_rounds.proofs.Rounded.{each_asked, each_given, worked_off, round_few, same_round}
+use Rattle.eb_rounds.proofs.Conversions.{converted_among}
+use Rattle.eb_rounds.proofs.Rounded.{tasks_long}
 use Rattle.eb_rounds.proofs.rounds.Rounds.step_behind.Goals as goal
 
-pub overflow_add-refused : goal.overflow_add-refused
-overflow_add-refused g c =
-    let asked = c.in_ok-asked.asked.items in
-    let given = c.in_ok-asked.given.items in
-    let r = same_round _ _ _ asked _ given _ c.args.text.now.items _ _ _ _ _ _ c.as_mut_slice.ensures.value
-    c.as_slice.ensures.value c.in_ok-asked.ensures.text c.work_and_convert-documents.ensures.round in
-    let few = round_few _ c.args.self.now.held _ _ _ _ _ _ _ _ _ _ c.in_ok-asked.ensures.read (each_asked asked) (each_given given) r in
-    omega (arith, few, c.in_ok-asked.ensures.few)
+pub work_tasks-first-requires-clause-few : goal.work_tasks-first-requires-clause-few
+work_tasks-first-requires-clause-few g c κs within =
+    let long = tasks_long c.args.self.now.ahead c.in_ok-ahead.ahead c.in_ok-ahead.ensures.ahead in
+    omega (arith, long, c.in_ok-ahead.ensures.few.0)
+
+pub work_tasks-then-requires-clause-few : goal.work_tasks-then-requires-clause-few
+work_tasks-then-requires-clause-few g c κs within =
+    let long = tasks_long c.args.self.now.held c.in_ok-ahead.held c.in_ok-ahead.ensures.held in
+    omega (arith, long, c.in_ok-ahead.ensures.few.1)
 
 pub close-requires : goal.close-requires
 close-requires g c =
-    let asked = c.in_ok-asked.asked.items in
-    let given = c.in_ok-asked.given.items in
-    let r = same_round _ _ _ asked _ given _ c.args.text.now.items _ _ _ _ _ _ c.as_mut_slice.ensures.value
-    c.as_slice.ensures.value c.in_ok-asked.ensures.text c.work_and_convert-documents.ensures.round in
-    round_few _ c.args.self.now.held _ _ _ _ _ _ _ _ _ _ c.in_ok-asked.ensures.read (each_asked asked) (each_given given) r
+    let ahead = tasks_long c.args.self.now.ahead c.in_ok-ahead.ahead c.in_ok-ahead.ensures.ahead in
+    let held = tasks_long c.args.self.now.held c.in_ok-ahead.held c.in_ok-ahead.ensures.held in
+    omega (arith, ahead, held, c.work_tasks-first.ensures.few, c.work_tasks-then.ensures.few)
 
 pub returns-clause-ok : goal.returns-clause-ok
 returns-clause-ok g c =
-    let σ = c.args.index.now.setting in
-    let asked = c.in_ok-asked.asked.items in
-    let given = c.in_ok-asked.given.items in
-    let first = ap (λ (t : HistoryToken). t.docs) c.reader.ensures.this in
-    let last = ap (λ (t : HistoryToken). t.docs) (sym c.reader-2.ensures.this) in
-    let D : List Doc → List Doc → Type 0 = λ old new. IsRoundOfLines σ old new (map asked_entry asked) (map given_entry given) c.args.text.now.items c.work_and_convert-documents.new.text.items
-    c.work_and_convert-documents.result.1.0 c.work_and_convert-documents.result.0.0 c.work_and_convert-documents.result.1.1 c.work_and_convert-documents.result.0.1 in
-    let round = same_round _ _ _ asked _ given _ c.args.text.now.items _ _ _ _ _ _ c.as_mut_slice.ensures.value
-    c.as_slice.ensures.value c.in_ok-asked.ensures.text c.work_and_convert-documents.ensures.round in
-    let r = subst (D c.args.writer.now.docs) last (subst (λ old. D old c.work_and_convert-documents.new.writer.docs) first round) in
-    let counts = ap (λ (s : Standing). s.counts) c.close.ensures in
-    worked_off σ c.args.self.now.held c.args.writer.now.docs c.reader-2.new.self.docs c.args.self.now.counts c.close.new.self.counts _ _ _ _ _ _ _ _
-    c.in_ok-asked.ensures.read (each_asked asked) (each_given given) r
-    (ap (λ (k : Counted). k.documents) counts) (ap (λ (k : Counted). k.queries) counts) (ap (λ (k : Counted). k.refused) counts)
+    let s = c.args.self.now in
+    let first = c.work_tasks-first in
+    let last = c.work_tasks-then in
+    let between : Counted = record {
+      documents = s.counts.documents + first.result.documents;
+      queries = s.counts.queries + first.result.queries;
+      refused = s.counts.refused + first.result.refused;
+    } in
+    let after = c.close.new.self.counts in
+    let counts = ap (λ (x : Standing). x.counts) c.close.ensures in
+    let a = first.ensures.works s.ahead c.in_ok-ahead.ensures.ahead s.counts between refl refl refl in
+    let b = last.ensures.works s.held c.in_ok-ahead.ensures.held between after (omega (arith, ap (λ (k : Counted). k.documents) counts))
+    (omega (arith, ap (λ (k : Counted). k.queries) counts)) (omega (arith, ap (λ (k : Counted). k.refused) counts)) in
+    let W : List Doc → Type 0 = λ docs. WorkedOff c.args.index.now.setting s.held first.new.writer.docs docs between after b.0 in (
+      a.0 ++ b.0,
+      record {
+        docs_between = first.new.writer.docs;
+        counts_between = between;
+        printed_first = a.0;
+        printed_then = b.0;
+        before = a.1;
+        behind = subst W (ap (λ (t : HistoryToken). t.docs) (sym c.reader.ensures.this)) b.1;
+        text = refl;
+      },
+      b.2 ∙ ap (λ x. x ++ b.0) (a.2 ∙ ap (λ x. x ++ a.0) c.in_ok-ahead.ensures.text) ∙ append_assoc c.args.text.now.items a.0 b.0,
+    )
+
+pub returns-clause-converted : goal.returns-clause-converted
+returns-clause-converted g c =
+    converted_among c.args.index.now.setting c.args.writer.now.docs c.work_tasks-first.new.converter.converted c.meet.new.self.converted c.work_tasks-first.ensures.converted
+    (omega (arith, c.work_tasks-then.ensures.grown, c.meet.ensures.converted))

@@ -1,7 +1,7 @@
 use Rattle.std.proofs.Common.{◌≡◌, ◌*◌, ◌^◌, ◌≤◌, take}
 use Rattle.std.specs.Prelude.{sum_by}
 use Rattle.eb_rounds.specs.Works.{asked_need}
-use Rattle.eb_rounds.proofs.working.needs_of.Given as goal
+use Rattle.eb_rounds.proofs.working.needs_of_asked.Given as goal
 
 abbrev pub invariant-loop-task : goal.invariant-loop-task
 invariant-loop-task l = record {
