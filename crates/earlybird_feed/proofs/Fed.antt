@@ -12,8 +12,8 @@ use Rattle.eb_lines.specs.declared.refusal.Refusal.{Refusal}
 use Rattle.eb_lines.specs.Reading.{Reading, blank, document, query, refused}
 use Rattle.eb_lines.specs.Progress.{documents_in, is_query, is_refused, accepted, queries, one_if}
 use Rattle.eb_lines.specs.Text.{answer_line, refusal_line}
-use Rattle.eb_lines.proofs.Advancing.{accepted-push, queries-push, refusals-push}
-use Rattle.earlybird_feed.proofs.Counting.{accepted-nil, queries-nil, refusals-nil, accepted_few, queries_few, refusals_few}
+use Rattle.eb_lines.proofs.Advancing.{accepted-push, accepted_few, queries-push, refusals-push}
+use Rattle.earlybird_feed.proofs.Counting.{accepted-nil, queries-nil, refusals-nil, queries_few, refusals_few}
 use Rattle.earlybird_feed.specs.declared.feeding.Feeding.{Feeding}
 use Rattle.earlybird_feed.specs.Feeding.{HasFed, FeedsLine}
 
