@@ -23,8 +23,8 @@ use Rattle.earlybird.specs.Session.{HasCome, IsSessionOutcome}
 use Rattle.earlybird.specs.Bench.{usual, answer_in, answers_from, all_answers, ids_in, bench_line, figures, Closes, PrintsFigures, WroteBench, MeansBench, HasCounted}
 use Rattle.eb_lines.specs.Outcomes.{IsWorkedOff}
 use Rattle.eb_lines.proofs.OneReading.{some_read}
-use Rattle.eb_lines.proofs.Advancing.{progress_after-push, progress_after-nil}
-use Rattle.earlybird.proofs.Admissions.{read_none, read_push, read_long}
+use Rattle.eb_lines.proofs.Advancing.{accepted_few, progress_after-push, progress_after-nil}
+use Rattle.eb_rounds.proofs.LinesRead.{read_none, read_push, read_long}
 
 -- ---- the answers of the lines
 
@@ -76,29 +76,18 @@ answer_few docs (document d) = omega arith
 answer_few docs (query k q) = answer_short k q docs
 answer_few docs (refused x) = omega arith
 
-documents_one : (r : Reading) → length (documents_in r) ≤ 1
-documents_one blank = omega arith
-documents_one (document d) = omega arith
-documents_one (query k q) = omega arith
-documents_one (refused x) = omega arith
-
-accepted_few : (rs : List Reading) → length (accepted rs) ≤ length rs
-unfolding accepted
-accepted_few [] = omega arith
-accepted_few (r ∷ rs) = omega (arith, length-append (documents_in r) (accepted rs), documents_one r, accepted_few rs)
-
 sum-append : (xs ys : List ℕ) → sum (xs ++ ys) ≡ sum xs + sum ys
 sum-append xs ys = sum_by-append (λ x. x) xs ys
 
 module _ (b : Bench) (lines : List Line) (h : HasCounted b lines) (few : length lines < 2 ^ 17) where
   -- the documents so far are no more than the lines
   documents_few : length (accepted h.readings) ≤ length lines
-  documents_few = let n = accepted_few h.readings in let m = read_long usual lines h.readings h.read in omega (arith, n, m)
+  documents_few = let n = accepted_few h.readings in let m = read_long Reads usual [] lines h.readings h.read in omega (arith, n, m)
 
   -- there are few enough of them
   pub lines_small : (progress_after h.readings).lines + 1 < 2 ^ 64
   unfolding progress_after
-  lines_small = let n = read_long usual lines h.readings h.read in omega (arith, n, few)
+  lines_small = let n = read_long Reads usual [] lines h.readings h.read in omega (arith, n, few)
 
   -- what a further line of this kind comes to
   module _ (l : Line) (raw : Reading) (o : Outcome) (reads : Reads l raw)
@@ -125,7 +114,7 @@ module _ (b : Bench) (lines : List Line) (h : HasCounted b lines) (few : length 
         let more : all_answers all ≡ all_answers h.readings ++ own = all_answers-push h.readings next ∙ ap (λ xs. all_answers h.readings ++ xs) (sym ids_are) in
         record {
           readings = all;
-          read = read_push usual lines h.readings l raw h.read reads;
+          read = read_push Reads usual [] lines h.readings l raw h.read reads;
           session = subst (HasCome c.session usual) (sym (progress_after-push h.readings next)) come;
           ids = ids ∙ ap (λ n. n + length own) h.ids ∙ sym (ap length more ∙ length-append (all_answers h.readings) own);
           sum = sums ∙ ap (λ n. n + sum own) h.sum ∙ sym (ap sum more ∙ sum-append (all_answers h.readings) own);
@@ -136,7 +125,7 @@ module _ (b : Bench) (lines : List Line) (h : HasCounted b lines) (few : length 
 pub counted_none : (b : Bench) → b.ids ≡ 0 → b.sum ≡ 0 → HasCome b.session usual nothing → HasCounted b []
 counted_none b ids sums come = record {
   readings = [];
-  read = read_none usual;
+  read = read_none Reads usual [];
   session = subst (HasCome b.session usual) (sym progress_after-nil) come;
   ids = ids ∙ ap length (sym all_answers-nil);
   sum = sums ∙ ap sum (sym all_answers-nil);

@@ -14,14 +14,17 @@ use Rattle.eb_lines.specs.Progress.{documents_in, is_query, is_refused, one_if, 
 use Rattle.eb_rounds.specs.Admitted.{admit, admitted_from}
 use Rattle.eb_rounds.specs.Text.{output_of, body_from}
 use Rattle.eb_lines.specs.Text.{answer_line}
+use Rattle.eb_lines.proofs.Advancing.{told_within}
 use Rattle.eb_base.specs.Match.{answer}
 use Rattle.eb_rounds.specs.Inputs.{ReadsLine, admitted_in, added}
 use Rattle.eb_rounds.specs.Shown.{shown_entry, shown_text, Counted, asks, fails, WorkedOff}
 use Rattle.eb_rounds.specs.Sees.{is_document_line, is_query_line, IsAsked, Sees}
 use Rattle.eb_rounds.specs.Rows.{added_count, NoQueryLine, QueriesFirst, joined_numbers, SeesWithin}
 use Rattle.eb_rounds.specs.Standing.{Standing}
-use Rattle.eb_rounds.proofs.Seeing.{accepted-append, sees_on, front_is, back_is, next_within, told_front, told_back, told_none, told-rest}
-use Rattle.eb_rounds.proofs.Rounded.{long_in}
+use Rattle.eb_rounds.proofs.Seeing.{accepted-append, sees_on, front_is, back_is, next_within, told_front, told_back, told_none}
+use Rattle.eb_rounds.proofs.LinesRead.{read_long}
+use Rattle.eb_rounds.proofs.Rounded.{long_in, zip_append}
+use Rattle.eb_rounds.proofs.Texts.{body_append}
 use Rattle.eb_rounds.specs.LinesRead.{AreRead}
 use Rattle.eb_lines.specs.Reads.{Reads}
 use Rattle.earlybird.specs.Holding.{entries_from}
@@ -62,12 +65,6 @@ first_on σ docs (r ∷ rs) h =
 
 -- ---- lists
 
-zip_append : {C D : Type 0} (R : C → D → Type 0) (ks : List C) (bs : List D) (cs : List C) (ds : List D) → AllZip R ks bs → AllZip R cs ds → AllZip R (ks ++ cs) (bs ++ ds)
-zip_append R [] [] cs ds h k = k
-zip_append R [] (b ∷ bs) cs ds h k = absurd h
-zip_append R (a ∷ ks) [] cs ds h k = absurd h
-zip_append R (a ∷ ks) (b ∷ bs) cs ds h k = (h.0, zip_append R ks bs cs ds h.1 k)
-
 admitted-append : (σ : Setting) (docs : List Doc) (rs ss : List Reading) → admitted_from σ docs (rs ++ ss) ≡ admitted_from σ docs rs ++ admitted_from σ (docs ++ accepted (admitted_from σ docs rs)) ss
 unfolding admitted_from accepted
 admitted-append σ docs [] ss = ap (λ ds. admitted_from σ ds ss) (sym (append-nil docs))
@@ -75,18 +72,6 @@ admitted-append σ docs (r ∷ rs) ss =
     let own = admit σ docs r in
     let more = docs ++ documents_in own in
     ap (λ xs. own ∷ xs) (admitted-append σ more rs ss ∙ ap (λ ds. admitted_from σ more rs ++ admitted_from σ ds ss) (append_assoc docs (documents_in own) (accepted (admitted_from σ more rs))))
-
-long_from : (σ : Setting) (docs : List Doc) (rs : List Reading) → length (admitted_from σ docs rs) ≡ length rs
-unfolding admitted_from
-long_from σ docs [] = refl
-long_from σ docs (r ∷ rs) = ap suc (long_from σ (docs ++ documents_in (admit σ docs r)) rs)
-
-body_append : (n : ℕ → ℕ) (docs : List Doc) (j q : ℕ) (rs ss : List Reading) → q ≡ j + length rs → body_from n docs j (rs ++ ss) ≡ body_from n docs j rs ++ body_from n docs q ss
-unfolding body_from
-body_append n docs j q [] ss e = ap (λ k. body_from n docs k ss) (let same : j ≡ q = omega (arith, e) in same)
-body_append n docs j q (r ∷ rs) ss e =
-    ap (λ b. output_of (j + 1) (n j) docs r ++ b) (body_append n docs (j + 1) q rs ss (omega (arith, e)))
-    ∙ sym (append_assoc (output_of (j + 1) (n j) docs r) (body_from n docs (j + 1) rs) (body_from n docs q ss))
 
 output_asked : (number n m : ℕ) (docs more : List Doc) (r : Reading) → (is_query r ≡ true → (m ≡ n) × (n ≤ length docs)) → output_of number n docs r ≡ output_of number m (docs ++ more) r
 output_asked number n m docs more blank h = refl
@@ -165,7 +150,7 @@ module _ (σ : Setting) (overlap : Bool) (given : List Line) (docs docs_new : Li
   docs_are = w.docs ∙ ap₂ (λ x y. x ++ y) a.adds adds_are
 
   long_is : length a.readings ≡ k
-  long_is = ap length a.read.2 ∙ long_from σ [] a.read.0 ∙ AllZip-long Reads a.done a.read.0 a.read.1
+  long_is = read_long Reads σ [] a.done a.readings a.read
 
   read_on : AreRead σ given (a.readings ++ ss)
   read_on = subst (λ ls. AreRead σ ls (a.readings ++ ss)) (sym a.parts) (
@@ -257,9 +242,6 @@ alone k (query j q ∷ rs) (suc i) le a = absurd (omega (arith, le, held_some (k
 alone k (refused x ∷ rs) zero le a = absurd (cc a)
 alone k (refused x ∷ rs) (suc i) le a = absurd (omega (arith, le, held_some (k + 1) rs i a))
 
-told_few : (rs : List Reading) (j : ℕ) → told rs j ≤ added_count rs
-told_few rs j = omega (arith, told-rest rs j)
-
 -- without overlap
 pub in_order : (σ : Setting) (given : List Line) (docs docs_new : List Doc) (held : Standing) (counts_new : Counted) (so_far printed : List ℕ)
     → HasWorkedOff σ false given docs held so_far → WorkedOff σ held.held docs docs_new held.counts counts_new printed → length held.held ≤ 1
@@ -273,5 +255,5 @@ in_order σ given docs docs_new held counts_new so_far printed a w one =
     let long : length (entries_from k more) ≡ length held.held =
     sym (ap length (lines_are σ false given docs docs_new held counts_new so_far printed a w)) ∙ ap length w.lines ∙ long_in σ docs w.raw ∙ AllZip-long ReadsLine held.held w.raw w.read in
     goes_on σ false given docs docs_new held counts_new so_far printed a w (told (rs ++ more)) (λ j. refl)
-    (λ j e. (let low = asked_low rs j e in told_front rs more j (omega (arith, low)) ∙ sym (a.sees j), omega (arith, a.sees j, told_few rs j)))
+    (λ j e. (let low = asked_low rs j e in told_front rs more j (omega (arith, low)) ∙ sym (a.sees j), omega (arith, a.sees j, told_within rs j)))
     (λ i e. omega (arith, told_back rs more i, told_none more i q e, h.least i e, h.most i e, alone k more i (omega (arith, long, one)) e))

@@ -1,5 +1,4 @@
 pub mod LineReadings
-pub mod Admissions
 pub mod Waitings
 pub mod Going
 pub mod Waits

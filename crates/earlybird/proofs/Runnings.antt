@@ -30,10 +30,6 @@ abbrev pub with_parts : Running → HistoryToken → ConverterToken → Standing
 with_parts r writer converter rounds number =
     record { overlap = r.overlap; stats = r.stats; index = r.index; writer = writer; converter = converter; rounds = rounds; number = number }
 
-pub err_any : {T E P : Type 0} (r : Result T E) → P → OnErr r P
-err_any (Ok x) p = tt
-err_any (Err e) p = p
-
 pub takes_none : (k : Kind) → takes_kind [] k ≡ true
 unfolding documents_held queries_held refused_held
 takes_none kind.DocumentLine = refl
@@ -61,9 +57,6 @@ none_ahead σ held docs docs_new counts counts_new printed w = record {
 }
 
 -- ---- one after another
-
-pub stays : (r : Running) (text : List ℕ) → WorksOn HasRun r r text text
-stays r text = λ a given so_far h. ([], subst (HasRun r a given) (sym (append-nil so_far)) h, sym (append-nil text))
 
 pub goes_quiet : (old new : Running) (l : Line) → ((a : Asked) (given : List Line) (so_far : List ℕ) → HasRun old a given so_far → HasRun new a (given ++ l ∷ []) so_far)
     → (text : List ℕ) → WorksOnGiven HasRun old new text text l

@@ -6,6 +6,7 @@ use Rattle.eb_io.specs.Lines.{Line}
 use Rattle.eb_lines.specs.Programs.{Finishes}
 use Rattle.eb_lines.specs.Progress.{accepted, queries, refusals, told, progress_after}
 use Rattle.eb_lines.specs.Reading.{Reading}
+use Rattle.eb_lines.specs.Reads.{Reads}
 use Rattle.eb_lines.specs.Text.{summary_of}
 use Rattle.eb_place.specs.Room.{cut}
 use Rattle.eb_rounds.specs.Conversions.{most_converted}
@@ -14,12 +15,12 @@ use Rattle.eb_rounds.specs.LinesRead.{HasRefusal, HasNoRefusal}
 use Rattle.eb_rounds.specs.Shown.{Counted}
 use Rattle.eb_rounds.specs.Standing.{Standing, no_counts}
 use Rattle.eb_rounds.specs.Text.{body_from, summary}
+use Rattle.eb_rounds.proofs.LinesRead.{read_none}
 use Rattle.eb_table.specs.Known.{Words}
 use Rattle.earlybird.specs.declared.running.Running.{Running}
 use Rattle.earlybird.specs.Output.{Asked, IsBodyOf, IsTextOf}
 use Rattle.earlybird.specs.Running.{HasRun, HoldsNone, end_of, body_text}
 use Rattle.earlybird.specs.Waiting.{HasGathered, HasSettled, counts_of}
-use Rattle.earlybird.proofs.Admissions.{read_none}
 use Rattle.earlybird.proofs.OneOutput.{sees_told}
 use Rattle.earlybird.proofs.Waits.{gathered_none, all_settled}
 
@@ -27,7 +28,7 @@ use Rattle.earlybird.proofs.Waits.{gathered_none, all_settled}
 
 settled_none : (σ : Setting) (overlap : Bool) → HasSettled σ overlap [] [] no_counts []
 unfolding accepted queries refusals body_from
-settled_none σ overlap = record { readings = []; numbers = told []; read = read_none σ; sees = sees_told overlap []; adds = refl; counted = refl; printed = refl }
+settled_none σ overlap = record { readings = []; numbers = told []; read = read_none Reads σ []; sees = sees_told overlap []; adds = refl; counted = refl; printed = refl }
 
 pub worked_none : (σ : Setting) (overlap : Bool) (held : Standing) → held ≡ record { ahead = []; held = []; counts = no_counts; greatest = 0 } → HasGathered σ overlap [] [] held []
 worked_none σ overlap held e =

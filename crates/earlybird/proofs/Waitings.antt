@@ -18,6 +18,7 @@ use Rattle.eb_rounds.specs.Text.{output_of, body_from}
 use Rattle.eb_rounds.specs.Inputs.{HeldInput, document_line, query_line, refused_line, Entry, ReadsInput, ReadsLine, admitted_in, added}
 use Rattle.eb_lines.specs.Reads.{IsOfDocument, of_query}
 use Rattle.eb_rounds.specs.Shown.{Shown, shown_entry, output_in, shown_text, least_after, Rises}
+use Rattle.eb_rounds.proofs.Rounding.{rises_le}
 use Rattle.eb_rounds.specs.Sees.{IsAsked}
 use Rattle.eb_rounds.specs.Rows.{SeesWithin}
 use Rattle.eb_lines.specs.Kinds.{Kind, blank_line, bad_line, kind_of}
@@ -177,10 +178,6 @@ round_text n docs k (refused x ∷ rs) (s ∷ ss) e h =
     (round_text n docs (k + 1) rs ss rest (further rs ss (refused x) k n (seen_in (refused x ∷ rs) (s ∷ ss)) h))
 
 -- ---- what the queries of a round see
-
-rises_le : (least most : ℕ) (ss : List Shown) → Rises least ss most → least ≤ most
-rises_le least most [] h = h
-rises_le least most (s ∷ ss) h = le_trans h.0 (rises_le (least_after least s) most ss h.1)
 
 after_query : (least : ℕ) (s : Shown) (r : Reading) (number : ℕ) → s.line ≡ record { number = number; reading = r } → is_query r ≡ true → least_after least s ≡ s.seen
 after_query least s r number e a = let is : is_query s.line.reading ≡ true = ap (λ (x : Entry). is_query x.reading) e ∙ a in rw is refl

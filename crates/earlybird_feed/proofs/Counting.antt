@@ -1,19 +1,8 @@
--- No more is added, asked and refused than there are lines.
-use Rattle.std.proofs.Common.{◌≡◌, ℕ, ◌+◌, ◌≤◌, List, [], ◌∷◌, ◌++◌, length, flat_map, refl, arith, length-append}
+-- No more is asked and refused than there are lines.
+use Rattle.std.proofs.Common.{◌≡◌, ◌≤◌, List, [], length, refl}
 use Rattle.std.proofs.lemmas.List.Sums.{count_by-le-length}
-use Rattle.eb_lines.specs.Reading.{Reading, blank, document, query, refused}
-use Rattle.eb_lines.specs.Progress.{documents_in, is_query, is_refused, accepted, queries, refusals}
-
-short : (r : Reading) → length (documents_in r) ≤ 1
-short blank = omega arith
-short (document d) = omega arith
-short (query k q) = omega arith
-short (refused x) = omega arith
-
-pub accepted_few : (rs : List Reading) → length (accepted rs) ≤ length rs
-unfolding accepted
-accepted_few [] = omega arith
-accepted_few (r ∷ rs) = omega (arith, length-append (documents_in r) (flat_map documents_in rs), short r, accepted_few rs)
+use Rattle.eb_lines.specs.Reading.{Reading}
+use Rattle.eb_lines.specs.Progress.{is_query, is_refused, accepted, queries, refusals}
 
 pub queries_few : (rs : List Reading) → queries rs ≤ length rs
 unfolding queries

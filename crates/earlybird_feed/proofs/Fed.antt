@@ -1,5 +1,5 @@
 -- A run over a feed takes a line.
-use Rattle.std.proofs.Common.{◌≡◌, ℕ, ◌+◌, ◌<◌, ◌≤◌, ◌^◌, List, [], ◌∷◌, ◌++◌, length, sym, ap, subst, ◌∙◌, arith, append-nil, length-append}
+use Rattle.std.proofs.Common.{◌≡◌, ℕ, ◌+◌, ◌≤◌, List, [], ◌∷◌, ◌++◌, length, sym, ap, subst, ◌∙◌, arith, append-nil, length-append}
 use Rattle.std.proofs.Math.Seq.{take-length}
 use Rattle.eb_base.specs.Document.{Doc}
 use Rattle.eb_base.specs.Match.{answer}
@@ -10,10 +10,10 @@ use Rattle.eb_feed.specs.declared.feed.Feed.{Feed}
 use Rattle.eb_feed.specs.Held.{IsFedWith}
 use Rattle.eb_lines.specs.declared.refusal.Refusal.{Refusal}
 use Rattle.eb_lines.specs.Reading.{Reading, blank, document, query, refused}
-use Rattle.eb_lines.specs.Progress.{documents_in, is_query, is_refused, accepted, queries, one_if}
+use Rattle.eb_lines.specs.Progress.{documents_in, is_query, is_refused, accepted, one_if}
 use Rattle.eb_lines.specs.Text.{answer_line, refusal_line}
-use Rattle.eb_lines.proofs.Advancing.{accepted-push, queries-push, refusals-push}
-use Rattle.earlybird_feed.proofs.Counting.{accepted-nil, queries-nil, refusals-nil, accepted_few, queries_few, refusals_few}
+use Rattle.eb_lines.proofs.Advancing.{accepted-push, accepted_few, queries-push, refusals-push}
+use Rattle.earlybird_feed.proofs.Counting.{accepted-nil, queries-nil, refusals-nil, queries_few, refusals_few}
 use Rattle.earlybird_feed.specs.declared.feeding.Feeding.{Feeding}
 use Rattle.earlybird_feed.specs.Feeding.{HasFed, FeedsLine}
 

@@ -1,12 +1,11 @@
 -- A run over a feed takes lines one by one, and ends.
-use Rattle.std.proofs.Common.{◌≡◌, ℕ, ◌+◌, ◌<◌, List, [], ◌∷◌, ◌++◌, length, sym, ap, ap₂, subst, ◌∙◌, arith, append-nil}
+use Rattle.std.proofs.Common.{◌≡◌, ℕ, List, [], ◌∷◌, ◌++◌, length, sym, ap, ap₂, ◌∙◌, arith}
 use Rattle.std.specs.Prelude.{Option}
 use Rattle.eb_base.specs.Setting.{Setting}
 use Rattle.eb_feed.specs.Generations.{kept}
 use Rattle.eb_io.specs.Lines.{Line}
 use Rattle.eb_lines.specs.declared.status.Status.TheVariants.{NoMemory}
 use Rattle.eb_lines.specs.Passing.{Ends}
-use Rattle.eb_lines.specs.Programs as programs
 use Rattle.eb_lines.specs.Programs.{Finishes}
 use Rattle.eb_lines.specs.Progress.{accepted, queries, refusals}
 use Rattle.eb_lines.specs.Reading.{Reading}
@@ -14,9 +13,9 @@ use Rattle.eb_lines.specs.Reads.{Reads}
 use Rattle.eb_lines.proofs.OneReading.{raw_push}
 use Rattle.eb_lines.proofs.PassingLines.{ends_at_once}
 use Rattle.earlybird_feed.specs.declared.feeding.Feeding.{Feeding}
-use Rattle.earlybird_feed.specs.Asked.{Asked, HasRun, body_of, comes_first}
+use Rattle.earlybird_feed.specs.Asked.{Asked, HasRun, comes_first}
 use Rattle.earlybird_feed.specs.Feeding.{HasFed, IsFeeding, FeedsLine, output_behind}
-use Rattle.earlybird_feed.specs.Output.{AreRead, IsBodyOf, IsTextOf, HasRefusal, HasNoRefusal}
+use Rattle.earlybird_feed.specs.Output.{IsBodyOf, IsTextOf, HasRefusal, HasNoRefusal}
 use Rattle.earlybird_feed.specs.Text.{summary, summary_with_kept}
 use Rattle.earlybird_feed.proofs.Texts.{body-push, body-nil}
 

@@ -4,7 +4,7 @@ use Rattle.std.proofs.lemmas.Grind.{flat_map-append}
 use Rattle.std.proofs.lemmas.List.{take-append-le, take-append-drop}
 use Rattle.std.proofs.lemmas.List.Sums.{sum_by-append}
 use Rattle.std.proofs.Math.Seq.{take-length}
-use Rattle.eb_lines.specs.Reading.{Reading}
+use Rattle.eb_lines.specs.Reading.{Reading, blank, document, query, refused}
 use Rattle.eb_lines.specs.Progress.{documents_in, is_query, is_refused, accepted, queries, refusals, told, progress_after, one_if, with_line, nothing}
 
 pub flat_map-push : {A B : Type 0} (f : A → List B) (xs : List A) (x : A) → flat_map f (xs ++ x ∷ []) ≡ flat_map f xs ++ f x
@@ -17,6 +17,18 @@ accepted-push rs r = flat_map-push documents_in rs r
 pub accepted-append : (rs ss : List Reading) → accepted (rs ++ ss) ≡ accepted rs ++ accepted ss
 unfolding accepted
 accepted-append rs ss = flat_map-append documents_in rs ss
+
+documents_one : (r : Reading) → length (documents_in r) ≤ 1
+documents_one blank = omega arith
+documents_one (document d) = omega arith
+documents_one (query k q) = omega arith
+documents_one (refused x) = omega arith
+
+-- no more documents than lines
+pub accepted_few : (rs : List Reading) → length (accepted rs) ≤ length rs
+unfolding accepted
+accepted_few [] = omega arith
+accepted_few (r ∷ rs) = omega (arith, length-append (documents_in r) (accepted rs), documents_one r, accepted_few rs)
 
 pub count_push : {A : Type 0} (p : A → Bool) (xs : List A) (x : A) → count_by p (xs ++ x ∷ []) ≡ count_by p xs + one_if (p x)
 count_push p xs x = sum_by-append (λ y. one_if (p y)) xs (x ∷ []) ∙ ap (λ n. count_by p xs + n) (zero-add (one_if (p x)))

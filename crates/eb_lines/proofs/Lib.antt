@@ -5,3 +5,4 @@ pub mod PassingLines
 pub mod Told
 pub mod Results
 pub mod Runs
+pub mod Refused

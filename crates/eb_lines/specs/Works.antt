@@ -1,9 +1,12 @@
 -- What the reading of a line, and its work, stand for.
-use Rattle.std.specs.Prelude.{Result, Ok, Err}
+use Rattle.std.specs.Prelude.{Option, Some, None, Result, Ok, Err}
 use Rattle.eb_base.specs.Document.{Doc}
 use Rattle.eb_cursor.specs.Frames.{query_of, k_of}
 use Rattle.eb_cursor.specs.declared.frame.Frame.{Frame}
+use Rattle.eb_query.specs.declared.read.QueryFault.{QueryFault}
+use Rattle.eb_query.specs.declared.read.QueryFault.TheVariants as faults
 use Rattle.eb_lines.specs.declared.refusal.Refusal.{Refusal}
+use Rattle.eb_lines.specs.declared.refusal.Refusal.TheVariants.{BadNumber, BadQuery, QueryTooLarge, QueryTooDeep}
 use Rattle.eb_lines.specs.declared.work.Work.{Work}
 use Rattle.eb_lines.specs.declared.work.Work.TheVariants.{Nothing, Add, Answer, Refuse}
 use Rattle.eb_lines.specs.Reading.{Reading, blank, document, query, refused}
@@ -12,6 +15,14 @@ use Rattle.eb_lines.specs.Reading.{Reading, blank, document, query, refused}
 abbrev pub document_reading : Result Doc Refusal → Reading
 document_reading (Ok d) = document d
 document_reading (Err r) = refused r
+
+-- the refusal of a line whose query has this fault; want of memory refuses no line
+abbrev pub refusal_of : QueryFault → Option Refusal
+refusal_of faults.BadNumber = Some BadNumber
+refusal_of (faults.BadQuery column) = Some (BadQuery column)
+refusal_of faults.TooDeep = Some QueryTooDeep
+refusal_of faults.TooManyNodes = Some QueryTooLarge
+refusal_of faults.NoMemory = None
 
 -- a query line that is read
 abbrev pub query_reading : Result Frame Refusal → Reading

@@ -1,9 +1,9 @@
-ghost use Rattle.std.specs.Prelude.{◌≡◌, Some, IfOk, slice_get};
+ghost use Rattle.std.specs.Prelude.{◌≡◌, Some, None, IfOk, OnErr, slice_get};
 ghost use Rattle.eb_doc.specs.DocumentLine.{document_of};
 ghost use Rattle.eb_io.specs.Lines.{line};
 ghost use Rattle.eb_lines.specs.Kinds.{query_line};
 ghost use Rattle.eb_lines.specs.Reads.{IsOfDocument, Reads, ReadsByKind};
-ghost use Rattle.eb_lines.specs.Works.{document_reading, query_reading, reading_of};
+ghost use Rattle.eb_lines.specs.Works.{document_reading, query_reading, reading_of, refusal_of};
 
 use crate::kind::{LineKind, line_kind};
 use crate::refusal::Refusal;
@@ -42,6 +42,20 @@ pub fn read_document_line(
     }
 }
 
+/// The refusal of a line whose query has this fault; want of memory refuses no line.
+pub fn query_refusal(fault: QueryFault) -> Result<Refusal, NoMemory>
+    ensures ok { IfOk result (λ refusal. refusal_of fault ≡ Some refusal) }
+    ensures err { OnErr result (refusal_of fault ≡ None) }
+{
+    match fault {
+        QueryFault::BadNumber => Ok(Refusal::BadNumber),
+        QueryFault::BadQuery { column } => Ok(Refusal::BadQuery(column)),
+        QueryFault::TooDeep => Ok(Refusal::QueryTooDeep),
+        QueryFault::TooManyNodes => Ok(Refusal::QueryTooLarge),
+        QueryFault::NoMemory => Err(NoMemory),
+    }
+}
+
 /// A frame for the query of a query line, which begins with `?`, or why the line is refused. Takes the memory of a
 /// search, so that the search takes none.
 pub fn read_query_text(alloc: Global, text: &str) -> Result<Result<Frame, Refusal>, NoMemory>
@@ -50,11 +64,7 @@ pub fn read_query_text(alloc: Global, text: &str) -> Result<Result<Frame, Refusa
 {
     match read_query(alloc, text) {
         Ok((k, query)) => Ok(Ok(Frame::new(alloc, query, k)?)),
-        Err(QueryFault::BadNumber) => Ok(Err(Refusal::BadNumber)),
-        Err(QueryFault::BadQuery { column }) => Ok(Err(Refusal::BadQuery(column))),
-        Err(QueryFault::TooDeep) => Ok(Err(Refusal::QueryTooDeep)),
-        Err(QueryFault::TooManyNodes) => Ok(Err(Refusal::QueryTooLarge)),
-        Err(QueryFault::NoMemory) => Err(NoMemory),
+        Err(fault) => Ok(Err(query_refusal(fault)?)),
     }
 }
 

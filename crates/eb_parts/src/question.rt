@@ -4,8 +4,8 @@ ghost use Rattle.eb_parts.specs.Questions.{IsQuestion};
 
 use eb_base::NoMemory;
 use eb_blend::BlendFrame;
-use eb_lines::Refusal;
-use eb_query::{QueryFault, read_query};
+use eb_lines::{Refusal, query_refusal};
+use eb_query::read_query;
 use std::alloc::Global;
 
 // A query that is asked of all parts, and the most ids of its answer.
@@ -31,10 +31,6 @@ pub(crate) fn read_question(
             let frame = BlendFrame::new(alloc, &query, k, parts)?;
             Ok(Ok(Question { k, frame }))
         }
-        Err(QueryFault::BadNumber) => Ok(Err(Refusal::BadNumber)),
-        Err(QueryFault::BadQuery { column }) => Ok(Err(Refusal::BadQuery(column))),
-        Err(QueryFault::TooDeep) => Ok(Err(Refusal::QueryTooDeep)),
-        Err(QueryFault::TooManyNodes) => Ok(Err(Refusal::QueryTooLarge)),
-        Err(QueryFault::NoMemory) => Err(NoMemory),
+        Err(fault) => Ok(Err(query_refusal(fault)?)),
     }
 }

@@ -281,10 +281,6 @@ is_set_still false other = absurd (other refl)
 pub no_err : {V E : Type 0} (x : V) (e : E) → (let r : Result V E = Ok x in r ≡ Err e) → ⊥
 no_err x e same = let no_such : ⊥ = cc in no_such
 
-pub err_any : {V E P : Type 0} (r : Result V E) → P → OnErr r P
-err_any (Ok x) p = tt
-err_any (Err e) p = p
-
 pub if_none : {V P : Type 0} (o : Option V) → o ≡ None → IfNone o P → P
 if_none (Some x) same h = let no_such : ⊥ = cc in absurd no_such
 if_none None same h = h

@@ -19,9 +19,9 @@ ghost use Rattle.eb_watching.specs.Watching.{HasWatched, TakesLine, with_refusal
 use eb_base::{Config, Document, Gate, NoMemory, Query};
 use eb_cursor::Frame;
 use eb_engine::{Converter, Index, Writer};
-use eb_lines::{Refusal, Work, put_answer, put_refusal, put_watches, read_line};
+use eb_lines::{Refusal, Work, put_answer, put_refusal, put_watches, query_refusal, read_line};
 use eb_place::Steps;
-use eb_query::{QueryFault, read_watch};
+use eb_query::read_watch;
 use eb_rounds::{Counts, close, put_end, search_all};
 use eb_watch::{NoWatch, SetFault, WatchFault, Watches};
 use std::alloc::Global;
@@ -262,11 +262,7 @@ impl Watching {
         match read_watch(alloc, watch) {
             Ok((number, Some(query))) => self.set(number, query, text),
             Ok((number, None)) => self.remove(number, text),
-            Err(QueryFault::BadNumber) => self.refuse(Refusal::BadNumber, text),
-            Err(QueryFault::BadQuery { column }) => self.refuse(Refusal::BadQuery(column), text),
-            Err(QueryFault::TooDeep) => self.refuse(Refusal::QueryTooDeep, text),
-            Err(QueryFault::TooManyNodes) => self.refuse(Refusal::QueryTooLarge, text),
-            Err(QueryFault::NoMemory) => Err(NoMemory),
+            Err(fault) => self.refuse(query_refusal(fault)?, text),
         }
     }
 

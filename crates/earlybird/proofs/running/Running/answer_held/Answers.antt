@@ -1,5 +1,7 @@
 use Rattle.eb_lines.proofs.Results.{ok_on}
-use Rattle.earlybird.proofs.Runnings.{stays, none_waits}
+use Rattle.eb_lines.proofs.Runs.{stays}
+use Rattle.earlybird.specs.Running.{HasRun}
+use Rattle.earlybird.proofs.Runnings.{none_waits}
 use Rattle.earlybird.proofs.running.Running.answer_held.Goals as goal
 
 pub returns-then-has_query-clause-on : goal.returns-then-has_query-clause-on
@@ -9,4 +11,4 @@ pub returns-then-has_query-clause-answered : goal.returns-then-has_query-clause-
 returns-then-has_query-clause-answered g c = ok_on c.worker.result (c.requires.worker.none _ _ _ _ _ c.worker.ensures) (λ e. none_waits c.worker.new.arg2 e)
 
 pub returns-else-has_query-clause-on : goal.returns-else-has_query-clause-on
-returns-else-has_query-clause-on g c = stays c.args.self.now c.args.text.now.items
+returns-else-has_query-clause-on g c = stays HasRun c.args.self.now c.args.text.now.items

@@ -1,12 +1,14 @@
 use Rattle.std.proofs.Common.{◌∙◌, refl, ap}
 use Rattle.eb_lines.proofs.Results.{ok_on}
+use Rattle.eb_lines.proofs.Runs.{stays}
 use Rattle.eb_rounds.specs.Standing.{Standing}
 use Rattle.eb_rounds.specs.Takes.{takes_kind}
-use Rattle.earlybird.proofs.Runnings.{stays, takes_none, opened_on, with_parts}
+use Rattle.earlybird.specs.Running.{HasRun}
+use Rattle.earlybird.proofs.Runnings.{takes_none, opened_on, with_parts}
 use Rattle.earlybird.proofs.running.Running.make_way.Goals as goal
 
 pub returns-then-takes-clause-on : goal.returns-then-takes-clause-on
-returns-then-takes-clause-on g c = stays c.args.self.now c.args.text.now.items
+returns-then-takes-clause-on g c = stays HasRun c.args.self.now c.args.text.now.items
 
 pub returns-then-opens_round-clause-on : goal.returns-then-opens_round-clause-on
 returns-then-opens_round-clause-on g c =

@@ -1,7 +1,8 @@
 use Rattle.std.proofs.Common.{◌+◌, refl, ap}
 use Rattle.eb_engine.specs.Tokens.{HistoryToken}
 use Rattle.eb_rounds.specs.Passed.{input_of}
-use Rattle.earlybird.proofs.Runnings.{err_any, unchanged_on, run_line, with_parts}
+use Rattle.eb_lines.proofs.Results.{err_any}
+use Rattle.earlybird.proofs.Runnings.{unchanged_on, run_line, with_parts}
 use Rattle.earlybird.proofs.running.Running.work.Goals as goal
 
 pub returns-in_err-work_line-clause-err : goal.returns-in_err-work_line-clause-err

@@ -1,11 +1,12 @@
 use Rattle.std.proofs.Common.{ℕ, List, ◌+◌, ◌++◌, refl, ap, ◌∙◌}
 use Rattle.eb_engine.specs.Tokens.{HistoryToken}
+use Rattle.eb_lines.proofs.Results.{err_any}
 use Rattle.eb_lines.specs.Reading.{document}
 use Rattle.eb_lines.specs.Text.{watch_line}
 use Rattle.eb_lines.specs.declared.refusal.Refusal.TheVariants.{Full}
 use Rattle.eb_watching.specs.Readings.{plain}
 use Rattle.eb_watching.specs.declared.watching.Watching.{Watching}
-use Rattle.eb_watching.proofs.Watchings.{takes_document, takes_said, full_here, if_none, if_some, stays_err, err_any, watching_on}
+use Rattle.eb_watching.proofs.Watchings.{takes_document, takes_said, full_here, if_none, if_some, stays_err, watching_on}
 use Rattle.eb_watching.proofs.watching.Watching.add.Goals as goal
 
 pub returns-in_err-reserve-clause-err : goal.returns-in_err-reserve-clause-err

@@ -1,12 +1,11 @@
-use Rattle.std.proofs.Common.{Option, subst}
+use Rattle.std.proofs.Common.{Option, refl, subst}
 use Rattle.std.specs.Prelude.{option_map}
 use Rattle.eb_base.specs.declared.query.Query.{Query}
 use Rattle.eb_base.specs.Query.{tree}
 use Rattle.eb_lines.proofs.Results.{ok_on}
-use Rattle.eb_query.specs.Refusal.{IsWatchRefused}
 use Rattle.eb_query.specs.WatchLine.{ReadsWatchAs, watch_asked}
-use Rattle.eb_query.specs.declared.read.QueryFault.{QueryFault}
-use Rattle.eb_watching.proofs.WatchLines.{reads_text}
+use Rattle.eb_watching.proofs.WatchLines.{reads_text, reads_refused}
+use Rattle.eb_watching.proofs.Watchings.{stays_err}
 use Rattle.eb_watching.proofs.watching.Watching.take_text.Goals as goal
 
 pub returns-in-Ok-default-Some-clause-ok : goal.returns-in-Ok-default-Some-clause-ok
@@ -21,26 +20,11 @@ returns-in-Ok-default-None-clause-ok c =
     let asks = subst (λ (o : Option Query). ReadsWatchAs w (watch_asked c.in-Ok-default-None.number (option_map tree o))) c.in-Ok-default-None.field-0-1-is c.in-Ok-default-None.ensures.asks in
     ok_on c.remove.result c.remove.ensures.ok (λ takes. (_, reads_text w _ c.requires.mark c.utf8.watch asks, takes))
 
-pub returns-in-Err-BadNumber-clause-ok : goal.returns-in-Err-BadNumber-clause-ok
-returns-in-Err-BadNumber-clause-ok c =
-    let w = c.args.watch.now in
-    let fault = subst (λ (f : QueryFault). IsWatchRefused w f) c.in-Err-BadNumber.field-0-is c.in-Err-BadNumber.ensures.refused in
-    ok_on c.refuse.result c.refuse.ensures.ok (λ takes. (_, reads_text w _ c.requires.mark c.utf8.watch fault, takes))
+pub returns-in_err-query_refusal-in-Err-clause-err : goal.returns-in_err-query_refusal-in-Err-clause-err
+returns-in_err-query_refusal-in-Err-clause-err c = stays_err c.from_residual.result c.args.self.now _ _ refl
 
-pub returns-in-Err-BadQuery-clause-ok : goal.returns-in-Err-BadQuery-clause-ok
-returns-in-Err-BadQuery-clause-ok c =
-    let w = c.args.watch.now in
-    let fault = subst (λ (f : QueryFault). IsWatchRefused w f) c.in-Err-BadQuery.field-0-is c.in-Err-BadQuery.ensures.refused in
-    ok_on c.refuse-in-Err-BadQuery.result c.refuse-in-Err-BadQuery.ensures.ok (λ takes. (_, reads_text w _ c.requires.mark c.utf8.watch fault, takes))
-
-pub returns-in-Err-TooDeep-clause-ok : goal.returns-in-Err-TooDeep-clause-ok
-returns-in-Err-TooDeep-clause-ok c =
-    let w = c.args.watch.now in
-    let fault = subst (λ (f : QueryFault). IsWatchRefused w f) c.in-Err-TooDeep.field-0-is c.in-Err-TooDeep.ensures.refused in
-    ok_on c.refuse-in-Err-TooDeep.result c.refuse-in-Err-TooDeep.ensures.ok (λ takes. (_, reads_text w _ c.requires.mark c.utf8.watch fault, takes))
-
-pub returns-in-Err-TooManyNodes-clause-ok : goal.returns-in-Err-TooManyNodes-clause-ok
-returns-in-Err-TooManyNodes-clause-ok c =
-    let w = c.args.watch.now in
-    let fault = subst (λ (f : QueryFault). IsWatchRefused w f) c.in-Err-TooManyNodes.field-0-is c.in-Err-TooManyNodes.ensures.refused in
-    ok_on c.refuse-in-Err-TooManyNodes.result c.refuse-in-Err-TooManyNodes.ensures.ok (λ takes. (_, reads_text w _ c.requires.mark c.utf8.watch fault, takes))
+pub returns-in_ok-query_refusal-in-Err-clause-ok : goal.returns-in_ok-query_refusal-in-Err-clause-ok
+returns-in_ok-query_refusal-in-Err-clause-ok c =
+    let refusal = c.in_ok-query_refusal-in-Err.ensures.ok in
+    let reads = reads_refused c.args.watch.now c.in-Err.fault _ c.requires.mark c.utf8.watch c.in-Err.ensures.refused refusal in
+    ok_on c.refuse.result c.refuse.ensures.ok (λ takes. (_, reads, takes))
