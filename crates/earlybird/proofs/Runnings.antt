@@ -84,7 +84,8 @@ module _ (old new : Running) (a : Asked) (given : List Line) (so_far : List ℕ)
   setting_is = ap (λ (x : Words). x.setting) h.index ∙ h.setting
 
   -- the held lines are worked off
-  pub run_off : (printed : List ℕ) → new.number ≡ old.number → WorkedOffBoth old.index.setting old.rounds.ahead old.rounds.held old.writer.docs new.writer.docs old.rounds.counts new.rounds.counts printed
+  pub run_off : (printed : List ℕ) → new.number ≡ old.number
+      → WorkedOffBoth old.index.setting old.rounds.ahead old.rounds.held old.writer.docs new.writer.docs old.rounds.counts new.rounds.counts printed
       → HoldsNone new → new.rounds.greatest ≡ old.rounds.greatest → HasRun new a given (so_far ++ printed)
   run_off printed number w none greatest =
       let worked = subst (λ (s : Setting). WorkedOffBoth s old.rounds.ahead old.rounds.held old.writer.docs new.writer.docs old.rounds.counts new.rounds.counts printed) setting_is w in
@@ -235,7 +236,8 @@ module _ (old new : Running) (t0 t1 : List ℕ) (mode : new.overlap ≡ old.over
       ([], subst (HasRun new a given) (sym (append-nil so_far)) (run_opened old new a given so_far h mode stats index writer converter number docs ahead rounds), text ∙ sym (append-nil t0))
 
   pub held_on : {T E : Type 0} (r : Result T E)
-      → OnOk r ((printed : List ℕ) × WorkedOffBoth old.index.setting old.rounds.ahead old.rounds.held old.writer.docs new.writer.docs old.rounds.counts new.rounds.counts printed × (t1 ≡ t0 ++ printed))
+      → OnOk r ((printed : List ℕ) × WorkedOffBoth old.index.setting old.rounds.ahead old.rounds.held old.writer.docs new.writer.docs old.rounds.counts new.rounds.counts printed
+      × (t1 ≡ t0 ++ printed))
       → OnOk r ((new.rounds.ahead ≡ []) × (new.rounds.held ≡ []) × (new.rounds.greatest ≡ old.rounds.greatest)) → OnErr r (WorksOn HasRun old new t0 t1) → WorksOn HasRun old new t0 t1
   held_on (Ok x) done held err = λ a given so_far h. (done.0, run_off old new a given so_far h mode stats index writer converter done.0 number done.1 (held.0, held.1) held.2, done.2)
   held_on (Err e) done held err = err

@@ -1,4 +1,4 @@
-use Rattle.std.proofs.Common.{List, ◌++◌, ap, ap₂, sym, subst, ◌∙◌, length, map, arith}
+use Rattle.std.proofs.Common.{List, subst, map, arith}
 use Rattle.std.specs.List.{AllZip}
 use Rattle.std.proofs.lemmas.Slice.Zip.{AllZip-long}
 use Rattle.eb_rounds.specs.Inputs.{ReadsLine}

@@ -1,4 +1,4 @@
-use Rattle.std.proofs.Common.{List, length, map, ap, refl, sym, subst, arith}
+use Rattle.std.proofs.Common.{List, map, ap, refl, subst, arith}
 use Rattle.std.proofs.lemmas.List.{length-map}
 use Rattle.eb_base.specs.Document.{Doc}
 use Rattle.eb_engine.specs.Tokens.{HistoryToken}
