@@ -63,7 +63,7 @@ fn read_first(alloc: Global, line: &FirstLine) -> Result<Asked, NoMemory>
 }
 
 // How few document lines are worth a thread of their own.
-const LEAST_LINES: usize = 256;
+const LEAST_LINES: usize = 128;
 
 // Reads the lines in list order, by several threads.
 fn read_all_then<R: Threads + Sync>(
