@@ -1,0 +1,1 @@
+"""A page over an index program: docs/CONSOLE.md says what it does and promises."""
