@@ -12,8 +12,6 @@ mod query;
 mod query_copy;
 mod query_is;
 mod terms;
-#[cfg(test)]
-mod tests;
 
 pub use config::{Config, ConfigFault, MAX_DOCS, MAX_SEGMENTS, MAX_WORDS};
 pub use document::{DocFault, Document, MAX_BYTES, MAX_TOKENS};

@@ -1,2 +1,1 @@
 pub mod FlatImages
-pub mod FirstStore

@@ -5,6 +5,3 @@
 mod words;
 
 pub use words::FlatWords;
-
-#[cfg(test)]
-mod tests;

@@ -10,9 +10,6 @@ use eb_base::NoMemory;
 use std::alloc::Global;
 use std::fmt::Write;
 
-#[cfg(test)]
-mod tests;
-
 /// The made document line of this number, without a LF: the number as its id, and eight words
 /// `w0` to `w255` that the start value and the number decide.
 pub fn line_of(alloc: Global, start: u64, number: u32) -> Result<Vec<u8>, NoMemory>

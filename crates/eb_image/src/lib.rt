@@ -9,8 +9,6 @@ mod law;
 mod part;
 mod reader;
 mod scan;
-#[cfg(test)]
-mod tests;
 
 pub use fault::{HeadFault, ImageFault};
 pub use head::{read_head, write_head};

@@ -8,8 +8,6 @@ mod matches;
 mod number;
 mod setting;
 mod split;
-#[cfg(test)]
-mod tests;
 
 pub use items::{Items, OptionFault, read_options};
 pub use number::{read_nine, read_number};

@@ -5,12 +5,8 @@
 
 mod answers;
 mod history;
-#[cfg(test)]
-mod match_tests;
 mod room;
 mod scan;
-#[cfg(test)]
-mod tests;
 
 pub use answers::newest;
 pub use history::{cut, has_room};

@@ -24,6 +24,3 @@ pub use read::{QueryFault, read_query};
 pub use reader::MAX_NESTING;
 pub use watch::read_watch;
 pub use write::write_query;
-
-#[cfg(test)]
-mod tests;

@@ -1,15 +1,23 @@
 //! The tests, by what they show, and what they make their indexes of.
 mod asking;
+mod blocks;
 mod bounds;
 mod chains;
 mod cursors;
 mod dictionary;
+mod feeds;
+mod frames;
 mod fullest;
 mod gates;
+mod generations;
+mod hashes;
+mod leading;
 mod leaps;
 mod made;
 mod packing;
 mod placing;
+mod plain;
 mod published;
 mod queries;
 mod sharing;
+mod slices;

@@ -18,9 +18,9 @@ use std::test::Fail;
 
 // A port that counts its own loads.
 #[derive(Drop)]
-struct CountedWords {
-    words: RecordingPen,
-    loads: u64,
+pub(super) struct CountedWords {
+    pub(super) words: RecordingPen,
+    pub(super) loads: u64,
 }
 
 impl Port for CountedWords {
@@ -81,7 +81,11 @@ fn converted(alloc: Global, config: Config, documents: &[Document]) -> Result<Re
 }
 
 // A search, with steps of its own.
-fn search_alone<L: Ledger>(words: &mut CountedWords, frame: &mut Frame, blank: Blank) -> u64
+pub(super) fn search_alone<L: Ledger>(
+    words: &mut CountedWords,
+    frame: &mut Frame,
+    blank: Blank,
+) -> u64
     requires blank { (blank.name ≡ L.name) × (blank.parts ≡ L.parts) × (0 < blank.parts) }
     requires words { (m : Moment) × IsRecord words.old.words m }
 {

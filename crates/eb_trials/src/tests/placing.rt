@@ -1,5 +1,5 @@
 //! What the placer stores and in which order, and where it begins the next segment.
-use super::made::{added, document};
+use super::made::{added, document, word_at};
 use crate::RecordingPen;
 use eb_base::Config;
 use eb_flat::FlatWords;
@@ -57,5 +57,20 @@ fn four_documents_have_room(rt: HostRuntime) -> Result<(), Fail> {
     assert_eq!(rt; added(&mut placer, &mut words, &document), Some(4));
     assert_eq!(rt; added(&mut placer, &mut words, &document), None);
     assert_eq!(rt; placer.segments(), 2);
+    Ok(())
+}
+
+#[test]
+fn what_a_writer_stores_in_a_vector_is_loaded(rt: HostRuntime) -> Result<(), Fail> {
+    let alloc = rt.alloc();
+    let config = Config::usual();
+    let mut words = FlatWords::new(alloc, config)?;
+    let mut placer = Placer::new(config);
+    assert_eq!(rt; word_at(&mut words, 1), Some(0));
+    assert_eq!(rt;
+        added(&mut placer, &mut words, &document(alloc, 7, b"")?),
+        Some(1)
+    );
+    assert_eq!(rt; word_at(&mut words, 1), Some(1));
     Ok(())
 }

@@ -1,0 +1,91 @@
+//! A feed of two generations of two documents.
+ghost use Rattle.std.specs.Prelude.{◌≡◌, ◌<◌, ℕ, List};
+ghost use Rattle.eb_base.specs.Document.{Doc};
+ghost use Rattle.eb_base.specs.Setting.{Setting};
+ghost use Rattle.eb_feed.specs.Held.{IsFedWith};
+
+use eb_base::{Config, Document, OpenGate, Query, Term, Terms};
+use eb_cursor::Frame;
+use eb_feed::Feed;
+use eb_place::Steps;
+use std::alloc::Global;
+use std::marker::Brand;
+use std::process::Abort;
+use std::sync::ledger::{Blank, Ledger};
+use std::test::Fail;
+
+// Adds a document of one term.
+fn added(alloc: Global, feed: &mut Feed, id: u64, term: &[u8]) -> Result<u64, Fail>
+    requires { (σ : Setting) × (keep : ℕ) × (history : List Doc) × IsFedWith feed.old σ keep history }
+    ensures { (σ : Setting) × (keep : ℕ) × (history : List Doc) × IsFedWith feed.new σ keep history }
+{
+    let mut terms = Terms::new(alloc);
+    terms.push(Term::new(alloc, term)?)?;
+    let document = Document::new(id, terms)?;
+    if feed.accepted() == u64::MAX {
+        return Ok(0);
+    }
+    Ok(feed.add(&document))
+}
+
+// Searches with a counter of its own.
+fn search_alone<L: Ledger>(feed: &mut Feed, frame: &mut Frame, blank: Blank) -> u64
+    requires blank { (blank.name ≡ L.name) × (blank.parts ≡ L.parts) × (0 < blank.parts) }
+    requires feed { (σ : Setting) × (keep : ℕ) × (history : List Doc) × IsFedWith feed.old σ keep history }
+    ensures { (σ : Setting) × (keep : ℕ) × (history : List Doc) × IsFedWith feed.new σ keep history }
+{
+    let mut steps = Steps::<L>::new(blank);
+    feed.search(frame, &OpenGate, &mut steps)
+}
+
+pub(super) fn searched(feed: &mut Feed, frame: &mut Frame) -> u64
+    requires { (σ : Setting) × (keep : ℕ) × (history : List Doc) × IsFedWith feed.old σ keep history }
+    ensures { (σ : Setting) × (keep : ℕ) × (history : List Doc) × IsFedWith feed.new σ keep history }
+{
+    search_alone::<Brand>(feed, frame, Blank::new(1))
+}
+
+// Adds a document of the term `a`, and looks at what is found then.
+fn step(
+    rt: &impl Abort,
+    alloc: Global,
+    feed: &mut Feed,
+    frame: &mut Frame,
+    id: u64,
+    found: &[u64],
+) -> Result<(), Fail>
+    requires { (σ : Setting) × (keep : ℕ) × (history : List Doc) × IsFedWith feed.old σ keep history }
+    ensures { (σ : Setting) × (keep : ℕ) × (history : List Doc) × IsFedWith feed.new σ keep history }
+{
+    let count = added(alloc, feed, id, b"a")?;
+    let seen = searched(feed, frame);
+    let kept = feed.kept();
+    assert_eq!(rt; count, id);
+    assert_eq!(rt; seen, id);
+    assert_eq!(rt; kept, found.len() as u64);
+    assert_eq!(rt; frame.ids(), found);
+    Ok(())
+}
+
+// The ids of documents of the term `a` that are added, and what is found then.
+const STEPS: [(u64, &[u64]); 7] = [
+    (1, &[1]),
+    (2, &[2, 1]),
+    (3, &[3, 2, 1]),
+    (4, &[4, 3, 2, 1]),
+    (5, &[5, 4, 3]),
+    (6, &[6, 5, 4, 3]),
+    (7, &[7, 6, 5]),
+];
+
+#[test]
+fn the_oldest_go(rt: HostRuntime) -> Result<(), Fail> {
+    let config = Config::new(1, 2, 1024)?;
+    let mut feed = Feed::open(rt.alloc(), config, 2)?;
+    let query = Query::Word(Term::new(rt.alloc(), b"a")?);
+    let mut frame = Frame::new(rt.alloc(), query, 9)?;
+    for (id, found) in STEPS {
+        step(&rt, rt.alloc(), &mut feed, &mut frame, id, found)?;
+    }
+    Ok(())
+}

@@ -1,0 +1,13 @@
+//! The tests, by what they read.
+mod base;
+mod copies;
+mod documents;
+mod images;
+mod lines;
+mod made;
+mod options;
+mod queries;
+mod sinks;
+mod texts;
+mod watches;
+mod windows;

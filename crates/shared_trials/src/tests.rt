@@ -1,0 +1,4 @@
+//! The tests, by what they run.
+mod blends;
+mod engine;
+mod watches;

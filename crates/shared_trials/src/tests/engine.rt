@@ -1,0 +1,4 @@
+//! Indexes that threads share.
+mod beside;
+mod holding;
+mod made;

@@ -1,0 +1,215 @@
+//! One writer adds documents through rollovers, while a converter converts the closed segments and two readers search
+//! beside them. Each answer is that of the plain scan over the first documents, as many as the search says, and these
+//! never get fewer for a reader.
+ghost use Rattle.std.specs.Prelude.{◌≡◌};
+
+use super::made::{a_without_b, added, document, frame, searched, word};
+use eb_base::{Config, Document, OpenGate, Query};
+use eb_cursor::Frame;
+use eb_engine::{Converter, Index, Reader, Writer};
+use eb_plain::newest;
+use std::alloc::Global;
+use std::test::Fail;
+use std::thread;
+use std::thread::Threads;
+
+// What a reader asks: a query, and a frame for it.
+#[derive(Drop)]
+struct Question {
+    query: Query,
+    frame: Frame,
+}
+
+// The query of a number: a word of every document, or the documents with `a` and not `b`.
+fn query(alloc: Global, number: u32) -> Result<Query, Fail> {
+    match number {
+        0 => word(alloc, b"d"),
+        _ => a_without_b(alloc),
+    }
+}
+
+fn question_of(alloc: Global, number: u32) -> Result<Question, Fail> {
+    Ok(Question {
+        query: query(alloc, number)?,
+        frame: frame(alloc, query(alloc, number)?)?,
+    })
+}
+
+// Whether the ids are those of the plain scan over the first documents.
+fn is_scanned(
+    alloc: Global,
+    query: &Query,
+    documents: &[Document],
+    count: u64,
+    ids: &[u64],
+) -> bool {
+    let Some(first) = documents.get(..count as usize) else {
+        return false;
+    };
+    match newest(alloc, query, 10, first) {
+        Ok(scanned) => scanned.as_slice() == ids,
+        Err(_) => false,
+    }
+}
+
+// Searches until all documents are seen: whether each answer was right, and none over fewer documents than before.
+fn search_beside(
+    alloc: Global,
+    index: &Index,
+    reader: Reader,
+    question: Question,
+    documents: &[Document],
+) -> bool
+    requires { reader.index ≡ index.now }
+{
+    let mut reader = reader;
+    let Question { query, mut frame } = question;
+    let mut last = 0;
+    for _ in 0..u64::MAX {
+        let count = searched(&mut reader, index, &mut frame, &OpenGate);
+        if count < last || !is_scanned(alloc, &query, documents, count, frame.ids()) {
+            return false;
+        }
+        if count == documents.len() as u64 {
+            return true;
+        }
+        last = count;
+    }
+    false
+}
+
+// Adds all documents, and gives the last count.
+fn add_beside(index: &Index, writer: Writer, documents: &[Document]) -> u64
+    requires { writer.index ≡ index.now }
+{
+    let mut writer = writer;
+    let mut last = 0;
+    for document in documents {
+        if let Some(count) = added(&mut writer, index, document) {
+            last = count;
+        }
+        thread::yield_now();
+    }
+    last
+}
+
+// Converts until so many segments are converted, and gives their number.
+fn convert_beside(index: &Index, converter: Converter, most: u32) -> u32
+    requires { converter.index ≡ index.now }
+{
+    let mut converter = converter;
+    for _ in 0..u64::MAX {
+        if converter.converted() >= most {
+            return converter.converted();
+        }
+        converter.convert(index);
+        thread::yield_now();
+    }
+    converter.converted()
+}
+
+// A writer and a reader.
+fn write_and_search<R: Threads + Sync>(
+    rt: &R,
+    alloc: Global,
+    index: &Index,
+    writer: Writer,
+    reader: Reader,
+    question: Question,
+    documents: &[Document],
+) -> (u64, bool)
+    requires writer { writer.index ≡ index.now }
+    requires reader { reader.index ≡ index.now }
+{
+    thread::join(
+        rt,
+        move || -> u64
+            requires { writer.index ≡ index.now }
+        { add_beside(index, writer, documents) },
+        move || -> bool
+            requires { reader.index ≡ index.now }
+        { search_beside(alloc, index, reader, question, documents) },
+    )
+}
+
+// A converter and a reader.
+fn convert_and_search<R: Threads + Sync>(
+    rt: &R,
+    alloc: Global,
+    index: &Index,
+    converter: Converter,
+    reader: Reader,
+    question: Question,
+    documents: &[Document],
+) -> (u32, bool)
+    requires converter { converter.index ≡ index.now }
+    requires reader { reader.index ≡ index.now }
+{
+    thread::join(
+        rt,
+        move || -> u32
+            requires { converter.index ≡ index.now }
+        { convert_beside(index, converter, 3) },
+        move || -> bool
+            requires { reader.index ≡ index.now }
+        { search_beside(alloc, index, reader, question, documents) },
+    )
+}
+
+// A writer, a converter and two readers, each on a thread of its own.
+fn all_beside<R: Threads + Sync>(
+    rt: &R,
+    alloc: Global,
+    index: &Index,
+    writer: Writer,
+    converter: Converter,
+    readers: (Reader, Reader),
+    documents: &[Document],
+) -> Result<((u64, bool), (u32, bool)), Fail>
+    requires writer { writer.index ≡ index.now }
+    requires converter { converter.index ≡ index.now }
+    requires first { readers.0.index ≡ index.now }
+    requires second { readers.1.index ≡ index.now }
+{
+    let (first, second) = readers;
+    let all = question_of(alloc, 0)?;
+    let some = question_of(alloc, 1)?;
+    Ok(thread::join(
+        rt,
+        move || -> (u64, bool)
+            requires { (writer.index ≡ index.now) × (first.index ≡ index.now) }
+        { write_and_search(rt, alloc, index, writer, first, all, documents) },
+        move || -> (u32, bool)
+            requires { (converter.index ≡ index.now) × (second.index ≡ index.now) }
+        { convert_and_search(rt, alloc, index, converter, second, some, documents) },
+    ))
+}
+
+// Documents with the ids 0 to 389.
+fn documents(alloc: Global) -> Result<Vec<Document>, Fail> {
+    let mut documents = Vec::new(alloc);
+    for id in 0..390 {
+        documents.push(document(alloc, id)?)?;
+    }
+    Ok(documents)
+}
+
+#[test]
+fn readers_search_beside_a_writer_and_a_converter(rt: HostRuntime) -> Result<(), Fail> {
+    let alloc = rt.alloc();
+    let documents = documents(alloc)?;
+    let (index, mut writer, converter) = Index::open(alloc, Config::new(4, 100, 1024)?)?;
+    let mut reader = writer.reader(&index);
+    let other = reader.split(&index);
+    let done = all_beside(
+        &rt,
+        alloc,
+        &index,
+        writer,
+        converter,
+        (reader, other),
+        documents.as_slice(),
+    )?;
+    assert_eq!(rt; done, ((390, true), (3, true)));
+    Ok(())
+}
