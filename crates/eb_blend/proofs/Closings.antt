@@ -9,9 +9,10 @@ use Rattle.eb_place.specs.Room.{cut}
 use Rattle.eb_place.proofs.CutSegments.{closed_stays}
 use Rattle.eb_convert.specs.declared.conversion.Converted.{Converted}
 use Rattle.eb_convert.specs.declared.conversion.Converted.TheVariants.{One, Nothing}
-use Rattle.eb_engine.specs.Tokens.{HistoryToken, ConverterToken, Converts, AreClosed}
-use Rattle.eb_blend.specs.Parts.{histories_of, converter_histories_of, converted_of, history}
-use Rattle.eb_blend.proofs.Each.{history_at, converter_history_at, new_converted, other_converted}
+use Rattle.eb_engine.specs.Tokens.{ConverterToken, Converts, AreClosed}
+use Rattle.eb_engine.proofs.Converting.{few_known}
+use Rattle.eb_blend.specs.Parts.{converter_histories_of, converted_of, history}
+use Rattle.eb_blend.proofs.Each.{converter_history_at, new_converted, other_converted}
 
 -- where all but one of the segments are among the first n
 pub few_left : (σ : Setting) (xs ys : List Doc) (n : ℕ) → IsPrefix xs ys → length (cut σ ys) ≤ n + 1 → (s : ℕ) → s + 1 < length (cut σ xs) → s < n
@@ -20,21 +21,20 @@ few_left σ xs ys n p few s h = let g = (closed_stays σ xs p.0 s h).0 in let g'
 -- where a call converted nothing, it found no document behind the next segment
 pub nothing_left : (σ : Setting) (old new : ConverterToken) (r : Converted) → Converts σ old new r → ((s : ℕ) → r ≡ One s → ⊥) → length (cut σ new.docs) ≤ new.converted + 1
 nothing_left σ old new (One s) did none = absurd (none s refl)
-nothing_left σ old new Nothing did none = omega (arith, did.0, did.1)
+nothing_left σ old new Nothing did none = few_known σ new (new.converted + 1) (omega (arith, did.0, did.1))
 
 converted_at : (cs : List ConverterToken) (n : ℕ) (c : ConverterToken) → n < length cs → c ≡ get_or cs n c → get_or (converted_of cs) n 0 ≡ c.converted
 converted_at cs n c lt a = get_or-map (λ (x : ConverterToken). x.converted) cs n c 0 lt ∙ ap (λ (x : ConverterToken). x.converted) (sym a)
 
 -- one part more is heard
-pub closed_more : (σ : Setting) (ts : List HistoryToken) (cs : List ConverterToken) (n : ℕ) (t new : HistoryToken) (c : ConverterToken) → n < length ts → n < length cs
-    → t ≡ get_or ts n t → c ≡ get_or cs n c → new ≡ t
-    → AreClosed σ new.docs c.converted → ((p : ℕ) → p < n → AreClosed σ (history (histories_of ts) p) (get_or (converted_of cs) p 0))
-    → (p : ℕ) → p < n + 1 → AreClosed σ (history (histories_of ts) p) (get_or (converted_of cs) p 0)
-closed_more σ ts cs n t new c l m a b e now f p lt =
-    let here = sym (history_at ts n t l a ∙ ap (λ (x : HistoryToken). x.docs) (sym e)) in
+pub closed_more : (σ : Setting) (hs : List (List Doc)) (cs : List ConverterToken) (n : ℕ) (docs : List Doc) (c : ConverterToken) → n < length cs
+    → history hs n ≡ docs → c ≡ get_or cs n c
+    → AreClosed σ docs c.converted → ((p : ℕ) → p < n → AreClosed σ (history hs p) (get_or (converted_of cs) p 0))
+    → (p : ℕ) → p < n + 1 → AreClosed σ (history hs p) (get_or (converted_of cs) p 0)
+closed_more σ hs cs n docs c m a b now f p lt =
     let there = sym (converted_at cs n c m b) in
     elim (cases_eq p n) [
-      | inl s ↦ subst (λ r. AreClosed σ (history (histories_of ts) r) (get_or (converted_of cs) r 0)) (sym s) (subst (λ (z : List Doc × ℕ). AreClosed σ z.0 z.1) (λ i. (here i, there i)) now)
+      | inl s ↦ subst (λ r. AreClosed σ (history hs r) (get_or (converted_of cs) r 0)) (sym s) (subst (λ (z : List Doc × ℕ). AreClosed σ z.0 z.1) (λ i. (sym a i, there i)) now)
       | inr ne ↦ f p (omega (arith, lt, ne))
     ]
 

@@ -55,6 +55,10 @@ length_converter_histories (t ∷ ts) = ap suc (length_converter_histories ts)
 pub indexes_set : (ts : List HistoryToken) (n : ℕ) (t new : HistoryToken) → t ≡ get_or ts n t → new.index ≡ t.index → indexes_of (set ts n new) ≡ indexes_of ts
 indexes_set ts n t new a e = map-set_same (λ (x : HistoryToken). x.index) ts n new t (e ∙ ap (λ (x : HistoryToken). x.index) a)
 
+-- or for one of the same history
+pub histories_set : (ts : List HistoryToken) (n : ℕ) (t new : HistoryToken) → t ≡ get_or ts n t → new.docs ≡ t.docs → histories_of (set ts n new) ≡ histories_of ts
+histories_set ts n t new a e = map-set_same (λ (x : HistoryToken). x.docs) ts n new t (e ∙ ap (λ (x : HistoryToken). x.docs) a)
+
 pub converter_indexes_set : (ts : List ConverterToken) (n : ℕ) (t new : ConverterToken) → t ≡ get_or ts n t → new.index ≡ t.index → converter_indexes_of (set ts n new) ≡ converter_indexes_of ts
 converter_indexes_set ts n t new a e = map-set_same (λ (x : ConverterToken). x.index) ts n new t (e ∙ ap (λ (x : ConverterToken). x.index) a)
 
@@ -167,16 +171,15 @@ fronts_all hs all n e le f = record {
 }
 
 -- one part more is heard
-pub heard_more : (ts : List HistoryToken) (cs : List ConverterToken) (n : ℕ) (t new : HistoryToken) (c : ConverterToken) → n < length ts → n < length cs
-    → t ≡ get_or ts n t → c ≡ get_or cs n c → new ≡ t
-    → IsPrefix c.docs new.docs → ((p : ℕ) → p < n → IsPrefix (history (converter_histories_of cs) p) (history (histories_of ts) p))
-    → (p : ℕ) → p < n + 1 → IsPrefix (history (converter_histories_of cs) p) (history (histories_of ts) p)
-heard_more ts cs n t new c l m a b e pre f p lt =
+pub heard_more : (hs : List (List Doc)) (cs : List ConverterToken) (n : ℕ) (docs : List Doc) (c : ConverterToken) → n < length cs
+    → history hs n ≡ docs → c ≡ get_or cs n c
+    → IsPrefix c.docs docs → ((p : ℕ) → p < n → IsPrefix (history (converter_histories_of cs) p) (history hs p))
+    → (p : ℕ) → p < n + 1 → IsPrefix (history (converter_histories_of cs) p) (history hs p)
+heard_more hs cs n docs c m a b pre f p lt =
     let here = sym (converter_history_at cs n c m b) in
-    let there = sym (history_at ts n t l a ∙ ap (λ (x : HistoryToken). x.docs) (sym e)) in
     elim (cases_eq p n) [
-      | inl s ↦ subst (λ r. IsPrefix (history (converter_histories_of cs) r) (history (histories_of ts) r)) (sym s)
-          (subst (λ (z : List Doc × List Doc). IsPrefix z.0 z.1) (λ i. (here i, there i)) pre)
+      | inl s ↦ subst (λ r. IsPrefix (history (converter_histories_of cs) r) (history hs r)) (sym s)
+          (subst (λ (z : List Doc × List Doc). IsPrefix z.0 z.1) (λ i. (here i, sym a i)) pre)
       | inr ne ↦ f p (omega (arith, lt, ne))
     ]
 
@@ -214,7 +217,8 @@ sum_set (h ∷ hs) (suc n) d lt =
     omega (arith, r, sum_by-cons (λ (z : ℕ). z) (length h) (lengths_of (set hs n (history hs n ++ d ∷ []))), sum_by-cons (λ (z : ℕ). z) (length h) (lengths_of hs))
 
 -- the histories after an add
-pub added_is : (ts : List HistoryToken) (n : ℕ) (t new : HistoryToken) (d : Doc) → n < length ts → t ≡ get_or ts n t → new ≡ record { index = t.index; docs = t.docs ++ d ∷ [] } → n ≡ d.id % length ts
+pub added_is : (ts : List HistoryToken) (n : ℕ) (t new : HistoryToken) (d : Doc) → n < length ts → t ≡ get_or ts n t
+    → new ≡ record { index = t.index; docs = t.docs ++ d ∷ []; converted = t.converted } → n ≡ d.id % length ts
     → histories_of (set ts n new) ≡ with_document (histories_of ts) d
 added_is ts n t new d lt a e at =
     let here : n ≡ part_of (histories_of ts) d = at ∙ ap (λ m. d.id % m) (sym (length_histories ts)) in

@@ -18,6 +18,3 @@ pub use laws::blend_is_answer;
 pub use reader::BlendReader;
 pub use refusal::BlendRefusal;
 pub use writer::BlendWriter;
-
-#[cfg(test)]
-mod tests;

@@ -188,7 +188,8 @@ fn meet_each(writers: &mut [Writer], indexes: &[Index], mut readers: Vec<Reader>
 fn hear_each(writers: &mut [Writer], indexes: &[Index], converters: &mut [Converter])
     requires made { indexes_of writers.old ≡ indexes.now }
     requires converters { converter_indexes_of converters.old ≡ indexes.now }
-    ensures same { writers.new ≡ writers.old }
+    ensures indexes { indexes_of writers.new ≡ indexes_of writers.old }
+    ensures histories { histories_of writers.new ≡ histories_of writers.old }
     ensures converters { converters.new ≡ converters.old }
     ensures fronts { AreFronts (converter_histories_of converters.old) (histories_of writers.new) }
     ensures closed { (σ : Setting) → All (λ w. w.setting ≡ σ) indexes.now → AllClosed σ (histories_of writers.new) (converted_of converters.old) }

@@ -7,7 +7,7 @@ use Rattle.eb_place.specs.Packed.{differences, fields, block, blocks, packed_lis
 use Rattle.eb_place.specs.Falling.{IsFalling, AllBelow}
 use Rattle.eb_block.specs.Fields.{IsHeld, IsField, HoldsFields}
 use Rattle.std.proofs.lemmas.Nat.{mul-le}
-use Rattle.eb_block.specs.Blocks.{IsPackable, most_words}
+use Rattle.eb_block.specs.Blocks.{IsPackable}
 use Rattle.eb_block.specs.Reading.{ReadsWords, loaded, up_to, HasPassed}
 use Rattle.eb_block.specs.declared.packed_list.PackedList.{PackedList}
 use Rattle.eb_place.specs.Postings.{posting_bits}
@@ -170,9 +170,10 @@ module _ (W : List ℕ) (start : ℕ) where
           body = r.body;
           index = r.index;
           at = at ∙ r.at;
-          short = r.short;
+          short = omega (arith, at, s.next, r.short);
           words_are = r.words_are;
-          next = s.next ∙ r.next;
+          near = omega (arith, s.next, r.near);
+          next = λ more. s.next ∙ r.next more;
           holds = subst (λ z. HoldsFields z q.bits r.body (differences (q.last ∷ a.ns))) (sym w) (subst (λ z. HoldsFields p.width q.bits r.body (differences (z ∷ a.ns))) (sym is) k.1);
           narrow = subst (λ z. z ≤ posting_bits) (sym w) r.narrow;
           inside = omega (arith, s.inside, r.inside, ap length a.now);
@@ -229,9 +230,10 @@ module _ (W : List ℕ) (start : ℕ) where
                 body = m.1;
                 index = r.index + 1;
                 at = at ∙ omega (arith, r.at);
-                short = omega (arith, r.short, lb);
+                short = omega (arith, at, s.next, r.short);
                 words_are = more.on;
-                next = s.next ∙ r.next ∙ omega arith;
+                near = omega (arith, s.next, r.near, lb);
+                next = λ more. omega (arith, s.next, r.next more, lb);
                 holds = subst (λ z. HoldsFields z q.bits m.1 (differences (q.last ∷ a.ns))) (sym w) (subst (λ z. HoldsFields p.width q.bits m.1 (differences (z ∷ a.ns))) (sym is) k.1);
                 narrow = subst (λ z. z ≤ posting_bits) (sym w) r.narrow;
                 inside = omega (arith, s.inside, r.inside, ap length a.now);
@@ -275,7 +277,7 @@ module _ (W : List ℕ) (start : ℕ) where
       record {
         index = i;
         inside = inside;
-        place = r.next;
+        place = r.next some;
         some = one;
         gives = λ x ex.
             (let big : 1 ≤ x = omega (arith, ex, here) in
@@ -290,6 +292,7 @@ module _ (W : List ℕ) (start : ℕ) where
                 at = r.at;
                 short = r.short;
                 words_are = r.words_are;
+                near = r.near;
                 next = r.next;
                 holds = r.holds;
                 narrow = r.narrow;
@@ -315,7 +318,7 @@ module _ (W : List ℕ) (start : ℕ) where
     pub inside : q.inside ≡ p.header % 2 ^ 8 - 1
     pub last : q.last ≡ p.header / 2 ^ 16
     pub held : q.held ≡ true
-    pub next : q.next ≡ p.next + 1 + ((p.header % 2 ^ 8 - 1) * (p.header / 2 ^ 8 % 2 ^ 8) + 63) / 64
+    pub next : q.next ≡ p.next + 1 + 2 * (p.header / 2 ^ 8 % 2 ^ 8)
     pub header : q.header ≡ 0
     pub left : q.left ≡ p.left - p.header % 2 ^ 8
 
@@ -326,7 +329,7 @@ module _ (W : List ℕ) (start : ℕ) where
     pub narrow : p.header / 2 ^ 8 % 2 ^ 8 ≤ posting_bits
     pub short : p.header % 2 ^ 8 ≤ 128
     pub full : p.header % 2 ^ 8 < p.left → p.header % 2 ^ 8 ≡ 128
-    pub room : p.next + 1 + ((p.header % 2 ^ 8 - 1) * (p.header / 2 ^ 8 % 2 ^ 8) + 63) / 64 < 2 ^ 32
+    pub room : p.next + 1 + 2 * (p.header / 2 ^ 8 % 2 ^ 8) < 2 ^ 32
     pub gives : (q : PackedList) → IsIn p q → (after : List ℕ) × (c : ℕ) × ReadsWords W start q after c × (c ≤ b) × HasPassed p rest after
 
   front_of_rest : (p : PackedList) (rest : List ℕ) (b : ℕ) → (r : ReadsWords W start p rest b) → (front : List ℕ) × (rest ≡ front ++ r.later) × (p.held ≡ false → p.inside ≡ 0 → front ≡ [])
@@ -357,36 +360,38 @@ module _ (W : List ℕ) (start : ℕ) where
           let pl : PL ≡ header_in blk ∷ (body_in blk ++ packed_list back) = ap packed_list e ∙ list_more x xs in
           let hd : p.header ≡ header_in blk = w.1 ∙ ap (λ zs. get_or zs 0 0) pl in
           let ih : IsHeader p.header blk = subst (λ z. IsHeader z blk) (sym hd) (header_read blk pk) in
+          let later_some : 1 ≤ length r.later = w.0 in
           let i = r.index + length r.body in
           let d : drop i W ≡ header_in blk ∷ (body_in blk ++ packed_list back) = sym (drop-drop (length r.body) r.index W) ∙ ap (drop (length r.body)) r.words_are
           ∙ drop_at r.body PL (length r.body) refl ∙ pl in
           let nx = next_of W i (header_in blk) (body_in blk ++ packed_list back) d in
           let lb = length-lowest_words (((length blk - 1) * width_in blk + 63) / 64) (fields (width_in blk) (differences blk)) in
-          let n_is : ((p.header % 2 ^ 8 - 1) * (p.header / 2 ^ 8 % 2 ^ 8) + 63) / 64 ≡ length (body_in blk) = ap (λ z. ((z - 1) * (p.header / 2 ^ 8 % 2 ^ 8) + 63) / 64) ih.count
-          ∙ ap (λ z. ((length blk - 1) * z + 63) / 64) ih.width ∙ sym lb in
           let ld = length-drop 127 xs in
           let lt = length-take 127 xs in
           let le = ap length e in
           let some = pk.some in
           let few = pk.few in
-          let lw = ap length nx.on in
           let la = length-append (body_in blk) (packed_list back) in
           let ldw = length-drop (i + 1) W in
           let room = r.room in
           let ins = nx.inside in
           let lpl = ap length pl in
           let bi = r.budget_is in
-          let wide : (length blk - 1) * width_in blk ≤ 127 * posting_bits = mul-le (length blk - 1) (width_in blk) 127 posting_bits (omega arith) ih.narrow in
-          let short_body : length (body_in blk) < most_words = omega (arith, lb, wide) in
+          let w = p.header / 2 ^ 8 % 2 ^ 8 in
+          let narrow : w ≤ posting_bits = subst (λ z. z ≤ posting_bits) (sym ih.width) ih.narrow in
+          let many : length (body_in blk) ≤ 2 * w = omega (arith, lb, ih.width, mul-le (length blk - 1) (width_in blk) 127 (width_in blk) (omega arith) (omega arith)) in
+          let whole : 1 ≤ length back → length (body_in blk) ≡ 2 * w = λ more. (let full : length blk ≡ 128 = omega arith in
+          omega (arith, lb, ap (λ z. ((z - 1) * width_in blk + 63) / 64) full, ih.width, ih.narrow)) in
+          let from : p.next ≡ start + i = r.next later_some in
           let lone : loaded p.header ≡ 1 = ap (λ (c : Bool). if c then 1 else 0) (lt-ltb 0 p.header h) in
           record {
             small = ih.small;
             some = omega (arith, ih.count);
             few = omega (arith, ih.count, r.left);
-            narrow = subst (λ z. z ≤ posting_bits) (sym ih.width) ih.narrow;
+            narrow = narrow;
             short = omega (arith, ih.count);
             full = λ more. omega (arith, ih.count, r.left);
-            room = omega (arith, n_is, r.next);
+            room = omega (arith, from, narrow, ins, room);
             gives = λ q s. (
               x ∷ xs,
               length (body_in blk) + length (packed_list back),
@@ -396,10 +401,11 @@ module _ (W : List ℕ) (start : ℕ) where
                 later = back;
                 body = body_in blk;
                 index = i + 1;
-                at = s.at ∙ omega (arith, r.next);
-                short = short_body;
+                at = omega (arith, s.at, from);
+                short = omega (arith, s.at, s.next, narrow);
                 words_are = nx.on;
-                next = s.next ∙ omega (arith, n_is, r.next);
+                near = omega (arith, s.next, from, many);
+                next = λ more. omega (arith, s.next, from, whole more);
                 holds = subst (λ z. HoldsFields z q.bits (body_in blk) (differences (q.last ∷ take 127 xs))) (sym (s.width
                     ∙ ih.width)) (subst (λ z. HoldsFields (width_in blk) q.bits (body_in blk) (differences (z ∷ take 127 xs))) (sym (s.last
                     ∙ ih.posting)) (body_holds blk q.bits pk s.held_bits s.low s.count));
@@ -438,6 +444,7 @@ module _ (W : List ℕ) (start : ℕ) where
           at = r.at;
           short = r.short;
           words_are = r.words_are;
+          near = r.near;
           next = r.next;
           holds = r.holds;
           narrow = r.narrow;

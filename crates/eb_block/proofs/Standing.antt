@@ -1,11 +1,14 @@
 -- A packed list at a moment: what each load of it gives, also where words grew before it.
-use Rattle.std.proofs.Common.{◌≡◌, ℕ, ◌+◌, ◌-◌, ◌*◌, ◌/◌, ◌%◌, ◌^◌, ◌<◌, ◌≤◌, true, false, List, [], ◌∷◌, length, get_or, refl, ap, sym, ◌∙◌, subst, arith, inl, inr, Some, None, Bool, if◌then◌else◌}
+use Rattle.std.proofs.Common.{◌≡◌, ℕ, suc, ◌+◌, ◌-◌, ◌*◌, ◌/◌, ◌%◌, ◌^◌, ◌<◌, ◌≤◌, true, false, List, [], ◌∷◌, length, get_or, refl, ap, sym, ◌∙◌, subst, arith}
+use Rattle.std.proofs.Common.{inl, inr, Some, None, Bool, if◌then◌else◌}
 use Rattle.std.proofs.lemmas.Bool.{cases_Bool, lt-ltb, le-ltb}
 use Rattle.std.proofs.lemmas.List.{length-reverse}
+use Rattle.std.proofs.lemmas.Nat.{mul-le}
 use Rattle.eb_base.specs.Term.{Term}
 use Rattle.eb_base.specs.Document.{Doc}
+use Rattle.eb_base.specs.Setting.{Setting, words_of}
 use Rattle.eb_place.specs.declared.moment.Moment.{Moment}
-use Rattle.eb_place.specs.Layout.{place}
+use Rattle.eb_place.specs.Layout.{place, start, size, segment_words}
 use Rattle.eb_place.specs.Layout.Slot.{slot}
 use Rattle.eb_place.specs.Layout.Region.{directory_region, packed_region}
 use Rattle.eb_place.specs.Packed.{packed, differences}
@@ -20,13 +23,30 @@ use Rattle.eb_place.proofs.EnoughPackedWords.{postings_few, length-postings}
 use Rattle.eb_place.proofs.WordsAtMoment.{setting_terms}
 use Rattle.eb_block.specs.Fields.{IsHeld, IsField}
 use Rattle.eb_place.specs.PackedLists.{IsConverted, list_start, newest_first, packed_words}
-use Rattle.eb_block.specs.Reading.{IsPackedAt, ReadsWords, ListStands, ListGives, loaded, HasPassed, IsNear, up_to}
+use Rattle.eb_block.specs.Reading.{packed_start, IsPackedAt, ReadsWords, ListStands, ListGives, loaded, HasPassed, IsNear, up_to}
 use Rattle.eb_block.specs.declared.packed_list.PackedList.{PackedList}
-use Rattle.eb_place.proofs.ConverterWords.{word_packed_list, word_directory, list_fits, later_converted, converted_segment, closed_room}
+use Rattle.eb_place.proofs.ConverterWords.{word_packed_list, word_directory, list_fits, later_converted, converted_segment, closed_room, segment_inside}
+use Rattle.eb_place.proofs.PlacesOfSlots.{place_in}
 use Rattle.eb_place.proofs.PostingsFall.{newest_falls, newest_small}
 use Rattle.eb_block.proofs.Reading.{peek_at, step_over, step_first, HasStepped, can_enter, IsIn, given, next_first}
 
 -- ---- packed words
+
+-- its place stays
+start_later : (m n : Moment) (s k : ℕ) → IsMoment m → IsNotBefore n m → IsConverted m s → packed_start m s k ≡ packed_start n s k
+start_later m n s k is l c =
+    ap (λ (σ : Setting). place σ (slot s packed_region (list_start (segment m s) k))) l.setting
+    ∙ ap (λ (seg : List Doc). place n.setting (slot s packed_region (list_start seg k))) (sym (converted_segment m n s is l c))
+
+-- the places of a region follow one another
+place_on : (σ : Setting) (s i j : ℕ) → place σ (slot s packed_region (i + j)) ≡ place σ (slot s packed_region i) + j
+unfolding place
+place_on σ s i j = omega arith
+
+-- and none of them is behind the index
+place_room : (σ : Setting) (s i : ℕ) → s < σ.segments → i ≤ 34 * σ.terms → place σ (slot s packed_region i) ≤ words_of σ
+unfolding place start
+place_room σ s i h l = let a = mul-le (suc s) (segment_words σ) σ.segments (segment_words σ) h (omega arith) in omega (arith, a)
 
 pub packed_later : (m n : Moment) (s at v : ℕ) → IsMoment m → IsNotBefore n m → IsPackedAt m s at v → IsPackedAt n s at v
 packed_later m n s at v is l h =
@@ -38,13 +58,25 @@ packed_later m n s at v is l h =
       is_term = later_term m n s h.term h.number l h.is_term;
       index = h.index;
       inside = subst (λ (seg : List Doc). h.index < length (packed h.term seg)) (sym e) h.inside;
-      place = h.place ∙ ap (λ (seg : List Doc). list_start seg h.number + h.index) (sym e);
+      stands = h.stands ∙ ap (λ z. z + h.index) (start_later m n s h.number is l h.converted);
       is = h.is ∙ ap (λ (seg : List Doc). get_or (packed h.term seg) h.index 0) (sym e);
     }
 
 -- the word there
-pub packed_value : (m : Moment) (s at v : ℕ) → IsMoment m → IsPackedAt m s at v → word m (place m.setting (slot s packed_region at)) ≡ v
-packed_value m s at v is h = ap (λ i. word m (place m.setting (slot s packed_region i))) h.place ∙ word_packed_list m s h.term h.number h.index is h.converted h.is_term h.inside ∙ sym h.is
+pub packed_value : (m : Moment) (s at v : ℕ) → IsMoment m → IsPackedAt m s at v → word m at ≡ v
+packed_value m s at v is h =
+    ap (word m) (h.stands ∙ sym (place_on m.setting s (list_start (segment m s) h.number) h.index))
+    ∙ word_packed_list m s h.term h.number h.index is h.converted h.is_term h.inside
+    ∙ sym h.is
+
+-- and it is one of the index
+pub packed_inside : (m : Moment) (s at v : ℕ) → IsMoment m → IsPackedAt m s at v → at < words_of m.setting
+unfolding size
+packed_inside m s at v is h =
+    let f = list_fits m s h.term h.number is h.converted h.is_term in
+    let ins = h.inside in
+    let on = place_on m.setting s (list_start (segment m s) h.number) h.index in
+    omega (arith, h.stands, on, place_in m.setting (slot s packed_region (list_start (segment m s) h.number + h.index)) (segment_inside m s is h.converted, omega arith))
 
 -- ---- later moments
 
@@ -52,21 +84,21 @@ pub list_stands_later : (m n : Moment) (s : ℕ) (t : Term) (p : PackedList) (re
 list_stands_later m n s t p rest b is l h =
     let e = converted_segment m n s is l h.converted in
     record {
-      of_segment = h.of_segment;
       converted = later_converted m n s l h.converted;
       number = h.number;
       is_term = later_term m n s t h.number l h.is_term;
-      reads = subst (λ (seg : List Doc). ReadsWords (packed t seg) (list_start seg h.number) p rest b) (sym e) h.reads;
+      reads = subst (λ (seg : List Doc). ReadsWords (packed t seg) (packed_start n s h.number) p rest b) (sym e) (subst (λ z. ReadsWords (packed t (segment m s)) z p rest b)
+          (start_later m n s h.number is l h.converted) h.reads);
     }
 
 -- the same place in its list, in another state
-stands_with : (m : Moment) (s : ℕ) (t : Term) (p q : PackedList) (rest after : List ℕ) (b c : ℕ) → (h : ListStands m s t p rest b) → q.segment ≡ p.segment
-    → ReadsWords (packed t (segment m s)) (list_start (segment m s) h.number) q after c → ListStands m s t q after c
-stands_with m s t p q rest after b c h e r = record { of_segment = e ∙ h.of_segment; converted = h.converted; number = h.number; is_term = h.is_term; reads = r }
+stands_with : (m : Moment) (s : ℕ) (t : Term) (p q : PackedList) (rest after : List ℕ) (b c : ℕ) → (h : ListStands m s t p rest b)
+    → ReadsWords (packed t (segment m s)) (packed_start m s h.number) q after c → ListStands m s t q after c
+stands_with m s t p q rest after b c h r = record { converted = h.converted; number = h.number; is_term = h.is_term; reads = r }
 
 packed_of : (m : Moment) (s : ℕ) (t : Term) (p : PackedList) (rest : List ℕ) (b at i : ℕ) → (h : ListStands m s t p rest b) → i < length (packed t (segment m s))
-    → at ≡ list_start (segment m s) h.number + i → IsPackedAt m p.segment at (get_or (packed t (segment m s)) i 0)
-packed_of m s t p rest b at i h l e = subst (λ v. IsPackedAt m v at (get_or (packed t (segment m s)) i 0)) (sym h.of_segment) (record {
+    → at ≡ packed_start m s h.number + i → IsPackedAt m s at (get_or (packed t (segment m s)) i 0)
+packed_of m s t p rest b at i h l e = record {
   converted = h.converted;
   term = t;
   number = h.number;
@@ -74,29 +106,29 @@ packed_of m s t p rest b at i h l e = subst (λ v. IsPackedAt m v at (get_or (pa
       h.is_term;
   index = i;
   inside = l;
-  place = e;
+  stands = e;
   is = refl;
-})
+}
 
 -- ---- the next header
 
 pub record IsNextHeader (m : Moment) (s : ℕ) (t : Term) (p : PackedList) (rest : List ℕ) (b : ℕ) : Type 0 where
   pub value : ℕ
-  pub is_packed : IsPackedAt m p.segment p.next value
+  pub is_packed : IsPackedAt m s p.next value
   pub some : 1 ≤ b
   pub gives : (n : Moment) (x : ℕ) → IsNotBefore n m → x ≡ value → (1 ≤ x) × ListStands n s t record p { header = x } rest (b - 1)
 
 pub next_header : (m : Moment) (s : ℕ) (t : Term) (p : PackedList) (rest : List ℕ) (b : ℕ) → IsMoment m → ListStands m s t p rest b → p.header ≡ 0 → 1 ≤ p.left → IsNextHeader m s t p rest b
 next_header m s t p rest b is h z l =
     let W = packed t (segment m s) in
-    let k = peek_at W (list_start (segment m s) h.number) p rest b h.reads z l in
+    let k = peek_at W (packed_start m s h.number) p rest b h.reads z l in
     record {
       value = get_or W k.index 0;
       is_packed = packed_of m s t p rest b p.next k.index h k.inside k.place;
       some = k.some;
       gives = λ n x later e. (let r = k.gives x e in (
         r.0,
-        list_stands_later m n s t record p { header = x } rest (b - 1) is later (stands_with m s t p record p { header = x } rest rest b (b - 1) h refl r.1),
+        list_stands_later m n s t record p { header = x } rest (b - 1) is later (stands_with m s t p record p { header = x } rest rest b (b - 1) h r.1),
       ));
     }
 
@@ -104,10 +136,10 @@ next_header m s t p rest b is h z l =
 
 pub record IsNextWord (m : Moment) (s : ℕ) (t : Term) (p : PackedList) (rest : List ℕ) (b : ℕ) : Type 0 where
   pub value : ℕ
-  pub is_packed : IsPackedAt m p.segment p.at value
+  pub is_packed : IsPackedAt m s p.at value
   pub some : 1 ≤ b
   pub room : p.at + 1 < 2 ^ 32
-  pub gives : (n : Moment) (q : PackedList) (field x : ℕ) → IsNotBefore n m → x ≡ value → q.segment ≡ p.segment → HasStepped (packed t (segment m s)) 0 p q → q.at ≡ p.at + 1 → IsHeld q.bits
+  pub gives : (n : Moment) (q : PackedList) (field x : ℕ) → IsNotBefore n m → x ≡ value → HasStepped (packed t (segment m s)) 0 p q → q.at ≡ p.at + 1 → IsHeld q.bits
       → IsField p.width (p.bits.low + 2 ^ p.bits.count * x) field q.bits.low → q.bits.count + p.width ≡ p.bits.count + 64 → q.last ≡ p.last - field
       → (field ≤ p.last) × (field < 2 ^ posting_bits) × ListStands n s t q rest (b - 1)
 
@@ -118,7 +150,7 @@ pub next_word : (m : Moment) (s : ℕ) (t : Term) (p : PackedList) (rest : List 
     → IsNextWord m s t p rest b
 next_word m s t p rest b is h i free few =
     let W = packed t (segment m s) in
-    let S = list_start (segment m s) h.number in
+    let S = packed_start m s h.number in
     let k = step_over W S p rest b h.reads i free few in
     let room = h.reads.room in
     let ins = k.inside in
@@ -126,21 +158,21 @@ next_word m s t p rest b is h i free few =
       value = get_or W k.index 0;
       is_packed = packed_of m s t p rest b p.at k.index h k.inside k.place;
       some = k.some;
-      room = omega (arith, k.place);
-      gives = λ n q field x later e g st at held f c last.
+      room = omega (arith, k.place, room, ins);
+      gives = λ n q field x later e st at held f c last.
           (let r = k.gives q field x e (restep W W 0 S p q st) at held f c last in
-          (r.0, r.1, list_stands_later m n s t q rest (b - 1) is later (stands_with m s t p q rest rest b (b - 1) h g r.2)));
+          (r.0, r.1, list_stands_later m n s t q rest (b - 1) is later (stands_with m s t p q rest rest b (b - 1) h r.2)));
     }
 
 -- the difference in the bits
-pub next_bits : (m : Moment) (s : ℕ) (t : Term) (p q : PackedList) (rest : List ℕ) (b field : ℕ) → ListStands m s t p rest b → 1 ≤ p.inside → p.held ≡ false → q.segment ≡ p.segment
+pub next_bits : (m : Moment) (s : ℕ) (t : Term) (p q : PackedList) (rest : List ℕ) (b field : ℕ) → ListStands m s t p rest b → 1 ≤ p.inside → p.held ≡ false
     → HasStepped (packed t (segment m s)) 0 p q → q.at ≡ p.at → IsHeld q.bits
     → IsField p.width p.bits.low field q.bits.low → q.bits.count + p.width ≡ p.bits.count → q.last ≡ p.last - field → (field ≤ p.last) × (field < 2 ^ posting_bits) × ListStands m s t q rest b
-next_bits m s t p q rest b field h i free g st at held f c last =
+next_bits m s t p q rest b field h i free st at held f c last =
     let W = packed t (segment m s) in
-    let S = list_start (segment m s) h.number in
+    let S = packed_start m s h.number in
     let r = step_first W S p q rest b field h.reads i free (restep W W 0 S p q st) at held f c last in
-    (r.0, r.1, stands_with m s t p q rest rest b b h g r.2)
+    (r.0, r.1, stands_with m s t p q rest rest b b h r.2)
 
 -- ---- the opening
 
@@ -150,21 +182,20 @@ empty_holds p held low count =
     record { held = held; small = tt; enough = omega arith; sum = ap (λ k. k + 2 ^ p.bits.count * 0) low ∙ (omega arith) }
 
 -- what an opened list is
-pub record IsOpen (p : PackedList) (s word : ℕ) : Type 0 where
-  pub of_segment : p.segment ≡ s
-  pub at : p.at ≡ word / 2 ^ 32
+pub record IsOpen (p : PackedList) (base word : ℕ) : Type 0 where
+  pub at : p.at ≡ base + word / 2 ^ 32
   pub held_bits : IsHeld p.bits
   pub low : p.bits.low ≡ 0
   pub count : p.bits.count ≡ 0
   pub width : p.width ≡ 0
   pub inside : p.inside ≡ 0
   pub held : p.held ≡ false
-  pub next : p.next ≡ word / 2 ^ 32
+  pub next : p.next ≡ base + word / 2 ^ 32
   pub header : p.header ≡ 0
   pub left : p.left ≡ word % 2 ^ 32
 
 pub start_small : (m : Moment) (s : ℕ) (t : Term) (k : ℕ) → IsMoment m → IsConverted m s → IsTerm m s t k
-    → (list_start (segment m s) k + length (packed t (segment m s)) < 2 ^ 32) × (frequency t (segment m s) < 2 ^ 32)
+    → (packed_start m s k + length (packed t (segment m s)) ≤ 2 ^ 27) × (frequency t (segment m s) < 2 ^ 32) × (list_start (segment m s) k ≤ 34 * m.setting.terms)
 start_small m s t k is c h =
     let f = list_fits m s t k is c h in
     let terms = setting_terms m.setting is.setting in
@@ -172,10 +203,24 @@ start_small m s t k is c h =
     let few = postings_few m.setting (terms_of (segment m s)) room.fits in
     let n = length-postings t (segment m s) in
     let cl = count_at_most t (terms_of (segment m s)) in
-    (omega (arith, terms.1), omega (arith, terms.1))
+    let len = length (packed t (segment m s)) in
+    let on = place_on m.setting s (list_start (segment m s) k) len in
+    let low = place_room m.setting s (list_start (segment m s) k + len) (segment_inside m s is c) f in
+    (omega (arith, on, low, is.setting.words), omega (arith, terms.1), omega (arith, f))
+
+-- where it begins is a place of the index
+pub open_room : (m : Moment) (s : ℕ) (t : Term) (k word' : ℕ) → IsMoment m → IsConverted m s → IsTerm m s t k → word' ≡ word m (place m.setting (slot s directory_region k))
+    → place m.setting (slot s packed_region 0) + word' / 2 ^ 32 ≤ 2 ^ 27
+open_room m s t k word' is c h e =
+    let S = list_start (segment m s) k in
+    let small = start_small m s t k is c h in
+    let w : word' ≡ S * 2 ^ 32 + frequency t (segment m s) = e ∙ word_directory m s t k is c h in
+    let zero : S ≡ 0 + S = omega arith in
+    let on : packed_start m s k ≡ place m.setting (slot s packed_region 0) + S = ap (λ i. place m.setting (slot s packed_region i)) zero ∙ place_on m.setting s 0 S in
+    omega (arith, small.0, small.1, on, w)
 
 pub opens : (m : Moment) (s : ℕ) (t : Term) (k word' : ℕ) (p : PackedList) → IsMoment m → IsConverted m s → IsTerm m s t k → word' ≡ word m (place m.setting (slot s directory_region k))
-    → IsOpen p s word' → ListStands m s t p (newest_first m s t) (length (packed_words m s t))
+    → IsOpen p (place m.setting (slot s packed_region 0)) word' → ListStands m s t p (newest_first m s t) (length (packed_words m s t))
 opens m s t k word' p is c h e o =
     let seg = segment m s in
     let W = packed t seg in
@@ -185,8 +230,9 @@ opens m s t k word' p is c h e o =
     let w : word' ≡ S * 2 ^ 32 + f = e ∙ word_directory m s t k is c h in
     let a : word' / 2 ^ 32 ≡ S = omega (arith, small.1) in
     let r : word' % 2 ^ 32 ≡ f = omega (arith, small.1) in
+    let zero : S ≡ 0 + S = omega arith in
+    let on : packed_start m s k ≡ place m.setting (slot s packed_region 0) + S = ap (λ i. place m.setting (slot s packed_region i)) zero ∙ place_on m.setting s 0 S in
     record {
-      of_segment = o.of_segment;
       converted = c;
       number = k;
       is_term = h;
@@ -196,10 +242,11 @@ opens m s t k word' p is c h e o =
         later = newest_first m s t;
         body = [];
         index = 0;
-        at = o.at ∙ a ∙ (omega arith);
-        short = omega arith;
+        at = omega (arith, o.at, a, on);
+        short = omega (arith, o.at, o.next);
         words_are = refl;
-        next = o.next ∙ a ∙ (omega arith);
+        near = omega (arith, o.next, a, on);
+        next = λ some. omega (arith, o.next, a, on);
         holds = empty_holds p o.held_bits o.low o.count;
         narrow = omega (arith, o.width);
         inside = o.inside;
@@ -224,9 +271,9 @@ gives_none m s t p [] b h e = (refl, h)
 gives_none m s t p (x ∷ xs) b h e = absurd cc
 
 pub gives_some : (m : Moment) (s : ℕ) (t : Term) (p : PackedList) (rest : List ℕ) (b : ℕ) → ListStands m s t p rest b → p.held ≡ true → ListGives m s t record p { held = false } rest b (Some p.last)
-gives_some m s t p rest b h held = at rest (given (packed t (segment m s)) (list_start (segment m s) h.number) p rest b h.reads held)
+gives_some m s t p rest b h held = at rest (given (packed t (segment m s)) (packed_start m s h.number) p rest b h.reads held)
   where
-    at : (rest : List ℕ) → (after : List ℕ) × (rest ≡ p.last ∷ after) × ReadsWords (packed t (segment m s)) (list_start (segment m s) h.number) record p { held = false } after b
+    at : (rest : List ℕ) → (after : List ℕ) × (rest ≡ p.last ∷ after) × ReadsWords (packed t (segment m s)) (packed_start m s h.number) record p { held = false } after b
         → ListGives m s t record p { held = false } rest b (Some p.last)
     at [] w = absurd cc
     at (x ∷ xs) w =
@@ -234,22 +281,21 @@ gives_some m s t p rest b h held = at rest (given (packed t (segment m s)) (list
         let f : xs ≡ w.0 = cc in (
           ap Some (sym e),
           record {
-            of_segment = h.of_segment;
             converted = h.converted;
             number = h.number;
             is_term = h.is_term;
             reads =
-                subst (λ zs. ReadsWords (packed t (segment m s)) (list_start (segment m s) h.number) record p { held = false } zs b) (sym f) w.2;
+                subst (λ zs. ReadsWords (packed t (segment m s)) (packed_start m s h.number) record p { held = false } zs b) (sym f) w.2;
           },
         )
 
 -- ---- the next block
 
-pub stands_in : (m : Moment) (s : ℕ) (t : Term) (p q : PackedList) (rest : List ℕ) (b : ℕ) → (h : ListStands m s t p rest b) → 1 ≤ p.header → q.segment ≡ p.segment
-    → IsIn (packed t (segment m s)) (list_start (segment m s) h.number) p q → (after : List ℕ) × (c : ℕ) × ListStands m s t q after c × (c ≤ b) × HasPassed p rest after
-stands_in m s t p q rest b h l g i =
-    let k = (can_enter (packed t (segment m s)) (list_start (segment m s) h.number) p rest b h.reads l).gives q i in
-    (k.0, k.1, record { of_segment = g ∙ h.of_segment; converted = h.converted; number = h.number; is_term = h.is_term; reads = k.2 }, k.3, k.4)
+pub stands_in : (m : Moment) (s : ℕ) (t : Term) (p q : PackedList) (rest : List ℕ) (b : ℕ) → (h : ListStands m s t p rest b) → 1 ≤ p.header
+    → IsIn (packed t (segment m s)) (packed_start m s h.number) p q → (after : List ℕ) × (c : ℕ) × ListStands m s t q after c × (c ≤ b) × HasPassed p rest after
+stands_in m s t p q rest b h l i =
+    let k = (can_enter (packed t (segment m s)) (packed_start m s h.number) p rest b h.reads l).gives q i in
+    (k.0, k.1, record { converted = h.converted; number = h.number; is_term = h.is_term; reads = k.2 }, k.3, k.4)
 
 -- ---- passing over postings
 
@@ -258,10 +304,10 @@ pub drop_held : (m : Moment) (s : ℕ) (t : Term) (p : PackedList) (rest : List 
     → (after : List ℕ) × ListStands m s t record p { held = false } after b × (up_to most after ≡ up_to most rest)
 drop_held m s t p rest b most h o = elim (cases_Bool p.held) [
   | inl held ↦
-      let g = given (packed t (segment m s)) (list_start (segment m s) h.number) p rest b h.reads held in
+      let g = given (packed t (segment m s)) (packed_start m s h.number) p rest b h.reads held in
       let above : most < p.last = o held in (
         g.0,
-        stands_with m s t p record p { held = false } rest g.0 b b h refl g.2,
+        stands_with m s t p record p { held = false } rest g.0 b b h g.2,
         sym (ap (up_to most) g.1 ∙ ap (λ (c : Bool). if c then up_to most g.0 else (p.last ∷ g.0)) (lt-ltb most p.last above)),
       )
   | inr free ↦ (rest, subst (λ (q : PackedList). ListStands m s t q rest b) (ap (λ (c : Bool). record p { held = c }) free) h, refl)
@@ -270,14 +316,14 @@ drop_held m s t p rest b most h o = elim (cases_Bool p.held) [
 -- at a posting that isn't above, nothing is passed over
 pub at_it : (m : Moment) (s : ℕ) (t : Term) (p : PackedList) (rest : List ℕ) (b most : ℕ) → ListStands m s t p rest b → p.held ≡ true → p.last ≤ most → up_to most rest ≡ rest
 at_it m s t p rest b most h held l =
-    let g = given (packed t (segment m s)) (list_start (segment m s) h.number) p rest b h.reads held in
+    let g = given (packed t (segment m s)) (packed_start m s h.number) p rest b h.reads held in
     ap (up_to most) g.1 ∙ ap (λ (c : Bool). if c then up_to most g.0 else (p.last ∷ g.0)) (le-ltb most p.last l) ∙ sym g.1
 
 -- nor where the block is read to its end and the next one begins below
 pub at_end : (m : Moment) (s : ℕ) (t : Term) (p q : PackedList) (rest : List ℕ) (b most : ℕ) → (h : ListStands m s t q rest b) → q.held ≡ false → q.inside ≡ 0 → q.left ≡ p.left
     → q.header ≡ p.header → (p.held ≡ true → most < p.last) → IsNear most p → up_to most rest ≡ rest
 at_end m s t p q rest b most h free none left header o near =
-    let r = next_first (packed t (segment m s)) (list_start (segment m s) h.number) q rest b h.reads free none in
+    let r = next_first (packed t (segment m s)) (packed_start m s h.number) q rest b h.reads free none in
     at near r
   where
     at : IsNear most p → (q.left ≡ 0 → rest ≡ []) × (1 ≤ q.header → (x : ℕ) × (xs : List ℕ) × (rest ≡ x ∷ xs) × (x ≡ q.header / 2 ^ 16)) → up_to most rest ≡ rest

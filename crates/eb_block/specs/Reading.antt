@@ -2,6 +2,9 @@
 use Rattle.std.specs.Prelude.{◌≡◌, ℕ, ◌+◌, ◌<◌, ◌≤◌, ◌^◌, ◌/◌, ◌⊎◌, true, false, List, [], ◌∷◌, ◌++◌, length, drop, get_or, Option, Some, None, if◌then◌else◌, nat_lt}
 use Rattle.eb_base.specs.Term.{Term}
 use Rattle.eb_place.specs.declared.moment.Moment.{Moment}
+use Rattle.eb_place.specs.Layout.{place}
+use Rattle.eb_place.specs.Layout.Slot.{slot}
+use Rattle.eb_place.specs.Layout.Region.{packed_region}
 use Rattle.eb_place.specs.Packed.{differences, packed_list, packed}
 use Rattle.eb_place.specs.Seen.{segment}
 use Rattle.eb_place.specs.Walk.{IsTerm}
@@ -12,7 +15,11 @@ use Rattle.eb_place.specs.Postings.{posting_bits}
 use Rattle.eb_place.specs.PackedLists.{IsConverted, list_start}
 use Rattle.eb_block.specs.declared.packed_list.PackedList.{PackedList}
 
--- this packed word of a converted segment is this word of the packed list of a term
+-- the place where the packed list of term number k of a segment begins
+abbrev pub packed_start : Moment → ℕ → ℕ → ℕ
+packed_start m s k = place m.setting (slot s packed_region (list_start (segment m s) k))
+
+-- the word at this place is, in a converted segment, this word of the packed list of a term
 pub record IsPackedAt (m : Moment) (s at value : ℕ) : Type 0 where
   pub converted : IsConverted m s
   pub term : Term
@@ -20,7 +27,7 @@ pub record IsPackedAt (m : Moment) (s at value : ℕ) : Type 0 where
   pub is_term : IsTerm m s term number
   pub index : ℕ
   pub inside : index < length (packed term (segment m s))
-  pub place : at ≡ list_start (segment m s) number + index
+  pub stands : at ≡ packed_start m s number + index
   pub is : value ≡ get_or (packed term (segment m s)) index 0
 
 -- one where a header is loaded
@@ -30,15 +37,16 @@ loaded header = if nat_lt 0 header then 1 else 0
 -- the list reads these words, which begin at `start`: it has still to give `rest`, and may load as many
 -- words as the budget says
 pub record ReadsWords (words : List ℕ) (start : ℕ) (p : PackedList) (rest : List ℕ) (budget : ℕ) : Type 0 where
-  pub room : start + length words < 2 ^ 32
+  pub room : start + length words ≤ 2 ^ 27
   pub now : List ℕ
   pub later : List ℕ
   pub body : List ℕ
   pub index : ℕ
   pub at : p.at ≡ start + index
-  pub short : length body < most_words
+  pub short : p.next < p.at + most_words
   pub words_are : drop index words ≡ body ++ packed_list later
-  pub next : p.next ≡ start + (index + length body)
+  pub near : start + (index + length body) ≤ p.next
+  pub next : 1 ≤ length later → p.next ≡ start + (index + length body)
   pub holds : HoldsFields p.width p.bits body (differences (p.last ∷ now))
   pub narrow : p.width ≤ posting_bits
   pub inside : p.inside ≡ length now
@@ -62,11 +70,10 @@ seek_loads passed = passed / 128 + 1 + most_words
 -- of the postings of the term in segment s, which is converted, the list has still to give these, and it
 -- may load as many words as the budget says
 pub record ListStands (m : Moment) (s : ℕ) (t : Term) (p : PackedList) (rest : List ℕ) (budget : ℕ) : Type 0 where
-  pub of_segment : p.segment ≡ s
   pub converted : IsConverted m s
   pub number : ℕ
   pub is_term : IsTerm m s t number
-  pub reads : ReadsWords (packed t (segment m s)) (list_start (segment m s) number) p rest budget
+  pub reads : ReadsWords (packed t (segment m s)) (packed_start m s number) p rest budget
 
 -- what a call gave: the newest of what was left, none after the oldest
 abbrev pub ListGives : Moment → ℕ → Term → PackedList → List ℕ → ℕ → Option ℕ → Type 0

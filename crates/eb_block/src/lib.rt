@@ -15,6 +15,3 @@ pub const BLOCK_POSTINGS: usize = 128;
 
 /// The most words of a block: its header, and 127 differences of the bits of a posting.
 pub const BLOCK_WORDS: usize = 1 + ((BLOCK_POSTINGS - 1) * POSTING_BITS as usize + 63) / 64;
-
-#[cfg(test)]
-mod tests;

@@ -1,11 +1,11 @@
-ghost use Rattle.std.specs.Prelude.{◌≡◌, ℕ, List, [], ◌+◌, ◌-◌, ◌*◌, ◌≤◌, ◌<◌, ◌/◌, length, true, false};
+ghost use Rattle.std.specs.Prelude.{◌≡◌, ℕ, List, [], ◌+◌, ◌-◌, ◌*◌, ◌≤◌, ◌<◌, ◌/◌, ◌%◌, ◌^◌, length, true, false};
 ghost use Rattle.std.specs.Bool.{MatchBool};
 ghost use Rattle.eb_base.specs.Term.{Term};
 ghost use Rattle.eb_place.specs.declared.moment.Moment.{Moment};
 ghost use Rattle.eb_place.specs.Told.{Told};
 ghost use Rattle.eb_place.specs.Walk.{IsTerm};
 ghost use Rattle.eb_place.specs.PackedLists.{IsConverted, newest_first, packed_words};
-ghost use Rattle.eb_block.specs.Reading.{ListStands, IsPackedAt, ListGives, HasPassed, IsNear, up_to, remaining, seek_loads};
+ghost use Rattle.eb_block.specs.Reading.{ListStands, IsPackedAt, ListGives, HasPassed, IsNear, up_to, remaining, loaded, seek_loads};
 
 use crate::bits::Bits;
 use crate::blocks::{count_in, posting_in, width_in};
@@ -16,16 +16,15 @@ use std::sync::ledger::Ledger;
 /// word is loaded once at most.
 #[derive(Clone, Copy, Debug, PartialEq, Eq)]
 pub struct PackedList {
-    segment: u32,
-    // Of the block that is read: the next word to be loaded, the bits and the width of its fields, how many
-    // differences are left, and the last posting that was read; `held` where it is still to be given.
+    // Of the block that is read: the place of the next word to be loaded, the bits and the width of its fields,
+    // how many differences are left, and the last posting that was read; `held` where it is still to be given.
     at: u32,
     bits: Bits,
     width: u32,
     inside: u32,
     last: Posting,
     held: bool,
-    // Of the blocks after it: the word where they begin, the header there if it is loaded, else 0, and how
+    // Of the blocks after it: the place where they begin, the header there if it is loaded, else 0, and how
     // many postings they have.
     next: u32,
     header: u64,
@@ -48,9 +47,9 @@ impl PackedList {
     {
         let places = Places::new(port.config());
         let word = port.load(places.directory(segment, term), steps);
-        let start = (word >> 32) as u32;
+        let base = places.packed(segment, 0);
+        let start = base as u32 + (word >> 32) as u32;
         PackedList {
-            segment,
             at: start,
             bits: Bits::none(),
             width: 0,
@@ -77,11 +76,35 @@ impl PackedList {
             (λ m. ListStands m s t self.old rest budget) (λ n. (b : ℕ) × ListGives n s t self.new rest b result × (steps.new + b ≤ steps.old + budget)) }
         ensures one { steps.new ≤ steps.old + 1 }
     {
-        if !self.hold(port, steps) {
-            return None;
-        }
-        self.held = false;
-        Some(self.last)
+        self.give(port, steps)
+    }
+
+    /// The newest posting at or below `most` that wasn't given yet; those above it are passed for good, and `None`
+    /// comes exactly where none is left. As a `seek` and a `next`, in locals. The port's moment isn't before that of
+    /// the opening. Takes no memory.
+    pub fn next_at_most<P: Port, L: Ledger>(
+        &mut self,
+        port: &mut P,
+        most: Posting,
+        steps: &mut Steps<L>,
+    ) -> Option<Posting>
+        requires { (m : Moment) × (s : ℕ) × (t : Term) × (rest : List ℕ) × (budget : ℕ)
+            × P.stands port.old m × ListStands m s t self.old rest budget }
+        ensures told { (s : ℕ) (t : Term) (rest : List ℕ) (budget : ℕ) → Told P.stands P.keeps port.old port.new
+            (λ m. ListStands m s t self.old rest budget)
+            (λ n. (b : ℕ) × ListGives n s t self.new (up_to most rest) b result × (steps.new + b ≤ steps.old + budget)) }
+        ensures loads { (m : Moment) (s : ℕ) (t : Term) (rest : List ℕ) (budget : ℕ)
+            → P.stands port.old m → ListStands m s t self.old rest budget
+            → steps.new ≤ steps.old + seek_loads (length rest - length (up_to most rest)) + 1 }
+        ensures few { (m : Moment) (s : ℕ) (t : Term) (rest : List ℕ) (budget : ℕ)
+            → P.stands port.old m → ListStands m s t self.old rest budget
+            → steps.new ≤ steps.old + (length rest - length (up_to most rest)) + 4 }
+    {
+        let mut list = *self;
+        list.seek(port, most, steps);
+        let given = list.give(port, steps);
+        *self = list;
+        given
     }
 
     /// How many postings the list has still to give. Loads nothing.
@@ -96,6 +119,7 @@ impl PackedList {
     /// alone, so that it loads one word for each 128 postings that it passes over and at most 66 more, and
     /// never more than three above one for each posting that it passes over. The port's moment isn't before
     /// that of the opening. Takes no memory.
+    #[inline(always)]
     pub fn seek<P: Port, L: Ledger>(&mut self, port: &mut P, most: Posting, steps: &mut Steps<L>)
         requires { (m : Moment) × (s : ℕ) × (t : Term) × (rest : List ℕ) × (budget : ℕ)
             × P.stands port.old m × ListStands m s t self.old rest budget }
@@ -112,7 +136,24 @@ impl PackedList {
         self.seek_posting(port, most, steps);
     }
 
+    // The newest posting that wasn't given yet.
+    #[inline(always)]
+    fn give<P: Port, L: Ledger>(&mut self, port: &mut P, steps: &mut Steps<L>) -> Option<Posting>
+        requires { (m : Moment) × (s : ℕ) × (t : Term) × (rest : List ℕ) × (budget : ℕ)
+            × P.stands port.old m × ListStands m s t self.old rest budget }
+        ensures told { (s : ℕ) (t : Term) (rest : List ℕ) (budget : ℕ) → Told P.stands P.keeps port.old port.new
+            (λ m. ListStands m s t self.old rest budget) (λ n. (b : ℕ) × ListGives n s t self.new rest b result × (steps.new + b ≤ steps.old + budget)) }
+        ensures one { steps.new ≤ steps.old + 1 }
+    {
+        if !self.hold(port, steps) {
+            return None;
+        }
+        self.held = false;
+        Some(self.last)
+    }
+
     // Passes over the blocks that are all above.
+    #[inline(always)]
     fn seek_block<P: Port, L: Ledger>(&mut self, port: &mut P, most: Posting, steps: &mut Steps<L>)
         requires { (m : Moment) × (s : ℕ) × (t : Term) × (rest : List ℕ) × (budget : ℕ)
             × P.stands port.old m × ListStands m s t self.old rest budget }
@@ -128,6 +169,7 @@ impl PackedList {
     }
 
     // Passes over the postings of the block that are above.
+    #[inline(always)]
     fn seek_posting<P: Port, L: Ledger>(
         &mut self,
         port: &mut P,
@@ -148,13 +190,15 @@ impl PackedList {
     }
 
     // Whether a posting is held that isn't above.
+    #[inline(always)]
     fn is_at(&self, most: Posting) -> bool
         ensures { MatchBool result ((self.now.held ≡ true) × (self.now.last ≤ most)) (self.now.held ≡ true → most < self.now.last) }
     {
         self.held && self.last <= most
     }
 
-    // Goes to the next block, where all before it is above.
+    // Goes to the next block, where all before it is above, and on over those behind it that have its width.
+    #[inline(always)]
     fn pass_block<P: Port, L: Ledger>(
         &mut self,
         port: &mut P,
@@ -165,10 +209,13 @@ impl PackedList {
             × P.stands port.old m × ListStands m s t self.old rest budget }
         ensures near { result ≡ false → IsNear most self.new }
         ensures less { result ≡ true → self.new.left < self.old.left }
-        ensures one { steps.new ≤ steps.old + 1 }
-        ensures stays { result ≡ false → remaining self.new ≡ remaining self.old }
-        ensures enters { result ≡ true → remaining self.new ≡ self.old.left }
-        ensures full { result ≡ true → 1 ≤ self.new.left → self.new.left + 128 ≡ self.old.left }
+        ensures same { result ≡ false → remaining self.new ≡ remaining self.old }
+        ensures stays { result ≡ false → steps.new + loaded self.old.header ≤ steps.old + loaded self.new.header }
+        ensures fewer { result ≡ true → remaining self.new ≤ self.old.left }
+        ensures goes { result ≡ true → 128 * steps.new + remaining self.new + 128 * loaded self.old.header
+            ≤ 128 * steps.old + self.old.left + 128 + 128 * loaded self.new.header }
+        ensures whole { result ≡ true → 1 ≤ self.new.left → 128 * steps.new + self.new.left + 128 * loaded self.old.header
+            ≤ 128 * steps.old + self.old.left + 128 * loaded self.new.header }
         ensures told { (s : ℕ) (t : Term) (rest : List ℕ) (budget : ℕ) → Told P.stands P.keeps port.old port.new
             (λ m. ListStands m s t self.old rest budget)
             (λ n. (after : List ℕ) × (b : ℕ) × ListStands n s t self.new after b × (steps.new + b ≤ steps.old + budget)
@@ -185,10 +232,69 @@ impl PackedList {
             return false;
         }
         self.enter();
+        self.pass_alike(port, most, steps);
+        true
+    }
+
+    // Goes on over the blocks behind a whole one that have its width and begin above. Where the next header lies
+    // needs no header then, so that a processor that guesses right loads several at once.
+    #[inline(always)]
+    fn pass_alike<P: Port, L: Ledger>(&mut self, port: &mut P, most: Posting, steps: &mut Steps<L>)
+        requires reads { (m : Moment) × (s : ℕ) × (t : Term) × (rest : List ℕ) × (budget : ℕ)
+            × P.stands port.old m × ListStands m s t self.old rest budget }
+        requires held { self.old.held ≡ true }
+        requires fresh { self.old.header ≡ 0 }
+        requires full { 1 ≤ self.old.left → self.old.inside ≡ 127 }
+        ensures less { self.new.left ≤ self.old.left }
+        ensures fewer { remaining self.new ≤ remaining self.old }
+        ensures loads { 128 * steps.new + remaining self.new ≤ 128 * steps.old + remaining self.old + 128 * loaded self.new.header }
+        ensures whole { 1 ≤ self.new.left → 128 * steps.new + self.new.left ≤ 128 * steps.old + self.old.left + 128 * loaded self.new.header }
+        ensures told { (s : ℕ) (t : Term) (rest : List ℕ) (budget : ℕ) → Told P.stands P.keeps port.old port.new
+            (λ m. ListStands m s t self.old rest budget)
+            (λ n. (after : List ℕ) × (b : ℕ) × ListStands n s t self.new after b × (steps.new + b ≤ steps.old + budget)
+            × (up_to most after ≡ up_to most rest)) }
+    {
+        'alike: while self.pass_like(port, most, steps) {}
+    }
+
+    // Goes to the next block, where it has the width of this one, begins above and isn't the last.
+    #[inline(always)]
+    fn pass_like<P: Port, L: Ledger>(
+        &mut self,
+        port: &mut P,
+        most: Posting,
+        steps: &mut Steps<L>,
+    ) -> bool
+        requires { (m : Moment) × (s : ℕ) × (t : Term) × (rest : List ℕ) × (budget : ℕ)
+            × P.stands port.old m × ListStands m s t self.old rest budget }
+        ensures stays { result ≡ false → self.new ≡ record self.old { header = self.new.header } }
+        ensures waits { result ≡ false → steps.new + loaded self.old.header ≤ steps.old + loaded self.new.header }
+        ensures held { result ≡ true → self.new.held ≡ true }
+        ensures full { result ≡ true → self.new.inside ≡ 127 }
+        ensures less { result ≡ true → self.new.left + 128 ≡ self.old.left }
+        ensures fresh { result ≡ true → self.new.header ≡ 0 }
+        ensures goes { result ≡ true → steps.new + loaded self.old.header ≤ steps.old + 1 }
+        ensures told { (s : ℕ) (t : Term) (rest : List ℕ) (budget : ℕ) → Told P.stands P.keeps port.old port.new
+            (λ m. ListStands m s t self.old rest budget)
+            (λ n. (after : List ℕ) × (b : ℕ) × ListStands n s t self.new after b × (steps.new + b ≤ steps.old + budget)
+            × (up_to most after ≡ up_to most rest)) }
+    {
+        if self.left <= 128 {
+            return false;
+        }
+        self.peek(port, steps);
+        if posting_in(self.header) <= most {
+            return false;
+        }
+        if width_in(self.header) != self.width {
+            return false;
+        }
+        self.enter_like();
         true
     }
 
     // Passes over one posting of the block, where it is above.
+    #[inline(always)]
     fn pass_one<P: Port, L: Ledger>(
         &mut self,
         port: &mut P,
@@ -221,6 +327,7 @@ impl PackedList {
     }
 
     // Reads the next posting, where none is held and one is left.
+    #[inline(always)]
     fn hold<P: Port, L: Ledger>(&mut self, port: &mut P, steps: &mut Steps<L>) -> bool
         requires { (m : Moment) × (s : ℕ) × (t : Term) × (rest : List ℕ) × (budget : ℕ)
             × P.stands port.old m × ListStands m s t self.old rest budget }
@@ -245,6 +352,7 @@ impl PackedList {
     }
 
     // Reads the next posting of the block, where none is held.
+    #[inline(always)]
     fn step<P: Port, L: Ledger>(&mut self, port: &mut P, steps: &mut Steps<L>)
         requires reads { (m : Moment) × (s : ℕ) × (t : Term) × (rest : List ℕ) × (budget : ℕ)
             × P.stands port.old m × ListStands m s t self.old rest budget }
@@ -268,7 +376,7 @@ impl PackedList {
             self.last -= field;
             return;
         }
-        let word = packed_word(port, self.segment, self.at, steps);
+        let word = packed_word(port, self.at, steps);
         let (field, bits) = self.bits.first_over(word, self.width);
         self.at += 1;
         self.bits = bits;
@@ -276,6 +384,7 @@ impl PackedList {
     }
 
     // Loads the header of the next block, where it isn't loaded.
+    #[inline(always)]
     fn peek<P: Port, L: Ledger>(&mut self, port: &mut P, steps: &mut Steps<L>)
         requires reads { (m : Moment) × (s : ℕ) × (t : Term) × (rest : List ℕ) × (budget : ℕ)
             × P.stands port.old m × ListStands m s t self.old rest budget }
@@ -283,20 +392,23 @@ impl PackedList {
         ensures loaded { 1 ≤ self.new.header }
         ensures same { self.new ≡ record self.old { header = self.new.header } }
         ensures one { steps.new ≤ steps.old + 1 }
+        ensures paid { steps.new + loaded self.old.header ≡ steps.old + 1 }
         ensures told { (s : ℕ) (t : Term) (rest : List ℕ) (budget : ℕ) → Told P.stands P.keeps port.old port.new
             (λ m. ListStands m s t self.old rest budget) (λ n. (b : ℕ) × ListStands n s t self.new rest b × (steps.new + b ≡ steps.old + budget)) }
     {
         if self.header > 0 {
             return;
         }
-        self.header = packed_word(port, self.segment, self.next, steps);
+        self.header = packed_word(port, self.next, steps);
     }
 
     // Goes to the next block, whose header is loaded, and holds its first posting.
+    #[inline(always)]
     fn enter(&mut self)
         requires reads { (m : Moment) × (s : ℕ) × (t : Term) × (rest : List ℕ) × (budget : ℕ) × ListStands m s t self.old rest budget }
         requires loaded { 1 ≤ self.old.header }
         ensures held { self.new.held ≡ true }
+        ensures fresh { self.new.header ≡ 0 }
         ensures less { self.new.left < self.old.left }
         ensures count { self.new.inside + 1 + self.new.left ≡ self.old.left }
         ensures full { 1 ≤ self.new.left → self.new.inside ≡ 127 }
@@ -312,18 +424,44 @@ impl PackedList {
         self.inside = count - 1;
         self.last = posting_in(header);
         self.held = true;
-        self.next = self.at + ((count - 1) * width + 63) / 64;
+        // A block before the last has 127 differences, in twice as many words as these have bits.
+        self.next = self.at + 2 * width;
         self.header = 0;
         self.left -= count;
+    }
+
+    // The same where it is a whole one of the width of this block.
+    #[inline(always)]
+    fn enter_like(&mut self)
+        requires reads { (m : Moment) × (s : ℕ) × (t : Term) × (rest : List ℕ) × (budget : ℕ) × ListStands m s t self.old rest budget }
+        requires loaded { 1 ≤ self.old.header }
+        requires many { 128 < self.old.left }
+        requires alike { self.old.header / 2 ^ 8 % 2 ^ 8 ≡ self.old.width }
+        ensures held { self.new.held ≡ true }
+        ensures fresh { self.new.header ≡ 0 }
+        ensures full { self.new.inside ≡ 127 }
+        ensures less { self.new.left + 128 ≡ self.old.left }
+        ensures told { (m : Moment) (s : ℕ) (t : Term) (rest : List ℕ) (budget : ℕ) → ListStands m s t self.old rest budget
+            → (after : List ℕ) × (b : ℕ) × ListStands m s t self.new after b × (b ≤ budget) × HasPassed self.old rest after }
+    {
+        let last = posting_in(self.header);
+        self.at = self.next + 1;
+        self.bits = Bits::none();
+        self.inside = 127;
+        self.last = last;
+        self.held = true;
+        self.next = self.at + 2 * self.width;
+        self.header = 0;
+        self.left -= 128;
     }
 }
 
 // A packed word. Ticks one load.
-fn packed_word<P: Port, L: Ledger>(port: &mut P, segment: u32, at: u32, steps: &mut Steps<L>) -> u64
-    requires { (m : Moment) × (value : ℕ) × P.stands port.old m × IsPackedAt m segment at value }
-    ensures told { (value : ℕ) → Told P.stands P.keeps port.old port.new (λ m. IsPackedAt m segment at value) (λ n. result ≡ value) }
+#[inline(always)]
+fn packed_word<P: Port, L: Ledger>(port: &mut P, at: u32, steps: &mut Steps<L>) -> u64
+    requires { (m : Moment) × (s : ℕ) × (value : ℕ) × P.stands port.old m × IsPackedAt m s at value }
+    ensures told { (s value : ℕ) → Told P.stands P.keeps port.old port.new (λ m. IsPackedAt m s at value) (λ n. result ≡ value) }
     ensures step { steps.new ≡ steps.old + 1 }
 {
-    let places = Places::new(port.config());
-    port.load(places.packed(segment, at), steps)
+    port.load(u64::from(at), steps)
 }

@@ -9,8 +9,5 @@ mod next_place;
 mod writing;
 
 pub use chain::Chain;
-pub use new_slices::{NewSlices, needs};
+pub use new_slices::{NewSlices, needs, needs_next};
 pub use writing::append;
-
-#[cfg(test)]
-mod tests;

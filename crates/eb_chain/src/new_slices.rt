@@ -1,7 +1,7 @@
-ghost use Rattle.std.specs.Prelude.{◌≡◌, ℕ, ◌≤◌, ◌<◌, ◌^◌};
+ghost use Rattle.std.specs.Prelude.{◌≡◌, ℕ, ◌+◌, ◌-◌, ◌%◌, ◌==◌, ◌&&◌, ◌≤◌, ◌<◌, ◌^◌, nat_le};
 ghost use Rattle.eb_base.specs.Document.{most_tokens};
 ghost use Rattle.eb_place.specs.Room.{slices};
-ghost use Rattle.eb_chain.specs.Needs.{IsTailWord, TakesSlices, HasLike};
+ghost use Rattle.eb_chain.specs.Needs.{IsTailWord, TakesSlices, BeginsSlice, HasLike};
 
 use eb_place::{offset_of, pool_of};
 
@@ -34,6 +34,29 @@ pub fn needs(tail: u64, postings: u32) -> NewSlices
         pool2: slices_in(2, after) - slices_in(2, before),
         pool3: slices_in(3, after) - slices_in(3, before),
     }
+}
+
+/// The new slices that one more posting of a term takes behind so many further ones of one document, by the term's tail
+/// word: at most one, which this posting begins. Takes no memory.
+pub fn needs_next(tail: u64, postings: u32) -> NewSlices
+    requires tail { (f : ℕ) × IsTailWord f tail }
+    requires few { postings ≤ most_tokens }
+    ensures { (f : ℕ) → IsTailWord f tail → BeginsSlice (f + postings) result }
+{
+    let before = least_before(tail) + postings;
+    NewSlices {
+        pool0: u32::from(before == 0),
+        pool1: u32::from(before == 2),
+        pool2: u32::from(before == 17),
+        pool3: u32::from(begins_last(before)),
+    }
+}
+
+// Whether the posting that comes after so many begins a slice of pool 3.
+fn begins_last(before: u32) -> bool
+    ensures { result ≡ (nat_le 144 before && ((before - 144) % 2047 == 0)) }
+{
+    before >= 144 && (before - 144) % 2047 == 0
 }
 
 // The least number of postings of a term that has this tail word. Slices of pool 3 are alike, so a tail

@@ -1,6 +1,6 @@
 //! The first postings of each term of a query.
 ghost use Rattle.std.specs.Prelude.{◌≡◌, ℕ, ◌+◌, ◌*◌, ◌<◌, ◌≤◌};
-ghost use Rattle.std.specs.Prelude.{false, List, [], ◌∷◌, length, if◌then◌else◌};
+ghost use Rattle.std.specs.Prelude.{List, [], ◌∷◌, length, if◌then◌else◌};
 ghost use Rattle.eb_base.specs.Document.{Doc};
 ghost use Rattle.eb_base.specs.Query.{tree, word, window, conjunction, size, sizes, IsFormed, AreFormed};
 ghost use Rattle.eb_place.specs.Postings.{places};
@@ -12,7 +12,7 @@ ghost use Rattle.eb_cursor.specs.Opened.{CanOpen};
 ghost use Rattle.eb_cursor.specs.Finds.{OpensIn, BeginsIn};
 ghost use Rattle.eb_cursor.specs.Posted.{is_posting};
 ghost use Rattle.eb_cursor.specs.Ready.{IsLeaf, IsBound, Ready};
-ghost use Rattle.eb_cursor.specs.Costs.{Costs, FirstCosts, Spans, AllSpan, IsPaid, IsReading, opening_loads, word_loads};
+ghost use Rattle.eb_cursor.specs.Costs.{Costs, FirstCosts, Spans, AllSpan, IsPaid, IsReadAs, IsReading, opening_loads, word_loads};
 ghost use Rattle.eb_cursor.specs.AndCosts.{word_parts, documents_with, all_opening_loads, and_loads, AndOwes};
 ghost use Rattle.eb_cursor.specs.Asked.{trees_in};
 ghost use Rattle.eb_cursor.specs.Begun.{AreClear, CanBegin, Begun, BegunLeaves, BegunEach, BegunSome};
@@ -36,7 +36,7 @@ pub fn clear(cursors: &mut [Cursor])
     clear(rest);
 }
 
-// OpensIn the list of a term and reads its first posting.
+// Opens the list of a term and reads its first posting.
 fn open_leaf<P: Port, L: Ledger>(
     term: &Term,
     segment: u32,
@@ -49,7 +49,7 @@ fn open_leaf<P: Port, L: Ledger>(
         (λ docs n. IsLeaf (gives n) (is_posting docs term.now) result (places * length docs)) }
     ensures costs { (was : Moment) → Told P.stands P.keeps port.old port.new (λ m. IsReading was m segment packed)
         (λ n. IsPaid (Costs n segment term.now result.list) steps.old (word_loads was n segment term.now) steps.new) }
-    ensures spans { packed ≡ false → Told P.stands P.keeps port.old port.new (λ m. segment < m.setting.segments)
+    ensures spans { Told P.stands P.keeps port.old port.new (λ m. IsReadAs m segment packed)
         (λ n. IsPaid (Spans n segment term.now result.list) steps.old (opening_loads n segment term.now + 2) steps.new) }
 {
     let mut list = PostingList::open(term, segment, packed, port, steps);
@@ -63,7 +63,7 @@ fn open_leaf<P: Port, L: Ledger>(
     }
 }
 
-// OpensIn the lists of the terms of a phrase or a window, up to the first that stands in no document.
+// Opens the lists of the terms of a phrase or a window, up to the first that stands in no document.
 fn begin_leaves<P: Port, L: Ledger>(
     terms: &[Term],
     cursors: &mut [Cursor],
@@ -96,7 +96,7 @@ fn end_if(some: bool, end: u64) -> u64
     if some { end } else { 0 }
 }
 
-// BeginsIn a window of these terms, as `begin` does.
+// Begins a window of these terms, as `begin` does.
 fn begin_window<P: Port, L: Ledger>(
     terms: &[Term],
     cursors: &mut [Cursor],
@@ -119,7 +119,7 @@ fn begin_window<P: Port, L: Ledger>(
     all
 }
 
-// BeginsIn a bound on the id, as `begin` does. Loads nothing.
+// Begins a bound on the id, as `begin` does. Loads nothing.
 fn begin_bound(cursor: &mut Cursor, segment: u32, documents: u32)
     ensures { (n : Moment) (docs : List Doc) (x : ℕ) → length docs ≡ documents → AreFirst n segment docs
         → IsBound (gives n) docs x cursor.new (length docs) }
@@ -130,8 +130,7 @@ fn begin_bound(cursor: &mut Cursor, segment: u32, documents: u32)
     cursor.current = last_before(end);
 }
 
-/// BeginsIn a query, as [`begin`] does, whose loads are bounded where it is a word or an and of words. Packed lists
-/// are read only for a word; all parts of another query read live slices.
+/// Begins a query, as [`begin`] does, whose loads are bounded where it is a word or an and of words.
 pub fn begin_query<P: Port, L: Ledger>(
     query: &Query,
     cursors: &mut [Cursor],
@@ -151,7 +150,7 @@ pub fn begin_query<P: Port, L: Ledger>(
     ensures costs { (was : Moment) (t : List ℕ) → tree query.now ≡ word t → Told P.stands P.keeps port.old port.new
         (λ m. IsReading was m segment packed) (λ n. IsPaid (FirstCosts n segment t cursors.new) steps.old (word_loads was n segment t) steps.new) }
     ensures rounds { (docs : List Doc) (ts : List (List ℕ)) (t : List ℕ) → tree query.now ≡ conjunction (word_parts ts)
-        → length docs ≡ documents → Told P.stands P.keeps port.old port.new (λ m. segment < m.setting.segments)
+        → length docs ≡ documents → Told P.stands P.keeps port.old port.new (λ m. IsReadAs m segment packed)
         (λ n. IsPaid (AndOwes n segment docs ts t cursors.new) steps.old (and_loads n segment ts (documents_with docs t)) steps.new) }
 {
     match query {
@@ -161,21 +160,19 @@ pub fn begin_query<P: Port, L: Ledger>(
                 parts.as_slice(),
                 cursors,
                 segment,
-                false,
+                packed,
                 documents,
                 port,
                 steps,
             );
         }
-        // Where parts leap, a seek in a packed list would decode most of a block, while a leap over slices
-        // looks at some twenty words.
         _ => {
-            begin(query, cursors, segment, false, documents, port, steps);
+            begin(query, cursors, segment, packed, documents, port, steps);
         }
     }
 }
 
-/// BeginsIn a query at the end of the first `documents` documents of a segment. False only where none of
+/// Begins a query at the end of the first `documents` documents of a segment. False only where none of
 /// them matches; a term that stands in none ends a word, a phrase, a window and an and at once. In an and and
 /// a phrase the part leads that is likely the rarest. A bound on the id loads nothing yet.
 #[cycle(begin)]
@@ -194,8 +191,8 @@ pub fn begin<P: Port, L: Ledger>(
     requires clear { AreClear cursors.old }
     requires first { CanBegin P.stands port.old segment documents packed }
     ensures begun { BeginsIn P.stands P.keeps port.old port.new segment documents packed (λ docs. Begun docs (tree query.now) cursors.new result) }
-    ensures spans { (t : List ℕ) → tree query.now ≡ word t → packed ≡ false
-        → Told P.stands P.keeps port.old port.new (λ m. segment < m.setting.segments)
+    ensures spans { (t : List ℕ) → tree query.now ≡ word t
+        → Told P.stands P.keeps port.old port.new (λ m. IsReadAs m segment packed)
         (λ n. IsPaid (AllSpan n segment (t ∷ []) cursors.new) steps.old (opening_loads n segment t + 2) steps.new) }
 {
     let end = u64::from(documents);
@@ -263,7 +260,7 @@ pub fn begin<P: Port, L: Ledger>(
     }
 }
 
-// BeginsIn an and of these parts, as `begin` does.
+// Begins an and of these parts, as `begin` does.
 #[cycle(begin)]
 fn begin_and<P: Port, L: Ledger>(
     parts: &[Query],
@@ -281,8 +278,8 @@ fn begin_and<P: Port, L: Ledger>(
     requires first { CanBegin P.stands port.old segment documents packed }
     ensures begun { BeginsIn P.stands P.keeps port.old port.new segment documents packed
         (λ docs. Begun docs (conjunction (trees_in parts.now)) cursors.new result) }
-    ensures rounds { (docs : List Doc) (ts : List (List ℕ)) (t : List ℕ) → trees_in parts.now ≡ word_parts ts → packed ≡ false
-        → length docs ≡ documents → Told P.stands P.keeps port.old port.new (λ m. segment < m.setting.segments)
+    ensures rounds { (docs : List Doc) (ts : List (List ℕ)) (t : List ℕ) → trees_in parts.now ≡ word_parts ts
+        → length docs ≡ documents → Told P.stands P.keeps port.old port.new (λ m. IsReadAs m segment packed)
         (λ n. IsPaid (AndOwes n segment docs ts t cursors.new) steps.old (and_loads n segment ts (documents_with docs t)) steps.new) }
 {
     let Some((own, rest)) = cursors.split_first_mut() else {
@@ -295,7 +292,7 @@ fn begin_and<P: Port, L: Ledger>(
     all
 }
 
-// BeginsIn the parts of an and, up to the first that matches no document.
+// Begins the parts of an and, up to the first that matches no document.
 #[cycle(begin)]
 fn begin_each<P: Port, L: Ledger>(
     parts: &[Query],
@@ -313,8 +310,8 @@ fn begin_each<P: Port, L: Ledger>(
     requires first { CanBegin P.stands port.old segment documents packed }
     ensures begun { BeginsIn P.stands P.keeps port.old port.new segment documents packed
         (λ docs. BegunEach docs (trees_in parts.now) cursors.new result) }
-    ensures spans { (ts : List (List ℕ)) → trees_in parts.now ≡ word_parts ts → packed ≡ false
-        → Told P.stands P.keeps port.old port.new (λ m. segment < m.setting.segments)
+    ensures spans { (ts : List (List ℕ)) → trees_in parts.now ≡ word_parts ts
+        → Told P.stands P.keeps port.old port.new (λ m. IsReadAs m segment packed)
         (λ n. IsPaid (AllSpan n segment ts cursors.new) steps.old (all_opening_loads n segment ts) steps.new) }
 {
     let Some((part, others)) = parts.split_first() else {
@@ -327,7 +324,7 @@ fn begin_each<P: Port, L: Ledger>(
     begin_each(others, rest, segment, packed, documents, port, steps)
 }
 
-// BeginsIn the parts of an or.
+// Begins the parts of an or.
 #[cycle(begin)]
 fn begin_some<P: Port, L: Ledger>(
     parts: &[Query],

@@ -4,7 +4,7 @@ ghost use Rattle.eb_cursor.specs.declared.posting_list.PostingList.TheVariants.{
 ghost use Rattle.eb_cursor.specs.Loads.{ahead};
 ghost use Rattle.eb_cursor.specs.Asked.{CanAskLeaf};
 ghost use Rattle.eb_cursor.specs.Finds.{FindsLeaf};
-ghost use Rattle.eb_cursor.specs.Costs.{Costs, Spans, leap_loads, look_loads, Pays, PaysBesides};
+ghost use Rattle.eb_cursor.specs.Costs.{Costs, Spans, look_loads, Pays, PaysBesides};
 
 use crate::posting_list::PostingList;
 use eb_place::{Port, Posting, Steps};
@@ -65,8 +65,7 @@ pub fn walk_below<P: Port, L: Ledger>(
     0
 }
 
-/// One more than the greatest number of the list below `end`, or 0. The next posting is looked at first;
-/// where it isn't the one, the list leaps.
+/// One more than the greatest number of the list below `end`, or 0, by a leap.
 pub fn leaf_below<P: Port, L: Ledger>(
     cursor: &mut Cursor,
     port: &mut P,
@@ -78,29 +77,6 @@ pub fn leaf_below<P: Port, L: Ledger>(
     ensures found { FindsLeaf P.stands P.keeps port.old port.new cursor.old cursor.new end result }
     ensures loads { steps.new + 4 * ahead cursor.new.current ≤ steps.old + 4 * ahead cursor.old.current }
     ensures spans { PaysBesides P.stands P.keeps port.old port.new Spans cursor.old.list cursor.new.list look_loads steps.old steps.new }
-{
-    let Some(posting) = cursor.current else {
-        return 0;
-    };
-    if posting < end {
-        return posting + 1;
-    }
-    cursor.current = cursor.list.next(port, steps);
-    leap_below(cursor, port, steps, end)
-}
-
-// The same by a leap at once.
-fn leap_below<P: Port, L: Ledger>(
-    cursor: &mut Cursor,
-    port: &mut P,
-    steps: &mut Steps<L>,
-    end: u64,
-) -> u64
-    requires { CanAskLeaf P.stands port.old cursor.old end }
-    ensures upto { cursor.new.upto ≡ cursor.old.upto }
-    ensures found { FindsLeaf P.stands P.keeps port.old port.new cursor.old cursor.new end result }
-    ensures loads { steps.new + 4 * ahead cursor.new.current ≤ steps.old + 4 * ahead cursor.old.current }
-    ensures spans { PaysBesides P.stands P.keeps port.old port.new Spans cursor.old.list cursor.new.list leap_loads steps.old steps.new }
 {
     let Some(posting) = cursor.current else {
         return 0;

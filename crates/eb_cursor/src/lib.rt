@@ -15,6 +15,3 @@ mod size;
 mod window;
 
 pub use frame::Frame;
-
-#[cfg(test)]
-mod tests;

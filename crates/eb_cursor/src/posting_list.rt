@@ -1,9 +1,12 @@
 //! Where the postings of a term come from.
-ghost use Rattle.std.specs.Prelude.{◌≡◌, ℕ, ◌+◌, ◌-◌, ◌*◌, ◌<◌, ◌≤◌, false, List, length};
+ghost use Rattle.std.specs.Prelude.{◌≡◌, ℕ, ◌+◌, ◌-◌, ◌*◌, ◌<◌, ◌≤◌, List, length};
 ghost use Rattle.std.specs.Bool.{MatchBool};
 ghost use Rattle.eb_place.specs.declared.moment.Moment.{Moment};
 ghost use Rattle.eb_place.specs.Told.{Told};
-ghost use Rattle.eb_cursor.specs.Costs.{Costs, Spans, leap_loads, opening_loads, IsPaid, IsReading, Pays, PaysBesides, word_loads};
+ghost use Rattle.eb_cursor.specs.Costs.{Costs, Spans, look_loads, opening_loads, IsPaid, IsReadAs, IsReading, Pays, PaysBesides, word_loads};
+ghost use Rattle.eb_base.specs.Term.{Term};
+ghost use Rattle.eb_chain.specs.Chains.{Stands, Given};
+ghost use Rattle.eb_chain.specs.Leaps.{at_most, slices_in_use};
 ghost use Rattle.eb_cursor.specs.Finds.{OpensIn};
 ghost use Rattle.eb_cursor.specs.Lists.{list_gives, CanGive, Gave, from_below};
 ghost use Rattle.eb_cursor.specs.Opened.{CanOpen, Opened};
@@ -54,7 +57,7 @@ impl PostingList {
         ensures opened { OpensIn P.stands P.keeps port.old port.new segment packed (λ docs n. Opened n docs term.now result) }
         ensures costs { (was : Moment) → Told P.stands P.keeps port.old port.new (λ m. IsReading was m segment packed)
             (λ n. IsPaid (Costs n segment term.now result) steps.old (word_loads was n segment term.now) steps.new) }
-        ensures spans { packed ≡ false → Told P.stands P.keeps port.old port.new (λ m. segment < m.setting.segments)
+        ensures spans { Told P.stands P.keeps port.old port.new (λ m. IsReadAs m segment packed)
             (λ n. IsPaid (Spans n segment term.now result) steps.old (opening_loads n segment term.now) steps.new) }
     {
         let Some(number) = find(port, segment, term, steps) else {
@@ -85,7 +88,8 @@ impl PostingList {
         }
     }
 
-    /// The newest posting at or below `most`; those above it are passed for good. Takes no memory.
+    /// The newest posting at or below `most`; those above it are passed for good. In live slices the next posting is
+    /// looked at first; where it isn't the one, the list leaps. Takes no memory.
     pub fn next_at_most<P: Port, L: Ledger>(
         &mut self,
         port: &mut P,
@@ -97,15 +101,12 @@ impl PostingList {
             (λ m. list_gives m self.old xs) (Gave (from_below (most + 1) xs) self.new result) }
         ensures loads { (m : Moment) (xs : List ℕ) → P.stands port.old m → list_gives m self.old xs
             → steps.new ≤ steps.old + 2 * (length xs - length (from_below (most + 1) xs) + 1) + 2 }
-        ensures spans { PaysBesides P.stands P.keeps port.old port.new Spans self.old self.new leap_loads steps.old steps.new }
+        ensures spans { PaysBesides P.stands P.keeps port.old port.new Spans self.old self.new look_loads steps.old steps.new }
     {
         match self {
             PostingList::Empty => None,
-            PostingList::Live(chain) => chain.next_at_most(port, most, steps),
-            PostingList::Packed(list) => {
-                list.seek(port, most, steps);
-                list.next(port, steps)
-            }
+            PostingList::Live(chain) => look_at_most(chain, port, most, steps),
+            PostingList::Packed(list) => list.next_at_most(port, most, steps),
         }
     }
 
@@ -118,4 +119,33 @@ impl PostingList {
             PostingList::Packed(list) => list.postings_left(),
         }
     }
+}
+
+// The newest posting of a chain at or below `most`. The next posting is looked at first; where it isn't the one, the
+// chain leaps.
+#[inline(always)]
+fn look_at_most<P: Port, L: Ledger>(
+    chain: &mut Chain,
+    port: &mut P,
+    most: Posting,
+    steps: &mut Steps<L>,
+) -> Option<Posting>
+    requires { (m : Moment) × (s : ℕ) × (t : Term) × (opened : ℕ) × (rest : List ℕ)
+        × P.stands port.old m × Stands m s t chain.old opened rest }
+    ensures told { (s : ℕ) (t : Term) (opened : ℕ) (rest : List ℕ) → Told P.stands P.keeps port.old port.new
+        (λ m. Stands m s t chain.old opened rest) (λ n. Given n s t chain.new opened (at_most most rest) result) }
+    ensures loads { (m : Moment) (s : ℕ) (t : Term) (opened : ℕ) (rest : List ℕ)
+        → P.stands port.old m → Stands m s t chain.old opened rest
+        → steps.new ≤ steps.old + 2 * (length rest - length (at_most most rest) + 1) + 2 }
+    ensures spans { (m : Moment) (s : ℕ) (t : Term) (opened : ℕ) (rest : List ℕ)
+        → P.stands port.old m → Stands m s t chain.old opened rest
+        → steps.new + 2 * slices_in_use (length (at_most most rest)) ≤ steps.old + 2 * slices_in_use (length rest) + look_loads }
+{
+    let Some(posting) = chain.next(port, steps) else {
+        return None;
+    };
+    if posting <= most {
+        return Some(posting);
+    }
+    chain.next_at_most(port, most, steps)
 }

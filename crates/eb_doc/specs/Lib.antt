@@ -1,2 +1,4 @@
 pub mod DocumentLine
 pub mod Faults
+pub mod Seen
+pub mod Looked

@@ -3,21 +3,29 @@
 #![tactic(auto)]
 
 ghost use Rattle.std.specs.Prelude.{◌≡◌, ◌⊎◌, Ok, Err, IfOk, IfErr, Some, None, option_map};
+ghost use Rattle.serde_json.specs.Data.{Data};
 ghost use Rattle.serde_json.specs.View.{view};
 ghost use Rattle.eb_text.specs.Tokens.{tokens_of};
 ghost use Rattle.eb_doc.specs.DocumentLine.{document_of, value_of, message, with_value};
 ghost use Rattle.eb_doc.specs.DocumentLine as spec;
+ghost use Rattle.eb_doc.specs.Seen.{Tells};
 ghost use Rattle.eb_doc.specs.declared.LineFault.TheVariants.{NoMemory as out_of_memory};
 
+mod look;
+mod members;
+mod numbers;
+mod passing;
+mod seen;
+
+use crate::look::{Look, look_at};
+use crate::seen::Members;
 use eb_base::{Document, NoMemory};
 use eb_text::tokens;
+use json::Scratch;
 use serde_json::Value;
 use std::alloc::Global;
 use std::error::Error;
 use std::fmt;
-
-#[cfg(test)]
-mod tests;
 
 /// Why a document line gives no document.
 #[derive(Clone, Copy, Debug, PartialEq, Eq)]
@@ -59,6 +67,36 @@ impl From<NoMemory> for LineFault {
     }
 }
 
+/// Reads document lines, one after the other: the room that reading a line takes is kept for the next one.
+#[derive(Drop)]
+pub struct DocumentReader {
+    alloc: Global,
+    scratch: Scratch,
+}
+
+impl DocumentReader {
+    /// A reader. Takes no memory.
+    pub fn new(alloc: Global) -> DocumentReader {
+        DocumentReader {
+            alloc,
+            scratch: Scratch::new(alloc),
+        }
+    }
+
+    /// The document that a line is, as [`read_document`] says.
+    pub fn read(&mut self, line: &[u8]) -> Result<Document, LineFault>
+        ensures document { IfOk result (λ document. document_of line.now ≡ Ok document) }
+        ensures refused { IfErr result (λ fault. (fault ≡ LineFault.NoMemory) ⊎ (document_of line.now ≡ Err fault)) }
+    {
+        match look_at(line, &mut self.scratch) {
+            Ok(Look::Object(found)) => document_by(self.alloc, found),
+            Ok(Look::NoJson) => Err(LineFault::BadJson),
+            Ok(Look::Other) => read_by_value(self.alloc, line),
+            Err(NoMemory) => Err(LineFault::NoMemory),
+        }
+    }
+}
+
 /// The document that a line is: its id, and the tokens of its text as terms. The line is any bytes,
 /// without the LF that ends it. Members other than `id` and `text` may hold anything and are passed
 /// over; where a name stands twice, the last value counts.
@@ -68,10 +106,33 @@ pub fn read_document(alloc: Global, line: &[u8]) -> Result<Document, LineFault>
     ensures document { IfOk result (λ document. document_of line.now ≡ Ok document) }
     ensures refused { IfErr result (λ fault. (fault ≡ LineFault.NoMemory) ⊎ (document_of line.now ≡ Err fault)) }
 {
+    let mut reader = DocumentReader::new(alloc);
+    reader.read(line)
+}
+
+// The document that a line is, by its value.
+fn read_by_value(alloc: Global, line: &[u8]) -> Result<Document, LineFault>
+    ensures document { IfOk result (λ document. document_of line.now ≡ Ok document) }
+    ensures refused { IfErr result (λ fault. (fault ≡ LineFault.NoMemory) ⊎ (document_of line.now ≡ Err fault)) }
+{
     match read_value(alloc, line) {
         Ok(value) => document_in(alloc, &value),
         Err(fault) => Err(fault),
     }
+}
+
+// The document of an object of which this is seen.
+fn document_by(alloc: Global, found: Members<'_>) -> Result<Document, LineFault>
+    ensures document { IfOk result (λ document. (d : Data) → Tells found.entry d → with_value (Some d) ≡ Ok document) }
+    ensures refused { IfErr result (λ fault. (fault ≡ LineFault.NoMemory) ⊎ ((d : Data) → Tells found.entry d → with_value (Some d) ≡ Err fault)) }
+{
+    let Some(id) = found.id else {
+        return Err(LineFault::BadDocument);
+    };
+    let Some(text) = found.text else {
+        return Err(LineFault::BadDocument);
+    };
+    make_document(alloc, id, text)
 }
 
 // The JSON value that the line is.

@@ -53,6 +53,12 @@ finds_more k l seen counted most q found h s =
 pub stays : (p : PlacerProgress) (m n : Moment) → IsMoment n → IsNotBefore n m → n.documents ≡ m.documents → PlacerStands p m → IsMoment n × PlacerStands p n
 stays p m n is l e h = (is, stands_same p m n l e h)
 
+-- what is converted stays converted
+pub packed_rises : (m n : Moment) (k : ℕ) → IsNotBefore n m → k ≤ m.conversions.converted → k ≤ n.conversions.converted
+packed_rises m n k l h =
+    ⊎_elim (λ (x : m.conversions.converted < n.conversions.converted). omega arith)
+    (λ (x : (m.conversions.converted ≡ n.conversions.converted) × (m.conversions.packed ≤ n.conversions.packed)). omega (arith, x.0)) l.conversions
+
 -- two lists that are fronts of each other are one
 pub same_fronts : {A : Type 0} (xs ys : List A) → IsPrefix xs ys → IsPrefix ys xs → xs ≡ ys
 same_fronts xs ys p q = prefix_whole xs ys p (prefix_length ys xs q)

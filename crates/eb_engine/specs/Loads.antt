@@ -14,15 +14,17 @@ use Rattle.eb_search.specs.Bounds.{load_bound, and_bound}
 pub record IsWithinBound (was now : Moment) (t : Term) (counted ids before after : ℕ) : Type 0 where
   pub few : after ≤ before + load_bound was now counted t ids
 
--- a search of the word that knew the first documents of the history when it began, knows these when it ends, and answered so many
--- ids, made no more loads than its bound, from a moment at which what it knew is accepted to one at which what it knows is
-pub record IsBounded (σ : Setting) (knew knows : List Doc) (t : Term) (ids before after : ℕ) : Type 0 where
+-- a search of the word that knew the first documents of the history and so many converted segments when it began, knows these documents
+-- when it ends, and answered so many ids, made no more loads than its bound, from a moment at which the documents that it knew are
+-- accepted and the segments converted, to one at which those that it knows are accepted
+pub record IsBounded (σ : Setting) (knew : List Doc) (converted : ℕ) (knows : List Doc) (t : Term) (ids before after : ℕ) : Type 0 where
   pub was : Moment
   pub now : Moment
   pub is : IsMoment now
   pub later : IsNotBefore now was
   pub setting : now.setting ≡ σ
   pub knew_then : IsPrefix knew was.documents.accepted
+  pub packed_then : converted ≤ was.conversions.converted
   pub knows_now : IsPrefix knows now.documents.accepted
   pub loads : IsWithinBound was now t (length knows) ids before after
 

@@ -1,5 +1,6 @@
 //! What is done through a seat at the words: searches, adds and conversions.
-ghost use Rattle.std.specs.Prelude.{◌≡◌, ℕ, List, ◌+◌, ◌<◌, length, IfOk, OnErr};
+ghost use Rattle.std.specs.Prelude.{◌≡◌, ℕ, List, ◌+◌, ◌-◌, ◌++◌, ◌<◌, ◌≤◌, length, take, IfOk, OnErr};
+ghost use Rattle.eb_base.specs.Match.{answer};
 ghost use Rattle.eb_base.specs.Query.{word, conjunction};
 ghost use Rattle.eb_convert.specs.Converting.{IsConversion};
 ghost use Rattle.eb_cursor.specs.AndCosts.{word_parts};
@@ -16,7 +17,7 @@ use eb_base::{Document, Gate};
 use eb_convert::{Converted, convert_next};
 use eb_cursor::Frame;
 use eb_place::Steps;
-use eb_search::search;
+use eb_search::{search, search_first};
 use eb_table::{
     ConverterPort, ConverterSeat, ReaderPort, ReaderSeat, SharedWords, WriterPort, WriterSeat,
 };
@@ -45,6 +46,27 @@ pub(crate) fn search_words<G: Gate, L: Ledger>(
     search(&mut port, frame, gate, steps)
 }
 
+// A search by a reader's seat of exactly the first `count` documents that it knows, behind what the frame holds.
+pub(crate) fn search_known_words<L: Ledger>(
+    seat: &mut ReaderSeat,
+    words: &SharedWords,
+    count: u64,
+    frame: &mut Frame,
+    steps: &mut Steps<L>,
+)
+    requires made { MadeWith seat.old words.now }
+    requires count { count ≤ length seat.old.moment.documents.accepted }
+    ensures made { MadeWith seat.new words.now }
+    ensures later { IsNotBefore seat.new.moment seat.old.moment }
+    ensures query { query_of frame.new ≡ query_of frame.old }
+    ensures k { k_of frame.new ≡ k_of frame.old }
+    ensures ids { ids_of frame.new
+        ≡ ids_of frame.old ++ answer (query_of frame.old) (k_of frame.old - length (ids_of frame.old)) (take count seat.old.moment.documents.accepted) }
+{
+    let mut port = ReaderPort { seat, words };
+    search_first(&mut port, count, frame, steps)
+}
+
 // An add by the writer's seat.
 pub(crate) fn add_to_words(
     placer: &mut Placer,
@@ -59,6 +81,7 @@ pub(crate) fn add_to_words(
     ensures ok { IfOk result (λ count. HasRoom seat.old.moment.setting seat.old.moment.documents.accepted document.now
         × IsAccepted seat.old.moment seat.new.moment document.now × (count ≡ length seat.old.moment.documents.accepted + 1)) }
     ensures full { OnErr result (HasNoRoom seat.old.moment document.now × (seat.new.moment.documents ≡ seat.old.moment.documents)) }
+    ensures later { IsNotBefore seat.new.moment seat.old.moment }
 {
     let mut pen = WriterPort { seat, words };
     placer.add(&mut pen, document)

@@ -1,4 +1,4 @@
-ghost use Rattle.std.specs.Prelude.{◌≡◌, [], IfOk};
+ghost use Rattle.std.specs.Prelude.{◌≡◌, [], None, IfOk};
 
 use crate::converter::Converter;
 use crate::writer::Writer;
@@ -29,8 +29,8 @@ impl Index {
     /// kept then.
     pub fn open(alloc: Global, config: Config) -> Result<(Index, Writer, Converter), NoMemory>
         ensures setting { IfOk result (λ r. r.0.setting ≡ config) }
-        ensures writer { IfOk result (λ r. r.1 ≡ record { index = r.0; docs = [] }) }
-        ensures converter { IfOk result (λ r. r.2 ≡ record { index = r.0; docs = []; converted = 0 }) }
+        ensures writer { IfOk result (λ r. r.1 ≡ record { index = r.0; docs = []; converted = 0 }) }
+        ensures converter { IfOk result (λ r. r.2 ≡ record { index = r.0; docs = []; placing = None; converted = 0 }) }
     {
         let (words, writer, converter) = SharedWords::open(alloc, config)?;
         Ok((

@@ -17,6 +17,3 @@ pub use converter::Converter;
 pub use index::Index;
 pub use reader::Reader;
 pub use writer::Writer;
-
-#[cfg(test)]
-mod tests;

@@ -1,4 +1,4 @@
-ghost use Rattle.std.specs.Prelude.{◌≡◌, ℕ, List, ◌≤◌, ◌⊎◌, length};
+ghost use Rattle.std.specs.Prelude.{◌≡◌, ℕ, List, ◌≤◌, ◌-◌, ◌++◌, ◌⊎◌, length, max};
 ghost use mathlib.Core.List.{IsPrefix};
 ghost use Rattle.eb_base.specs.Match.{answer};
 ghost use Rattle.eb_base.specs.Query.{word, conjunction};
@@ -8,7 +8,7 @@ ghost use Rattle.eb_place.specs.Moments.{IsMoment};
 ghost use Rattle.eb_engine.specs.Loads.{IsBounded, IsAndBounded};
 ghost use Rattle.eb_engine.specs.Tokens.{index_of, first_of};
 
-use crate::calls::search_words;
+use crate::calls::{search_known_words, search_words};
 use crate::index::Index;
 use eb_base::Gate;
 use eb_cursor::Frame;
@@ -18,13 +18,15 @@ use std::marker::Model;
 use std::sync::ledger::Ledger;
 
 /// A reader of an index; there may be any number, each on a thread of its own. Contracts see the documents that it
-/// knows: those that it was told of, and those that its searches found. They are the first ones of the writer's
-/// history.
+/// knows, those that it was told of and those that its searches found, which are the first ones of the writer's
+/// history; and how many segments it was told are converted.
 #[derive(Drop)]
 pub struct Reader {
     seat: ReaderSeat,
     // How many documents it knows: the first ones of those that its seat knows.
     seen: u64,
+    // How many segments it was told are converted.
+    converted: u32,
 }
 
 impl Model for Reader {
@@ -34,18 +36,24 @@ impl Model for Reader {
 
     ghost Value = { HistoryToken };
 
-    ghost view = { λ r. record { index = index_of r.seat; docs = first_of r.seen r.seat } };
+    ghost view = { λ r. record { index = index_of r.seat; docs = first_of r.seen r.seat; converted = r.converted } };
 
-    ghost invariant = { λ r. IsMoment r.seat.moment × (r.seen ≤ length r.seat.moment.documents.accepted) };
+    ghost invariant = { λ r. IsMoment r.seat.moment × (r.seen ≤ length r.seat.moment.documents.accepted)
+        × (r.converted ≤ r.seat.moment.conversions.converted) };
 }
 
 impl Reader {
-    pub(crate) fn new(seat: ReaderSeat, seen: u64) -> Reader
+    pub(crate) fn new(seat: ReaderSeat, seen: u64, converted: u32) -> Reader
         requires moment { IsMoment seat.moment }
         requires seen { seen ≤ length seat.moment.documents.accepted }
-        ensures { result ≡ record { index = index_of seat; docs = first_of seen seat } }
+        requires converted { converted ≤ seat.moment.conversions.converted }
+        ensures { result ≡ record { index = index_of seat; docs = first_of seen seat; converted = converted } }
     {
-        Reader { seat, seen }
+        Reader {
+            seat,
+            seen,
+            converted,
+        }
     }
 
     // What the seat knows begins with what the reader knows.
@@ -54,7 +62,11 @@ impl Reader {
         ensures index { index_of result ≡ self.index }
         ensures docs { IsPrefix self.docs result.moment.documents.accepted }
     {
-        let Reader { seat, seen: _ } = self;
+        let Reader {
+            seat,
+            seen: _,
+            converted: _,
+        } = self;
         seat
     }
 
@@ -65,7 +77,7 @@ impl Reader {
         ensures reader { result ≡ self.old }
     {
         let seat = self.seat.split(&index.words);
-        Reader::new(seat, self.seen)
+        Reader::new(seat, self.seen, self.converted)
     }
 
     /// Searches the documents that are accepted when it loads their count, which is its result: afterwards the frame
@@ -75,8 +87,8 @@ impl Reader {
     /// of a word. A search of a word makes a bounded number of loads (`IsBounded`): one for the count, two for each
     /// segment of the setting, one for each id, and in each segment that holds one of these documents those that
     /// find the word and those of its list, which is the packed one where the segment was converted when the search
-    /// began. So does a search of an And of words (`IsAndBounded`), by the documents that have the rarest of them in each
-    /// segment. The reader must have been made with this index. Takes no memory.
+    /// began, so at least where the reader was told that it is. So does a search of an And of words
+    /// (`IsAndBounded`), by the documents that have the rarest of them in each segment. The reader must have been made with this index. Takes no memory.
     pub fn search<G: Gate, L: Ledger>(
         &mut self,
         index: &Index,
@@ -87,18 +99,37 @@ impl Reader {
         requires { self.old.index ≡ index.now }
         ensures index { self.new.index ≡ self.old.index }
         ensures known { IsPrefix self.old.docs self.new.docs }
+        ensures converted { self.new.converted ≡ self.old.converted }
         ensures count { result ≡ length self.new.docs }
         ensures query { query_of frame.new ≡ query_of frame.old }
         ensures k { k_of frame.new ≡ k_of frame.old }
         ensures ids { ids_of frame.new ≡ answer (query_of frame.old) (k_of frame.old) self.new.docs }
         ensures loads { (t : List ℕ) → query_of frame.old ≡ word t
-            → IsBounded index.now.setting self.old.docs self.new.docs t (length (ids_of frame.new)) steps.old steps.new }
+            → IsBounded index.now.setting self.old.docs self.old.converted self.new.docs t (length (ids_of frame.new)) steps.old steps.new }
         ensures rounds { (ts : List (List ℕ)) → query_of frame.old ≡ conjunction (word_parts ts)
             → IsAndBounded index.now.setting self.new.docs ts (length (ids_of frame.new)) steps.old steps.new }
     {
         let count = search_words(&mut self.seat, &index.words, frame, gate, steps);
         self.seen = count;
         count
+    }
+
+    /// Searches exactly the documents that this reader knows, and finds out about no others: the ids of the newest
+    /// matches stand behind those that the frame holds, as many as it still takes. So one frame goes through several
+    /// indexes, from the newest to the oldest. The reader must have been made with this index. Takes no memory.
+    pub fn search_known<L: Ledger>(
+        &mut self,
+        index: &Index,
+        frame: &mut Frame,
+        steps: &mut Steps<L>,
+    )
+        requires { self.old.index ≡ index.now }
+        ensures same { self.new ≡ self.old }
+        ensures query { query_of frame.new ≡ query_of frame.old }
+        ensures k { k_of frame.new ≡ k_of frame.old }
+        ensures ids { ids_of frame.new ≡ ids_of frame.old ++ answer (query_of frame.old) (k_of frame.old - length (ids_of frame.old)) self.old.docs }
+    {
+        search_known_words(&mut self.seat, &index.words, self.seen, frame, steps);
     }
 
     /// How many documents it knows.
@@ -108,8 +139,9 @@ impl Reader {
         self.seen
     }
 
-    /// Takes in another reader: what both knew are fronts of one history, and this reader then knows the longer. Both
-    /// must have been made with this index. Takes no memory.
+    /// Takes in another reader: what both knew are fronts of one history, and this reader then knows the longer, and as
+    /// many converted segments as the one that was told of more. Both must have been made with this index. Takes no
+    /// memory.
     pub fn meet(&mut self, index: &Index, other: Reader)
         requires this { self.old.index ≡ index.now }
         requires other { other.index ≡ index.now }
@@ -117,9 +149,15 @@ impl Reader {
         ensures this { IsPrefix self.old.docs self.new.docs }
         ensures other { IsPrefix other.docs self.new.docs }
         ensures longer { (self.new.docs ≡ self.old.docs) ⊎ (self.new.docs ≡ other.docs) }
+        ensures converted { self.new.converted ≡ max self.old.converted other.converted }
     {
-        let Reader { seat, seen } = other;
+        let Reader {
+            seat,
+            seen,
+            converted,
+        } = other;
         self.seat.meet(&index.words, seat);
+        self.converted = self.converted.max(converted);
         if self.seen < seen {
             self.seen = seen;
         }

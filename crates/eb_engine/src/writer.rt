@@ -1,4 +1,4 @@
-ghost use Rattle.std.specs.Prelude.{◌≡◌, ℕ, List, ◌++◌, ◌∷◌, [], false, length, IfOk, OnErr};
+ghost use Rattle.std.specs.Prelude.{◌≡◌, ℕ, List, ◌++◌, ◌∷◌, [], false, length, max, IfOk, OnErr};
 ghost use mathlib.Core.List.{IsPrefix};
 ghost use Rattle.eb_base.specs.Match.{answer};
 ghost use Rattle.eb_base.specs.Query.{word, conjunction};
@@ -22,34 +22,38 @@ use std::marker::Model;
 use std::sync::ledger::Ledger;
 
 /// The one writer of an index. It may go to a thread of its own. Contracts see its history: the documents that it
-/// added, in order.
+/// added, in order; and how many segments it was told are converted.
 #[derive(Drop)]
 pub struct Writer {
     seat: WriterSeat,
     placer: Placer,
+    // How many segments it was told are converted.
+    converted: u32,
 }
 
 impl Model for Writer {
+    ghost use Rattle.std.specs.Prelude.{◌≤◌};
     ghost use Rattle.eb_place.specs.Moments.{IsMoment};
     ghost use Rattle.eb_writer.specs.Progress.{PlacerStands};
     ghost use Rattle.eb_engine.specs.Tokens.{HistoryToken, index_of};
 
     ghost Value = { HistoryToken };
 
-    ghost view = { λ w. record { index = index_of w.seat; docs = w.seat.moment.documents.accepted } };
+    ghost view = { λ w. record { index = index_of w.seat; docs = w.seat.moment.documents.accepted; converted = w.converted } };
 
-    ghost invariant = { λ w. IsMoment w.seat.moment × PlacerStands w.placer w.seat.moment };
+    ghost invariant = { λ w. IsMoment w.seat.moment × PlacerStands w.placer w.seat.moment × (w.converted ≤ w.seat.moment.conversions.converted) };
 }
 
 impl Writer {
     pub(crate) fn new(seat: WriterSeat, config: Config) -> Writer
         requires moment { seat.moment ≡ empty_moment config }
         requires lawful { IsMoment seat.moment }
-        ensures { result ≡ record { index = index_of seat; docs = [] } }
+        ensures { result ≡ record { index = index_of seat; docs = []; converted = 0 } }
     {
         Writer {
             seat,
             placer: Placer::new(config),
+            converted: 0,
         }
     }
 
@@ -64,7 +68,8 @@ impl Writer {
     ) -> Result<u64, Full>
         requires { self.old.index ≡ index.now }
         ensures ok { IfOk result (λ n. HasRoom index.now.setting self.old.docs document.now
-            × (self.new ≡ record { index = self.old.index; docs = self.old.docs ++ document.now ∷ [] }) × (n ≡ length self.new.docs)) }
+            × (self.new ≡ record { index = self.old.index; docs = self.old.docs ++ document.now ∷ []; converted = self.old.converted })
+            × (n ≡ length self.new.docs)) }
         ensures full { OnErr result ((has_room index.now.setting self.old.docs document.now ≡ false) × (self.new ≡ self.old)) }
     {
         let count = add_to_words(&mut self.placer, &mut self.seat, &index.words, document)?;
@@ -86,14 +91,15 @@ impl Writer {
         self.placer.segments()
     }
 
-    /// A reader that knows the whole history. The writer must have been made with this index. Takes no memory.
+    /// A reader that knows the whole history, and as many converted segments as the writer was told of. The writer must
+    /// have been made with this index. Takes no memory.
     pub fn reader(&mut self, index: &Index) -> Reader
         requires { self.old.index ≡ index.now }
         ensures this { self.new ≡ self.old }
         ensures reader { result ≡ self.old }
     {
         let seat = self.seat.split(&index.words);
-        Reader::new(seat, self.placer.documents())
+        Reader::new(seat, self.placer.documents(), self.converted)
     }
 
     /// Takes in a reader: what it knew is a front of the history. Both must have been made with this index. Takes no
@@ -125,7 +131,7 @@ impl Writer {
         ensures k { k_of frame.new ≡ k_of frame.old }
         ensures ids { ids_of frame.new ≡ answer (query_of frame.old) (k_of frame.old) self.new.docs }
         ensures loads { (t : List ℕ) → query_of frame.old ≡ word t
-            → IsBounded index.now.setting self.new.docs self.new.docs t (length (ids_of frame.new)) steps.old steps.new }
+            → IsBounded index.now.setting self.new.docs self.new.converted self.new.docs t (length (ids_of frame.new)) steps.old steps.new }
         ensures rounds { (ts : List (List ℕ)) → query_of frame.old ≡ conjunction (word_parts ts)
             → IsAndBounded index.now.setting self.new.docs ts (length (ids_of frame.new)) steps.old steps.new }
     {
@@ -136,16 +142,17 @@ impl Writer {
     }
 
     /// Takes in what the converter knows: it is a front of the history, in which each segment that it converted is
-    /// closed. Both must have been made with this index. Takes no memory.
+    /// closed; and the writer is then told of these segments. Both must have been made with this index. Takes no memory.
     pub fn hear(&mut self, index: &Index, converter: &mut Converter)
         requires this { self.old.index ≡ index.now }
         requires converter { converter.old.index ≡ index.now }
-        ensures this { self.new ≡ self.old }
+        ensures this { self.new ≡ record { index = self.old.index; docs = self.old.docs; converted = max self.old.converted converter.old.converted } }
         ensures converter { converter.new ≡ converter.old }
         ensures told { IsPrefix converter.old.docs self.new.docs }
         ensures closed { AreClosed index.now.setting self.new.docs converter.old.converted }
     {
         let told = converter.seat.split(&index.words);
         self.seat.meet(&index.words, told);
+        self.converted = self.converted.max(converter.converted());
     }
 }

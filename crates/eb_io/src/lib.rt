@@ -11,8 +11,6 @@ mod sink;
 mod source;
 mod standard;
 mod sure_source;
-#[cfg(test)]
-mod tests;
 mod write;
 
 pub use count_sink::CountSink;

@@ -7,6 +7,7 @@ ghost use Rattle.eb_io.specs.Lines.{Line, without_cr, line_from, IsUncut, IsFirs
 
 use crate::source::{Got, Source};
 use eb_base::NoMemory;
+use memchr::memchr;
 use std::alloc::Global;
 use std::marker::Model;
 use std::mem;
@@ -84,12 +85,7 @@ impl Model for Lines {
 fn find_end(bytes: &[u8]) -> Option<usize>
     ensures { MatchOption result (IsUncut bytes.now) (IsFirstLf bytes.now) }
 {
-    for (at, byte) in bytes.iter().enumerate() {
-        if *byte == LF {
-            return Some(at);
-        }
-    }
-    None
+    memchr(LF, bytes)
 }
 
 // Reads into the front of a piece.
@@ -213,7 +209,7 @@ impl Lines {
         self.from += 1;
     }
 
-    // GivesLine the part as a line.
+    // Gives the part as a line.
     fn give(&mut self) -> Next
         ensures held { self.new ≡ record self.old { part = no_part; line = self.new.line } }
         ensures given { (begun : List ℕ) → self.old.part ≡ kept_part begun

@@ -2,9 +2,11 @@
 //! their count, over words that may grow between any two loads. `specs/Searched.antt` says what is found.
 #![tactic(auto)]
 
+mod known;
 mod searching;
 mod segment;
 mod visible;
 mod walking;
 
+pub use known::search_first;
 pub use searching::{search, search_on};

@@ -12,7 +12,7 @@ use Rattle.eb_place.proofs.ImagesOfMoments.{get_or-image}
 use Rattle.eb_table.specs.declared.view.View.{View}
 use Rattle.eb_table.specs.declared.view.View.TheVariants.{Opening, Writer, Converter, Reader, Spent}
 use Rattle.eb_table.specs.Rule.{moment_of, IsLive, MayKnow, Running, KeepsWords}
-use Rattle.eb_table.specs.Steps.{at_moment, Leaves, LoadedWord}
+use Rattle.eb_table.specs.Steps.{at_moment, Leaves, LoadedWord, Confirmed}
 use Rattle.eb_table.proofs.Views.{fits_set, stays_at, kind_stays, running}
 
 -- a load leaves the words, and its seat may know the moment that they are of
@@ -56,3 +56,39 @@ pub loads_at : (σ : Setting) (slots id : ℕ) (me : Me (Unit {0}) View) (place 
 loads_at σ slots id me place live e inside =
     subst (λ (c : List (ℕ × Unit {0})). Allows (KeepsWords σ) slots id (me.0, c) place (λ n. n) (LoadedWord (step slots place 0 0 none) (me.0, c))) (sym e)
     (loads σ slots id me.0 place live inside)
+
+-- a load that leaves what its seat knows keeps the rule, too
+knows_past : (w c by : ℕ) (whole : Moment) (v : View) → IsLive v → MayKnow w c whole by v → IsNotBefore whole (moment_of v)
+knows_past w c by whole v live f = (looked w c by whole v live f).1
+
+pub confirms : (σ : Setting) (slots id : ℕ) (v : View) (place : ℕ) → IsLive v → place < words_of σ
+    → Allows (KeepsWords σ) slots id (v, []) place (λ n. n) (Confirmed (step 0 0 0 0 none) (v, []))
+confirms σ slots id v place live inside s h _ at _ =
+    let r = running σ s h id v live at in
+    let l = knows_past r.writer r.converter id h.whole v live (r.each id v at) in
+    let views' : Running h.whole (set s.views id v) = record {
+      writer = r.writer;
+      converter = r.converter;
+      writes = stays_at s.views id r.writer Writer v v at (λ m e. (m, e)) r.writes;
+      converts = stays_at s.views id r.converter Converter v v at (λ m e. (m, e)) r.converts;
+      each = fits_set r.writer r.converter h.whole s.views id v (λ j u _ e. r.each j u e) (r.each id v at);
+    } in (
+      v,
+      keeps,
+      tt,
+      record {
+        whole = h.whole;
+        setting = h.setting;
+        moment = h.moment;
+        words = set-get_or s.words place 0 ∙ h.words;
+        views = inr views';
+      },
+      (refl, h.whole, h.moment, l),
+    )
+
+-- the same, at what a seat has
+pub confirms_at : (σ : Setting) (slots id : ℕ) (me : Me (Unit {0}) View) (place : ℕ) → IsLive me.0 → me.1 ≡ [] → place < words_of σ
+    → Allows (KeepsWords σ) slots id me place (λ n. n) (Confirmed (step 0 0 0 0 none) me)
+confirms_at σ slots id me place live e inside =
+    subst (λ (c : List (ℕ × Unit {0})). Allows (KeepsWords σ) slots id (me.0, c) place (λ n. n) (Confirmed (step 0 0 0 0 none) (me.0, c))) (sym e)
+    (confirms σ slots id me.0 place live inside)

@@ -38,6 +38,12 @@ pub record IsLoaded (v : View) (place found : ℕ) (n : Moment) : Type 0 where
 abbrev pub LoadedWord : Step (Unit {0}) → Me (Unit {0}) View → ℕ → Me (Unit {0}) View → Type 0
 LoadedWord s me found new = (n : Moment) × (new ≡ (at_moment me.0 n, me.1)) × IsLoaded me.0 s.word found n
 
+-- ---- confirmation
+
+-- the seat knows what it knew, and this is a moment that the words were at or are before
+abbrev pub Confirmed : Step (Unit {0}) → Me (Unit {0}) View → ℕ → Me (Unit {0}) View → Type 0
+Confirmed s me found new = (new ≡ me) × (n : Moment) × IsMoment n × IsNotBefore n (moment_of me.0)
+
 -- ---- the writer's store, and the converter's
 
 abbrev pub Stored : Doc → Step (Unit {0}) → Me (Unit {0}) View → ℕ → Me (Unit {0}) View → Type 0

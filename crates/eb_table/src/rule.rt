@@ -4,7 +4,7 @@ ghost use Rattle.std.specs.Prelude.{[]};
 ghost use Rattle.eb_base.specs.Document.{Doc};
 ghost use Rattle.eb_place.specs.Moments.{empty_moment};
 ghost use Rattle.eb_table.specs.Rule.{KeepsWords};
-ghost use Rattle.eb_table.specs.Steps.{LoadedWord, Stored, Put, left_of, right_of, met};
+ghost use Rattle.eb_table.specs.Steps.{LoadedWord, Confirmed, Stored, Put, left_of, right_of, met};
 ghost use Rattle.eb_table.specs.declared.view.View.TheVariants.{Opening, Spent};
 
 use crate::view::View;
@@ -26,6 +26,13 @@ pub struct LoadStep;
 
 impl Play<(), View> for LoadStep {
     ghost then = { LoadedWord };
+}
+
+/// A load that shows its seat nothing: what the seat knows lies on the history of the words.
+pub struct ConfirmStep;
+
+impl Play<(), View> for ConfirmStep {
+    ghost then = { Confirmed };
 }
 
 /// Which document is being placed. Each store of the writer names it, since no word does.

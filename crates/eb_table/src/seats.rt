@@ -1,6 +1,6 @@
 ghost use Rattle.std.specs.Prelude.{◌≡◌, ◌<◌};
 ghost use Rattle.eb_base.specs.Setting.{words_of};
-ghost use Rattle.eb_place.specs.Later.{IsNotBefore};
+ghost use Rattle.eb_place.specs.Laws.{IsLeastAfter};
 ghost use Rattle.eb_place.specs.NextStores.{IsNext, after_store, IsNextPut, after_put};
 ghost use Rattle.eb_table.specs.Known.{MadeWith, SeatLoaded};
 ghost use Rattle.eb_table.specs.declared.view.View.TheVariants.{Writer, Reader, Converter};
@@ -89,18 +89,17 @@ impl ReaderSeat {
         ReaderSeat { seat }
     }
 
-    /// Takes in a reader's seat: both moments lie on one history, and this seat then knows one that is not before
-    /// either. Both seats must have been made with these words. Takes no memory.
+    /// Takes in a reader's seat: both moments lie on one history, and this seat then knows the least one that is
+    /// not before either. Both seats must have been made with these words. One load of word 0. Takes no memory.
     pub fn meet(&mut self, words: &SharedWords, seat: ReaderSeat)
         requires this { MadeWith self.old words.now }
         requires other { MadeWith seat words.now }
         ensures made { MadeWith self.new words.now }
-        ensures own { IsNotBefore self.new.moment self.old.moment }
-        ensures other { IsNotBefore self.new.moment seat.moment }
+        ensures least { IsLeastAfter self.old.moment seat.moment self.new.moment }
     {
         let ReaderSeat { seat } = seat;
         words.join(&mut self.seat, seat);
-        words.load_word(&mut self.seat, 0);
+        words.confirm(&mut self.seat);
     }
 }
 
@@ -134,20 +133,19 @@ impl WriterSeat {
         ReaderSeat { seat }
     }
 
-    /// Takes in a reader's seat: both moments lie on one history, and this seat then knows one that is not before
-    /// either. What it knows of the documents stays, so all that the reader knew of them lies in it. Both seats must
-    /// have been made with these words. Takes no memory.
+    /// Takes in a reader's seat: both moments lie on one history, and this seat then knows the least one that is
+    /// not before either. What it knows of the documents stays, so all that the reader knew of them lies in it. Both
+    /// seats must have been made with these words. One load of word 0. Takes no memory.
     pub fn meet(&mut self, words: &SharedWords, seat: ReaderSeat)
         requires this { MadeWith self.old words.now }
         requires other { MadeWith seat words.now }
         ensures made { MadeWith self.new words.now }
-        ensures own { IsNotBefore self.new.moment self.old.moment }
-        ensures other { IsNotBefore self.new.moment seat.moment }
+        ensures least { IsLeastAfter self.old.moment seat.moment self.new.moment }
         ensures documents { self.new.moment.documents ≡ self.old.moment.documents }
     {
         let ReaderSeat { seat } = seat;
         words.join(&mut self.seat, seat);
-        words.load_word(&mut self.seat, 0);
+        words.confirm(&mut self.seat);
     }
 }
 
@@ -181,19 +179,18 @@ impl ConverterSeat {
         ReaderSeat { seat }
     }
 
-    /// Takes in a reader's seat: both moments lie on one history, and this seat then knows one that is not before
-    /// either. What it knows of the conversions stays. Both seats must have been made with these words. Takes no
-    /// memory.
+    /// Takes in a reader's seat: both moments lie on one history, and this seat then knows the least one that is
+    /// not before either. What it knows of the conversions stays. Both seats must have been made with these words. One
+    /// load of word 0. Takes no memory.
     pub fn meet(&mut self, words: &SharedWords, seat: ReaderSeat)
         requires this { MadeWith self.old words.now }
         requires other { MadeWith seat words.now }
         ensures made { MadeWith self.new words.now }
-        ensures own { IsNotBefore self.new.moment self.old.moment }
-        ensures other { IsNotBefore self.new.moment seat.moment }
+        ensures least { IsLeastAfter self.old.moment seat.moment self.new.moment }
         ensures conversions { self.new.moment.conversions ≡ self.old.moment.conversions }
     {
         let ReaderSeat { seat } = seat;
         words.join(&mut self.seat, seat);
-        words.load_word(&mut self.seat, 0);
+        words.confirm(&mut self.seat);
     }
 }

@@ -3,13 +3,15 @@ ghost use Rattle.eb_base.specs.Setting.{words_of};
 ghost use Rattle.eb_place.specs.Moments.{IsMoment, empty_moment};
 ghost use Rattle.eb_place.specs.NextStores.{IsNext, after_store, IsNextPut, after_put};
 ghost use Rattle.eb_table.specs.Rule.{IsLive, IsUnspent, moment_of};
-ghost use Rattle.eb_table.specs.Steps.{LoadedWord, left_of, right_of, met};
+ghost use Rattle.eb_table.specs.Steps.{LoadedWord, Confirmed, left_of, right_of, met};
 ghost use Rattle.eb_table.specs.Known.{MadeWith, IsSeat};
 ghost use Rattle.eb_table.specs.declared.view.View.TheVariants.{Opening, Writer, Reader, Converter};
 ghost use Rattle.atomic_table.specs.Table.{step};
 ghost use mathlib.Core.Option.{none};
 
-use crate::rule::{JoinStep, LoadStep, Placed, PutStep, SplitStep, StoreStep, WordsRule};
+use crate::rule::{
+    ConfirmStep, JoinStep, LoadStep, Placed, PutStep, SplitStep, StoreStep, WordsRule,
+};
 use crate::seats::{ConverterSeat, WriterSeat};
 use crate::view::View;
 use atomic_table::{Seat, Table};
@@ -88,6 +90,17 @@ impl SharedWords {
         ensures told { LoadedWord (step 0 place 0 0 none) seat.old.me result seat.new.me }
     {
         self.table.shared.load::<LoadStep>(seat, place as usize)
+    }
+
+    // Looks whether what a seat knows lies on the history of the words, by a load of word 0 that shows it no later moment.
+    pub(crate) fn confirm(&self, seat: &mut Seat<(), View>)
+        requires live { IsLive seat.old.me.0 × (seat.old.me.1 ≡ []) }
+        requires made { seat.old.table_id ≡ self.now.table }
+        ensures same { seat.new.table_id ≡ seat.old.table_id }
+        ensures confirmed { Confirmed (step 0 0 0 0 none) seat.old.me 0 seat.new.me }
+    {
+        let _words = self.config.words();
+        self.table.shared.load::<ConfirmStep>(seat, 0);
     }
 
     // Does the next store of the placing of a document.

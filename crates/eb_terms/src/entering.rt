@@ -10,7 +10,7 @@ ghost use Rattle.eb_place.specs.Told.{Written};
 ghost use Rattle.eb_terms.specs.Finding.{cells_in};
 ghost use Rattle.eb_terms.specs.Entering.{IsNextTerm, IsNextText, HasEntered};
 
-use crate::hashing::home;
+use crate::hashing::{cell_behind, home};
 use crate::loads::number_in;
 use crate::texts::{count_words, text_word};
 use eb_base::{Document, Term};
@@ -77,7 +77,7 @@ fn free_cell<P: Port, L: Ledger>(
     let cells = 2 * port.config().terms();
     let first = home(term, cells);
     for step in 0..cells {
-        let cell = (first + step) % cells;
+        let cell = cell_behind(first, step, cells);
         let Some(_) = number_in(port, segment, cell, steps) else {
             return cell;
         };

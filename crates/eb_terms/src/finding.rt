@@ -6,7 +6,7 @@ ghost use Rattle.eb_place.specs.Told.{Told};
 ghost use Rattle.eb_terms.specs.Finding.{IsAnswer, most_finding_loads};
 ghost use Rattle.eb_terms.specs.Comparing.{IsNumber, term_at, words_compared};
 
-use crate::hashing::home;
+use crate::hashing::{cell_behind, home};
 use crate::loads::{number_in, start_of, word_of_text};
 use crate::texts::{count_words, text_word};
 use eb_base::Term;
@@ -34,7 +34,7 @@ pub fn find<P: Port, L: Ledger>(
     let cells = 2 * port.config().terms();
     let first = home(term, cells);
     for step in 0..cells {
-        let cell = (first + step) % cells;
+        let cell = cell_behind(first, step, cells);
         let Some(number) = number_in(port, segment, cell, steps) else {
             return None;
         };

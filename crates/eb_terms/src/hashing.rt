@@ -1,4 +1,4 @@
-ghost use Rattle.std.specs.Prelude.{◌≡◌, ◌≤◌, ◌%◌};
+ghost use Rattle.std.specs.Prelude.{◌≡◌, ◌+◌, ◌*◌, ◌<◌, ◌≤◌, ◌^◌, ◌%◌};
 ghost use Rattle.eb_place.specs.Placing.{hash, home_cell};
 
 use eb_base::Term;
@@ -35,4 +35,15 @@ pub(crate) fn hash_of(term: &Term) -> u32
         hash = hash.wrapping_mul(31).wrapping_add(u32::from(byte));
     }
     hash
+}
+
+// The cell that comes so many cells after a first one, wrapping at the number of cells. Nothing is divided.
+pub(crate) fn cell_behind(first: u32, step: u32, cells: u32) -> u32
+    requires first { first < cells }
+    requires step { step < cells }
+    requires small { cells ≤ 2 ^ 31 }
+    ensures { result ≡ (first + step) % cells }
+{
+    let cell = first + step;
+    if cell < cells { cell } else { cell - cells }
 }

@@ -13,6 +13,3 @@ pub use entering::enter;
 pub use finding::find;
 pub use hashing::home;
 pub use texts::count_words;
-
-#[cfg(test)]
-mod tests;

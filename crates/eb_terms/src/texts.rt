@@ -35,15 +35,11 @@ fn lowest_first(bytes: &[u8]) -> u64
     requires { length bytes.now ≤ 8 }
     ensures { result ≡ little_endian bytes.now }
 {
-    u64::from_le_bytes(filled_up(bytes))
-}
-
-// Up to eight bytes, and as many bytes 0 behind them as make eight.
-fn filled_up(bytes: &[u8]) -> [u8; WORD_BYTES]
-    requires { length bytes.now ≤ 8 }
-    ensures { result ≡ bytes.now ++ replicate (8 - length bytes.now) 0 }
-{
-    let mut word = [0u8; WORD_BYTES];
-    word[..bytes.len()].copy_from_slice(bytes);
+    let mut at = bytes.len();
+    let mut word = 0u64;
+    'bytes: while at > 0 {
+        at -= 1;
+        word = word * 256 + u64::from(bytes[at]);
+    }
     word
 }

@@ -35,7 +35,8 @@ impl Watches {
     ) -> Result<(u64, Vec<u32>), WatchFault>
         requires { writer.old.index ≡ index.now }
         ensures added { IfOk result (λ r. HasRoom index.now.setting writer.old.docs document.now
-            × (writer.new ≡ record { index = writer.old.index; docs = writer.old.docs ++ document.now ∷ [] }) × (r.0 ≡ length writer.new.docs)) }
+            × (writer.new ≡ record { index = writer.old.index; docs = writer.old.docs ++ document.now ∷ []; converted = writer.old.converted })
+            × (r.0 ≡ length writer.new.docs)) }
         ensures told { IfOk result (λ r. r.1.items ≡ numbers_of (matching (watches_of self.now) document.now)) }
         ensures rising { IfOk result (λ r. IsStrictlyIncreasing r.1.items) }
         ensures full { IsErrOf result WatchFault.Full → has_room index.now.setting writer.old.docs document.now ≡ false }
@@ -51,8 +52,8 @@ impl Watches {
         }
     }
 
-    // The numbers of the watches whose query matches the document, rising.
-    fn told<L: Ledger>(
+    /// The numbers of the watches whose query matches the document, rising. Takes memory for the list.
+    pub fn told<L: Ledger>(
         &self,
         alloc: Global,
         document: &Document,

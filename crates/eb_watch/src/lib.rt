@@ -17,6 +17,3 @@ pub use faults::{NoWatch, SetFault, WatchFault};
 pub use laws::a_match_has_a_key_term;
 pub use matching::matches;
 pub use watches::{MAX_WATCHES, Watches};
-
-#[cfg(test)]
-mod tests;

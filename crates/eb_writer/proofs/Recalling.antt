@@ -7,8 +7,8 @@ use Rattle.eb_base.specs.Term.{Term}
 use Rattle.eb_base.specs.Document.{most_tokens}
 use Rattle.eb_place.specs.Postings.{count_of}
 use Rattle.eb_place.proofs.TermCounts.{one_if, count_of-nil, count_of-cons}
-use Rattle.eb_writer.specs.declared.recall.Recall.{Recall}
-use Rattle.eb_writer.specs.declared.recall.TheConstants.{BUCKETS}
+use Rattle.eb_writer.specs.declared.plan.Recall.{Recall}
+use Rattle.eb_writer.specs.declared.plan.TheConstants.{BUCKETS}
 use Rattle.eb_writer.specs.Recall.{bucket, token_at, LeadsBack, Remembers, StoodAt}
 
 -- the element that is given is that at its place
@@ -99,8 +99,9 @@ length_set (x ∷ xs) (suc i) v = ap suc (length_set xs i v)
 
 -- one more token is remembered
 pub remembers_more : (r : Recall) (ts : List Term) (i b : ℕ) → i < length ts → length ts ≤ most_tokens → b ≡ bucket (token_at ts i) → Remembers r ts i
-    → Remembers record { latest = slice_set r.latest b (i + 1); before = slice_set r.before i (get_or r.latest b 0) } ts (i + 1)
-remembers_more r ts i b low few e h =
+    → (p : length (slice_set r.before i (get_or r.latest b 0)) ≡ most_tokens)
+    → Remembers record { latest = slice_set r.latest b (i + 1); before = slice_set r.before i (get_or r.latest b 0); places = p } ts (i + 1)
+remembers_more r ts i b low few e h p =
     let bl = bucket_low (token_at ts i) in
     record {
       buckets = length_set r.latest b (i + 1) ∙ h.buckets;

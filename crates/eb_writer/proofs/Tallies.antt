@@ -12,41 +12,16 @@ use Rattle.eb_place.specs.Room.{text_words, slices}
 use Rattle.eb_place.specs.Address.{begins_in, slices_begun}
 use Rattle.eb_place.proofs.TermCounts.{one_if, begun_push, slices_more, with_term_cases, once, distinct_push}
 use Rattle.eb_place.proofs.TermNumbersStay.{number_absent, number_low}
-use Rattle.eb_chain.specs.declared.new_slices.NewSlices.{NewSlices}
-use Rattle.eb_chain.specs.Needs.{TakesSlices}
 use Rattle.eb_writer.specs.Counting.{IsUsedBy, IsSmall}
-
--- more postings take more slices
-slices_on : (p f e : ℕ) → p < 4 → slices p f ≤ slices p (f + e)
-slices_on p f zero h = omega (arith, ap (slices p) (let q : f + 0 ≡ f = omega arith in q))
-slices_on p f (suc e) h = omega (arith, slices_on p f e h, slices_more p (f + e) h, ap (slices p) (let q : f + e + 1 ≡ f + suc e = omega arith in q))
-
-one_slice : (p f e a b : ℕ) → p < 4 → b ≡ slices p (f + e) - slices p f → a ≡ slices p (f + (e + 1)) - slices p f → a ≡ b + one_if (begins_in p (f + e))
-one_slice p f e a b h k l = omega (arith, slices_on p f e h, slices_more p (f + e) h, ap (slices p) (let q : f + e + 1 ≡ f + (e + 1) = omega arith in q))
-
--- with one posting more a term takes a slice more where the posting begins one
-pub record OneMore (f e : ℕ) (b a : NewSlices) : Type 0 where
-  pub pool0 : a.pool0 ≡ b.pool0 + one_if (begins_in 0 (f + e))
-  pub pool1 : a.pool1 ≡ b.pool1 + one_if (begins_in 1 (f + e))
-  pub pool2 : a.pool2 ≡ b.pool2 + one_if (begins_in 2 (f + e))
-  pub pool3 : a.pool3 ≡ b.pool3 + one_if (begins_in 3 (f + e))
-
-pub one_more : (f e : ℕ) (b a : NewSlices) → TakesSlices f e b → TakesSlices f (e + 1) a → OneMore f e b a
-one_more f e b a h k = record {
-  pool0 = one_slice 0 f e a.pool0 b.pool0 (lit< tt) h.pool0 k.pool0;
-  pool1 = one_slice 1 f e a.pool1 b.pool1 (lit< tt) h.pool1 k.pool1;
-  pool2 = one_slice 2 f e a.pool2 b.pool2 (lit< tt) h.pool2 k.pool2;
-  pool3 = one_slice 3 f e a.pool3 b.pool3 (lit< tt) h.pool3 k.pool3;
-}
 
 pub one_low : (b : Bool) → one_if b ≤ 1
 one_low true = omega arith
 one_low false = omega arith
 
 -- the slices of one more token
-pub slice_more : (p f e : ℕ) (t : Term) (before : List Term) (u v a b : ℕ) → f + e ≡ count_of t before
-    → a ≡ b + one_if (begins_in p (f + e)) → v + b ≡ u + a → u ≡ slices_begun p before → v ≡ slices_begun p (before ++ t ∷ [])
-slice_more p f e t before u v a b c k l h = omega (arith, begun_push p before t, ap (λ n. one_if (begins_in p n)) c)
+pub slice_more : (p f e : ℕ) (t : Term) (before : List Term) (u v a : ℕ) → f + e ≡ count_of t before
+    → a ≡ one_if (begins_in p (f + e)) → v ≡ u + a → u ≡ slices_begun p before → v ≡ slices_begun p (before ++ t ∷ [])
+slice_more p f e t before u v a c k l h = omega (arith, begun_push p before t, ap (λ n. one_if (begins_in p n)) c)
 
 -- a token whose term is there already, and one whose term is new
 pub distinct_old : (t : Term) (before : List Term) → 1 ≤ count_of t before → distinct (before ++ t ∷ []) ≡ distinct before

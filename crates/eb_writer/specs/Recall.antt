@@ -4,8 +4,8 @@ use Rattle.eb_base.specs.Term.{Term}
 use Rattle.eb_base.specs.Document.{most_tokens}
 use Rattle.eb_place.specs.Postings.{count_of}
 use Rattle.eb_place.specs.Placing.{home_cell}
-use Rattle.eb_writer.specs.declared.recall.Recall.{Recall}
-use Rattle.eb_writer.specs.declared.recall.TheConstants.{BUCKETS}
+use Rattle.eb_writer.specs.declared.plan.Recall.{Recall}
+use Rattle.eb_writer.specs.declared.plan.TheConstants.{BUCKETS}
 
 -- the bucket of a term
 abbrev pub bucket : Term → ℕ
@@ -14,6 +14,10 @@ bucket t = home_cell BUCKETS t
 -- the token at this place
 abbrev pub token_at : List Term → ℕ → Term
 token_at ts i = get_or ts i []
+
+-- the bucket of the token at this place
+abbrev pub bucket_in : List Term → ℕ → ℕ
+bucket_in ts i = bucket (token_at ts i)
 
 -- `last` leads back from the first n tokens to the last one in the bucket: 0 where there is none, else one
 -- more than its place

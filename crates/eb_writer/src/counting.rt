@@ -5,13 +5,13 @@ ghost use Rattle.eb_place.specs.declared.moment.Moment.{Moment};
 ghost use Rattle.eb_place.specs.Postings.{count_of, number_of, distinct};
 ghost use Rattle.eb_place.specs.Later.{IsNotBefore};
 ghost use Rattle.eb_chain.specs.Needs.{IsTailWord};
-ghost use Rattle.eb_writer.specs.Recall.{Remembers};
+ghost use Rattle.eb_writer.specs.Recall.{Remembers, bucket_in};
 ghost use Rattle.eb_writer.specs.Counting.{IsIdle, tokens_in, IsUsedBy, IsFound, AreFound, IsFirst, IsReady, IsPlan, IsSmall};
 
-use crate::plan::{Found, Plan};
-use crate::recall::{Recall, last_place, recall_nothing, remember};
+use crate::plan::{Found, Plan, Recall};
+use crate::recall::{bucket_of, forget, last_place, remember};
 use eb_base::{Document, MAX_TOKENS, Term, Terms};
-use eb_chain::{NewSlices, needs};
+use eb_chain::{NewSlices, needs_next};
 use eb_place::{Pen, Places, Steps, Used};
 use eb_terms::{count_words, find};
 use std::sync::ledger::{Blank, Ledger};
@@ -32,23 +32,25 @@ pub(crate) fn make_plan<P: Pen, L: Ledger>(
 {
     let terms = document.terms();
     let mut steps = Steps::<L>::new(blank);
-    let mut recall = recall_nothing(terms);
+    forget(&mut plan.recall, terms);
     plan.used = used;
     for at in 0..terms.len() {
         let next = plan.used.terms;
+        let bucket = bucket_of(terms, at);
         let token = found_at(
             pen,
             segment,
             terms,
             at,
-            &recall,
+            bucket,
+            &plan.recall,
             &plan.found,
             next,
             &mut steps,
         );
         plan.used = with_token(plan.used, terms.get(at), token);
         plan.found[at] = token;
-        remember(&mut recall, terms, at);
+        remember(&mut plan.recall, terms, at, bucket);
     }
 }
 
@@ -59,18 +61,19 @@ fn found_at<P: Pen, L: Ledger>(
     segment: u32,
     terms: &Terms,
     at: usize,
+    bucket: usize,
     recall: &Recall,
     found: &[Found; MAX_TOKENS],
     next: u32,
     steps: &mut Steps<L>,
 ) -> Found
-    requires place { (at < length terms.now) × (length terms.now ≤ most_tokens) × Remembers recall.now terms.now at }
+    requires place { (at < length terms.now) × (length terms.now ≤ most_tokens) × Remembers recall.now terms.now at × (bucket ≡ bucket_in terms.now at) }
     requires ready { (m : Moment) × P.stands pen.old m × IsIdle m × (segment < m.setting.segments) × AreFound (tokens_in m segment) terms.now found.now at }
     ensures { (m : Moment) → P.stands pen.old m → IsIdle m → segment < m.setting.segments → AreFound (tokens_in m segment) terms.now found.now at
         → next ≡ length (distinct (tokens_in m segment ++ take at terms.now))
         → (n : Moment) × P.stands pen.new n × IsNotBefore n m × P.keeps pen.old m pen.new n × IsFound (tokens_in m segment) terms.now at result }
 {
-    match last_place(recall, terms, at) {
+    match last_place(recall, terms, at, bucket) {
         Some(place) => {
             let last = found[place];
             Found {
@@ -121,9 +124,7 @@ fn with_token(used: Used, term: &Term, token: Found) -> Used
     ensures used { (f : ℕ) (before : List (List ℕ)) → IsTailWord f token.tail → f + token.earlier ≡ count_of term.now before
         → token.number ≡ number_of term.now before → IsUsedBy used before → IsUsedBy result (before ++ term.now ∷ []) }
 {
-    let before = needs(token.tail, token.earlier);
-    let after = needs(token.tail, token.earlier + 1);
-    let used = with_slices(used, before, after);
+    let used = with_slices(used, needs_next(token.tail, token.earlier));
     if token.number == used.terms {
         return Used {
             terms: used.terms + 1,
@@ -135,23 +136,20 @@ fn with_token(used: Used, term: &Term, token: Found) -> Used
 }
 
 // What is used with the slices that one more posting takes.
-fn with_slices(used: Used, before: NewSlices, after: NewSlices) -> Used
+fn with_slices(used: Used, new: NewSlices) -> Used
     requires small { (n : ℕ) × (n ≤ most_tokens) × IsSmall used n }
-    requires pool0 { (before.pool0 ≤ after.pool0) × (after.pool0 ≤ before.pool0 + 1) }
-    requires pool1 { (before.pool1 ≤ after.pool1) × (after.pool1 ≤ before.pool1 + 1) }
-    requires pool2 { (before.pool2 ≤ after.pool2) × (after.pool2 ≤ before.pool2 + 1) }
-    requires pool3 { (before.pool3 ≤ after.pool3) × (after.pool3 ≤ before.pool3 + 1) }
+    requires few { (new.pool0 ≤ 1) × (new.pool1 ≤ 1) × (new.pool2 ≤ 1) × (new.pool3 ≤ 1) }
     ensures others { (result.documents ≡ used.documents) × (result.terms ≡ used.terms) × (result.text ≡ used.text) }
-    ensures pool0 { result.pool0 + before.pool0 ≡ used.pool0 + after.pool0 }
-    ensures pool1 { result.pool1 + before.pool1 ≡ used.pool1 + after.pool1 }
-    ensures pool2 { result.pool2 + before.pool2 ≡ used.pool2 + after.pool2 }
-    ensures pool3 { result.pool3 + before.pool3 ≡ used.pool3 + after.pool3 }
+    ensures pool0 { result.pool0 ≡ used.pool0 + new.pool0 }
+    ensures pool1 { result.pool1 ≡ used.pool1 + new.pool1 }
+    ensures pool2 { result.pool2 ≡ used.pool2 + new.pool2 }
+    ensures pool3 { result.pool3 ≡ used.pool3 + new.pool3 }
 {
     Used {
-        pool0: used.pool0 + (after.pool0 - before.pool0),
-        pool1: used.pool1 + (after.pool1 - before.pool1),
-        pool2: used.pool2 + (after.pool2 - before.pool2),
-        pool3: used.pool3 + (after.pool3 - before.pool3),
+        pool0: used.pool0 + new.pool0,
+        pool1: used.pool1 + new.pool1,
+        pool2: used.pool2 + new.pool2,
+        pool3: used.pool3 + new.pool3,
         ..used
     }
 }

@@ -16,6 +16,28 @@ pub(crate) struct Found {
     pub earlier: u32,
 }
 
+/// How many buckets the tokens of a document are kept in.
+pub(crate) const BUCKETS: usize = 512;
+
+// The tokens of a document so far, in buckets by their hashes, to find where a term stood last. Each
+// entry is 0, or one more than the place of a token.
+#[derive(Clone, Copy)]
+pub(crate) struct Recall {
+    // The last token of each bucket.
+    pub latest: [u16; BUCKETS],
+    // For each token the one before it in its bucket. Behind the tokens so far stands what earlier documents left.
+    pub before: [u16; MAX_TOKENS],
+    ghost places: { length before ≡ most_tokens },
+}
+
+// No tokens.
+fn recall_nothing() -> Recall {
+    Recall {
+        latest: [0; BUCKETS],
+        before: [0; MAX_TOKENS],
+    }
+}
+
 // What the placing of a document in a segment will do.
 #[derive(Drop)]
 pub(crate) struct Plan {
@@ -23,6 +45,8 @@ pub(crate) struct Plan {
     pub found: [Found; MAX_TOKENS],
     // What is used of the segment with them.
     pub used: Used,
+    // Where the tokens counted so far stand.
+    pub recall: Recall,
     ghost places: { length found ≡ most_tokens },
 }
 
@@ -35,5 +59,6 @@ pub(crate) fn plan_nothing(used: Used) -> Plan {
             earlier: 0,
         }; MAX_TOKENS],
         used,
+        recall: recall_nothing(),
     }
 }

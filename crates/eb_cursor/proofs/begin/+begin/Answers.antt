@@ -9,12 +9,12 @@ use Rattle.eb_cursor.proofs.Tellings.{told_itself, told_as, told_on}
 use Rattle.eb_cursor.proofs.Openings.{read_on}
 use Rattle.eb_cursor.proofs.Steps.{tree_Word, tree_Phrase, tree_Window, tree_Since, tree_Not, tree_And, front_of}
 use Rattle.eb_cursor.proofs.Begins.{begun_word, begun_phrase, begun_since, begun_not, begun_and, each_ends, each_goes, some_none, some_goes, front_clear, back_clear}
-use Rattle.eb_place.proofs.LaterMoments.{later_on, inside_later}
+use Rattle.eb_place.proofs.LaterMoments.{later_on}
 use Rattle.eb_cursor.specs.AndCosts.{all_opening_loads, rounds_cost}
 use Rattle.eb_cursor.specs.Costs.{AllSpan, IsPaid, opening_loads}
 use Rattle.eb_cursor.specs.declared.cursor.Cursor.{Cursor}
 use Rattle.eb_cursor.proofs.AndLoads.{words_split, spans_join, cost_low, cost_most, leaf_span, no_spans, clear_spans, sizes_words, if_under}
-use Rattle.eb_cursor.proofs.Owing.{all_span_later, opening_later}
+use Rattle.eb_cursor.proofs.Owing.{all_span_later, opening_later, read_as_later}
 use Rattle.eb_cursor.proofs.begin.+begin.Goals as goal
 
 none_of : (o : Option ℕ) → is_some o ≡ false → o ≡ None
@@ -266,13 +266,13 @@ begin_some-returns-else-some g t c = λ docs same.
 -- ---- what the words of an and owe
 
 pub begin-returns-in-Word-clause-spans : goal.begin-returns-in-Word-clause-spans
-begin-returns-in-Word-clause-spans g t c = λ u e live.
+begin-returns-in-Word-clause-spans g t c = λ u e.
     let i : tree c.args.query.now ≡ word c.in-Word.term = ap tree c.in-Word.is ∙ tree_Word c.in-Word.term in
     let q : c.in-Word.term ≡ u = cc (sym i ∙ e) in
     let s = c.args.segment in
     record {
       told = λ m st h.
-          let x = (c.open_leaf-leaf.ensures.spans live).told m st h in (
+          let x = c.open_leaf-leaf.ensures.spans.told m st h in (
             x.0,
             x.1,
             x.2,
@@ -283,23 +283,23 @@ begin-returns-in-Word-clause-spans g t c = λ u e live.
     }
 
 pub begin_and-returns-in_default-clause-rounds : goal.begin_and-returns-in_default-clause-rounds
-begin_and-returns-in_default-clause-rounds g t c = λ docs ts u e live same. absurd (omega (arith, c.requires.fits, c.in_default.ensures.cases))
+begin_and-returns-in_default-clause-rounds g t c = λ docs ts u e same. absurd (omega (arith, c.requires.fits, c.in_default.ensures.cases))
 
 pub begin_and-returns-clause-rounds : goal.begin_and-returns-clause-rounds
-begin_and-returns-clause-rounds g t c = λ docs ts u e live same. record {
+begin_and-returns-clause-rounds g t c = λ docs ts u e same. record {
   told = λ m st h.
-      let x = (c.begin_each-all.ensures.spans ts e live).told m st h in
+      let x = (c.begin_each-all.ensures.spans ts e).told m st h in
       let at : c.end_if-own.result ≤ length docs = omega (arith, c.end_if-own.ensures, if_under c.begin_each-all.result c.from-end.result, c.from-end.ensures, same) in
       let low = cost_low docs ts u c.end_if-own.result (length docs) at in
       (x.0, x.1, x.2, x.3, (x.4.0 + rounds_cost docs ts u c.end_if-own.result, (x.4.0, x.4.1, omega arith), omega (arith, x.4.2, low, cost_most docs ts u)));
 }
 
 pub begin_each-returns-in_default-clause-spans : goal.begin_each-returns-in_default-clause-spans
-begin_each-returns-in_default-clause-spans g t c = λ ts e live. told_itself g.met.P.Port.keeps_itself
+begin_each-returns-in_default-clause-spans g t c = λ ts e. told_itself g.met.P.Port.keeps_itself
     (λ m h. (0, no_spans m c.args.segment ts (trees_in c.args.parts.now) c.args.cursors.now (ap trees_in (nil_of _ c.in_default.ensures.cases)) e c.requires.fits, omega arith))
 
 pub begin_each-returns-then-not-begin-clause-spans : goal.begin_each-returns-then-not-begin-clause-spans
-begin_each-returns-then-not-begin-clause-spans g t c = λ ts e live. record {
+begin_each-returns-then-not-begin-clause-spans g t c = λ ts e. record {
   told = λ m st h.
       let s = c.args.segment in
       let f = front_of c.args.parts.now c.in-Some.part.now c.in-Some.others.now c.args.cursors.now c.split_at_mut-own.result.0.now c.split_at_mut-own.result.1.now
@@ -316,7 +316,7 @@ begin_each-returns-then-not-begin-clause-spans g t c = λ ts e live. record {
         ap sizes k.4,
         sizes_words k.1,
       ) in
-      let x = (c.begin.ensures.spans k.0 k.3 live).told m st h in
+      let x = (c.begin.ensures.spans k.0 k.3).told m st h in
       let others = clear_spans x.0 s k.1 c.split_at_mut-own.result.1.now clear few in (
         x.0,
         x.1,
@@ -331,17 +331,17 @@ begin_each-returns-then-not-begin-clause-spans g t c = λ ts e live. record {
 }
 
 pub begin_each-returns-clause-spans : goal.begin_each-returns-clause-spans
-begin_each-returns-clause-spans g t c = λ ts e live. record {
+begin_each-returns-clause-spans g t c = λ ts e. record {
   told = λ m st h.
       let s = c.args.segment in
       let f = front_of c.args.parts.now c.in-Some.part.now c.in-Some.others.now c.args.cursors.now c.split_at_mut-own.result.0.now c.split_at_mut-own.result.1.now
       c.size.result c.in-Some.ensures.cases.0 c.size.ensures c.split_at_mut-own.ensures.front c.split_at_mut-own.ensures.back in
       let k = words_split ts (tree c.in-Some.part.now) (trees_in c.in-Some.others.now) (sym f.parts ∙ e) in
-      let x = (c.begin.ensures.spans k.0 k.3 live).told m st h in
-      let inside = inside_later m x.0 s x.2 h in
-      let y = (c.begin_each.ensures.spans k.1 k.4 live).told x.0 x.1 inside in
+      let x = (c.begin.ensures.spans k.0 k.3).told m st h in
+      let read = read_as_later m x.0 s c.args.packed x.2 h in
+      let y = (c.begin_each.ensures.spans k.1 k.4).told x.0 x.1 read in
       let own = all_span_later x.0 y.0 s (k.0 ∷ []) c.begin.new.cursors x.4.0 (g.met.P.Port.lawful _ x.0 x.1) y.2 x.4.1 in
-      let more = opening_later x.0 y.0 s k.0 (g.met.P.Port.lawful _ x.0 x.1) (g.met.P.Port.lawful _ y.0 y.1) y.2 inside in (
+      let more = opening_later x.0 y.0 s k.0 (g.met.P.Port.lawful _ x.0 x.1) (g.met.P.Port.lawful _ y.0 y.1) y.2 read.inside in (
         y.0,
         y.1,
         later_on m x.0 y.0 x.2 y.2,

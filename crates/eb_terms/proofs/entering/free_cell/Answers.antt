@@ -13,7 +13,7 @@ returns-in_default g c m st =
     let inside : s < m.setting.segments = subst (λ (σ : Setting). s < σ.segments) (sym (c.config.ensures c.requires.0 c.requires.1) ∙ c.config.ensures m st) c.requires.2 in
     let k = c.loop-step.invariant m st in
     let js = g.met.P.Port.lawful c.loop-step.port k.0 k.1 in
-    let at = probe_is k.0 c.config.result t i c.terms-cells.result c.home-first.result (c.config.ensures m st ∙ k.2.setting) c.terms-cells.ensures c.home-first.ensures in
+    let at = c.cell_behind-cell.ensures ∙ probe_is k.0 c.config.result t i c.terms-cells.result c.home-first.result (c.config.ensures m st ∙ k.2.setting) c.terms-cells.ensures c.home-first.ensures in
     let n = c.in_default.ensures.told.told k.0 k.1 (inside_later m k.0 s k.2 inside, subst (λ z. z < cells_in k.0) (sym at) (probe_low k.0 t i js)) in
     let is = g.met.P.Port.lawful c.number_in.new.port n.0 n.1 in
     let later = later_on m k.0 n.0 k.2 n.2 in
@@ -35,7 +35,7 @@ loop-step-preserved g c m st =
     let inside : s < m.setting.segments = subst (λ (σ : Setting). s < σ.segments) (sym (c.config.ensures c.requires.0 c.requires.1) ∙ c.config.ensures m st) c.requires.2 in
     let k = c.loop-step.invariant m st in
     let js = g.met.P.Port.lawful c.loop-step.port k.0 k.1 in
-    let at = probe_is k.0 c.config.result t i c.terms-cells.result c.home-first.result (c.config.ensures m st ∙ k.2.setting) c.terms-cells.ensures c.home-first.ensures in
+    let at = c.cell_behind-cell.ensures ∙ probe_is k.0 c.config.result t i c.terms-cells.result c.home-first.result (c.config.ensures m st ∙ k.2.setting) c.terms-cells.ensures c.home-first.ensures in
     let n = c.in-Some.ensures.told.told k.0 k.1 (inside_later m k.0 s k.2 inside, subst (λ z. z < cells_in k.0) (sym at) (probe_low k.0 t i js)) in (
       n.0,
       n.1,

@@ -18,7 +18,8 @@ returns-in_default g c = record {
       let inside : s < m.setting.segments = subst (λ (σ : Setting). s < σ.segments) (sym (c.config.ensures c.requires.0 c.requires.1) ∙ c.config.ensures m st) c.requires.2 in
       let k = c.loop-step.invariant.0 m st in
       let js = g.met.P.Port.lawful c.loop-step.port k.0 k.1 in
-      let at = probe_is k.0 c.config.result t i c.terms-cells.result c.home-first.result (c.config.ensures m st ∙ k.2.setting) c.terms-cells.ensures c.home-first.ensures in
+      let at = c.cell_behind-cell.ensures ∙ probe_is k.0 c.config.result t i c.terms-cells.result c.home-first.result
+      (c.config.ensures m st ∙ k.2.setting) c.terms-cells.ensures c.home-first.ensures in
       let n = c.in_default.ensures.told.told k.0 k.1 (inside_later m k.0 s k.2 inside, subst (λ z. z < cells_in k.0) (sym at) (probe_low k.0 t i js)) in
       let is = g.met.P.Port.lawful c.number_in.new.port n.0 n.1 in
       let later = later_on m k.0 n.0 k.2 n.2 in
@@ -44,7 +45,8 @@ returns-then-is_term g c = record {
       let inside : s < m.setting.segments = subst (λ (σ : Setting). s < σ.segments) (sym (c.config.ensures c.requires.0 c.requires.1) ∙ c.config.ensures m st) c.requires.2 in
       let k = c.loop-step.invariant.0 m st in
       let js = g.met.P.Port.lawful c.loop-step.port k.0 k.1 in
-      let at = probe_is k.0 c.config.result t i c.terms-cells.result c.home-first.result (c.config.ensures m st ∙ k.2.setting) c.terms-cells.ensures c.home-first.ensures in
+      let at = c.cell_behind-cell.ensures ∙ probe_is k.0 c.config.result t i c.terms-cells.result c.home-first.result
+      (c.config.ensures m st ∙ k.2.setting) c.terms-cells.ensures c.home-first.ensures in
       let n = c.in-Some.ensures.told.told k.0 k.1 (inside_later m k.0 s k.2 inside, subst (λ z. z < cells_in k.0) (sym at) (probe_low k.0 t i js)) in
       let o = c.if-is_term.ensures.told.told n.0 n.1 (inside_later k.0 n.0 s n.2 (inside_later m k.0 s k.2 inside), n.4.0) in
       let is = g.met.P.Port.lawful c.is_term.new.port o.0 o.1 in
@@ -71,7 +73,8 @@ loop-step-preserved g c = (
       let inside : s < m.setting.segments = subst (λ (σ : Setting). s < σ.segments) (sym (c.config.ensures c.requires.0 c.requires.1) ∙ c.config.ensures m st) c.requires.2 in
       let k = c.loop-step.invariant.0 m st in
       let js = g.met.P.Port.lawful c.loop-step.port k.0 k.1 in
-      let at = probe_is k.0 c.config.result t i c.terms-cells.result c.home-first.result (c.config.ensures m st ∙ k.2.setting) c.terms-cells.ensures c.home-first.ensures in
+      let at = c.cell_behind-cell.ensures ∙ probe_is k.0 c.config.result t i c.terms-cells.result c.home-first.result
+      (c.config.ensures m st ∙ k.2.setting) c.terms-cells.ensures c.home-first.ensures in
       let n = c.in-Some.ensures.told.told k.0 k.1 (inside_later m k.0 s k.2 inside, subst (λ z. z < cells_in k.0) (sym at) (probe_low k.0 t i js)) in
       let o = c.if-is_term.ensures.told.told n.0 n.1 (inside_later k.0 n.0 s n.2 (inside_later m k.0 s k.2 inside), n.4.0) in
       let later = later_on k.0 n.0 o.0 n.2 o.2 in (
@@ -88,7 +91,8 @@ loop-step-preserved g c = (
       let i = c.loop-step.step in
       let k = c.loop-step.invariant.0 r.0 r.1 in
       let js = g.met.P.Port.lawful c.loop-step.port k.0 k.1 in
-      let at = probe_is k.0 c.config.result t i c.terms-cells.result c.home-first.result (c.config.ensures r.0 r.1 ∙ k.2.setting) c.terms-cells.ensures c.home-first.ensures in
+      let at = c.cell_behind-cell.ensures ∙ probe_is k.0 c.config.result t i c.terms-cells.result c.home-first.result
+      (c.config.ensures r.0 r.1 ∙ k.2.setting) c.terms-cells.ensures c.home-first.ensures in
       let n = c.in-Some.ensures.told.told k.0 k.1 (inside_later r.0 k.0 s k.2 r.2, subst (λ z. z < cells_in k.0) (sym at) (probe_low k.0 t i js)) in
       let o = c.if-is_term.ensures.told.told n.0 n.1 (inside_later k.0 n.0 s n.2 (inside_later r.0 k.0 s k.2 r.2), n.4.0) in
       omega (arith, loads_more t (text_of (term_at o.0 s c.in-Some.number)) i c.args.steps.now c.loop-step.steps c.loop-step.invariant.1, o.4.2, c.in-Some.ensures.step)),

@@ -25,7 +25,7 @@ loop-at-init g c =
         record { places = c.args.plan.now.places; each = λ i k l e. absurd (omega arith) },
         subst (IsUsedBy c.args.used) (sym (append-nil (tokens_in m c.args.segment))) (ready_used m c.args.segment c.args.used (g.met.P.Port.lawful _ m st) ready),
       ),
-      c.recall_nothing-recall.ensures,
+      c.forget.ensures,
       small_first r.0 c.args.segment c.args.used is r.2.inside (ready_used r.0 c.args.segment c.args.used is r.2),
       refl,
     )
@@ -35,7 +35,7 @@ found_at-token-requires-clause-place g c =
     let doc = c.terms-terms.ensures.document in
     let tokens = doc.limits.tokens in
     let same = ap length c.terms-terms.ensures.terms in
-    (omega (arith, c.loop-at-test.true, c.len-at-end.ensures), omega (arith, tokens, same), c.loop-at.invariant.1)
+    (omega (arith, c.loop-at-test.true, c.len-at-end.ensures), omega (arith, tokens, same), c.loop-at.invariant.1, c.bucket_of-bucket.ensures)
 
 pub found_at-token-requires-clause-ready : goal.found_at-token-requires-clause-ready
 found_at-token-requires-clause-ready g c =
@@ -107,7 +107,7 @@ remember-requires g c =
     let doc = c.terms-terms.ensures.document in
     let tokens = doc.limits.tokens in
     let same = ap length c.terms-terms.ensures.terms in
-    (omega (arith, c.loop-at-test.true, c.len-at-end.ensures), omega (arith, tokens, same), c.loop-at.invariant.1)
+    (omega (arith, c.loop-at-test.true, c.len-at-end.ensures), omega (arith, tokens, same), c.loop-at.invariant.1, c.bucket_of-bucket.ensures)
 
 pub loop-at-preserved : goal.loop-at-preserved
 loop-at-preserved g c = (

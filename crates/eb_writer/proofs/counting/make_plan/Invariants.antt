@@ -10,4 +10,4 @@ invariant-loop-at g l =
     ((m : Moment) → g.P.Port.stands l.fn.pen m → IsReady m l.segment l.fn.used
     → (n : Moment) × g.P.Port.stands l.pen n × IsNotBefore n m × g.P.Port.keeps l.fn.pen m l.pen n
     × AreFound (tokens_in m l.segment) l.terms l.plan.found l.at × IsUsedBy l.plan.used (tokens_in m l.segment ++ take l.at l.terms))
-    × Remembers l.recall l.terms l.at × IsSmall l.plan.used l.at × (l.plan.used.documents ≡ l.fn.used.documents)
+    × Remembers l.plan.recall l.terms l.at × IsSmall l.plan.used l.at × (l.plan.used.documents ≡ l.fn.used.documents)

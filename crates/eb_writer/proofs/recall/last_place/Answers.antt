@@ -10,8 +10,7 @@ loop-next-init c =
     let ts = c.args.terms.now in
     let i = c.args.at in
     let r = c.requires.2 in
-    let t = at_place ts i c.get-term.result.now [] c.get-term.ensures in
-    let b : c.home.result ≡ bucket (token_at ts i) = c.home.ensures ∙ ap bucket (sym t) in
+    let b : c.args.bucket ≡ bucket (token_at ts i) = c.requires.3 in
     sought_first ts i _ (subst (λ k. LeadsBack ts i (bucket (token_at ts i)) (get_or c.args.recall.now.latest k 0)) (sym b) (r.latest (bucket (token_at ts i)) (bucket_low (token_at ts i))))
 
 pub get-requires : goal.get-requires

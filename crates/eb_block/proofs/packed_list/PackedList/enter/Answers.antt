@@ -1,17 +1,17 @@
-use Rattle.std.proofs.Common.{◌+◌, ◌-◌, ◌*◌, ◌/◌, ◌%◌, ◌^◌, refl, ap, ◌∙◌, arith}
+use Rattle.std.proofs.Common.{◌-◌, refl, ap, arith}
 use Rattle.eb_place.specs.Packed.{packed}
 use Rattle.eb_place.specs.Seen.{segment}
-use Rattle.eb_place.specs.PackedLists.{list_start}
+use Rattle.eb_block.specs.Reading.{packed_start}
 use Rattle.eb_block.proofs.Reading.{can_enter, CanEnter}
 use Rattle.eb_block.proofs.Standing.{stands_in}
 use Rattle.eb_block.proofs.packed_list.PackedList.enter.Goals.{After-width_in-width}
 use Rattle.eb_block.proofs.packed_list.PackedList.enter.Goals as goal
 
 can : (c : After-width_in-width) → CanEnter (packed c.requires.reads.2 (segment c.requires.reads.0 c.requires.reads.1))
-    (list_start (segment c.requires.reads.0 c.requires.reads.1) c.requires.reads.5.number) c.args.self.now c.requires.reads.3 c.requires.reads.4
+    (packed_start c.requires.reads.0 c.requires.reads.1 c.requires.reads.5.number) c.args.self.now c.requires.reads.3 c.requires.reads.4
 can c =
     let r = c.requires.reads in
-    can_enter (packed r.2 (segment r.0 r.1)) (list_start (segment r.0 r.1) r.5.number) c.args.self.now r.3 r.4 r.5.reads c.requires.loaded
+    can_enter (packed r.2 (segment r.0 r.1)) (packed_start r.0 r.1 r.5.number) c.args.self.now r.3 r.4 r.5.reads c.requires.loaded
 
 pub overflow_add-self : goal.overflow_add-self
 overflow_add-self c = let k = can c in omega (arith, k.room)
@@ -22,25 +22,16 @@ overflow_sub-self c = let k = can (goal.at.overflow_sub-self c).After-width_in-w
 pub posting_in-self-requires : goal.posting_in-self-requires
 posting_in-self-requires c = let k = can (goal.at.posting_in-self-requires c).After-width_in-width in k.small
 
+pub overflow_add-self-2 : goal.overflow_add-self-2
+overflow_add-self-2 c = let k = can (goal.at.overflow_add-self-2 c).After-width_in-width in omega (arith, k.room, c.width_in-width.ensures)
+
 pub overflow_sub-self-2 : goal.overflow_sub-self-2
-overflow_sub-self-2 c = let k = can (goal.at.overflow_sub-self-2 c).After-width_in-width in omega (arith, k.some, c.count_in-count.ensures)
-
-pub overflow_add-self-3 : goal.overflow_add-self-3
-overflow_add-self-3 c =
-    let k = can (goal.at.overflow_add-self-3 c).After-width_in-width in
-    let e = ap (λ n. c.args.self.now.next + 1 + ((n - 1) * c.width_in-width.result + 63) / 64) c.count_in-count.ensures in
-    let f = ap (λ w. c.args.self.now.next + 1 + ((c.args.self.now.header % 2 ^ 8 - 1) * w + 63) / 64) c.width_in-width.ensures in
-    omega (arith, k.room, e, f)
-
-pub overflow_sub-self-3 : goal.overflow_sub-self-3
-overflow_sub-self-3 c = let k = can (goal.at.overflow_sub-self-3 c).After-width_in-width in omega (arith, k.few, c.count_in-count.ensures)
+overflow_sub-self-2 c = let k = can (goal.at.overflow_sub-self-2 c).After-width_in-width in omega (arith, k.few, c.count_in-count.ensures)
 
 pub returns-clause-told : goal.returns-clause-told
 returns-clause-told c m s t rest b h =
     let p = c.args.self.now in
-    let e = ap (λ n. p.next + 1 + ((n - 1) * c.width_in-width.result + 63) / 64) c.count_in-count.ensures in
-    let f = ap (λ w. p.next + 1 + ((p.header % 2 ^ 8 - 1) * w + 63) / 64) c.width_in-width.ensures in
-    stands_in m s t p _ rest b h c.requires.loaded refl (record {
+    stands_in m s t p _ rest b h c.requires.loaded (record {
       at = refl;
       held_bits = c.none-self.ensures.held;
       low = c.none-self.ensures.low;
@@ -49,7 +40,7 @@ returns-clause-told c m s t rest b h =
       inside = ap (λ n. n - 1) c.count_in-count.ensures;
       last = c.posting_in-self.ensures;
       held = refl;
-      next = e ∙ f;
+      next = omega (arith, c.width_in-width.ensures);
       header = refl;
       left = ap (λ n. p.left - n) c.count_in-count.ensures;
     })

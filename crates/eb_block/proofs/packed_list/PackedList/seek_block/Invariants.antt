@@ -1,13 +1,13 @@
 use Rattle.std.proofs.Common.{◌≡◌, ◌≤◌, ◌+◌, ◌*◌, ℕ, List}
 use Rattle.eb_base.specs.Term.{Term}
 use Rattle.eb_place.specs.Told.{Told}
-use Rattle.eb_block.specs.Reading.{ListStands, remaining, up_to}
+use Rattle.eb_block.specs.Reading.{ListStands, loaded, remaining, up_to}
 use Rattle.eb_block.proofs.packed_list.PackedList.seek_block.Given as goal
 
 abbrev pub invariant-whole : goal.invariant-whole
 invariant-whole g l =
-    (128 * l.steps + remaining l.self ≤ 128 * l.fn.steps + remaining l.fn.self + 128)
-    × (1 ≤ l.self.left → 128 * l.steps + l.self.left ≤ 128 * l.fn.steps + remaining l.fn.self)
+    (128 * l.steps + remaining l.self ≤ 128 * l.fn.steps + remaining l.fn.self + 128 + 128 * loaded l.self.header)
+    × (1 ≤ l.self.left → 128 * l.steps + l.self.left ≤ 128 * l.fn.steps + remaining l.fn.self + 128 * loaded l.self.header)
     × (remaining l.self ≤ remaining l.fn.self)
     × ((s : ℕ) (t : Term) (rest : List ℕ) (budget : ℕ) → Told g.P.Port.stands g.P.Port.keeps l.fn.port l.port (λ m. ListStands m s t l.fn.self rest budget)
     (λ n. (after : List ℕ) × (b : ℕ) × ListStands n s t l.self after b × (l.steps + b ≤ l.fn.steps + budget) × (up_to l.most after ≡ up_to l.most rest)))

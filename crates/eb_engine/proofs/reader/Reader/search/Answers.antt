@@ -32,6 +32,7 @@ returns-clause-loads g c = λ t is.
       later = later_on _ _ _ e.answer.after e.answer.before;
       setting = e.made.setting ∙ ap (λ (w : Words). w.setting) c.index.view_is;
       knew_then = subst (λ (docs : List Doc). IsPrefix docs was.documents.accepted) (ap (λ (t : HistoryToken). t.docs) c.self.view_is) (front_of c.self.inside.seen was.documents.accepted);
+      packed_then = subst (λ (k : ℕ). k ≤ was.conversions.converted) (ap (λ (t : HistoryToken). t.converted) c.self.view_is) c.self.invariant.2;
       knows_now = front_of n all;
       loads = subst (λ k. IsWithinBound was now t k (length (ids_of c.search_words-count.new.frame)) c.args.steps.now c.search_words-count.new.steps) (sym (length-take-le n all long)) (e.loads t is);
     }

@@ -1,4 +1,4 @@
-use Rattle.std.proofs.Common.{List, length, ap, sym, ◌∙◌, subst}
+use Rattle.std.proofs.Common.{ℕ, List, length, ap, sym, ◌∙◌, subst}
 use mathlib.Core.List.{IsPrefix}
 use Rattle.eb_base.specs.Document.{Doc}
 use Rattle.eb_base.specs.Match.{answer}
@@ -19,8 +19,9 @@ returns-clause-loads g c = λ t is.
     let told = ap (λ (t : HistoryToken). t.docs) (sym (c.meet.ensures.this ∙ c.reader-reader.ensures.this ∙ sym c.reader-reader.ensures.reader)) in
     let front = subst (λ (docs : List Doc). IsPrefix docs c.search-count.new.self.docs) told c.search-count.ensures.known in
     let same = same_fronts _ _ c.meet.ensures.reader front in
-    subst (λ (x : List Doc × List Doc). IsBounded c.args.index.now.setting x.0 x.1 t (length (ids_of c.search-count.new.frame)) c.args.steps.now c.search-count.new.steps)
-    (λ i. (told i, same i)) (c.search-count.ensures.loads t is)
+    let packed = ap (λ (t : HistoryToken). t.converted) (sym (c.meet.ensures.this ∙ c.reader-reader.ensures.this ∙ sym c.reader-reader.ensures.reader)) in
+    subst (λ (x : List Doc × ℕ × List Doc). IsBounded c.args.index.now.setting x.0 x.1 x.2 t (length (ids_of c.search-count.new.frame)) c.args.steps.now c.search-count.new.steps)
+    (λ i. (told i, packed i, same i)) (c.search-count.ensures.loads t is)
 
 pub returns-clause-rounds : goal.returns-clause-rounds
 returns-clause-rounds g c = λ ts is.

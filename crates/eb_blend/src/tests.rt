@@ -1,5 +1,0 @@
-//! Blends beside rows that were worked by hand, beside the plain scan of one history, and while threads add and convert.
-mod beside;
-mod made;
-mod rows;
-mod table;

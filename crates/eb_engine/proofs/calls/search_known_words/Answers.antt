@@ -1,0 +1,37 @@
+use Rattle.std.proofs.Common.{◌≡◌, length, take, drop, rules, refl, sym, ◌∙◌, arith}
+use Rattle.std.proofs.lemmas.List.{take-append-drop, length-take-le}
+use Rattle.eb_engine.proofs.Knows.{front_of}
+use Rattle.eb_engine.proofs.calls.search_known_words.Goals as goal
+
+pub search_first-requires : goal.search_first-requires
+search_first-requires g c = (c.args.seat.now.moment, (c.requires.made, refl), c.requires.count)
+
+pub returns-clause-made : goal.returns-clause-made
+returns-clause-made g c =
+    let docs = take c.args.count c.args.seat.now.moment.documents.accepted in
+    let m = c.args.seat.now.moment in
+    let long = length-take-le c.args.count m.documents.accepted c.requires.count in
+    let k = (c.search_first.ensures.ids docs long).told m (c.requires.made, refl) (front_of c.args.count m.documents.accepted) in
+    let same = sym k.3.0 in
+    let words = k.3.1 in
+    let made = k.1.0 in
+    search (rules, same, words, made)
+
+pub returns-clause-later : goal.returns-clause-later
+returns-clause-later g c =
+    let docs = take c.args.count c.args.seat.now.moment.documents.accepted in
+    let m = c.args.seat.now.moment in
+    let long = length-take-le c.args.count m.documents.accepted c.requires.count in
+    let k = (c.search_first.ensures.ids docs long).told m (c.requires.made, refl) (front_of c.args.count m.documents.accepted) in
+    let same = sym k.3.0 in
+    let at = k.1.1 in
+    let l = k.2 in
+    grind (arith, same, at, l)
+
+pub returns-clause-ids : goal.returns-clause-ids
+returns-clause-ids g c =
+    let docs = take c.args.count c.args.seat.now.moment.documents.accepted in
+    let m = c.args.seat.now.moment in
+    let long = length-take-le c.args.count m.documents.accepted c.requires.count in
+    let k = (c.search_first.ensures.ids docs long).told m (c.requires.made, refl) (front_of c.args.count m.documents.accepted) in
+    k.4

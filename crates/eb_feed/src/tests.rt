@@ -1,2 +1,0 @@
-mod row;
-mod table;
