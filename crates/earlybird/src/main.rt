@@ -1,34 +1,21 @@
-//! The program `earlybird`: reads document lines and query lines from standard input, and prints
-//! the answers on standard output.
+//! The program `earlybird`: hands the words of its command line to `run`, or those behind the word `feed` to `run_feed`, with
+//! standard input, standard output and standard error.
 #![tactic(auto)]
 
 ghost use Rattle.std.specs.Prelude.{◌≡◌, ◌↔◌};
 
-mod bench;
-mod command;
-mod figures;
-mod last_line;
-mod laws;
-mod program;
-mod run;
-mod running;
-mod session;
 #[cfg(test)]
 mod tests;
-mod usage;
 
-pub use command::{Command, CommandFault, read_command};
 use eb_base::OpenGate;
 use eb_io::{StdSink, StdSource, write_all};
-pub use eb_lines::Status;
-pub use laws::{one_text, order_text, some_text};
-pub use run::run;
+use eb_lines::Status;
+use eb_run::{USAGE, run, run_feed};
 use std::alloc::Global;
 use std::env;
 use std::io::{BufReader, ErrorKind};
 use std::process::ExitCode;
 use std::rt::Env;
-use usage::USAGE;
 
 fn main(rt: HostRuntime) -> ExitCode {
     let alloc = rt.alloc();
@@ -46,15 +33,13 @@ fn main(rt: HostRuntime) -> ExitCode {
     };
     let mut source = StdSource::new(reader);
     let mut out = StdSink::new(rt.stdout());
-    let status = run(
-        &rt,
-        alloc,
-        &words,
-        &mut source,
-        &mut out,
-        &mut err,
-        &OpenGate,
-    );
+    let gate = OpenGate;
+    let status = match words.split_first() {
+        Some((name, rest)) if name.as_str() == "feed" => {
+            run_feed(alloc, rest, &mut source, &mut out, &mut err, &gate)
+        }
+        _ => run(&rt, alloc, &words, &mut source, &mut out, &mut err, &gate),
+    };
     ExitCode::from(status.code())
 }
 

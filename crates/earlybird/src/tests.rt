@@ -2,6 +2,7 @@ ghost use Rattle.std.specs.Prelude.{◌≤◌};
 
 mod commands;
 mod faults;
+mod feed;
 mod images;
 mod index;
 mod overlap;
@@ -10,9 +11,10 @@ mod turns;
 mod ways;
 mod windows;
 
-use crate::{Status, run};
 use eb_base::OpenGate;
 use eb_io::{Got, MemSink, MemSource, Source};
+use eb_lines::Status;
+use eb_run::run;
 use std::alloc::{AllocError, Global};
 use std::process::Abort;
 use std::sync::Wait;

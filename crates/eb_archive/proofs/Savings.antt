@@ -18,14 +18,14 @@ use Rattle.eb_lines.specs.Programs.{Finishes}
 use Rattle.eb_lines.specs.Kinds.{Kind, kind_of}
 use Rattle.eb_lines.specs.Reads.{ReadsByKind}
 use Rattle.eb_lines.proofs.Advancing.{accepted-push, refusals-push}
-use Rattle.eb_rounds.specs.Admitted.{admit}
-use Rattle.eb_rounds.proofs.LinesRead.{read_none, read_push}
+use Rattle.eb_indexed.specs.Admitted.{admit}
+use Rattle.eb_indexed.proofs.LinesRead.{read_none, read_push}
 use Rattle.eb_archive.specs.declared.saving.Saving.{Saving}
 use Rattle.eb_archive.specs.Saved.{kind_to_save, ReadsToSave, AreReadToSave, AreParts, IsSaved, HasUnsaved, HasNoUnsaved}
 use Rattle.eb_archive.specs.Saving.{HasSaved, TakesLine}
 
 -- a line of this reading is taken: what it comes to, a, is that of the documents before it
-module _ (old new : Saving) (σ : Setting) (given : List Line) (so_far : List ℕ) (l : Line) (r a : Reading) (h : HasSaved old σ given so_far)
+module _ {G : Type 0} (old new : Saving G) (σ : Setting) (given : List Line) (so_far : List ℕ) (l : Line) (r a : Reading) (h : HasSaved old σ given so_far)
     (reads : ReadsToSave l r) (is : a ≡ admit σ old.writer.docs r) (index : new.index ≡ old.index) (writer : new.writer.index ≡ old.writer.index)
     (docs : new.writer.docs ≡ old.writer.docs ++ documents_in a)
     (number : new.number ≡ old.number + 1) (refused_more : new.refused ≡ old.refused + one_if (is_refused a)) (low : one_if (is_refused a) ≤ 1) where
@@ -49,7 +49,7 @@ module _ (old new : Saving) (σ : Setting) (given : List Line) (so_far : List �
   }
 
 -- a line that adds nothing
-pub takes_quiet : (old new : Saving) (r a : Reading) → ((σ : Setting) → old.index.setting ≡ σ → admit σ old.writer.docs r ≡ a) → documents_in a ≡ []
+pub takes_quiet : {G : Type 0} (old new : Saving G) (r a : Reading) → ((σ : Setting) → old.index.setting ≡ σ → admit σ old.writer.docs r ≡ a) → documents_in a ≡ []
     → new.index ≡ old.index → new.writer ≡ old.writer → new.number ≡ old.number + 1 → new.refused ≡ old.refused + one_if (is_refused a)
     → one_if (is_refused a) ≤ 1 → (text : List ℕ) → TakesLine old new text text r
 takes_quiet old new r a is none index writer number more low text = λ l reads σ given so_far h.
@@ -62,8 +62,8 @@ takes_quiet old new r a is none index writer number more low text = λ l reads �
     )
 
 -- a document line whose document is added
-pub takes_document : (old new : Saving) (d : Doc) (text part text_new : List ℕ) → HasRoom old.index.setting old.writer.docs d → new.index ≡ old.index
-    → new.writer ≡ (let t : HistoryToken = record { index = old.writer.index; docs = old.writer.docs ++ d ∷ [] } in t)
+pub takes_document : {G : Type 0} (old new : Saving G) (d : Doc) (text part text_new : List ℕ) → HasRoom old.index.setting old.writer.docs d → new.index ≡ old.index
+    → new.writer ≡ (let t : HistoryToken = record { index = old.writer.index; docs = old.writer.docs ++ d ∷ []; converted = old.writer.converted } in t)
     → new.number ≡ old.number + 1 → new.refused ≡ old.refused → part ≡ document_part d → text_new ≡ text ++ part → TakesLine old new text text_new (document d)
 takes_document old new d text part text_new room index writer number refused_same is put = λ l reads σ given so_far h.
     let setting : old.index.setting ≡ σ = ap (λ (w : Words). w.setting) h.index ∙ h.setting in
@@ -76,7 +76,7 @@ takes_document old new d text part text_new room index writer number refused_sam
     )
 
 -- a document line whose document has no room
-pub takes_full : (old new : Saving) (d : Doc) (text : List ℕ) → has_room old.index.setting old.writer.docs d ≡ false → new.index ≡ old.index → new.writer ≡ old.writer
+pub takes_full : {G : Type 0} (old new : Saving G) (d : Doc) (text : List ℕ) → has_room old.index.setting old.writer.docs d ≡ false → new.index ≡ old.index → new.writer ≡ old.writer
     → new.number ≡ old.number + 1 → new.refused ≡ old.refused + 1 → TakesLine old new text text (document d)
 takes_full old new d text room index writer number refused_more =
     takes_quiet old new (document d) (refused Full)
@@ -84,7 +84,8 @@ takes_full old new d text room index writer number refused_more =
     refl index writer number refused_more (omega arith) text
 
 -- before the first line
-pub saved_none : (s : Saving) (w : Words) (σ : Setting) → s.index ≡ w → w.setting ≡ σ → s.writer ≡ (let t : HistoryToken = record { index = w; docs = [] } in t) → s.number ≡ 0
+pub saved_none : {G : Type 0} (s : Saving G) (w : Words) (σ : Setting) → s.index ≡ w → w.setting ≡ σ
+    → s.writer ≡ (let t : HistoryToken = record { index = w; docs = []; converted = 0 } in t) → s.number ≡ 0
     → s.refused ≡ 0 → HasSaved s σ [] (head_of σ)
 unfolding accepted refusals
 saved_none s w σ index setting writer number refused_none = record {
@@ -111,7 +112,7 @@ pub parts_none : (σ : Setting) → AreParts σ [] (head_of σ)
 unfolding accepted
 parts_none σ = record { readings = []; read = read_none ReadsToSave σ []; bytes = sym (append-nil (head_of σ)) }
 
-pub saving_ends : (s : Saving) (t0 t1 : List ℕ) (σ : Setting) (given : List Line) (so_far : List ℕ) → t1 ≡ t0 ++ 0 ∷ [] → HasSaved s σ given so_far
+pub saving_ends : {G : Type 0} (s : Saving G) (t0 t1 : List ℕ) (σ : Setting) (given : List Line) (so_far : List ℕ) → t1 ≡ t0 ++ 0 ∷ [] → HasSaved s σ given so_far
     → Finishes HasSaved IsSaved HasUnsaved HasNoUnsaved s t0 t1 s.refused σ given so_far
 unfolding image_of
 saving_ends s t0 t1 σ given so_far put h = record {

@@ -12,8 +12,8 @@ use Rattle.eb_io.specs.Source.{after}
 use Rattle.eb_io.proofs.Bytes.{after-after}
 use Rattle.eb_place.specs.Room.{has_room, HasRoom}
 use Rattle.eb_place.proofs.AfterStore.{lawful_push}
-use Rattle.eb_archive.specs.declared.store.Store.{Store}
-use Rattle.eb_archive.specs.Stores.{Holds}
+use Rattle.eb_indexed.specs.declared.indexed.Indexed.{Indexed}
+use Rattle.eb_indexed.specs.Indexed.{Holds}
 use Rattle.eb_archive.specs.Reading.{HasRead, IsFilled, IsReadingStopped}
 use Rattle.eb_archive.proofs.Images.{read_bytes, none_read, none_next, bad_next, none_part, bad_room, read_push, none_head, bad_head}
 
@@ -21,7 +21,7 @@ use Rattle.eb_archive.proofs.Images.{read_bytes, none_read, none_next, bad_next,
 on : (read more : List ℕ) (first now left : Option (List ℕ)) → first ≡ after read now → now ≡ after more left → first ≡ after (read ++ more) left
 on read more first now left e f = e ∙ ap (after read) f ∙ after-after read more left
 
-module _ (s : Store) (σ : Setting) (docs : List Doc) (first now left : Option (List ℕ)) (allowed : IsSetting σ) (h : HasRead s σ docs first now) where
+module _ (s : Indexed) (σ : Setting) (docs : List Doc) (first now left : Option (List ℕ)) (allowed : IsSetting σ) (h : HasRead s σ docs first now) where
   pub takes_end : now ≡ after last_byte left → IsFilled s first left
   unfolding image_of
   takes_end e = record {
@@ -60,7 +60,7 @@ module _ (s : Store) (σ : Setting) (docs : List Doc) (first now left : Option (
     why = bad_room σ docs d allowed h.lawful.documents within left full;
   }
 
-  pub takes_part : (new : Store) (d : Doc) → IsDocument d → now ≡ after (document_part d) left → HasRoom σ docs d → Holds new σ (docs ++ d ∷ []) → HasRead new σ (docs ++ d ∷ []) first left
+  pub takes_part : (new : Indexed) (d : Doc) → IsDocument d → now ≡ after (document_part d) left → HasRoom σ docs d → Holds new σ (docs ++ d ∷ []) → HasRead new σ (docs ++ d ∷ []) first left
   takes_part new d within e room store = record {
     lawful = lawful_push σ docs d h.lawful within room;
     store = store;
@@ -68,14 +68,14 @@ module _ (s : Store) (σ : Setting) (docs : List Doc) (first now left : Option (
   }
 
 -- before the first part
-pub takes_head : (s : Store) (σ : Setting) (first left : Option (List ℕ)) → first ≡ after (head_of σ) left → Holds s σ [] → HasRead s σ [] first left
+pub takes_head : (s : Indexed) (σ : Setting) (first left : Option (List ℕ)) → first ≡ after (head_of σ) left → Holds s σ [] → HasRead s σ [] first left
 takes_head s σ first left e store = record {
   lawful = record { documents = λ k d lt. absurd (omega (arith, lt)); rooms = λ k d at. absurd (cc at) };
   store = store;
   taken = e ∙ ap (λ b. after b left) (sym (append-nil (head_of σ)));
 }
 
-pub stops_at : (s : Store) (σ : Setting) (docs : List Doc) (first left : Option (List ℕ)) → IsSetting σ → HasRead s σ docs first left → IsReadingStopped fault.NoMemory first left
+pub stops_at : (s : Indexed) (σ : Setting) (docs : List Doc) (first left : Option (List ℕ)) → IsSetting σ → HasRead s σ docs first left → IsReadingStopped fault.NoMemory first left
 stops_at s σ docs first left allowed h = record { bytes = read_bytes σ docs; taken = h.taken; why = none_read σ docs allowed h.lawful.documents }
 
 -- there is no memory for the index

@@ -2,6 +2,4 @@ pub mod Saved
 pub mod Saving
 pub mod SavingLaws
 pub mod Loaded
-pub mod Stores
-pub mod Loading
 pub mod Reading

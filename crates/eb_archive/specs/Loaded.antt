@@ -1,23 +1,18 @@
 -- What `load` makes of an image and of the lines behind it.
 use Rattle.std.specs.Prelude.{◌≡◌, ℕ, ◌+◌, ◌⊎◌, Bool, List, [], ◌++◌, length, Option}
+use Rattle.eb_answer.specs.Rules.{Rules, is_bad, IsBody, IsText, HasRefusal, HasNoRefusal}
 use Rattle.eb_base.specs.Document.{Doc}
 use Rattle.eb_base.specs.Setting.{Setting, IsSetting}
 use Rattle.eb_image.specs.Image.{image_of}
 use Rattle.eb_image.specs.Reading.{IsBad, HasNone}
+use Rattle.eb_indexed.specs.IndexRules.{index_rules}
 use Rattle.eb_io.specs.Lines.{Line}
 use Rattle.eb_io.specs.Source.{after}
 use Rattle.eb_lines.specs.declared.status.Status.{Status}
 use Rattle.eb_lines.specs.declared.status.Status.TheVariants.{Done, Refused, Usage, ReadFault, WriteFault, NoMemory, InputTooLong, BadImage}
 use Rattle.eb_lines.specs.Outcomes.{Wrote, Means}
 use Rattle.eb_lines.specs.Passing.{Ends}
-use Rattle.eb_lines.specs.Progress.{accepted, queries, refusals, told}
-use Rattle.eb_lines.specs.Reading.{Reading}
-use Rattle.eb_lines.specs.Reads.{Reads}
-use Rattle.eb_lines.specs.Text.{summary_of}
 use Rattle.eb_place.specs.Room.{IsLawful}
-use Rattle.eb_rounds.specs.Ending.{stats_of}
-use Rattle.eb_rounds.specs.LinesRead.{AreReadBehind, SomeRefused, NoneRefused}
-use Rattle.eb_rounds.specs.Text.{body_from}
 
 -- an index of this setting is loaded with these documents, and whether the segments are told
 pub record Loaded : Type 0 where
@@ -38,36 +33,23 @@ pub record IsImage (bytes : List ℕ) : Type 0 where
   pub lawful : IsLawful setting documents
   pub is : bytes ≡ image_of setting documents
 
--- what the lines print behind loaded documents: a query sees these and all that the lines before it added
-abbrev pub body_behind : List Doc → List Reading → List ℕ
-body_behind docs rs = body_from (λ j. length docs + told rs j) (docs ++ accepted rs) 0 rs
+-- an index that holds them at first: a query sees these and all that the lines before it added
+abbrev pub rules_of : Loaded → Rules (Unit {0})
+rules_of a = index_rules a.setting a.stats a.documents
 
--- the last line: all documents, and the queries and refusals of the lines
-abbrev pub summary_behind : List Doc → List Reading → List ℕ
-summary_behind docs rs = summary_of (length (docs ++ accepted rs)) (queries rs) (refusals rs)
+-- the answers and refusals of these lines; their whole text
+abbrev pub IsBodyBehind : Loaded → List Line → List ℕ → Type 0
+IsBodyBehind a = IsBody is_bad (rules_of a)
 
--- the lines are these behind the loaded documents
-abbrev pub AreReadLoaded : Loaded → List Line → List Reading → Type 0
-AreReadLoaded a = AreReadBehind Reads a.setting a.documents
-
--- the answers and refusals of these lines
-pub record IsBodyBehind (a : Loaded) (lines : List Line) (printed : List ℕ) : Type 0 where
-  pub readings : List Reading
-  pub read : AreReadLoaded a lines readings
-  pub bytes : printed ≡ body_behind a.documents readings
-
--- their whole text
-pub record IsTextBehind (a : Loaded) (lines : List Line) (printed : List ℕ) : Type 0 where
-  pub readings : List Reading
-  pub read : AreReadLoaded a lines readings
-  pub bytes : printed ≡ body_behind a.documents readings ++ (summary_behind a.documents readings ++ stats_of a.stats a.setting (a.documents ++ accepted readings))
+abbrev pub IsTextBehind : Loaded → List Line → List ℕ → Type 0
+IsTextBehind a = IsText is_bad (rules_of a)
 
 -- some line is refused; none is
 abbrev pub HasRefusalBehind : Loaded → List Line → Type 0
-HasRefusalBehind a = SomeRefused (AreReadLoaded a)
+HasRefusalBehind a = HasRefusal is_bad (rules_of a)
 
 abbrev pub HasNoRefusalBehind : Loaded → List Line → Type 0
-HasNoRefusalBehind a = NoneRefused (AreReadLoaded a)
+HasNoRefusalBehind a = HasNoRefusal is_bad (rules_of a)
 
 -- why no image was read, where these bytes were taken and this is left: no image comes first in them and none can come;
 -- or none came yet

@@ -10,9 +10,9 @@ use Rattle.eb_io.specs.Source.{after}
 use Rattle.eb_lines.specs.declared.status.Status.{Status}
 use Rattle.eb_lines.specs.declared.status.Status.TheVariants.{ReadFault, NoMemory, BadImage}
 use Rattle.eb_place.specs.Room.{IsLawful}
-use Rattle.eb_archive.specs.declared.store.Store.{Store}
+use Rattle.eb_indexed.specs.declared.indexed.Indexed.{Indexed}
 use Rattle.eb_archive.specs.Loaded.{WhyUnread}
-use Rattle.eb_archive.specs.Stores.{Holds}
+use Rattle.eb_indexed.specs.Indexed.{Holds}
 
 -- the status of a load that comes to this fault
 abbrev pub status_of : ImageFault → Status
@@ -21,13 +21,13 @@ status_of fault.ReadFault = ReadFault
 status_of fault.NoMemory = NoMemory
 
 -- the head and the parts of these documents were read, and the index holds them
-pub record HasRead (s : Store) (σ : Setting) (docs : List Doc) (first left : Option (List ℕ)) : Type 0 where
+pub record HasRead (s : Indexed) (σ : Setting) (docs : List Doc) (first left : Option (List ℕ)) : Type 0 where
   pub lawful : IsLawful σ docs
   pub store : Holds s σ docs
   pub taken : first ≡ after (head_of σ ++ flat_map document_part docs) left
 
 -- an image was read, exactly its bytes, and the index holds its documents
-pub record IsFilled (s : Store) (first left : Option (List ℕ)) : Type 0 where
+pub record IsFilled (s : Indexed) (first left : Option (List ℕ)) : Type 0 where
   pub setting : Setting
   pub documents : List Doc
   pub allowed : IsSetting setting
@@ -42,7 +42,7 @@ pub record IsReadingStopped (f : ImageFault) (first left : Option (List ℕ)) : 
   pub why : WhyUnread (status_of f) bytes left
 
 -- what comes behind these documents: one more, or the end, or a fault
-abbrev pub ComesNext : {R : Type 0} → Result (Option R) ImageFault → Store → Setting → List Doc → Option (List ℕ) → Option (List ℕ) → Type 0
+abbrev pub ComesNext : {R : Type 0} → Result (Option R) ImageFault → Indexed → Setting → List Doc → Option (List ℕ) → Option (List ℕ) → Type 0
 ComesNext (Ok (Some r)) s σ docs first left = (d : Doc) × HasRead s σ (docs ++ d ∷ []) first left
 ComesNext (Ok None) s σ docs first left = IsFilled s first left
 ComesNext (Err f) s σ docs first left = IsReadingStopped f first left

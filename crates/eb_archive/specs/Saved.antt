@@ -11,7 +11,7 @@ use Rattle.eb_lines.specs.Outcomes.{Wrote, Means}
 use Rattle.eb_lines.specs.Progress.{accepted}
 use Rattle.eb_lines.specs.Reading.{Reading, refused}
 use Rattle.eb_lines.specs.Reads.{ReadsByKind}
-use Rattle.eb_rounds.specs.LinesRead.{AreReadBehind, SomeRefused, NoneRefused}
+use Rattle.eb_indexed.specs.LinesRead.{AreReadBehind, SomeRefused, NoneRefused}
 
 -- a query line is a bad line to `save`
 abbrev pub kind_to_save : Kind → Kind

@@ -13,7 +13,7 @@ use Rattle.eb_archive.specs.Saved.{ReadsToSave, AreReadToSave}
 
 -- these lines were taken, in an index of this setting, and the head and the parts of their documents were written: the
 -- history of the index's writer is these documents
-pub record HasSaved (s : Saving) (σ : Setting) (given : List Line) (so_far : List ℕ) : Type 0 where
+pub record HasSaved {G : Type 0} (s : Saving G) (σ : Setting) (given : List Line) (so_far : List ℕ) : Type 0 where
   pub words : Words
   pub index : s.index ≡ words
   pub setting : words.setting ≡ σ
@@ -27,5 +27,5 @@ pub record HasSaved (s : Saving) (σ : Setting) (given : List Line) (so_far : Li
   pub written : so_far ≡ head_of σ ++ flat_map document_part (accepted readings)
 
 -- a line of this reading was taken, and its part was put behind the text
-abbrev pub TakesLine : Saving → Saving → List ℕ → List ℕ → Reading → Type 0
+abbrev pub TakesLine : {G : Type 0} → Saving G → Saving G → List ℕ → List ℕ → Reading → Type 0
 TakesLine old new text_old text_new r = (l : Line) → ReadsToSave l r → WorksOnGiven HasSaved old new text_old text_new l

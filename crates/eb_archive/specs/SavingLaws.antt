@@ -12,7 +12,7 @@ use Rattle.eb_archive.specs.Saved.{AreParts, IsSaved}
 use Rattle.eb_archive.specs.Saving.{HasSaved}
 
 -- the lines given are those whose documents were written
-pub saved_first : (s : Saving) (σ : Setting) (given : List Line) (so_far : List ℕ) → HasSaved s σ given so_far
+pub saved_first : {G : Type 0} (s : Saving G) (σ : Setting) (given : List Line) (so_far : List ℕ) → HasSaved s σ given so_far
     → PrintsFront AreParts σ given so_far
 saved_first s σ given so_far h = prints_all AreParts σ given so_far (record { readings = h.readings; read = h.read; bytes = h.written })
 

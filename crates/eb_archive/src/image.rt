@@ -4,18 +4,18 @@ ghost use Rattle.eb_base.specs.Document.{Doc};
 ghost use Rattle.eb_base.specs.Setting.{Setting, IsSetting};
 ghost use Rattle.eb_io.specs.Faults.{HasRisen};
 ghost use Rattle.eb_archive.specs.Reading.{HasRead, ComesNext, IsFilled, IsReadingStopped};
-ghost use Rattle.eb_archive.specs.Stores.{Holds};
+ghost use Rattle.eb_indexed.specs.Indexed.{Holds};
 
-use crate::store::Store;
 use eb_base::Gate;
 use eb_image::{HeadFault, ImageFault, ImageReader, read_head};
+use eb_indexed::Indexed;
 use eb_io::Source;
 use std::alloc::Global;
 
 // Reads the next part, and adds its document to the index; `None` at the end of the image.
 fn take_part<S: Source, G: Gate>(
     alloc: Global,
-    store: &mut Store,
+    store: &mut Indexed,
     reader: ImageReader,
     source: &mut S,
     gate: &G,
@@ -40,7 +40,7 @@ fn take_part<S: Source, G: Gate>(
 // Reads all parts behind a head into the index, which is empty.
 fn read_parts<S: Source, G: Gate>(
     alloc: Global,
-    store: &mut Store,
+    store: &mut Indexed,
     reader: ImageReader,
     source: &mut S,
     gate: &G,
@@ -67,7 +67,7 @@ pub(crate) fn read_image<S: Source, G: Gate>(
     alloc: Global,
     source: &mut S,
     gate: &G,
-) -> Result<Store, ImageFault>
+) -> Result<Indexed, ImageFault>
     ensures all { MatchResult result (λ store. IsFilled store (S.left source.old) (S.left source.new))
         (λ fault. IsReadingStopped fault (S.left source.old) (S.left source.new)) }
     ensures fault { IsErrOf result ImageFault.ReadFault → HasRisen (S.faults source.old) (S.faults source.new) }
@@ -78,7 +78,7 @@ pub(crate) fn read_image<S: Source, G: Gate>(
         Err(HeadFault::BadImage) => return Err(ImageFault::BadImage),
         Err(HeadFault::ReadFault) => return Err(ImageFault::ReadFault),
     };
-    let Ok(mut store) = Store::new(alloc, config) else {
+    let Ok(mut store) = Indexed::new(alloc, false, config) else {
         return Err(ImageFault::NoMemory);
     };
     read_parts(alloc, &mut store, reader, source, gate)?;

@@ -4,11 +4,8 @@
 
 mod image;
 mod load;
-mod load_program;
-mod loading;
 mod save;
 mod saving;
-mod store;
 #[cfg(test)]
 mod tests;
 

@@ -11,12 +11,11 @@ ghost use Rattle.eb_place.specs.Room.{IsLawful};
 ghost use Rattle.eb_archive.specs.Loaded.{EndsLoad, IsImage, WroteLoaded, MeansLoaded};
 
 use crate::image::read_image;
-use crate::load_program::LoadProgram;
-use crate::loading::Loading;
+use eb_answer::answer_lines;
 use eb_base::Gate;
 use eb_image::ImageFault;
 use eb_io::{Sink, Source};
-use eb_lines::{Status, pass_lines};
+use eb_lines::Status;
 use std::alloc::Global;
 
 /// Loads an image and works off the lines behind it, which come from the same source: reads the image, exactly its bytes,
@@ -70,16 +69,11 @@ fn pass_loaded<S: Source, K: Sink, G: Gate>(
     ensures read_fault { result ≡ Status.ReadFault → HasRisen (S.faults source.old) (S.faults source.new) }
     ensures write_fault { result ≡ Status.WriteFault → HasRisen (K.faults out.old) (K.faults out.new) }
 {
-    let store = match read_image(alloc, source, gate) {
-        Ok(store) => store,
+    let indexed = match read_image(alloc, source, gate) {
+        Ok(indexed) => indexed,
         Err(ImageFault::BadImage) => return Status::BadImage,
         Err(ImageFault::ReadFault) => return Status::ReadFault,
         Err(ImageFault::NoMemory) => return Status::NoMemory,
     };
-    let mut program = LoadProgram {
-        alloc,
-        gate,
-        loading: Loading::new(store, stats),
-    };
-    pass_lines(alloc, &mut program, Vec::new(alloc), source, out)
+    answer_lines(alloc, indexed.telling(stats), source, out, gate)
 }

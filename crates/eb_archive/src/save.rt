@@ -6,7 +6,7 @@ ghost use Rattle.eb_lines.specs.Passing.{Ends};
 ghost use Rattle.eb_archive.specs.Saved.{AreParts, IsSaved, HasUnsaved, HasNoUnsaved, WroteSaved, MeansSaved};
 
 use crate::saving::Saving;
-use eb_base::Config;
+use eb_base::{Config, Gate};
 use eb_image::write_head;
 use eb_io::{Sink, Source};
 use eb_lines::{Status, pass_lines};
@@ -17,13 +17,14 @@ use std::alloc::Global;
 /// project's profile, docs/FORMATS.md). A query line is refused as a bad line; refusals write nothing.
 ///
 /// `Done` and `Refused` say that the image is whole. After `ReadFault` and `InputTooLong` the head and the parts of the
-/// documents of all whole lines are written, after `WriteFault` and `NoMemory` a front of an image. Takes the memory of
-/// the index at once.
-pub fn save_lines<S: Source, K: Sink>(
+/// documents of all whole lines are written, after `WriteFault` and `NoMemory` a front of an image. The gate is told of each
+/// add. Takes the memory of the index at once.
+pub fn save_lines<S: Source, K: Sink, G: Gate>(
     alloc: Global,
     config: Config,
     source: &mut S,
     out: &mut K,
+    gate: &G,
 ) -> Status
     ensures ends { Ends (AreParts config) (IsSaved config) (HasUnsaved config) (HasNoUnsaved config) result
         (S.left source.old) (S.left source.new) (K.taken out.old) (K.taken out.new) }
@@ -39,14 +40,15 @@ pub fn save_lines<S: Source, K: Sink>(
     ensures completes { (HasRisen (S.faults source.old) (S.faults source.new) → ⊥) → (HasRisen (K.faults out.old) (K.faults out.new) → ⊥)
         → (bytes : List ℕ) → S.left source.old ≡ Some bytes → length bytes < longest_input → IsWorkedOff result }
 {
-    pass_saved(alloc, config, source, out)
+    pass_saved(alloc, config, source, out, gate)
 }
 
-fn pass_saved<S: Source, K: Sink>(
+fn pass_saved<S: Source, K: Sink, G: Gate>(
     alloc: Global,
     config: Config,
     source: &mut S,
     out: &mut K,
+    gate: &G,
 ) -> Status
     ensures ends { Ends (AreParts config) (IsSaved config) (HasUnsaved config) (HasNoUnsaved config) result
         (S.left source.old) (S.left source.new) (K.taken out.old) (K.taken out.new) }
@@ -56,7 +58,7 @@ fn pass_saved<S: Source, K: Sink>(
     let Ok(head) = write_head(config).to_vec(alloc) else {
         return Status::NoMemory;
     };
-    let Ok(mut saving) = Saving::new(alloc, config) else {
+    let Ok(mut saving) = Saving::new(alloc, gate, config) else {
         return Status::NoMemory;
     };
     pass_lines(alloc, &mut saving, head, source, out)

@@ -7,7 +7,7 @@ ghost use Rattle.eb_lines.specs.Programs.{IsRunning, WorksOnGiven};
 ghost use Rattle.eb_lines.specs.Reading.{blank, document as reads_document, refused as is_refused};
 ghost use Rattle.eb_archive.specs.Saving.{HasSaved, TakesLine};
 
-use eb_base::{Config, Document, NoMemory, OpenGate};
+use eb_base::{Config, Document, Gate, NoMemory};
 use eb_engine::{Index, Writer};
 use eb_image::write_part;
 use eb_lines::{LineKind, LineProgram, Refusal, line_kind, read_document_line};
@@ -16,8 +16,10 @@ use std::alloc::Global;
 
 // An index of the documents that the lines added so far, with its writer, and how many lines were given and refused.
 #[derive(Drop)]
-pub(crate) struct Saving {
+pub(crate) struct Saving<'a, G> {
     alloc: Global,
+    // It is told what the writer does.
+    gate: &'a G,
     index: Index,
     writer: Writer,
     number: u64,
@@ -32,14 +34,15 @@ fn put(text: &mut Vec<u8>, bytes: &[u8])
     text.extend_from_slice(bytes).unwrap();
 }
 
-impl Saving {
+impl<'a, G: Gate> Saving<'a, G> {
     // Before the first line. Takes all the memory of the index.
-    pub(crate) fn new(alloc: Global, config: Config) -> Result<Saving, NoMemory>
+    pub(crate) fn new(alloc: Global, gate: &'a G, config: Config) -> Result<Saving<'a, G>, NoMemory>
         ensures { IfOk result (λ saving. HasSaved saving config [] (head_of config)) }
     {
         let (index, writer, _converter) = Index::open(alloc, config)?;
         Ok(Saving {
             alloc,
+            gate,
             index,
             writer,
             number: 0,
@@ -76,7 +79,7 @@ impl Saving {
     {
         let part = write_part(self.alloc, document)?;
         text.reserve(part.len())?;
-        match self.writer.add(&self.index, document, &OpenGate) {
+        match self.writer.add(&self.index, document, self.gate) {
             Ok(_) => {
                 self.number += 1;
                 put(text, &part);
@@ -107,7 +110,7 @@ impl Saving {
     }
 }
 
-impl LineProgram for Saving {
+impl<G: Gate> LineProgram for Saving<'_, G> {
     ghost use Rattle.std.specs.Prelude.{◌≡◌, []};
     ghost use Rattle.eb_base.specs.Setting.{Setting};
     ghost use Rattle.eb_archive.specs.Saved.{AreParts, IsSaved, HasUnsaved, HasNoUnsaved};

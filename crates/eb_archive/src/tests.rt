@@ -51,7 +51,7 @@ fn save(
 ) -> Result<Left, Fail> {
     let mut source = source_of(alloc, input, piece, reads)?;
     let mut out = sink_of(alloc, piece, writes)?;
-    let status = save_lines(alloc, config, &mut source, &mut out);
+    let status = save_lines(alloc, config, &mut source, &mut out, &OpenGate);
     Ok(Left {
         status,
         written: out.bytes().to_vec(alloc)?,

@@ -4,7 +4,7 @@ use Rattle.std.proofs.lemmas.Grind.{flat_map-append}
 use Rattle.std.proofs.lemmas.List.{take-append-le, take-append-drop}
 use Rattle.std.proofs.lemmas.List.Sums.{sum_by-append}
 use Rattle.std.proofs.Math.Seq.{take-length}
-use Rattle.eb_lines.specs.Reading.{Reading, blank, document, query, refused}
+use Rattle.eb_lines.specs.Reading.{Reading, blank, document, query, refused, watch}
 use Rattle.eb_lines.specs.Progress.{documents_in, is_query, is_refused, accepted, queries, refusals, told, progress_after, one_if, with_line, nothing}
 
 pub flat_map-push : {A B : Type 0} (f : A → List B) (xs : List A) (x : A) → flat_map f (xs ++ x ∷ []) ≡ flat_map f xs ++ f x
@@ -23,6 +23,7 @@ documents_one blank = omega arith
 documents_one (document d) = omega arith
 documents_one (query k q) = omega arith
 documents_one (refused x) = omega arith
+documents_one (watch n q) = omega arith
 
 -- no more documents than lines
 pub accepted_few : (rs : List Reading) → length (accepted rs) ≤ length rs

@@ -24,7 +24,7 @@ one_document (Err fault.BadDocument) a b e f = e ∙ sym f
 one_document (Err fault.TooLong) a b e f = e ∙ sym f
 one_document (Err fault.NoMemory) a b e f = absurd e
 
-one_by_kind : (k : Kind) (bytes : List ℕ) (a b : Reading) → ReadsByKind k bytes a → ReadsByKind k bytes b → a ≡ b
+pub one_by_kind : (k : Kind) (bytes : List ℕ) (a b : Reading) → ReadsByKind k bytes a → ReadsByKind k bytes b → a ≡ b
 one_by_kind blank_line bytes a b e f = e ∙ sym f
 one_by_kind document_line bytes a b e f = one_document (document_of bytes) a b e f
 one_by_kind query_line bytes a b e f = e.2 ∙ ap of_query (one_outcome bytes e.0 f.0 e.1 f.1) ∙ sym f.2
@@ -51,7 +51,7 @@ some_document (Err fault.BadDocument) h = (refused BadDocument, refl)
 some_document (Err fault.TooLong) h = (refused TooLong, refl)
 some_document (Err fault.NoMemory) h = absurd (h refl)
 
-some_by_kind : (k : Kind) (bytes : List ℕ) → (r : Reading) × ReadsByKind k bytes r
+pub some_by_kind : (k : Kind) (bytes : List ℕ) → (r : Reading) × ReadsByKind k bytes r
 some_by_kind blank_line bytes = (blank, refl)
 some_by_kind document_line bytes = some_document (document_of bytes) (document_of-no_memory bytes)
 some_by_kind query_line bytes = let o = some_outcome bytes in (of_query o.0, (o.0, o.1, refl))

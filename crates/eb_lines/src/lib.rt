@@ -17,5 +17,7 @@ pub use passing::pass_lines;
 pub use program::LineProgram;
 pub use refusal::Refusal;
 pub use status::{MAX_INPUT, Status};
-pub use work::{Work, query_refusal, read_document_line, read_line, read_query_text};
+pub use work::{
+    Work, query_refusal, read_document_line, read_document_line_by, read_line, read_query_text,
+};
 pub use writing::{put_answer, put_refusal, put_summary, put_watches};

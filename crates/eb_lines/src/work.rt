@@ -9,7 +9,7 @@ use crate::kind::{LineKind, line_kind};
 use crate::refusal::Refusal;
 use eb_base::{Document, NoMemory};
 use eb_cursor::Frame;
-use eb_doc::{LineFault, read_document};
+use eb_doc::{DocumentReader, LineFault};
 use eb_query::{QueryFault, read_query};
 use std::alloc::Global;
 
@@ -33,7 +33,18 @@ pub fn read_document_line(
 ) -> Result<Result<Document, Refusal>, NoMemory>
     ensures { IfOk result (λ read. IsOfDocument (document_of bytes.now) (document_reading read)) }
 {
-    match read_document(alloc, bytes) {
+    let mut reader = DocumentReader::new(alloc);
+    read_document_line_by(&mut reader, bytes)
+}
+
+/// The same by a reader that is kept from line to line.
+pub fn read_document_line_by(
+    reader: &mut DocumentReader,
+    bytes: &[u8],
+) -> Result<Result<Document, Refusal>, NoMemory>
+    ensures { IfOk result (λ read. IsOfDocument (document_of bytes.now) (document_reading read)) }
+{
+    match reader.read(bytes) {
         Ok(document) => Ok(Ok(document)),
         Err(LineFault::BadJson) => Ok(Err(Refusal::BadJson)),
         Err(LineFault::BadDocument) => Ok(Err(Refusal::BadDocument)),

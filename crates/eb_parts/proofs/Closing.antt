@@ -11,7 +11,7 @@ use Rattle.eb_blend.specs.Laws.{cut_into}
 use Rattle.eb_blend.specs.Parts.{WriterTokens, Parts, history, segments_of, few_counted, AreFronts, AllClosed, AllConverted}
 use Rattle.eb_place.specs.Room.{cut}
 use Rattle.eb_place.proofs.CutSegments.{closed_stays}
-use Rattle.eb_rounds.specs.Conversions.{most_converted}
+use Rattle.eb_indexed.specs.Conversions.{most_converted}
 use Rattle.eb_table.specs.Known.{Words}
 use Rattle.eb_parts.specs.declared.store.Store.{Store}
 use Rattle.eb_parts.specs.Stores.{Holds}

@@ -80,9 +80,6 @@ last-push (e ∷ f ∷ docs) d = last-push (f ∷ docs) d
 
 -- ---- ids rise
 
-AllUpTo : ℕ → List Doc → Type 0
-AllUpTo x docs = All (λ (e : Doc). e.id < x) docs
-
 rising_more : (docs : List Doc) (d : Doc) → HasRisingIds docs → IsAbove (last_id docs) d.id → HasRisingIds (docs ++ d ∷ []) × ((e : Doc) (ds : List Doc) → docs ≡ e ∷ ds → e.id < d.id)
 rising_more [] d r above = ((All-nil (λ (f : Doc). d.id < f.id), tt), (λ e ds is. absurd (cc is)))
 rising_more (e ∷ []) d r above = (

@@ -1,5 +1,3 @@
-pub mod Admissions
 pub mod Histories
 pub mod Placings
 pub mod Closing
-pub mod Lines

@@ -22,11 +22,10 @@ use Rattle.eb_blend.proofs.Each.{no_lengths}
 use Rattle.eb_engine.proofs.Knows.{same_fronts}
 use Rattle.eb_lines.specs.declared.refusal.Refusal.{Refusal}
 use Rattle.eb_lines.specs.declared.refusal.Refusal.TheVariants.{NotRising, Full}
-use Rattle.eb_lines.specs.Reading.{Reading, document, refused}
 use Rattle.eb_place.specs.Room.{cut, has_room, HasRoom}
 use Rattle.eb_table.specs.Known.{Words}
 use Rattle.eb_parts.specs.declared.store.Store.{Store}
-use Rattle.eb_parts.specs.AcceptedInParts.{last_id, admit_to_part, admit_above, admit_in_parts}
+use Rattle.eb_parts.specs.AcceptedInParts.{last_id, refusal_of_part, refusal_above, refusal_in_parts}
 use Rattle.eb_parts.specs.Stores.{Holds, WithPlaced}
 use Rattle.eb_parts.proofs.Histories.{cut_length, history_of, history_past, histories_push, last-push, rising-push, short_push, short_none, counts_push}
 
@@ -53,7 +52,7 @@ short_parts parts p σ = elim (cases_lt p parts) [
 
 -- ---- a document is placed or refused
 
-admit_rising : (o : Option ℕ) (d : Doc) (r : Reading) → IsAbove o d.id → admit_above o d r ≡ r
+admit_rising : (o : Option ℕ) (d : Doc) (r : Option Refusal) → IsAbove o d.id → refusal_above o d r ≡ r
 admit_rising None d r above = refl
 admit_rising (Some last) d r above = let e : nat_le d.id last ≡ false = lt-leb d.id last above in rw e refl
 
@@ -64,21 +63,21 @@ part_is parts docs d some =
 
 -- a document whose id rises, where its part has room or has none
 admit_roomy : (parts : ℕ) (σ : Setting) (docs : List Doc) (d : Doc) → 1 ≤ parts → IsAbove (last_id docs) d.id
-    → has_room σ (history (cut_into parts docs) (part_of (cut_into parts docs) d)) d ≡ true → admit_in_parts parts σ docs (document d) ≡ document d
+    → has_room σ (history (cut_into parts docs) (part_of (cut_into parts docs) d)) d ≡ true → refusal_in_parts parts σ docs d ≡ None
 admit_roomy parts σ docs d some above room =
     let here : has_room σ (part parts docs (d.id % parts)) d ≡ true = ap (λ h. has_room σ h d) (sym (part_is parts docs d some)) ∙ room in
-    admit_rising (last_id docs) d (admit_to_part parts σ docs d) above ∙ ap (λ (b : Bool). if b then document d else refused Full) here
+    admit_rising (last_id docs) d (refusal_of_part parts σ docs d) above ∙ ap (λ (b : Bool). if b then None else Some Full) here
 
 admit_full : (parts : ℕ) (σ : Setting) (docs : List Doc) (d : Doc) (p : ℕ) → 1 ≤ parts → IsAbove (last_id docs) d.id → p ≡ part_of (cut_into parts docs) d
-    → has_room σ (history (cut_into parts docs) p) d ≡ false → admit_in_parts parts σ docs (document d) ≡ refused Full
+    → has_room σ (history (cut_into parts docs) p) d ≡ false → refusal_in_parts parts σ docs d ≡ Some Full
 admit_full parts σ docs d p some above is room =
     let here : has_room σ (part parts docs (d.id % parts)) d ≡ false = ap (λ h. has_room σ h d) (sym (ap (history (cut_into parts docs)) is ∙ part_is parts docs d some)) ∙ room in
-    admit_rising (last_id docs) d (admit_to_part parts σ docs d) above ∙ ap (λ (b : Bool). if b then document d else refused Full) here
+    admit_rising (last_id docs) d (refusal_of_part parts σ docs d) above ∙ ap (λ (b : Bool). if b then None else Some Full) here
 
-admit_low : (parts : ℕ) (σ : Setting) (docs : List Doc) (d : Doc) (last : ℕ) → last_id docs ≡ Some last → d.id ≤ last → admit_in_parts parts σ docs (document d) ≡ refused (NotRising last)
+admit_low : (parts : ℕ) (σ : Setting) (docs : List Doc) (d : Doc) (last : ℕ) → last_id docs ≡ Some last → d.id ≤ last → refusal_in_parts parts σ docs d ≡ Some (NotRising last)
 admit_low parts σ docs d last is low =
     let e : nat_le d.id last ≡ true = le-leb d.id last low in
-    ap (λ o. admit_above o d (admit_to_part parts σ docs d)) is ∙ ap (λ (b : Bool). if b then refused (NotRising last) else admit_to_part parts σ docs d) e
+    ap (λ o. refusal_above o d (refusal_of_part parts σ docs d)) is ∙ ap (λ (b : Bool). if b then Some (NotRising last) else refusal_of_part parts σ docs d) e
 
 -- ---- the store behind it
 
@@ -112,7 +111,7 @@ placed old new parts σ docs d h above room blend writer converter =
     let roomy : has_room σ (history hs (part_of hs d)) d ≡ true = sym (λ i. has_room (setting i) (history (hist i) (part_of (hist i) d)) d) ∙ room in
     let own : has_room σ (part parts docs (d.id % parts)) d ≡ true = ap (λ (x : List Doc). has_room σ x d) (sym (part_is parts docs d h.some)) ∙ roomy in
     record {
-      admitted = admit_roomy parts σ docs d h.some low roomy;
+      refusal = sym (admit_roomy parts σ docs d h.some low roomy);
       holds = record {
         some = h.some;
         most = h.most;
@@ -131,10 +130,10 @@ placed old new parts σ docs d h above room blend writer converter =
       };
     }
 
-unplaced : (old new : Store) (parts : ℕ) (σ : Setting) (docs : List Doc) (d : Doc) (r : Refusal) → Holds old parts σ docs → new ≡ old → admit_in_parts parts σ docs (document d) ≡ refused r
+unplaced : (old new : Store) (parts : ℕ) (σ : Setting) (docs : List Doc) (d : Doc) (r : Refusal) → Holds old parts σ docs → new ≡ old → refusal_in_parts parts σ docs d ≡ Some r
     → WithPlaced new parts σ docs d (Some r)
 unplaced old new parts σ docs d r h same is = record {
-  admitted = is;
+  refusal = sym is;
   holds = subst (Holds new parts σ) (sym (append-nil docs)) (subst (λ (s : Store). Holds s parts σ docs) (sym same) h);
 }
 

@@ -1,5 +1,4 @@
 pub mod AcceptedInParts
 pub mod Texts
-pub mod Questions
 pub mod Stores
-pub mod LineRuns
+pub mod Parted

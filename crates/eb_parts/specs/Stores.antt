@@ -1,17 +1,17 @@
 -- What a blend that a run fills holds.
 use Rattle.std.specs.Prelude.{◌≡◌, ℕ, ◌-◌, ◌^◌, ◌≤◌, List, ◌++◌, length, min, Option, Some, None}
 use Rattle.std.specs.List.{All}
+use Rattle.eb_answer.specs.Rules.{document_outcome}
 use Rattle.eb_base.specs.Document.{Doc}
 use Rattle.eb_base.specs.Setting.{Setting, IsSetting}
 use Rattle.eb_blend.specs.Laws.{cut_into, HasRisingIds}
 use Rattle.eb_blend.specs.Parts.{WriterTokens, counted, lengths_of, history}
 use Rattle.eb_lines.specs.declared.refusal.Refusal.{Refusal}
 use Rattle.eb_lines.specs.Progress.{documents_in}
-use Rattle.eb_lines.specs.Reading.{Reading, document, refused}
 use Rattle.eb_place.specs.Room.{cut}
 use Rattle.eb_table.specs.Known.{Words}
 use Rattle.eb_parts.specs.declared.store.Store.{Store}
-use Rattle.eb_parts.specs.AcceptedInParts.{last_id, admit_in_parts}
+use Rattle.eb_parts.specs.AcceptedInParts.{last_id, refusal_in_parts}
 
 -- these documents, cut into so many parts of this setting
 pub record Holds (s : Store) (parts : ℕ) (σ : Setting) (docs : List Doc) : Type 0 where
@@ -29,12 +29,7 @@ pub record Holds (s : Store) (parts : ℕ) (σ : Setting) (docs : List Doc) : Ty
   pub counts : counted (lengths_of (cut_into parts docs)) ≡ min (length docs) (2 ^ 64 - 1)
   pub short : (p : ℕ) → length (cut σ (history (cut_into parts docs) p)) ≤ 64
 
--- what a document comes to
-abbrev pub document_outcome : Doc → Option Refusal → Reading
-document_outcome d None = document d
-document_outcome d (Some r) = refused r
-
 -- a document behind these was placed, or refused
 pub record WithPlaced (s : Store) (parts : ℕ) (σ : Setting) (docs : List Doc) (d : Doc) (r : Option Refusal) : Type 0 where
-  pub admitted : admit_in_parts parts σ docs (document d) ≡ document_outcome d r
+  pub refusal : r ≡ refusal_in_parts parts σ docs d
   pub holds : Holds s parts σ (docs ++ documents_in (document_outcome d r))

@@ -1,10 +1,8 @@
 //! A run over parts: documents go to several indexes by their ids, and each query is answered over them all.
-//! `specs/AcceptedInParts.antt` says what the lines of an input come to, `specs/Texts.antt` what they print.
+//! `specs/Texts.antt` says by which rules.
 #![tactic(auto)]
 
-mod line_run;
-mod parts_program;
-mod question;
+mod parted;
 mod run;
 mod store;
 #[cfg(test)]

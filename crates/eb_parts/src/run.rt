@@ -3,14 +3,14 @@ ghost use Rattle.eb_io.specs.Faults.{HasRisen};
 ghost use Rattle.eb_io.specs.Lines.{longest_input};
 ghost use Rattle.eb_lines.specs.Outcomes.{IsWorkedOff};
 ghost use Rattle.eb_lines.specs.Passing.{Ends};
-ghost use Rattle.eb_parts.specs.Texts.{Asked, IsBodyInParts, IsTextInParts, HasRefusalInParts, HasNoRefusalInParts, WroteInParts, MeansInParts};
+ghost use Rattle.eb_answer.specs.Rules.{Rules, is_bad, IsBody, IsText, HasRefusal, HasNoRefusal};
+ghost use Rattle.eb_parts.specs.Texts.{parts_rules, WroteInParts, MeansInParts};
 
-use crate::line_run::LineRun;
-use crate::parts_program::PartsProgram;
-use crate::store::Store;
+use crate::parted::Parted;
+use eb_answer::answer_lines;
 use eb_base::{Config, Gate};
 use eb_io::{Sink, Source};
-use eb_lines::{Status, pass_lines};
+use eb_lines::Status;
 use std::alloc::Global;
 
 /// Works off the lines that the source gives, in order, over so many parts, from 1 to 16, each an index of this setting:
@@ -31,16 +31,16 @@ pub fn run_parts<S: Source, K: Sink, G: Gate>(
     gate: &G,
 ) -> Status
     requires { (1 ≤ parts) × (parts ≤ 16) }
-    ensures ends { let a : Asked = record { parts = parts; setting = config; stats = stats } in
-        Ends (IsBodyInParts a) (IsTextInParts a) (HasRefusalInParts a) (HasNoRefusalInParts a) result
+    ensures ends { let rules = parts_rules parts config stats in
+        Ends (IsBody is_bad rules) (IsText is_bad rules) (HasRefusal is_bad rules) (HasNoRefusal is_bad rules) result
         (S.left source.old) (S.left source.new) (K.taken out.old) (K.taken out.new) }
     // Where source and `out` tell their bytes, `out` took what the status says of the input.
     ensures output { (bytes before : List ℕ) → S.left source.old ≡ Some bytes → K.taken out.old ≡ Some before
         → (printed : List ℕ) × (K.taken out.new ≡ Some (before ++ printed))
-        × WroteInParts (record { parts = parts; setting = config; stats = stats }) result bytes (S.left source.new) printed }
+        × WroteInParts (parts_rules parts config stats) result bytes (S.left source.new) printed }
     // What the status says of the input holds whatever becomes of the output.
     ensures means { (bytes : List ℕ) → S.left source.old ≡ Some bytes
-        → MeansInParts (record { parts = parts; setting = config; stats = stats }) result bytes (S.left source.new) }
+        → MeansInParts (parts_rules parts config stats) result bytes (S.left source.new) }
     // Faults come only from outside.
     ensures read_fault { result ≡ Status.ReadFault → HasRisen (S.faults source.old) (S.faults source.new) }
     ensures write_fault { result ≡ Status.WriteFault → HasRisen (K.faults out.old) (K.faults out.new) }
@@ -61,19 +61,14 @@ fn pass_parts<S: Source, K: Sink, G: Gate>(
     gate: &G,
 ) -> Status
     requires { (1 ≤ parts) × (parts ≤ 16) }
-    ensures ends { let a : Asked = record { parts = parts; setting = config; stats = stats } in
-        Ends (IsBodyInParts a) (IsTextInParts a) (HasRefusalInParts a) (HasNoRefusalInParts a) result
+    ensures ends { let rules = parts_rules parts config stats in
+        Ends (IsBody is_bad rules) (IsText is_bad rules) (HasRefusal is_bad rules) (HasNoRefusal is_bad rules) result
         (S.left source.old) (S.left source.new) (K.taken out.old) (K.taken out.new) }
     ensures read_fault { result ≡ Status.ReadFault → HasRisen (S.faults source.old) (S.faults source.new) }
     ensures write_fault { result ≡ Status.WriteFault → HasRisen (K.faults out.old) (K.faults out.new) }
 {
-    let Ok(store) = Store::new(alloc, parts, config) else {
+    let Ok(parted) = Parted::new(alloc, parts, stats, config) else {
         return Status::NoMemory;
     };
-    let mut program = PartsProgram {
-        alloc,
-        gate,
-        run: LineRun::new(store, parts, stats),
-    };
-    pass_lines(alloc, &mut program, Vec::new(alloc), source, out)
+    answer_lines(alloc, parted, source, out, gate)
 }

@@ -9,14 +9,14 @@ ghost use Rattle.eb_blend.specs.Frames.{Asks, found_of, searched_of};
 ghost use Rattle.eb_blend.specs.Laws.{cut_into};
 ghost use Rattle.eb_blend.specs.Parts.{AreFronts, counted, lengths_of};
 ghost use Rattle.eb_place.specs.Room.{cut};
-ghost use Rattle.eb_rounds.specs.Conversions.{most_converted};
+ghost use Rattle.eb_indexed.specs.Conversions.{most_converted};
 ghost use Rattle.eb_parts.specs.Stores.{Holds, WithPlaced};
 
 use eb_base::{Config, Document, Gate, NoMemory};
 use eb_blend::{Blend, BlendConverter, BlendFrame, BlendReader, BlendRefusal, BlendWriter};
+use eb_indexed::SegmentCounts;
 use eb_lines::Refusal;
 use eb_place::Steps;
-use eb_rounds::SegmentCounts;
 use std::alloc::Global;
 use std::marker::Brand;
 use std::sync::ledger::{Blank, Ledger};

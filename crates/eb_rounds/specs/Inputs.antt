@@ -8,7 +8,7 @@ use Rattle.eb_lines.specs.Reads.{IsOfDocument, of_query}
 use Rattle.eb_lines.specs.declared.refusal.Refusal.{Refusal}
 use Rattle.eb_lines.specs.Reading.{Reading, refused}
 use Rattle.eb_lines.specs.Progress.{documents_in}
-use Rattle.eb_rounds.specs.Admitted.{admit}
+use Rattle.eb_indexed.specs.Admitted.{admit}
 
 -- what a held line is
 pub data HeldInput : Type 0 where
@@ -20,10 +20,6 @@ pub data HeldInput : Type 0 where
 pub record HeldLine : Type 0 where
   pub number : ℕ
   pub input : HeldInput
-
--- one held line
-abbrev pub held_line : ℕ → HeldInput → List HeldLine
-held_line number input = record { number = number; input = input } ∷ []
 
 -- a line that is read, with its number
 pub record Entry : Type 0 where

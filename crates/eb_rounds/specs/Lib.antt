@@ -1,14 +1,7 @@
-pub mod Text
-pub mod Admitted
 pub mod Inputs
 pub mod Shown
 pub mod Works
-pub mod Sees
-pub mod Rows
 pub mod Standing
 pub mod Kept
 pub mod Takes
 pub mod Passed
-pub mod Conversions
-pub mod Ending
-pub mod LinesRead

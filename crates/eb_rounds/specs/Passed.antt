@@ -4,7 +4,7 @@ use Rattle.eb_rounds.specs.declared.input.Input.{Input}
 use Rattle.eb_rounds.specs.declared.input.Input.TheVariants as passed
 use Rattle.eb_rounds.specs.declared.input.Kind.{Kind}
 use Rattle.eb_rounds.specs.declared.input.Kind.TheVariants.{DocumentLine, QueryLine, RefusedLine}
-use Rattle.eb_rounds.specs.Inputs.{HeldInput, document_line, query_line, refused_line, HeldLine, held_line}
+use Rattle.eb_rounds.specs.Inputs.{HeldInput, document_line, query_line, refused_line}
 
 -- what it is held as
 abbrev pub input_of : Input → HeldInput
@@ -23,7 +23,3 @@ abbrev pub HasMark : Input → Type 0
 HasMark (passed.DocumentLine bytes) = Unit {0}
 HasMark (passed.QueryLine text) = slice_get text.now 0 ≡ Some 63
 HasMark (passed.RefusedLine r) = Unit {0}
-
--- the line alone, under its number
-abbrev pub alone : ℕ → Input → List HeldLine
-alone number line = held_line number (input_of line)

@@ -4,9 +4,9 @@ use Rattle.std.specs.List.{AllZip}
 use mathlib.Core.List.{IsPrefix}
 use Rattle.eb_base.specs.Document.{Doc}
 use Rattle.eb_base.specs.Setting.{Setting}
-use Rattle.eb_lines.specs.Reading.{Reading, blank, document, query, refused}
+use Rattle.eb_lines.specs.Reading.{Reading, blank, document, query, refused, watch}
 use Rattle.eb_lines.specs.Progress.{is_query, is_refused}
-use Rattle.eb_rounds.specs.Text.{output_of}
+use Rattle.eb_indexed.specs.Text.{output_of}
 use Rattle.eb_rounds.specs.Inputs.{HeldLine, Entry, ReadsLine, admitted_in, added}
 
 -- a line, and how many documents it sees where it is a query
@@ -80,6 +80,7 @@ need blank = 68
 need (document d) = 68
 need (query k q) = 64 + 21 * k
 need (refused r) = 68
+need (watch n q) = 68
 
 -- ---- the two halves of a round
 

@@ -43,15 +43,6 @@ no_counts = record { documents = 0; queries = 0; refused = 0 }
 abbrev pub with_held : Standing → ℕ → HeldInput → Standing
 with_held s number input = record { ahead = s.ahead; held = s.held ++ record { number = number; input = input } ∷ []; counts = s.counts; greatest = number }
 
--- one line more is worked off, and counted
-abbrev pub with_counts : Standing → ℕ → ℕ → ℕ → ℕ → Standing
-with_counts s number documents queries refused = record {
-  ahead = s.ahead;
-  held = s.held;
-  counts = record { documents = s.counts.documents + documents; queries = s.counts.queries + queries; refused = s.counts.refused + refused };
-  greatest = number;
-}
-
 -- a round more is open, and the lines held before are ahead of it
 abbrev pub with_round : Standing → Standing
 with_round s = record { ahead = s.held; held = []; counts = s.counts; greatest = s.greatest }

@@ -1,26 +1,17 @@
 //! Rounds of lines: lines are read side by side, and documents are added while queries are answered.
 //!
 //! [`Rounds`] holds lines until they are worked off, round after round. What a query of a round may see, and what the lines print, is said by
-//! `WorkedOff` (`specs/Shown.antt`); which prefixes the queries of a whole input may see, by `Sees` (`specs/Sees.antt`).
+//! `WorkedOff` (`specs/Shown.antt`); which prefixes the queries of a whole input may see, by `Sees` of `eb_indexed`.
 #![tactic(auto)]
 
 mod adding;
-mod alone;
 mod answering;
-mod converting;
-mod counts;
-mod ending;
 mod held;
 mod input;
 mod reading;
 mod rounds;
-mod searching;
 mod tasks;
 mod working;
 
-pub use converting::{SegmentCounts, close};
-pub use counts::Counts;
-pub use ending::put_end;
 pub use input::{Input, Kind};
 pub use rounds::Rounds;
-pub use searching::search_all;

@@ -14,7 +14,7 @@ use std::alloc::{AllocError, Global};
 use std::thread::{Threads, join};
 
 // What is to be done for a document line.
-pub(crate) fn document_work(alloc: Global, bytes: &[u8]) -> Result<GivenWork, NoMemory>
+fn document_work(alloc: Global, bytes: &[u8]) -> Result<GivenWork, NoMemory>
     ensures { IfOk result (λ work. IsOfDocument (document_of bytes.now) (given_reading work)) }
 {
     match read_document_line(alloc, bytes)? {
@@ -24,7 +24,7 @@ pub(crate) fn document_work(alloc: Global, bytes: &[u8]) -> Result<GivenWork, No
 }
 
 // What is to be done for a query line.
-pub(crate) fn query_work(alloc: Global, text: &str) -> Result<AskedWork, NoMemory>
+fn query_work(alloc: Global, text: &str) -> Result<AskedWork, NoMemory>
     requires { slice_get text.now 0 ≡ Some 63 }
     ensures { IfOk result (λ work. ReadsInput (query_line text.now) (asked_reading work)) }
 {

@@ -2,17 +2,14 @@ ghost use Rattle.std.specs.Prelude.{◌≡◌, ◌+◌, ◌<◌, ◌≤◌, ◌^
 ghost use Rattle.std.specs.Prelude.{length, vec_len, vec_capacity, IfOk, OnErr, OnOk, IsTrue, ◌↔◌};
 ghost use Rattle.std.specs.List.{AllZip};
 ghost use mathlib.Core.List.{IsPrefix};
-ghost use Rattle.eb_rounds.specs.Conversions.{AreConverted};
+ghost use Rattle.eb_indexed.specs.Conversions.{AreConverted};
 ghost use Rattle.eb_rounds.specs.Inputs.{ReadsLine, document_line, query_line, refused_line};
-ghost use Rattle.eb_rounds.specs.Passed.{input_of, input_kind, HasMark, alone};
+ghost use Rattle.eb_rounds.specs.Passed.{input_of, input_kind, HasMark};
 ghost use Rattle.eb_rounds.specs.Takes.{takes_kind};
-ghost use Rattle.eb_rounds.specs.Shown.{WorkedOff, WorkedOffBoth};
-ghost use Rattle.eb_rounds.specs.Standing.{Standing, documents_held, queries_held, no_counts, with_held, with_counts, with_round};
+ghost use Rattle.eb_rounds.specs.Shown.{WorkedOffBoth};
+ghost use Rattle.eb_rounds.specs.Standing.{Standing, documents_held, queries_held, no_counts, with_held, with_round};
 ghost use Rattle.eb_rounds.specs.Works.{entries_of, need_of_tasks, HasRoomForRefusals};
 
-use crate::alone::work_alone;
-use crate::converting::catch_up;
-use crate::counts::Counts;
 use crate::held::{FirstInput, FirstLine, Held, QueryLine, ThenInput, ThenLine};
 use crate::input::{Input, Kind};
 use crate::reading::read_rounds;
@@ -20,6 +17,7 @@ use crate::tasks::Tasks;
 use crate::working::{needs_of, work_tasks};
 use eb_base::{Gate, NoMemory};
 use eb_engine::{Converter, Index, Reader, Writer};
+use eb_indexed::Counts;
 use eb_lines::Refusal;
 use std::alloc::Global;
 use std::marker::Model;
@@ -334,54 +332,6 @@ impl Rounds {
             queries: first.queries + then.queries,
             refused: first.refused + then.refused,
         });
-        Ok(())
-    }
-
-    // Counts what one line came to.
-    fn count(&mut self, number: u64, counts: Counts)
-        requires number { self.old.greatest < number }
-        requires few { counts.documents + (counts.queries + counts.refused) ≤ 1 }
-        ensures { self.new ≡ with_counts self.old number counts.documents counts.queries counts.refused }
-    {
-        self.counts.documents += counts.documents;
-        self.counts.queries += counts.queries;
-        self.counts.refused += counts.refused;
-        self.greatest = number;
-    }
-
-    /// Works off one line as a round of its own, as `step_behind` would where it alone were held: by this thread, without a
-    /// copy of the line. What is held stays held. Behind the line each segment is converted that is closed by then. The
-    /// number is above those that were put before; a query line begins with `?`. The tokens must have been made with this
-    /// index.
-    pub fn work_line<G: Gate>(
-        &mut self,
-        alloc: Global,
-        number: u64,
-        line: Input<'_>,
-        index: &Index,
-        writer: &mut Writer,
-        converter: &mut Converter,
-        gate: &G,
-        text: &mut Vec<u8>,
-    ) -> Result<(), NoMemory>
-        requires number { self.old.greatest < number }
-        requires question_mark { HasMark line }
-        requires writer { writer.old.index ≡ index.now }
-        requires converter { converter.old.index ≡ index.now }
-        ensures writer { writer.new.index ≡ writer.old.index }
-        ensures converter { converter.new.index ≡ converter.old.index }
-        ensures ok { OnOk result ((printed : List ℕ)
-            × WorkedOff index.now.setting (alone number line.entry) writer.old.docs writer.new.docs self.old.counts self.new.counts printed
-            × (text.new.items ≡ text.old.items ++ printed)) }
-        ensures held { OnOk result ((self.new.ahead ≡ self.old.ahead) × (self.new.held ≡ self.old.held) × (self.new.greatest ≡ number)) }
-        ensures told { OnOk result (IsPrefix writer.new.docs converter.new.docs) }
-        ensures converted { OnOk result (AreConverted index.now.setting writer.new.docs converter.new.converted) }
-        ensures grown { converter.old.converted ≤ converter.new.converted }
-        ensures err { OnErr result ((self.new ≡ self.old) × (writer.new ≡ writer.old) × (converter.new ≡ converter.old) × (text.new.items ≡ text.old.items)) }
-    {
-        let counts = work_alone(alloc, number, line, index, writer, gate, text)?;
-        catch_up(index, writer, converter);
-        self.count(number, counts);
         Ok(())
     }
 }

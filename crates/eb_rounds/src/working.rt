@@ -1,22 +1,21 @@
 ghost use Rattle.std.specs.Prelude.{◌≡◌, ◌+◌, ◌*◌, ◌≤◌, ◌^◌, List, [], length, map, sum_by, vec_len, vec_capacity};
 ghost use Rattle.std.specs.List.{AllZip, list_any};
 ghost use mathlib.Core.List.{IsPrefix};
-ghost use Rattle.eb_rounds.specs.Conversions.{AreConverted};
+ghost use Rattle.eb_indexed.specs.Conversions.{AreConverted};
 ghost use Rattle.eb_rounds.specs.Inputs.{HeldLine, ReadsLine};
 ghost use Rattle.eb_rounds.specs.Shown.{AreAnswered, AreAdded, IsRoundOfLines, WorksOff};
 ghost use Rattle.eb_rounds.specs.Works.{asked_entry, asked_need, is_answer, is_add, given_entry, entries_of, need_of_tasks, count_of_tasks, HasRoomForRefusals};
 
 use crate::adding::add_all;
 use crate::answering::answer_all;
-use crate::converting::{convert_all, has_waiting};
-use crate::counts::Counts;
 use crate::tasks::{Asked, AskedWork, Given, GivenWork, Tasks};
 use eb_base::Gate;
 use eb_engine::{Converter, Index, Reader, Writer};
+use eb_indexed::{Counts, convert_all, has_waiting};
 use std::thread::{Threads, join_mut};
 
 // The most bytes that a line prints.
-pub(crate) fn need_of(task: &Asked) -> usize
+fn need_of(task: &Asked) -> usize
     ensures need { result ≡ asked_need task.now }
     ensures small { result ≤ 2 ^ 40 }
 {

@@ -1,3 +1,3 @@
-pub mod Admissions
-pub mod Watchings
-pub mod WatchLines
+pub mod Setting
+pub mod OtherLines
+pub mod Telling

@@ -1,4 +1,3 @@
-pub mod Readings
-pub mod Admitted
-pub mod Texts
-pub mod Watching
+pub mod Others
+pub mod WatchRules
+pub mod Watched

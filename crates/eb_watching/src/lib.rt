@@ -1,12 +1,11 @@
-//! A run with watches: lines set and remove standing queries, and each accepted document tells which of them it matches, at
-//! once. `specs/Admitted.antt` says what the lines of an input come to, `specs/Texts.antt` what they print.
+//! A run with watches: lines also set and remove watches, and each document tells which it matches.
+//! `specs/WatchRules.antt` says by which rules.
 #![tactic(auto)]
 
-mod program;
+mod other;
 mod run;
-mod watching;
-
-pub use run::run_watches;
-
 #[cfg(test)]
 mod tests;
+mod watched;
+
+pub use run::run_watches;

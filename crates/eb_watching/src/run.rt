@@ -3,13 +3,15 @@ ghost use Rattle.eb_io.specs.Faults.{HasRisen};
 ghost use Rattle.eb_io.specs.Lines.{longest_input};
 ghost use Rattle.eb_lines.specs.Outcomes.{IsWorkedOff};
 ghost use Rattle.eb_lines.specs.Passing.{Ends};
-ghost use Rattle.eb_watching.specs.Texts.{asked, IsWatchBody, IsWatchText, HasWatchRefusal, HasNoWatchRefusal, WroteWatches, MeansWatches};
+ghost use Rattle.eb_answer.specs.Rules.{Rules, IsBody, IsText, HasRefusal, HasNoRefusal};
+ghost use Rattle.eb_watching.specs.Others.{ReadsOther};
+ghost use Rattle.eb_watching.specs.WatchRules.{watch_rules, WroteWatches, MeansWatches};
 
-use crate::program::WatchProgram;
-use crate::watching::Watching;
+use crate::watched::WatchedIndex;
+use eb_answer::answer_lines;
 use eb_base::{Config, Gate};
 use eb_io::{Sink, Source};
-use eb_lines::{Status, pass_lines};
+use eb_lines::Status;
 use std::alloc::Global;
 
 /// Works off the lines that the source gives, in order, with an index of this setting; prints answers, what watches are
@@ -28,14 +30,14 @@ pub fn run_watches<S: Source, K: Sink, G: Gate>(
     out: &mut K,
     gate: &G,
 ) -> Status
-    ensures ends { let a = asked config stats in
-        Ends (IsWatchBody a) (IsWatchText a) (HasWatchRefusal a) (HasNoWatchRefusal a) result
+    ensures ends { let rules = watch_rules config stats in
+        Ends (IsBody ReadsOther rules) (IsText ReadsOther rules) (HasRefusal ReadsOther rules) (HasNoRefusal ReadsOther rules) result
         (S.left source.old) (S.left source.new) (K.taken out.old) (K.taken out.new) }
     // Where source and `out` tell their bytes, `out` took what the status says of the input.
     ensures output { (bytes before : List ℕ) → S.left source.old ≡ Some bytes → K.taken out.old ≡ Some before
-        → (printed : List ℕ) × (K.taken out.new ≡ Some (before ++ printed)) × WroteWatches (asked config stats) result bytes (S.left source.new) printed }
+        → (printed : List ℕ) × (K.taken out.new ≡ Some (before ++ printed)) × WroteWatches (watch_rules config stats) result bytes (S.left source.new) printed }
     // What the status says of the input holds whatever becomes of the output.
-    ensures means { (bytes : List ℕ) → S.left source.old ≡ Some bytes → MeansWatches (asked config stats) result bytes (S.left source.new) }
+    ensures means { (bytes : List ℕ) → S.left source.old ≡ Some bytes → MeansWatches (watch_rules config stats) result bytes (S.left source.new) }
     // Faults come only from outside.
     ensures read_fault { result ≡ Status.ReadFault → HasRisen (S.faults source.old) (S.faults source.new) }
     ensures write_fault { result ≡ Status.WriteFault → HasRisen (K.faults out.old) (K.faults out.new) }
@@ -54,19 +56,14 @@ fn pass_watched<S: Source, K: Sink, G: Gate>(
     out: &mut K,
     gate: &G,
 ) -> Status
-    ensures ends { let a = asked config stats in
-        Ends (IsWatchBody a) (IsWatchText a) (HasWatchRefusal a) (HasNoWatchRefusal a) result
+    ensures ends { let rules = watch_rules config stats in
+        Ends (IsBody ReadsOther rules) (IsText ReadsOther rules) (HasRefusal ReadsOther rules) (HasNoRefusal ReadsOther rules) result
         (S.left source.old) (S.left source.new) (K.taken out.old) (K.taken out.new) }
     ensures read_fault { result ≡ Status.ReadFault → HasRisen (S.faults source.old) (S.faults source.new) }
     ensures write_fault { result ≡ Status.WriteFault → HasRisen (K.faults out.old) (K.faults out.new) }
 {
-    let Ok(watching) = Watching::new(alloc, stats, config) else {
+    let Ok(watched) = WatchedIndex::new(alloc, stats, config) else {
         return Status::NoMemory;
     };
-    let mut program = WatchProgram {
-        alloc,
-        gate,
-        watching,
-    };
-    pass_lines(alloc, &mut program, Vec::new(alloc), source, out)
+    answer_lines(alloc, watched, source, out, gate)
 }

@@ -4,8 +4,8 @@ use Rattle.std.specs.Prelude.{Option, Some}
 use Rattle.std.proofs.lemmas.List.Elements.{All-nil}
 use Rattle.eb_lines.specs.Progress.{accepted, queries, refusals}
 use Rattle.eb_lines.specs.Reads.{Reads}
-use Rattle.eb_rounds.proofs.LinesRead.{read_none}
-use Rattle.eb_rounds.proofs.Texts.{body_none}
+use Rattle.eb_indexed.proofs.LinesRead.{read_none}
+use Rattle.eb_indexed.proofs.Texts.{body_none}
 use Rattle.eb_serve.specs.Desk.{Queues, ClerkBook, new_clerk}
 use Rattle.eb_serve.specs.Rule.{IsAboveEach}
 use Rattle.eb_table.specs.Known.{Words}

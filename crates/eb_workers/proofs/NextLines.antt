@@ -5,11 +5,11 @@ use Rattle.eb_lines.specs.Reading.{Reading}
 use Rattle.eb_lines.specs.Progress.{documents_in, accepted, told, is_query}
 use Rattle.eb_lines.specs.Text.{answer_line}
 use Rattle.eb_lines.proofs.Advancing.{told-length}
-use Rattle.eb_rounds.specs.Sees.{is_asked, IsAsked}
-use Rattle.eb_rounds.specs.Rows.{joined_numbers}
-use Rattle.eb_rounds.specs.Text.{output_of, body_from}
-use Rattle.eb_rounds.proofs.Seeing.{told_front}
-use Rattle.eb_rounds.proofs.Texts.{body_append, body_one}
+use Rattle.eb_indexed.specs.Sees.{is_asked, IsAsked}
+use Rattle.eb_indexed.specs.Rows.{joined_numbers}
+use Rattle.eb_indexed.specs.Text.{output_of, body_from}
+use Rattle.eb_indexed.proofs.Seeing.{told_front}
+use Rattle.eb_indexed.proofs.Texts.{body_append, body_one}
 use Rattle.eb_workers.specs.declared.waiting.Waiting.{Waiting}
 use Rattle.eb_workers.specs.declared.waiting.Waiting.TheVariants as waits
 use Rattle.eb_workers.specs.Waiting.{IsReady, WaitsAs, AreWaiting, printed_by}

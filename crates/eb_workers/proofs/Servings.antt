@@ -15,11 +15,11 @@ use Rattle.eb_lines.specs.Reads.{Reads}
 use Rattle.eb_lines.specs.Progress.{documents_in, accepted, queries, refusals, is_query, is_refused, one_if}
 use Rattle.eb_lines.proofs.Advancing.{accepted-push, accepted-append, queries-push, refusals-push}
 use Rattle.eb_lines.proofs.PassingLines.{works_number}
-use Rattle.eb_rounds.specs.Admitted.{admit}
-use Rattle.eb_rounds.specs.LinesRead.{AreRead}
-use Rattle.eb_rounds.specs.Text.{body_from}
-use Rattle.eb_rounds.proofs.LinesRead.{read_push, read_long}
-use Rattle.eb_rounds.proofs.Texts.{body_grown}
+use Rattle.eb_indexed.specs.Admitted.{admit}
+use Rattle.eb_indexed.specs.LinesRead.{AreRead}
+use Rattle.eb_indexed.specs.Text.{body_from}
+use Rattle.eb_indexed.proofs.LinesRead.{read_push, read_long}
+use Rattle.eb_indexed.proofs.Texts.{body_grown}
 use Rattle.eb_serve.specs.Rule.{IsAboveEach}
 use Rattle.eb_serve.specs.declared.rule.Pair.{Pair}
 use Rattle.eb_table.specs.Known.{Words}

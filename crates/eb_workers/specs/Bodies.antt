@@ -5,11 +5,11 @@ use Rattle.std.proofs.lemmas.Bool.{cases_Bool}
 use Rattle.std.proofs.lemmas.Bool.Decides.{nat_tests}
 use Rattle.eb_base.specs.Document.{Doc}
 use Rattle.eb_lines.specs.Reading.{Reading}
-use Rattle.eb_rounds.specs.Sees.{is_asked, IsAsked}
-use Rattle.eb_rounds.specs.Rows.{joined_numbers}
-use Rattle.eb_rounds.specs.Text.{body_from}
-use Rattle.eb_rounds.proofs.Seeing.{get_front}
-use Rattle.eb_rounds.proofs.Texts.{body_same}
+use Rattle.eb_indexed.specs.Sees.{is_asked, IsAsked}
+use Rattle.eb_indexed.specs.Rows.{joined_numbers}
+use Rattle.eb_indexed.specs.Text.{body_from}
+use Rattle.eb_indexed.proofs.Seeing.{get_front}
+use Rattle.eb_indexed.proofs.Texts.{body_same}
 
 -- ---- the numbers of the first k lines, and then others
 

@@ -6,10 +6,9 @@ use Rattle.eb_lines.specs.Outcomes.{Wrote, Means}
 use Rattle.eb_lines.specs.declared.status.Status.{Status}
 use Rattle.eb_lines.specs.Progress.{accepted, told}
 use Rattle.eb_lines.specs.Reading.{Reading}
-use Rattle.eb_rounds.specs.Ending.{stats_of}
-use Rattle.eb_rounds.specs.LinesRead.{AreRead, HasRefusal, HasNoRefusal}
-use Rattle.eb_rounds.specs.Sees.{IsAsked}
-use Rattle.eb_rounds.specs.Text.{body, text}
+use Rattle.eb_indexed.specs.LinesRead.{AreRead, HasRefusal, HasNoRefusal}
+use Rattle.eb_indexed.specs.Sees.{IsAsked}
+use Rattle.eb_indexed.specs.Text.{body, end_of}
 
 -- the setting of the index, and whether the segments are told
 pub record Asked : Type 0 where
@@ -38,7 +37,7 @@ pub record IsWorkersText (a : Asked) (lines : List Line) (printed : List ℕ) : 
   pub numbers : ℕ → ℕ
   pub read : AreRead a.setting lines readings
   pub sees : SeesTold readings numbers
-  pub bytes : printed ≡ text numbers readings ++ stats_of a.stats a.setting (accepted readings)
+  pub bytes : printed ≡ body numbers readings ++ end_of a.setting a.stats readings
 
 -- the text of an input of these bytes
 abbrev pub IsWorkersOutput : Setting → Bool → List ℕ → List ℕ → Type 0

@@ -4,9 +4,9 @@ use Rattle.eb_io.specs.Lines.{Line}
 use Rattle.eb_lines.specs.Progress.{accepted, queries, refusals, told}
 use Rattle.eb_lines.specs.Reading.{Reading}
 use Rattle.eb_lines.specs.Reads.{Reads}
-use Rattle.eb_rounds.specs.Sees.{IsAsked}
-use Rattle.eb_rounds.specs.LinesRead.{AreRead}
-use Rattle.eb_rounds.specs.Text.{body_from}
+use Rattle.eb_indexed.specs.Sees.{IsAsked}
+use Rattle.eb_indexed.specs.LinesRead.{AreRead}
+use Rattle.eb_indexed.specs.Text.{body_from}
 use Rattle.eb_serve.specs.Rule.{IsAboveEach}
 use Rattle.eb_workers.specs.declared.serving.Serving.{Serving}
 use Rattle.eb_workers.specs.Output.{Asked}

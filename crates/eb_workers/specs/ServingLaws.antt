@@ -1,15 +1,14 @@
 -- What a run has printed is a front of a whole text.
-use Rattle.std.proofs.Common.{◌≡◌, ℕ, ◌+◌, ◌-◌, ◌≤◌, inl, inr, List, [], ◌++◌, length, refl, sym, ap, ◌∙◌, arith, append_assoc, append-nil}
+use Rattle.std.proofs.Common.{◌≡◌, ℕ, ◌+◌, ◌-◌, ◌≤◌, inl, inr, List, [], ◌++◌, length, refl, sym, ap, ◌∙◌, arith, append-nil}
 use Rattle.eb_io.specs.Lines.{Line}
 use Rattle.eb_lines.specs.Programs.{PrintsFront}
 use Rattle.eb_lines.specs.Reading.{Reading}
-use Rattle.eb_lines.specs.Progress.{accepted, told, progress_after}
+use Rattle.eb_lines.specs.Progress.{accepted, told}
 use Rattle.eb_lines.proofs.Advancing.{told_within}
-use Rattle.eb_rounds.specs.Rows.{joined_numbers}
-use Rattle.eb_rounds.specs.Ending.{stats_of}
-use Rattle.eb_rounds.specs.Text.{body, body_from, summary}
-use Rattle.eb_rounds.proofs.Seeing.{told_front}
-use Rattle.eb_rounds.proofs.Texts.{body_append}
+use Rattle.eb_indexed.specs.Rows.{joined_numbers}
+use Rattle.eb_indexed.specs.Text.{body, body_from, end_of}
+use Rattle.eb_indexed.proofs.Seeing.{told_front}
+use Rattle.eb_indexed.proofs.Texts.{body_append}
 use Rattle.eb_workers.specs.declared.serving.Serving.{Serving}
 use Rattle.eb_workers.specs.Output.{Asked, SeesTold, IsWorkersBody, IsWorkersText}
 use Rattle.eb_workers.specs.Serving.{HasServed}
@@ -56,18 +55,15 @@ module _ (s : Serving) (a : Asked) (given : List Line) (so_far : List ℕ) (h : 
 
 -- ---- the whole text
 
-abbrev pub end_of : Asked → List Reading → List ℕ
-end_of a rs = summary (progress_after rs) ++ stats_of a.stats a.setting (accepted rs)
-
-pub body_text : (a : Asked) (lines : List Line) (printed : List ℕ) (b : IsWorkersBody a lines printed) → IsWorkersText a lines (printed ++ end_of a b.readings)
+pub body_text : (a : Asked) (lines : List Line) (printed : List ℕ) (b : IsWorkersBody a lines printed) → IsWorkersText a lines (printed ++ end_of a.setting a.stats b.readings)
 body_text a lines printed b = record {
   readings = b.readings;
   numbers = b.numbers;
   read = b.read;
   sees = b.sees;
-  bytes = ap (λ x. x ++ end_of a b.readings) b.bytes ∙ sym (append_assoc (body b.numbers b.readings) (summary (progress_after b.readings)) (stats_of a.stats a.setting (accepted b.readings)));
+  bytes = ap (λ x. x ++ end_of a.setting a.stats b.readings) b.bytes;
 }
 
 -- a body comes first in the whole text
 pub body_first : (a : Asked) (lines : List Line) (printed : List ℕ) → IsWorkersBody a lines printed → (more : List ℕ) × IsWorkersText a lines (printed ++ more)
-body_first a lines printed b = (end_of a b.readings, body_text a lines printed b)
+body_first a lines printed b = (end_of a.setting a.stats b.readings, body_text a lines printed b)

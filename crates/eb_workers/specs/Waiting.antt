@@ -8,7 +8,7 @@ use Rattle.eb_cursor.specs.Frames.{query_of, k_of, ids_of}
 use Rattle.eb_lines.specs.Progress.{documents_in, is_query}
 use Rattle.eb_lines.specs.Reading.{Reading, query, refused}
 use Rattle.eb_lines.specs.Text.{answer_line, refusal_line}
-use Rattle.eb_rounds.specs.Text.{output_of}
+use Rattle.eb_indexed.specs.Text.{output_of}
 use Rattle.eb_workers.specs.declared.waiting.Waiting.{Waiting}
 use Rattle.eb_workers.specs.declared.waiting.Waiting.TheVariants as waits
 

@@ -2,14 +2,14 @@
 ghost use Rattle.std.specs.Prelude.{◌≡◌, ◌+◌, length, MatchOption, ⊤};
 ghost use mathlib.Core.List.{IsPrefix};
 ghost use Rattle.eb_place.specs.Room.{cut};
-ghost use Rattle.eb_rounds.specs.Conversions.{most_converted};
+ghost use Rattle.eb_indexed.specs.Conversions.{most_converted};
 ghost use Rattle.eb_serve.specs.Jobs.{answerer};
 ghost use Rattle.eb_serve.specs.Rule.{IsAboveEach};
 
 use eb_base::{Document, Gate};
 use eb_cursor::Frame;
 use eb_engine::{Converter, Index, Reader, Writer};
-use eb_rounds::{SegmentCounts, close};
+use eb_indexed::{SegmentCounts, close};
 use eb_serve::{Answer, Clerk, Desk, Job, stop_all};
 use eb_writer::Full;
 use std::sync::Wait;
@@ -134,7 +134,7 @@ impl Office<'_> {
         requires staffed { IsStaffed self.old }
         ensures keeps { Keeps self.old self.new }
         ensures clerk { self.new.clerk ≡ self.old.clerk }
-        ensures writer { self.new.writer ≡ self.old.writer }
+        ensures writer { (self.new.writer.index ≡ self.old.writer.index) × (self.new.writer.docs ≡ self.old.writer.docs) }
         ensures segments { result.segments ≡ length (cut self.old.index.now.setting self.old.writer.docs) }
         ensures converted { result.converted ≡ most_converted (length (cut self.old.index.now.setting self.old.writer.docs)) }
     {

@@ -17,7 +17,7 @@ pub(crate) struct WorkersProgram<'a, R: Wait, G: Gate> {
 
 impl<R: Wait, G: Gate> LineProgram for WorkersProgram<'_, R, G> {
     ghost use Rattle.std.specs.Prelude.{◌≡◌, []};
-    ghost use Rattle.eb_rounds.specs.LinesRead.{HasRefusal, HasNoRefusal};
+    ghost use Rattle.eb_indexed.specs.LinesRead.{HasRefusal, HasNoRefusal};
     ghost use Rattle.eb_workers.specs.Output.{Asked as AskedRun, IsWorkersBody, IsWorkersText};
     ghost use Rattle.eb_workers.specs.Serving.{HasServed};
     ghost use Rattle.eb_workers.specs.ServingLaws.{served_first, body_first};

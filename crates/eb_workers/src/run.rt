@@ -5,7 +5,7 @@ ghost use Rattle.eb_io.specs.Lines.{longest_input};
 ghost use Rattle.eb_lines.specs.Outcomes.{IsWorkedOff};
 ghost use Rattle.eb_lines.specs.Passing.{Ends};
 ghost use Rattle.eb_serve.specs.Desk.{IsWorkerOf};
-ghost use Rattle.eb_rounds.specs.LinesRead.{HasRefusal, HasNoRefusal};
+ghost use Rattle.eb_indexed.specs.LinesRead.{HasRefusal, HasNoRefusal};
 ghost use Rattle.eb_workers.specs.Output.{Asked, asked, IsWorkersBody, IsWorkersText, WroteWorkers, MeansWorkers};
 ghost use Rattle.eb_workers.specs.Offices.{IsNewSide};
 ghost use Rattle.eb_workers.specs.Serving.{HasServed};
@@ -93,6 +93,29 @@ fn serve<'a, R: Threads + Wait + Sync, S: Source, K: Sink, G: Gate + Sync>(
     pass_and_stop(rt, alloc, program, source, out, workers)
 }
 
+// Lets the workers work beside the clerk's part, which is called once.
+fn work_beside<R: Threads + Wait + Sync, G: Gate + Sync, C: FnMut() -> (Status, Clerk)>(
+    rt: &R,
+    desk: &Desk,
+    index: &Index,
+    gate: &G,
+    workers: &mut [Worker],
+    clerk: &mut C,
+) -> (Status, Clerk)
+    requires workers { All (λ w. IsWorkerOf desk.now.queues index.now w) workers.old }
+    requires clerk { C.pre clerk.old }
+    ensures { C.step clerk.old result clerk.new }
+{
+    let (_, answered) = join_mut(
+        rt,
+        &mut ||
+            requires { All (λ w. IsWorkerOf desk.now.queues index.now w) workers.now }
+        { work_all(rt, desk, index, gate, workers) },
+        clerk,
+    );
+    answered
+}
+
 // The clerk's part beside the workers'.
 fn serve_beside<R: Threads + Wait + Sync, S: Source, K: Sink, G: Gate + Sync>(
     rt: &R,
@@ -115,11 +138,12 @@ fn serve_beside<R: Threads + Wait + Sync, S: Source, K: Sink, G: Gate + Sync>(
     ensures read_fault { result ≡ Status.ReadFault → HasRisen (S.faults source.old) (S.faults source.new) }
     ensures write_fault { result ≡ Status.WriteFault → HasRisen (K.faults out.old) (K.faults out.new) }
 {
-    let (_, (status, _)) = join_mut(
+    let (status, _) = work_beside(
         rt,
-        &mut ||
-            requires { All (λ w. IsWorkerOf desk.now.queues index.now w) workers.now }
-        { work_all(rt, desk, index, gate, workers) },
+        desk,
+        index,
+        gate,
+        workers,
         &mut ||
             requires { IsNewSide desk.now.queues index.now side.now }
         {

@@ -1,5 +1,5 @@
-use crate::{Command, CommandFault, read_command};
 use eb_base::Config;
+use eb_run::{Command, CommandFault, read_command};
 use std::alloc::Global;
 use std::test::Fail;
 

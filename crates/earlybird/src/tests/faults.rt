@@ -1,8 +1,9 @@
 //! Failing reads and writes, one at each call.
 use super::{Left, SMALL, run_on, sink_of, source_of};
-use crate::{Status, run};
 use eb_base::OpenGate;
 use eb_io::CountSink;
+use eb_lines::Status;
+use eb_run::run;
 use std::alloc::Global;
 use std::process::Abort;
 use std::sync::Wait;

@@ -1,11 +1,11 @@
 use super::{MESSAGES, run_on};
-use crate::run;
 use eb_base::{Document, Gate, Point};
 use eb_doc::read_document;
 use eb_gen::{line_of, query_of};
 use eb_io::{MemSink, MemSource};
 use eb_plain::newest;
 use eb_query::read_query;
+use eb_run::run;
 use std::alloc::{AllocError, Global};
 use std::process::Abort;
 use std::str;
@@ -305,19 +305,5 @@ fn bench_prints_its_figures(rt: HostRuntime) -> Result<(), Fail> {
     let want = format!(in alloc; "bench: documents 1000, queries 1, ids {ids}, sum {sum}\n")?;
     let bench = run_on(&rt, rt.alloc(), &["bench", "0", "1000"], b"", 64, &[], &[])?;
     assert_eq!(rt; bench.printed.as_slice(), want.as_bytes());
-    Ok(())
-}
-
-#[test]
-fn the_greatest_bench_is_the_same_twice(rt: HostRuntime) -> Result<(), Fail> {
-    let words = ["bench", "0", "40000"];
-    let first = run_on(&rt, rt.alloc(), &words, b"", 64, &[], &[])?;
-    let second = run_on(&rt, rt.alloc(), &words, b"", 64, &[], &[])?;
-    assert!(rt;
-        first
-            .printed
-            .starts_with(b"bench: documents 40000, queries 40, ids ")
-    );
-    assert_eq!(rt; first.printed.as_slice(), second.printed.as_slice());
     Ok(())
 }

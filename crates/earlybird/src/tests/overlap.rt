@@ -1,7 +1,8 @@
 //! Documents are added while queries are answered.
 use super::{run_on, sink_of, source_of};
-use crate::{Status, run};
 use eb_base::{Gate, Point};
+use eb_lines::Status;
+use eb_run::run;
 use std::alloc::Global;
 use std::process::Abort;
 use std::sync::Wait;

@@ -1,6 +1,6 @@
 //! The line of the segments, which stands behind the summary with `--stats`.
 use super::run_on;
-use crate::Status;
+use eb_lines::Status;
 use std::test::Fail;
 
 const FIVE: &str =

@@ -2,9 +2,10 @@
 ghost use Rattle.std.specs.Prelude.{◌≤◌, length};
 
 use super::sink_of;
-use crate::{Status, run};
 use eb_base::OpenGate;
 use eb_io::{StdSink, StdSource};
+use eb_lines::Status;
+use eb_run::run;
 use std::alloc::Global;
 use std::io;
 use std::process::Abort;

@@ -1,8 +1,8 @@
 //! The other ways to run: with workers, and over parts.
 use super::overlap::{PAIR, run_with};
 use super::run_on;
-use crate::Status;
 use eb_base::{Gate, OpenGate, Point};
+use eb_lines::Status;
 use std::sync::atomic::{AtomicU64, Ordering};
 use std::test::Fail;
 use std::thread;

@@ -18,4 +18,4 @@ returns-in_err-read_parts-clause-all g c =
     let p = err_from_is_err_and c.from_residual.result c.from_residual.ensures.1 in
     let head = c.in-Ok.ensures.ok in
     let σ = c.in-Ok.read.0 in
-    rw (p.1, p.2) (c.in_err-read_parts.ensures.all σ (g.S.Source.left c.args.source.now) head.0 (takes_head c.in-Ok-new.store σ _ _ head.1 c.in-Ok-new.ensures))
+    rw (p.1, p.2) (c.in_err-read_parts.ensures.all σ (g.S.Source.left c.args.source.now) head.0 (takes_head c.in-Ok-new.store σ _ _ head.1 c.in-Ok-new.ensures.holds))

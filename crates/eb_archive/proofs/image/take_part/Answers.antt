@@ -2,7 +2,7 @@ use Rattle.std.proofs.Common.{Bool, ap, subst}
 use Rattle.eb_archive.proofs.Takings.{takes_end, takes_part, takes_full, takes_fault}
 use Rattle.std.specs.Prelude.{Ok, Err}
 use Rattle.std.proofs.lemmas.Result.{err_from_is_err_and}
-use Rattle.eb_archive.specs.Stores.{WithPlaced}
+use Rattle.eb_indexed.specs.Indexed.{WithPlaced}
 use Rattle.eb_archive.proofs.image.take_part.Goals as goal
 
 pub returns-in_err-next-clause-next : goal.returns-in_err-next-clause-next
@@ -15,7 +15,7 @@ returns-in_err-next-clause-next g c = λ σ docs first allowed h.
 pub returns-then-not-add-clause-next : goal.returns-then-not-add-clause-next
 returns-then-not-add-clause-next g c = λ σ docs first allowed h.
     let P : Bool → Type 0 = WithPlaced c.add.new.self σ docs c.in-Some.document in
-    let full = subst P c.if-not-add.true (c.add.ensures σ docs h.store) in
+    let full = subst P c.if-not-add.true (c.add.ensures.placed σ docs h.store) in
     let part = rw c.in-Some.is at c.in_ok-next.ensures.part in
     takes_full c.args.store.now σ docs first _ _ allowed h c.in-Some.document part.0 part.1 full.0
 
@@ -25,6 +25,6 @@ returns-in-None-clause-next g c = λ σ docs first allowed h. takes_end c.args.s
 pub returns-else-not-add-clause-next : goal.returns-else-not-add-clause-next
 returns-else-not-add-clause-next g c = λ σ docs first allowed h.
     let P : Bool → Type 0 = WithPlaced c.add.new.self σ docs c.in-Some.document in
-    let placed = subst P c.if-not-add.false (c.add.ensures σ docs h.store) in
+    let placed = subst P c.if-not-add.false (c.add.ensures.placed σ docs h.store) in
     let part = rw c.in-Some.is at c.in_ok-next.ensures.part in
     (c.in-Some.document, takes_part c.args.store.now σ docs first _ _ allowed h c.add.new.self c.in-Some.document part.0 part.1 placed.0 placed.1)

@@ -1,13 +1,13 @@
-use Rattle.std.proofs.Common.{ℕ, List, [], inr, refl, sym, subst}
-use Rattle.eb_archive.specs.Loaded.{Loaded}
-use Rattle.eb_archive.specs.Loading.{HasLoaded}
+use Rattle.std.proofs.Common.{inr, refl}
+use Rattle.eb_archive.specs.Loaded.{Loaded, rules_of}
+use Rattle.eb_indexed.proofs.Indexes.{indexed_none}
 use Rattle.eb_archive.proofs.load.pass_loaded.Goals as goal
 
-pub pass_lines-requires : goal.pass_lines-requires
-pass_lines-requires g c =
+pub answer_lines-requires : goal.answer_lines-requires
+answer_lines-requires g c =
     let filled = c.in-Ok.ensures.all in
     let a : Loaded = record { setting = filled.setting; documents = filled.documents; stats = c.args.stats } in
-    (a, subst (λ (t : List ℕ). HasLoaded c.new.result a [] t) (sym c.new-2.ensures.items) (c.new.ensures a filled.store refl))
+    (rules_of a, indexed_none _ _ _ _ (c.telling.ensures.holds _ _ filled.store) c.telling.ensures.stats)
 
 pub returns-clause-ends : goal.returns-clause-ends
 returns-clause-ends g c =
@@ -19,5 +19,5 @@ returns-clause-ends g c =
       same = refl;
       lines = g.S.Source.left c.read_image.new.source;
       image = filled.taken;
-      ends = c.pass_lines.ensures.ends a (subst (λ (t : List ℕ). HasLoaded c.new.result a [] t) (sym c.new-2.ensures.items) (c.new.ensures a filled.store refl));
+      ends = c.answer_lines.ensures.ends (rules_of a) (indexed_none _ _ _ _ (c.telling.ensures.holds _ _ filled.store) c.telling.ensures.stats);
     })

@@ -1,22 +1,13 @@
-use Rattle.std.proofs.Common.{ℕ, List, [], refl, sym, subst}
-use Rattle.eb_lines.proofs.PassingLines.{ends_at_once}
-use Rattle.eb_rounds.proofs.Texts.{body-nil}
-use Rattle.eb_parts.specs.LineRuns.{HasTaken, body_first}
-use Rattle.eb_parts.specs.Texts.{Asked}
-use Rattle.eb_parts.proofs.Admissions.{read_none}
+use Rattle.eb_answer.specs.Rules.{is_bad}
+use Rattle.eb_answer.proofs.Taking.{ends_none}
+use Rattle.eb_parts.specs.Texts.{parts_rules}
 use Rattle.eb_parts.proofs.run.pass_parts.Goals as goal
 
-pub pass_lines-requires : goal.pass_lines-requires
-pass_lines-requires g c =
-    let a : Asked = record { parts = c.args.parts; setting = c.args.config; stats = c.args.stats } in
-    (a, subst (λ (t : List ℕ). HasTaken c.new-2.result a [] t) (sym c.new-3.ensures.items) (c.new-2.ensures a c.in-Ok.ensures refl refl))
-
 pub returns-in_default-clause-ends : goal.returns-in_default-clause-ends
-returns-in_default-clause-ends g c =
-    let a : Asked = record { parts = c.args.parts; setting = c.args.config; stats = c.args.stats } in
-    ends_at_once _ _ _ _ (body_first a) _ _ [] (record { readings = []; read = read_none a; bytes = sym body-nil })
+returns-in_default-clause-ends g c = ends_none is_bad (parts_rules c.args.parts c.args.config c.args.stats) _ _
+
+pub answer_lines-requires : goal.answer_lines-requires
+answer_lines-requires g c = (parts_rules c.args.parts c.args.config c.args.stats, c.in-Ok.ensures)
 
 pub returns-clause-ends : goal.returns-clause-ends
-returns-clause-ends g c =
-    let a : Asked = record { parts = c.args.parts; setting = c.args.config; stats = c.args.stats } in
-    c.pass_lines.ensures.ends a (subst (λ (t : List ℕ). HasTaken c.new-2.result a [] t) (sym c.new-3.ensures.items) (c.new-2.ensures a c.in-Ok.ensures refl refl))
+returns-clause-ends g c = c.answer_lines.ensures.ends (parts_rules c.args.parts c.args.config c.args.stats) c.in-Ok.ensures

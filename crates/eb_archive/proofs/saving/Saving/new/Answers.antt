@@ -3,4 +3,4 @@ use Rattle.eb_archive.proofs.Savings.{saved_none}
 use Rattle.eb_archive.proofs.saving.Saving.new.Goals as goal
 
 pub returns : goal.returns
-returns c = saved_none _ c.in_ok-index.index c.args.config refl c.in_ok-index.ensures.setting c.in_ok-index.ensures.writer refl refl
+returns g c = saved_none _ c.in_ok-index.index c.args.config refl c.in_ok-index.ensures.setting c.in_ok-index.ensures.writer refl refl

@@ -5,13 +5,13 @@ use Rattle.eb_archive.proofs.Savings.{reads_to_save}
 use Rattle.eb_archive.proofs.saving.Saving.take_document.Goals as goal
 
 pub returns-in-Ok-clause-ok : goal.returns-in-Ok-clause-ok
-returns-in-Ok-clause-ok c =
+returns-in-Ok-clause-ok g c =
     let bytes = c.args.bytes.now in
     let reads = reads_to_save bytes _ (document c.in-Ok.document) c.requires.document (rw c.in-Ok.is at c.in_ok-document.ensures) in
     ok_on c.save.result c.save.ensures.ok (λ takes. takes (line bytes) reads)
 
 pub returns-in-Err-clause-ok : goal.returns-in-Err-clause-ok
-returns-in-Err-clause-ok c =
+returns-in-Err-clause-ok g c =
     let bytes = c.args.bytes.now in
     let reads = reads_to_save bytes _ (refused c.in-Err.refusal) c.requires.document (rw c.in-Err.is at c.in_ok-document.ensures) in
     c.refuse.ensures _ (line bytes) reads

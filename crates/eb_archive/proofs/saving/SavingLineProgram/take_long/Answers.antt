@@ -3,4 +3,4 @@ use Rattle.eb_io.specs.Lines.{long_line}
 use Rattle.eb_archive.proofs.saving.SavingLineProgram.take_long.Goals as goal
 
 pub returns-clause-ok : goal.returns-clause-ok
-returns-clause-ok c = c.refuse.ensures _ long_line refl
+returns-clause-ok g c = c.refuse.ensures _ long_line refl

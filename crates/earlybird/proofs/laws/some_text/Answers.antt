@@ -1,6 +1,0 @@
-use Rattle.eb_io.specs.Lines.{lines_of}
-use Rattle.earlybird.proofs.OneOutput.{some_text_of}
-use Rattle.earlybird.proofs.laws.some_text.Goals as goal
-
-pub returns : goal.returns
-returns c = λ σ overlap stats bytes. some_text_of σ overlap stats (lines_of bytes)

@@ -1,5 +1,0 @@
-use Rattle.earlybird.proofs.Runnings.{on_beside}
-use Rattle.earlybird.proofs.program.RunProgramLineProgram.settle.Goals as goal
-
-pub returns : goal.returns
-returns g c = on_beside _ c.args.self.now.running c.answer_held.new.self c.args.text.now.items c.answer_held.new.text.items c.answer_held.ensures.on

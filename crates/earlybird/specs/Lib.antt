@@ -1,9 +1,0 @@
-pub mod Holding
-pub mod Waiting
-pub mod Session
-pub mod Output
-pub mod Running
-pub mod Command
-pub mod Bench
-pub mod StatusLine
-pub mod Laws

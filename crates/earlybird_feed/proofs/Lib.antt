@@ -1,5 +1,0 @@
-pub mod Texts
-pub mod Counting
-pub mod Fed
-pub mod Steps
-pub mod OneOutput

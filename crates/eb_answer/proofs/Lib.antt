@@ -1,0 +1,4 @@
+pub mod Coming
+pub mod Taking
+pub mod ByKind
+pub mod OneText

@@ -1,0 +1,4 @@
+pub mod Rules
+pub mod Stores
+pub mod Questions
+pub mod Answering

@@ -1,0 +1,141 @@
+-- What a store makes of the lines of an input.
+use Rattle.std.specs.Prelude.{◌≡◌, ℕ, ◌+◌, ◌<◌, List, [], ◌∷◌, ◌++◌, length, Option, Some, None}
+use Rattle.std.specs.List.{AllZip}
+use Rattle.eb_base.specs.Document.{Doc}
+use Rattle.eb_base.specs.Match.{answer}
+use Rattle.eb_base.specs.Query.{Tree}
+use Rattle.eb_io.specs.Lines.{Line, line, long_line}
+use Rattle.eb_lines.specs.declared.refusal.Refusal.{Refusal}
+use Rattle.eb_lines.specs.declared.refusal.Refusal.TheVariants.{BadLine, LongLine}
+use Rattle.eb_lines.specs.Kinds.{Kind, blank_line, document_line, query_line, bad_line, kind_of}
+use Rattle.eb_lines.specs.Progress.{documents_in, accepted, queries, refusals}
+use Rattle.eb_lines.specs.Reading.{Reading, blank, document, query, refused, watch}
+use Rattle.eb_lines.specs.Reads.{ReadsByKind}
+use Rattle.eb_lines.specs.Text.{answer_line, refusal_line, watch_line, summary_with}
+
+-- by which rules a store takes lines, where W is what it holds beside documents: what it holds before the first line; why it
+-- refuses a document behind those that it has accepted, if it does, and which watches it tells else; over which of them a query is
+-- answered; why it refuses a watch line, and what it holds behind one that it doesn't refuse; and what stands behind the counts of the summary
+pub record Rules (W : Type 0) : Type 0 where
+  pub start : List Doc
+  pub watches : W
+  pub refusal : List Doc → Doc → Option Refusal
+  pub tells : W → Doc → List ℕ
+  pub sees : List Doc → List Doc
+  pub watch_refusal : W → ℕ → Option Tree → Option Refusal
+  pub with_watch : W → ℕ → Option Tree → W
+  pub tail : List Doc → List ℕ
+
+-- what a document comes to; a watch line
+abbrev pub document_outcome : Doc → Option Refusal → Reading
+document_outcome d None = document d
+document_outcome d (Some r) = refused r
+
+abbrev pub watch_outcome : ℕ → Option Tree → Option Refusal → Reading
+watch_outcome n q None = watch n q
+watch_outcome n q (Some r) = refused r
+
+-- what a line comes to behind these
+abbrev pub comes : {W : Type 0} → Rules W → List Doc → W → Reading → Reading
+comes rules docs ws blank = blank
+comes rules docs ws (document d) = document_outcome d (rules.refusal docs d)
+comes rules docs ws (query k q) = query k q
+comes rules docs ws (refused r) = refused r
+comes rules docs ws (watch n q) = watch_outcome n q (rules.watch_refusal ws n q)
+
+-- what is held beside documents behind a line that came to this
+abbrev pub watches_after : {W : Type 0} → Rules W → W → Reading → W
+watches_after rules ws blank = ws
+watches_after rules ws (document d) = ws
+watches_after rules ws (query k q) = ws
+watches_after rules ws (refused r) = ws
+watches_after rules ws (watch n q) = rules.with_watch ws n q
+
+unfoldable pub watches_from : {W : Type 0} → Rules W → W → List Reading → W
+watches_from rules ws [] = ws
+watches_from rules ws (r ∷ rs) = watches_from rules (watches_after rules ws r) rs
+
+-- what the lines come to, in order, behind these
+unfoldable pub come_behind : {W : Type 0} → Rules W → List Doc → W → List Reading → List Reading
+come_behind rules docs ws [] = []
+come_behind rules docs ws (r ∷ rs) =
+    comes rules docs ws r ∷ come_behind rules (docs ++ documents_in (comes rules docs ws r)) (watches_after rules ws (comes rules docs ws r)) rs
+
+-- how a line is read, where it is said how one is read that is neither blank, nor a document or query line
+abbrev pub ReadsKind : (List ℕ → Reading → Type 0) → Kind → List ℕ → Reading → Type 0
+ReadsKind other blank_line bytes r = ReadsByKind blank_line bytes r
+ReadsKind other document_line bytes r = ReadsByKind document_line bytes r
+ReadsKind other query_line bytes r = ReadsByKind query_line bytes r
+ReadsKind other bad_line bytes r = other bytes r
+
+abbrev pub ReadsWith : (List ℕ → Reading → Type 0) → Line → Reading → Type 0
+ReadsWith other (line bytes) r = ReadsKind other (kind_of bytes) bytes r
+ReadsWith other long_line r = r ≡ refused LongLine
+
+-- the lines are read one by one, and come to these
+abbrev pub AreRead : {W : Type 0} → (List ℕ → Reading → Type 0) → Rules W → List Line → List Reading → Type 0
+AreRead other rules lines rs = (raw : List Reading) × AllZip (ReadsWith other) lines raw × (rs ≡ come_behind rules rules.start rules.watches raw)
+
+-- what a store holds behind lines that came to these
+abbrev pub held_behind : {W : Type 0} → Rules W → List Reading → List Doc
+held_behind rules rs = rules.start ++ accepted rs
+
+abbrev pub watches_behind : {W : Type 0} → Rules W → List Reading → W
+watches_behind rules rs = watches_from rules rules.watches rs
+
+-- what line `number` prints behind these
+abbrev pub says : {W : Type 0} → Rules W → ℕ → List Doc → W → Reading → List ℕ
+says rules number docs ws blank = []
+says rules number docs ws (document d) = watch_line number (rules.tells ws d)
+says rules number docs ws (query k q) = answer_line number (length docs) (answer q k (rules.sees docs))
+says rules number docs ws (refused r) = refusal_line number r
+says rules number docs ws (watch n q) = []
+
+-- what the lines from line j + 1 on print, behind these
+unfoldable pub body_from : {W : Type 0} → Rules W → ℕ → List Doc → W → List Reading → List ℕ
+body_from rules j docs ws [] = []
+body_from rules j docs ws (r ∷ rs) = says rules (j + 1) docs ws r ++ body_from rules (j + 1) (docs ++ documents_in r) (watches_after rules ws r) rs
+
+abbrev pub body : {W : Type 0} → Rules W → List Reading → List ℕ
+body rules rs = body_from rules 0 rules.start rules.watches rs
+
+-- the summary, with what stands behind the counts
+abbrev pub end_of : {W : Type 0} → Rules W → List Reading → List ℕ
+end_of rules rs = summary_with (length (held_behind rules rs)) (queries rs) (refusals rs) (rules.tail (held_behind rules rs))
+
+-- what these lines print
+pub record IsBody {W : Type 0} (other : List ℕ → Reading → Type 0) (rules : Rules W) (lines : List Line) (printed : List ℕ) : Type 0 where
+  pub readings : List Reading
+  pub read : AreRead other rules lines readings
+  pub bytes : printed ≡ body rules readings
+
+-- their whole text
+pub record IsText {W : Type 0} (other : List ℕ → Reading → Type 0) (rules : Rules W) (lines : List Line) (printed : List ℕ) : Type 0 where
+  pub readings : List Reading
+  pub read : AreRead other rules lines readings
+  pub bytes : printed ≡ body rules readings ++ end_of rules readings
+
+-- some line is refused; none is
+abbrev pub HasRefusal : {W : Type 0} → (List ℕ → Reading → Type 0) → Rules W → List Line → Type 0
+HasRefusal other rules lines = (rs : List Reading) × AreRead other rules lines rs × (0 < refusals rs)
+
+abbrev pub HasNoRefusal : {W : Type 0} → (List ℕ → Reading → Type 0) → Rules W → List Line → Type 0
+HasNoRefusal other rules lines = (rs : List Reading) × AreRead other rules lines rs × (refusals rs ≡ 0)
+
+-- ---- of a store without watches
+
+abbrev pub plain_rules : List Doc → (List Doc → Doc → Option Refusal) → (List Doc → List Doc) → (List Doc → List ℕ) → Rules (Unit {0})
+plain_rules start refusal sees tail = record {
+  start = start;
+  watches = tt;
+  refusal = refusal;
+  tells = λ ws d. [];
+  sees = sees;
+  watch_refusal = λ ws n q. None;
+  with_watch = λ ws n q. ws;
+  tail = tail;
+}
+
+-- another line is a bad line
+abbrev pub is_bad : List ℕ → Reading → Type 0
+is_bad bytes r = r ≡ refused BadLine

@@ -1,0 +1,225 @@
+ghost use Rattle.std.specs.Prelude.{◌≡◌, ◌+◌, ◌≤◌, ◌^◌, ℕ, List, Some, [], slice_get, OnErr, OnOk};
+ghost use Rattle.eb_answer.specs.Answering.{HasAnswered, TakesLine};
+ghost use Rattle.eb_answer.specs.Questions.{MayAsk};
+ghost use Rattle.eb_answer.specs.Rules.{Rules};
+ghost use Rattle.eb_base.specs.Query.{tree};
+ghost use Rattle.eb_io.specs.Lines.{line};
+ghost use Rattle.eb_lines.specs.Kinds.{document_line, query_line, bad_line, kind_of};
+ghost use Rattle.eb_lines.specs.Programs.{IsRunning, WorksOn, WorksOnGiven};
+ghost use Rattle.eb_lines.specs.Reading.{Reading, blank, document as reads_document, query as reads_query, refused as is_refused};
+ghost use Rattle.eb_lines.specs.Reads.{ReadsByKind};
+
+use crate::question::read_question;
+use crate::store::Store;
+use eb_base::{Document, Gate, NoMemory, Query};
+use eb_doc::DocumentReader;
+use eb_lines::{
+    LineKind, LineProgram, Refusal, line_kind, put_refusal, put_summary, put_watches,
+    read_document_line_by,
+};
+use std::alloc::Global;
+
+// A run over a store: it works off each line at once.
+#[derive(Drop)]
+pub(crate) struct Answering<'a, G, S> {
+    alloc: Global,
+    // It is told what the store does.
+    gate: &'a G,
+    store: S,
+    // What reads document lines, with its room.
+    documents: DocumentReader,
+    // The number of the last line, and how many queries were answered and lines refused.
+    number: u64,
+    queries: u64,
+    refused: u64,
+}
+
+impl<'a, G: Gate, S: Store> Answering<'a, G, S> {
+    // Before the first line.
+    pub(crate) fn new(alloc: Global, gate: &'a G, store: S) -> Answering<'a, G, S>
+        ensures { (rules : Rules S.Watches) → S.holds store rules rules.start rules.watches → HasAnswered S.other S.holds result rules [] [] }
+    {
+        Answering {
+            alloc,
+            gate,
+            store,
+            documents: DocumentReader::new(alloc),
+            number: 0,
+            queries: 0,
+            refused: 0,
+        }
+    }
+
+    // Passes over a blank line.
+    fn pass(&mut self)
+        requires state { IsRunning (HasAnswered S.other S.holds) self.old }
+        requires number { self.old.number ≤ 2 ^ 40 }
+        ensures { (text : List ℕ) → TakesLine S.other S.holds self.old self.new text text blank }
+    {
+        self.number += 1;
+    }
+
+    // Refuses a line.
+    fn refuse(&mut self, refusal: Refusal, text: &mut Vec<u8>) -> Result<(), NoMemory>
+        requires state { IsRunning (HasAnswered S.other S.holds) self.old }
+        requires number { self.old.number ≤ 2 ^ 40 }
+        ensures ok { OnOk result (TakesLine S.other S.holds self.old self.new text.old.items text.new.items (is_refused refusal)) }
+        ensures err { OnErr result ((self.new ≡ self.old) × (text.new.items ≡ text.old.items)) }
+    {
+        text.reserve(68)?;
+        self.number += 1;
+        self.refused += 1;
+        put_refusal(text, self.number, refusal);
+        Ok(())
+    }
+
+    // Adds a document; where it isn't accepted, the line is refused.
+    fn add(&mut self, document: &Document, text: &mut Vec<u8>) -> Result<(), NoMemory>
+        requires state { IsRunning (HasAnswered S.other S.holds) self.old }
+        requires number { self.old.number ≤ 2 ^ 40 }
+        ensures ok { OnOk result (TakesLine S.other S.holds self.old self.new text.old.items text.new.items (reads_document document.now)) }
+        ensures err { OnErr result ((self.new ≡ self.old) × (text.new.items ≡ text.old.items)) }
+    {
+        let told = self.store.told(self.alloc, document)?;
+        text.reserve(68 + 21 * told.len())?;
+        self.number += 1;
+        if let Some(refusal) = self.store.place(document, self.gate) {
+            self.refused += 1;
+            put_refusal(text, self.number, refusal);
+            return Ok(());
+        }
+        put_watches(text, self.number, told.as_slice());
+        Ok(())
+    }
+
+    // Answers a query.
+    fn answer(&mut self, k: u32, query: Query, text: &mut Vec<u8>) -> Result<(), NoMemory>
+        requires state { IsRunning (HasAnswered S.other S.holds) self.old }
+        requires number { self.old.number ≤ 2 ^ 40 }
+        requires asked { MayAsk k query }
+        ensures ok { OnOk result (TakesLine S.other S.holds self.old self.new text.old.items text.new.items (reads_query k (tree query))) }
+        ensures err { OnErr result ((self.new ≡ self.old) × (text.new.items ≡ text.old.items)) }
+    {
+        let number = self.number + 1;
+        self.store
+            .answer(self.alloc, number, k, query, self.gate, text)?;
+        self.number = number;
+        self.queries += 1;
+        Ok(())
+    }
+
+    // Takes a line that is neither blank, nor a document or query line, nor long.
+    fn take_other(&mut self, bytes: &[u8], text: &mut Vec<u8>) -> Result<(), NoMemory>
+        requires state { IsRunning (HasAnswered S.other S.holds) self.old }
+        requires number { self.old.number ≤ 2 ^ 40 }
+        requires kind { kind_of bytes.now ≡ bad_line }
+        ensures ok { OnOk result (WorksOnGiven (HasAnswered S.other S.holds) self.old self.new text.old.items text.new.items (line bytes.now)) }
+        ensures err { OnErr result (WorksOn (HasAnswered S.other S.holds) self.old self.new text.old.items text.new.items) }
+    {
+        text.reserve(68)?;
+        match self.store.take_other(self.alloc, bytes)? {
+            None => self.number += 1,
+            Some(refusal) => {
+                self.number += 1;
+                self.refused += 1;
+                put_refusal(text, self.number, refusal);
+            }
+        }
+        Ok(())
+    }
+
+    // Takes a document line.
+    fn take_document(&mut self, bytes: &[u8], text: &mut Vec<u8>) -> Result<(), NoMemory>
+        requires state { IsRunning (HasAnswered S.other S.holds) self.old }
+        requires number { self.old.number ≤ 2 ^ 40 }
+        requires document { kind_of bytes.now ≡ document_line }
+        ensures ok { OnOk result (WorksOnGiven (HasAnswered S.other S.holds) self.old self.new text.old.items text.new.items (line bytes.now)) }
+        ensures err { OnErr result (WorksOn (HasAnswered S.other S.holds) self.old self.new text.old.items text.new.items) }
+    {
+        match read_document_line_by(&mut self.documents, bytes)? {
+            Ok(document) => self.add(&document, text),
+            Err(refusal) => self.refuse(refusal, text),
+        }
+    }
+
+    // Takes a query line.
+    fn take_query(&mut self, query: &str, text: &mut Vec<u8>) -> Result<(), NoMemory>
+        requires state { IsRunning (HasAnswered S.other S.holds) self.old }
+        requires number { self.old.number ≤ 2 ^ 40 }
+        requires mark { slice_get query.now 0 ≡ Some 63 }
+        ensures ok { OnOk result ((r : Reading) × ReadsByKind query_line query.now r
+            × TakesLine S.other S.holds self.old self.new text.old.items text.new.items r) }
+        ensures err { OnErr result ((self.new ≡ self.old) × (text.new.items ≡ text.old.items)) }
+    {
+        match read_question(self.alloc, query)? {
+            Ok((k, query)) => self.answer(k, query, text),
+            Err(refusal) => self.refuse(refusal, text),
+        }
+    }
+}
+
+impl<G: Gate, S: Store> LineProgram for Answering<'_, G, S> {
+    ghost use Rattle.eb_answer.specs.Answering.{HasAnswered, answered_first, body_first};
+    ghost use Rattle.eb_answer.specs.Rules.{Rules, IsBody, IsText, HasRefusal, HasNoRefusal};
+
+    ghost Asked = { Rules S.Watches };
+
+    ghost has_run = { HasAnswered S.other S.holds };
+
+    ghost prints = { IsBody S.other };
+
+    ghost ends_with = { IsText S.other };
+
+    ghost refuses = { HasRefusal S.other };
+
+    ghost accepts = { HasNoRefusal S.other };
+
+    // no line waits
+    ghost settled = { λ _. Unit {0} };
+
+    ghost number = { λ p. p.number };
+
+    fn take_line(&mut self, bytes: &[u8], text: &mut Vec<u8>) -> Result<(), NoMemory> {
+        match line_kind(bytes) {
+            LineKind::Blank => {
+                self.pass();
+                Ok(())
+            }
+            LineKind::Document => self.take_document(bytes, text),
+            LineKind::Query(query) => self.take_query(query, text),
+            LineKind::Bad => self.take_other(bytes, text),
+        }
+    }
+
+    fn take_long(&mut self, text: &mut Vec<u8>) -> Result<(), NoMemory> {
+        self.refuse(Refusal::LongLine, text)
+    }
+
+    fn settle(&mut self, _text: &mut Vec<u8>) -> Result<(), NoMemory> {
+        Ok(())
+    }
+
+    fn settle_all(&mut self, _text: &mut Vec<u8>) -> Result<(), NoMemory> {
+        Ok(())
+    }
+
+    fn finish(&mut self, text: &mut Vec<u8>) -> Result<u64, NoMemory> {
+        let documents = self.store.documents();
+        let tail = self.store.close(self.alloc)?;
+        put_summary(
+            self.alloc,
+            text,
+            documents,
+            self.queries,
+            self.refused,
+            tail.as_str(),
+        )?;
+        Ok(self.refused)
+    }
+
+    ghost printed_first = { answered_first S.other S.holds };
+
+    ghost whole = { body_first S.other };
+
+    ghost counts = { λ p a given so_far h. h.number };
+}

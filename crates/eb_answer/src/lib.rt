@@ -1,0 +1,10 @@
+//! A run over the lines of an input that adds documents to a store and answers queries by it, one line after the other.
+#![tactic(auto)]
+
+mod answering;
+mod question;
+mod run;
+mod store;
+
+pub use run::answer_lines;
+pub use store::Store;

@@ -1,0 +1,71 @@
+ghost use Rattle.std.specs.Prelude.{◌≡◌, ◌+◌, ◌≤◌, ◌^◌, ℕ, List, length, string_bytes, Option, IfOk, OnErr, OnOk};
+ghost use Rattle.eb_lines.specs.Kinds.{bad_line, kind_of};
+ghost use Rattle.eb_lines.specs.Reading.{Reading};
+ghost use Rattle.eb_answer.specs.Questions.{MayAsk};
+ghost use Rattle.eb_answer.specs.Rules.{Rules};
+ghost use Rattle.eb_answer.specs.Stores.{IsHolding, Places, Tells, PutsAnswer, TakesOther, Keeps};
+ghost use Rattle.eb_base.specs.Document.{Doc};
+ghost use Rattle.eb_base.specs.Query.{tree};
+
+use eb_base::{Document, Gate, NoMemory, Query};
+use eb_lines::Refusal;
+use std::alloc::Global;
+
+/// What the lines of an input fill and ask.
+pub trait Store {
+    // What it holds beside documents.
+    ghost Watches: { Type 0 };
+
+    // How a line is read that is neither blank, nor a document or query line, nor long.
+    ghost other: { List ℕ → Reading → Type 0 };
+
+    // It holds these, and goes by these rules.
+    ghost holds: { Self → Rules Watches → List Doc → Watches → Type 0 };
+
+    /// Adds a document behind the others, or gives why it is refused, and holds what it held. Takes no memory.
+    fn place<G: Gate>(&mut self, document: &Document, gate: &G) -> Option<Refusal>
+        requires { IsHolding holds self.old }
+        ensures { Places holds self.old self.new document.now result };
+
+    /// The numbers of the watches that a document matches.
+    fn told(&self, alloc: Global, document: &Document) -> Result<Vec<u32>, NoMemory>
+        requires { IsHolding holds self.now }
+        ensures told { IfOk result (λ numbers. Tells holds self.now document.now numbers.items) }
+        ensures few { IfOk result (λ numbers. length numbers.items ≤ 2 ^ 32) };
+
+    /// Takes a line that is neither blank, nor a document or query line, nor long, or gives why it is refused. Where memory
+    /// doesn't suffice, it holds what it held.
+    fn take_other(&mut self, alloc: Global, bytes: &[u8]) -> Result<Option<Refusal>, NoMemory>
+        requires state { IsHolding holds self.old }
+        requires kind { kind_of bytes.now ≡ bad_line }
+        ensures ok { IfOk result (λ refusal. (r : Reading) × other bytes.now r × TakesOther holds self.old self.new r refusal) }
+        ensures err { OnErr result (Keeps holds self.old self.new) };
+
+    /// Answers the query of line `number`: puts the ids of the newest `k` matches behind the text. Where memory doesn't
+    /// suffice, nothing is done.
+    fn answer<G: Gate>(
+        &mut self,
+        alloc: Global,
+        number: u64,
+        k: u32,
+        query: Query,
+        gate: &G,
+        text: &mut Vec<u8>,
+    ) -> Result<(), NoMemory>
+        requires state { IsHolding holds self.old }
+        requires asked { MayAsk k query }
+        ensures ok { OnOk result (PutsAnswer holds self.old self.new number k (tree query) text.old.items text.new.items) }
+        ensures err { OnErr result ((self.new ≡ self.old) × (text.new.items ≡ text.old.items)) };
+
+    /// The number of documents.
+    fn documents(&self) -> u64
+        requires { IsHolding holds self.now }
+        ensures { (rules : Rules Watches) (docs : List Doc) (ws : Watches) → holds self.now rules docs ws → length docs ≤ length rules.start + 2 ^ 41
+            → result ≡ length docs };
+
+    /// Ends an input, and gives what stands behind the counts of its summary.
+    fn close(&mut self, alloc: Global) -> Result<String, NoMemory>
+        requires { IsHolding holds self.old }
+        ensures { IfOk result (λ tail. (rules : Rules Watches) (docs : List Doc) (ws : Watches)
+            → holds self.old rules docs ws → string_bytes tail ≡ rules.tail docs) };
+}

@@ -1,7 +1,0 @@
-use Rattle.eb_lines.proofs.Results.{err_on}
-use Rattle.eb_lines.proofs.Runs.{stays_at}
-use Rattle.eb_archive.specs.Loading.{HasLoaded}
-use Rattle.eb_archive.proofs.load_program.LoadProgramLineProgram.take_line.Goals as goal
-
-pub returns-clause-err : goal.returns-clause-err
-returns-clause-err g c = err_on c.take_line.result c.take_line.ensures.err (λ e. stays_at HasLoaded c.args.self.now.loading c.take_line.new.self _ _ e.0 e.1)

@@ -1,0 +1,93 @@
+-- Which prefixes the queries of a run may see, in both modes.
+use Rattle.std.specs.Prelude.{◌≡◌, ℕ, ◌+◌, ◌≤◌, Bool, true, false, List, [], ◌∷◌, length, drop, Option, Some, None, slice_get, if◌then◌else◌}
+use Rattle.eb_lines.specs.declared.refusal.Refusal.{Refusal}
+use Rattle.eb_lines.specs.declared.refusal.Refusal.TheVariants.{BadLine, LongLine, BadJson, BadDocument, TooLong}
+use Rattle.eb_lines.specs.declared.refusal.Refusal.TheVariants.{NotRising, Full, BadNumber, BadQuery, QueryTooLarge, QueryTooDeep, NoWatch, WatchTaken, WatchesFull}
+use Rattle.eb_lines.specs.Reading.{Reading, blank, document, query, refused, watch}
+use Rattle.eb_lines.specs.Progress.{documents_in, is_query, told}
+
+-- the refusal of a document line; of a query line
+abbrev pub of_document_line : Refusal → Bool
+of_document_line BadLine = false
+of_document_line LongLine = false
+of_document_line BadJson = true
+of_document_line BadDocument = true
+of_document_line TooLong = true
+of_document_line (NotRising last) = true
+of_document_line Full = true
+of_document_line BadNumber = false
+of_document_line (BadQuery column) = false
+of_document_line QueryTooLarge = false
+of_document_line QueryTooDeep = false
+of_document_line NoWatch = false
+of_document_line WatchTaken = false
+of_document_line WatchesFull = false
+
+abbrev pub of_query_line : Refusal → Bool
+of_query_line BadLine = false
+of_query_line LongLine = false
+of_query_line BadJson = false
+of_query_line BadDocument = false
+of_query_line TooLong = false
+of_query_line (NotRising last) = false
+of_query_line Full = false
+of_query_line BadNumber = true
+of_query_line (BadQuery column) = true
+of_query_line QueryTooLarge = true
+of_query_line QueryTooDeep = true
+of_query_line NoWatch = false
+of_query_line WatchTaken = false
+of_query_line WatchesFull = false
+
+-- refused lines count too
+abbrev pub is_document_line : Reading → Bool
+is_document_line blank = false
+is_document_line (document d) = true
+is_document_line (query k q) = false
+is_document_line (refused r) = of_document_line r
+is_document_line (watch n q) = false
+
+abbrev pub is_query_line : Reading → Bool
+is_query_line blank = false
+is_query_line (document d) = false
+is_query_line (query k q) = true
+is_query_line (refused r) = of_query_line r
+is_query_line (watch n q) = false
+
+-- how many documents are accepted before the first query line of these lines, or in all of them where they have none
+unfoldable pub until_query : List Reading → ℕ
+until_query [] = 0
+until_query (r ∷ rs) = if is_query_line r then 0 else length (documents_in r) + until_query rs
+
+-- the same, before the first query line that follows a document line of these lines
+unfoldable pub until_next : List Reading → ℕ
+until_next [] = 0
+until_next (r ∷ rs) = if is_document_line r then length (documents_in r) + until_query rs else until_next rs
+
+-- how many documents are accepted before the first query line that follows a document line that follows line j, counted from 0
+abbrev pub next : List Reading → ℕ → ℕ
+next rs j = told rs (j + 1) + until_next (drop (j + 1) rs)
+
+-- line j, counted from 0, is a query that is answered
+abbrev pub is_asked : Option Reading → Bool
+is_asked None = false
+is_asked (Some r) = is_query r
+
+abbrev pub IsAsked : List Reading → ℕ → Type 0
+IsAsked rs j = is_asked (slice_get rs j) ≡ true
+
+-- each line sees exactly the documents accepted before it
+abbrev pub SeesInOrder : List Reading → (ℕ → ℕ) → Type 0
+SeesInOrder rs n = (j : ℕ) → n j ≡ told rs j
+
+-- each query sees the documents accepted before it, and no more than those before the next query line that follows a document
+-- line behind it; none sees less than one before it
+pub record SeesBetween (rs : List Reading) (n : ℕ → ℕ) : Type 0 where
+  pub least : (j : ℕ) → IsAsked rs j → told rs j ≤ n j
+  pub most : (j : ℕ) → IsAsked rs j → n j ≤ next rs j
+  pub rises : (i j : ℕ) → i ≤ j → IsAsked rs i → IsAsked rs j → n i ≤ n j
+
+-- what the queries see, with or without overlap
+abbrev pub Sees : Bool → List Reading → (ℕ → ℕ) → Type 0
+Sees false rs n = SeesInOrder rs n
+Sees true rs n = SeesBetween rs n

@@ -1,0 +1,12 @@
+//! An index that the lines of an input fill and ask.
+#![tactic(auto)]
+
+mod converting;
+mod ending;
+mod indexed;
+mod searching;
+
+pub use converting::{SegmentCounts, catch_up, close, convert_all, has_waiting};
+pub use ending::{Counts, put_end, segments_text};
+pub use indexed::Indexed;
+pub use searching::search_all;

@@ -1,0 +1,89 @@
+//! The parts that lines fill and ask.
+ghost use Rattle.std.specs.Prelude.{◌≡◌, ◌≤◌, [], IfOk};
+ghost use Rattle.eb_parts.specs.Parted.{IsParted};
+ghost use Rattle.eb_parts.specs.Texts.{parts_rules};
+
+use crate::store::Store as Parts;
+use eb_answer::Store;
+use eb_base::{Config, Document, Gate, NoMemory, Query};
+use eb_blend::BlendFrame;
+use eb_indexed::segments_text;
+use eb_lines::{Refusal, put_answer};
+use std::alloc::Global;
+
+// So many parts, and whether their segments are told at the end.
+#[derive(Drop)]
+pub(crate) struct Parted {
+    parts: Parts,
+    number: u32,
+    stats: bool,
+}
+
+impl Parted {
+    // So many empty parts, from 1 to 16. Takes all their memory.
+    pub(crate) fn new(
+        alloc: Global,
+        number: u32,
+        stats: bool,
+        config: Config,
+    ) -> Result<Parted, NoMemory>
+        requires { (1 ≤ number) × (number ≤ 16) }
+        ensures { IfOk result (λ parted. IsParted parted (parts_rules number config stats) [] tt) }
+    {
+        let parts = Parts::new(alloc, number, config)?;
+        Ok(Parted {
+            parts,
+            number,
+            stats,
+        })
+    }
+}
+
+impl Store for Parted {
+    ghost use Rattle.eb_answer.specs.Rules.{is_bad};
+    ghost use Rattle.eb_parts.specs.Parted.{IsParted as IsPartedBy};
+
+    ghost Watches = { Unit {0} };
+
+    ghost other = { is_bad };
+
+    ghost holds = { IsPartedBy };
+
+    fn place<G: Gate>(&mut self, document: &Document, gate: &G) -> Option<Refusal> {
+        self.parts.add(document, gate)
+    }
+
+    fn told(&self, alloc: Global, _document: &Document) -> Result<Vec<u32>, NoMemory> {
+        Ok(Vec::new(alloc))
+    }
+
+    fn take_other(&mut self, _alloc: Global, _bytes: &[u8]) -> Result<Option<Refusal>, NoMemory> {
+        Ok(Some(Refusal::BadLine))
+    }
+
+    fn answer<G: Gate>(
+        &mut self,
+        alloc: Global,
+        number: u64,
+        k: u32,
+        query: Query,
+        gate: &G,
+        text: &mut Vec<u8>,
+    ) -> Result<(), NoMemory> {
+        let mut frame = BlendFrame::new(alloc, &query, k, self.number)?;
+        text.reserve(64 + 21 * k as usize)?;
+        let reader = self.parts.reader(alloc)?;
+        let seen = self.parts.search(reader, &mut frame, gate);
+        put_answer(text, number, seen, frame.ids());
+        Ok(())
+    }
+
+    fn documents(&self) -> u64 {
+        self.parts.documents()
+    }
+
+    fn close(&mut self, alloc: Global) -> Result<String, NoMemory> {
+        let counts = self.parts.close(alloc)?;
+        segments_text(alloc, self.stats, counts)
+    }
+}

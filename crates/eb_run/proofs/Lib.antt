@@ -1,0 +1,15 @@
+pub mod LineReadings
+pub mod Waitings
+pub mod Going
+pub mod Waits
+pub mod Runnings
+pub mod OneOutput
+pub mod Runs
+pub mod Loads
+pub mod Benches
+pub mod Commands
+pub mod Commanded
+pub mod EachCommand
+pub mod InOrder
+pub mod MadeLines
+pub mod NeverFull

@@ -1,0 +1,8 @@
+use Rattle.eb_answer.proofs.OneText.{one_text_of, one_bad}
+use Rattle.eb_answer.specs.Rules.{is_bad}
+use Rattle.eb_io.specs.Lines.{lines_of}
+use Rattle.eb_run.specs.FeedOutput.{feed_rules}
+use Rattle.eb_run.proofs.laws.feed_one_text.Goals as goal
+
+pub returns : goal.returns
+returns c = λ σ keep bytes. one_text_of is_bad one_bad (feed_rules σ keep) (lines_of bytes)

@@ -1,0 +1,8 @@
+use Rattle.eb_answer.proofs.OneText.{some_text_of, some_bad}
+use Rattle.eb_answer.specs.Rules.{is_bad}
+use Rattle.eb_io.specs.Lines.{lines_of}
+use Rattle.eb_run.specs.FeedOutput.{feed_rules}
+use Rattle.eb_run.proofs.laws.feed_some_text.Goals as goal
+
+pub returns : goal.returns
+returns c = λ σ keep bytes. some_text_of is_bad some_bad (feed_rules σ keep) (lines_of bytes)

@@ -1,0 +1,114 @@
+-- What the words of a command line ask; they are without the program's name.
+use Rattle.std.specs.Prelude.{◌≡◌, ℕ, ◌*◌, ◌^◌, ◌&&◌, Bool, true, false, List, [], ◌∷◌, codes, nat_le, Option, Some, None, if◌then◌else◌, option_map, option_and_then}
+use Rattle.std.specs.Str.{bytes_eq}
+use Rattle.eb_base.specs.Setting.{Setting, words_of}
+use Rattle.eb_options.specs.Numbers.{number}
+use Rattle.eb_options.specs.Items.{Items, has, items_of, option_number}
+use Rattle.eb_options.specs.Settings.{setting_of, setting_options}
+use Rattle.eb_run.specs.declared.command.Command.{Command}
+use Rattle.eb_run.specs.declared.command.Command.TheVariants.{Run, RunWorkers, RunParts, RunWatches, Bench, Save, Load}
+
+-- ---- `run`
+
+-- its flags and its options
+abbrev pub run_flags : List (List ℕ)
+run_flags = codes "overlap" ∷ codes "watch" ∷ codes "stats" ∷ []
+
+abbrev pub run_options : List (List ℕ)
+run_options = codes "workers" ∷ codes "parts" ∷ setting_options
+
+-- 1 to 16
+abbrev pub is_few : ℕ → Bool
+is_few n = nat_le 1 n && nat_le n 16
+
+-- to run with so many workers
+abbrev pub with_workers : ℕ → Bool → Setting → Option Command
+with_workers n stats σ = if is_few n then Some (RunWorkers n stats σ) else None
+
+-- to run over so many parts, which together have at most as many words as an index may have
+abbrev pub over_parts : ℕ → Bool → Setting → Option Command
+over_parts n stats σ = if is_few n && nat_le (n * words_of σ) (2 ^ 27) then Some (RunParts n stats σ) else None
+
+-- at most one of overlap, watches, workers and parts
+abbrev pub run_by : Bool → Bool → Option ℕ → Option ℕ → Bool → Setting → Option Command
+run_by overlap false None None stats σ = Some (Run overlap stats σ)
+run_by false true None None stats σ = Some (RunWatches stats σ)
+run_by false false (Some n) None stats σ = with_workers n stats σ
+run_by false false None (Some n) stats σ = over_parts n stats σ
+run_by overlap watch workers parts stats σ = None
+
+-- what the items behind `run` ask for
+abbrev pub run_with : Items → Option Command
+run_with items = option_and_then (λ σ. run_by (has (codes "overlap") items) (has (codes "watch") items) (option_number (codes "workers") items) (option_number (codes "parts") items)
+    (has (codes "stats") items) σ) (setting_of items)
+
+-- what the words behind `run` ask for: its flags and options, in any order, each at most once
+abbrev pub run_of : List (List ℕ) → Option Command
+run_of words = option_and_then run_with (items_of run_flags run_options words)
+
+-- ---- `bench`
+
+-- one to nine digits of value 1 to 40,000
+abbrev pub bench_docs : List ℕ → Option ℕ
+bench_docs word = option_and_then (λ n. if nat_le 1 n && nat_le n 40000 then Some n else None) (number 9 word)
+
+-- the words behind `bench`: exactly START and DOCS
+abbrev pub bench_of : List (List ℕ) → Option Command
+bench_of (start ∷ docs ∷ []) = option_and_then (λ first. option_map (λ count. Bench first count) (bench_docs docs)) (number 20 start)
+bench_of words = None
+
+-- ---- `save` and `load`
+
+-- what the items behind `save` ask for
+abbrev pub save_with : Items → Option Command
+save_with items = option_map (λ σ. Save σ) (setting_of items)
+
+-- what the words behind `save` ask for: the options of a setting
+abbrev pub save_of : List (List ℕ) → Option Command
+save_of words = option_and_then save_with (items_of [] setting_options words)
+
+-- what the items behind `load` ask for
+abbrev pub load_with : Items → Command
+load_with items = Load (has (codes "stats") items)
+
+-- what the words behind `load` ask for: one flag, or none
+abbrev pub load_of : List (List ℕ) → Option Command
+load_of words = option_map load_with (items_of (codes "stats" ∷ []) [] words)
+
+-- ---- the command
+
+-- the command that the words ask for, if they are in the grammar
+abbrev pub command_of : List (List ℕ) → Option Command
+command_of [] = None
+command_of (name ∷ words) =
+    if bytes_eq name (codes "run") then run_of words
+    else (if bytes_eq name (codes "bench") then bench_of words
+    else (if bytes_eq name (codes "save") then save_of words
+    else (if bytes_eq name (codes "load") then load_of words else None)))
+
+-- the words ask to run with an index of this setting, with or without overlap, and with or without figures
+abbrev pub AsksRun : List (List ℕ) → Bool → Bool → Setting → Type 0
+AsksRun words overlap stats σ = command_of words ≡ Some (Run overlap stats σ)
+
+-- to run with so many workers, or over so many parts with an index of this setting each
+abbrev pub AsksWorkers : List (List ℕ) → ℕ → Bool → Setting → Type 0
+AsksWorkers words n stats σ = command_of words ≡ Some (RunWorkers n stats σ)
+
+abbrev pub AsksParts : List (List ℕ) → ℕ → Bool → Setting → Type 0
+AsksParts words n stats σ = command_of words ≡ Some (RunParts n stats σ)
+
+-- to run with watches
+abbrev pub AsksWatches : List (List ℕ) → Bool → Setting → Type 0
+AsksWatches words stats σ = command_of words ≡ Some (RunWatches stats σ)
+
+-- the words ask to work off a made input
+abbrev pub AsksBench : List (List ℕ) → ℕ → ℕ → Type 0
+AsksBench words start count = command_of words ≡ Some (Bench start count)
+
+-- the words ask to save the documents of lines, for an index of this setting
+abbrev pub AsksSave : List (List ℕ) → Setting → Type 0
+AsksSave words σ = command_of words ≡ Some (Save σ)
+
+-- the words ask to load an image and go on with lines, with or without figures
+abbrev pub AsksLoad : List (List ℕ) → Bool → Type 0
+AsksLoad words stats = command_of words ≡ Some (Load stats)

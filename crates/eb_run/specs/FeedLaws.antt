@@ -1,0 +1,20 @@
+-- What holds of the text that a feed prints, over the definitions alone.
+use Rattle.std.specs.Prelude.{◌≡◌, ℕ, List}
+use Rattle.eb_base.specs.Setting.{Setting}
+use Rattle.eb_io.specs.Lines.{Line}
+use Rattle.eb_lines.specs.declared.refusal.Refusal.TheVariants.{Full}
+use Rattle.eb_lines.specs.Reading.{refused}
+use Rattle.eb_lines.specs.Reads.{Reads}
+use Rattle.eb_run.specs.FeedOutput.{IsFeedOutput}
+
+-- each input has a text, whatever a feed keeps
+abbrev pub SomeFeedText : Type 0
+SomeFeedText = (σ : Setting) (keep : ℕ) (bytes : List ℕ) → (printed : List ℕ) × IsFeedOutput σ keep bytes printed
+
+-- and no other
+abbrev pub OneFeedText : Type 0
+OneFeedText = (σ : Setting) (keep : ℕ) (bytes a b : List ℕ) → IsFeedOutput σ keep bytes a → IsFeedOutput σ keep bytes b → a ≡ b
+
+-- no line is read as one that is refused as full
+abbrev pub NeverFull : Type 0
+NeverFull = (l : Line) → Reads l (refused Full) → ⊥

@@ -1,0 +1,13 @@
+pub mod Command
+pub mod Output
+pub mod Holding
+pub mod Waiting
+pub mod Running
+pub mod Bench
+pub mod Ran
+pub mod Laws
+pub mod FeedCommand
+pub mod FeedOutput
+pub mod Fed
+pub mod FeedLaws
+pub mod StatusLine

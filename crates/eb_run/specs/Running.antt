@@ -1,0 +1,68 @@
+-- What the index of a run holds, and which lines of the input wait; and that what a run printed is a front of a whole text.
+use Rattle.std.specs.Prelude.{◌≡◌, ℕ, true, List, [], ◌++◌, length, Result, OnOk}
+use Rattle.std.specs.declared.vec.Vec.{Vec}
+use denote.MutBor.{MutBor}
+use Rattle.std.proofs.Common.{sym, ap, subst, ◌∙◌, append_assoc, append-nil}
+use Rattle.eb_io.specs.Lines.{Line}
+use Rattle.eb_lines.specs.Programs.{IsRunning, WorksOn, PrintsFront}
+use Rattle.eb_indexed.specs.Sees.{Sees}
+use Rattle.eb_indexed.specs.Text.{end_of}
+use Rattle.eb_table.specs.Known.{Words}
+use Rattle.eb_run.specs.declared.running.Running.{Running}
+use Rattle.eb_run.specs.Output.{Asked, IsBodyOf, IsTextOf}
+use Rattle.eb_run.specs.Waiting.{HasGathered}
+
+-- no line is held
+abbrev pub HoldsNone : Running → Type 0
+HoldsNone r = (r.rounds.ahead ≡ []) × (r.rounds.held ≡ [])
+
+-- of these lines the run has worked off some, as it was asked, and they printed this text: the history of the index's writer
+-- is the documents that the run accepted
+pub record HasRun (r : Running) (a : Asked) (given : List Line) (so_far : List ℕ) : Type 0 where
+  pub words : Words
+  pub index : r.index ≡ words
+  pub setting : words.setting ≡ a.setting
+  pub writer : r.writer.index ≡ words
+  pub converter : r.converter.index ≡ words
+  pub mode : a.overlap ≡ true
+  pub stats : r.stats ≡ a.stats
+  pub number : r.number ≡ length given
+  pub worked : HasGathered a.setting given r.writer.docs r.rounds so_far
+
+-- what may be called between two lines, and works off the held lines, if memory suffices
+pub record WorksOffHeld {W Z E : Type 0} (pre : W → MutBor Running → MutBor (Vec ℕ Z) → Type 0)
+    (post : W → MutBor Running → MutBor (Vec ℕ Z) → Result (Unit {0}) E → MutBor Running → MutBor (Vec ℕ Z) → Type 0) (worker : W) : Type 0 where
+  pub may : (old : MutBor Running) (text : MutBor (Vec ℕ Z)) → IsRunning HasRun old.now → pre worker old text
+  pub on : (old new : MutBor Running) (text more : MutBor (Vec ℕ Z)) (r : Result (Unit {0}) E) → post worker old text r new more → WorksOn HasRun old.now new.now text.now.items more.now.items
+  pub none : (old new : MutBor Running) (text more : MutBor (Vec ℕ Z)) (r : Result (Unit {0}) E) → post worker old text r new more → OnOk r (HoldsNone new.now)
+  pub same : (old new : MutBor Running) (text more : MutBor (Vec ℕ Z)) (r : Result (Unit {0}) E) → post worker old text r new more
+      → new.now.number ≡ old.now.number
+
+-- a run that is worked by such a worker
+abbrev pub HasRunBy : {W Z E : Type 0} → (W → MutBor Running → MutBor (Vec ℕ Z) → Type 0)
+    → (W → MutBor Running → MutBor (Vec ℕ Z) → Result (Unit {0}) E → MutBor Running → MutBor (Vec ℕ Z) → Type 0) → W → Running → Asked → List Line → List ℕ → Type 0
+HasRunBy pre post worker r a given so_far = WorksOffHeld pre post worker × HasRun r a given so_far
+
+-- the lines that are worked off are the first ones, and printed this
+pub run_first : (r : Running) (a : Asked) (given : List Line) (so_far : List ℕ) → HasRun r a given so_far → PrintsFront IsBodyOf a given so_far
+run_first r a given so_far h =
+    let w = h.worked.worked in (
+      w.done,
+      w.waiting ++ h.worked.behind,
+      [],
+      h.worked.parts ∙ ap (λ ls. ls ++ h.worked.behind) w.parts ∙ append_assoc w.done w.waiting h.worked.behind,
+      record { readings = w.readings; numbers = w.numbers; read = w.read; sees = subst (λ b. Sees b w.readings w.numbers) (sym h.mode) w.sees; bytes = append-nil so_far ∙ w.printed },
+    )
+
+pub body_text : (a : Asked) (lines : List Line) (printed : List ℕ) (b : IsBodyOf a lines printed) → IsTextOf a lines (printed ++ end_of a.setting a.stats b.readings)
+body_text a lines printed b = record {
+  readings = b.readings;
+  numbers = b.numbers;
+  read = b.read;
+  sees = b.sees;
+  bytes = ap (λ x. x ++ end_of a.setting a.stats b.readings) b.bytes;
+}
+
+-- what lines print comes first in their whole text
+pub body_first : (a : Asked) (lines : List Line) (printed : List ℕ) → IsBodyOf a lines printed → (more : List ℕ) × IsTextOf a lines (printed ++ more)
+body_first a lines printed b = (end_of a.setting a.stats b.readings, body_text a lines printed b)

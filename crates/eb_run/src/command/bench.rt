@@ -1,0 +1,31 @@
+ghost use Rattle.std.specs.Prelude.{◌≡◌, map, string_bytes};
+ghost use Rattle.eb_run.specs.Command.{bench_of, bench_docs};
+
+use crate::command::Command;
+use eb_options::{read_nine, read_number};
+
+// The most documents of made input.
+const MAX_BENCH_DOCS: u32 = 40_000;
+
+// The number of documents that the word asks for.
+fn read_docs(word: &str) -> Option<u32>
+    ensures { result ≡ bench_docs word.now }
+{
+    let docs = read_nine(word)?;
+    if docs < 1 || docs > MAX_BENCH_DOCS {
+        return None;
+    }
+    Some(docs)
+}
+
+// What the words behind `bench` ask for.
+pub(super) fn read_bench(words: &[String]) -> Option<Command>
+    ensures { result ≡ bench_of (map string_bytes words.now) }
+{
+    if words.len() != 2 {
+        return None;
+    }
+    let start = read_number(words[0].as_str(), 20)?;
+    let docs = read_docs(words[1].as_str())?;
+    Some(Command::Bench { start, docs })
+}

@@ -1,0 +1,44 @@
+ghost use Rattle.std.specs.Prelude.{◌≡◌, Some, None, IfOk, IsErrOf, map, string_bytes};
+ghost use Rattle.eb_run.specs.Command.{save_of, load_of};
+
+use crate::command::{Command, CommandFault};
+use eb_options::{OptionFault, SETTING_OPTIONS, read_options, read_setting};
+use std::alloc::Global;
+
+// The flags of `save`: none; and of `load`.
+const SAVE_FLAGS: [&str; 0] = [];
+
+const LOAD_FLAGS: [&str; 1] = ["stats"];
+
+// The options of `load`: none.
+const LOAD_OPTIONS: [&str; 0] = [];
+
+// What the words behind `save` ask for.
+pub(super) fn read_save(alloc: Global, words: &[String]) -> Result<Command, CommandFault>
+    ensures command { IfOk result (λ command. save_of (map string_bytes words.now) ≡ Some command) }
+    ensures usage { IsErrOf result CommandFault.Usage → save_of (map string_bytes words.now) ≡ None }
+{
+    let items = match read_options(alloc, words, &SAVE_FLAGS, &SETTING_OPTIONS) {
+        Ok(items) => items,
+        Err(OptionFault::Usage) => return Err(CommandFault::Usage),
+        Err(OptionFault::NoMemory) => return Err(CommandFault::NoMemory),
+    };
+    match read_setting(&items) {
+        Some(config) => Ok(Command::Save { config }),
+        None => Err(CommandFault::Usage),
+    }
+}
+
+// What the words behind `load` ask for.
+pub(super) fn read_load(alloc: Global, words: &[String]) -> Result<Command, CommandFault>
+    ensures command { IfOk result (λ command. load_of (map string_bytes words.now) ≡ Some command) }
+    ensures usage { IsErrOf result CommandFault.Usage → load_of (map string_bytes words.now) ≡ None }
+{
+    match read_options(alloc, words, &LOAD_FLAGS, &LOAD_OPTIONS) {
+        Ok(items) => Ok(Command::Load {
+            stats: items.has("stats"),
+        }),
+        Err(OptionFault::Usage) => Err(CommandFault::Usage),
+        Err(OptionFault::NoMemory) => Err(CommandFault::NoMemory),
+    }
+}

@@ -1,0 +1,192 @@
+ghost use Rattle.std.specs.Prelude.{◌≡◌, ◌⊎◌, ◌++◌, true, false, List, [], ℕ, None, Some, OnOk, map, string_bytes};
+ghost use Rattle.eb_io.specs.Faults.{HasRisen};
+ghost use Rattle.eb_lines.specs.Programs.{IsRunning, WorksOn};
+ghost use Rattle.eb_run.specs.Command.{command_of};
+ghost use Rattle.eb_run.specs.Output.{Ends};
+ghost use Rattle.eb_run.specs.Ran.{EndsBy, Ran, Means, Completes, reads_source};
+ghost use Rattle.eb_run.specs.Running.{HasRun, HoldsNone};
+ghost use Rattle.eb_run.specs.StatusLine.{status_line};
+
+use crate::bench::run_bench;
+use crate::command::{Command, CommandFault, read_command};
+use crate::program::RunProgram;
+use crate::running::Running;
+use crate::usage::USAGE;
+use eb_answer::answer_lines;
+use eb_archive::{load_lines, save_lines};
+use eb_base::{Config, Gate, NoMemory};
+use eb_indexed::Indexed;
+use eb_io::{Sink, Source, write_all};
+use eb_lines::{Status, pass_lines};
+use eb_parts::run_parts;
+use eb_watching::run_watches;
+use eb_workers::run_workers;
+use std::alloc::Global;
+use std::sync::Wait;
+use std::thread::Threads;
+
+/// Runs the command that the words ask for: `run` reads document lines and query lines from the
+/// source and prints answers and refusals on `out`. With `--overlap` documents are added while queries
+/// are answered, by two threads, and lines are read by several; with `--workers N` queries are answered by workers that live
+/// for the whole run, and the call may wait: its promise holds if its waits end; with `--parts N` documents go to several
+/// indexes by their ids; with `--watch` lines also set and remove watches, and documents tell which they match. What is
+/// printed goes out in one write before the source is asked again, or once 64 KiB are gathered. What the status has to say
+/// goes to `err`; a fault there changes no status.
+pub fn run<R, S, K, E, G>(
+    rt: &R,
+    alloc: Global,
+    words: &Vec<String>,
+    source: &mut S,
+    out: &mut K,
+    err: &mut E,
+    gate: &G,
+) -> Status
+where
+    R: Threads + Wait + Sync,
+    S: Source,
+    K: Sink,
+    E: Sink,
+    G: Gate + Sync,
+    // Usage comes only where the words ask for no command; then nothing is read and nothing printed.
+    ensures usage { result ≡ Status.Usage → command_of (map string_bytes words.now.items) ≡ None }
+    ensures no_command { command_of (map string_bytes words.now.items) ≡ None → (result ≡ Status.Usage) ⊎ (result ≡ Status.NoMemory) }
+    ensures unprinted { command_of (map string_bytes words.now.items) ≡ None → out.new ≡ out.old }
+    // The source isn't read where they ask for no command, or to work off a made input.
+    ensures unread { reads_source (command_of (map string_bytes words.now.items)) ≡ false → source.new ≡ source.old }
+    // What was printed, by the command: where source and `out` tell their bytes, a text of the input as the status says.
+    ensures ran { (c : Command) → command_of (map string_bytes words.now.items) ≡ Some c
+        → Ran c result (S.left source.old) (S.left source.new) (K.taken out.old) (K.taken out.new) }
+    // What the status says of the input holds whatever becomes of the output.
+    ensures means { (c : Command) → command_of (map string_bytes words.now.items) ≡ Some c → Means c result (S.left source.old) (S.left source.new) }
+    // Without a fault and with an end in time, the input is worked off.
+    ensures completes { (c : Command) → command_of (map string_bytes words.now.items) ≡ Some c
+        → Completes c (HasRisen (S.faults source.old) (S.faults source.new)) (HasRisen (K.faults out.old) (K.faults out.new)) result (S.left source.old) }
+    // Faults come only from outside.
+    ensures read_fault { result ≡ Status.ReadFault → HasRisen (S.faults source.old) (S.faults source.new) }
+    ensures write_fault { result ≡ Status.WriteFault → HasRisen (K.faults out.old) (K.faults out.new) }
+    // `err` took the line of the status, unless it failed.
+    ensures told { (before : List ℕ) → E.taken err.old ≡ Some before
+        → HasRisen (E.faults err.old) (E.faults err.new) ⊎ (E.taken err.new ≡ Some (before ++ status_line result)) }
+{
+    let status = run_words(rt, alloc, words, source, out, gate);
+    let _ = write_all(err, status.line(USAGE));
+    status
+}
+
+fn run_words<R: Threads + Wait + Sync, S: Source, K: Sink, G: Gate + Sync>(
+    rt: &R,
+    alloc: Global,
+    words: &Vec<String>,
+    source: &mut S,
+    out: &mut K,
+    gate: &G,
+) -> Status
+    ensures usage { result ≡ Status.Usage → command_of (map string_bytes words.now.items) ≡ None }
+    ensures no_command { command_of (map string_bytes words.now.items) ≡ None → (result ≡ Status.Usage) ⊎ (result ≡ Status.NoMemory) }
+    ensures unprinted { command_of (map string_bytes words.now.items) ≡ None → out.new ≡ out.old }
+    ensures unread { reads_source (command_of (map string_bytes words.now.items)) ≡ false → source.new ≡ source.old }
+    ensures ends { (c : Command) → command_of (map string_bytes words.now.items) ≡ Some c
+        → EndsBy c result (S.left source.old) (S.left source.new) (K.taken out.old) (K.taken out.new) }
+    ensures read_fault { result ≡ Status.ReadFault → HasRisen (S.faults source.old) (S.faults source.new) }
+    ensures write_fault { result ≡ Status.WriteFault → HasRisen (K.faults out.old) (K.faults out.new) }
+{
+    let command = match read_command(alloc, words) {
+        Ok(command) => command,
+        Err(CommandFault::Usage) => return Status::Usage,
+        Err(CommandFault::NoMemory) => return Status::NoMemory,
+    };
+    match command {
+        Command::Run {
+            overlap,
+            stats,
+            config,
+        } => run_lines(rt, alloc, overlap, stats, config, source, out, gate),
+        Command::RunWorkers {
+            workers,
+            stats,
+            config,
+        } => run_workers(rt, alloc, workers, stats, config, source, out, gate),
+        Command::RunParts {
+            parts,
+            stats,
+            config,
+        } => run_parts(alloc, parts, stats, config, source, out, gate),
+        Command::RunWatches { stats, config } => {
+            run_watches(alloc, stats, config, source, out, gate)
+        }
+        Command::Bench { start, docs } => run_bench(alloc, start, docs, out, gate),
+        Command::Save { config } => save_lines(alloc, config, source, out, gate),
+        Command::Load { stats } => load_lines(alloc, stats, source, out, gate),
+    }
+}
+
+// Works off the lines one after the other, or adds documents while queries are answered.
+fn run_lines<R: Threads + Sync, S: Source, K: Sink, G: Gate + Sync>(
+    rt: &R,
+    alloc: Global,
+    overlap: bool,
+    stats: bool,
+    config: Config,
+    source: &mut S,
+    out: &mut K,
+    gate: &G,
+) -> Status
+    ensures ends { Ends config overlap stats result (S.left source.old) (S.left source.new) (K.taken out.old) (K.taken out.new) }
+    ensures read_fault { result ≡ Status.ReadFault → HasRisen (S.faults source.old) (S.faults source.new) }
+    ensures write_fault { result ≡ Status.WriteFault → HasRisen (K.faults out.old) (K.faults out.new) }
+{
+    if overlap {
+        run_beside(rt, alloc, stats, config, source, out, gate)
+    } else {
+        run_in_order(alloc, stats, config, source, out, gate)
+    }
+}
+
+// Works off the lines one after the other.
+fn run_in_order<S: Source, K: Sink, G: Gate>(
+    alloc: Global,
+    stats: bool,
+    config: Config,
+    source: &mut S,
+    out: &mut K,
+    gate: &G,
+) -> Status
+    ensures ends { Ends config false stats result (S.left source.old) (S.left source.new) (K.taken out.old) (K.taken out.new) }
+    ensures read_fault { result ≡ Status.ReadFault → HasRisen (S.faults source.old) (S.faults source.new) }
+    ensures write_fault { result ≡ Status.WriteFault → HasRisen (K.faults out.old) (K.faults out.new) }
+{
+    let Ok(indexed) = Indexed::new(alloc, stats, config) else {
+        return Status::NoMemory;
+    };
+    answer_lines(alloc, indexed, source, out, gate)
+}
+
+// Adds documents while queries are answered.
+fn run_beside<R: Threads + Sync, S: Source, K: Sink, G: Gate + Sync>(
+    rt: &R,
+    alloc: Global,
+    stats: bool,
+    config: Config,
+    source: &mut S,
+    out: &mut K,
+    gate: &G,
+) -> Status
+    ensures ends { Ends config true stats result (S.left source.old) (S.left source.new) (K.taken out.old) (K.taken out.new) }
+    ensures read_fault { result ≡ Status.ReadFault → HasRisen (S.faults source.old) (S.faults source.new) }
+    ensures write_fault { result ≡ Status.WriteFault → HasRisen (K.faults out.old) (K.faults out.new) }
+{
+    let Ok(running) = Running::new(alloc, stats, config) else {
+        return Status::NoMemory;
+    };
+    let mut program = RunProgram {
+        alloc,
+        worker: |running: &mut Running, text: &mut Vec<u8>| -> Result<(), NoMemory>
+            requires { IsRunning HasRun running.old }
+            ensures on { WorksOn HasRun running.old running.new text.old.items text.new.items }
+            ensures none { OnOk result (HoldsNone running.new) }
+            ensures same { running.new.number ≡ running.old.number }
+        { running.work_held(rt, alloc, gate, text) },
+        running,
+    };
+    pass_lines(alloc, &mut program, Vec::new(alloc), source, out)
+}

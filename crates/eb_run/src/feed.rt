@@ -1,0 +1,115 @@
+ghost use Rattle.std.specs.Prelude.{◌≡◌, ◌⊎◌, ◌<◌, ◌≤◌, ◌++◌, List, ℕ, None, Some, length, map, string_bytes};
+ghost use Rattle.eb_io.specs.Faults.{HasRisen};
+ghost use Rattle.eb_io.specs.Lines.{longest_input};
+ghost use Rattle.eb_base.specs.Setting.{Setting};
+ghost use Rattle.eb_lines.specs.Outcomes.{IsWorkedOff};
+ghost use Rattle.eb_lines.specs.Passing.{Ends};
+ghost use Rattle.eb_run.specs.FeedCommand.{feed_command_of, AsksFeed};
+ghost use Rattle.eb_run.specs.StatusLine.{feed_status_line};
+ghost use Rattle.eb_answer.specs.Rules.{Rules, is_bad, IsBody, IsText, HasRefusal, HasNoRefusal};
+ghost use Rattle.eb_run.specs.FeedOutput.{feed_rules, WroteFeed, FeedMeans};
+
+mod command;
+mod fed;
+
+use crate::command::CommandFault;
+use crate::usage::FEED_USAGE;
+pub use command::{FeedCommand, read_feed_command};
+use eb_answer::answer_lines;
+use eb_base::{Config, Gate};
+use eb_io::{Sink, Source, write_all};
+use eb_lines::Status;
+use fed::Fed;
+use std::alloc::Global;
+
+/// Runs the feed that the words ask for, which are without the program's name and the word `feed`: reads document lines
+/// and query lines from the source and prints answers and refusals on `out`. Each document is taken; the oldest go. What is
+/// printed goes out in one write before the source is asked again, or once 64 KiB are gathered. What the status has to say
+/// goes to `err`; a fault there changes no status.
+pub fn run_feed<S, K, E, G>(
+    alloc: Global,
+    words: &[String],
+    source: &mut S,
+    out: &mut K,
+    err: &mut E,
+    gate: &G,
+) -> Status
+where
+    S: Source,
+    K: Sink,
+    E: Sink,
+    G: Gate,
+    // Usage comes only where the words ask for no feed; then nothing is read and nothing printed.
+    ensures usage { result ≡ Status.Usage → feed_command_of (map string_bytes words.now) ≡ None }
+    ensures no_command { feed_command_of (map string_bytes words.now) ≡ None → (result ≡ Status.Usage) ⊎ (result ≡ Status.NoMemory) }
+    ensures unread { feed_command_of (map string_bytes words.now) ≡ None → (source.new ≡ source.old) × (out.new ≡ out.old) }
+    // Where the words ask for a feed, and source and `out` tell their bytes, the run printed the text of the input as the
+    // status says.
+    ensures output { (keep : ℕ) (σ : Setting) → AsksFeed (map string_bytes words.now) keep σ
+        → (bytes before : List ℕ) → S.left source.old ≡ Some bytes → K.taken out.old ≡ Some before
+        → (printed : List ℕ) × (K.taken out.new ≡ Some (before ++ printed)) × WroteFeed σ keep result bytes (S.left source.new) printed }
+    // What the status says of the input holds whatever becomes of the output.
+    ensures means { (keep : ℕ) (σ : Setting) → AsksFeed (map string_bytes words.now) keep σ → (bytes : List ℕ) → S.left source.old ≡ Some bytes
+        → FeedMeans σ keep result bytes (S.left source.new) }
+    // Faults come only from outside.
+    ensures read_fault { result ≡ Status.ReadFault → HasRisen (S.faults source.old) (S.faults source.new) }
+    ensures write_fault { result ≡ Status.WriteFault → HasRisen (K.faults out.old) (K.faults out.new) }
+    // Without a fault and with an end in time, the input is worked off.
+    ensures completes { (keep : ℕ) (σ : Setting) → AsksFeed (map string_bytes words.now) keep σ
+        → (HasRisen (S.faults source.old) (S.faults source.new) → ⊥) → (HasRisen (K.faults out.old) (K.faults out.new) → ⊥)
+        → (bytes : List ℕ) → S.left source.old ≡ Some bytes → length bytes < longest_input → IsWorkedOff result }
+    // `err` took the line of the status, unless it failed.
+    ensures told { (before : List ℕ) → E.taken err.old ≡ Some before
+        → HasRisen (E.faults err.old) (E.faults err.new) ⊎ (E.taken err.new ≡ Some (before ++ feed_status_line result)) }
+{
+    let status = run_words(alloc, words, source, out, gate);
+    let _ = write_all(err, status.line(FEED_USAGE));
+    status
+}
+
+fn run_words<S: Source, K: Sink, G: Gate>(
+    alloc: Global,
+    words: &[String],
+    source: &mut S,
+    out: &mut K,
+    gate: &G,
+) -> Status
+    ensures usage { result ≡ Status.Usage → feed_command_of (map string_bytes words.now) ≡ None }
+    ensures no_command { feed_command_of (map string_bytes words.now) ≡ None → (result ≡ Status.Usage) ⊎ (result ≡ Status.NoMemory) }
+    ensures unread { feed_command_of (map string_bytes words.now) ≡ None → (source.new ≡ source.old) × (out.new ≡ out.old) }
+    ensures ends { (keep : ℕ) (σ : Setting) → AsksFeed (map string_bytes words.now) keep σ
+        → let rules = feed_rules σ keep in
+        Ends (IsBody is_bad rules) (IsText is_bad rules) (HasRefusal is_bad rules) (HasNoRefusal is_bad rules)
+        result (S.left source.old) (S.left source.new) (K.taken out.old) (K.taken out.new) }
+    ensures read_fault { result ≡ Status.ReadFault → HasRisen (S.faults source.old) (S.faults source.new) }
+    ensures write_fault { result ≡ Status.WriteFault → HasRisen (K.faults out.old) (K.faults out.new) }
+{
+    let command = match read_feed_command(alloc, words) {
+        Ok(command) => command,
+        Err(CommandFault::Usage) => return Status::Usage,
+        Err(CommandFault::NoMemory) => return Status::NoMemory,
+    };
+    run_lines(alloc, command.keep, command.config, source, out, gate)
+}
+
+// Works off an input over a feed.
+fn run_lines<S: Source, K: Sink, G: Gate>(
+    alloc: Global,
+    keep: u32,
+    config: Config,
+    source: &mut S,
+    out: &mut K,
+    gate: &G,
+) -> Status
+    requires { (2 ≤ keep) × (keep ≤ 64) }
+    ensures ends { let rules = feed_rules config keep in
+        Ends (IsBody is_bad rules) (IsText is_bad rules) (HasRefusal is_bad rules) (HasNoRefusal is_bad rules) result
+        (S.left source.old) (S.left source.new) (K.taken out.old) (K.taken out.new) }
+    ensures read_fault { result ≡ Status.ReadFault → HasRisen (S.faults source.old) (S.faults source.new) }
+    ensures write_fault { result ≡ Status.WriteFault → HasRisen (K.faults out.old) (K.faults out.new) }
+{
+    let Ok(fed) = Fed::new(alloc, keep, config) else {
+        return Status::NoMemory;
+    };
+    answer_lines(alloc, fed, source, out, gate)
+}

@@ -1,0 +1,35 @@
+ghost use Rattle.eb_run.specs.FeedLaws.{SomeFeedText, OneFeedText, NeverFull};
+ghost use Rattle.eb_run.specs.Laws.{SomeText, OneText, OrderText};
+
+/// The rules leave no input out: each has a text, with and without `--overlap`. The call does nothing.
+pub fn some_text()
+    ensures { SomeText }
+{}
+
+/// Without `--overlap` the rules give an input one text and no other. So what a run prints up to the end of its input is
+/// settled by the input's bytes. The call does nothing.
+pub fn one_text()
+    ensures { OneText }
+{}
+
+/// This text is one of those that the rules allow with `--overlap`: to see just the documents before it is allowed to each
+/// query. The call does nothing.
+pub fn order_text()
+    ensures { OrderText }
+{}
+
+/// The rules of feeds leave no input out: each has a text. The call does nothing.
+pub fn feed_some_text()
+    ensures { SomeFeedText }
+{}
+
+/// They give an input one text and no other. So what a feed prints up to the end of its input is settled by the input's
+/// bytes. The call does nothing.
+pub fn feed_one_text()
+    ensures { OneFeedText }
+{}
+
+/// A feed refuses no line as full. The call does nothing.
+pub fn feed_never_full()
+    ensures { NeverFull }
+{}

@@ -1,0 +1,69 @@
+//! The program over the lines of an input: what `run` with `--overlap` does with each line, and at the end.
+
+use crate::running::Running;
+use eb_base::NoMemory;
+use eb_indexed::put_end;
+use eb_lines::LineProgram;
+use std::alloc::Global;
+
+// A run, with its allocator, and with what works off the lines that it holds: a closure, since what is sent to other threads
+// needs the bounds of a function.
+#[derive(Drop)]
+pub(crate) struct RunProgram<W: Fn(&mut Running, &mut Vec<u8>) -> Result<(), NoMemory>> {
+    pub(crate) alloc: Global,
+    pub(crate) worker: W,
+    pub(crate) running: Running,
+}
+
+impl<W: Fn(&mut Running, &mut Vec<u8>) -> Result<(), NoMemory>> LineProgram for RunProgram<W> {
+    ghost use Rattle.eb_indexed.specs.LinesRead.{HasRefusal, HasNoRefusal};
+    ghost use Rattle.eb_run.specs.Output.{Asked as AskedRun, IsBodyOf, IsTextOf};
+    ghost use Rattle.eb_run.specs.Running.{HasRunBy, HoldsNone, run_first, body_first};
+
+    ghost Asked = { AskedRun };
+
+    ghost has_run = { λ p. HasRunBy W.pre W.post p.worker p.running };
+
+    ghost prints = { IsBodyOf };
+
+    ghost ends_with = { IsTextOf };
+
+    ghost refuses = { λ a. HasRefusal a.setting };
+
+    ghost accepts = { λ a. HasNoRefusal a.setting };
+
+    ghost settled = { λ p. HoldsNone p.running };
+
+    ghost number = { λ p. p.running.number };
+
+    fn take_line(&mut self, bytes: &[u8], text: &mut Vec<u8>) -> Result<(), NoMemory> {
+        self.running.take_line(bytes, &self.worker, text)
+    }
+
+    fn take_long(&mut self, text: &mut Vec<u8>) -> Result<(), NoMemory> {
+        self.running.take_long(&self.worker, text)
+    }
+
+    // A query that is held is answered.
+    fn settle(&mut self, text: &mut Vec<u8>) -> Result<(), NoMemory> {
+        self.running.answer_held(&self.worker, text)
+    }
+
+    fn settle_all(&mut self, text: &mut Vec<u8>) -> Result<(), NoMemory> {
+        (self.worker)(&mut self.running, text)
+    }
+
+    fn finish(&mut self, text: &mut Vec<u8>) -> Result<u64, NoMemory> {
+        let stats = self.running.stats;
+        let counts = self.running.counts();
+        let segments = self.running.finish();
+        put_end(self.alloc, text, counts, stats, segments)?;
+        Ok(counts.refused)
+    }
+
+    ghost printed_first = { λ p a given so_far h. run_first p.running a given so_far h.1 };
+
+    ghost whole = { body_first };
+
+    ghost counts = { λ p a given so_far h. h.1.number };
+}

@@ -1,0 +1,43 @@
+-- The rules of an index whose documents tell watches.
+use Rattle.std.specs.Prelude.{ℕ, ◌==◌, Bool, List, [], length, Option, Some, None, if◌then◌else◌}
+use Rattle.eb_answer.specs.Rules.{Rules, IsBody, IsText, HasRefusal, HasNoRefusal}
+use Rattle.eb_base.specs.Query.{Tree}
+use Rattle.eb_base.specs.Setting.{Setting}
+use Rattle.eb_indexed.specs.IndexRules.{refusal_in, index_tail}
+use Rattle.eb_lines.specs.declared.refusal.Refusal.{Refusal}
+use Rattle.eb_lines.specs.declared.refusal.Refusal.TheVariants.{NoWatch, WatchTaken, WatchesFull}
+use Rattle.eb_lines.specs.declared.status.Status.{Status}
+use Rattle.eb_lines.specs.Outcomes.{Wrote, Means}
+use Rattle.eb_watch.specs.Watches.{Watched, is_set, with_watch, without_watch, numbers_of, matching}
+use Rattle.eb_watching.specs.Others.{ReadsOther}
+
+-- a watch of a number is set where no watch has the number and fewer than 10,000 are set, and removed where there is one
+abbrev pub watch_refusal : List Watched → ℕ → Option Tree → Option Refusal
+watch_refusal ws n (Some q) = if is_set ws n then Some WatchTaken else (if length ws == 10000 then Some WatchesFull else None)
+watch_refusal ws n None = if is_set ws n then None else Some NoWatch
+
+abbrev pub watches_then : List Watched → ℕ → Option Tree → List Watched
+watches_then ws n (Some q) = with_watch ws n q
+watches_then ws n None = without_watch ws n
+
+-- an index of this setting, without documents or watches at first: a document tells the watches that it matches, and a query sees
+-- all documents
+abbrev pub watch_rules : Setting → Bool → Rules (List Watched)
+watch_rules σ stats = record {
+  start = [];
+  watches = [];
+  refusal = refusal_in σ;
+  tells = λ ws d. numbers_of (matching ws d);
+  sees = λ docs. docs;
+  watch_refusal = watch_refusal;
+  with_watch = watches_then;
+  tail = index_tail σ stats;
+}
+
+-- what a run with watches that ends so has written, of an input of these bytes of which this is left
+abbrev pub WroteWatches : Rules (List Watched) → Status → List ℕ → Option (List ℕ) → List ℕ → Type 0
+WroteWatches rules = Wrote (IsBody ReadsOther rules) (IsText ReadsOther rules) (HasRefusal ReadsOther rules) (HasNoRefusal ReadsOther rules)
+
+-- what its status says of that input, whatever became of the output
+abbrev pub MeansWatches : Rules (List Watched) → Status → List ℕ → Option (List ℕ) → Type 0
+MeansWatches rules = Means (HasRefusal ReadsOther rules) (HasNoRefusal ReadsOther rules)

@@ -1,0 +1,138 @@
+//! An index whose documents tell watches.
+ghost use Rattle.std.specs.Prelude.{◌≡◌, ◌<◌, ◌≤◌, ◌^◌, [], Some, None, length, IfOk, OnErr};
+ghost use Rattle.eb_answer.specs.Stores.{IsHolding, TakesOther, Keeps};
+ghost use Rattle.eb_base.specs.Query.{tree, IsWellFormed};
+ghost use Rattle.eb_lines.specs.Reading.{watch};
+ghost use Rattle.eb_watch.specs.Seen.{watches_of};
+ghost use Rattle.eb_watch.specs.Watches.{numbers_of, matching};
+ghost use Rattle.eb_watching.specs.Watched.{IsWatched};
+ghost use Rattle.eb_watching.specs.WatchRules.{watch_rules};
+
+use crate::other::read_other;
+use eb_answer::Store;
+use eb_base::{Config, Document, Gate, NoMemory, Query};
+use eb_cursor::Frame;
+use eb_indexed::Indexed;
+use eb_lines::{Refusal, put_answer};
+use eb_place::Steps;
+use eb_watch::{NoWatch, SetFault, Watches};
+use std::alloc::Global;
+use std::marker::Brand;
+use std::sync::ledger::{Blank, Ledger};
+
+// An index, and the watches that are set.
+#[derive(Drop)]
+pub(crate) struct WatchedIndex {
+    indexed: Indexed,
+    watches: Watches,
+}
+
+// The numbers of the watches that a document matches, where nobody asks how many were tested.
+fn told_of<L: Ledger>(
+    alloc: Global,
+    watches: &Watches,
+    document: &Document,
+    blank: Blank,
+) -> Result<Vec<u32>, NoMemory>
+    requires blank { (blank.name ≡ L.name) × (blank.parts ≡ L.parts) × (0 < blank.parts) }
+    ensures told { IfOk result (λ numbers. numbers.items ≡ numbers_of (matching (watches_of watches.now) document.now)) }
+    ensures few { IfOk result (λ numbers. length numbers.items ≤ 2 ^ 32) }
+{
+    let _most = watches.len();
+    let mut tests = Steps::<L>::new(blank);
+    watches.told(alloc, document, &mut tests)
+}
+
+impl WatchedIndex {
+    // An empty index, and no watches. Takes all the memory of the index.
+    pub(crate) fn new(alloc: Global, stats: bool, config: Config) -> Result<WatchedIndex, NoMemory>
+        ensures { IfOk result (λ s. IsWatched s (watch_rules config stats) [] []) }
+    {
+        let indexed = Indexed::new(alloc, stats, config)?;
+        Ok(WatchedIndex {
+            indexed,
+            watches: Watches::new(alloc),
+        })
+    }
+
+    // Sets a watch, or gives why it isn't set.
+    fn set(&mut self, number: u32, query: Query) -> Result<Option<Refusal>, NoMemory>
+        requires { IsWellFormed (tree query) }
+        ensures ok { IfOk result (λ refusal. TakesOther IsWatched self.old self.new (watch number (Some (tree query))) refusal) }
+        ensures err { OnErr result (Keeps IsWatched self.old self.new) }
+    {
+        match self.watches.set(number, query) {
+            Ok(()) => Ok(None),
+            Err(SetFault::Taken) => Ok(Some(Refusal::WatchTaken)),
+            Err(SetFault::Full) => Ok(Some(Refusal::WatchesFull)),
+            Err(SetFault::NoMemory) => Err(NoMemory),
+        }
+    }
+
+    // Removes a watch, or gives why it isn't removed.
+    fn remove(&mut self, number: u32) -> Option<Refusal>
+        ensures { TakesOther IsWatched self.old self.new (watch number None) result }
+    {
+        match self.watches.remove(number) {
+            Ok(()) => None,
+            Err(NoWatch) => Some(Refusal::NoWatch),
+        }
+    }
+}
+
+impl Store for WatchedIndex {
+    ghost use Rattle.std.specs.Prelude.{List};
+    ghost use Rattle.eb_watch.specs.Watches.{Watched};
+    ghost use Rattle.eb_watching.specs.Others.{ReadsOther};
+    ghost use Rattle.eb_watching.specs.Watched.{IsWatched as IsWatchedBy};
+
+    ghost Watches = { List Watched };
+
+    ghost other = { ReadsOther };
+
+    ghost holds = { IsWatchedBy };
+
+    fn place<G: Gate>(&mut self, document: &Document, gate: &G) -> Option<Refusal> {
+        if self.indexed.add(document, gate) {
+            None
+        } else {
+            Some(Refusal::Full)
+        }
+    }
+
+    fn told(&self, alloc: Global, document: &Document) -> Result<Vec<u32>, NoMemory> {
+        told_of::<Brand>(alloc, &self.watches, document, Blank::new(1))
+    }
+
+    fn take_other(&mut self, alloc: Global, bytes: &[u8]) -> Result<Option<Refusal>, NoMemory> {
+        match read_other(alloc, bytes)? {
+            Ok((number, Some(query))) => self.set(number, query),
+            Ok((number, None)) => Ok(self.remove(number)),
+            Err(refusal) => Ok(Some(refusal)),
+        }
+    }
+
+    fn answer<G: Gate>(
+        &mut self,
+        alloc: Global,
+        number: u64,
+        k: u32,
+        query: Query,
+        gate: &G,
+        text: &mut Vec<u8>,
+    ) -> Result<(), NoMemory> {
+        let mut frame = Frame::new(alloc, query, k)?;
+        text.reserve(64 + 21 * k as usize)?;
+        let seen = self.indexed.search(&mut frame, gate);
+        put_answer(text, number, seen, frame.ids());
+        Ok(())
+    }
+
+    fn documents(&self) -> u64 {
+        self.indexed.accepted()
+    }
+
+    fn close(&mut self, alloc: Global) -> Result<String, NoMemory> {
+        self.indexed.tail(alloc)
+    }
+}
