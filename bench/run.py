@@ -3,7 +3,7 @@
 
     python3 bench/run.py [--documents N] [--rounds R]
 
-Build the program first, by ./earlybird run < examples/first.jsonl. Nothing of this runs in the gate. The corpora are the same
+Build the program first, by ./earlybird build. Nothing of this runs in the gate. The corpora are the same
 on every machine: the made input is that of docs/FORMATS.md with start 0, and the Zipf corpus comes from a seeded generator
 (15 words of a vocabulary of 100,000 a document; the word of rank r has the weight 1/r).
 """
@@ -19,7 +19,7 @@ import tempfile
 import time
 
 ROOT = os.path.dirname(os.path.dirname(os.path.abspath(__file__)))
-PROGRAM = os.path.join(ROOT, "crates", "earlybird", "out", "earlybird")
+PROGRAM = os.path.join(ROOT, "dist", "earlybird")
 
 
 def made_words(document):
@@ -42,9 +42,11 @@ class Zipf:
             total += 1.0 / rank
             self.sums.append(total)
 
+    def rank(self):
+        return bisect.bisect_left(self.sums, self.random.random() * self.sums[-1])
+
     def word(self):
-        at = bisect.bisect_left(self.sums, self.random.random() * self.sums[-1])
-        return "z%d" % at
+        return "z%d" % self.rank()
 
     def words(self, count):
         return [self.word() for _ in range(count)]
