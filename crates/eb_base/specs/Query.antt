@@ -1,5 +1,5 @@
 -- Queries as plain trees: what a query asks, however it lies in memory.
-use Rattle.std.specs.Prelude.{ℕ, ◌+◌, ◌≤◌, List, [], ◌∷◌, length, map, Option, Some, None, option_and_then, nat_lt, cond, ◌||◌, ◌-◌, Bool, true, false}
+use Rattle.std.specs.Prelude.{◌≡◌, ℕ, ◌+◌, ◌<◌, ◌≤◌, List, [], ◌∷◌, length, map, Option, Some, None}
 use Rattle.eb_base.specs.declared.query.Query.{Query, fold-Query}
 use Rattle.eb_base.specs.declared.query.Query.TheOpen.{Query-F, Queries-F}
 use Rattle.eb_base.specs.declared.query.Queries.{Queries}
@@ -108,36 +108,10 @@ pub record IsWellFormed (t : Tree) : Type 0 where
   pub formed : IsFormed t
   pub within : size t ≤ most_size
 
--- the room less n, where it is that much
-abbrev pub less : ℕ → ℕ → Option ℕ
-less n room = cond (nat_lt room n) None (Some (room - n))
-
-abbrev pub several : Trees → Bool
-several no_trees = false
-several (trees t no_trees) = false
-several (trees t (trees u ts)) = true
-
--- a window with these terms and this reach is not one
-abbrev pub is_no_window : List (List ℕ) → ℕ → Bool
-is_no_window ts w = nat_lt (length ts) 2 || (nat_lt w 1 || nat_lt most_reach w)
-
--- the room that is left after a query that is formed well and has room
-abbrev mutual
-  pub left_after : Tree → ℕ → Option ℕ
-  left_after (word t) room = less 1 room
-  left_after (phrase ts) room = cond (nat_lt (length ts) 2) None (less (length ts) room)
-  left_after (window ts w) room = cond (is_no_window ts w) None (less (length ts) room)
-  left_after (since x) room = less 1 room
-  left_after (negation t) room = option_and_then (left_after t) (less 1 room)
-  left_after (conjunction ts) room = cond (several ts) (option_and_then (left_after_each ts) (less 1 room)) None
-  left_after (disjunction ts) room = cond (several ts) (option_and_then (left_after_each ts) (less 1 room)) None
-
-  pub left_after_each : Trees → ℕ → Option ℕ
-  left_after_each no_trees room = Some room
-  left_after_each (trees t ts) room = option_and_then (left_after_each ts) (left_after t room)
-
-abbrev pub left_after_all : Trees → ℕ → Option ℕ
-left_after_all ts room = cond (several ts) (option_and_then (left_after_each ts) (less 1 room)) None
+-- what is left of the room behind what holds under F and takes n of it: nothing where F fails or there is less room
+abbrev pub IsLeft : Type 0 → ℕ → ℕ → Option ℕ → Type 0
+IsLeft F n room None = F → room < n
+IsLeft F n room (Some left) = F × (n + left ≡ room)
 
 -- what a text with these terms asks: nothing without a term
 abbrev pub leaf_of : List (List ℕ) → Option Tree

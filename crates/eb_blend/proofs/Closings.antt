@@ -7,21 +7,13 @@ use Rattle.eb_base.specs.Document.{Doc}
 use Rattle.eb_base.specs.Setting.{Setting}
 use Rattle.eb_place.specs.Room.{cut}
 use Rattle.eb_place.proofs.CutSegments.{closed_stays}
-use Rattle.eb_convert.specs.declared.conversion.Converted.{Converted}
-use Rattle.eb_convert.specs.declared.conversion.Converted.TheVariants.{One, Nothing}
-use Rattle.eb_engine.specs.Tokens.{ConverterToken, Converts, AreClosed}
-use Rattle.eb_engine.proofs.Converting.{few_known}
+use Rattle.eb_engine.specs.Tokens.{ConverterToken, AreClosed}
 use Rattle.eb_blend.specs.Parts.{converter_histories_of, converted_of, history}
 use Rattle.eb_blend.proofs.Each.{converter_history_at, new_converted, other_converted}
 
 -- where all but one of the segments are among the first n
 pub few_left : (σ : Setting) (xs ys : List Doc) (n : ℕ) → IsPrefix xs ys → length (cut σ ys) ≤ n + 1 → (s : ℕ) → s + 1 < length (cut σ xs) → s < n
 few_left σ xs ys n p few s h = let g = (closed_stays σ xs p.0 s h).0 in let g' = rw p.1 at g in omega (arith, g', few, h)
-
--- where a call converted nothing, it found no document behind the next segment
-pub nothing_left : (σ : Setting) (old new : ConverterToken) (r : Converted) → Converts σ old new r → ((s : ℕ) → r ≡ One s → ⊥) → length (cut σ new.docs) ≤ new.converted + 1
-nothing_left σ old new (One s) did none = absurd (none s refl)
-nothing_left σ old new Nothing did none = few_known σ new (new.converted + 1) (omega (arith, did.0, did.1))
 
 converted_at : (cs : List ConverterToken) (n : ℕ) (c : ConverterToken) → n < length cs → c ≡ get_or cs n c → get_or (converted_of cs) n 0 ≡ c.converted
 converted_at cs n c lt a = get_or-map (λ (x : ConverterToken). x.converted) cs n c 0 lt ∙ ap (λ (x : ConverterToken). x.converted) (sym a)
@@ -50,3 +42,12 @@ converts_more σ old cs n v new lt a same now f p s less low =
           (subst (λ r. s < r) (sym (new_converted cs n new lt)) (now s (subst (λ (z : List Doc). s + 1 < length (cut σ z)) (ap (history (converter_histories_of old)) e ∙ docs) low)))
       | inr ne ↦ subst (λ r. s < r) (sym (other_converted cs n new p ne)) (f p s (omega (arith, less, ne)) low)
     ]
+
+-- one part more converts, and its number doesn't fall
+pub rises : (old cs : List ConverterToken) (n : ℕ) (c new : ConverterToken) → n < length cs → c ≡ get_or cs n c → c.converted ≤ new.converted
+    → ((p : ℕ) → get_or (converted_of old) p 0 ≤ get_or (converted_of cs) p 0) → (p : ℕ) → get_or (converted_of old) p 0 ≤ get_or (converted_of (set cs n new)) p 0
+rises old cs n c new lt is grown low p = elim (cases_eq p n) [
+  | inl s ↦ subst (λ q. get_or (converted_of old) q 0 ≤ get_or (converted_of (set cs n new)) q 0) (sym s)
+      (omega (arith, low n, grown, converted_at cs n c lt is, new_converted cs n new lt))
+  | inr ne ↦ omega (arith, low p, other_converted cs n new p ne)
+]

@@ -1,4 +1,4 @@
-ghost use Rattle.std.specs.Prelude.{◌≡◌, ◌+◌, ◌-◌, ◌<◌, ◌≤◌, ℕ, length, All};
+ghost use Rattle.std.specs.Prelude.{◌≡◌, ◌+◌, ◌-◌, ◌<◌, ◌≤◌, ℕ, length, get_or, All};
 ghost use Rattle.eb_base.specs.Setting.{Setting};
 ghost use Rattle.eb_place.specs.Room.{cut};
 ghost use mathlib.Core.List.{IsPrefix};
@@ -59,13 +59,14 @@ impl BlendConverter {
     }
 
     /// Converts in each part until there is nothing to convert, and gives by how much `converted` grew. Afterwards, in
-    /// each part, each segment whose following segment has a document that the converter knew is converted. The
-    /// converter must have been made with this blend. Takes no memory.
+    /// each part, each segment whose following segment has a document that the converter knew is converted, and none
+    /// is converted no more. The converter must have been made with this blend. Takes no memory.
     pub fn convert_all(&mut self, blend: &Blend) -> u32
         requires { self.old.indexes ≡ blend.now.indexes }
         ensures indexes { self.new.indexes ≡ self.old.indexes }
         ensures known { AreFronts self.old.histories self.new.histories }
         ensures parts { length self.new.converted ≡ length blend.now.indexes }
+        ensures rising { (p : ℕ) → get_or self.old.converted p 0 ≤ get_or self.new.converted p 0 }
         ensures converted { AllConverted blend.now.setting self.old.histories self.new.converted }
         ensures grown { result ≡ few_counted self.new.converted - few_counted self.old.converted }
     {
@@ -106,6 +107,7 @@ fn convert_each(converters: &mut [Converter], indexes: &[Index])
     requires made { converter_indexes_of converters.old ≡ indexes.now }
     ensures indexes { converter_indexes_of converters.new ≡ indexes.now }
     ensures known { AreFronts (converter_histories_of converters.old) (converter_histories_of converters.new) }
+    ensures rising { (p : ℕ) → get_or (converted_of converters.old) p 0 ≤ get_or (converted_of converters.new) p 0 }
     ensures converted { (σ : Setting) → All (λ w. w.setting ≡ σ) indexes.now
         → AllConverted σ (converter_histories_of converters.old) (converted_of converters.new) }
 {

@@ -24,7 +24,7 @@ pub fn pack_block(postings: &[Posting], into: &mut [u64; BLOCK_WORDS]) -> usize
     requires { IsPackable postings.now }
     ensures block { take result into.new ≡ block postings.now }
     ensures few { result ≤ length postings.now }
-    ensures inside { result ≤ BLOCK_WORDS }
+    ensures inside { result ≤ length into.new }
 {
     let width = width_of(postings);
     into[0] = header(postings[0], width, postings.len() as u64);

@@ -14,7 +14,9 @@ use Rattle.eb_place.proofs.WordsAtMoment.{placed_all}
 use Rattle.eb_convert.specs.Converting.{first_word}
 use Rattle.eb_place.proofs.ReachedLater.{started_grows}
 use Rattle.eb_place.specs.Later.{IsNotBefore}
-use Rattle.eb_engine.specs.Tokens.{ConverterToken, placed_by, with_placing, known_to}
+use Rattle.eb_convert.specs.declared.conversion.Converted.{Converted}
+use Rattle.eb_convert.specs.declared.conversion.Converted.TheVariants.{One, Nothing}
+use Rattle.eb_engine.specs.Tokens.{ConverterToken, Converts, placed_by, with_placing, known_to}
 
 -- a longer history has no fewer segments
 cut_grows : (σ : Setting) (xs ys : List Doc) → length (cut σ xs) ≤ length (cut σ (xs ++ ys))
@@ -100,9 +102,14 @@ not_told σ old new s p few low =
     omega (arith, g', few, low)
 
 -- who knows no document behind a segment has none in the history
-pub few_known : (σ : Setting) (t : ConverterToken) (n : ℕ) → length (cut σ (known_to t)) ≤ n → length (cut σ t.docs) ≤ n
+few_known : (σ : Setting) (t : ConverterToken) (n : ℕ) → length (cut σ (known_to t)) ≤ n → length (cut σ t.docs) ≤ n
 few_known σ t n h = by_placing t.placing h
   where
     by_placing : (p : Option Doc) → length (cut σ (with_placing t.docs p)) ≤ n → length (cut σ t.docs) ≤ n
     by_placing None h = h
     by_placing (Some d) h = omega (arith, h, cut_grows σ t.docs (d ∷ []))
+
+-- where a call converted nothing, it found no document behind the next segment
+pub nothing_left : (σ : Setting) (old new : ConverterToken) (r : Converted) → Converts σ old new r → ((s : ℕ) → r ≡ One s → ⊥) → length (cut σ new.docs) ≤ new.converted + 1
+nothing_left σ old new (One s) did none = absurd (none s refl)
+nothing_left σ old new Nothing did none = few_known σ new (new.converted + 1) (omega (arith, did.0, did.1))

@@ -2,6 +2,7 @@
 use Rattle.std.proofs.Common.{◌≡◌, ℕ, zero, suc, ◌+◌, ◌^◌, ◌<◌, List, [], ◌∷◌, ◌++◌, length, get_or, take, drop, All, refl, sym, ap, ◌∙◌, lit<, arith}
 use Rattle.std.specs.Int.{w16, w32, w64, from_be_bytes, to_be_bytes}
 use Rattle.std.proofs.lemmas.Nat.{from_be_bytes-to_be_bytes_2, from_be_bytes-to_be_bytes_4, from_be_bytes-to_be_bytes_8}
+use Rattle.eb_image.specs.Scan.{window}
 use Rattle.std.proofs.lemmas.List.{take_at, drop_at, ext_get_or}
 
 -- lists that begin two equal lists, and are equally long, are equal, and so are the rests
@@ -29,11 +30,6 @@ eight_front n m x y ln lm e =
 
 abbrev pub IsBytes : List ℕ → Type 0
 IsBytes bytes = (i : ℕ) → get_or bytes i 0 < 256
-
--- so many bytes from this place on, and 0 for each that is missing
-abbrev pub window : List ℕ → ℕ → ℕ → List ℕ
-window bytes at zero = []
-window bytes at (suc n) = get_or bytes at 0 ∷ window bytes (at + 1) n
 
 pub length-window : (bytes : List ℕ) (at n : ℕ) → length (window bytes at n) ≡ n
 length-window bytes at zero = refl
@@ -63,7 +59,7 @@ window_fits bytes at zero fits i = lit< tt
 window_fits bytes at (suc n) fits zero = fits at
 window_fits bytes at (suc n) fits (suc i) = window_fits bytes (at + 1) n fits i
 
-get_or-window : (bytes : List ℕ) (at n k to : ℕ) → k < n → to ≡ at + k → get_or (window bytes at n) k 0 ≡ get_or bytes to 0
+pub get_or-window : (bytes : List ℕ) (at n k to : ℕ) → k < n → to ≡ at + k → get_or (window bytes at n) k 0 ≡ get_or bytes to 0
 get_or-window bytes at zero k to lt e = absurd (omega arith)
 get_or-window bytes at (suc n) zero to lt e = ap (λ (i : ℕ). get_or bytes i 0) (let s : at ≡ to = omega arith in s)
 get_or-window bytes at (suc n) (suc k) to lt e = get_or-window bytes (at + 1) n k to (omega arith) (omega arith)

@@ -10,7 +10,7 @@ use Rattle.std.proofs.lemmas.List.{take-append-drop, drop-drop, length-take, len
 use Rattle.std.proofs.Math.Seq.{take-length}
 use Rattle.eb_base.specs.Setting.{Setting, IsSetting}
 use Rattle.eb_image.specs.Image.{mark, head_of}
-use Rattle.eb_image.specs.Reading.{IsHead, IsHeadOf, HasNone, IsBad}
+use Rattle.eb_image.specs.Reading.{IsHead, IsHeadOf, HasNone, IsBad, Begins}
 use Rattle.eb_image.proofs.Bytes.{IsBytes}
 use Rattle.eb_image.proofs.Parts.{few_terms}
 
@@ -93,18 +93,14 @@ setting_found (Some config) σ head e is found =
     let P : Setting → Type 0 = IsSetting in
     record { allowed = subst P (sym found.1) found.0; is = is ∙ ap head_of (sym e ∙ sym found.1) }
 
--- so many bytes as a head has, and no head
-pub bad_head : (head : List ℕ) (left : Option (List ℕ)) → length head ≡ 20 → (IsHead head → ⊥) → IsBad IsHead head left
-bad_head head left len never =
-    let whole_is : (whole other : List ℕ) (rest : List ℕ) → length whole ≡ 20 → length other ≡ 20 → other ≡ whole ++ rest → other ≡ whole =
-    λ whole other rest lw lo e.
-    let nil : rest ≡ [] = nil_from_length rest (omega (arith, ap length e, length-append whole rest, lw, lo)) in
-    e ∙ (ap (λ (t : List ℕ). whole ++ t) nil ∙ append-nil whole) in
-    let P : List ℕ → Type 0 = IsHead in
-    record {
-      none = λ whole h front. never (subst P (sym (whole_is whole head front.rest (head_len whole h) len front.is)) h);
-      never = inl (λ b. never (subst P (whole_is head b.0 b.2.rest len (head_len b.0 b.1) b.2.is) b.1));
-    }
+-- bytes that were taken for a head and begin none
+pub bad_taken : (taken : List ℕ) (left : Option (List ℕ)) → length taken ≤ 20 → (Begins IsHead taken → ⊥) → IsBad IsHead taken left
+bad_taken taken left le never = record {
+  none = λ whole h front.
+      let nil : front.rest ≡ [] = nil_from_length front.rest (omega (arith, le, head_len whole h, ap length front.is, length-append whole front.rest)) in
+      never (whole, h, record { rest = []; is = sym (append-nil taken ∙ (front.is ∙ (ap (λ (t : List ℕ). whole ++ t) nil ∙ append-nil whole))) });
+  never = inl never;
+}
 
 pub take_whole : (n : ℕ) (head : List ℕ) → length head ≡ 20 → n ≡ 20 → take n head ≡ head
 take_whole n head len e = ap (λ (k : ℕ). take k head) (e ∙ sym len) ∙ take-length head

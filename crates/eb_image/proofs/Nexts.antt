@@ -7,8 +7,9 @@ use Rattle.std.proofs.lemmas.Nat.{be_bytes_8}
 use Rattle.eb_base.specs.Document.{Doc, IsDocument, most_bytes, most_tokens}
 use Rattle.eb_image.specs.Image.{term_bytes, document_part, last_byte, IsFront}
 use Rattle.eb_image.specs.Reading.{IsPart, IsNextPart, Begins}
-use Rattle.eb_image.specs.Scan.{two_byte_number, scan, IsShortest}
-use Rattle.eb_image.proofs.Bytes.{IsBytes, window, length-window, window-add, window_fits, window_all}
+use Rattle.eb_image.specs.Scan.{window, two_byte_number, IsShortest}
+use Rattle.eb_image.proofs.Scans.{scan}
+use Rattle.eb_image.proofs.Bytes.{IsBytes, length-window, window-add, window_fits, window_all}
 use Rattle.eb_image.proofs.Parts.{next_alone}
 use Rattle.eb_image.proofs.Scans.{scan_sound, scan_complete, scan_past, terms_len, front_byte, two_front_of, two_in_window}
 

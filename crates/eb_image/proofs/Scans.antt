@@ -1,4 +1,5 @@
 -- What a scan of the first bytes of a part finds.
+use Rattle.std.specs.Prelude.{if◌then◌else◌, nat_lt, MatchOption}
 use Rattle.std.proofs.Common.{◌≡◌, ℕ, zero, suc, ◌+◌, ◌-◌, ◌*◌, ◌^◌, ◌<◌, ◌≤◌, inl, inr, Bool, true, false, cond, ltb, List}
 use Rattle.std.proofs.Common.{[], ◌∷◌, ◌++◌, length, get_or, drop, All, Option, Some, None, refl, sym, ap, subst, ◌∙◌, append_assoc, length-append, arith}
 use Rattle.std.specs.Int.{w16, to_be_bytes}
@@ -11,8 +12,8 @@ use Rattle.std.proofs.lemmas.List.Sums.{sum_by-cons}
 use Rattle.eb_base.specs.Term.{AreBytes}
 use Rattle.eb_base.specs.Document.{bytes_of}
 use Rattle.eb_image.specs.Image.{term_bytes}
-use Rattle.eb_image.specs.Scan.{two_byte_number, scan}
-use Rattle.eb_image.proofs.Bytes.{IsBytes, window, length-window, window-add, window_fits, IsBytes-window}
+use Rattle.eb_image.specs.Scan.{window, two_byte_number, HasTerms}
+use Rattle.eb_image.proofs.Bytes.{IsBytes, same_front, get_or-window, length-window, window-add, window_fits, IsBytes-window}
 
 guard_some : (b : Bool) (x : Option ℕ) (y : ℕ) → cond b None x ≡ Some y → (b ≡ false) × (x ≡ Some y)
 guard_some true x y e = absurd cc
@@ -26,15 +27,12 @@ two_in_window bytes at fits =
 pub number_small : (bytes : List ℕ) (at : ℕ) → IsBytes bytes → two_byte_number bytes at < 2 ^ 16
 number_small bytes at fits = omega (arith, fits at, fits (at + 1))
 
--- the terms that stand behind a place, where a scan ends there
-pub record Terms (n at room end : ℕ) (bytes : List ℕ) : Type 0 where
-  pub terms : List (List ℕ)
-  pub count : length terms ≡ n
-  pub within : bytes_of terms ≤ room
-  pub are : All AreBytes terms
-  pub len : ℕ
-  pub ends : end ≡ at + len
-  pub stand : flat_map term_bytes terms ≡ window bytes at len
+-- where so many terms end that begin at this place and have room for so many bytes
+unfoldable pub scan : ℕ → ℕ → ℕ → List ℕ → Option ℕ
+scan zero at room bytes = Some at
+scan (suc n) at room bytes =
+    if nat_lt room (two_byte_number bytes at) then None
+    else scan n (at + (2 + two_byte_number bytes at)) (room - two_byte_number bytes at) bytes
 
 abbrev some_of : ℕ → Option ℕ
 some_of n = Some n
@@ -49,7 +47,7 @@ more_in : (t : List ℕ) (ts : List (List ℕ)) → AreBytes t → All AreBytes 
 more_in t ts h hs zero d lt = h
 more_in t ts h hs (suc k) d lt = hs k d (omega arith)
 
-pub scan_sound : (n at room end : ℕ) (bytes : List ℕ) → IsBytes bytes → scan n at room bytes ≡ Some end → Terms n at room end bytes
+pub scan_sound : (n at room end : ℕ) (bytes : List ℕ) → IsBytes bytes → scan n at room bytes ≡ Some end → HasTerms bytes n at room end
 unfolding scan
 scan_sound zero at room end bytes fits e = record {
   terms = [];
@@ -193,3 +191,54 @@ scan_off k n at room num bytes ks e lt =
 pub scan_ended : (k at room : ℕ) (bytes : List ℕ) → k ≡ 0 → scan k at room bytes ≡ Some at
 unfolding scan
 scan_ended k at room bytes e = ap (λ (j : ℕ). scan j at room bytes) e
+
+-- terms that stand there are found
+scan_from : (ts : List (List ℕ)) (at len room : ℕ) (bytes : List ℕ) → bytes_of ts ≤ room → room < 2 ^ 16 → flat_map term_bytes ts ≡ window bytes at len
+    → scan (length ts) at room bytes ≡ Some (at + len)
+unfolding scan
+scan_from [] at len room bytes within lt e =
+    let none : len ≡ 0 = omega (arith, ap length e, length-window bytes at len) in
+    ap some_of (omega (arith, none))
+scan_from (t ∷ ts) at len room bytes within lt e =
+    let st = sum_by-cons length t ts in
+    let flat = flat_map term_bytes ts in
+    let cut : window bytes at len ≡ to_be_bytes w16 (length t) ++ (t ++ flat) =
+    sym e ∙ (flat_map-cons term_bytes t ts ∙ append_assoc (to_be_bytes w16 (length t)) t flat) in
+    let two : length (term_bytes t) ≡ 2 + length t = length-append (to_be_bytes w16 (length t)) t in
+    let all : len ≡ (2 + length t) + length flat =
+    omega (arith, ap length e, length-window bytes at len, ap length (flat_map-cons term_bytes t ts), length-append (term_bytes t) flat, two) in
+    let head = two_whole (length t) 0 (window bytes at len) (t ++ flat) (omega (arith, within, lt, st)) cut in
+    let num : two_byte_number bytes at ≡ length t =
+    omega (arith, head, get_or-window bytes at len 0 at (omega (arith, all)) (omega arith), get_or-window bytes at len 1 (at + 1) (omega (arith, all)) (omega arith)) in
+    let halves : term_bytes t ++ flat ≡ window bytes at (2 + length t) ++ window bytes (at + (2 + length t)) (length flat) =
+    sym (flat_map-cons term_bytes t ts) ∙ (e ∙ (ap (window bytes at) all ∙ window-add bytes (2 + length t) at (length flat) (at + (2 + length t)) refl)) in
+    let next = same_front (term_bytes t) (window bytes at (2 + length t)) flat (window bytes (at + (2 + length t)) (length flat))
+    (two ∙ sym (length-window bytes at (2 + length t))) halves in
+    let rest = scan_from ts (at + (2 + length t)) (length flat) (room - length t) bytes (omega (arith, within, st)) (omega (arith, lt)) next.1 in
+    scan_more (length ts) at room (length t) (at + (2 + length t) + length flat) bytes num (omega (arith, within, st)) rest
+    ∙ ap some_of (let same : at + (2 + length t) + length flat ≡ at + len = omega (arith, all) in same)
+
+pub scan_has : (bytes : List ℕ) (n at room end : ℕ) → room < 2 ^ 16 → HasTerms bytes n at room end → scan n at room bytes ≡ Some end
+scan_has bytes n at room end lt h =
+    ap (λ (k : ℕ). scan k at room bytes) (sym h.count) ∙ (scan_from h.terms at h.len room bytes h.within lt h.stand ∙ ap some_of (sym h.ends))
+
+-- where so many terms end, if they stand there
+abbrev pub EndsTerms : List ℕ → ℕ → ℕ → ℕ → Option ℕ → Type 0
+EndsTerms bytes n at room result = MatchOption result ((end : ℕ) → HasTerms bytes n at room end → ⊥) (λ end. HasTerms bytes n at room end)
+
+-- a scan finds it
+pub scan_ends : (bytes : List ℕ) (n at room : ℕ) (r : Option ℕ) → IsBytes bytes → room < 2 ^ 16 → r ≡ scan n at room bytes → EndsTerms bytes n at room r
+scan_ends bytes n at room None fits lt e = λ end h. none_is_some end (e ∙ scan_has bytes n at room end lt h)
+  where
+    none_is_some : (n : ℕ) → None ≡ some_of n → ⊥
+    none_is_some n e = cc
+scan_ends bytes n at room (Some end) fits lt e = scan_sound n at room end bytes fits (sym e)
+
+-- and nothing else does
+pub ends_scan : (bytes : List ℕ) (n at room : ℕ) (r : Option ℕ) → IsBytes bytes → room < 2 ^ 16 → EndsTerms bytes n at room r → r ≡ scan n at room bytes
+ends_scan bytes n at room (Some end) fits lt h = sym (scan_has bytes n at room end lt h)
+ends_scan bytes n at room None fits lt h = go (scan n at room bytes) refl
+  where
+    go : (o : Option ℕ) → scan n at room bytes ≡ o → None ≡ o
+    go None e = refl
+    go (Some end) e = absurd (h end (scan_sound n at room end bytes fits e))

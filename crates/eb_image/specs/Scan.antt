@@ -1,7 +1,9 @@
 -- The shortest that bytes can begin. Missing bytes count as 0.
-use Rattle.std.specs.Prelude.{◌≡◌, ℕ, zero, suc, ◌+◌, ◌-◌, ◌*◌, ◌≤◌, List, length, Option, Some, None, nat_lt, slice_index, if◌then◌else◌}
-use Rattle.eb_base.specs.Document.{most_tokens, most_bytes}
-use Rattle.eb_image.specs.Image.{IsFront}
+use Rattle.std.specs.Prelude.{◌≡◌, ℕ, zero, suc, ◌+◌, ◌*◌, ◌≤◌, List, [], ◌∷◌, length, slice_index}
+use Rattle.std.specs.List.{All, flat_map}
+use Rattle.eb_base.specs.Term.{AreBytes}
+use Rattle.eb_base.specs.Document.{bytes_of, most_tokens, most_bytes}
+use Rattle.eb_image.specs.Image.{IsFront, term_bytes}
 use Rattle.eb_image.specs.Reading.{IsNextPart}
 
 -- the most bytes of a part: those in front of its terms, and two and its own for each term
@@ -12,12 +14,20 @@ longest_part = 11 + 2 * most_tokens + most_bytes
 abbrev pub two_byte_number : List ℕ → ℕ → ℕ
 two_byte_number bytes at = 256 * slice_index bytes at + slice_index bytes (at + 1)
 
--- where so many terms end that begin at this place and have room for so many bytes
-unfoldable pub scan : ℕ → ℕ → ℕ → List ℕ → Option ℕ
-scan zero at room bytes = Some at
-scan (suc n) at room bytes =
-    if nat_lt room (two_byte_number bytes at) then None
-    else scan n (at + (2 + two_byte_number bytes at)) (room - two_byte_number bytes at) bytes
+-- so many bytes from this place on, and 0 for each that is missing
+abbrev pub window : List ℕ → ℕ → ℕ → List ℕ
+window bytes at zero = []
+window bytes at (suc n) = slice_index bytes at ∷ window bytes (at + 1) n
+
+-- from this place to the end stand so many terms, of not more bytes than there is room for
+pub record HasTerms (bytes : List ℕ) (n at room end : ℕ) : Type 0 where
+  pub terms : List (List ℕ)
+  pub count : length terms ≡ n
+  pub within : bytes_of terms ≤ room
+  pub are : All AreBytes terms
+  pub len : ℕ
+  pub ends : end ≡ at + len
+  pub stand : flat_map term_bytes terms ≡ window bytes at len
 
 -- the shortest part, or byte 0, that the bytes begin has this length
 pub record IsShortest (bytes : List ℕ) (n : ℕ) : Type 0 where

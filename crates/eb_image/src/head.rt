@@ -1,14 +1,16 @@
-ghost use Rattle.std.specs.Prelude.{◌≡◌, ℕ, ◌+◌, ◌<◌, ◌≤◌, List, length, take, drop, MatchOption, IfOk, IsErrOf};
+ghost use Rattle.std.specs.Prelude.{◌≡◌, ℕ, ◌+◌, ◌<◌, ◌≤◌, ◌^◌, ◌⊎◌, ◌↔◌, List, length, take, drop, MatchOption, IfOk, IsErrOf, IsTrue};
 ghost use Rattle.std.specs.Int.{w32, from_be_bytes};
 ghost use Rattle.eb_io.specs.Faults.{HasRisen};
 ghost use Rattle.eb_io.specs.Source.{after};
 ghost use Rattle.eb_image.specs.Image.{head_of};
-ghost use Rattle.eb_image.specs.Reading.{IsHead, IsHeadOf, IsBad, HasNone};
+ghost use Rattle.eb_image.specs.Reading.{IsHead, IsHeadOf, IsBad, HasBegun, Begins};
+ghost use Rattle.eb_image.specs.Scan.{window};
 ghost use Rattle.eb_base.specs.Setting.{Setting, IsSetting};
 
 use crate::fault::HeadFault;
 use crate::fill::read_behind;
 use crate::reader::ImageReader;
+use crate::scan::byte_at;
 use eb_base::Config;
 use eb_io::{Got, Source};
 
@@ -68,6 +70,44 @@ fn allowed(segments: u32, docs: u32, terms: u32) -> Option<Config>
     }
 }
 
+// The number whose four bytes begin at a place, where a byte that is missing counts as 0; but this least number where only
+// zeros are there and a byte is missing.
+fn first_number(bytes: &[u8], at: usize, least: u32) -> u32
+    requires { at < 2 ^ 32 }
+    ensures there { let number : ℕ = from_be_bytes w32 (window bytes.now at 4) in
+        (0 < number) ⊎ (at + 4 ≤ length bytes.now) → result ≡ number }
+    ensures missing { from_be_bytes w32 (window bytes.now at 4) ≡ 0 → length bytes.now < at + 4 → result ≡ least }
+{
+    let number = u32::from_be_bytes([
+        byte_at(bytes, at),
+        byte_at(bytes, at + 1),
+        byte_at(bytes, at + 2),
+        byte_at(bytes, at + 3),
+    ]);
+    if number == 0 && bytes.len() < at + 4 {
+        least
+    } else {
+        number
+    }
+}
+
+// Whether the bytes are the first of the head of an allowed setting, or all of it: where they are, they are those of the
+// setting that has the least of each number that they leave open.
+fn begins_head(bytes: &[u8]) -> bool
+    ensures { IsTrue result ↔ Begins IsHead bytes.now }
+{
+    if bytes.len() > HEAD {
+        return false;
+    }
+    let segments = first_number(bytes, 8, 1);
+    let docs = first_number(bytes, 12, 1);
+    let terms = first_number(bytes, 16, 1024);
+    match allowed(segments, docs, terms) {
+        Some(config) => write_head(config)[..bytes.len()] == bytes[..],
+        None => false,
+    }
+}
+
 // The setting whose head these bytes are.
 fn setting_of(head: &[u8]) -> Option<Config>
     requires { length head.now ≡ HEAD }
@@ -85,14 +125,16 @@ fn setting_of(head: &[u8]) -> Option<Config>
 
 /// Reads the head of an image, exactly its 20 bytes, and answers the setting and the reader of what comes behind it.
 ///
-/// After a fault the bytes taken are gone from the source. Takes no memory.
+/// `BadImage` exactly where the bytes that were taken begin no head of an allowed setting, or the source ended before a
+/// whole one: it is told as soon as they begin none. After a fault the bytes taken are gone from the source. Takes no
+/// memory.
 pub fn read_head<S: Source>(source: &mut S) -> Result<(Config, ImageReader), HeadFault>
     // the bytes taken are the head of the setting, which is allowed
     ensures ok { IfOk result (λ read. IsSetting read.0 × (S.left source.old ≡ after (head_of read.0) (S.left source.new))) }
     ensures bad { IsErrOf result HeadFault.BadImage
         → (taken : List ℕ) × (S.left source.old ≡ after taken (S.left source.new)) × IsBad IsHead taken (S.left source.new) }
     ensures fault { IsErrOf result HeadFault.ReadFault → (taken : List ℕ) × (S.left source.old ≡ after taken (S.left source.new))
-        × HasNone IsHead taken × HasRisen (S.faults source.old) (S.faults source.new) }
+        × HasBegun IsHead taken × HasRisen (S.faults source.old) (S.faults source.new) }
     ensures later { S.faults source.old ≤ S.faults source.new }
 {
     let mut head = [0; HEAD];
@@ -103,9 +145,12 @@ pub fn read_head<S: Source>(source: &mut S) -> Result<(Config, ImageReader), Hea
             Got::End => return Err(HeadFault::BadImage),
             Got::Failed => return Err(HeadFault::ReadFault),
         }
+        if !begins_head(&head[..have]) {
+            return Err(HeadFault::BadImage);
+        }
     }
     match setting_of(&head) {
         Some(config) => Ok((config, ImageReader::new())),
-        None => Err(HeadFault::BadImage),
+        None => unreachable!(),
     }
 }

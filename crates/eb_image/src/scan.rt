@@ -1,7 +1,7 @@
-ghost use Rattle.std.specs.Prelude.{◌≡◌, ◌+◌, ◌<◌, ◌≤◌, ◌^◌, length, slice_index, MatchOption};
+ghost use Rattle.std.specs.Prelude.{◌≡◌, ℕ, ◌+◌, ◌<◌, ◌≤◌, ◌^◌, length, slice_index, MatchOption};
 ghost use Rattle.eb_base.specs.Document.{most_tokens, most_bytes};
 ghost use Rattle.eb_image.specs.Reading.{IsNextPart, Begins};
-ghost use Rattle.eb_image.specs.Scan.{two_byte_number, scan, IsShortest};
+ghost use Rattle.eb_image.specs.Scan.{two_byte_number, HasTerms, IsShortest};
 
 use eb_base::{MAX_BYTES, MAX_TOKENS};
 
@@ -12,15 +12,10 @@ pub(crate) const BEFORE_TERMS: usize = 11;
 pub(crate) const LONGEST_PART: usize = BEFORE_TERMS + 2 * MAX_TOKENS + MAX_BYTES;
 
 // The byte at this place, or 0 behind the last.
-fn byte_at(bytes: &[u8], at: usize) -> usize
-    ensures value { result ≡ slice_index bytes.now at }
-    ensures byte { result < 256 }
+pub(crate) fn byte_at(bytes: &[u8], at: usize) -> u8
+    ensures { result ≡ slice_index bytes.now at }
 {
-    if at < bytes.len() {
-        usize::from(bytes[at])
-    } else {
-        0
-    }
+    if at < bytes.len() { bytes[at] } else { 0 }
 }
 
 // The number in the two bytes at this place.
@@ -29,13 +24,14 @@ pub(crate) fn two_bytes_at(bytes: &[u8], at: usize) -> usize
     ensures value { result ≡ two_byte_number bytes.now at }
     ensures small { result < 2 ^ 16 }
 {
-    256 * byte_at(bytes, at) + byte_at(bytes, at + 1)
+    256 * usize::from(byte_at(bytes, at)) + usize::from(byte_at(bytes, at + 1))
 }
 
 // Where so many terms end, if they have no more bytes than a document may have.
 fn end_of_terms(bytes: &[u8], count: usize) -> Option<usize>
     requires { count ≤ most_tokens }
-    ensures value { result ≡ scan count BEFORE_TERMS most_bytes bytes.now }
+    ensures value { MatchOption result ((end : ℕ) → HasTerms bytes.now count BEFORE_TERMS most_bytes end → ⊥)
+        (λ end. HasTerms bytes.now count BEFORE_TERMS most_bytes end) }
     ensures within { MatchOption result (Unit {0}) (λ end. end ≤ LONGEST_PART) }
 {
     let mut at = BEFORE_TERMS;

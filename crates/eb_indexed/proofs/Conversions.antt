@@ -6,10 +6,7 @@ use Rattle.eb_base.specs.Document.{Doc}
 use Rattle.eb_base.specs.Setting.{Setting}
 use Rattle.eb_place.specs.Room.{cut}
 use Rattle.eb_place.proofs.CutSegments.{closed_stays}
-use Rattle.eb_convert.specs.declared.conversion.Converted.{Converted}
-use Rattle.eb_convert.specs.declared.conversion.Converted.TheVariants.{One, Nothing}
-use Rattle.eb_engine.specs.Tokens.{AreClosed, ConverterToken, Converts}
-use Rattle.eb_engine.proofs.Converting.{few_known}
+use Rattle.eb_engine.specs.Tokens.{AreClosed}
 use Rattle.eb_indexed.specs.Conversions.{AreConverted, most_converted}
 
 -- what is closed in a front is closed in the whole, which has no fewer segments
@@ -39,8 +36,3 @@ all_converted σ docs zero are closed =
 all_converted σ docs (suc k) are closed =
     let has = closed k (omega arith) in
     elim (cases_lt (suc k + 1) (length (cut σ docs))) [ inl low ↦ (let less = are.each (suc k) low in omega (arith, less)) | inr high ↦ omega (arith, high, has) ]
-
--- where a call converted nothing, it found no document behind the next segment
-pub nothing_left : (σ : Setting) (old new : ConverterToken) (r : Converted) → Converts σ old new r → ((s : ℕ) → r ≡ One s → ⊥) → length (cut σ new.docs) ≤ new.converted + 1
-nothing_left σ old new (One s) did none = absurd (none s refl)
-nothing_left σ old new Nothing did none = few_known σ new (new.converted + 1) (omega (arith, did.0, did.1))

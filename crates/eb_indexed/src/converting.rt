@@ -1,4 +1,4 @@
-ghost use Rattle.std.specs.Prelude.{◌≡◌, ◌+◌, ◌<◌, ◌≤◌, ◌↔◌, IsTrue, length};
+ghost use Rattle.std.specs.Prelude.{◌≡◌, ◌+◌, ◌<◌, ◌≤◌, ◌↔◌, IsTrue, length, max};
 ghost use mathlib.Core.List.{IsPrefix};
 ghost use Rattle.eb_place.specs.Room.{cut};
 ghost use Rattle.eb_indexed.specs.Conversions.{AreConverted, most_converted};
@@ -50,12 +50,12 @@ pub fn catch_up(index: &Index, writer: &mut Writer, converter: &mut Converter)
 }
 
 /// Closes an input: the converter is told the whole history and converts until there is nothing to convert, so that of the
-/// segments begun all but the last one are converted, and the writer is told of these. The result is how many are begun, and how many converted. The tokens
-/// must have been made with this index. Takes no memory.
+/// segments begun all but the last one are converted, and the writer is told of these. The result is how many are begun,
+/// and how many converted. The tokens must have been made with this index. Takes no memory.
 pub fn close(index: &Index, writer: &mut Writer, converter: &mut Converter) -> SegmentCounts
     requires writer { writer.old.index ≡ index.now }
     requires converter { converter.old.index ≡ index.now }
-    ensures writer { (writer.new.index ≡ writer.old.index) × (writer.new.docs ≡ writer.old.docs) }
+    ensures writer { writer.new ≡ record { index = writer.old.index; docs = writer.old.docs; converted = max writer.old.converted result.converted } }
     ensures index { converter.new.index ≡ converter.old.index }
     ensures told { IsPrefix writer.new.docs converter.new.docs }
     ensures segments { result.segments ≡ length (cut index.now.setting writer.new.docs) }

@@ -4,3 +4,4 @@ pub mod Additions
 pub mod OneSegment
 pub mod Givings
 pub mod Packs
+pub mod VectorsBounds

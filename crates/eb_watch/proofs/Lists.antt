@@ -1,23 +1,22 @@
 -- Watches as lists that rise by their numbers.
 use Rattle.std.proofs.Common.{◌≡◌, ℕ, zero, suc, ◌+◌, ◌<◌, ◌==◌, nat_lt, nat_eq, Bool, true, false, not, ◌&&◌, ◌||◌, None}
 use Rattle.std.proofs.Common.{Some, is_some, List, [], ◌∷◌, filter, get_or, refl, sym, ap, ◌∙◌, subst, arith, inl, inr}
-use Rattle.std.specs.List.{All, list_any, list_all}
+use Rattle.std.specs.List.{All, list_any}
 use Rattle.std.specs.List.Sorted.{IsStrictlyIncreasing}
 use Rattle.std.specs.Map.{lookup, keys_of, remove_entry}
 use Rattle.std.specs.Ordering.{nat_cmp}
 use Rattle.std.specs.BTreeMap.{is_at, insert_entry}
 use Rattle.std.specs.BTreeSet.{BTreeSet}
-use Rattle.std.proofs.lemmas.Bool.{cases_Bool, cases_order, lt-ltb, le-ltb, eq-eqb, ne_eqb, eqb-true, and_from, and_parts}
+use Rattle.std.proofs.lemmas.Bool.{cases_Bool, cases_order, lt-ltb, le-ltb, eq-eqb, ne_eqb, eqb-true}
 use Rattle.std.proofs.lemmas.Cmp.{nat_cmp_total}
-use Rattle.std.proofs.lemmas.List.Elements.{All-nil, All-cons}
+use Rattle.std.proofs.lemmas.List.Elements.{All-cons}
 use Rattle.std.proofs.lemmas.Map.Keys.{sorted_from_strictly_increasing}
 use Rattle.std.proofs.lemmas.Map.Lookups.{btree_set_from_contains, exact_unsigned}
-use Rattle.eb_base.proofs.Trees.{well_formed_is}
-use Rattle.eb_base.specs.Query.{Tree, tree, IsWellFormed, left_after, most_size}
+use Rattle.eb_base.specs.Query.{Tree, tree, IsWellFormed}
 use Rattle.eb_watch.specs.declared.watch.Watch.{Watch}
 use Rattle.eb_watch.specs.Watches.{Watched, numbers_of, is_set, with_watch, without_watch}
 use Rattle.eb_watch.specs.Index.{finds}
-use Rattle.eb_watch.specs.Held.{watched, all_well_formed}
+use Rattle.eb_watch.specs.Held.{watched, AllWellFormed}
 use Rattle.eb_watch.proofs.Numbers.{same_number, same_numbers, and_true, and_none, or_none, or_turn}
 
 -- ---- rising
@@ -173,29 +172,28 @@ watched_remove (e ∷ es) n r = elim (cases_Bool (n == e.0)) [
   | inr ne ↦ rw (same_number n e.0, ne) (ap (λ (ws : List Watched). (e.0, tree e.1.query) ∷ ws) (watched_remove es n r.1))
 ]
 
--- ---- a test of each
+-- ---- what holds of each query
 
-pub all_with : (p : Tree → Bool) (ws : List Watched) (n : ℕ) (q : Tree) → list_all (λ w. p w.1) ws ≡ true → p q ≡ true → list_all (λ w. p w.1) (with_watch ws n q) ≡ true
-all_with p [] n q h k = and_from _ _ k refl
-all_with p (w ∷ ws) n q h k =
-    let parts = and_parts (p w.1) (list_all (λ w. p w.1) ws) h in
+first_has : (P : Watched → Type 0) (w : Watched) (ws : List Watched) → All P (w ∷ ws) → P w
+first_has P w ws h = h 0 w (omega arith)
+
+others_have : (P : Watched → Type 0) (w : Watched) (ws : List Watched) → All P (w ∷ ws) → All P ws
+others_have P w ws h k d l = h (suc k) d (omega (arith, l))
+
+pub formed_with : (ws : List Watched) (n : ℕ) (q : Tree) → AllWellFormed ws → IsWellFormed q → AllWellFormed (with_watch ws n q)
+formed_with [] n q h k = All-cons (λ (w : Watched). IsWellFormed w.1) (n, q) [] k h
+formed_with (w ∷ ws) n q h k =
+    let P : Watched → Type 0 = λ w. IsWellFormed w.1 in
     elim (cases_Bool (nat_lt n w.0)) [
-      | inl y ↦ rw y (and_from _ _ k h)
-      | inr ne ↦ rw ne (and_from _ _ parts.0 (all_with p ws n q parts.1 k))
+      | inl y ↦ rw y (All-cons P (n, q) (w ∷ ws) k h)
+      | inr ne ↦ rw ne (All-cons P w (with_watch ws n q) (first_has P w ws h) (formed_with ws n q (others_have P w ws h) k))
     ]
 
-pub all_without : (p : Tree → Bool) (ws : List Watched) (n : ℕ) → list_all (λ w. p w.1) ws ≡ true → list_all (λ w. p w.1) (without_watch ws n) ≡ true
-all_without p [] n h = refl
-all_without p (w ∷ ws) n h =
-    let parts = and_parts (p w.1) (list_all (λ w. p w.1) ws) h in
+pub formed_without : (ws : List Watched) (n : ℕ) → AllWellFormed ws → AllWellFormed (without_watch ws n)
+formed_without [] n h = h
+formed_without (w ∷ ws) n h =
+    let P : Watched → Type 0 = λ w. IsWellFormed w.1 in
     elim (cases_Bool (n == w.0)) [
-      | inl y ↦ rw y (all_without p ws n parts.1)
-      | inr ne ↦ rw ne (and_from _ _ parts.0 (all_without p ws n parts.1))
+      | inl y ↦ rw y (formed_without ws n (others_have P w ws h))
+      | inr ne ↦ rw ne (All-cons P w (without_watch ws n) (first_has P w ws h) (formed_without ws n (others_have P w ws h)))
     ]
-
--- queries that pass the test are well formed
-pub are_formed : (ws : List Watched) → all_well_formed ws ≡ true → All (λ w. IsWellFormed w.1) ws
-are_formed [] h = All-nil (λ (w : Watched). IsWellFormed w.1)
-are_formed (w ∷ ws) h =
-    let parts = and_parts (is_some (left_after w.1 most_size)) (all_well_formed ws) h in
-    All-cons (λ (w : Watched). IsWellFormed w.1) w ws ((well_formed_is w.1).0 parts.0) (are_formed ws parts.1)

@@ -1,11 +1,13 @@
 -- Watches as they lie in memory.
-use Rattle.std.specs.Prelude.{◌≡◌, ℕ, Bool, List, map, is_some}
-use Rattle.std.specs.List.{list_all}
+use Rattle.std.specs.Prelude.{◌≡◌, ℕ, List, map, get_or}
+use Rattle.std.specs.List.{All}
 use Rattle.std.specs.Ordering.{nat_cmp}
 use Rattle.std.specs.BTreeSet.{BTreeSet, contains}
 use Rattle.std.specs.HashMap.{HashMap}
 use Rattle.std.specs.declared.vec.Vec.{Vec}
-use Rattle.eb_base.specs.Query.{tree, left_after, most_size}
+use mathlib.Core.HLevel.{Π_prop}
+use Rattle.eb_base.specs.Query.{tree, IsWellFormed}
+use Rattle.eb_base.proofs.Formed.{well_formed_prop}
 use Rattle.eb_watch.specs.declared.watch.Watch.{Watch}
 use Rattle.eb_watch.specs.Key.{watch_key, is_keyless, key_has}
 use Rattle.eb_watch.specs.Watches.{Watched}
@@ -23,6 +25,10 @@ TermsLead by_term ws = (t : List ℕ) (n : ℕ) → leads by_term t n ≡ finds 
 abbrev pub AreKeyless : BTreeSet ℕ → List Watched → Type 0
 AreKeyless keyless ws = (n : ℕ) → contains nat_cmp keyless n ≡ finds is_keyless ws n
 
--- each query is well formed, as a test
-abbrev pub all_well_formed : List Watched → Bool
-all_well_formed ws = list_all (λ w. is_some (left_after w.1 most_size)) ws
+-- each query is well formed
+abbrev pub AllWellFormed : List Watched → Type 0
+AllWellFormed ws = All (λ w. IsWellFormed w.1) ws
+
+-- and that has one proof at most
+pub all_formed_prop : (ws : List Watched) → IsProp (AllWellFormed ws)
+all_formed_prop ws = Π_prop (λ k. Π_prop (λ w. Π_prop (λ inside. well_formed_prop (get_or ws k w).1)))

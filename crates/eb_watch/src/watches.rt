@@ -1,11 +1,10 @@
 //! The watches that are set.
 ghost use Rattle.std.specs.Prelude.{◌≡◌, ◌≤◌, ◌↔◌, [], true, false, length, IsTrue, IsErr, IsErrOf, OnOk, OnErr};
 ghost use Rattle.std.specs.BTreeMap.{btree_map_len, keys};
-ghost use Rattle.std.specs.List.{All};
 ghost use Rattle.std.specs.List.Sorted.{IsStrictlyIncreasing};
 ghost use Rattle.eb_base.specs.Query.{tree, IsWellFormed};
 ghost use Rattle.eb_watch.specs.Watches.{is_set, numbers_of, most_watches, with_watch, without_watch};
-ghost use Rattle.eb_watch.specs.Held.{watched, all_well_formed, TermsLead, AreKeyless};
+ghost use Rattle.eb_watch.specs.Held.{watched, AllWellFormed, all_formed_prop, TermsLead, AreKeyless};
 
 use crate::faults::{NoWatch, SetFault};
 use crate::index::{ByTerm, put_key, take_key};
@@ -28,7 +27,7 @@ pub struct Watches {
     pub(crate) keyless: BTreeSet<u32>,
     ghost rising: { IsStrictlyIncreasing (keys by_number) },
     ghost few: { btree_map_len by_number ≤ most_watches },
-    ghost formed: { IsTrue (all_well_formed (watched by_number.entries)) },
+    ghost formed: { AllWellFormed (watched by_number.entries) } by { all_formed_prop (watched by_number.entries) },
     ghost terms_lead: { TermsLead by_term (watched by_number.entries) },
     ghost are_keyless: { AreKeyless keyless (watched by_number.entries) },
 }
@@ -53,7 +52,7 @@ impl Watches {
         ensures len { result ≡ length (watches_of self.now) }
         ensures few { result ≤ most_watches }
         ensures rising { IsStrictlyIncreasing (numbers_of (watches_of self.now)) }
-        ensures formed { All (λ w. IsWellFormed w.1) (watches_of self.now) }
+        ensures formed { AllWellFormed (watches_of self.now) }
     {
         self.by_number.len()
     }

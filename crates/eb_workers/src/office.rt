@@ -1,5 +1,5 @@
 //! A desk with its clerk, beside the writer and the converter of its index.
-ghost use Rattle.std.specs.Prelude.{◌≡◌, ◌+◌, length, MatchOption, ⊤};
+ghost use Rattle.std.specs.Prelude.{◌≡◌, ◌+◌, length, max, MatchOption, ⊤};
 ghost use mathlib.Core.List.{IsPrefix};
 ghost use Rattle.eb_place.specs.Room.{cut};
 ghost use Rattle.eb_indexed.specs.Conversions.{most_converted};
@@ -134,7 +134,8 @@ impl Office<'_> {
         requires staffed { IsStaffed self.old }
         ensures keeps { Keeps self.old self.new }
         ensures clerk { self.new.clerk ≡ self.old.clerk }
-        ensures writer { (self.new.writer.index ≡ self.old.writer.index) × (self.new.writer.docs ≡ self.old.writer.docs) }
+        ensures writer { self.new.writer
+            ≡ record { index = self.old.writer.index; docs = self.old.writer.docs; converted = max self.old.writer.converted result.converted } }
         ensures segments { result.segments ≡ length (cut self.old.index.now.setting self.old.writer.docs) }
         ensures converted { result.converted ≡ most_converted (length (cut self.old.index.now.setting self.old.writer.docs)) }
     {

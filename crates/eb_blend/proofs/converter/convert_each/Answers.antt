@@ -1,11 +1,11 @@
-use Rattle.std.proofs.Common.{◌≡◌, ◌<◌, ◌+◌, ℕ, length, ap, sym, subst, ◌∙◌, arith}
+use Rattle.std.proofs.Common.{◌≡◌, ◌<◌, ◌≤◌, ◌+◌, ℕ, length, ap, sym, subst, ◌∙◌, arith}
 use Rattle.std.proofs.lemmas.List.Elements.{All-get_or}
 use mathlib.Core.List.{IsPrefix}
 use Rattle.eb_base.specs.Setting.{Setting}
 use Rattle.eb_place.specs.Room.{cut}
 use Rattle.eb_table.specs.Known.{Words}
 use Rattle.eb_engine.specs.Tokens.{ConverterToken}
-use Rattle.eb_blend.proofs.Closings.{converts_more}
+use Rattle.eb_blend.proofs.Closings.{converts_more, rises}
 use Rattle.eb_blend.proofs.Each.{as_many_converters, fronts_trans, converter_indexes_set, converter_fronts_set, other_history, length_converter_histories}
 use Rattle.eb_blend.proofs.converter.convert_each.Goals as goal
 
@@ -27,6 +27,7 @@ loop-at-preserved c =
       indexes = converter_indexes_set cs n v new is (e.index ∙ ap (λ (x : ConverterToken). x.index) (sym is)) ∙ inv.indexes;
       known = fronts_trans _ _ _ inv.known (converter_fronts_set cs n v new lt is knew);
       rest = λ p le. other_history cs n new p (λ q. omega (arith, le, q)) ∙ inv.rest p (omega (arith, le));
+      rising = rises c.args.converters.now cs n v new lt is (subst (λ (x : ConverterToken). x.converted ≤ new.converted) (sym is) e.grown) inv.rising;
       converted = λ σ all.
           let setting : w.setting ≡ σ = ap (λ (x : Words). x.setting) c.index-indexes-at.is ∙ All-get_or (λ (x : Words). x.setting ≡ σ) ws n w (omega (arith, lt, many)) all in
           let now : (s : ℕ) → s + 1 < length (cut σ v.docs) → s < new.converted =

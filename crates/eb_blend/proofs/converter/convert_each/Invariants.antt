@@ -10,6 +10,7 @@ invariant-loop-at l = record {
   indexes : converter_indexes_of l.converters ≡ converter_indexes_of l.fn.converters;
   known : AreFronts (converter_histories_of l.fn.converters) (converter_histories_of l.converters);
   rest : (p : ℕ) → l.at ≤ p → history (converter_histories_of l.converters) p ≡ history (converter_histories_of l.fn.converters) p;
+  rising : (p : ℕ) → get_or (converted_of l.fn.converters) p 0 ≤ get_or (converted_of l.converters) p 0;
   converted : (σ : Setting) → All (λ w. w.setting ≡ σ) l.indexes → (p s : ℕ) → p < l.at → s + 1 < length (cut σ (history (converter_histories_of l.fn.converters) p))
       → s < get_or (converted_of l.converters) p 0;
 }

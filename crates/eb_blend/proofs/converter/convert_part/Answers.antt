@@ -1,5 +1,6 @@
 use Rattle.eb_place.proofs.Prefixes.{prefix_trans}
-use Rattle.eb_blend.proofs.Closings.{few_left, nothing_left}
+use Rattle.eb_engine.proofs.Converting.{nothing_left}
+use Rattle.eb_blend.proofs.Closings.{few_left}
 use Rattle.eb_blend.proofs.converter.convert_part.Goals as goal
 
 pub returns-clause-converted : goal.returns-clause-converted

@@ -1,6 +1,6 @@
 use Rattle.std.proofs.Common.{◌≡◌, ◌+◌, ◌-◌, ◌*◌}
 use Rattle.eb_base.specs.Document.{most_bytes}
-use Rattle.eb_image.specs.Scan.{scan}
+use Rattle.eb_image.proofs.Scans.{scan}
 use Rattle.eb_image.proofs.scan.end_of_terms.Given as goal
 
 abbrev pub invariant-terms : goal.invariant-terms

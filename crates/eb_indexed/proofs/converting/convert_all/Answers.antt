@@ -1,5 +1,6 @@
 use Rattle.eb_place.proofs.Prefixes.{prefix_trans}
-use Rattle.eb_indexed.proofs.Conversions.{few_left, nothing_left}
+use Rattle.eb_engine.proofs.Converting.{nothing_left}
+use Rattle.eb_indexed.proofs.Conversions.{few_left}
 use Rattle.eb_indexed.proofs.converting.convert_all.Goals as goal
 
 pub returns-clause-converted : goal.returns-clause-converted

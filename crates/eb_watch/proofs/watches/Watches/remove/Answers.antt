@@ -2,13 +2,13 @@ use Rattle.std.proofs.Common.{◌≡◌, ◌==◌, Bool, true, false, not, ◌&&
 use Rattle.std.specs.Option.{is_none}
 use Rattle.std.specs.Map.{keys_of}
 use Rattle.std.proofs.lemmas.Map.Keys.{IsStrictlyIncreasing-from_sorted}
-use Rattle.eb_base.specs.Query.{Tree, left_after, most_size}
+use Rattle.eb_base.specs.Query.{Tree}
 use Rattle.eb_watch.specs.Key.{watch_key, is_keyless, key_has}
 use Rattle.eb_watch.specs.Terms.{key_terms}
 use Rattle.eb_watch.specs.Watches.{Watched, is_set, without_watch}
 use Rattle.eb_watch.specs.Index.{finds}
-use Rattle.eb_watch.specs.Held.{watched, all_well_formed}
-use Rattle.eb_watch.proofs.Lists.{rises_from, set_watched, watched_remove, all_without}
+use Rattle.eb_watch.specs.Held.{watched, AllWellFormed}
+use Rattle.eb_watch.proofs.Lists.{rises_from, set_watched, watched_remove, formed_without}
 use Rattle.eb_watch.proofs.Changes.{removed}
 use Rattle.eb_watch.proofs.watches.Watches.remove.Goals as goal
 
@@ -42,7 +42,7 @@ invariant_of-self-2 c =
     record {
       rising = IsStrictlyIncreasing-from_sorted (keys_of new) c.remove.ensures.ordered;
       few = omega (arith, c.remove.ensures.len, s.few);
-      formed = subst (λ (ws : List Watched). all_well_formed ws ≡ true) (sym now) (all_without (λ q. is_some (left_after q most_size)) (watched es) number s.formed);
+      formed = subst AllWellFormed (sym now) (formed_without (watched es) number s.formed);
       terms_lead = λ t n.
           let p : Tree → Bool = λ q. key_has (watch_key q) t in
           c.take_key.ensures.terms t n ∙ ap (λ (b : Bool). b && not ((n == number) && key_has (key_terms v.key) t)) (s.terms_lead t n)

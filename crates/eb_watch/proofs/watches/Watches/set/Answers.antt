@@ -1,4 +1,4 @@
-use Rattle.std.proofs.Common.{◌≡◌, ◌==◌, Bool, true, false, not, ◌&&◌, ◌||◌, is_some, List, length, None, refl, sym, ap, ◌∙◌, subst, arith}
+use Rattle.std.proofs.Common.{◌≡◌, ◌==◌, ℕ, Bool, true, false, not, ◌&&◌, ◌||◌, is_some, List, length, None, refl, sym, ap, ◌∙◌, subst, arith}
 use Rattle.std.specs.Option.{is_none}
 use Rattle.std.specs.Map.{keys_of, lookup}
 use Rattle.std.specs.BTreeMap.{is_at}
@@ -6,14 +6,14 @@ use Rattle.std.specs.BTreeSet.{contains}
 use Rattle.std.specs.Ordering.{nat_cmp}
 use Rattle.std.proofs.lemmas.List.{length-map}
 use Rattle.std.proofs.lemmas.Map.Keys.{IsStrictlyIncreasing-from_sorted}
-use Rattle.eb_base.proofs.Trees.{well_formed_is}
-use Rattle.eb_base.specs.Query.{Tree, tree, left_after, most_size}
+use Rattle.eb_base.specs.Query.{Tree, tree}
+use Rattle.eb_watch.specs.declared.watch.Watch.{Watch}
 use Rattle.eb_watch.specs.Key.{watch_key, is_keyless, key_has}
 use Rattle.eb_watch.specs.Terms.{key_terms}
 use Rattle.eb_watch.specs.Watches.{Watched, is_set, with_watch}
 use Rattle.eb_watch.specs.Index.{leads, finds}
-use Rattle.eb_watch.specs.Held.{watched, all_well_formed}
-use Rattle.eb_watch.proofs.Lists.{set_watched, finds_none, watched_insert, all_with}
+use Rattle.eb_watch.specs.Held.{watched, AllWellFormed}
+use Rattle.eb_watch.proofs.Lists.{set_watched, finds_none, watched_insert, formed_with}
 use Rattle.eb_watch.proofs.Numbers.{at_ok, none_from, one_at_most}
 use Rattle.eb_watch.proofs.Changes.{inserted, restored}
 use Rattle.eb_watch.proofs.watches.Watches.set.Goals as goal
@@ -51,8 +51,7 @@ invariant_of-self-in_default-insert c =
     record {
       rising = IsStrictlyIncreasing-from_sorted (keys_of new) c.in_default-insert.ensures.ordered;
       few = omega (arith, c.in_default-insert.ensures.len, one_at_most (is_some c.in_default-insert.field-0), c.len.ensures.len, c.if-len-eq-MAX_WATCHES.false, s.few);
-      formed = subst (λ (ws : List Watched). all_well_formed ws ≡ true) (sym now)
-          (all_with (λ q. is_some (left_after q most_size)) (watched es) number (tree c.args.query) s.formed ((well_formed_is (tree c.args.query)).1 c.requires));
+      formed = subst AllWellFormed (sym now) (formed_with (watched es) number (tree c.args.query) s.formed c.requires);
       terms_lead = λ t n.
           let p : Tree → Bool = λ q. key_has (watch_key q) t in
           at_ok c.put_key.result fine c.put_key.ensures.terms t n
@@ -80,7 +79,7 @@ invariant_of-self-in-Err c =
     record {
       rising = IsStrictlyIncreasing-from_sorted (keys_of new) c.in-Err.ensures.ordered;
       few = omega (arith, ap length c.in-Err.ensures.err, s.few);
-      formed = ap (λ l. all_well_formed (watched l)) c.in-Err.ensures.err ∙ s.formed;
+      formed = subst (λ (l : List (ℕ × Watch)). AllWellFormed (watched l)) (sym c.in-Err.ensures.err) s.formed;
       terms_lead = λ t n.
           let p : Tree → Bool = λ q. key_has (watch_key q) t in
           c.take_key.ensures.terms t n
