@@ -4,9 +4,6 @@
 
 ghost use Rattle.std.specs.Prelude.{◌≡◌, ◌↔◌};
 
-#[cfg(test)]
-mod tests;
-
 use eb_base::OpenGate;
 use eb_io::{StdSink, StdSource, write_all};
 use eb_lines::Status;

@@ -6,8 +6,6 @@ mod image;
 mod load;
 mod save;
 mod saving;
-#[cfg(test)]
-mod tests;
 
 pub use load::load_lines;
 pub use save::save_lines;

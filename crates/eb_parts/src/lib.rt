@@ -5,7 +5,5 @@
 mod parted;
 mod run;
 mod store;
-#[cfg(test)]
-mod tests;
 
 pub use run::run_parts;

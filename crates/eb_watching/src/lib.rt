@@ -4,8 +4,6 @@
 
 mod other;
 mod run;
-#[cfg(test)]
-mod tests;
 mod watched;
 
 pub use run::run_watches;

@@ -9,6 +9,3 @@ mod serving;
 mod waiting;
 
 pub use run::run_workers;
-
-#[cfg(test)]
-mod tests;

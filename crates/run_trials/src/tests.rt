@@ -1,0 +1,41 @@
+//! The tests, and a run in memory with a gate.
+ghost use Rattle.std.specs.Prelude.{◌≤◌};
+
+mod meeting;
+mod overlap;
+mod sinks;
+mod turns;
+mod words;
+
+use eb_base::Gate;
+use eb_io::{MemSink, MemSource};
+use eb_run::run;
+use std::alloc::{AllocError, Global};
+use std::sync::Wait;
+use std::test::Fail;
+use std::thread::Threads;
+
+// The words between which a blank stands.
+fn words_of(alloc: Global, line: &str) -> Result<Vec<String>, AllocError> {
+    let mut words = Vec::new(alloc);
+    for word in line.split(' ') {
+        words.push(String::from_str(alloc, word)?)?;
+    }
+    Ok(words)
+}
+
+// What a run of this command line with this gate prints, over a source that gives its input at once.
+fn printed<R: Threads + Wait + Sync, G: Gate + Sync>(
+    rt: &R,
+    alloc: Global,
+    line: &str,
+    input: &str,
+    gate: &G,
+) -> Result<Vec<u8>, Fail> {
+    let words = words_of(alloc, line)?;
+    let mut source = MemSource::new(alloc, input.as_bytes(), 1_000_000, &[])?;
+    let mut out = MemSink::new(alloc, 262_144, 1_000_000, &[])?;
+    let mut err = MemSink::new(alloc, 100, 100, &[])?;
+    run(rt, alloc, &words, &mut source, &mut out, &mut err, gate);
+    Ok(out.bytes().to_vec(alloc)?)
+}

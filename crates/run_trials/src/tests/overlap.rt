@@ -1,0 +1,71 @@
+//! Documents are added while queries are answered.
+use super::printed;
+use eb_base::{Gate, Point};
+use std::sync::atomic::{AtomicU64, Ordering};
+use std::test::Fail;
+use std::thread;
+
+// A gate that holds the second document's end until a count was loaded, and the load of a count below 3 until a further
+// document was added, each for at most 10,000,000 turns. So neither hold ends if one thread does all.
+#[derive(Drop)]
+struct Crossing {
+    added: AtomicU64,
+    loaded: AtomicU64,
+    ran_out: AtomicU64,
+}
+
+impl Crossing {
+    fn hold(&self, flag: &AtomicU64, least: u64) {
+        for _ in 0..10_000_000u64 {
+            if flag.load(Ordering::SeqCst) >= least {
+                return;
+            }
+            thread::yield_now();
+        }
+        self.ran_out.store(1, Ordering::SeqCst);
+    }
+}
+
+impl Gate for Crossing {
+    fn reached(&self, point: Point) {
+        match point {
+            Point::Added(count) => {
+                self.added.store(count, Ordering::SeqCst);
+                if count == 2 {
+                    self.hold(&self.loaded, 1);
+                }
+            }
+            Point::CountLoaded(count) => {
+                self.loaded.store(1, Ordering::SeqCst);
+                if count < 3 {
+                    self.hold(&self.added, count.wrapping_add(1));
+                }
+            }
+        }
+    }
+}
+
+const TURNS: &str =
+    "{\"id\":1,\"text\":\"a\"}\n?5 a\n{\"id\":2,\"text\":\"a\"}\n{\"id\":3,\"text\":\"a\"}\n?5 a\n";
+
+const ALLOWED: [&str; 2] = [
+    "2 seen 1: 1\n5 seen 3: 3 2 1\nend: documents 3, queries 2, refused 0\n",
+    "2 seen 2: 2 1\n5 seen 3: 3 2 1\nend: documents 3, queries 2, refused 0\n",
+];
+
+#[test]
+fn documents_are_added_while_a_query_is_answered(rt: HostRuntime) -> Result<(), Fail> {
+    let gate = Crossing {
+        added: AtomicU64::new(0),
+        loaded: AtomicU64::new(0),
+        ran_out: AtomicU64::new(0),
+    };
+    let text = printed(&rt, rt.alloc(), "run --overlap --terms=1024", TURNS, &gate)?;
+    assert_eq!(rt; gate.ran_out.load(Ordering::SeqCst), 0);
+    assert!(rt;
+        ALLOWED
+            .iter()
+            .any(|allowed| text.as_slice() == allowed.as_bytes())
+    );
+    Ok(())
+}

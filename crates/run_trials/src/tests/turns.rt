@@ -1,0 +1,119 @@
+//! Each answer is out before the next line is read.
+ghost use Rattle.std.specs.Prelude.{◌≤◌, length};
+
+use super::words_of;
+use eb_base::OpenGate;
+use eb_io::{CountSink, StdSink, StdSource};
+use eb_lines::Status;
+use eb_run::{run, run_feed};
+use std::alloc::Global;
+use std::io;
+use std::sync::Wait;
+use std::sync::atomic::{AtomicU64, Ordering};
+use std::test::Fail;
+use std::thread::Threads;
+
+const FIRST: &[u8] = b"{\"id\":1,\"text\":\"a\"}\n?5 a\n";
+
+const SECOND: &[u8] = b"?5 b\n";
+
+const ANSWER: &str = "2 seen 1: 1\n";
+
+const WHOLE: &str = "2 seen 1: 1\n3 seen 1:\nend: documents 1, queries 2, refused 0\n";
+
+// A reader that gives its second lines only once the answer to the first is out, and fails before.
+#[derive(Drop)]
+struct Asker<'a> {
+    taken: &'a AtomicU64,
+    calls: u8,
+}
+
+// Copies the bytes into the front of the buffer, as many as there is room for.
+fn give(bytes: &[u8], into: &mut [u8]) -> usize
+    ensures { result ≤ length into.old }
+{
+    let count = bytes.len().min(into.len());
+    into[..count].copy_from_slice(&bytes[..count]);
+    count
+}
+
+impl<'a> io::Read for Asker<'a> {
+    fn read(&mut self, buf: &mut [u8]) -> io::Result<usize> {
+        self.calls = self.calls.saturating_add(1);
+        match self.calls {
+            1 => Ok(give(FIRST, buf)),
+            2 => {
+                if self.taken.load(Ordering::SeqCst) < ANSWER.len() as u64 {
+                    return Err(io::Error::other("not answered"));
+                }
+                Ok(give(SECOND, buf))
+            }
+            _ => Ok(0),
+        }
+    }
+}
+
+// A writer that counts the bytes that it takes.
+#[derive(Drop)]
+struct Taker<'a> {
+    taken: &'a AtomicU64,
+}
+
+impl<'a> io::Write for Taker<'a> {
+    fn write(&mut self, buf: &[u8]) -> io::Result<usize> {
+        self.taken.fetch_add(buf.len() as u64, Ordering::SeqCst);
+        Ok(buf.len())
+    }
+
+    fn flush(&mut self) -> io::Result<()> {
+        Ok(())
+    }
+}
+
+// Runs between the two by this command line, or as a feed where it is empty, and gives how it ended and how many bytes were
+// taken.
+fn run_in_turns<R: Threads + Wait + Sync>(
+    rt: &R,
+    alloc: Global,
+    line: &str,
+) -> Result<(Status, u64), Fail> {
+    let words = words_of(alloc, line)?;
+    let taken = AtomicU64::new(0);
+    let mut source = StdSource::new(Asker {
+        taken: &taken,
+        calls: 0,
+    });
+    let mut out = StdSink::new(Taker { taken: &taken });
+    let mut err = CountSink::new();
+    let status = if line.is_empty() {
+        run_feed(alloc, &[], &mut source, &mut out, &mut err, &OpenGate)
+    } else {
+        run(
+            rt,
+            alloc,
+            &words,
+            &mut source,
+            &mut out,
+            &mut err,
+            &OpenGate,
+        )
+    };
+    Ok((status, taken.load(Ordering::SeqCst)))
+}
+
+#[test]
+fn each_answer_is_out_before_the_next_line_is_read(rt: HostRuntime) -> Result<(), Fail> {
+    for line in [
+        "run --terms=1024",
+        "run --terms=1024 --overlap",
+        "run --terms=1024 --workers=2",
+        "run --terms=1024 --parts=2",
+        "run --terms=1024 --watch",
+    ] {
+        let left = run_in_turns(&rt, rt.alloc(), line)?;
+        assert_eq!(rt; left, (Status::Done, WHOLE.len() as u64), "{line}");
+    }
+    let fed = run_in_turns(&rt, rt.alloc(), "")?;
+    assert_eq!(rt; fed, (Status::Done, WHOLE.len() as u64 + 8));
+    Ok(())
+}

@@ -1,0 +1,133 @@
+//! What commands and feeds words ask for.
+use super::words_of;
+use eb_run::{read_command, read_feed_command};
+use std::test::Fail;
+
+const COMMANDS: [(&str, &str); 22] = [
+    (
+        "run",
+        "Run { overlap: false, stats: false, config: Config { segments: 12, docs: 4096, terms: 8192 } }",
+    ),
+    (
+        "run --overlap",
+        "Run { overlap: true, stats: false, config: Config { segments: 12, docs: 4096, terms: 8192 } }",
+    ),
+    (
+        "run --docs=1",
+        "Run { overlap: false, stats: false, config: Config { segments: 12, docs: 1, terms: 8192 } }",
+    ),
+    (
+        "run --docs 1 --segments=1",
+        "Run { overlap: false, stats: false, config: Config { segments: 1, docs: 1, terms: 8192 } }",
+    ),
+    (
+        "run --docs 1 --overlap --segments=1",
+        "Run { overlap: true, stats: false, config: Config { segments: 1, docs: 1, terms: 8192 } }",
+    ),
+    (
+        "run --stats --terms 1024 --overlap",
+        "Run { overlap: true, stats: true, config: Config { segments: 12, docs: 4096, terms: 1024 } }",
+    ),
+    (
+        "run --docs=000000005 --stats",
+        "Run { overlap: false, stats: true, config: Config { segments: 12, docs: 5, terms: 8192 } }",
+    ),
+    (
+        "run --terms=1048576 --segments 1",
+        "Run { overlap: false, stats: false, config: Config { segments: 1, docs: 4096, terms: 1048576 } }",
+    ),
+    (
+        "run --workers 1",
+        "RunWorkers { workers: 1, stats: false, config: Config { segments: 12, docs: 4096, terms: 8192 } }",
+    ),
+    (
+        "run --stats --segments=2 --workers=16 --docs 2 --terms 1024",
+        "RunWorkers { workers: 16, stats: true, config: Config { segments: 2, docs: 2, terms: 1024 } }",
+    ),
+    (
+        "run --parts 1",
+        "RunParts { parts: 1, stats: false, config: Config { segments: 12, docs: 4096, terms: 8192 } }",
+    ),
+    (
+        "run --parts=16 --stats --terms=1024 --docs 2 --segments=2",
+        "RunParts { parts: 16, stats: true, config: Config { segments: 2, docs: 2, terms: 1024 } }",
+    ),
+    (
+        "run --parts 16 --docs 68264",
+        "RunParts { parts: 16, stats: false, config: Config { segments: 12, docs: 68264, terms: 8192 } }",
+    ),
+    (
+        "run --watch",
+        "RunWatches { stats: false, config: Config { segments: 12, docs: 4096, terms: 8192 } }",
+    ),
+    (
+        "run --docs 2 --watch --terms=1024 --stats --segments=2",
+        "RunWatches { stats: true, config: Config { segments: 2, docs: 2, terms: 1024 } }",
+    ),
+    (
+        "save",
+        "Save { config: Config { segments: 12, docs: 4096, terms: 8192 } }",
+    ),
+    (
+        "save --terms=1024 --docs 2 --segments=2",
+        "Save { config: Config { segments: 2, docs: 2, terms: 1024 } }",
+    ),
+    ("load", "Load { stats: false }"),
+    ("load --stats", "Load { stats: true }"),
+    ("bench 0 1", "Bench { start: 0, docs: 1 }"),
+    (
+        "bench 18446744073709551615 40000",
+        "Bench { start: 18446744073709551615, docs: 40000 }",
+    ),
+    ("bench 007 00001", "Bench { start: 7, docs: 1 }"),
+];
+
+const FEEDS: [(&str, &str); 5] = [
+    (
+        "--keep=2",
+        "FeedCommand { keep: 2, config: Config { segments: 12, docs: 4096, terms: 8192 } }",
+    ),
+    (
+        "--keep 000000016",
+        "FeedCommand { keep: 16, config: Config { segments: 12, docs: 4096, terms: 8192 } }",
+    ),
+    (
+        "--terms 1024 --keep 64 --segments=1",
+        "FeedCommand { keep: 64, config: Config { segments: 1, docs: 4096, terms: 1024 } }",
+    ),
+    (
+        "--segments=1 --terms=262144 --docs=13369341 --keep=3",
+        "FeedCommand { keep: 3, config: Config { segments: 1, docs: 13369341, terms: 262144 } }",
+    ),
+    (
+        "--docs=2 --segments 3 --terms=1024",
+        "FeedCommand { keep: 4, config: Config { segments: 3, docs: 2, terms: 1024 } }",
+    ),
+];
+
+const USUAL_FEED: &str =
+    "FeedCommand { keep: 4, config: Config { segments: 12, docs: 4096, terms: 8192 } }";
+
+#[test]
+fn words_ask_for_a_command(rt: HostRuntime) -> Result<(), Fail> {
+    let alloc = rt.alloc();
+    for (line, want) in COMMANDS {
+        let command = read_command(alloc, &words_of(alloc, line)?)?;
+        let text = format!(in alloc; "{command:?}")?;
+        assert_eq!(rt; text.as_str(), want, "{line}");
+    }
+    Ok(())
+}
+
+#[test]
+fn words_ask_for_a_feed(rt: HostRuntime) -> Result<(), Fail> {
+    let alloc = rt.alloc();
+    for (line, want) in FEEDS {
+        let command = read_feed_command(alloc, words_of(alloc, line)?.as_slice())?;
+        let text = format!(in alloc; "{command:?}")?;
+        assert_eq!(rt; text.as_str(), want, "{line}");
+    }
+    let command = read_feed_command(alloc, &[])?;
+    assert_eq!(rt; format!(in alloc; "{command:?}")?.as_str(), USUAL_FEED);
+    Ok(())
+}
