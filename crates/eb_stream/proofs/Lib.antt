@@ -1,0 +1,8 @@
+pub mod Helds
+pub mod Behind
+pub mod TakenIn
+pub mod Adding
+pub mod MailKept
+pub mod Taking
+pub mod GoingOn
+mod Rows

@@ -1,0 +1,263 @@
+//! The readers of a feed.
+ghost use Rattle.std.specs.Prelude.{◌≡◌, ◌≤◌, ◌<◌, ◌-◌, ◌++◌, ℕ, List, [], ◌∷◌, length, take, reverse, get_or, IsTrue, IsFalse, IfOk};
+ghost use mathlib.Core.List.{IsPrefix};
+ghost use Rattle.eb_base.specs.Document.{Doc};
+ghost use Rattle.eb_base.specs.Match.{answer};
+ghost use Rattle.eb_base.specs.Query.{Tree};
+ghost use Rattle.eb_cursor.specs.Frames.{query_of, k_of, ids_of};
+ghost use Rattle.eb_feed.specs.Generations.{joined_generations};
+ghost use Rattle.eb_stream.specs.Turns.{PieceToken, piece_of, AreHeld, HasLapsed, newest_docs, past_of, history_of, stretch_of, counted};
+ghost use Rattle.eb_stream.specs.declared.turn.Turn.{Turn};
+
+use crate::piece::{Piece, copy_all};
+use crate::trail::Trail;
+use eb_base::{Gate, NoMemory};
+use eb_cursor::Frame;
+use eb_engine::Reader;
+use eb_place::Steps;
+use std::alloc::Global;
+use std::marker::Model;
+use std::sync::ledger::Ledger;
+
+/// A reader of a feed; there may be any number, each on a thread of its own. Contracts see which feed it is of, the
+/// turns that it knows, the documents that it knows of the generation that the last of them began, and how many
+/// generations it holds.
+#[derive(Drop)]
+pub struct FeedReader {
+    trail: Trail,
+    // The newest first.
+    pieces: Vec<Piece>,
+    // How many documents stand before the newest generation.
+    before: u64,
+}
+
+impl Model for FeedReader {
+    ghost use Rattle.std.specs.Prelude.{◌≡◌, ◌≤◌, [], length, reverse};
+    ghost use Rattle.eb_stream.specs.Turns.{FeedToken, AreHeld, newest_docs, history_of, counted};
+
+    ghost Value = { FeedToken };
+
+    ghost view = { λ r. record { book = r.trail.book; log = r.trail.log; docs = newest_docs r.pieces.items; held = length r.pieces.items } };
+
+    ghost invariant = { λ r. (1 ≤ length r.pieces.items) × AreHeld r.pieces.items (newest_docs r.pieces.items) (reverse r.trail.log)
+        × (r.before ≡ counted (history_of r.trail.log [])) };
+}
+
+impl FeedReader {
+    pub(crate) fn new(trail: Trail, pieces: Vec<Piece>, before: u64) -> FeedReader
+        requires some { 1 ≤ length pieces.items }
+        requires held { AreHeld pieces.items (newest_docs pieces.items) (reverse trail.log) }
+        requires before { before ≡ counted (history_of trail.log []) }
+        ensures { result ≡ record { book = trail.book; log = trail.log; docs = newest_docs pieces.items; held = length pieces.items } }
+    {
+        FeedReader {
+            trail,
+            pieces,
+            before,
+        }
+    }
+
+    // What it knows of the turns, and a reader of the newest generation that knows what it knows.
+    pub(crate) fn into_newest(self) -> (Trail, Reader)
+        ensures trail { result.0 ≡ record { book = self.book; log = self.log } }
+        ensures docs { result.1.docs ≡ self.docs }
+        ensures held { AreHeld (piece_of result.1 ∷ []) self.docs (reverse self.log) }
+    {
+        let FeedReader {
+            trail,
+            mut pieces,
+            before: _,
+        } = self;
+        let newest = pieces[0].reader();
+        (trail, newest)
+    }
+
+    /// A reader that knows what this one knows, and holds what it holds.
+    pub fn split(&mut self, alloc: Global) -> Result<FeedReader, NoMemory>
+        ensures this { self.new ≡ self.old }
+        ensures reader { IfOk result (λ r. r ≡ self.old) }
+    {
+        let mut pieces = Vec::with_capacity(alloc, self.pieces.len())?;
+        copy_all(self.pieces.as_mut_slice(), &mut pieces)?;
+        Ok(FeedReader::new(self.trail.again(), pieces, self.before))
+    }
+
+    /// How many turns it knows.
+    pub fn turns(&self) -> u64
+        ensures { result ≡ length self.now.log }
+    {
+        self.trail.count()
+    }
+
+    /// How many generations it holds: the newest of those that it knows.
+    pub fn held(&self) -> usize
+        ensures { result ≡ self.now.held }
+    {
+        self.pieces.len()
+    }
+
+    /// Searches the generations that it holds: of the newest one the documents that are accepted when it loads their
+    /// count, of which the gate is told, and of the others all. They are a stretch of the feed's history, up to the end of
+    /// a front of it that holds all that this reader knew. Afterwards the frame holds the ids of the newest `k` of them
+    /// that its query matches, newest first. Gives the length of that front, at most 2^64 - 1. Doesn't wait, and takes no
+    /// memory.
+    pub fn search<G: Gate, L: Ledger>(
+        &mut self,
+        frame: &mut Frame,
+        gate: &G,
+        steps: &mut Steps<L>,
+    ) -> u64
+        ensures book { self.new.book ≡ self.old.book }
+        ensures log { self.new.log ≡ self.old.log }
+        ensures held { self.new.held ≡ self.old.held }
+        ensures known { IsPrefix self.old.docs self.new.docs }
+        ensures count { result ≡ counted (history_of self.new.log self.new.docs) }
+        ensures query { query_of frame.new ≡ query_of frame.old }
+        ensures k { k_of frame.new ≡ k_of frame.old }
+        ensures ids { ids_of frame.new ≡ answer (query_of frame.old) (k_of frame.old) (stretch_of self.new.held self.new.log self.new.docs) }
+    {
+        let count = search_pieces(self.pieces.as_mut_slice(), frame, gate, steps);
+        self.before.saturating_add(count)
+    }
+
+    /// Takes in another reader of the feed. Where that one knows as many turns or more, this one then holds what that one
+    /// holds, and knows what it knows; where it knows fewer, nothing is changed. True where all that this reader knew is
+    /// known on; false where it had fallen behind so far that the other one no longer holds the generation that was its
+    /// newest: of that one the documents that it knew may be unknown. Doesn't wait, and takes no memory.
+    pub fn meet(&mut self, mut other: FeedReader) -> bool
+        requires { other.book ≡ self.old.book }
+        ensures book { self.new.book ≡ self.old.book }
+        ensures turns { IsPrefix self.old.log self.new.log }
+        ensures told { IsPrefix other.log self.new.log }
+        ensures known { IsTrue result → IsPrefix (history_of self.old.log self.old.docs) (history_of self.new.log self.new.docs) }
+        ensures closed { IsPrefix (history_of self.old.log []) (history_of self.new.log self.new.docs) }
+        ensures lapsed { IsFalse result → HasLapsed self.old self.new }
+        ensures newer { IsPrefix self.old.log other.log
+            → (self.new.log ≡ other.log) × (self.new.held ≡ other.held) × IsPrefix other.docs self.new.docs }
+        ensures older { length other.log < length self.old.log → self.new ≡ self.old }
+    {
+        if !self.trail.is_front_of(&other.trail) {
+            return true;
+        }
+        let met = self.pass_on(&mut other);
+        *self = other;
+        met
+    }
+
+    // The other one learns what this one knows of its newest generation, if it holds that one, and this one knows no
+    // more of it than all.
+    fn pass_on(&mut self, other: &mut FeedReader) -> bool
+        requires book { other.old.book ≡ self.old.book }
+        requires turns { IsPrefix self.old.log other.old.log }
+        ensures this { self.new ≡ self.old }
+        ensures book { other.new.book ≡ other.old.book }
+        ensures log { other.new.log ≡ other.old.log }
+        ensures held { other.new.held ≡ other.old.held }
+        ensures docs { IsPrefix other.old.docs other.new.docs }
+        ensures met { IsTrue result → IsPrefix (history_of self.old.log self.old.docs) (history_of other.new.log other.new.docs) }
+        ensures lapsed { IsFalse result → HasLapsed self.old other.new }
+    {
+        let behind = other.trail.count() - self.trail.count();
+        if behind >= other.pieces.len() as u64 {
+            return false;
+        }
+        let newest = self.pieces[0].reader();
+        take_in(other.pieces.as_mut_slice(), behind as usize, newest)
+    }
+}
+
+// The piece at a place takes in a reader of its index. The piece in front may learn of more documents; one behind it
+// knows all, so what the reader knows has to be no more: false where it is more.
+fn take_in(pieces: &mut [Piece], at: usize, reader: Reader) -> bool
+    requires place { at < length pieces.old }
+    requires held { (docs : List Doc) × (ts : List Turn) × AreHeld pieces.old docs ts }
+    requires index { (d : PieceToken) → reader.index ≡ (get_or pieces.old at d).index }
+    ensures number { length pieces.new ≡ length pieces.old }
+    ensures apart { IsFalse result → pieces.new ≡ pieces.old }
+    ensures held { (docs : List Doc) (ts : List Turn) → AreHeld pieces.old docs ts → AreHeld pieces.new (newest_docs pieces.new) ts }
+    ensures front { IsPrefix (newest_docs pieces.old) (newest_docs pieces.new) }
+    ensures met { (d : PieceToken) → IsTrue result → IsPrefix reader.docs (get_or pieces.new at d).docs }
+    ensures few { (d : PieceToken) → IsFalse result → length (get_or pieces.old at d).docs < length reader.docs }
+{
+    if at > 0 && reader.seen() > pieces[at].seen() {
+        return false;
+    }
+    pieces[at].meet(reader);
+    true
+}
+
+// The piece at a place takes in a reader of its index, which knows no more than it. False where that one knows more.
+pub(crate) fn covers(pieces: &mut [Piece], at: usize, reader: Reader) -> bool
+    requires place { at < length pieces.old }
+    requires index { (d : PieceToken) → reader.index ≡ (get_or pieces.old at d).index }
+    ensures same { pieces.new ≡ pieces.old }
+    ensures met { (d : PieceToken) → IsTrue result → IsPrefix reader.docs (get_or pieces.old at d).docs }
+    ensures few { (d : PieceToken) → IsFalse result → length (get_or pieces.old at d).docs < length reader.docs }
+{
+    if reader.seen() > pieces[at].seen() {
+        return false;
+    }
+    pieces[at].meet(reader);
+    true
+}
+
+// Searches pieces from the newest to the oldest, and stops where the frame is full.
+fn search_pieces<G: Gate, L: Ledger>(
+    pieces: &mut [Piece],
+    frame: &mut Frame,
+    gate: &G,
+    steps: &mut Steps<L>,
+) -> u64
+    requires some { 1 ≤ length pieces.old }
+    requires held { (docs : List Doc) × (ts : List Turn) × AreHeld pieces.old docs ts }
+    ensures number { length pieces.new ≡ length pieces.old }
+    ensures held { (docs : List Doc) (ts : List Turn) → AreHeld pieces.old docs ts → AreHeld pieces.new (newest_docs pieces.new) ts }
+    ensures known { IsPrefix (newest_docs pieces.old) (newest_docs pieces.new) }
+    ensures count { result ≡ length (newest_docs pieces.new) }
+    ensures query { query_of frame.new ≡ query_of frame.old }
+    ensures k { k_of frame.new ≡ k_of frame.old }
+    ensures ids { (docs : List Doc) (ts : List Turn) → AreHeld pieces.old docs ts
+        → ids_of frame.new ≡ answer (query_of frame.old) (k_of frame.old) (joined_generations (take (length pieces.old) (past_of (newest_docs pieces.new) ts))) }
+{
+    let count = pieces[0].search(frame, gate, steps);
+    search_older(pieces, frame, steps);
+    count
+}
+
+// Goes on behind the newest piece.
+fn search_older<L: Ledger>(pieces: &mut [Piece], frame: &mut Frame, steps: &mut Steps<L>)
+    requires some { 1 ≤ length pieces.old }
+    ensures same { pieces.new ≡ pieces.old }
+    ensures query { query_of frame.new ≡ query_of frame.old }
+    ensures k { k_of frame.new ≡ k_of frame.old }
+    ensures ids { (docs : List Doc) (ts : List Turn) → AreHeld pieces.old docs ts → ids_of frame.old ≡ answer (query_of frame.old) (k_of frame.old) docs
+        → ids_of frame.new ≡ answer (query_of frame.old) (k_of frame.old) (joined_generations (take (length pieces.old) (past_of docs ts))) }
+{
+    for at in 1..pieces.len() {
+        if frame.is_full() {
+            return;
+        }
+        pieces[at].search_known(frame, steps);
+    }
+}
+
+// Goes on with all pieces behind what the frame holds, and stops where it is full.
+pub(crate) fn search_behind<L: Ledger>(
+    pieces: &mut [Piece],
+    frame: &mut Frame,
+    steps: &mut Steps<L>,
+)
+    ensures same { pieces.new ≡ pieces.old }
+    ensures query { query_of frame.new ≡ query_of frame.old }
+    ensures k { k_of frame.new ≡ k_of frame.old }
+    ensures ids { (docs : List Doc) (ts : List Turn) → AreHeld pieces.old docs ts
+        → ids_of frame.new ≡ ids_of frame.old
+        ++ answer (query_of frame.old) (k_of frame.old - length (ids_of frame.old)) (joined_generations (take (length pieces.old) (past_of docs ts))) }
+{
+    for at in 0..pieces.len() {
+        if frame.is_full() {
+            return;
+        }
+        pieces[at].search_known(frame, steps);
+    }
+}

@@ -1,0 +1,298 @@
+//! The writer of a feed.
+ghost use Rattle.std.specs.Prelude.{◌≡◌, ◌≤◌, ◌<◌, ◌++◌, ◌∷◌, [], List, false, take, length, min, vec_len, vec_capacity, IsTrue, IsFalse, IfOk, IfSome, OnOk, OnErr};
+ghost use mathlib.Core.List.{IsPrefix};
+ghost use Rattle.eb_base.specs.Document.{Doc};
+ghost use Rattle.eb_base.specs.Match.{answer};
+ghost use Rattle.eb_cursor.specs.Frames.{query_of, k_of, ids_of};
+ghost use Rattle.eb_place.specs.Room.{has_room};
+ghost use Rattle.eb_feed.specs.Generations.{with_generation};
+ghost use Rattle.eb_stream.specs.Turns.{generations_of, history_of, stretch_of, counted, HasLapsed, HasTaken, IsBegun, IsOfNewest};
+
+use crate::converter::FeedConverter;
+use crate::piece::{Piece, copy_all};
+use crate::reader::{FeedReader, covers, search_behind};
+use crate::spare::Spare;
+use crate::trail::{Head, Trail};
+use crate::turn::Pair;
+use eb_base::{Config, Document, Gate, NoMemory};
+use eb_cursor::Frame;
+use eb_engine::{Index, Writer};
+use eb_place::Steps;
+use eb_writer::Full;
+use std::alloc::Global;
+use std::marker::Model;
+use std::sync::Arc;
+use std::sync::ledger::Ledger;
+
+/// The one writer of a feed. It may go to a thread of its own. Contracts see its setting, and what a reader sees that
+/// knows all.
+#[derive(Drop)]
+pub struct FeedWriter {
+    alloc: Global,
+    config: Config,
+    keep: u32,
+    head: Head,
+    trail: Trail,
+    index: Arc<Index, Global>,
+    writer: Writer,
+    // The generations that are closed and kept, the newest first.
+    older: Vec<Piece>,
+    // How many documents stand before the newest generation.
+    before: u64,
+    // The index of the next generation, where one was lent.
+    spare: Option<Spare>,
+    // The converter of the newest generation, until it is given out.
+    converter: Option<FeedConverter>,
+}
+
+impl Model for FeedWriter {
+    ghost use Rattle.std.specs.Prelude.{◌≡◌, ◌≤◌, ◌∷◌, [], suc, min, length, reverse, IfSome};
+    ghost use Rattle.std.specs.Arc.{arc_value};
+    ghost use Rattle.eb_stream.specs.Turns.{FeedToken, WriterToken, piece_of, AreHeld, IsOfNewest, history_of, counted};
+
+    ghost Value = { WriterToken };
+
+    ghost view = { λ w. record {
+      setting = w.config;
+      keep = w.keep;
+      feed = record { book = w.trail.book; log = w.trail.log; docs = w.writer.docs; held = suc (length w.older.items) };
+    } };
+
+    ghost invariant = { λ w. (2 ≤ w.keep) × (w.head ≡ w.trail.book) × (w.writer.index ≡ arc_value w.index) × (w.writer.index.setting ≡ w.config)
+        × AreHeld (piece_of w.writer ∷ w.older.items) w.writer.docs (reverse w.trail.log) × (suc (length w.older.items) ≡ min w.keep (length w.trail.log))
+        × (w.before ≡ counted (history_of w.trail.log [])) × IfSome w.spare (λ s. s.setting ≡ w.config)
+        × IfSome w.converter (λ c. IsOfNewest c.index w.trail.log) };
+}
+
+impl FeedWriter {
+    /// A feed without a document, which keeps so many generations of an index of this setting. Takes memory for one
+    /// index.
+    pub fn open(alloc: Global, config: Config, keep: u32) -> Result<FeedWriter, NoMemory>
+        requires { (2 ≤ keep) × (keep ≤ 64) }
+        ensures setting { IfOk result (λ w. (w.setting ≡ config) × (w.keep ≡ keep)) }
+        ensures empty { IfOk result (λ w. generations_of w.feed.log w.feed.docs ≡ [] ∷ []) }
+    {
+        let (index, mut writer, converter) = Spare::open(alloc, config)?.into_parts();
+        let older = Vec::with_capacity(alloc, keep as usize)?;
+        let (head, mut trail) = Trail::open();
+        let pair = Pair {
+            begun: writer.reader(&index),
+            closed: writer.reader(&index),
+        };
+        if !trail.begin(&head, &pair) {
+            return Err(NoMemory);
+        }
+        Ok(FeedWriter {
+            alloc,
+            config,
+            keep,
+            head,
+            trail,
+            index,
+            writer,
+            older,
+            before: 0,
+            spare: None,
+            converter: Some(converter),
+        })
+    }
+
+    /// Adds a document behind the history. Where the newest generation has no room for it, another is begun, in the index
+    /// that was lent or in one for which it takes memory, and the oldest that it holds is let go where it holds as many as
+    /// it keeps. Gives how many documents stand in the history then. `NoMemory` only where another has to be begun and
+    /// there is no memory for it: nothing is changed then. The gate is told of the number of documents of the newest
+    /// generation. Doesn't wait.
+    pub fn add<G: Gate>(&mut self, document: &Document, gate: &G) -> Result<u64, NoMemory>
+        ensures setting { (self.new.setting ≡ self.old.setting) × (self.new.keep ≡ self.old.keep) × (self.new.feed.book ≡ self.old.feed.book) }
+        ensures turns { IsPrefix self.old.feed.log self.new.feed.log }
+        ensures taken { OnOk result (generations_of self.new.feed.log self.new.feed.docs
+            ≡ with_generation self.old.setting (generations_of self.old.feed.log self.old.feed.docs) document.now) }
+        ensures history { (history : List Doc) → HasTaken self.old history → OnOk result (HasTaken self.new (history ++ document.now ∷ [])) }
+        ensures count { IfOk result (λ n. n ≡ counted (history_of self.new.feed.log self.new.feed.docs)) }
+        ensures no_memory { OnErr result ((has_room self.old.setting self.old.feed.docs document.now ≡ false) × (self.new ≡ self.old)) }
+    {
+        // This call says that the setting is allowed.
+        let _words = self.config.words();
+        match self.add_here_or_behind(document, gate) {
+            Ok(()) => Ok(self.accepted()),
+            Err(NoMemory) => Err(NoMemory),
+        }
+    }
+
+    // Adds a document to the newest generation, or to a new one.
+    fn add_here_or_behind<G: Gate>(&mut self, document: &Document, gate: &G) -> Result<(), NoMemory>
+        ensures setting { (self.new.setting ≡ self.old.setting) × (self.new.keep ≡ self.old.keep) × (self.new.feed.book ≡ self.old.feed.book) }
+        ensures turns { IsPrefix self.old.feed.log self.new.feed.log }
+        ensures taken { OnOk result (generations_of self.new.feed.log self.new.feed.docs
+            ≡ with_generation self.old.setting (generations_of self.old.feed.log self.old.feed.docs) document.now) }
+        ensures no_memory { OnErr result ((has_room self.old.setting self.old.feed.docs document.now ≡ false) × (self.new ≡ self.old)) }
+    {
+        match self.writer.add(&self.index, document, gate) {
+            Ok(_) => Ok(()),
+            Err(Full) => self.add_behind(document, gate),
+        }
+    }
+
+    // Adds a document to a new generation.
+    fn add_behind<G: Gate>(&mut self, document: &Document, gate: &G) -> Result<(), NoMemory>
+        ensures setting { (self.new.setting ≡ self.old.setting) × (self.new.keep ≡ self.old.keep) × (self.new.feed.book ≡ self.old.feed.book) }
+        ensures turns { IsPrefix self.old.feed.log self.new.feed.log }
+        ensures taken { OnOk result (generations_of self.new.feed.log self.new.feed.docs
+            ≡ (document.now ∷ []) ∷ generations_of self.old.feed.log self.old.feed.docs) }
+        ensures unchanged { OnErr result (self.new ≡ self.old) }
+    {
+        // This call says that the setting is allowed.
+        let _words = self.config.words();
+        self.turn()?;
+        match self.writer.add(&self.index, document, gate) {
+            Ok(_) => Ok(()),
+            Err(Full) => unreachable!(),
+        }
+    }
+
+    // Begins another generation.
+    fn turn(&mut self) -> Result<(), NoMemory>
+        ensures begun { OnOk result (IsBegun self.old self.new) }
+        ensures unchanged { OnErr result (self.new ≡ self.old) }
+    {
+        let spare = self.next_index()?;
+        self.turn_to(spare)
+    }
+
+    // Begins another generation in this index.
+    fn turn_to(&mut self, spare: Spare) -> Result<(), NoMemory>
+        requires { spare.setting ≡ self.old.setting }
+        ensures begun { OnOk result (IsBegun self.old self.new) }
+        ensures unchanged { OnErr result (self.new ≡ self.old) }
+    {
+        self.older.reserve(1)?;
+        let (index, mut writer, converter) = spare.into_parts();
+        let pair = Pair {
+            begun: writer.reader(&index),
+            closed: self.writer.reader(&self.index),
+        };
+        let mut trail = self.trail.again();
+        if !trail.begin(&self.head, &pair) {
+            return Err(NoMemory);
+        }
+        let Pair { begun: _, closed } = pair;
+        self.before = self.before.saturating_add(closed.seen());
+        let index = std::mem::replace(&mut self.index, index);
+        let most = self.keep as usize - 2;
+        put_first(&mut self.older, most, Piece::new(index, closed));
+        self.writer = writer;
+        self.trail = trail;
+        self.converter = Some(converter);
+        Ok(())
+    }
+
+    // The index that was lent, or one that is opened now.
+    fn next_index(&mut self) -> Result<Spare, NoMemory>
+        ensures this { self.new ≡ self.old }
+        ensures index { IfOk result (λ s. s.setting ≡ self.old.setting) }
+    {
+        match self.spare.take() {
+            Some(spare) => Ok(spare),
+            None => Spare::open(self.alloc, self.config),
+        }
+    }
+
+    /// Lends the index of the next generation, so that the turn doesn't have to open one. One that was lent before and
+    /// isn't taken yet is let go. So it serves to open another on a thread of its own after each turn. Takes no memory.
+    pub fn lend(&mut self, spare: Spare)
+        requires { spare.setting ≡ self.old.setting }
+        ensures { self.new ≡ self.old }
+    {
+        self.spare = Some(spare);
+    }
+
+    /// The converter of the newest generation, where it wasn't given out since the turn. Where it is never asked for, the
+    /// generation's segments stay unpacked. Takes no memory.
+    pub fn converter(&mut self) -> Option<FeedConverter>
+        ensures this { self.new ≡ self.old }
+        ensures converter { IfSome result (λ c. IsOfNewest c.index self.old.feed.log) }
+    {
+        self.converter.take()
+    }
+
+    /// A reader that knows all, and holds all that the writer holds.
+    pub fn reader(&mut self) -> Result<FeedReader, NoMemory>
+        ensures this { self.new ≡ self.old }
+        ensures reader { IfOk result (λ r. r ≡ self.old.feed) }
+        ensures held { IfOk result (λ r. r.held ≡ min self.old.keep (length r.log)) }
+    {
+        let mut pieces = Vec::with_capacity(self.alloc, self.older.len() + 1)?;
+        let index = Arc::try_clone(&self.index)?;
+        pieces.push(Piece::new(index, self.writer.reader(&self.index)))?;
+        copy_all(self.older.as_mut_slice(), &mut pieces)?;
+        Ok(FeedReader::new(self.trail.again(), pieces, self.before))
+    }
+
+    /// Takes in a reader: all that it knew is a front of the history. False where the generation is held no more that is
+    /// the newest that it knew. Takes no memory.
+    pub fn meet(&mut self, reader: FeedReader) -> bool
+        requires { reader.book ≡ self.old.feed.book }
+        ensures this { self.new ≡ self.old }
+        ensures turns { IsTrue result → IsPrefix reader.log self.new.feed.log }
+        ensures front { IsTrue result → IsPrefix (history_of reader.log reader.docs) (history_of self.new.feed.log self.new.feed.docs) }
+        ensures lapsed { IsFalse result → HasLapsed reader self.new.feed }
+    {
+        let (trail, newest) = reader.into_newest();
+        if !trail.is_front_of(&self.trail) {
+            return false;
+        }
+        let behind = self.trail.count() - trail.count();
+        if behind == 0 {
+            self.writer.meet(&self.index, newest);
+            return true;
+        }
+        if behind > self.older.len() as u64 {
+            return false;
+        }
+        covers(self.older.as_mut_slice(), behind as usize - 1, newest)
+    }
+
+    /// Searches the generations that it holds, of which it knows all. Since no document is added meanwhile, the answer is
+    /// over all that a reader can find that is made now. Gives how many documents stand in the history. Takes no memory.
+    pub fn search<G: Gate, L: Ledger>(
+        &mut self,
+        frame: &mut Frame,
+        gate: &G,
+        steps: &mut Steps<L>,
+    ) -> u64
+        ensures this { self.new ≡ self.old }
+        ensures count { result ≡ counted (history_of self.new.feed.log self.new.feed.docs) }
+        ensures query { query_of frame.new ≡ query_of frame.old }
+        ensures k { k_of frame.new ≡ k_of frame.old }
+        ensures ids { ids_of frame.new
+            ≡ answer (query_of frame.old) (k_of frame.old) (stretch_of self.new.feed.held self.new.feed.log self.new.feed.docs) }
+    {
+        let count = self.writer.search(&self.index, frame, gate, steps);
+        search_behind(self.older.as_mut_slice(), frame, steps);
+        self.before.saturating_add(count)
+    }
+
+    /// How many documents stand in the history.
+    pub fn accepted(&self) -> u64
+        ensures { result ≡ counted (history_of self.now.feed.log self.now.feed.docs) }
+    {
+        self.before.saturating_add(self.writer.accepted())
+    }
+
+    /// How many generations were begun.
+    pub fn turns(&self) -> u64
+        ensures { result ≡ length self.now.feed.log }
+    {
+        self.trail.count()
+    }
+}
+
+// Puts a piece in front, and keeps so many of the others.
+fn put_first(older: &mut Vec<Piece>, most: usize, piece: Piece)
+    requires { vec_len older.old < vec_capacity older.old }
+    ensures { older.new.items ≡ piece ∷ take most older.old.items }
+{
+    older.truncate(most);
+    older.push_reserved(piece);
+    older.as_mut_slice().rotate_right(1);
+}
