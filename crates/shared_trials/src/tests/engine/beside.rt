@@ -1,13 +1,12 @@
 //! One writer adds documents through rollovers, while a converter converts the closed segments and two readers search
-//! beside them. Each answer is that of the plain scan over the first documents, as many as the search says, and these
+//! beside them, by a query of each form. Each answer is that of the plain scan over the first documents, as many as the search says, and these
 //! never get fewer for a reader.
 ghost use Rattle.std.specs.Prelude.{◌≡◌};
 
-use super::made::{a_without_b, added, document, frame, searched, word};
+use super::made::{added, documents, frame, is_scanned, query, searched};
 use eb_base::{Config, Document, OpenGate, Query};
 use eb_cursor::Frame;
 use eb_engine::{Converter, Index, Reader, Writer};
-use eb_plain::newest;
 use std::alloc::Global;
 use std::test::Fail;
 use std::thread;
@@ -20,36 +19,12 @@ struct Question {
     frame: Frame,
 }
 
-// The query of a number: a word of every document, or the documents with `a` and not `b`.
-fn query(alloc: Global, number: u32) -> Result<Query, Fail> {
-    match number {
-        0 => word(alloc, b"d"),
-        _ => a_without_b(alloc),
-    }
-}
-
+// The question of a number.
 fn question_of(alloc: Global, number: u32) -> Result<Question, Fail> {
     Ok(Question {
         query: query(alloc, number)?,
         frame: frame(alloc, query(alloc, number)?)?,
     })
-}
-
-// Whether the ids are those of the plain scan over the first documents.
-fn is_scanned(
-    alloc: Global,
-    query: &Query,
-    documents: &[Document],
-    count: u64,
-    ids: &[u64],
-) -> bool {
-    let Some(first) = documents.get(..count as usize) else {
-        return false;
-    };
-    match newest(alloc, query, 10, first) {
-        Ok(scanned) => scanned.as_slice() == ids,
-        Err(_) => false,
-    }
 }
 
 // Searches until all documents are seen: whether each answer was right, and none over fewer documents than before.
@@ -156,7 +131,7 @@ fn convert_and_search<R: Threads + Sync>(
     )
 }
 
-// A writer, a converter and two readers, each on a thread of its own.
+// A writer, a converter and two readers, which ask the queries of two numbers, each on a thread of its own.
 fn all_beside<R: Threads + Sync>(
     rt: &R,
     alloc: Global,
@@ -164,6 +139,7 @@ fn all_beside<R: Threads + Sync>(
     writer: Writer,
     converter: Converter,
     readers: (Reader, Reader),
+    numbers: (u32, u32),
     documents: &[Document],
 ) -> Result<((u64, bool), (u32, bool)), Fail>
     requires writer { writer.index ≡ index.now }
@@ -172,8 +148,8 @@ fn all_beside<R: Threads + Sync>(
     requires second { readers.1.index ≡ index.now }
 {
     let (first, second) = readers;
-    let all = question_of(alloc, 0)?;
-    let some = question_of(alloc, 1)?;
+    let all = question_of(alloc, numbers.0)?;
+    let some = question_of(alloc, numbers.1)?;
     Ok(thread::join(
         rt,
         move || -> (u64, bool)
@@ -185,31 +161,26 @@ fn all_beside<R: Threads + Sync>(
     ))
 }
 
-// Documents with the ids 0 to 389.
-fn documents(alloc: Global) -> Result<Vec<Document>, Fail> {
-    let mut documents = Vec::new(alloc);
-    for id in 0..390 {
-        documents.push(document(alloc, id)?)?;
-    }
-    Ok(documents)
-}
-
 #[test]
 fn readers_search_beside_a_writer_and_a_converter(rt: HostRuntime) -> Result<(), Fail> {
     let alloc = rt.alloc();
     let documents = documents(alloc)?;
-    let (index, mut writer, converter) = Index::open(alloc, Config::new(4, 100, 1024)?)?;
-    let mut reader = writer.reader(&index);
-    let other = reader.split(&index);
-    let done = all_beside(
-        &rt,
-        alloc,
-        &index,
-        writer,
-        converter,
-        (reader, other),
-        documents.as_slice(),
-    )?;
-    assert_eq!(rt; done, ((390, true), (3, true)));
+    for numbers in [(0, 1), (2, 3), (4, 5), (6, 0)] {
+        let (index, mut writer, converter) = Index::open(alloc, Config::new(4, 100, 1024)?)?;
+        let mut reader = writer.reader(&index);
+        let other = reader.split(&index);
+        let readers = (reader, other);
+        let done = all_beside(
+            &rt,
+            alloc,
+            &index,
+            writer,
+            converter,
+            readers,
+            numbers,
+            documents.as_slice(),
+        )?;
+        assert_eq!(rt; done, ((390, true), (3, true)));
+    }
     Ok(())
 }

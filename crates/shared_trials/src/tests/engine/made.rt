@@ -8,6 +8,7 @@ use eb_base::{Document, Gate, OpenGate, Queries, Query, Term, Terms};
 use eb_cursor::Frame;
 use eb_engine::{Index, Reader, Writer};
 use eb_place::Steps;
+use eb_plain::newest;
 use eb_writer::Full;
 use std::alloc::Global;
 use std::marker::Brand;
@@ -38,12 +39,70 @@ pub(super) fn frame(alloc: Global, query: Query) -> Result<Frame, Fail> {
     Ok(Frame::new(alloc, query, 10)?)
 }
 
-// The documents with `a` and not `b`.
-pub(super) fn a_without_b(alloc: Global) -> Result<Query, Fail> {
+// Two parts.
+fn both(alloc: Global, first: Query, second: Query) -> Result<Queries, Fail> {
     let mut parts = Queries::new(alloc);
-    parts.push(word(alloc, b"a")?)?;
-    parts.push(Query::Not(Box::new(alloc, word(alloc, b"b")?)?))?;
-    Ok(Query::And(parts))
+    parts.push(first)?;
+    parts.push(second)?;
+    Ok(parts)
+}
+
+// Two terms.
+fn pair(alloc: Global, first: &[u8], second: &[u8]) -> Result<Terms, Fail> {
+    let mut terms = Terms::new(alloc);
+    terms.push(Term::new(alloc, first)?)?;
+    terms.push(Term::new(alloc, second)?)?;
+    Ok(terms)
+}
+
+// The query of a number below 7: a word of each document, `a` without `b`, `b` or `c`, `a` before `b`, `a` and `d` within two
+// places, `c` from id 57 on, and `b` before `d` or `c` without `a`.
+pub(super) fn query(alloc: Global, number: u32) -> Result<Query, Fail> {
+    Ok(match number {
+        0 => word(alloc, b"d")?,
+        1 => without(alloc, b"a", b"b")?,
+        2 => Query::Or(both(alloc, word(alloc, b"b")?, word(alloc, b"c")?)?),
+        3 => Query::Phrase(pair(alloc, b"a", b"b")?),
+        4 => Query::Window(pair(alloc, b"a", b"d")?, 2),
+        5 => Query::And(both(alloc, Query::Since(57), word(alloc, b"c")?)?),
+        _ => Query::Or(both(
+            alloc,
+            Query::Phrase(pair(alloc, b"b", b"d")?),
+            without(alloc, b"c", b"a")?,
+        )?),
+    })
+}
+
+// The documents with the first word and not the second.
+fn without(alloc: Global, first: &[u8], second: &[u8]) -> Result<Query, Fail> {
+    let other = Query::Not(Box::new(alloc, word(alloc, second)?)?);
+    Ok(Query::And(both(alloc, word(alloc, first)?, other)?))
+}
+
+// Whether the ids are those of the plain scan over the first documents.
+pub(super) fn is_scanned(
+    alloc: Global,
+    query: &Query,
+    documents: &[Document],
+    count: u64,
+    ids: &[u64],
+) -> bool {
+    let Some(first) = documents.get(..count as usize) else {
+        return false;
+    };
+    match newest(alloc, query, 10, first) {
+        Ok(scanned) => scanned.as_slice() == ids,
+        Err(_) => false,
+    }
+}
+
+// Documents with the ids 0 to 389.
+pub(super) fn documents(alloc: Global) -> Result<Vec<Document>, Fail> {
+    let mut documents = Vec::new(alloc);
+    for id in 0..390 {
+        documents.push(document(alloc, id)?)?;
+    }
+    Ok(documents)
 }
 
 // Adds a document: the new count, or none where there is no room.
