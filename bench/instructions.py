@@ -16,7 +16,7 @@ import re
 import subprocess
 import tempfile
 
-from run import ROOT, Zipf, made_words
+from corpora import ROOT, Zipf, made_words
 
 SETTINGS = ["--segments", "12", "--docs", "20000", "--terms", "65536"]
 QUERIED = ["--segments", "12", "--docs", "4000", "--terms", "65536"]

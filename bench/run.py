@@ -1,170 +1,191 @@
 #!/usr/bin/env python3
-"""Times the built program on made input and on a Zipf corpus, beside sqlite3 (FTS5) and grep where they are installed.
+"""Measures Earlybird beside what a user would pick in its place, on the same messages: SQLite FTS5, Xapian, Groonga and Lucene's
+near-real-time reader, as far as they are installed.
 
-    python3 bench/run.py [--documents N] [--rounds R]
+    python3 bench/run.py [--documents N] [--queries N] [--seconds S] [--engines NAME ..] [--out FILE]
+    python3 bench/run.py --table FILE
 
-Build the program first, by ./earlybird build. Nothing of this runs in the gate. The corpora are the same
-on every machine: the made input is that of docs/FORMATS.md with start 0, and the Zipf corpus comes from a seeded generator
-(15 words of a vocabulary of 100,000 a document; the word of rank r has the weight 1/r).
+Each engine gets a process of its own, one after the other. Of each it measures: the start, to the first answer of an empty index;
+messages a second, each of which the next search finds; queries a second by class (a word, And, Or, a phrase, a window, Not), the
+newest ten that match; the 50th and the 99th of 100 of the time to answer an And beside a writer at 20,000 messages a second,
+counted from when the query was due; and the most memory. The answers of all are compared where they mean the same. It prints JSON,
+and writes it to bench/results/ with the date, the machine and the commit; --table prints such a file as the table of
+docs/PERFORMANCE.md. Nothing of this runs in the gate. Run it on a machine that does nothing else.
 """
 import argparse
-import bisect
+import datetime
+import json
 import os
-import random
-import shutil
-import sqlite3
+import platform
 import subprocess
 import sys
-import tempfile
+import textwrap
 import time
 
-ROOT = os.path.dirname(os.path.dirname(os.path.abspath(__file__)))
-PROGRAM = os.path.join(ROOT, "dist", "earlybird")
+from corpora import KINDS, ROOT, messages, queries
+from engines import ENGINES
+
+WRITER = 20_000
+ASKED = 200
+COMPARED = 200
 
 
-def made_words(document):
-    """The eight words of a made document with start 0."""
-    words = []
-    for at in range(8):
-        x = (6364136223846793005 * (8 * document + at) + 1442695040888963407) % 2**64
-        words.append("w%d" % (x >> 56))
-    return words
+def memory_of(pid, what):
+    """A row of a process's memory, in MiB."""
+    with open("/proc/%d/status" % pid, encoding="utf-8") as file:
+        return next(int(line.split()[1]) for line in file if line.startswith(what + ":")) / 1024
 
 
-class Zipf:
-    """Words by rank, the word of rank r with the weight 1/r."""
+def measured(engine, documents, asked, seconds):
+    """All figures of one engine, in this process."""
+    here = memory_of(os.getpid(), "VmRSS")
+    begin = time.perf_counter()
+    engine.open()
+    engine.search("word", ["z0"])
+    figures = {"start, seconds": time.perf_counter() - begin}
 
-    def __init__(self, vocabulary, seed):
-        self.random = random.Random(seed)
-        self.sums = []
-        total = 0.0
-        for rank in range(1, vocabulary + 1):
-            total += 1.0 / rank
-            self.sums.append(total)
+    # half of the messages as fast as they go, and the rest at the writer's rate
+    half = len(documents) // 2
+    begin = time.perf_counter()
+    for at in range(0, half, 1000):
+        engine.add(documents[at : min(at + 1000, half)])
+    engine.search("word", ["z0"])
+    figures["messages a second"] = half / (time.perf_counter() - begin)
 
-    def rank(self):
-        return bisect.bisect_left(self.sums, self.random.random() * self.sums[-1])
+    rest = documents[half : half + int(WRITER * seconds)]
+    waits, lag = paced(engine, rest, asked["and"], seconds)
+    figures["beside a writer, 50th of 100, milliseconds"] = 1000 * waits[len(waits) // 2]
+    figures["beside a writer, 99th of 100, milliseconds"] = 1000 * waits[len(waits) * 99 // 100]
+    figures["beside a writer, behind at the end, milliseconds"] = 1000 * max(lag, 0)
+    engine.add(documents[half + len(rest) :])
 
-    def word(self):
-        return "z%d" % self.rank()
-
-    def words(self, count):
-        return [self.word() for _ in range(count)]
-
-
-def corpora(count):
-    """Name, settings, documents as lists of words, and a maker of queries as lists of words."""
-    zipf = Zipf(100_000, 1)
-    picks = Zipf(100_000, 2)
-    return [
-        ("made", ["--segments", "12", "--docs", "20000", "--terms", "65536"], [made_words(m) for m in range(count)],
-         lambda at: made_words(at)[:2]),
-        ("zipf", ["--segments", "12", "--docs", "20000", "--terms", "65536"], [zipf.words(15) for _ in range(count)],
-         lambda at: picks.words(2)),
-    ]
-
-
-def run_program(settings, text):
-    """Seconds, peak memory in MiB, and what was printed."""
-    with tempfile.NamedTemporaryFile() as printed:
+    figures["answers"], figures["queries a second"] = {}, {}
+    for kind in KINDS:
+        engine.search_all(kind, asked[kind][:100])
         begin = time.perf_counter()
-        child = subprocess.Popen([PROGRAM, "run"] + settings, stdin=subprocess.PIPE, stdout=printed)
-        child.stdin.write(text)
-        child.stdin.close()
-        _, status, usage = os.wait4(child.pid, 0)
-        seconds = time.perf_counter() - begin
-        if os.waitstatus_to_exitcode(status) != 0:
-            sys.exit("the program ended with status %d" % os.waitstatus_to_exitcode(status))
-        printed.seek(0)
-        return seconds, usage.ru_maxrss / 1024, printed.read()
+        answers = engine.search_all(kind, asked[kind])
+        spent = time.perf_counter() - begin
+        has = answers[0] is not None
+        figures["queries a second"][kind] = len(answers) / spent if has else None
+        figures["answers"][kind] = answers[:COMPARED] if has else None
+    own = engine.pid() == os.getpid()
+    figures["memory, MiB"] = memory_of(engine.pid(), "VmHWM") - (here if own else 0)
+    engine.close()
+    return figures
 
 
-def lines(documents, query, every):
-    """Document lines, and a query line behind each `every` documents (none for 0)."""
-    out = []
-    queries = []
-    for number, words in enumerate(documents):
-        out.append('{"id":%d,"text":"%s"}\n' % (number, " ".join(words)))
-        if every and (number + 1) % every == 0:
-            asked = query(number)
-            queries.append((number + 1, asked))
-            out.append("?10 %s\n" % " ".join(asked))
-    return "".join(out).encode(), queries
+def paced(engine, documents, asked, seconds):
+    """The times from when a query was due to its answer, in order, beside messages at the writer's rate; and how much later than it
+    should the last one ended."""
+    waits, at = [], 0
+    count = int(ASKED * seconds)
+    begin = time.perf_counter()
+    for number in range(count):
+        due = number / ASKED
+        while True:
+            now = time.perf_counter() - begin
+            ready = min(len(documents), int(min(now, due) * WRITER))
+            if ready > at:
+                engine.add(documents[at:ready])
+                at = ready
+            elif now >= due:
+                break
+            else:
+                time.sleep(0.0002)
+        engine.search("and", asked[number % len(asked)])
+        waits.append(time.perf_counter() - begin - due)
+    return sorted(waits), time.perf_counter() - begin - count / ASKED
 
 
-def fastest(rounds, settings, text):
-    return min((run_program(settings, text) for _ in range(rounds)), key=lambda r: r[0])
+def machine():
+    with open("/proc/cpuinfo", encoding="utf-8") as file:
+        names = [line.partition(":")[2].strip() for line in file if line.startswith("model name")]
+    with open("/proc/meminfo", encoding="utf-8") as file:
+        memory = int(file.readline().split()[1]) // 2**20
+    return {"processor": names[0] if names else platform.machine(), "cores": len(names), "memory, GiB": memory, "system": platform.platform()}
 
 
-def sqlite_seconds(documents, queries):
-    """Seconds for the adds alone and for the queries alone, over FTS5 in memory, newest rowid first."""
-    base = sqlite3.connect(":memory:")
-    try:
-        base.execute("CREATE VIRTUAL TABLE messages USING fts5(text)")
-    except sqlite3.OperationalError:
-        return None
-    adds = asks = 0.0
-    at = 0
-    for number, words in enumerate(documents):
-        text = " ".join(words)
-        begin = time.perf_counter()
-        base.execute("INSERT INTO messages(rowid, text) VALUES (?, ?)", (number + 1, text))
-        adds += time.perf_counter() - begin
-        while at < len(queries) and queries[at][0] == number + 1:
-            match = " AND ".join('"%s"' % word for word in queries[at][1])
-            begin = time.perf_counter()
-            base.execute("SELECT rowid FROM messages WHERE messages MATCH ? ORDER BY rowid DESC LIMIT 10", (match,)).fetchall()
-            asks += time.perf_counter() - begin
-            at += 1
-    return adds, asks
+def commit():
+    done = subprocess.run(["git", "-C", ROOT, "rev-parse", "HEAD"], stdout=subprocess.PIPE, stderr=subprocess.DEVNULL)
+    return done.stdout.decode().strip()
 
 
-def grep_seconds(documents, queries, tries):
-    """Seconds for one query by grep over a file of all documents, newest first."""
-    if not shutil.which("grep") or not queries:
-        return None
-    with tempfile.NamedTemporaryFile("w", suffix=".txt") as file:
-        for words in reversed(documents):
-            file.write(" %s \n" % " ".join(words))
-        file.flush()
-        begin = time.perf_counter()
-        for _, asked in queries[:tries]:
-            command = " | ".join(["grep -F ' %s ' %s" % (asked[0], file.name)] + ["grep -F ' %s '" % word for word in asked[1:]])
-            subprocess.run(command + " | head -n 10", shell=True, stdout=subprocess.DEVNULL)
-        return (time.perf_counter() - begin) / min(tries, len(queries))
+def compare(results):
+    """Of each engine and class, how many answers are those of the first engine; the answers themselves are left out then."""
+    first = next(iter(results.values()))["answers"]
+    for figures in results.values():
+        same = {}
+        for kind, answers in figures["answers"].items():
+            both = None if answers is None or first[kind] is None else sum(one == other for one, other in zip(first[kind], answers))
+            same[kind] = None if both is None else "%d of %d" % (both, len(answers))
+        figures["answers"] = same
 
 
-def rate(count, seconds):
-    return "{:,.0f}".format(count / seconds) if seconds > 0 else "-"
+def table(told):
+    """The result as the table of docs/PERFORMANCE.md."""
+    engines = told["engines"]
+    rows = [["", *(("%s %s" % (name, it["version"])).strip() for name, it in engines.items())], ["---"] * (1 + len(engines))]
+
+    def row(name, values, form="{:,.0f}"):
+        rows.append([name, *("-" if value is None else form.format(value) for value in values)])
+
+    row("start, seconds", [it["start, seconds"] for it in engines.values()], "{:.2f}")
+    row("messages a second, found at once", [it["messages a second"] for it in engines.values()])
+    for kind in KINDS:
+        row("queries a second: " + kind, [it["queries a second"][kind] for it in engines.values()])
+    for name in ("50th", "99th"):
+        row("an And beside a writer, %s of 100, ms" % name, [it["beside a writer, %s of 100, milliseconds" % name] for it in engines.values()], "{:.2f}")
+    row("behind the writer at the end, ms", [it["beside a writer, behind at the end, milliseconds"] for it in engines.values()])
+    row("most memory, MiB", [it["memory, MiB"] for it in engines.values()])
+    head = "%s, %s, %d cores, %d GiB, commit %s; %s messages of 15 words, %s queries a class." % (
+        told["date"], told["machine"]["processor"], told["machine"]["cores"], told["machine"]["memory, GiB"], told["commit"][:7],
+        "{:,}".format(told["documents"]), "{:,}".format(told["queries"]))
+    differ = ["%s, %s: %s" % (name, kind, same) for name, it in engines.items() for kind, same in it["answers"].items()
+              if same and len(set(same.split(" of "))) > 1]
+    foot = ["Answers that differ from the first column's: " + ("; ".join(differ) or "none") + "."]
+    foot += ["Left out: %s." % "; ".join("%s, since %s" % it for it in told["left out"].items())] if told["left out"] else []
+    filled = lambda it: textwrap.fill(it, 100, break_on_hyphens=False, break_long_words=False)
+    return "\n".join([filled(head), "", *("| " + " | ".join(it) + " |" for it in rows), "", *map(filled, foot)])
 
 
 def main():
     parser = argparse.ArgumentParser(description=__doc__, formatter_class=argparse.RawDescriptionHelpFormatter)
     parser.add_argument("--documents", type=int, default=200_000)
-    parser.add_argument("--rounds", type=int, default=3)
+    parser.add_argument("--queries", type=int, default=5_000)
+    parser.add_argument("--seconds", type=float, default=5, help="how long queries are asked beside a writer")
+    parser.add_argument("--engines", nargs="+", choices=ENGINES, default=list(ENGINES))
+    parser.add_argument("--out", metavar="FILE", help="where the result goes in place of bench/results/")
+    parser.add_argument("--table", metavar="FILE", help="print this result as a table, and measure nothing")
+    parser.add_argument("--one", choices=ENGINES, help=argparse.SUPPRESS)
     options = parser.parse_args()
-    if not os.access(PROGRAM, os.X_OK):
-        sys.exit("build the program first: ./earlybird run < examples/first.jsonl")
-    print("| corpus | system | documents a second | queries a second | peak memory, MiB |")
-    print("|---|---|---|---|---|")
-    for name, settings, documents, query in corpora(options.documents):
-        plain, _ = lines(documents, query, 0)
-        asking, queries = lines(documents, query, 10)
-        empty, _, _ = fastest(options.rounds, settings, b"")
-        adding, memory, _ = fastest(options.rounds, settings, plain)
-        both, _, printed = fastest(options.rounds, settings, asking)
-        if printed.count(b" seen ") != len(queries):
-            sys.exit("not every query was answered")
-        print("| %s | earlybird | %s | %s | %d |" % (name, rate(len(documents), adding - empty), rate(len(queries), both - adding), memory))
-        sqlite = sqlite_seconds(documents, queries)
-        if sqlite:
-            print("| %s | sqlite3 %s, FTS5 | %s | %s | - |" % (name, sqlite3.sqlite_version, rate(len(documents), sqlite[0]), rate(len(queries), sqlite[1])))
-        grep = grep_seconds(documents, queries, 20)
-        if grep:
-            print("| %s | grep, a file | - | %s | - |" % (name, rate(1, grep)))
-    print("\n%d documents; queries for the newest 10 with both of two words, one behind each 10 documents; the best of %d runs;"
-          % (options.documents, options.rounds))
-    print("the time to start with an empty input is taken off; queries: the time with them less the time without.")
+    if options.table:
+        with open(options.table, encoding="utf-8") as file:
+            return print(table(json.load(file)))
+    if options.one:
+        documents = list(enumerate(messages(options.documents), 1))
+        asked = {kind: queries(kind, options.queries, [words for _, words in documents[:10_000]]) for kind in KINDS}
+        return json.dump(measured(ENGINES[options.one](), documents, asked, options.seconds), sys.stdout)
+
+    told = {"date": datetime.date.today().isoformat(), "machine": machine(), "commit": commit(), "documents": options.documents,
+            "queries": options.queries, "left out": {}, "engines": {}}
+    for key in options.engines:
+        engine = ENGINES[key]()
+        why = engine.missing()
+        if why:
+            told["left out"][engine.name] = why
+            continue
+        print("measuring %s" % engine.name, file=sys.stderr)
+        words = [sys.executable, os.path.abspath(__file__), "--one", key, "--documents", str(options.documents)]
+        words += ["--queries", str(options.queries), "--seconds", str(options.seconds)]
+        done = subprocess.run(words, stdout=subprocess.PIPE, check=True)
+        told["engines"][engine.name] = {"version": engine.version(), **json.loads(done.stdout)}
+    compare(told["engines"])
+    path = options.out or os.path.join(ROOT, "bench", "results", "%s-%s.json" % (told["date"], told["commit"][:7]))
+    os.makedirs(os.path.dirname(os.path.abspath(path)), exist_ok=True)
+    with open(path, "w", encoding="utf-8") as file:
+        json.dump(told, file, indent=1)
+        file.write("\n")
+    print(table(told))
 
 
 if __name__ == "__main__":

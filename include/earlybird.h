@@ -2,8 +2,9 @@
  *
  * The caller keeps all memory of an index: its words, and a struct of numbers. eb_words says how many words a setting
  * needs, and eb_begin makes an index of them. Then eb_add_line and eb_add_text add documents, and eb_ask_line and
- * eb_ask_text find the newest that match a query. Link out/libeb_c.a, and liblibc_c.a of the Rattle kit: its calls
- * take memory from malloc while a line, a text or a query is read, and give it back before they return.
+ * eb_ask_text find the newest that match a query. Link libearlybird.a, which `./earlybird install` brings and pkg-config
+ * knows as `earlybird`: its calls take memory from malloc while a line, a text or a query is read, and give it back before
+ * they return.
  *
  * What is proved of each call is stated beside it: for any documents that the words and the numbers hold, what it
  * answers and what they hold then. A call tests what it can, and answers EB_NOT_BEGUN where the numbers aren't those of

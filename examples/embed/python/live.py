@@ -12,14 +12,14 @@ def main():
         line = line[:-1] if len(line) <= 65536 and line.endswith(b"\r") else line
         try:
             if line.startswith(b"?"):
-                seen, ids = index.ask_line(line)
+                answer = index.search_line(line)
                 queries += 1
-                print("%d seen %d:%s" % (number, seen, "".join(" %d" % id for id in ids)))
+                print("%d seen %d:%s" % (number, answer.seen, "".join(" %d" % id for id in answer)))
             elif line:
                 index.add_line(line)
-        except Refused as refusal:
+        except Refused as why:
             refused += 1
-            print("%d refused: %s" % (number, refusal))
+            print("%d refused: %s" % (number, why))
     print("end: documents %d, queries %d, refused %d" % (len(index), queries, refused))
     return 1 if refused else 0
 

@@ -2,7 +2,7 @@
 import json
 import sys
 
-from earlybird import BAD_QUERY, Index, Refused
+from earlybird import BadQuery, Index, Refused
 
 
 def main():
@@ -14,21 +14,17 @@ def main():
             if line.startswith("?"):
                 wanted, _, query = line[1:].partition(" ")
                 front = len("?%s " % wanted)
-                seen, ids = index.ask(int(wanted), query)
+                answer = index.search(query, int(wanted))
                 queries += 1
-                print("%d seen %d:%s" % (number, seen, "".join(" %d" % id for id in ids)))
+                print("%d seen %d:%s" % (number, answer.seen, "".join(" %d" % id for id in answer)))
             elif line:
                 message = json.loads(line)
-                if not isinstance(message.get("id"), int):
-                    print("%d refused: bad document" % number)
-                    refused += 1
-                    continue
                 index.add(message["id"], message["text"])
-        except Refused as refusal:
+        except Refused as why:
             refused += 1
-            if refusal.number == BAD_QUERY:
-                refusal = Refused(BAD_QUERY, refusal.column + front)
-            print("%d refused: %s" % (number, refusal))
+            # (the program counts columns from the line's front)
+            why = BadQuery(why.column + front) if isinstance(why, BadQuery) else why
+            print("%d refused: %s" % (number, why))
     print("end: documents %d, queries %d, refused %d" % (len(index), queries, refused))
     return 1 if refused else 0
 

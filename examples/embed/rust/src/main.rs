@@ -18,14 +18,14 @@ fn next_line<'a>(input: &mut impl BufRead, line: &'a mut Vec<u8>) -> io::Result<
 }
 
 /// What a line comes to: the text that it prints, if any.
-fn work_off(index: &mut Index, line: &[u8]) -> Result<Option<String>, Refusal> {
+fn process(index: &mut Index, line: &[u8]) -> Result<Option<String>, Refusal> {
     if line.is_empty() {
         return Ok(None);
     }
     if line[0] != b'?' {
         return index.add_line(line).map(|()| None);
     }
-    let answer = index.ask_line(line)?;
+    let answer = index.search_line(line)?;
     let ids: String = answer.ids.iter().map(|id| format!(" {id}")).collect();
     Ok(Some(format!("seen {}:{ids}", answer.seen)))
 }
@@ -40,7 +40,7 @@ fn main() -> Result<ExitCode, Box<dyn Error>> {
     let (mut number, mut queries, mut refused, mut line) = (0u64, 0u64, 0u64, Vec::new());
     while let Some(text) = next_line(&mut input, &mut line)? {
         number += 1;
-        match work_off(&mut index, text) {
+        match process(&mut index, text) {
             Ok(None) => {}
             Ok(Some(answer)) => {
                 queries += 1;

@@ -1,0 +1,135 @@
+"""What .ci/use asks of the documents: commands print what stands below them, the files that are named exist, and lines are short."""
+import glob
+import os
+import re
+import subprocess
+
+WIDTH = 100
+README_LINES = 120
+# what is still to be mended: long lines, and names of definitions that were moved
+LATER = {"docs/PROVED.md"}
+# folders whose files a document may name from the top, or from a crate
+TOPS = tuple(it + "/" for it in os.listdir(".") if os.path.isdir(it))
+ENDINGS = (".md", ".rt", ".antt", ".py", ".h", ".a", ".c", ".1", ".jsonl", ".txt", ".pc", ".toml", ".rs", ".png", ".service", ".edit")
+
+
+def documents():
+    patterns = ("README.md", "docs/*.md", "crates/*/README.md", "examples/*/README.md", "python/README.md", "rust/README.md", "bench/*.md")
+    return sorted(path for pattern in patterns for path in glob.glob(pattern))
+
+
+def read(path):
+    with open(path, encoding="utf-8") as file:
+        return file.read()
+
+
+def consoles(text):
+    """Each command of a console, and what stands below it."""
+    for block in re.findall(r"^```console\n(.*?)^```$", text, re.M | re.S):
+        for command, want in re.findall(r"((?:^[$>] .*\n)+)((?:^(?![$>] ).*\n)*)", block, re.M):
+            yield re.sub(r"^[$>] ", "", command, flags=re.M), want
+
+
+def commands_print(check, program):
+    count = 0
+    for path in documents():
+        for command, want in consoles(read(path)):
+            count += 1
+            got = subprocess.run(["bash", "-c", command.replace("./earlybird", "'%s'" % program)], stdout=subprocess.PIPE)
+            check("%s: %s" % (path, command.splitlines()[0][:60]), want, got.stdout.decode())
+    check("README has a console", True, count >= 1)
+
+
+def queries_find(check, program):
+    """Each query of the first table of docs/QUERIES.md finds in its messages what the table says."""
+    text = read("docs/QUERIES.md")
+    messages = re.search(r"^```\n(\{.*?)^```$", text, re.M | re.S).group(1)
+    rows = re.findall(r"^\| `(\?\d+ .*?)` \| ([\d ]+|nothing) \|", text, re.M)
+    asked = messages + "".join(query.replace("\\|", "|") + "\n" for query, _ in rows)
+    done = subprocess.run([program, "run"], input=asked.encode(), stdout=subprocess.PIPE).stdout.decode()
+    found = [line.partition(":")[2].strip() or "nothing" for line in done.splitlines()[:-1]]
+    check("docs/QUERIES.md: what its queries find", rows, [(query, ids) for (query, _), ids in zip(rows, found)])
+    check("docs/QUERIES.md has queries", True, len(rows) > 15)
+
+
+def names_in(text):
+    """Each file that a document names: where a link leads, and what stands as code and looks like a path."""
+    prose = re.sub(r"^    .*$", "", re.sub(r"^```.*?^```$", "", text, flags=re.M | re.S), flags=re.M)
+    for link in re.findall(r"\]\(([^)#\s]+)(?:#[^)]*)?\)", prose):
+        if "://" not in link:
+            yield "link", link
+    for code in re.findall(r"`([^`]+)`", prose):
+        for word in code.split():
+            word = re.sub(r"^\./(?=.)", "", word)
+            if re.fullmatch(r"[\w.*@-]+(/[\w.*@-]+)*/?", word) and (word.endswith(ENDINGS) and "/" in word or word.startswith(TOPS)):
+                yield "code", word
+
+
+def is_there(path, kind, name):
+    """A link goes from the document's folder; a name in code from there, from the top, or in a document of all crates from one of them."""
+    beside = os.path.join(os.path.dirname(path), name)
+    if kind == "link":
+        return os.path.exists(beside)
+    # (what is built, and what is installed, isn't in a clone)
+    if "/out/" in name or name.startswith(("bin/", "lib/", "libexec/", "share/man/")):
+        return True
+    places = [beside, name] + ([] if path.startswith("crates/") else ["crates/*/" + name])
+    return any(glob.glob(it) for it in places)
+
+
+def files_exist(check):
+    missing = ["%s: %s" % (path, name) for path in documents() for kind, name in names_in(read(path)) if not is_there(path, kind, name)]
+    check("each file that a document names is there", [], missing)
+    # (a check that finds no name would pass)
+    check("documents name files", True, sum(1 for path in documents() for _ in names_in(read(path))) > 200)
+
+
+def definitions_exist(check):
+    """Where a document says `NAME` of `crates/X/specs/F.antt`, the file has the name."""
+    missing, count, crate = [], 0, None
+    for path in documents():
+        text, own = " ".join(read(path).split()), path.rpartition("/")[0] if path.startswith("crates/") else None
+        for names, its, file in re.findall(r"((?:`\w+`(?:, | and )?)+) of (its )?`((?:crates/\w+/)?specs/\w+\.antt)`", text):
+            # (`its` is the crate that was named last)
+            crate = file.rpartition("/specs/")[0] or (crate if its else own)
+            places = [os.path.join(crate, file[file.index("specs/"):])] if crate else glob.glob("crates/*/" + file)
+            for name in re.findall(r"`(\w+)`", names):
+                count += 1
+                if not any(os.path.exists(it) and re.search(r"\b%s\b" % name, read(it)) for it in places):
+                    missing.append("%s: %s of %s" % (path, name, file))
+    check("each definition that a document names is there", [], [it for it in missing if not it.startswith(tuple(LATER))])
+    check("documents name definitions", True, count > 20)
+
+
+def changes_are_worked(check):
+    """Each worked change of docs/CHANGES.md names its files."""
+    changes = re.split(r"^## ", read("docs/CHANGES.md"), flags=re.M)[1:]
+    files = [{name for kind, name in names_in(change)} for change in changes]
+    check("five worked changes, each with its files", (5, True), (len(changes), all(len(it) >= 4 for it in files)))
+
+
+def lines_are_short(check):
+    long = []
+    for path in documents():
+        for number, line in enumerate(read(path).splitlines(), 1):
+            if len(line) > WIDTH and not line.lstrip().startswith("|") and path not in LATER:
+                long.append("%s:%d" % (path, number))
+    check("no line over %d characters but in tables: .ci/fill FILE" % WIDTH, [], long)
+    check("README has at most %d lines" % README_LINES, True, len(read("README.md").splitlines()) <= README_LINES)
+
+
+def each_crate_has_a_readme(check):
+    crates = sorted(path.split("/")[1] for path in glob.glob("crates/*/src"))
+    check("each crate has a README", [], [it for it in crates if not os.path.exists("crates/%s/README.md" % it)])
+    parts = [(it, part) for it in crates for part in ("Calls: ", "Begin with: ", "Proved: ") if "\n" + part not in read("crates/%s/README.md" % it)]
+    check("each README of a crate has its parts", [], parts)
+
+
+def try_all(check, program):
+    commands_print(check, program)
+    queries_find(check, program)
+    files_exist(check)
+    definitions_exist(check)
+    changes_are_worked(check)
+    lines_are_short(check)
+    each_crate_has_a_readme(check)

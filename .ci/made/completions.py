@@ -1,0 +1,118 @@
+"""Completions for bash, zsh and fish: commands, options that are still free, and numbers in their ranges."""
+from made.commands import ALONE, COMMANDS, OPTIONS, range_of, said
+
+MADE = "# Completion of the command earlybird for %s; made by .ci/pages from .ci/made/commands.py.\n"
+
+
+def offered(name):
+    return " ".join(str(it) for it in OPTIONS[name].offers)
+
+
+def bash():
+    options = "\n".join("        %s) echo '%s' ;;" % (name, " ".join("--" + it for it in (*command.ways, *command.options)))
+                        for name, command in COMMANDS.items() if command.ways or command.options)
+    numbers = "\n".join("        --%s) echo '%s' ;;" % (name, offered(name)) for name, it in OPTIONS.items() if it.offers)
+    folders = " | ".join("--" + name for name, it in OPTIONS.items() if it.value == "DIR")
+    ways = " ".join("--" + it for it in COMMANDS["run"].ways)
+    return MADE % "bash" + """
+_earlybird_options() {
+    case $1 in
+%s
+    esac
+}
+
+_earlybird_numbers() {
+    case $1 in
+%s
+    esac
+}
+
+_earlybird() {
+    local word=${COMP_WORDS[COMP_CWORD]} before=${COMP_WORDS[COMP_CWORD - 1]} ways=' %s ' words='' given it
+    # (bash makes words of their own of --docs, = and 4096)
+    [ "$word" = = ] && word=
+    [ "$before" = = ] && before=${COMP_WORDS[COMP_CWORD - 2]}
+    if [ "$COMP_CWORD" -eq 1 ]; then
+        words='%s'
+    elif [ "$before" = '%s' ]; then
+        compopt -o filenames 2>/dev/null
+        mapfile -t COMPREPLY < <(compgen -d -- "$word")
+        return
+    elif [ -n "$(_earlybird_numbers "$before")" ]; then
+        words=$(_earlybird_numbers "$before")
+    else
+        given=" ${COMP_WORDS[*]:1:COMP_CWORD - 1} "
+        for it in $(_earlybird_options "${COMP_WORDS[1]}"); do
+            case $given in *" $it "*) continue ;; esac
+            case $ways in *" $it "*)
+                # at most one of these
+                case $given in %s) continue ;; esac ;;
+            esac
+            words="$words $it"
+        done
+    fi
+    mapfile -t COMPREPLY < <(compgen -W "$words" -- "$word")
+}
+
+complete -F _earlybird earlybird
+""" % (options, numbers, ways, " ".join([*COMMANDS, *ALONE]), folders,
+       " | ".join('*" %s "*' % it for it in ways.split()))
+
+
+def quoted(text):
+    return "'" + text.replace("'", "'\\''") + "'"
+
+
+def zsh():
+    def row(command, name):
+        it = OPTIONS[name]
+        others = " ".join("--" + other for other in command.ways) if name in command.ways else "--" + name
+        value = ""
+        if it.value == "N":
+            value = ":%s:(%s)" % (range_of(name), offered(name))
+        elif it.value == "DIR":
+            value = ":folder:_files -/"
+        shown = "--%s=" % name if it.value else "--" + name
+        return "                " + quoted("(%s)%s[%s]%s" % (others, shown, it.text.replace(":", "\\:"), value))
+
+    cases = []
+    for name, command in COMMANDS.items():
+        rows = [row(command, it) for it in (*command.ways, *command.options)]
+        if rows:
+            cases.append("        %s)\n            _arguments \\\n%s\n            ;;" % (name, " \\\n".join(rows)))
+    words = "\n".join("        %s" % quoted("%s:%s" % (name, text)) for name, text in [*((it, its.text) for it, its in COMMANDS.items()), *ALONE.items()])
+    return "#compdef earlybird\n" + MADE % "zsh" + """
+_earlybird() {
+    local -a commands=(
+%s
+    )
+    if (( CURRENT == 2 )); then
+        _describe command commands
+        return
+    fi
+    local command=$words[2]
+    shift words
+    (( CURRENT-- ))
+    case $command in
+%s
+    esac
+}
+
+_earlybird "$@"
+""" % (words, "\n".join(cases))
+
+
+def fish():
+    lines = ["complete -c earlybird -f"]
+    for name, command in COMMANDS.items():
+        lines.append("complete -c earlybird -n __fish_use_subcommand -a %s -d %s" % (name, quoted(command.text)))
+    for word, text in ALONE.items():
+        lines.append("complete -c earlybird -n __fish_use_subcommand -l %s -d %s" % (word[2:], quoted(text)))
+    for name, it in OPTIONS.items():
+        seen = " ".join(command for command, its in COMMANDS.items() if name in (*its.ways, *its.options))
+        condition = "__fish_seen_subcommand_from %s" % seen
+        others = [other for other in COMMANDS["run"].ways if other != name] if name in COMMANDS["run"].ways else []
+        condition += "".join("; and not __fish_contains_opt %s" % other for other in others)
+        value = " -x -a %s" % quoted(offered(name)) if it.offers else " -x -a '(__fish_complete_directories)'" if it.value else ""
+        lines.append("complete -c earlybird -n %s -l %s%s -d %s" % (quoted(condition), name, value, quoted(said(name))))
+    return MADE % "fish" + "\n" + "\n".join(lines) + "\n"

@@ -1,0 +1,83 @@
+"""The map of the crates in docs/ARCHITECTURE.md: a picture of their layers by crates.txt, and a line for each by its README."""
+import re
+import textwrap
+
+from made.manual import with_parts
+
+WIDTH = 100
+# what a crate stands on tells its column: these hold lines and texts, and these the index
+LINES, INDEX = {"eb_io", "eb_doc", "eb_query", "eb_text", "eb_image"}, {"eb_place"}
+COLUMNS = ("lines and texts", "the index", "over both")
+
+
+def stands_on(crates):
+    """The libraries of this repository that each crate stands on itself."""
+    rows = [line.partition("#")[0].partition(":") for line in crates.splitlines()]
+    rows = {head.split()[0]: rest.split() for head, colon, rest in rows if colon}
+    return {name: [it for it in below if it in rows] for name, below in rows.items()}
+
+
+def layers_of(below):
+    """The layer of each crate: one above the highest that it stands on."""
+    found = {}
+
+    def layer(name):
+        if name not in found:
+            found[name] = 1 + max((layer(it) for it in below[name]), default=-1)
+        return found[name]
+
+    for name in below:
+        layer(name)
+    return found
+
+
+def columns_of(below):
+    """The column of each crate, and none for those on which both sides stand."""
+    def all_below(name):
+        return {name}.union(*(all_below(it) for it in below[name]))
+
+    columns = {}
+    for name in below:
+        on = all_below(name)
+        columns[name] = 2 if on & LINES and on & INDEX else 1 if on & INDEX else 0 if on != {"eb_base"} else None
+    return columns
+
+
+def picture(below):
+    """The layers from the highest to the lowest, in three columns."""
+    layers, columns = layers_of(below), columns_of(below)
+    widths = (28, 24, 34)
+    out = ["layer  " + "  ".join(name.ljust(width) for name, width in zip(COLUMNS, widths)).rstrip()]
+    for at in range(max(layers.values()), -1, -1):
+        here = sorted(name for name in below if layers[name] == at)
+        if all(columns[name] is None for name in here):
+            out.append("%4d   %s" % (at, " ".join(here)))
+            continue
+        cells = [textwrap.wrap(" ".join(it for it in here if columns[it] == column), width) for column, width in enumerate(widths)]
+        for row in range(max(map(len, cells))):
+            texts = [(cell[row] if row < len(cell) else "").ljust(width) for cell, width in zip(cells, widths)]
+            out.append(("%4s   %s" % (at if row == 0 else "", "  ".join(texts))).rstrip())
+    return "```\n" + "\n".join(out) + "\n```"
+
+
+def first_sentence(readme):
+    """What a README says that its crate is."""
+    paragraph = re.search(r"^# .*\n\n((?:.+\n)+)", readme).group(1)
+    return re.match(r".*?\.(?=\s|$)", " ".join(paragraph.split())).group(0)[:-1]
+
+
+def lines(below, read):
+    """A line for each crate, the lowest layer first."""
+    layers = layers_of(below)
+    out = []
+    for name in sorted(below, key=lambda it: (layers[it], it)):
+        text = first_sentence(read("crates/%s/README.md" % name))
+        row = "- [`%s`](../crates/%s/README.md): %s" % (name, name, text[0].lower() + text[1:])
+        out.append(textwrap.fill(row, WIDTH, subsequent_indent="  ", break_on_hyphens=False, break_long_words=False))
+    return "\n".join(out)
+
+
+def with_map(text, crates, read):
+    """The document with its picture and its lines written anew."""
+    below = stands_on(crates)
+    return with_parts(text, {"layers": picture(below), "crates": lines(below, read)})

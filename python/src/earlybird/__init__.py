@@ -1,0 +1,34 @@
+"""A real-time search index for messages, in memory and in this process.
+
+    >>> from earlybird import Index
+    >>> index = Index()
+    >>> index.add(101, "Night train to Vienna leaves at nine")
+    >>> index.add(102, "The train is late, again.")
+    >>> index.search("train -late", 10)
+    Answer([101], seen=2)
+
+A message can be found as soon as `add` returns, and the newest matches come first. Queries are those of the program `earlybird`
+(docs/QUERIES.md), and so are the refusals, each an exception of its name.
+"""
+from earlybird._index import Answer, Index, Segment
+from earlybird._refusals import (
+    BadDocument,
+    BadJson,
+    BadLine,
+    BadNumber,
+    BadQuery,
+    BadSetting,
+    BadText,
+    Full,
+    LongLine,
+    NoMemory,
+    QueryTooDeep,
+    QueryTooLarge,
+    Refused,
+    TooLong,
+)
+
+__all__ = [
+    "Answer", "BadDocument", "BadJson", "BadLine", "BadNumber", "BadQuery", "BadSetting", "BadText", "Full", "Index", "LongLine",
+    "NoMemory", "QueryTooDeep", "QueryTooLarge", "Refused", "Segment", "TooLong",
+]

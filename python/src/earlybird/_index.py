@@ -1,0 +1,185 @@
+"""The index, over memory of this process."""
+import ctypes
+import threading
+from typing import Iterable, List, NamedTuple, Tuple, Union
+
+from earlybird import _library
+from earlybird._refusals import BadDocument, BadNumber, BadSetting, BadText, Refused, refusal
+
+MOST_IDS = 1000
+
+
+class Segment(NamedTuple):
+    """How much of a segment is used: its documents, its distinct words, the words that their letters take, and the slices that are
+    taken of each of the four pools of postings."""
+
+    documents: int
+    terms: int
+    text: int
+    pool0: int
+    pool1: int
+    pool2: int
+    pool3: int
+
+
+class Answer(List[int]):
+    """The ids of the newest messages that match, newest first; `seen` says how many messages were accepted before the query."""
+
+    def __init__(self, ids: Iterable[int], seen: int) -> None:
+        super().__init__(ids)
+        self.seen = seen
+
+    def __repr__(self) -> str:
+        return "Answer(%s, seen=%d)" % (super().__repr__(), self.seen)
+
+
+class Index:
+    """An index of so many segments, each with room for so many messages (1 to 16,777,216) and distinct words (a power of two from
+    1,024 to 1,048,576). It takes all its memory at once: 58 MiB by default, at most 1 GiB. Any thread may call it; calls on one
+    index go one after another.
+
+    Raises `BadSetting` where no index can have these numbers, and MemoryError where there is no room for it.
+
+        >>> Index(segments=1, docs=1000, terms=1024)
+        Index(segments=1, docs=1000, terms=1024)
+    """
+
+    def __init__(self, segments: int = 12, docs: int = 4096, terms: int = 8192) -> None:
+        self._setting = (segments, docs, terms)
+        if not all(isinstance(it, int) and 0 <= it < 2**32 for it in self._setting):
+            raise BadSetting()
+        self._calls = _library.load()
+        size = self._calls.eb_words(*self._setting)
+        if size == 0:
+            raise BadSetting()
+        self._words, self._numbers = (ctypes.c_uint64 * size)(), _library.Numbers()
+        self._ids, self._told = (ctypes.c_uint64 * MOST_IDS)(), _library.Told()
+        self._index = (ctypes.addressof(self._words), size, ctypes.addressof(self._numbers))
+        self._room = (ctypes.addressof(self._ids), MOST_IDS, ctypes.addressof(self._told))
+        self._alone = threading.Lock()
+        self._done(self._calls.eb_begin(*self._index, *self._setting))
+
+    def __repr__(self) -> str:
+        return "Index(segments=%d, docs=%d, terms=%d)" % self._setting
+
+    def _done(self, number: int) -> None:
+        if number:
+            raise refusal(number, self._told.column)
+
+    def _answer(self, number: int) -> Answer:
+        self._done(number)
+        return Answer(self._ids[: self._told.count], self._told.seen)
+
+    def add(self, id: int, text: str) -> None:
+        """Adds the message of an id (0 to 2**64 - 1) and a text; the next search finds it.
+
+        Raises `BadDocument` for another id, `BadText`, `TooLong`, `Full` or `NoMemory`; then nothing is changed.
+
+            >>> index = Index(segments=1, docs=1, terms=1024)
+            >>> index.add(7, "hello world")
+            >>> index.add(8, "hello again")
+            Traceback (most recent call last):
+                ...
+            earlybird._refusals.Full: full
+        """
+        if not (isinstance(id, int) and 0 <= id < 2**64):
+            raise BadDocument()
+        data = _bytes_of(text)
+        with self._alone:
+            self._done(self._calls.eb_add_text(*self._index, id, data, len(data)))
+
+    def add_all(self, messages: Iterable[Tuple[int, str]]) -> List[Tuple[int, Refused]]:
+        """Adds messages in order, each an id and a text, and goes on after a refusal. Answers the refused ones: where each stands
+        among the messages, from 0, and why it was refused.
+
+            >>> index = Index()
+            >>> index.add_all([(7, "hello world"), (-1, "no id")])
+            [(1, BadDocument('bad document'))]
+        """
+        refused = []
+        for at, (id, text) in enumerate(messages):
+            try:
+                self.add(id, text)
+            except Refused as why:
+                refused.append((at, why))
+        return refused
+
+    def search(self, query: str, k: int = 10) -> Answer:
+        """Answers a query, as `train -late`, with the ids of the newest `k` matches, 1 to 1,000.
+
+        Raises `BadNumber`, `BadQuery` (with the column), `QueryTooDeep`, `QueryTooLarge`, `BadText` or `NoMemory`.
+
+            >>> index = Index()
+            >>> index.add(7, "hello world")
+            >>> index.search("hello")
+            Answer([7], seen=1)
+            >>> index.search("(hello")
+            Traceback (most recent call last):
+                ...
+            earlybird._refusals.BadQuery: bad query at 7
+        """
+        if not (isinstance(k, int) and 0 <= k < 2**32):
+            raise BadNumber()
+        data = _bytes_of(query)
+        with self._alone:
+            return self._answer(self._calls.eb_ask_text(*self._index, k, data, len(data), *self._room))
+
+    def search_all(self, queries: Iterable[str], k: int = 10) -> List[Union[Answer, Refused]]:
+        """Answers queries in order; in the place of one that is refused stands why.
+
+            >>> index = Index()
+            >>> index.add(7, "hello world")
+            >>> index.search_all(["hello", "(hello"])
+            [Answer([7], seen=1), BadQuery(7)]
+        """
+        answers: List[Union[Answer, Refused]] = []
+        for query in queries:
+            try:
+                answers.append(self.search(query, k))
+            except Refused as why:
+                answers.append(why)
+        return answers
+
+    def add_line(self, line: bytes) -> None:
+        """Adds the message of a line of `earlybird run`, as `{"id":7,"text":"hello world"}`, without its end.
+
+        Raises `BadLine`, `LongLine`, `BadJson`, `BadDocument`, `TooLong`, `Full` or `NoMemory`; then nothing is changed.
+        """
+        with self._alone:
+            self._done(self._calls.eb_add_line(*self._index, line, len(line)))
+
+    def search_line(self, line: bytes) -> Answer:
+        """Answers a query line of `earlybird run`, as `?10 train`, without its end. A column counts from the `?`.
+
+        Raises `BadLine`, `LongLine`, and what `search` raises.
+        """
+        with self._alone:
+            return self._answer(self._calls.eb_ask_line(*self._index, line, len(line), *self._room))
+
+    def __len__(self) -> int:
+        """How many messages are accepted."""
+        with self._alone:
+            return self._calls.eb_documents(ctypes.addressof(self._numbers))
+
+    @property
+    def segments(self) -> int:
+        """How many segments are begun."""
+        with self._alone:
+            return self._calls.eb_segments(ctypes.addressof(self._numbers))
+
+    @property
+    def last_segment(self) -> Segment:
+        """How much of the last segment is used; all 0 where none is begun."""
+        last = _library.Segment()
+        with self._alone:
+            self._calls.eb_last_segment(ctypes.addressof(self._numbers), ctypes.addressof(last))
+        return Segment(*(getattr(last, name) for name in Segment._fields))
+
+
+def _bytes_of(text: str) -> bytes:
+    if not isinstance(text, str):
+        raise TypeError("a text is a str, not a %s" % type(text).__name__)
+    try:
+        return text.encode()
+    except UnicodeEncodeError:
+        raise BadText() from None

@@ -1,0 +1,42 @@
+"""The calls of include/earlybird.h, by ctypes: those of the shared library beside this file, or of the one that EARLYBIRD_LIBRARY
+names."""
+import ctypes
+import os
+
+
+class Segment(ctypes.Structure):
+    _fields_ = [(name, ctypes.c_uint32) for name in ("documents", "terms", "text", "pool0", "pool1", "pool2", "pool3")]
+
+
+class Numbers(ctypes.Structure):
+    _fields_ = [
+        ("documents", ctypes.c_uint64),
+        *((name, ctypes.c_uint32) for name in ("mark", "segments", "docs", "terms", "begun")),
+        ("last", Segment),
+    ]
+
+
+class Told(ctypes.Structure):
+    _fields_ = [("seen", ctypes.c_uint64), ("count", ctypes.c_uint64), ("column", ctypes.c_uint64)]
+
+
+def load() -> ctypes.CDLL:
+    beside = os.path.join(os.path.dirname(os.path.abspath(__file__)), "libearlybird.so")
+    library = ctypes.CDLL(os.environ.get("EARLYBIRD_LIBRARY") or beside)
+    u32, u64, size, pointer = ctypes.c_uint32, ctypes.c_uint64, ctypes.c_size_t, ctypes.c_void_p
+    text = [ctypes.c_char_p, size]
+    index, ids = [pointer, size, pointer], [pointer, size, pointer]
+    for name, result, arguments in [
+        ("eb_words", u64, [u32, u32, u32]),
+        ("eb_begin", u32, [*index, u32, u32, u32]),
+        ("eb_add_line", u32, [*index, *text]),
+        ("eb_add_text", u32, [*index, u64, *text]),
+        ("eb_ask_line", u32, [*index, *text, *ids]),
+        ("eb_ask_text", u32, [*index, u32, *text, *ids]),
+        ("eb_documents", u64, [pointer]),
+        ("eb_segments", u32, [pointer]),
+        ("eb_last_segment", None, [pointer, pointer]),
+    ]:
+        call = getattr(library, name)
+        call.restype, call.argtypes = result, arguments
+    return library

@@ -1,0 +1,111 @@
+"""Why a call did nothing: an exception for each refusal of include/earlybird.h."""
+from typing import Dict, Type
+
+
+class Refused(Exception):
+    """A call did nothing, and all is as before. `str()` of it is the refusal's name, as the program prints it."""
+
+    number = 0
+    name = "refused"
+
+    def __init__(self) -> None:
+        super().__init__(self.name)
+
+
+class BadLine(Refused):
+    """The line is no document line (it begins with `{`), or no query line (`?`, UTF-8), as the call wants one."""
+
+    number, name = 1, "bad line"
+
+
+class LongLine(Refused):
+    """The line has more than 65,536 bytes."""
+
+    number, name = 2, "long line"
+
+
+class BadJson(Refused):
+    """The line isn't one JSON value."""
+
+    number, name = 3, "bad json"
+
+
+class BadDocument(Refused):
+    """There is no whole number from 0 to 2**64 - 1 as the id, or no string as the text."""
+
+    number, name = 4, "bad document"
+
+
+class TooLong(Refused):
+    """The text has more than 1,024 words, or more than 16,384 bytes of them."""
+
+    number, name = 5, "too long"
+
+
+class Full(Refused):
+    """There is no room for the message: the last segment has none, and all segments are begun."""
+
+    number, name = 6, "full"
+
+
+class BadNumber(Refused):
+    """The number of matches that are wanted isn't one of 1 to 1,000."""
+
+    number, name = 7, "bad number"
+
+
+class BadQuery(Refused):
+    """The query goes wrong at `column`, or ends too early there. Columns count bytes of UTF-8, from 1."""
+
+    number, name = 8, "bad query"
+
+    def __init__(self, column: int) -> None:
+        super().__init__()
+        self.column = column
+        self.args = (column,)
+
+    def __str__(self) -> str:
+        return "bad query at %d" % self.column
+
+
+class QueryTooDeep(Refused):
+    """More than 16 parentheses and minuses are open."""
+
+    number, name = 9, "query too deep"
+
+
+class QueryTooLarge(Refused):
+    """The query has more than 64 parts."""
+
+    number, name = 10, "query too large"
+
+
+class BadText(Refused):
+    """The text has no UTF-8: a half of a surrogate pair stands in it."""
+
+    number, name = 11, "bad text"
+
+
+class NoMemory(Refused, MemoryError):
+    """Memory ran out while a line, a text or a query was read."""
+
+    number, name = 12, "no memory"
+
+
+class BadSetting(Refused, ValueError):
+    """The three numbers are no setting that an index can have."""
+
+    number, name = 13, "bad setting"
+
+
+BY_NUMBER: Dict[int, Type[Refused]] = {
+    it.number: it
+    for it in (BadLine, LongLine, BadJson, BadDocument, TooLong, Full, BadNumber, QueryTooDeep, QueryTooLarge, BadText, NoMemory, BadSetting)
+}
+
+
+def refusal(number: int, column: int) -> Refused:
+    """The exception of a number that a call answered, which isn't 0."""
+    if number == BadQuery.number:
+        return BadQuery(column)
+    return BY_NUMBER[number]()

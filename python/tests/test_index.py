@@ -1,0 +1,125 @@
+"""Each call of the package, and each refusal by its name."""
+import doctest
+import threading
+import unittest
+
+import earlybird
+from earlybird import (
+    BadDocument,
+    BadLine,
+    BadNumber,
+    BadQuery,
+    BadSetting,
+    BadText,
+    Full,
+    Index,
+    LongLine,
+    QueryTooDeep,
+    QueryTooLarge,
+    Segment,
+    TooLong,
+)
+
+
+def load_tests(loader, tests, pattern):
+    tests.addTests(doctest.DocTestSuite(earlybird, optionflags=doctest.IGNORE_EXCEPTION_DETAIL))
+    tests.addTests(doctest.DocTestSuite(earlybird._index, optionflags=doctest.IGNORE_EXCEPTION_DETAIL))
+    return tests
+
+
+class Calls(unittest.TestCase):
+    def setUp(self):
+        self.index = Index(segments=2, docs=2, terms=1024)
+
+    def test_newest_first(self):
+        for id in (5, 3, 9):
+            self.index.add(id, "rain in Berlin")
+        answer = self.index.search("BERLIN", 2)
+        self.assertEqual(([9, 3], 3), (list(answer), answer.seen))
+        self.assertEqual((3, 2), (len(self.index), self.index.segments))
+
+    def test_full_changes_nothing(self):
+        self.assertEqual([(4, "full")], [(at, str(why)) for at, why in self.index.add_all((id, "rain") for id in range(5))])
+        self.assertEqual([3, 2, 1, 0], self.index.search("rain", 1000))
+        with self.assertRaises(Full):
+            self.index.add(6, "rain")
+        self.assertEqual(4, len(self.index))
+
+    def test_batch_of_queries(self):
+        self.index.add(7, "hello world")
+        first, second, third = self.index.search_all(["hello", "(hello", "rain"], 5)
+        self.assertEqual(([7], []), (first, third))
+        self.assertIsInstance(second, BadQuery)
+
+    def test_last_segment(self):
+        self.assertEqual(Segment(0, 0, 0, 0, 0, 0, 0), self.index.last_segment)
+        self.index.add(7, "a b a")
+        # two words of a letter each, of two words of text; each has a slice of the first pool
+        self.assertEqual(Segment(1, 2, 4, 2, 0, 0, 0), self.index.last_segment)
+
+    def test_lines(self):
+        self.index.add_line(b'{"id":7,"text":"hello"}')
+        self.assertEqual([7], self.index.search_line(b"?5 hello"))
+
+
+class Refusals(unittest.TestCase):
+    def setUp(self):
+        self.index = Index(segments=1, docs=8, terms=1024)
+
+    def test_column(self):
+        with self.assertRaises(BadQuery) as caught:
+            self.index.search("ü (train")
+        # after eight letters, of which one has two bytes
+        self.assertEqual((10, "bad query at 10"), (caught.exception.column, str(caught.exception)))
+
+    def test_by_name(self):
+        for why, call in [
+            (BadDocument, lambda: self.index.add(-1, "x")),
+            (BadDocument, lambda: self.index.add(2**64, "x")),
+            (BadDocument, lambda: self.index.add_line(b"{}")),
+            (BadLine, lambda: self.index.add_line(b"x")),
+            (LongLine, lambda: self.index.add_line(b"{" + 65536 * b" ")),
+            (TooLong, lambda: self.index.add(1, 1025 * "x ")),
+            (BadText, lambda: self.index.add(1, "\ud800")),
+            (TypeError, lambda: self.index.add(1, b"x")),
+            (TypeError, lambda: self.index.search(None)),
+            (BadNumber, lambda: self.index.search("x", 0)),
+            (BadNumber, lambda: self.index.search("x", 1001)),
+            (BadNumber, lambda: self.index.search("x", 2**32 + 1)),
+            (QueryTooDeep, lambda: self.index.search(17 * "(" + "x" + 17 * ")")),
+            (QueryTooLarge, lambda: self.index.search(65 * "x ")),
+            (BadSetting, lambda: Index(segments=0)),
+            (BadSetting, lambda: Index(terms=1000)),
+            (BadSetting, lambda: Index(segments=2**32 + 1)),
+        ]:
+            with self.subTest(why.__name__), self.assertRaises(why):
+                call()
+        self.assertEqual(0, len(self.index))
+
+
+class Threads(unittest.TestCase):
+    def test_one_adds_and_others_search(self):
+        index, found = Index(), [[] for _ in range(3)]
+
+        def search(seen):
+            while not seen or seen[-1] < 2000:
+                answer = index.search("rain", 3)
+                # all messages match, so the newest three are the last of those seen
+                self_check = list(range(answer.seen - 1, max(answer.seen - 4, -1), -1))
+                seen.append(answer.seen if answer == self_check else -1)
+                if seen[-1] < 0:
+                    return
+
+        threads = [threading.Thread(target=search, args=(it,)) for it in found]
+        for it in threads:
+            it.start()
+        for id in range(2000):
+            index.add(id, "rain")
+        for it in threads:
+            it.join()
+        for seen in found:
+            self.assertEqual((2000, sorted(seen)), (seen[-1], seen))
+
+
+if __name__ == "__main__":
+    unittest.main()

@@ -1,0 +1,23 @@
+# Completion of the command earlybird for fish; made by .ci/pages from .ci/made/commands.py.
+
+complete -c earlybird -f
+complete -c earlybird -n __fish_use_subcommand -a run -d 'read messages and queries, and print answers'
+complete -c earlybird -n __fish_use_subcommand -a feed -d 'the same, without end: the oldest messages go where there is no room'
+complete -c earlybird -n __fish_use_subcommand -a save -d 'read messages, and write an image of the index'
+complete -c earlybird -n __fish_use_subcommand -a load -d 'read an image, and then go on as run does'
+complete -c earlybird -n __fish_use_subcommand -a bench -d 'process DOCS messages (1 to 40000) that the number START makes, and print one line of figures'
+complete -c earlybird -n __fish_use_subcommand -a install -d 'install the program, its manual, completions, and the library for C'
+complete -c earlybird -n __fish_use_subcommand -a uninstall -d 'take away exactly what install brought'
+complete -c earlybird -n __fish_use_subcommand -a build -d 'prove and build the program from its sources, and compare it with dist/'
+complete -c earlybird -n __fish_use_subcommand -l help -d 'print the help'
+complete -c earlybird -n __fish_use_subcommand -l version -d 'print the version'
+complete -c earlybird -n '__fish_seen_subcommand_from run; and not __fish_contains_opt workers; and not __fish_contains_opt parts; and not __fish_contains_opt watch' -l overlap -d 'read lines side by side, and add messages while queries are answered: a query may see later ones'
+complete -c earlybird -n '__fish_seen_subcommand_from run; and not __fish_contains_opt overlap; and not __fish_contains_opt parts; and not __fish_contains_opt watch' -l workers -x -a '1 2 3 4 5 6 7 8 9 10 11 12 13 14 15 16' -d 'let N workers answer queries beside the messages that come in: a query may see later ones; N is 1 to 16'
+complete -c earlybird -n '__fish_seen_subcommand_from run; and not __fish_contains_opt overlap; and not __fish_contains_opt workers; and not __fish_contains_opt watch' -l parts -x -a '1 2 3 4 5 6 7 8 9 10 11 12 13 14 15 16' -d 'spread the messages over N indexes by their ids, which have to rise; N is 1 to 16'
+complete -c earlybird -n '__fish_seen_subcommand_from run; and not __fish_contains_opt overlap; and not __fish_contains_opt workers; and not __fish_contains_opt parts' -l watch -d 'take lines !N QUERY and !N, which set and remove a watch: each message prints the watches that it matches'
+complete -c earlybird -n '__fish_seen_subcommand_from run load' -l stats -d 'print the number of segments, and how many are converted, after the summary'
+complete -c earlybird -n '__fish_seen_subcommand_from run feed save' -l segments -x -a '1 2 3 6 9 12 15 20 32 64' -d 'segments of the index; N is 1 to 64, 12 by default'
+complete -c earlybird -n '__fish_seen_subcommand_from run feed save' -l docs -x -a '1024 2048 4096 8192 16384 32768 65536 131072 262144 524288 1048576 2097152 4194304 8388608 16777216' -d 'messages that a segment has room for; N is 1 to 16777216, 4096 by default'
+complete -c earlybird -n '__fish_seen_subcommand_from run feed save' -l terms -x -a '1024 2048 4096 8192 16384 32768 65536 131072 262144 524288 1048576' -d 'distinct words that a segment has room for, a power of two; N is 1024 to 1048576, 8192 by default'
+complete -c earlybird -n '__fish_seen_subcommand_from feed' -l keep -x -a '2 3 4 5 6 7 8 9 10 11 12 13 14 15 16 17 18 19 20 21 22 23 24 25 26 27 28 29 30 31 32 33 34 35 36 37 38 39 40 41 42 43 44 45 46 47 48 49 50 51 52 53 54 55 56 57 58 59 60 61 62 63 64' -d 'generations that are kept; N is 2 to 64, 4 by default'
+complete -c earlybird -n '__fish_seen_subcommand_from install uninstall' -l prefix -x -a '(__fish_complete_directories)' -d 'the folder to install into, or to uninstall from; ~/.local by default'
