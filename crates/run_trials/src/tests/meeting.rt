@@ -99,16 +99,18 @@ fn each_worker_is_a_thread_of_its_own(rt: HostRuntime) -> Result<(), Fail> {
     Ok(())
 }
 
-// The one worker holds the first query, until the clerk, who has no room for a further line, begins to answer the next. Before
-// the first pair that has no room stand 511 documents, and behind two queries the 4,094 lines that have room.
+// The one worker holds the first query, until the clerk, who has no room for a further line, begins to answer the next one. So
+// far 512 queries came with 511 documents between them; and two queries, 4,093 blank lines and the first of two documents.
 #[test]
 fn only_so_much_may_wait(rt: HostRuntime) -> Result<(), Fail> {
     let alloc = rt.alloc();
     let line = "run --workers 1 --segments 2 --terms 1024";
     let pairs = with_many(alloc, "", "?5 a\n{\"id\":1,\"text\":\"a\"}\n", 600)?;
     assert_eq!(rt; meet(&rt, alloc, line, pairs.as_str(), 2)?, Some(511));
-    let documents = with_many(alloc, "?5 a\n?5 a\n", DOCUMENT, 5000)?;
-    assert_eq!(rt; meet(&rt, alloc, line, documents.as_str(), 2)?, Some(4094));
+    let mut lines = with_many(alloc, "?5 a\n?5 a\n", "\n", 4093)?;
+    lines.push_str(DOCUMENT)?;
+    lines.push_str(DOCUMENT)?;
+    assert_eq!(rt; meet(&rt, alloc, line, lines.as_str(), 2)?, Some(1));
     Ok(())
 }
 
