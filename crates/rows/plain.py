@@ -121,9 +121,47 @@ def beside():
     return row("queries are answered while documents are added", by, 10000, given, wanted)
 
 
+def image(segments, docs, documents):
+    """The lines of an image, which say its bytes."""
+    lines = [r"EBIMAGE1\[%08X %08X 00000400]" % (segments, docs)]
+    for doc, words in documents:
+        terms = "".join(r"\[%04X]%s" % (len(term), term) for term in words)
+        lines.append(r"\[01 %016X %04X]" % (doc, len(words)) + terms)
+    return [line + "\\" for line in lines] + [r"\[00]" + "\\"]
+
+
+def saved_and_loaded(segments, docs):
+    """Three hundred lines, each tenth of them a query, are saved, and the image is loaded with lines behind it."""
+    documents, given = [], []
+    for number in range(300):
+        words = ["all", "w%d" % (number % 7)]
+        if number % 10 == 9:
+            given.append("?5 " + words[1])
+        else:
+            given.append(LINE % (number, " ".join(words)))
+            documents.append((number, words))
+    documents = documents[:segments * docs]
+    lines = image(segments, docs, documents)
+    name = "%d segments of %d documents" % (segments, docs)
+    words = "save --segments %d --docs %d --terms 1024" % (segments, docs)
+    rows = row(name + " are saved", [words], 512, given, [[line] for line in lines], 1)
+    last = (1000, ["all", "w3"])
+    behind = ["?4 w3", "?7 all w6", LINE % (last[0], " ".join(last[1])), "?2 w3"]
+    wanted = [[answer(1, documents, 4, word("w3"))], [answer(2, documents, 7, each(word("all"), word("w6")))]]
+    is_full = len(documents) == segments * docs
+    if is_full:
+        wanted.append(["3 refused: full"])
+    else:
+        documents.append(last)
+    wanted.append([answer(4, documents, 2, word("w3"))])
+    wanted.append(["end: documents %d, queries 3, refused %d" % (len(documents), is_full)])
+    return rows + row(name + " are loaded", ["load"], 512, lines + behind, wanted, int(is_full))
+
+
 def main():
     lines = ["# Written by plain.py: made inputs, and what a plain scan of the accepted documents answers."]
     lines += in_order() + in_parts(1) + in_parts(4) + in_parts(16) + beside()
+    lines += saved_and_loaded(3, 64) + saved_and_loaded(5, 64) + saved_and_loaded(64, 3)
     text = "\n".join(lines) + "\n"
     if sys.argv[1:] == ["--check"]:
         with open(FILE, encoding="utf-8") as file:
