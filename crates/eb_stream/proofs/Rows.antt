@@ -6,7 +6,8 @@ use Rattle.eb_base.specs.Setting.{Setting}
 use Rattle.eb_table.specs.Known.{Words}
 use Rattle.eb_stream.specs.declared.turn.Turn.{Turn}
 use Rattle.eb_stream.specs.declared.mail.Ticket.TheVariants.{Opening, At}
-use Rattle.eb_stream.specs.Turns.{PieceToken, FeedToken, WriterToken, turn, piece_of, generations_of, history_of, stretch_of, AreHeld, newest_docs, HasTaken, IsOfNewest, HasLapsed, known_of_newest, counted}
+use Rattle.eb_stream.specs.Turns.{PieceToken, FeedToken, WriterToken, turn, piece_of, generations_of, history_of}
+use Rattle.eb_stream.specs.Turns.{stretch_of, AreHeld, newest_docs, HasTaken, IsOfNewest, HasLapsed, known_of_newest, counted}
 use Rattle.eb_stream.specs.Mail.{book_of, KeepsMail}
 use Rattle.eb_stream.specs.Rules.{IsKept}
 

@@ -217,7 +217,8 @@ fn search_pieces<G: Gate, L: Ledger>(
     ensures query { query_of frame.new ≡ query_of frame.old }
     ensures k { k_of frame.new ≡ k_of frame.old }
     ensures ids { (docs : List Doc) (ts : List Turn) → AreHeld pieces.old docs ts
-        → ids_of frame.new ≡ answer (query_of frame.old) (k_of frame.old) (joined_generations (take (length pieces.old) (past_of (newest_docs pieces.new) ts))) }
+        → ids_of frame.new
+        ≡ answer (query_of frame.old) (k_of frame.old) (joined_generations (take (length pieces.old) (past_of (newest_docs pieces.new) ts))) }
 {
     let count = pieces[0].search(frame, gate, steps);
     search_older(pieces, frame, steps);

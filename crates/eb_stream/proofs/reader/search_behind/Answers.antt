@@ -31,6 +31,7 @@ loop-at-preserved g c =
       ids = λ docs ts h.
           let known = held_docs c.args.pieces.now docs ts c.loop-at.at c.index-pieces-at.result h (omega (arith, c.loop-at-test.true)) in
           let at = ap (λ (z : List PieceToken). (get_or z c.loop-at.at c.index-pieces-at.result).docs) inv.same ∙ known in
-          goes_older (query_of c.args.frame.now) (k_of c.args.frame.now) (past_of docs ts) c.loop-at.at (ids_of c.args.frame.now) (ids_of c.loop-at.frame) (ids_of c.search_known.new.frame) (inv.ids docs ts h)
+          goes_older (query_of c.args.frame.now) (k_of c.args.frame.now) (past_of docs ts) c.loop-at.at (ids_of c.args.frame.now) (ids_of c.loop-at.frame) (ids_of
+          c.search_known.new.frame) (inv.ids docs ts h)
           (c.search_known.ensures.ids ∙ (λ i. ids_of c.loop-at.frame ++ answer (inv.query i) (inv.k i - length (ids_of c.loop-at.frame)) (at i)));
     }

@@ -13,7 +13,15 @@ returns-clause-held c = λ docs ts h.
     (λ above. elim c.else-at-gt0.branch [
       | else-at-gt0-via-then-at-gt0+else-seen w ↦
           knows_all (get_or ps c.args.at d).docs x.docs c.args.reader.docs c.meet.ensures.this c.meet.ensures.longer
-          (omega (arith, w.if-seen.false, w.seen.ensures, w.seen-then-at-gt0.ensures, ap (λ (t : PieceToken). length t.docs) w.index-pieces-at.is, ap (λ (t : PieceToken). length t.docs) (any_default ps c.args.at w.index-pieces-at.result d c.requires.place)))
+          (omega (
+            arith,
+            w.if-seen.false,
+            w.seen.ensures,
+            w.seen-then-at-gt0.ensures,
+            ap (λ (t : PieceToken). length t.docs) w.index-pieces-at.is,
+            ap (λ (t : PieceToken). length
+                t.docs) (any_default ps c.args.at w.index-pieces-at.result d c.requires.place),
+          ))
       | else-at-gt0-via-else-at-gt0 w ↦ absurd (omega (arith, w.if-at-gt0.false, above))
     ])
 

@@ -34,7 +34,8 @@ returns-clause-met c = λ yes.
     let now : AreHeld new (newest_docs new) (reverse c.other.inside.trail.log) = c.take_in.ensures.held (newest_docs c.other.inside.pieces.items) (reverse c.other.inside.trail.log) held in
     let mine : PieceToken = piece_of c.reader-newest.result in
     let known : IsPrefix mine.docs (get_or new behind mine).docs = c.take_in.ensures.met mine yes in
-    let own : mine.docs ≡ newest_docs c.self.inside.pieces.items = ap (λ (t : PieceToken). t.docs) (c.reader-newest.ensures.reader ∙ c.index_mut.ensures.value) ∙ newest_get c.self.inside.pieces.items c.index_mut.result.now c.self.invariant.0 in
+    let own : mine.docs ≡ newest_docs c.self.inside.pieces.items = ap (λ (t : PieceToken). t.docs) (c.reader-newest.ensures.reader ∙ c.index_mut.ensures.value) ∙ newest_get
+    c.self.inside.pieces.items c.index_mut.result.now c.self.invariant.0 in
     let history = meets_history new mine.docs (newest_docs new) c.self.inside.trail.log pre.0 c.other.inside.trail.log behind mine pre.1 now at (omega (arith, lt, c.take_in.ensures.number)) known in
     rw (items, ← c.self.view_is)
     (subst (λ (z : List Doc). IsPrefix (history_of c.self.inside.trail.log z) (history_of c.other.inside.trail.log (newest_docs new))) own history)
@@ -52,10 +53,12 @@ returns-clause-lapsed c = λ no.
     let items = with_items_is c.other.inside.pieces new (c.take_in.ensures.number ∙ c.as_mut_slice.ensures.len) in
     let now : AreHeld new (newest_docs new) (reverse c.other.inside.trail.log) = c.take_in.ensures.held (newest_docs c.other.inside.pieces.items) (reverse c.other.inside.trail.log) held in
     let mine : PieceToken = piece_of c.reader-newest.result in
-    let own : mine.docs ≡ newest_docs c.self.inside.pieces.items = ap (λ (t : PieceToken). t.docs) (c.reader-newest.ensures.reader ∙ c.index_mut.ensures.value) ∙ newest_get c.self.inside.pieces.items c.index_mut.result.now c.self.invariant.0 in
+    let own : mine.docs ≡ newest_docs c.self.inside.pieces.items = ap (λ (t : PieceToken). t.docs) (c.reader-newest.ensures.reader ∙ c.index_mut.ensures.value) ∙ newest_get
+    c.self.inside.pieces.items c.index_mut.result.now c.self.invariant.0 in
     let few : length (get_or new behind mine).docs < length mine.docs =
     subst (λ (z : List PieceToken). length (get_or z behind mine).docs < length mine.docs) (sym (c.take_in.ensures.apart no)) (c.take_in.ensures.few mine no) in
     let less = lapsed_of new (newest_docs new) mine.docs c.self.inside.trail.log c.other.inside.trail.log behind mine now
     (omega (arith, c.count.ensures, c.count-2.ensures)) (omega (arith, lt, c.take_in.ensures.number)) few in
     rw (items, ← c.self.view_is)
-    (inr (inr (subst (λ (z : List Doc). length (get_or (generations_of c.other.inside.trail.log (newest_docs new)) (length c.other.inside.trail.log - length c.self.inside.trail.log) []) < length z) own less)))
+    (inr (inr (subst (λ (z : List Doc). length (get_or (generations_of c.other.inside.trail.log (newest_docs new)) (length c.other.inside.trail.log - length c.self.inside.trail.log)
+    []) < length z) own less)))

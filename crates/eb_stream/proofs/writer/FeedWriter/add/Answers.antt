@@ -12,4 +12,5 @@ returns-in-Ok-clause-history g c = λ history h.
     let d : Doc = c.args.document.now in
     let config = ap (λ (t : WriterToken). t.setting) c.self.view_is in
     let is : IsSetting old.setting = rw (sym config) c.words-words.ensures.setting in
-    inl (taken_on old.setting (generations_of old.feed.log old.feed.docs) _ history d is h c.in-Ok.ensures.taken ∙ ap (λ (σ : Setting). generations σ (history ++ d ∷ [])) (sym c.add_here_or_behind.ensures.setting.0))
+    inl (taken_on old.setting (generations_of old.feed.log old.feed.docs) _ history d is h c.in-Ok.ensures.taken ∙ ap (λ (σ : Setting). generations σ (history ++ d ∷ [])) (sym
+    c.add_here_or_behind.ensures.setting.0))
