@@ -248,7 +248,8 @@ class Groonga(Piped):
         form = {"word": "%s", "and": "%s %s", "or": "%s OR %s", "phrase": '\\"%s %s\\"', "not": "%s - %s"}.get(kind)
         if form is None:
             return None
-        how = "--match_columns text --output_columns _key --sort_keys -_key --limit %d" % WANTED
+        # (a word that stands nowhere is no part of others)
+        how = "--match_columns text --match_escalation_threshold -1 --output_columns _key --sort_keys -_key --limit %d" % WANTED
         return 'select Messages --query "%s" %s\n' % (form % tuple(words), how)
 
     def ids(self, line):
