@@ -1,5 +1,4 @@
 //! The tests, and a run in memory with a gate.
-ghost use Rattle.std.specs.Prelude.{◌≤◌};
 
 mod meeting;
 mod overlap;
