@@ -1,6 +1,7 @@
-/* Earlybird, an in-memory real-time search index, for C and what calls C.
+/* Earlybird, an in-memory real-time search index, for C and what calls C. There are two kinds of index: one in memory that
+ * the caller lends, here, and one that threads share, behind handles (below, from eb_open on).
  *
- * The caller keeps all memory of an index: its words, and a struct of numbers. eb_words says how many words a setting
+ * Of an index that is lent the caller keeps all memory: its words, and a struct of numbers. eb_words says how many words a setting
  * needs, and eb_begin makes an index of them. Then eb_add_line and eb_add_text add documents, and eb_ask_line and
  * eb_ask_text find the newest that match a query. Link libearlybird.a, which `./earlybird install` brings and pkg-config
  * knows as `earlybird`: its calls take memory from malloc while a line, a text or a query is read, and give it back before
@@ -46,7 +47,8 @@ enum {
     EB_NO_MEMORY = 12,       /* malloc gave none; it can come for any line and text */
     EB_BAD_SETTING = 13,     /* the three numbers are no setting */
     EB_BAD_SIZE = 14,        /* not as many words as the setting needs */
-    EB_NOT_BEGUN = 15        /* the numbers aren't those of an index that was begun, or the number of words isn't that of its setting */
+    EB_NOT_BEGUN = 15,       /* the numbers aren't those of an index that was begun, or the number of words isn't that of its setting */
+    EB_BAD_HANDLE = 16       /* a handle leads to nothing, or not to what the call takes; or one that is to be made isn't closed */
 };
 
 /* How much of a segment is used. It has room for `docs` documents, `terms` distinct terms, 4 * terms text words (1 and the
@@ -106,11 +108,65 @@ uint64_t eb_documents(const struct eb_index *index);
 uint32_t eb_segments(const struct eb_index *index);
 void eb_last_segment(const struct eb_index *index, struct eb_segment *last);
 
+/* ---- the index that threads share
+ *
+ * eb_open makes an index with its one writer and its one converter, and eb_reader makes readers, as many as there is memory
+ * for. Each lies behind a handle. Calls on different handles may run at the same time, on any threads: one thread adds by the
+ * writer while others search, each by a reader of its own, and another packs the segments that are closed. No call waits for
+ * another. eb_open takes the memory of the index, and it is given back when the last of its handles is closed, in whatever
+ * order. The other calls take memory while they read a line, a text or a query, and eb_reader takes some that its handle keeps.
+ *
+ * Proved of each call, whatever the others do meanwhile: what is stated beside it. A call tests what its handles lead to, and
+ * answers EB_BAD_HANDLE, with nothing changed, where that isn't what it takes: where a handle is closed, of another kind, or, of
+ * one that is to be made, not closed. Tested, and not proved: that a reader's next search finds what was added before it began.
+ *
+ * What the caller owes, and no call can test:
+ *  - a handle is all zero before the first call, and from then on only the calls write it. It may be moved between two calls,
+ *    and no copy that is left behind is used;
+ *  - one call at a time on each handle, closing it too. It goes to another thread by a lock, by a thread's start or end, or by
+ *    a sequentially consistent atomic;
+ *  - pointers as above; malloc, realloc and free come from one allocator; no call from a signal handler, or in the forked
+ *    child of a process with threads. */
+
+/* A handle. It is closed where it is all zero. */
+struct eb_handle {
+    void *at;
+    uint32_t kind; /* 0 closed, 1 a writer, 2 a reader, 3 a converter */
+};
+
+/* Opens an index of this setting, as eb_words has it, without a document. Both handles are closed before. EB_BAD_SETTING,
+ * EB_NO_MEMORY. */
+uint32_t eb_open(struct eb_handle *writer, struct eb_handle *converter, uint32_t segments, uint32_t docs, uint32_t terms);
+
+/* Add a document behind those that the writer added, as eb_add_line and eb_add_text do. Where it isn't EB_OK, the writer's
+ * history is as before. */
+uint32_t eb_writer_add_line(struct eb_handle *writer, const unsigned char *line, size_t line_len);
+uint32_t eb_writer_add_text(struct eb_handle *writer, uint64_t id, const unsigned char *text, size_t text_len);
+
+/* Makes a reader, which knows all that the writer added, or all that the other reader knows. EB_NO_MEMORY. */
+uint32_t eb_reader(struct eb_handle *from, struct eb_handle *reader);
+
+/* Answer over the first `answer->seen` documents of the writer, as eb_ask_line and eb_ask_text do. They begin with all that the
+ * reader knew, and it knows them from then on: so `seen` never falls, and a reader that was made after an add sees it. */
+uint32_t eb_reader_ask_line(struct eb_handle *reader, const unsigned char *line, size_t line_len, uint64_t *ids, size_t ids_len, struct eb_answer *answer);
+uint32_t eb_reader_ask_text(struct eb_handle *reader, uint32_t k, const unsigned char *text, size_t text_len, uint64_t *ids, size_t ids_len,
+                            struct eb_answer *answer);
+
+/* Tells how many documents a reader knows. */
+uint32_t eb_reader_seen(struct eb_handle *reader, uint64_t *seen);
+
+/* Packs the next segment that is closed, if there is one, and tells how many are packed then. No answer changes by it, and asks
+ * load less. */
+uint32_t eb_converter_convert(struct eb_handle *converter, uint32_t *converted);
+
+/* Closes a handle. A closed one stays closed. It may be made anew. */
+void eb_close(struct eb_handle *handle);
+
 /* The name of what a call answers. */
 static inline const char *eb_name(uint32_t number) {
     static const char *const names[] = {
         "ok", "bad line", "long line", "bad json", "bad document", "too long", "full", "bad number", "bad query",
-        "query too deep", "query too large", "bad text", "no memory", "bad setting", "bad size", "not begun",
+        "query too deep", "query too large", "bad text", "no memory", "bad setting", "bad size", "not begun", "bad handle",
     };
     return number < sizeof names / sizeof *names ? names[number] : "unknown";
 }

@@ -11,11 +11,15 @@
 //! # Ok::<(), earlybird::Refusal>(())
 //! ```
 //!
+//! [`shared`] has an index that threads share: one thread adds while others search.
+//!
 //! Safe types over the calls of `include/earlybird.h`. What these ask of their caller is kept here: the words and the numbers are
 //! private, belong together, and only the calls write them. What the calls answer is proved (`crates/eb_c`); these types are
 //! tested.
 
 use std::fmt;
+
+pub mod shared;
 
 /// The most ids of an answer.
 const MOST_IDS: usize = 1000;
@@ -122,6 +126,8 @@ pub enum Refusal {
     BadSize,
     /// The numbers aren't those of an index; no `Index` has this.
     NotBegun,
+    /// The handle is closed, or one of another kind; no type of this crate has this.
+    BadHandle,
 }
 
 impl Refusal {
@@ -143,7 +149,8 @@ impl Refusal {
             12 => Refusal::NoMemory,
             13 => Refusal::BadSetting,
             14 => Refusal::BadSize,
-            _ => Refusal::NotBegun,
+            15 => Refusal::NotBegun,
+            _ => Refusal::BadHandle,
         })
     }
 }
@@ -166,6 +173,7 @@ impl fmt::Display for Refusal {
             Refusal::BadSetting => "bad setting",
             Refusal::BadSize => "bad size",
             Refusal::NotBegun => "not begun",
+            Refusal::BadHandle => "bad handle",
         })
     }
 }

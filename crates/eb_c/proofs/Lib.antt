@@ -1,2 +1,4 @@
 pub mod Holdings
 pub mod Addings
+pub mod Sealing
+pub mod Sharings

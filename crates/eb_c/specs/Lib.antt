@@ -2,3 +2,5 @@ pub mod Numbers
 pub mod Holding
 pub mod Adding
 pub mod Asking
+pub mod Sealing
+pub mod Sharing

@@ -20,7 +20,7 @@ use std::marker::Brand;
 use std::sync::ledger::{Blank, Ledger};
 
 // What is told of a question that is refused.
-fn refused(column: u64) -> Answer
+pub(crate) fn refused(column: u64) -> Answer
     ensures { result ≡ nothing_told column }
 {
     Answer {
@@ -44,7 +44,7 @@ fn search_words<L: Ledger>(words: &[u64], config: Config, frame: &mut Frame, bla
 }
 
 // Writes the first of the ids, as many as there is room for.
-fn write_ids(found: &[u64], ids: &mut [u64])
+pub(crate) fn write_ids(found: &[u64], ids: &mut [u64])
     ensures { ids.new ≡ written found.now ids.old }
 {
     let number = found.len().min(ids.len());

@@ -1,25 +1,37 @@
-//! The index for programs in C, and in each language that calls C. The caller keeps all memory of an index: its words,
-//! and a struct of numbers. `include/earlybird.h` declares these calls, and says of each what it owes to them.
+//! The index for programs in C, and in each language that calls C: one in memory that the caller lends, and one that
+//! threads share, behind handles (`sharing`). `include/earlybird.h` declares the calls, and says of each what its caller
+//! owes.
 //!
-//! A call tests what it can: whether the numbers are those of an index that was begun, and whether there are as many
-//! words as its setting needs. What it can't test is its `requires`: that such numbers and words are as the last call
-//! left them. Then they are an index that has accepted some documents (`Holds` of `specs/`), and the clauses say what
-//! the call answers and leaves, for the documents of any such index.
+//! Of an index that is lent the caller keeps all memory: its words, and a struct of numbers. A call tests what it can:
+//! whether the numbers are those of an index that was begun, and whether there are as many words as its setting needs.
+//! What it can't test is its `requires`: that such numbers and words are as the last call left them. Then they are an
+//! index that has accepted some documents (`Holds` of `specs/`), and the clauses say what the call answers and leaves,
+//! for the documents of any such index.
 #![tactic(auto)]
 
 mod adding;
 mod asking;
 mod exports;
+mod held;
 mod index;
+mod parts;
 mod reading;
 mod refusal;
+mod sealed;
+mod sharing;
 
 pub use exports::{
     eb_add_line, eb_add_text, eb_ask_line, eb_ask_text, eb_begin, eb_documents, eb_last_segment,
     eb_segments, eb_words,
 };
+pub use held::{Held, HeldConverter, HeldReader, HeldWriter};
 pub use index::{Answer, Index, Segment};
 pub use refusal::Refusal;
+pub use sealed::Sealed;
+pub use sharing::{
+    Handle, eb_close, eb_converter_convert, eb_open, eb_reader, eb_reader_ask_line,
+    eb_reader_ask_text, eb_reader_seen, eb_writer_add_line, eb_writer_add_text,
+};
 
 #[cfg(test)]
 mod tests;

@@ -7,12 +7,15 @@
     >>> index.search("train -late", 10)
     Answer([101], seen=2)
 
+Where one thread adds while others search, `Writer` opens an index that they share.
+
 A message can be found as soon as `add` returns, and the newest matches come first. Queries are those of the program `earlybird`
 (docs/QUERIES.md), and so are the refusals, each an exception of its name.
 """
 from earlybird._index import Answer, Index, Segment
 from earlybird._refusals import (
     BadDocument,
+    BadHandle,
     BadJson,
     BadLine,
     BadNumber,
@@ -27,8 +30,9 @@ from earlybird._refusals import (
     Refused,
     TooLong,
 )
+from earlybird._shared import Converter, Reader, Writer
 
 __all__ = [
-    "Answer", "BadDocument", "BadJson", "BadLine", "BadNumber", "BadQuery", "BadSetting", "BadText", "Full", "Index", "LongLine",
-    "NoMemory", "QueryTooDeep", "QueryTooLarge", "Refused", "Segment", "TooLong",
+    "Answer", "BadDocument", "BadHandle", "BadJson", "BadLine", "BadNumber", "BadQuery", "BadSetting", "BadText", "Converter", "Full",
+    "Index", "LongLine", "NoMemory", "QueryTooDeep", "QueryTooLarge", "Reader", "Refused", "Segment", "TooLong", "Writer",
 ]

@@ -84,7 +84,7 @@ class Index:
         """
         if not (isinstance(id, int) and 0 <= id < 2**64):
             raise BadDocument()
-        data = _bytes_of(text)
+        data = bytes_of(text)
         with self._alone:
             self._done(self._calls.eb_add_text(*self._index, id, data, len(data)))
 
@@ -120,7 +120,7 @@ class Index:
         """
         if not (isinstance(k, int) and 0 <= k < 2**32):
             raise BadNumber()
-        data = _bytes_of(query)
+        data = bytes_of(query)
         with self._alone:
             return self._answer(self._calls.eb_ask_text(*self._index, k, data, len(data), *self._room))
 
@@ -176,7 +176,8 @@ class Index:
         return Segment(*(getattr(last, name) for name in Segment._fields))
 
 
-def _bytes_of(text: str) -> bytes:
+def bytes_of(text: str) -> bytes:
+    """The bytes of a text, or `BadText`."""
     if not isinstance(text, str):
         raise TypeError("a text is a str, not a %s" % type(text).__name__)
     try:

@@ -20,6 +20,10 @@ class Told(ctypes.Structure):
     _fields_ = [("seen", ctypes.c_uint64), ("count", ctypes.c_uint64), ("column", ctypes.c_uint64)]
 
 
+class Handle(ctypes.Structure):
+    _fields_ = [("at", ctypes.c_void_p), ("kind", ctypes.c_uint32)]
+
+
 def load() -> ctypes.CDLL:
     beside = os.path.join(os.path.dirname(os.path.abspath(__file__)), "libearlybird.so")
     library = ctypes.CDLL(os.environ.get("EARLYBIRD_LIBRARY") or beside)
@@ -36,6 +40,15 @@ def load() -> ctypes.CDLL:
         ("eb_documents", u64, [pointer]),
         ("eb_segments", u32, [pointer]),
         ("eb_last_segment", None, [pointer, pointer]),
+        ("eb_open", u32, [pointer, pointer, u32, u32, u32]),
+        ("eb_writer_add_line", u32, [pointer, *text]),
+        ("eb_writer_add_text", u32, [pointer, u64, *text]),
+        ("eb_reader", u32, [pointer, pointer]),
+        ("eb_reader_ask_line", u32, [pointer, *text, *ids]),
+        ("eb_reader_ask_text", u32, [pointer, u32, *text, *ids]),
+        ("eb_reader_seen", u32, [pointer, pointer]),
+        ("eb_converter_convert", u32, [pointer, pointer]),
+        ("eb_close", None, [pointer]),
     ]:
         call = getattr(library, name)
         call.restype, call.argtypes = result, arguments

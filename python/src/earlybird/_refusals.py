@@ -98,9 +98,15 @@ class BadSetting(Refused, ValueError):
     number, name = 13, "bad setting"
 
 
+class BadHandle(Refused, ValueError):
+    """The writer, reader or converter is closed."""
+
+    number, name = 16, "bad handle"
+
+
 BY_NUMBER: Dict[int, Type[Refused]] = {
     it.number: it
-    for it in (BadLine, LongLine, BadJson, BadDocument, TooLong, Full, BadNumber, QueryTooDeep, QueryTooLarge, BadText, NoMemory, BadSetting)
+    for it in (BadLine, LongLine, BadJson, BadDocument, TooLong, Full, BadNumber, QueryTooDeep, QueryTooLarge, BadText, NoMemory, BadSetting, BadHandle)
 }
 
 

@@ -1,0 +1,22 @@
+-- What a handle leads to that was taken.
+use Rattle.std.proofs.Common.{◌≡◌, ◌⊎◌, sym, ap, ◌∙◌}
+use Rattle.std.specs.Prelude.{Option, Some, None}
+use mathlib.Core.Logic.{inl, inr}
+use Rattle.eb_engine.specs.Tokens.{HistoryToken}
+use Rattle.eb_c.specs.declared.held.Held.{Held}
+use Rattle.eb_c.specs.declared.held.Held.TheVariants.{Writer, Reader}
+use Rattle.eb_c.specs.Sharing.{LeadsToWriter, LeadsToReader}
+
+abbrev or : {A : Type 0} → A → Option A → A
+or d None = d
+or d (Some x) = x
+
+some_injective : {A : Type 0} {x y : A} → Some x ≡ Some y → x ≡ y
+some_injective {x = x} p = ap (or x) p
+
+pub leads_reader : {h : Option Held} {v : Held} {r : HistoryToken} → h ≡ Some v → h ≡ Some (Reader r) → v ≡ Reader r
+leads_reader e x = some_injective (sym e ∙ x)
+
+pub leads : {h : Option Held} {v : Held} {w : HistoryToken} → h ≡ Some v → (LeadsToWriter h w ⊎ LeadsToReader h w) → (v ≡ Writer w) ⊎ (v ≡ Reader w)
+leads e (inl x) = inl (some_injective (sym e ∙ x))
+leads e (inr x) = inr (some_injective (sym e ∙ x))

@@ -1,0 +1,28 @@
+-- What a handle of a shared index leads to.
+use Rattle.std.specs.Prelude.{◌≡◌, ℕ, Option, Some, None}
+use Rattle.eb_engine.specs.Tokens.{HistoryToken, ConverterToken}
+use Rattle.eb_c.specs.declared.held.Held.{Held}
+use Rattle.eb_c.specs.declared.held.Held.TheVariants.{Writer, Reader, Converter}
+
+-- 0: nothing; 1: a writer; 2: a reader; 3: a converter
+abbrev pub kind_of : Option Held → ℕ
+kind_of None = 0
+kind_of (Some (Writer w)) = 1
+kind_of (Some (Reader r)) = 2
+kind_of (Some (Converter c)) = 3
+
+-- it is closed
+abbrev pub LeadsNowhere : Option Held → Type 0
+LeadsNowhere h = h ≡ None
+
+-- it leads to the writer of this index, with this history
+abbrev pub LeadsToWriter : Option Held → HistoryToken → Type 0
+LeadsToWriter h w = h ≡ Some (Writer w)
+
+-- it leads to a reader of this index, which knows these documents
+abbrev pub LeadsToReader : Option Held → HistoryToken → Type 0
+LeadsToReader h r = h ≡ Some (Reader r)
+
+-- it leads to the converter of this index, which converted so many segments
+abbrev pub LeadsToConverter : Option Held → ConverterToken → Type 0
+LeadsToConverter h c = h ≡ Some (Converter c)

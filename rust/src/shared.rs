@@ -1,0 +1,187 @@
+//! The index that threads share: one [`Writer`] adds while any number of [`Reader`]s search, each on a thread of its own, and a
+//! [`Converter`] packs the segments that are closed. No call waits for another.
+
+use crate::{Answer, Refusal, Told, MOST_IDS};
+use std::cell::UnsafeCell;
+use std::ffi::c_void;
+use std::ptr;
+
+#[repr(C)]
+struct Handle {
+    at: *mut c_void,
+    kind: u32,
+}
+
+extern "C" {
+    fn eb_open(writer: *mut Handle, converter: *mut Handle, segments: u32, docs: u32, terms: u32) -> u32;
+    fn eb_writer_add_line(writer: *mut Handle, line: *const u8, line_len: usize) -> u32;
+    fn eb_writer_add_text(writer: *mut Handle, id: u64, text: *const u8, text_len: usize) -> u32;
+    fn eb_reader(from: *mut Handle, reader: *mut Handle) -> u32;
+    fn eb_reader_ask_line(reader: *mut Handle, line: *const u8, line_len: usize, ids: *mut u64, ids_len: usize, answer: *mut Told) -> u32;
+    fn eb_reader_ask_text(
+        reader: *mut Handle, k: u32, text: *const u8, text_len: usize, ids: *mut u64, ids_len: usize, answer: *mut Told,
+    ) -> u32;
+    fn eb_reader_seen(reader: *mut Handle, seen: *mut u64) -> u32;
+    fn eb_converter_convert(converter: *mut Handle, converted: *mut u32) -> u32;
+    fn eb_close(handle: *mut Handle);
+}
+
+/// A handle. One thread at a time can reach it, since it isn't `Sync`; and no call calls back, so one call at a time has it.
+struct Side(UnsafeCell<Handle>);
+
+// SAFETY: what a handle leads to may go to another thread, which the library proves.
+unsafe impl Send for Side {}
+
+impl Side {
+    fn closed() -> Side {
+        Side(UnsafeCell::new(Handle { at: ptr::null_mut(), kind: 0 }))
+    }
+
+    fn at(&self) -> *mut Handle {
+        self.0.get()
+    }
+
+    fn reader(&self) -> Result<Reader, Refusal> {
+        let made = Side::closed();
+        // SAFETY: two handles that no other call has.
+        Refusal::of(unsafe { eb_reader(self.at(), made.at()) }, 0)?;
+        Ok(Reader { side: made, ids: vec![0; MOST_IDS] })
+    }
+}
+
+impl Drop for Side {
+    fn drop(&mut self) {
+        // SAFETY: a handle that no other call has, and that is used no more.
+        unsafe { eb_close(self.at()) }
+    }
+}
+
+/// Opens an index of so many segments, each with room for so many documents and distinct terms, with its one writer and its one
+/// converter. Takes all memory that the index will ever take.
+///
+/// ```
+/// let (mut writer, _converter) = earlybird::shared::open(12, 4096, 8192)?;
+/// let mut reader = writer.reader()?;
+/// writer.add(7, "Night train to Berlin")?;
+/// assert_eq!(reader.search(10, "train")?.ids, [7]);
+/// # Ok::<(), earlybird::Refusal>(())
+/// ```
+pub fn open(segments: u32, docs: u32, terms: u32) -> Result<(Writer, Converter), Refusal> {
+    let (writer, converter) = (Side::closed(), Side::closed());
+    // SAFETY: two handles that no other call has.
+    Refusal::of(unsafe { eb_open(writer.at(), converter.at(), segments, docs, terms) }, 0)?;
+    Ok((Writer { side: writer }, Converter { side: converter }))
+}
+
+/// The one writer of an index. It may go to another thread, and can't be cloned.
+///
+/// ```
+/// let (mut writer, _converter) = earlybird::shared::open(12, 4096, 8192)?;
+/// std::thread::spawn(move || writer.add(7, "Night train")).join().unwrap()?;
+/// # Ok::<(), earlybird::Refusal>(())
+/// ```
+pub struct Writer {
+    side: Side,
+}
+
+impl Writer {
+    /// Adds the message of an id and a text, after those before it.
+    pub fn add(&mut self, id: u64, text: &str) -> Result<(), Refusal> {
+        // SAFETY: a handle that no other call has, and the bytes of a text.
+        Refusal::of(unsafe { eb_writer_add_text(self.side.at(), id, text.as_ptr(), text.len()) }, 0)
+    }
+
+    /// Adds the message of a line of JSON, without its end.
+    pub fn add_line(&mut self, line: &[u8]) -> Result<(), Refusal> {
+        // SAFETY: a handle that no other call has, and the bytes of a line.
+        Refusal::of(unsafe { eb_writer_add_line(self.side.at(), line.as_ptr(), line.len()) }, 0)
+    }
+
+    /// A reader that knows all that was added.
+    pub fn reader(&mut self) -> Result<Reader, Refusal> {
+        self.side.reader()
+    }
+}
+
+/// A reader of an index. It may go to another thread; for a further thread clone it, or call [`Reader::try_clone`].
+///
+/// ```
+/// let (mut writer, _converter) = earlybird::shared::open(12, 4096, 8192)?;
+/// let reader = writer.reader()?;
+/// for _ in 0..3 {
+///     let mut reader = reader.clone();
+///     std::thread::spawn(move || reader.search(10, "train"));
+/// }
+/// # Ok::<(), earlybird::Refusal>(())
+/// ```
+pub struct Reader {
+    side: Side,
+    ids: Vec<u64>,
+}
+
+impl Reader {
+    /// Answers a query of which the newest `k` matches are wanted, 1 to 1,000, over the first `seen` documents of the writer: all
+    /// that were accepted when the call counted them. They begin with all that this reader knew, and it knows them from then on.
+    pub fn search(&mut self, k: u32, query: &str) -> Result<Answer, Refusal> {
+        let mut told = Told::default();
+        // SAFETY: a handle that no other call has, the bytes of a query, and the room for the ids.
+        let done = unsafe {
+            eb_reader_ask_text(self.side.at(), k, query.as_ptr(), query.len(), self.ids.as_mut_ptr(), self.ids.len(), &mut told)
+        };
+        self.answer(done, told)
+    }
+
+    /// Answers a query line, without its end, as [`Reader::search`] does.
+    pub fn search_line(&mut self, line: &[u8]) -> Result<Answer, Refusal> {
+        let mut told = Told::default();
+        // SAFETY: a handle that no other call has, the bytes of a line, and the room for the ids.
+        let done = unsafe { eb_reader_ask_line(self.side.at(), line.as_ptr(), line.len(), self.ids.as_mut_ptr(), self.ids.len(), &mut told) };
+        self.answer(done, told)
+    }
+
+    fn answer(&self, done: u32, told: Told) -> Result<Answer, Refusal> {
+        Refusal::of(done, told.column)?;
+        Ok(Answer { seen: told.seen, ids: self.ids[..told.count as usize].to_vec() })
+    }
+
+    /// How many documents it knows.
+    pub fn seen(&self) -> u64 {
+        let mut seen = 0;
+        // SAFETY: a handle that no other call has, and a number. It is a reader's, so the call isn't refused.
+        unsafe { eb_reader_seen(self.side.at(), &mut seen) };
+        seen
+    }
+
+    /// A reader that knows what this one knows.
+    pub fn try_clone(&self) -> Result<Reader, Refusal> {
+        self.side.reader()
+    }
+}
+
+impl Clone for Reader {
+    /// As [`Reader::try_clone`]; panics where there is no memory.
+    fn clone(&self) -> Reader {
+        self.try_clone().expect("memory for a reader")
+    }
+}
+
+/// The one converter of an index. It may go to another thread.
+///
+/// ```
+/// let (_writer, mut converter) = earlybird::shared::open(12, 4096, 8192)?;
+/// assert_eq!(converter.convert()?, 0);
+/// # Ok::<(), earlybird::Refusal>(())
+/// ```
+pub struct Converter {
+    side: Side,
+}
+
+impl Converter {
+    /// Packs the next segment that is closed, if there is one, and tells how many are packed then. No answer changes by it.
+    pub fn convert(&mut self) -> Result<u32, Refusal> {
+        let mut converted = 0;
+        // SAFETY: a handle that no other call has, and a number.
+        Refusal::of(unsafe { eb_converter_convert(self.side.at(), &mut converted) }, 0)?;
+        Ok(converted)
+    }
+}
