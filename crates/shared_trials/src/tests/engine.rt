@@ -1,5 +1,4 @@
 //! Indexes that threads share.
 mod beside;
-mod conversions;
 mod holding;
 mod made;
