@@ -43,11 +43,7 @@ fn convert(pen: &mut RecordingPen) -> Option<Converted>
 }
 
 // What so many calls of the converter do.
-pub(super) fn convert_all(
-    alloc: Global,
-    pen: &mut RecordingPen,
-    times: usize,
-) -> Result<Vec<Converted>, Fail>
+fn convert_all(alloc: Global, pen: &mut RecordingPen, times: usize) -> Result<Vec<Converted>, Fail>
     requires { (m : Moment) × IsRecord pen.old m }
     ensures { (m : Moment) × IsRecord pen.new m }
 {
@@ -109,11 +105,7 @@ fn what_is_not_closed_is_not_converted(rt: HostRuntime) -> Result<(), Fail> {
 }
 
 // Opens the packed list of a term in segment 0, if the segment is converted and has the term.
-pub(super) fn open<L: Ledger>(
-    pen: &mut RecordingPen,
-    term: &Term,
-    steps: &mut Steps<L>,
-) -> Option<PackedList>
+fn open<L: Ledger>(pen: &mut RecordingPen, term: &Term, steps: &mut Steps<L>) -> Option<PackedList>
     requires { (m : Moment) × IsRecord pen.old m }
     ensures list { MatchOption result (Unit {0}) (λ list. (m : Moment) × (s : ℕ) × (t : List ℕ) × (rest : List ℕ) × (budget : ℕ)
         × IsRecord pen.old m × ListStands m s t list rest budget) }
@@ -150,7 +142,7 @@ fn ask<L: Ledger>(
 }
 
 // What `next` gives after a seek to each of these, each time from the same list.
-pub(super) fn seek_each<L: Ledger>(
+fn seek_each<L: Ledger>(
     alloc: Global,
     list: PackedList,
     pen: &mut RecordingPen,
