@@ -1,4 +1,4 @@
-//! The program `earlybird`: hands the words of its command line to `run`, or those behind the word `feed` to `run_feed`, with
+//! The program `earlybird`: hands the words of its command line to `run`, or those after the word `feed` to `run_feed`, with
 //! standard input, standard output and standard error.
 #![tactic(auto)]
 

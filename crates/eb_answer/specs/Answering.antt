@@ -21,7 +21,7 @@ pub record HasAnswered {G S W : Type 0} (other : List ℕ → Reading → Type 0
   pub short : s.number ≤ 2 ^ 40 + 1
   pub printed : so_far ≡ body rules readings
 
--- a line of this reading was taken, and what it prints was put behind the text
+-- a line of this reading was taken, and what it prints was put after the text
 abbrev pub TakesLine : {G S W : Type 0} → (List ℕ → Reading → Type 0) → (S → Rules W → List Doc → W → Type 0) → Answering G S → Answering G S → List ℕ → List ℕ → Reading → Type 0
 TakesLine other holds old new text_old text_new r = (l : Line) → ReadsWith other l r → WorksOnGiven (HasAnswered other holds) old new text_old text_new l
 

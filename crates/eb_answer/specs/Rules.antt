@@ -14,8 +14,8 @@ use Rattle.eb_lines.specs.Reads.{ReadsByKind}
 use Rattle.eb_lines.specs.Text.{answer_line, refusal_line, watch_line, summary_with}
 
 -- by which rules a store takes lines, where W is what it holds beside documents: what it holds before the first line; why it
--- refuses a document behind those that it has accepted, if it does, and which watches it tells else; over which of them a query is
--- answered; why it refuses a watch line, and what it holds behind one that it doesn't refuse; and what stands behind the counts of the summary
+-- refuses a document after those that it has accepted, if it does, and which watches it tells else; over which of them a query is
+-- answered; why it refuses a watch line, and what it holds after one that it doesn't refuse; and what stands after the counts of the summary
 pub record Rules (W : Type 0) : Type 0 where
   pub start : List Doc
   pub watches : W
@@ -35,7 +35,7 @@ abbrev pub watch_outcome : ℕ → Option Tree → Option Refusal → Reading
 watch_outcome n q None = watch n q
 watch_outcome n q (Some r) = refused r
 
--- what a line comes to behind these
+-- what a line comes to after these
 abbrev pub comes : {W : Type 0} → Rules W → List Doc → W → Reading → Reading
 comes rules docs ws blank = blank
 comes rules docs ws (document d) = document_outcome d (rules.refusal docs d)
@@ -43,7 +43,7 @@ comes rules docs ws (query k q) = query k q
 comes rules docs ws (refused r) = refused r
 comes rules docs ws (watch n q) = watch_outcome n q (rules.watch_refusal ws n q)
 
--- what is held beside documents behind a line that came to this
+-- what is held beside documents after a line that came to this
 abbrev pub watches_after : {W : Type 0} → Rules W → W → Reading → W
 watches_after rules ws blank = ws
 watches_after rules ws (document d) = ws
@@ -55,7 +55,7 @@ unfoldable pub watches_from : {W : Type 0} → Rules W → W → List Reading �
 watches_from rules ws [] = ws
 watches_from rules ws (r ∷ rs) = watches_from rules (watches_after rules ws r) rs
 
--- what the lines come to, in order, behind these
+-- what the lines come to, in order, after these
 unfoldable pub come_behind : {W : Type 0} → Rules W → List Doc → W → List Reading → List Reading
 come_behind rules docs ws [] = []
 come_behind rules docs ws (r ∷ rs) =
@@ -76,14 +76,14 @@ ReadsWith other long_line r = r ≡ refused LongLine
 abbrev pub AreRead : {W : Type 0} → (List ℕ → Reading → Type 0) → Rules W → List Line → List Reading → Type 0
 AreRead other rules lines rs = (raw : List Reading) × AllZip (ReadsWith other) lines raw × (rs ≡ come_behind rules rules.start rules.watches raw)
 
--- what a store holds behind lines that came to these
+-- what a store holds after lines that came to these
 abbrev pub held_behind : {W : Type 0} → Rules W → List Reading → List Doc
 held_behind rules rs = rules.start ++ accepted rs
 
 abbrev pub watches_behind : {W : Type 0} → Rules W → List Reading → W
 watches_behind rules rs = watches_from rules rules.watches rs
 
--- what line `number` prints behind these
+-- what line `number` prints after these
 abbrev pub says : {W : Type 0} → Rules W → ℕ → List Doc → W → Reading → List ℕ
 says rules number docs ws blank = []
 says rules number docs ws (document d) = watch_line number (rules.tells ws d)
@@ -91,7 +91,7 @@ says rules number docs ws (query k q) = answer_line number (length docs) (answer
 says rules number docs ws (refused r) = refusal_line number r
 says rules number docs ws (watch n q) = []
 
--- what the lines from line j + 1 on print, behind these
+-- what the lines from line j + 1 on print, after these
 unfoldable pub body_from : {W : Type 0} → Rules W → ℕ → List Doc → W → List Reading → List ℕ
 body_from rules j docs ws [] = []
 body_from rules j docs ws (r ∷ rs) = says rules (j + 1) docs ws r ++ body_from rules (j + 1) (docs ++ documents_in r) (watches_after rules ws r) rs
@@ -99,7 +99,7 @@ body_from rules j docs ws (r ∷ rs) = says rules (j + 1) docs ws r ++ body_from
 abbrev pub body : {W : Type 0} → Rules W → List Reading → List ℕ
 body rules rs = body_from rules 0 rules.start rules.watches rs
 
--- the summary, with what stands behind the counts
+-- the summary, with what stands after the counts
 abbrev pub end_of : {W : Type 0} → Rules W → List Reading → List ℕ
 end_of rules rs = summary_with (length (held_behind rules rs)) (queries rs) (refusals rs) (rules.tail (held_behind rules rs))
 

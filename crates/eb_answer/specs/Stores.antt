@@ -26,7 +26,7 @@ Places {P} {W} holds old new d r = (rules : Rules W) (docs : List Doc) (ws : W) 
 abbrev pub Tells : {P W : Type 0} → (P → Rules W → List Doc → W → Type 0) → P → Doc → List ℕ → Type 0
 Tells {P} {W} holds s d ns = (rules : Rules W) (docs : List Doc) (ws : W) → holds s rules docs ws → ns ≡ rules.tells ws d
 
--- the answer of line `number` was put behind the text
+-- the answer of line `number` was put after the text
 abbrev pub PutsAnswer : {P W : Type 0} → (P → Rules W → List Doc → W → Type 0) → P → P → ℕ → ℕ → Tree → List ℕ → List ℕ → Type 0
 PutsAnswer {P} {W} holds old new number k q text_old text_new = (rules : Rules W) (docs : List Doc) (ws : W) → holds old rules docs ws → length docs ≤ length rules.start + 2 ^ 41
     → holds new rules docs ws × (text_new ≡ text_old ++ answer_line number (length docs) (answer q k (rules.sees docs)))

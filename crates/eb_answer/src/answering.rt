@@ -19,7 +19,7 @@ use eb_lines::{
 };
 use std::alloc::Global;
 
-// A run over a store: it works off each line at once.
+// A run over a store: it processes each line at once.
 #[derive(Drop)]
 pub(crate) struct Answering<'a, G, S> {
     alloc: Global,

@@ -10,8 +10,8 @@ use eb_io::{Sink, Source};
 use eb_lines::{Status, pass_lines};
 use std::alloc::Global;
 
-/// Works off the lines that the source gives, in order, over a store that holds what it holds at first, and prints answers,
-/// refusals and the summary on `out`. Lines are numbered from 1. A query is answered behind all lines before it. What is
+/// Processes the lines that the source gives, in order, over a store that holds what it holds at first, and prints answers,
+/// refusals and the summary on `out`. Lines are numbered from 1. A query is answered after all lines before it. What is
 /// printed goes out in one write before the source is asked again, or once 64 KiB are gathered.
 pub fn answer_lines<P: Store + Drop, S: Source, K: Sink, G: Gate>(
     alloc: Global,

@@ -22,7 +22,7 @@ pub trait Store {
     // It holds these, and goes by these rules.
     ghost holds: { Self → Rules Watches → List Doc → Watches → Type 0 };
 
-    /// Adds a document behind the others, or gives why it is refused, and holds what it held. Takes no memory.
+    /// Adds a document after the others, or gives why it is refused, and holds what it held. Takes no memory.
     fn place<G: Gate>(&mut self, document: &Document, gate: &G) -> Option<Refusal>
         requires { IsHolding holds self.old }
         ensures { Places holds self.old self.new document.now result };
@@ -41,7 +41,7 @@ pub trait Store {
         ensures ok { IfOk result (λ refusal. (r : Reading) × other bytes.now r × TakesOther holds self.old self.new r refusal) }
         ensures err { OnErr result (Keeps holds self.old self.new) };
 
-    /// Answers the query of line `number`: puts the ids of the newest `k` matches behind the text. Where memory doesn't
+    /// Answers the query of line `number`: puts the ids of the newest `k` matches after the text. Where memory doesn't
     /// suffice, nothing is done.
     fn answer<G: Gate>(
         &mut self,
@@ -63,7 +63,7 @@ pub trait Store {
         ensures { (rules : Rules Watches) (docs : List Doc) (ws : Watches) → holds self.now rules docs ws → length docs ≤ length rules.start + 2 ^ 41
             → result ≡ length docs };
 
-    /// Ends an input, and gives what stands behind the counts of its summary.
+    /// Ends an input, and gives what stands after the counts of its summary.
     fn close(&mut self, alloc: Global) -> Result<String, NoMemory>
         requires { IsHolding holds self.old }
         ensures { IfOk result (λ tail. (rules : Rules Watches) (docs : List Doc) (ws : Watches)

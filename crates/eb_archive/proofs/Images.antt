@@ -115,7 +115,7 @@ module _ (σ : Setting) (docs : List Doc) (d : Doc) (fs : IsSetting σ) (fd : Al
   pub none_part : HasNone IsImage (read_bytes σ docs ++ document_part d)
   none_part = subst (HasNone IsImage) (sym read_push) (none_read σ (docs ++ d ∷ []) fs all_push)
 
-  -- the document has no room behind the others
+  -- the document has no room after the others
   pub bad_room : (left : Option (List ℕ)) → has_room σ docs d ≡ false → IsBad IsImage (read_bytes σ docs ++ document_part d) left
   bad_room left full = record {
     none = none_part;

@@ -1,4 +1,4 @@
--- What `load` makes of an image and of the lines behind it.
+-- What `load` makes of an image and of the lines after it.
 use Rattle.std.specs.Prelude.{◌≡◌, ℕ, ◌+◌, ◌⊎◌, Bool, List, [], ◌++◌, length, Option}
 use Rattle.eb_answer.specs.Rules.{Rules, is_bad, IsBody, IsText, HasRefusal, HasNoRefusal}
 use Rattle.eb_base.specs.Document.{Doc}
@@ -83,7 +83,7 @@ pub record IsRead (stats : Bool) (status : Status) (left_old left_new printed_ol
 abbrev pub EndsLoad : Bool → Status → Option (List ℕ) → Option (List ℕ) → Option (List ℕ) → Option (List ℕ) → Type 0
 EndsLoad stats status l0 l1 p0 p1 = IsUnread status l0 l1 p0 p1 ⊎ IsRead stats status l0 l1 p0 p1
 
--- what a load that ends so has printed, of these bytes of lines behind the image of the loaded documents, of which this is
+-- what a load that ends so has printed, of these bytes of lines after the image of the loaded documents, of which this is
 -- left: nothing where the image wasn't read to its end, for a read fault or want of memory
 abbrev pub WroteLoaded : Loaded → Status → List ℕ → Option (List ℕ) → List ℕ → Type 0
 WroteLoaded a status bytes left printed = (((status ≡ ReadFault) ⊎ (status ≡ NoMemory)) × (printed ≡ []))

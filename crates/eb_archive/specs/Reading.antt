@@ -41,7 +41,7 @@ pub record IsReadingStopped (f : ImageFault) (first left : Option (List ℕ)) : 
   pub taken : first ≡ after bytes left
   pub why : WhyUnread (status_of f) bytes left
 
--- what comes behind these documents: one more, or the end, or a fault
+-- what comes after these documents: one more, or the end, or a fault
 abbrev pub ComesNext : {R : Type 0} → Result (Option R) ImageFault → Indexed → Setting → List Doc → Option (List ℕ) → Option (List ℕ) → Type 0
 ComesNext (Ok (Some r)) s σ docs first left = (d : Doc) × HasRead s σ (docs ++ d ∷ []) first left
 ComesNext (Ok None) s σ docs first left = IsFilled s first left

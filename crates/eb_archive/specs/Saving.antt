@@ -26,6 +26,6 @@ pub record HasSaved {G : Type 0} (s : Saving G) (σ : Setting) (given : List Lin
   pub few : s.refused ≤ s.number
   pub written : so_far ≡ head_of σ ++ flat_map document_part (accepted readings)
 
--- a line of this reading was taken, and its part was put behind the text
+-- a line of this reading was taken, and its part was put after the text
 abbrev pub TakesLine : {G : Type 0} → Saving G → Saving G → List ℕ → List ℕ → Reading → Type 0
 TakesLine old new text_old text_new r = (l : Line) → ReadsToSave l r → WorksOnGiven HasSaved old new text_old text_new l

@@ -37,7 +37,7 @@ fn take_part<S: Source, G: Gate>(
     }
 }
 
-// Reads all parts behind a head into the index, which is empty.
+// Reads all parts after a head into the index, which is empty.
 fn read_parts<S: Source, G: Gate>(
     alloc: Global,
     store: &mut Indexed,

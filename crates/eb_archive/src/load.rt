@@ -18,7 +18,7 @@ use eb_io::{Sink, Source};
 use eb_lines::Status;
 use std::alloc::Global;
 
-/// Loads an image and works off the lines behind it, which come from the same source: reads the image, exactly its bytes,
+/// Loads an image and processes the lines after it, which come from the same source: reads the image, exactly its bytes,
 /// into an index of its setting, and then document lines and query lines in order; prints answers, refusals and the
 /// summary on `out`. Lines are numbered from 1. A query sees the documents of the image and those of the lines before it.
 /// With `stats` the line of the segments follows the summary.
@@ -33,7 +33,7 @@ pub fn load_lines<S: Source, K: Sink, G: Gate>(
     out: &mut K,
     gate: &G,
 ) -> Status
-    // No image was read and nothing was printed; or an image was read, and the lines behind it as the status says.
+    // No image was read and nothing was printed; or an image was read, and the lines after it as the status says.
     ensures ends { EndsLoad stats result (S.left source.old) (S.left source.new) (K.taken out.old) (K.taken out.new) }
     // What was read begins no image, and nothing was printed.
     ensures bad_image { result ≡ Status.BadImage → (K.taken out.new ≡ K.taken out.old)
@@ -50,7 +50,7 @@ pub fn load_lines<S: Source, K: Sink, G: Gate>(
     // Faults come only from outside.
     ensures read_fault { result ≡ Status.ReadFault → HasRisen (S.faults source.old) (S.faults source.new) }
     ensures write_fault { result ≡ Status.WriteFault → HasRisen (K.faults out.old) (K.faults out.new) }
-    // An image, and then lines with an end in time, are worked off where no fault comes.
+    // An image, and then lines with an end in time, are processed where no fault comes.
     ensures completes { (HasRisen (S.faults source.old) (S.faults source.new) → ⊥) → (HasRisen (K.faults out.old) (K.faults out.new) → ⊥)
         → (σ : Setting) (docs : List Doc) (rest : List ℕ) → IsSetting σ → IsLawful σ docs → S.left source.old ≡ Some (image_of σ docs ++ rest)
         → length rest < longest_input → IsWorkedOff result }

@@ -26,7 +26,7 @@ pub(crate) struct Saving<'a, G> {
     refused: u64,
 }
 
-// Puts the bytes behind the text, which has room for them. Takes no memory.
+// Puts the bytes after the text, which has room for them. Takes no memory.
 fn put(text: &mut Vec<u8>, bytes: &[u8])
     requires { vec_len text.old + length bytes.now ≤ vec_capacity text.old }
     ensures { text.new.items ≡ text.old.items ++ bytes.now }
@@ -69,7 +69,7 @@ impl<'a, G: Gate> Saving<'a, G> {
         self.refused += 1;
     }
 
-    // Adds a document, with its part behind the text; where there is no room for it, the line is refused. Where memory
+    // Adds a document, with its part after the text; where there is no room for it, the line is refused. Where memory
     // doesn't suffice, nothing is done.
     fn save(&mut self, document: &Document, text: &mut Vec<u8>) -> Result<(), NoMemory>
         requires state { IsRunning HasSaved self.old }

@@ -61,7 +61,7 @@ front n us [] p l h = h
 front n us (v ∷ []) p l h = (get_front n us p v h.0, h.1)
 front n us (v ∷ x ∷ ts) p l h = (get_front n us p v h.0, (h.1.0, h.1.1, front n us (x ∷ ts) h.1.0 l h.1.2))
 
--- terms that stand in their order behind a first one have places
+-- terms that stand in their order after a first one have places
 order_stands : (t : List ℕ) (ts us : List (List ℕ)) → has_in_order ts us ≡ true → (l : ℕ) × Stand (t ∷ us) (t ∷ ts) 0 l × (l ≤ length us)
 order_stands t [] us h = (0, (refl, refl), omega arith)
 order_stands t (v ∷ ts) [] h = let no : ⊥ = cc in absurd no

@@ -14,7 +14,7 @@ Stand terms (t ∷ u ∷ ts) first last = (slice_get terms first ≡ Some t) × 
 -- the query matches the document
 --   word: the term is one of the document's
 --   phrase: from some place of the document on its terms stand one after another
---   window: its terms stand in their order at places of which the last is at most `w` behind the first
+--   window: its terms stand in their order at places of which the last is at most `w` after the first
 --   since: the document's id is greater
 --   negation: its part doesn't match; conjunction: each part does; disjunction: some part does
 abbrev mutual

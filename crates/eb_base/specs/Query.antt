@@ -108,7 +108,7 @@ pub record IsWellFormed (t : Tree) : Type 0 where
   pub formed : IsFormed t
   pub within : size t ≤ most_size
 
--- what is left of the room behind what holds under F and takes n of it: nothing where F fails or there is less room
+-- what is left of the room after what holds under F and takes n of it: nothing where F fails or there is less room
 abbrev pub IsLeft : Type 0 → ℕ → ℕ → Option ℕ → Type 0
 IsLeft F n room None = F → room < n
 IsLeft F n room (Some left) = F × (n + left ≡ room)

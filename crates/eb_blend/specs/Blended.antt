@@ -18,7 +18,7 @@ rising (x ∷ xs) = put x (rising xs)
 abbrev pub falling : List ℕ → List ℕ
 falling xs = reverse (rising xs)
 
--- the answers of the parts, one behind the other: of each part that over so many of the first documents of its history
+-- the answers of the parts, one after the other: of each part that over so many of the first documents of its history
 abbrev pub answers : Tree → ℕ → List (List Doc) → List ℕ → List ℕ
 answers q k [] ns = []
 answers q k (h ∷ hs) [] = []

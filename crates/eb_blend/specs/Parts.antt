@@ -67,11 +67,11 @@ segments_of (w ∷ ws) (h ∷ hs) = length (cut w.setting h) ∷ segments_of ws 
 abbrev pub history : List (List Doc) → ℕ → List Doc
 history hs p = get_or hs p []
 
--- the part of a document: the rest of its id by the number of parts
+-- the part of a document: its id modulo the number of parts
 abbrev pub part_of : List (List Doc) → Doc → ℕ
 part_of hs d = d.id % length hs
 
--- the histories with a document more, behind that of its part
+-- the histories with a document more, after that of its part
 abbrev pub with_document : List (List Doc) → Doc → List (List Doc)
 with_document hs d = set hs (part_of hs d) (history hs (part_of hs d) ++ d ∷ [])
 
@@ -93,7 +93,7 @@ pub record AllClosed (σ : Setting) (hs : List (List Doc)) (converted : List ℕ
 pub record AllConverted (σ : Setting) (hs : List (List Doc)) (converted : List ℕ) : Type 0 where
   pub each : (p s : ℕ) → p < length hs → s + 1 < length (cut σ (history hs p)) → s < get_or converted p 0
 
--- the lists one behind the other
+-- the lists one after the other
 abbrev pub joined : List (List ℕ) → List ℕ
 joined [] = []
 joined (xs ∷ rest) = xs ++ joined rest

@@ -1,3 +1,7 @@
+//! A reader of a blend.
+//!
+//! A blend is a list of indexes, each with its own tokens. Its frame copies the query for each part, so that a search
+//! takes no memory. The parts are asked one after the other, since a thread costs more than most searches.
 ghost use Rattle.std.specs.Prelude.{◌≡◌, ◌<◌, ℕ, map, length};
 ghost use Rattle.eb_base.specs.Query.{Tree};
 ghost use Rattle.eb_base.specs.Match.{answer};

@@ -48,7 +48,7 @@ impl BlendWriter {
         }
     }
 
-    /// Adds a document behind the history of its part, which is the rest of its id by the number of parts, and gives
+    /// Adds a document after the history of its part, which is its id modulo the number of parts, and gives
     /// the sum of all lengths then. `NotRising` exactly where a document was accepted and its id isn't below this
     /// one's; else `Full` exactly where the part has no room for it. After a refusal nothing is stored, and all
     /// histories and the last id are as before. The writer must have been made with this blend. Takes no memory.

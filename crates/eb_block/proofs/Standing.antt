@@ -43,7 +43,7 @@ place_on : (σ : Setting) (s i j : ℕ) → place σ (slot s packed_region (i + 
 unfolding place
 place_on σ s i j = omega arith
 
--- and none of them is behind the index
+-- and none of them is left behind the index
 place_room : (σ : Setting) (s i : ℕ) → s < σ.segments → i ≤ 34 * σ.terms → place σ (slot s packed_region i) ≤ words_of σ
 unfolding place start
 place_room σ s i h l = let a = mul-le (suc s) (segment_words σ) σ.segments (segment_words σ) h (omega arith) in omega (arith, a)

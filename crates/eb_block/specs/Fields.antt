@@ -28,7 +28,7 @@ pub record DrawsFrom (width : ℕ) (words : List ℕ) (at : ℕ) (b : Bits) (num
   pub are : drop at words ≡ left ++ rest
   pub holds : HoldsFields width b left numbers
 
--- behind the header the array holds the fields of these numbers: whole words up to `at`, then the bits
+-- after the header the array holds the fields of these numbers: whole words up to `at`, then the bits
 pub record Poured (width header : ℕ) (into : List ℕ) (at : ℕ) (b : Bits) (numbers : List ℕ) : Type 0 where
   pub held : IsHeld b
   pub words : List ℕ

@@ -1,3 +1,9 @@
+//! Packed lists.
+//!
+//! A packed list decodes as it goes, without a buffer for a block; what it may still load is a number in its
+//! relation. It tells how many postings it has left, which its directory word says, at no load. A `seek` of few
+//! postings makes few loads, a clause of its own beside that of one load a block, so that the bound between two
+//! starts stays what it was over live slices alone.
 ghost use Rattle.std.specs.Prelude.{◌≡◌, ℕ, List, [], ◌+◌, ◌-◌, ◌*◌, ◌≤◌, ◌<◌, ◌/◌, ◌%◌, ◌^◌, length, true, false};
 ghost use Rattle.std.specs.Bool.{MatchBool};
 ghost use Rattle.eb_base.specs.Term.{Term};
@@ -197,7 +203,7 @@ impl PackedList {
         self.held && self.last <= most
     }
 
-    // Goes to the next block, where all before it is above, and on over those behind it that have its width.
+    // Goes to the next block, where all before it is above, and on over those after it that have its width.
     #[inline(always)]
     fn pass_block<P: Port, L: Ledger>(
         &mut self,
@@ -236,7 +242,7 @@ impl PackedList {
         true
     }
 
-    // Goes on over the blocks behind a whole one that have its width and begin above. Where the next header lies
+    // Goes on over the blocks after a whole one that have its width and begin above. Where the next header lies
     // needs no header then, so that a processor that guesses right loads several at once.
     #[inline(always)]
     fn pass_alike<P: Port, L: Ledger>(&mut self, port: &mut P, most: Posting, steps: &mut Steps<L>)

@@ -23,7 +23,7 @@ last_get [] = refl
 last_get (s ∷ []) = refl
 last_get (s ∷ r ∷ rs) = let e : length (s ∷ r ∷ rs) - 1 ≡ suc (length (r ∷ rs) - 1) = omega arith in rw e (last_get (r ∷ rs))
 
--- its placer goes on behind the last segment
+-- its placer goes on after the last segment
 pub last_is : (i : Index) (words : List ℕ) (docs : List Doc) (h : Holds i words docs) → get_or (cut h.moment.setting h.moment.documents.accepted) (i.begun - 1) [] ≡ last_of (cut (setting_of i) docs)
 last_is i words docs h =
     ap (λ n. get_or (cut h.moment.setting h.moment.documents.accepted) (n - 1) []) h.placer.segments ∙ last_get (cut h.moment.setting h.moment.documents.accepted)

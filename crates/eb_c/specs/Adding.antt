@@ -45,7 +45,7 @@ document_in line = if is_long line then Err refusal.LongLine else (if begins_wit
 abbrev pub document_with : ℕ → List ℕ → Result Doc Refusal
 document_with id text = if is_utf8 text then or_refused (message id (tokens_of text)) else Err refusal.BadText
 
--- what an add answers behind these documents: 0 where there is room
+-- what an add answers after these documents: 0 where there is room
 abbrev pub number_after : Setting → List Doc → Result Doc Refusal → ℕ
 number_after σ docs (Ok d) = if has_room σ docs d then 0 else refusal_number refusal.Full
 number_after σ docs (Err r) = refusal_number r
@@ -57,13 +57,13 @@ docs_after σ docs (Err r) = docs
 
 -- ---- between two calls
 
--- what placing a document behind those of a moment comes to: the words and the placer have it, or there was no room
+-- what placing a document after those of a moment comes to: the words and the placer have it, or there was no room
 abbrev pub WithPlaced : Moment → Flat → PlacerProgress → Doc → Bool → Type 0
 WithPlaced m f p d true =
     (has_room m.setting m.documents.accepted d ≡ true) × (n : Moment) × StandsFor f n × PlacerStands p n × (n.documents.accepted ≡ m.documents.accepted ++ d ∷ [])
 WithPlaced m f p d false = has_room m.setting m.documents.accepted d ≡ false
 
--- what adding a document behind these comes to: the index has it, or there was no room and it is as before
+-- what adding a document after these comes to: the index has it, or there was no room and it is as before
 abbrev pub WithAdded : Setting → List Doc → Doc → Bool → Index → List ℕ → Type 0
 WithAdded σ docs d true i words = (has_room σ docs d ≡ true) × Holds i words (docs ++ d ∷ [])
 WithAdded σ docs d false i words = (has_room σ docs d ≡ false) × Holds i words docs

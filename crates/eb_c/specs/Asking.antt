@@ -20,7 +20,7 @@ pub data Asked : Type 0 where
   asks : ℕ → Tree → Asked
   refused : Refusal → ℕ → Asked
 
--- what a query line comes to, with the columns counted from behind so many bytes
+-- what a query line comes to, with the columns counted from after so many bytes
 abbrev pub asked_behind : ℕ → reading.Outcome → Asked
 asked_behind n (reading.asks k q) = asks k q
 asked_behind n reading.bad_number = refused refusal.BadNumber 0

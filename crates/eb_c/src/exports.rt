@@ -58,7 +58,7 @@ pub extern "C" fn eb_begin(
     0
 }
 
-/// Adds the document of a document line, the bytes of one line without its end: 0 where it is accepted, behind those
+/// Adds the document of a document line, the bytes of one line without its end: 0 where it is accepted, after those
 /// before it, else the number of its refusal, and all is as before. `Full` comes exactly where there is no room for
 /// the document. Takes memory while it reads, which is given back.
 #[unsafe(no_mangle)]

@@ -128,7 +128,7 @@ fn line_front(alloc: Global, k: u32) -> Result<String, NoMemory>
     Ok(line)
 }
 
-// What a line asks that begins with a question mark, the columns counted from behind so many bytes.
+// What a line asks that begins with a question mark, the columns counted from after so many bytes.
 fn question_behind(alloc: Global, line: &str, front: u64) -> Question
     requires { slice_get line.now 0 ≡ Some 63 }
     ensures { (asked_of result ≡ refused Refusal.NoMemory 0) ⊎ Reads front line.now (asked_of result) }

@@ -172,7 +172,7 @@ fn handle_of(alloc: Global, held: Held) -> Result<Handle, NoMemory>
     Ok(Handle::of(held))
 }
 
-/// Adds the document of an id and a text, which is UTF-8, behind those that this writer added: 0 where there is room for it,
+/// Adds the document of an id and a text, which is UTF-8, after those that this writer added: 0 where there is room for it,
 /// else the number of its refusal, and the history is as before; 16 where the handle leads to no writer. Takes memory while
 /// it reads, which is given back.
 #[unsafe(no_mangle)]

@@ -135,7 +135,7 @@ slice_room f tail q u some h full after room =
 pub last_low : (f tail : ℕ) → 1 ≤ tail → IsTailWord f tail → address_pool (tail - 1) < 4
 last_low f tail some h = let g = last_of_tail f tail some h in let p = g.2.pool in let low = pool_low g.0 in omega arith
 
--- a posting that has a place behind it has not the greatest address
+-- a posting that has a place after it has not the greatest address
 pub room_small : (at : ℕ) → address_pool at < 4 → address_offset at + 1 < 2 ^ slice_bits (address_pool at) → at + 1 < 2 ^ 32
 room_small at low h = by (at / 2 ^ 30) refl h
   where

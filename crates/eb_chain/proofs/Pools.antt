@@ -19,7 +19,7 @@ pool_next : (f : ℕ) → pool_at f ≤ pool_at (suc f)
 unfolding pool_at
 pool_next f = grind (arith, nat_tests)
 
--- between the pool of the newest of f postings and that of the posting behind it
+-- between the pool of the newest of f postings and that of the posting after it
 abbrev pub IsPoolOf : ℕ → ℕ → Type 0
 IsPoolOf f pool = (pool_at (f - 1) ≤ pool) × (pool ≤ pool_at f)
 
@@ -40,7 +40,7 @@ pool_at_posting m s t c opened rest a pool is h e p =
     let n : length rest - 1 ≡ f = omega (arith, w.1) in
     (omega (arith, p, k.0, ap pool_at n), omega (arith, p, k.0, pool_next f, ap pool_at w.1))
 
--- one place back from behind the first of a slice the pool is the same
+-- one place back from after the first of a slice the pool is the same
 pool_back : (p r a : ℕ) → a ≡ p * 2 ^ 30 + r → r < 2 ^ 30 → 1 ≤ r → (a - 1) / 2 ^ 30 ≡ p
 pool_back p r a e l h = omega arith
 

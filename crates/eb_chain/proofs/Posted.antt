@@ -221,7 +221,7 @@ are_next m d s t posting now q e =
       front = (T ++ Z, sym (q.left ∙ ap (λ z. z ++ (T ++ Z)) e));
     }
 
--- a slice that has a link begins behind an address
+-- a slice that has a link begins after an address
 pub link_behind : (s : ℕ) (t : Term) (before : List Term) (tail last : ℕ) (u : Used) (r : NextPlace) → tail ≡ tail_of t before (count_of t before)
     → ((p : ℕ) → p < 4 → slices_of u p ≡ slices_begun p before) → IsNextPlace (count_of t before) tail u r → r.link ≡ Some last → 0 < r.address
 unfolding address_of
@@ -400,7 +400,7 @@ posted m n d s t posting k tail u r is later same c e h =
           (record { setting = more.setting; documents = more.documents ∙ ap (with_stores n.documents d) (sym (ap length stores)); later = more.later });
     }
 
--- where there is a link, the address is behind it
+-- where there is a link, the address is after it
 pub behind : (n : Moment) (d : Doc) (s : ℕ) (t : Term) (posting k tail last : ℕ) (u : Used) (r : NextPlace) → IsMoment n
     → (c : Carried n d s t posting k u) → tail ≡ word n (place n.setting (slot s tail_region k)) → IsNextPlace (before_it n d s t posting c.next) tail u r
     → r.link ≡ Some last → 0 < r.address

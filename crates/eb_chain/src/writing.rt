@@ -1,3 +1,10 @@
+//! Appending a posting.
+//!
+//! That the next store is that of this posting or of its link is said by what is left of the placing: this posting's
+//! stores, those of the later tokens, the id and the count. That there is a free slice follows from the document's
+//! room. `append` loads the tail once; the conversion part may grow at that load, so its clause speaks of the
+//! documents part, and of a moment that isn't before. A tail word doesn't tell how many slices of pool 3 are full, so
+//! the clause of `needs` holds for every number of postings with that tail word.
 ghost use Rattle.std.specs.Prelude.{◌≡◌, List, [], ◌∷◌, ◌++◌, ◌+◌, ◌<◌};
 ghost use Rattle.std.specs.Option.{ForSome};
 ghost use Rattle.eb_base.specs.Term.{Term};

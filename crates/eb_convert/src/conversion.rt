@@ -1,3 +1,9 @@
+//! The conversion of a closed segment.
+//!
+//! A put needs what is left of the conversion's stores, not how many were done; loads leave that, since closed
+//! segments don't change. What the converter of an index converts is closed by a document of the history or by the
+//! one that is being placed: its own load may show the first-document word of a segment whose first document isn't
+//! accepted yet.
 ghost use Rattle.std.specs.Prelude.{◌≡◌, ℕ, List, [], ◌∷◌, ◌++◌, ◌+◌, ◌*◌, ◌≤◌, ◌<◌, length, take, drop};
 ghost use Rattle.eb_base.specs.Term.{Term};
 ghost use Rattle.eb_place.specs.declared.moment.Moment.{Moment};

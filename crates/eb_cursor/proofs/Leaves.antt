@@ -54,7 +54,7 @@ pub gave_left : (g : Gives) (list : PostingList) (xs : List ℕ) (r : Option ℕ
 gave_left g list xs None h = h
 gave_left g list xs (Some p) h = h
 
--- what is left behind the current posting
+-- what is left after the current posting
 pub leaf_left : (g : Gives) (f : ℕ → Bool) (s : Cursor) (p e : ℕ) → s.current ≡ Some p → (leaf : IsLeaf g f s e) → (ys : List ℕ) × (leaf.left ≡ p ∷ ys) × g.lists s.list ys
 leaf_left g f s p e is leaf = left_some g s.current s.list leaf.left p is leaf.told
 

@@ -136,7 +136,7 @@ led_run_here g docs ts t us s' ss at end last reach found e h told minus leaf ot
     let run : IsLedRun g docs (t ∷ us) (s' ∷ ss) at end found = record { falls = le; most = most; ready = (own, rest) } in
     subst (λ x. IsLedRun g docs x (s' ∷ ss) at end found) (sym e) run
 
--- a leaf behind the first leads
+-- a leaf after the first leads
 pub led_run_there : (g g' : Gives) (docs : List Doc) (ts : List (List ℕ)) (t : List ℕ) (us : List (List ℕ)) (s : Cursor) (ss' : List Cursor) (at end last found : ℕ)
     → ts ≡ t ∷ us → Later g g' → end ≤ last → IsLeaf g (is_posting docs t) s (last + at) → IsLedRun g' docs us ss' (at + 1) end found → IsLedRun g' docs ts (s ∷ ss') at end found
 led_run_there g g' docs ts t us s ss' at end last found e w h leaf more =

@@ -166,7 +166,7 @@ under_down : (docs : List Doc) (qs : Trees) (end a b : ℕ) → b ≤ a → AreU
 under_down docs no_trees end a b h k = tt
 under_down docs (trees q qs) end a b h k = (omega (arith, k.0), under_down docs qs end a b h k.1)
 
--- the first part is asked behind the others
+-- the first part is asked after the others
 pub round_behind : (g1 g' : Gives) (docs : List Doc) (qs : Trees) (q : Tree) (qs' : Trees) (a b' : List Cursor) (end found1 found : ℕ)
     → qs ≡ trees q qs' → Later g1 g' → IsRound g1 docs qs' b' end found1 → found ≡ top (match_at docs q) found1 → Ready g' docs q a found1 → IsRound g' docs qs (a ++ b') end found
 round_behind g1 g' docs qs q qs' a b' end found1 found e w more told ready =
@@ -208,7 +208,7 @@ led_here g docs qs q qs' a b end found e told ready others =
       ready = all_join g docs qs q qs' a b found e (ready_lower g docs q a found end le ready) (all_lower g docs qs' b found end le others);
     }
 
--- a part behind the first leads
+-- a part after the first leads
 pub led_there : (g : Gives) (docs : List Doc) (qs : Trees) (q : Tree) (qs' : Trees) (a b : List Cursor) (end last found : ℕ)
     → qs ≡ trees q qs' → end ≤ last → Ready g docs q a last → IsLed g docs qs' b end found → IsLed g docs qs (a ++ b) end found
 led_there g docs qs q qs' a b end last found e i ready more =

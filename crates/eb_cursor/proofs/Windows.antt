@@ -270,12 +270,12 @@ span_last g docs ts us t s' ss end place e i k w =
     let told : (place ≡ first_below docs (t ∷ []) end) × (place ≡ top (is_posting docs (last_term (t ∷ []))) end) × AllBehind g docs (t ∷ []) (s' ∷ ss) end = (w.0, w.0, all) in
     subst (λ (z : List (List ℕ)). (place ≡ first_below docs z end) × (place ≡ top (is_posting docs (last_term z)) end) × AllBehind g docs z (s' ∷ ss) end) (sym one) told
 
--- the last of terms is that of those behind the first, where there are some
+-- the last of terms is that of those after the first, where there are some
 last_behind : (t : List ℕ) (us : List (List ℕ)) → 0 < length us → last_term (t ∷ us) ≡ last_term us
 last_behind t [] h = absurd (omega arith)
 last_behind t (u ∷ us) h = refl
 
--- the terms behind don't stand in their order
+-- the terms after don't stand in their order
 pub span_none : (g g' : Gives) → Later g g' → (docs : List Doc) (ts us : List (List ℕ)) (t : List ℕ) (s : Cursor) (ss : List Cursor) (end last first behind_last : ℕ) → ts ≡ t ∷ us
     → 0 < length ss → end ≤ last → first ≡ 0
     → (first ≡ first_below docs us end) × (behind_last ≡ top (is_posting docs (last_term us)) end) × AllBehind g' docs us ss end
@@ -291,7 +291,7 @@ span_none g g' w docs ts us t s ss end last first behind_last e some h none r le
     let told : (first ≡ first_below docs (t ∷ us) end) × (behind_last ≡ top (is_posting docs (last_term (t ∷ us))) end) × AllBehind g' docs (t ∷ us) (s ∷ ss) end = (none_is, last_is, (own, r.2)) in
     subst (λ (z : List (List ℕ)). (first ≡ first_below docs z end) × (behind_last ≡ top (is_posting docs (last_term z)) end) × AllBehind g' docs z (s ∷ ss) end) (sym e) told
 
--- the first leaf is asked below the terms behind it
+-- the first leaf is asked below the terms after it
 pub front_asked : (g g' : Gives) → Later g g' → (docs : List Doc) (us : List (List ℕ)) (t : List ℕ) (s : Cursor) (end last first : ℕ) → end ≤ last → first ≡ first_below docs us end
     → IsLeaf g (is_posting docs t) s (number_before (first_below docs us last)) → IsLeaf g' (is_posting docs t) s (first - 1)
 front_asked g g' w docs us t s end last first h e leaf =

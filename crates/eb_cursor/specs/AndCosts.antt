@@ -1,4 +1,7 @@
 -- What an and of words costs, by the documents of any one of them.
+--
+-- The loads are bounded by the documents that have the rarest word in each segment, whichever leads: each round but
+-- the last ends below the last match of every word, so the documents of any one of them count the rounds.
 use Rattle.std.specs.Prelude.{◌≡◌, ℕ, ◌+◌, ◌*◌, ◌≤◌, Bool, List, [], ◌∷◌, length}
 use Rattle.std.specs.List.{Contains}
 use Rattle.eb_base.specs.Document.{Doc}
@@ -32,7 +35,7 @@ rounds_cost docs ts t end = round_loads ts * rounds_left (document_has docs t) e
 abbrev pub PartsOwe : Moment → ℕ → List Doc → List Term → Term → List Cursor → ℕ → ℕ → Type 0
 PartsOwe m s docs ts t cursors end most = (spans : ℕ) × AllSpan m s ts cursors spans × (spans + rounds_cost docs ts t end ≤ most)
 
--- so do those of an and of the words, behind its first, below the end that this has come to
+-- so do those of an and of the words, after its first, below the end that this has come to
 abbrev pub AndOwes : Moment → ℕ → List Doc → List Term → Term → List Cursor → ℕ → Type 0
 AndOwes m s docs ts t cursors most = PartsOwe m s docs ts t (rest_of cursors) (upto cursors) most
 
@@ -69,7 +72,7 @@ documents_with docs t = count (document_has docs t) (length docs)
 unfoldable pub all_rounds_cost : List Term → ℕ → ℕ
 all_rounds_cost ts d = round_loads ts * (2 * d + 1)
 
--- the most loads of a search of an and of the words in a segment, behind its converted word and besides those of each
+-- the most loads of a search of an and of the words in a segment, after its converted word and besides those of each
 -- call (`call_loads`), where so many of its documents have one of the words, any one of them
 abbrev pub and_loads : Moment → ℕ → List Term → ℕ → ℕ
 and_loads m s ts d = all_opening_loads m s ts + all_rounds_cost ts d

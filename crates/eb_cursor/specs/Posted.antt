@@ -69,13 +69,13 @@ last_term (t ∷ []) = t
 last_term (t ∷ u ∷ ts) = last_term (u ∷ ts)
 
 -- one more than the greatest place at which the terms can begin that stand in their order below the end, each
--- as near as it can to the one behind it; 0 where they don't so stand, and one more than the end without terms
+-- as near as it can to the one after it; 0 where they don't so stand, and one more than the end without terms
 abbrev pub first_below : List Doc → List (List ℕ) → ℕ → ℕ
 first_below docs [] end = suc end
 first_below docs (t ∷ ts) end = top (is_posting docs t) (number_before (first_below docs ts end))
 
 -- the end below which the last term of a window stands whose first term stands before `first`: at most `w`
--- places behind it, and in its document
+-- places after it, and in its document
 abbrev pub reach_end : ℕ → ℕ → ℕ
 reach_end w first = min (first + w) (places * document_end first)
 

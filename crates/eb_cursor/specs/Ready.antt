@@ -32,7 +32,7 @@ abbrev pub upto : List Cursor → ℕ
 upto [] = 0
 upto (s ∷ ss) = s.upto
 
--- the cursors behind the first
+-- the cursors after the first
 abbrev pub rest_of : List Cursor → List Cursor
 rest_of [] = []
 rest_of (s ∷ ss) = ss
@@ -47,7 +47,7 @@ AllLeaves g docs [] cursors end = cursors ≡ []
 AllLeaves g docs (t ∷ ts) [] end = ⊥
 AllLeaves g docs (t ∷ ts) (s ∷ ss) end = IsLeaf g (is_posting docs t) s end × AllLeaves g docs ts ss (suc end)
 
--- each leaf of a window has passed nothing below the place of the leaf behind it, the last nothing below the end
+-- each leaf of a window has passed nothing below the place of the leaf after it, the last nothing below the end
 abbrev pub AllBehind : Gives → List Doc → List (List ℕ) → List Cursor → ℕ → Type 0
 AllBehind g docs [] cursors end = cursors ≡ []
 AllBehind g docs (t ∷ ts) [] end = ⊥

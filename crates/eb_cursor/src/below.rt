@@ -1,4 +1,8 @@
 //! The greatest match of a query below an end.
+//!
+//! Where a part has ended, the other parts of an And and of a phrase aren't asked again. An Or asks each part at each
+//! call: one whose greatest match is known answers from what its cursors keep, at no load. A Not asks its part
+//! document by document, where nothing can be leapt over.
 ghost use Rattle.std.specs.Prelude.{◌≡◌, ℕ, ◌+◌, ◌<◌, ◌≤◌, ◌^◌, List, [], ◌∷◌, length};
 ghost use Rattle.std.specs.List.{Contains};
 ghost use Rattle.eb_base.specs.Query.{tree, word, conjunction};
@@ -253,7 +257,7 @@ fn all_below<P: Port, L: Ledger>(
     }
 }
 
-// One such turn. A bound on the id is asked behind the parts that follow it, since it costs loads.
+// One such turn. A bound on the id is asked after the parts that follow it, since it costs loads.
 #[cycle(below)]
 fn round_below<P: Port, L: Ledger>(
     parts: &[Query],

@@ -1,4 +1,9 @@
 //! What a part of a query remembers.
+//!
+//! A cursor stays one record and is no enum by roles: the first cursor of a phrase or a window is a leaf and the
+//! operator's at once, so each access would have to prove its role. The query stays as it is, and beside it lies one
+//! flat list of cursors, one for each unit of its size, in preorder; a part's size is counted from the query where
+//! the cursors are split, since kept in a cursor it would have to be carried by what each call says.
 ghost use Rattle.std.specs.Prelude.{◌≡◌, ◌+◌, ◌*◌, ◌<◌, ◌≤◌, ◌^◌};
 ghost use Rattle.eb_cursor.specs.declared.posting_list.PostingList.TheVariants.{Empty};
 ghost use Rattle.eb_cursor.specs.Loads.{ahead};

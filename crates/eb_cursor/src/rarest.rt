@@ -64,7 +64,7 @@ fn commonness_of_leaf(cursor: &Cursor) -> Commonness {
     }
 }
 
-/// The first part, or the one among those behind it where that is likely rarer.
+/// The first part, or the one among those after it where that is likely rarer.
 pub fn rarer(own: Commonness, behind: Part) -> Part {
     if is_rarer(behind.commonness, own) {
         return Part {

@@ -1,4 +1,9 @@
 //! Windows: the terms of a window, from the last to the first, leap over its possible places.
+//!
+//! A window takes for the greatest place of its last term the greatest place of each term before it below the one
+//! after it; where the first is too far away or in another document, the last term leaps to the end of its reach. All
+//! places only fall, and no list of places is kept. It holds for any number of position bits, since the document's
+//! end bounds the reach.
 ghost use Rattle.std.specs.Prelude.{◌≡◌, ◌+◌, ◌*◌, ◌<◌, ◌≤◌, ◌^◌, length};
 ghost use Rattle.eb_cursor.specs.Loads.{loads_left};
 ghost use Rattle.eb_cursor.specs.Posted.{reach_end};
@@ -10,7 +15,7 @@ use crate::phrase::to_document_end;
 use eb_place::{PLACES, Port, Steps};
 use std::sync::ledger::Ledger;
 
-/// Where the terms of a window stand, each as near as it can in front of the one behind it.
+/// Where the terms of a window stand, each as near as it can in front of the one after it.
 #[derive(Clone, Copy)]
 pub struct Span {
     /// One more than the place of the first term, 0 where the terms don't stand in their order.
@@ -19,7 +24,7 @@ pub struct Span {
     pub last: u64,
 }
 
-// Asks the terms from the last on, each for its greatest place below that of the term behind it.
+// Asks the terms from the last on, each for its greatest place below that of the term after it.
 fn span_below<P: Port, L: Ledger>(
     cursors: &mut [Cursor],
     port: &mut P,
@@ -53,7 +58,7 @@ fn span_below<P: Port, L: Ledger>(
 }
 
 // The end below which the last term of a window stands whose first term stands before `first`: at most
-// `reach` places behind it, and in its document.
+// `reach` places after it, and in its document.
 fn end_of_reach(first: u64, reach: u32) -> u64
     requires { first ≤ 2 ^ 49 }
     ensures { result ≡ reach_end reach first }

@@ -30,7 +30,7 @@ use std::fmt;
 /// Why a document line gives no document.
 #[derive(Clone, Copy, Debug, PartialEq, Eq)]
 pub enum LineFault {
-    /// The line isn't UTF-8, or isn't one JSON value with nothing behind it.
+    /// The line isn't UTF-8, or isn't one JSON value with nothing after it.
     BadJson,
     /// The value is no object, its `id` isn't a whole number below 2^64, or its `text` isn't a
     /// string; a member that is missing counts as of another kind.

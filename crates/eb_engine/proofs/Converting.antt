@@ -39,7 +39,7 @@ first_some (x ∷ xs) n (suc s) h = first_some xs (n + length x) s (omega arith)
 cut_most : (m : Moment) → IsMoment m → length (cut m.setting (with_current m.documents)) ≤ m.setting.segments
 cut_most m is = (placed_all m.setting (with_current m.documents) is.setting is.lawful).short
 
--- there is a segment behind the converted ones
+-- there is a segment after the converted ones
 pub next_inside : (m : Moment) (σ : Setting) (count : ℕ) → IsMoment m → m.setting ≡ σ → m.conversions ≡ record { converted = count; packed = 0 } → count < σ.segments
 next_inside m σ zero is e c = subst (λ (σ : Setting). 0 < σ.segments) e is.setting.segments.0
 next_inside m σ (suc s) is e c =
@@ -70,7 +70,7 @@ closing n σ s is e c =
     let q = ap (λ (x : Conversions). x.converted) c in
     subst (λ (x : Setting × List Doc). s + 1 < length (cut x.0 x.1)) (λ i. (e i, are_known n i)) (is.closed s (omega (arith, q)))
 
--- a segment that isn't begun is behind all segments of what is known
+-- a segment that isn't begun is after all segments of what is known
 pub none_behind : (n : Moment) (σ : Setting) (s : ℕ) → IsMoment n → n.setting ≡ σ → (s + 1 ≡ σ.segments) ⊎ (first_word n (s + 1) ≡ 0) → length (cut σ (known_at n)) ≤ s + 1
 none_behind n σ s is e h =
     subst (λ (x : Setting × List Doc). length (cut x.0 x.1) ≤ s + 1) (λ i. (e i, are_known n i))
@@ -101,7 +101,7 @@ not_told σ old new s p few low =
     let g' = rw p.1 at g in
     omega (arith, g', few, low)
 
--- who knows no document behind a segment has none in the history
+-- who knows no document after a segment has none in the history
 few_known : (σ : Setting) (t : ConverterToken) (n : ℕ) → length (cut σ (known_to t)) ≤ n → length (cut σ t.docs) ≤ n
 few_known σ t n h = by_placing t.placing h
   where
@@ -109,7 +109,7 @@ few_known σ t n h = by_placing t.placing h
     by_placing None h = h
     by_placing (Some d) h = omega (arith, h, cut_grows σ t.docs (d ∷ []))
 
--- where a call converted nothing, it found no document behind the next segment
+-- where a call converted nothing, it found no document after the next segment
 pub nothing_left : (σ : Setting) (old new : ConverterToken) (r : Converted) → Converts σ old new r → ((s : ℕ) → r ≡ One s → ⊥) → length (cut σ new.docs) ≤ new.converted + 1
 nothing_left σ old new (One s) did none = absurd (none s refl)
 nothing_left σ old new Nothing did none = few_known σ new (new.converted + 1) (omega (arith, did.0, did.1))

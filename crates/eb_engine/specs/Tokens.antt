@@ -16,7 +16,7 @@ pub record HistoryToken : Type 0 where
   pub converted : ℕ
 
 -- of a converter: its index, the documents that it knows, which are the first ones of the writer's history, the document that it knows
--- to be placed behind these, if there is one, and the number of segments that it converted
+-- to be placed after these, if there is one, and the number of segments that it converted
 pub record ConverterToken : Type 0 where
   pub index : Words
   pub docs : List Doc
@@ -40,7 +40,7 @@ abbrev pub placed_by : Option (Doc × ℕ) → Option Doc
 placed_by None = None
 placed_by (Some c) = Some c.0
 
--- the history, and the document that is being placed behind it, if there is one
+-- the history, and the document that is being placed after it, if there is one
 abbrev pub with_placing : List Doc → Option Doc → List Doc
 with_placing docs None = docs
 with_placing docs (Some d) = docs ++ d ∷ []
@@ -50,7 +50,7 @@ abbrev pub known_to : ConverterToken → List Doc
 known_to t = with_placing t.docs t.placing
 
 -- what a call of the converter did: it converted the next segment, which is closed by a document that it knows; or nothing, and no
--- document that it then knows begins the segment behind the next one
+-- document that it then knows begins the segment after the next one
 abbrev pub Converts : Setting → ConverterToken → ConverterToken → Converted → Type 0
 Converts σ old new (One s) = (s ≡ old.converted) × (new.converted ≡ old.converted + 1) × (s + 1 < length (cut σ (known_to new)))
 Converts σ old new Nothing = (new.converted ≡ old.converted) × (length (cut σ (known_to new)) ≤ old.converted + 1)

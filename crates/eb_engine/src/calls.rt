@@ -46,7 +46,7 @@ pub(crate) fn search_words<G: Gate, L: Ledger>(
     search(&mut port, frame, gate, steps)
 }
 
-// A search by a reader's seat of exactly the first `count` documents that it knows, behind what the frame holds.
+// A search by a reader's seat of exactly the first `count` documents that it knows, after what the frame holds.
 pub(crate) fn search_known_words<L: Ledger>(
     seat: &mut ReaderSeat,
     words: &SharedWords,

@@ -14,7 +14,7 @@ use std::marker::Model;
 
 /// The one converter of an index: it knows which segments are closed, and how many it converted. It may go to a thread
 /// of its own. Contracts see the documents that it knows, which are the first ones of the writer's history, the document
-/// that it knows to be placed behind them, if there is one, and the number of segments that it converted.
+/// that it knows to be placed after them, if there is one, and the number of segments that it converted.
 #[derive(Drop)]
 pub struct Converter {
     pub(crate) seat: ConverterSeat,

@@ -1,3 +1,12 @@
+//! The index that threads share.
+//!
+//! Opening makes a list of zeros first and the table from it, since the kit makes a table from a slice alone: so the
+//! words are held twice until it returns.
+//!
+//! The writer keeps no count of its own: the placer has it. Writers and readers keep how many segments they were told
+//! are converted: a seat may know of more, but a number that a call says exactly is told on by `hear`, `reader`,
+//! `split` and `meet`. Each such number comes from the writer's `hear`, so its own is never below a reader's, and its
+//! `meet` takes none over.
 ghost use Rattle.std.specs.Prelude.{◌≡◌, [], None, IfOk};
 
 use crate::converter::Converter;

@@ -115,7 +115,7 @@ impl Reader {
     }
 
     /// Searches exactly the documents that this reader knows, and finds out about no others: the ids of the newest
-    /// matches stand behind those that the frame holds, as many as it still takes. So one frame goes through several
+    /// matches stand after those that the frame holds, as many as it still takes. So one frame goes through several
     /// indexes, from the newest to the oldest. The reader must have been made with this index. Takes no memory.
     pub fn search_known<L: Ledger>(
         &mut self,

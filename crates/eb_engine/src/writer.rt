@@ -57,7 +57,7 @@ impl Writer {
         }
     }
 
-    /// Adds a document behind the history, and gives the length of the history then; the gate is told of it after the
+    /// Adds a document after the history, and gives the length of the history then; the gate is told of it after the
     /// last store. `Full` exactly where the index has no room for the document: the history is then as before, and no
     /// store is done. The writer must have been made with this index. Takes no memory.
     pub fn add<G: Gate>(

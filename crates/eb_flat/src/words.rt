@@ -36,7 +36,7 @@ impl FlatWords {
         Ok(FlatWords { config, words })
     }
 
-    /// Goes on to empty the index: behind the first `done` words, which are 0, it sets up to `most` further ones
+    /// Goes on to empty the index: after the first `done` words, which are 0, it sets up to `most` further ones
     /// to 0, and gives the number of those that are 0 then. Where these are all, the index has no document. Takes no
     /// memory.
     pub fn empty_on(&mut self, done: u64, most: u64) -> u64

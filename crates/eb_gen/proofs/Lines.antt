@@ -16,7 +16,7 @@ first_query : made_query 0 0 ≡ codes "?10 w20 w108"
 unfolding digits
 first_query = refl
 
--- the last document has a query behind it
+-- the last document has a query after it
 of_one : made 0 1 ≡ codes "{\"id\":0,\"text\":\"w20 w108 w196 w28 w117 w205 w37 w126\"}\n?10 w20 w108\n"
 unfolding digits
 of_one = refl

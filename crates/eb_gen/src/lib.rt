@@ -33,7 +33,7 @@ pub fn query_of(alloc: Global, start: u64, number: u32) -> Result<Vec<u8>, NoMem
     Ok(text.into_bytes())
 }
 
-// The words of a document from the first to this one behind the text, with a space between two.
+// The words of a document from the first to this one after the text, with a space between two.
 fn put_words(text: &mut String, start: u64, number: u32, last: u32) -> Result<(), NoMemory>
     requires { last < 8 }
     ensures { OnOk result (string_bytes text.new ≡ string_bytes text.old ++ words_to start number last) }

@@ -81,7 +81,7 @@ scan_sound (suc n) at room end bytes fits e =
           ∙ sym (window-add bytes (2 + len) at rest.len (at + (2 + len)) refl)));
     }
 
--- behind the last byte each term is empty
+-- after the last byte each term is empty
 pub scan_past : (n at room : ℕ) (bytes : List ℕ) → length bytes ≤ at → scan n at room bytes ≡ Some (at + 2 * n)
 unfolding scan
 scan_past zero at room bytes le = ap some_of (omega arith)

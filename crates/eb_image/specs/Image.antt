@@ -21,7 +21,7 @@ term_bytes t = to_be_bytes w16 (length t) ++ t
 unfoldable pub document_part : Doc → List ℕ
 document_part d = 1 ∷ (to_be_bytes w64 d.id ++ (to_be_bytes w16 (length d.terms) ++ flat_map term_bytes d.terms))
 
--- the byte behind the last part
+-- the byte after the last part
 abbrev pub last_byte : List ℕ
 last_byte = 0 ∷ []
 

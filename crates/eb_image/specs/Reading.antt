@@ -27,7 +27,7 @@ pub record IsPartOf (d : Doc) (bytes : List ℕ) : Type 0 where
   pub within : IsDocument d
   pub is : bytes ≡ document_part d
 
--- what may stand behind a head or a part: the part of a document within the limits, or the byte 0
+-- what may stand after a head or a part: the part of a document within the limits, or the byte 0
 abbrev pub IsNextPart : List ℕ → Type 0
 IsNextPart bytes = (bytes ≡ last_byte) ⊎ IsPart bytes
 
@@ -39,7 +39,7 @@ Begins Form bytes = (whole : List ℕ) × Form whole × IsFront bytes whole
 abbrev pub HasNone : (List ℕ → Type 0) → List ℕ → Type 0
 HasNone Form bytes = (whole : List ℕ) → Form whole → IsFront whole bytes → ⊥
 
--- these bytes were taken, and behind them so much is left: nothing of the form came, and nothing of it can come,
+-- these bytes were taken, and after them so much is left: nothing of the form came, and nothing of it can come,
 -- since the bytes begin none or the source is at its end
 pub record IsBad (Form : List ℕ → Type 0) (taken : List ℕ) (left : Option (List ℕ)) : Type 0 where
   pub none : HasNone Form taken

@@ -4,7 +4,7 @@ ghost use Rattle.eb_io.specs.Source.{after, got_count, IsCount, IsEmpty};
 
 use eb_io::{Got, Source};
 
-// Reads behind the first bytes of the buffer, up to a place in it.
+// Reads after the first bytes of the buffer, up to a place in it.
 pub(crate) fn read_behind<S: Source>(
     source: &mut S,
     buffer: &mut [u8],

@@ -123,7 +123,7 @@ fn setting_of(head: &[u8]) -> Option<Config>
     )
 }
 
-/// Reads the head of an image, exactly its 20 bytes, and answers the setting and the reader of what comes behind it.
+/// Reads the head of an image, exactly its 20 bytes, and answers the setting and the reader of what comes after it.
 ///
 /// `BadImage` exactly where the bytes that were taken begin no head of an allowed setting, or the source ended before a
 /// whole one: it is told as soon as they begin none. After a fault the bytes taken are gone from the source. Takes no

@@ -8,7 +8,7 @@ use crate::scan::{BEFORE_TERMS, two_bytes_at};
 use eb_base::{Document, NoMemory, Term, Terms};
 use std::alloc::Global;
 
-// Puts a term behind the bytes.
+// Puts a term after the bytes.
 fn put_term(bytes: &mut Vec<u8>, term: &Term) -> Result<(), NoMemory>
     requires { length term.now < 2 ^ 16 }
     ensures { OnOk result (bytes.new.items ≡ bytes.old.items ++ term_bytes term.now) }

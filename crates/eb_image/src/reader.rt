@@ -13,7 +13,7 @@ use eb_base::{Document, NoMemory};
 use eb_io::{Got, Source};
 use std::alloc::Global;
 
-/// What comes behind the head of an image, or behind one of its parts, is to be read. It holds no byte of it.
+/// What comes after the head of an image, or after one of its parts, is to be read. It holds no byte of it.
 #[derive(Debug, Drop)]
 pub struct ImageReader {
     // only a reader of a head makes one
@@ -48,12 +48,12 @@ fn read_next<S: Source>(source: &mut S, buffer: &mut [u8]) -> Result<usize, Head
 }
 
 impl ImageReader {
-    // The reader of what comes behind a head.
+    // The reader of what comes after a head.
     pub(crate) fn new() -> ImageReader {
         ImageReader { _made: () }
     }
 
-    /// Reads the next part, exactly its bytes, and answers its document and the reader of what comes behind it; `None`
+    /// Reads the next part, exactly its bytes, and answers its document and the reader of what comes after it; `None`
     /// exactly after the byte 0, which is taken then.
     ///
     /// After a fault the bytes taken are gone from the source, and this reading is over. Takes memory for the document.

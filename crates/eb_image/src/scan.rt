@@ -11,7 +11,7 @@ pub(crate) const BEFORE_TERMS: usize = 11;
 // The most bytes of a part.
 pub(crate) const LONGEST_PART: usize = BEFORE_TERMS + 2 * MAX_TOKENS + MAX_BYTES;
 
-// The byte at this place, or 0 behind the last.
+// The byte at this place, or 0 after the last.
 pub(crate) fn byte_at(bytes: &[u8], at: usize) -> u8
     ensures { result ≡ slice_index bytes.now at }
 {

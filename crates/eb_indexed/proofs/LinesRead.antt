@@ -1,4 +1,4 @@
--- What lines come to behind documents, with one line more.
+-- What lines come to after documents, with one line more.
 use Rattle.std.proofs.Common.{◌≡◌, suc, List, [], ◌∷◌, ◌++◌, length, refl, sym, ap, ◌∙◌, append_assoc, append-nil}
 use Rattle.std.proofs.lemmas.Slice.Zip.{AllZip-long}
 use Rattle.eb_base.specs.Document.{Doc}

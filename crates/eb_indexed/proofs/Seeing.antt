@@ -1,4 +1,4 @@
--- What the queries of some lines see, where a round more is worked off.
+-- What the queries of some lines see, where a round more is processed.
 use Rattle.std.proofs.Common.{◌≡◌, ℕ, zero, suc, ◌+◌, ◌-◌, ◌<◌, ◌≤◌, ◌⊎◌, inl, inr, true, false, List, [], ◌∷◌, ◌++◌, length, take, drop}
 use Rattle.std.proofs.Common.{flat_map, slice_get, refl, sym, ap, subst, ◌∙◌, arith, length-append, le_trans, nat_lt}
 use Rattle.std.proofs.lemmas.List.{take-append-le, take-append-drop, drop-append-le}

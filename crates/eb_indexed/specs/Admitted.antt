@@ -7,7 +7,7 @@ use Rattle.eb_lines.specs.declared.refusal.Refusal.TheVariants.{Full}
 use Rattle.eb_lines.specs.Reading.{Reading, blank, document, query, refused, watch}
 use Rattle.eb_lines.specs.Progress.{documents_in}
 
--- a line behind these accepted documents: a document that there is no room for is refused as full
+-- a line after these accepted documents: a document that there is no room for is refused as full
 abbrev pub admit : Setting → List Doc → Reading → Reading
 admit σ docs blank = blank
 admit σ docs (document d) = if has_room σ docs d then document d else refused Full
@@ -15,7 +15,7 @@ admit σ docs (query k q) = query k q
 admit σ docs (refused r) = refused r
 admit σ docs (watch n q) = watch n q
 
--- the lines in order, behind these accepted documents
+-- the lines in order, after these accepted documents
 unfoldable pub admitted_from : Setting → List Doc → List Reading → List Reading
 admitted_from σ docs [] = []
 admitted_from σ docs (r ∷ rs) = admit σ docs r ∷ admitted_from σ (docs ++ documents_in (admit σ docs r)) rs

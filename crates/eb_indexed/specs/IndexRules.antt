@@ -13,7 +13,7 @@ use Rattle.eb_place.specs.Room.{cut, has_room}
 abbrev pub refusal_in : Setting → List Doc → Doc → Option Refusal
 refusal_in σ docs d = if has_room σ docs d then None else Some Full
 
--- where the segments are told, their line stands behind the summary, without its own end
+-- where the segments are told, their line stands after the summary, without its own end
 abbrev pub segments_tail : Bool → ℕ → ℕ → List ℕ
 segments_tail false begun converted = []
 segments_tail true begun converted = 10 ∷ (codes "segments " ++ decimal begun ++ codes ", converted " ++ decimal converted)

@@ -27,7 +27,7 @@ pub record IsIndexed (s : Indexed) (rules : Rules (Unit {0})) (docs : List Doc) 
   pub by_rules : rules ≡ index_rules setting s.stats start
   pub holds : Holds s setting docs
 
--- a document behind these was placed, or there was no room for it and they are all
+-- a document after these was placed, or there was no room for it and they are all
 abbrev pub WithPlaced : Indexed → Setting → List Doc → Doc → Bool → Type 0
 WithPlaced s σ docs d true = HasRoom σ docs d × Holds s σ (docs ++ d ∷ [])
 WithPlaced s σ docs d false = (has_room σ docs d ≡ false) × Holds s σ docs

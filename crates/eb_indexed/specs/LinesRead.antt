@@ -13,7 +13,7 @@ use Rattle.eb_indexed.specs.Admitted.{admitted_from}
 abbrev pub ComeTo : (Line → Reading → Type 0) → (List Reading → List Reading) → List Line → List Reading → Type 0
 ComeTo reads comes lines rs = (raw : List Reading) × AllZip reads lines raw × (rs ≡ comes raw)
 
--- they come to these in an index of this setting behind these documents
+-- they come to these in an index of this setting after these documents
 abbrev pub AreReadBehind : (Line → Reading → Type 0) → Setting → List Doc → List Line → List Reading → Type 0
 AreReadBehind reads σ docs = ComeTo reads (admitted_from σ docs)
 

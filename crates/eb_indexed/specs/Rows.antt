@@ -1,4 +1,4 @@
--- What the queries of one round see, behind lines that were worked off before.
+-- What the queries of one round see, after lines that were processed before.
 use Rattle.std.specs.Prelude.{◌≡◌, ℕ, ◌-◌, ◌≤◌, true, false, List, [], ◌∷◌, length, nat_lt, if◌then◌else◌}
 use Rattle.std.specs.List.{AllByRecursion}
 use Rattle.eb_lines.specs.Reading.{Reading}

@@ -81,7 +81,7 @@ abbrev pub SeesInOrder : List Reading → (ℕ → ℕ) → Type 0
 SeesInOrder rs n = (j : ℕ) → n j ≡ told rs j
 
 -- each query sees the documents accepted before it, and no more than those before the next query line that follows a document
--- line behind it; none sees less than one before it
+-- line after it; none sees less than one before it
 pub record SeesBetween (rs : List Reading) (n : ℕ → ℕ) : Type 0 where
   pub least : (j : ℕ) → IsAsked rs j → told rs j ≤ n j
   pub most : (j : ℕ) → IsAsked rs j → n j ≤ next rs j

@@ -25,6 +25,6 @@ body_from n docs j (r ∷ rs) = output_of (j + 1) (n j) docs r ++ body_from n do
 abbrev pub body : (ℕ → ℕ) → List Reading → List ℕ
 body n rs = body_from n (accepted rs) 0 rs
 
--- what stands behind it: the summary, with the line of the segments where they are told
+-- what stands after it: the summary, with the line of the segments where they are told
 abbrev pub end_of : Setting → Bool → List Reading → List ℕ
 end_of σ stats rs = summary_with (length (accepted rs)) (queries rs) (refusals rs) (index_tail σ stats (accepted rs))

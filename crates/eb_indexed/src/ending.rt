@@ -19,7 +19,7 @@ pub struct Counts {
     pub refused: u64,
 }
 
-/// What tells the segments behind the counts of a summary, where they are told.
+/// What tells the segments after the counts of a summary, where they are told.
 pub fn segments_text(
     alloc: Global,
     stats: bool,
@@ -37,7 +37,7 @@ pub fn segments_text(
     Ok(format!(in alloc; "\nsegments {segments}, converted {converted}")?)
 }
 
-/// The end of a run, behind the text: the summary, with the line of the segments where `stats` asks for it. Where memory
+/// The end of a run, after the text: the summary, with the line of the segments where `stats` asks for it. Where memory
 /// doesn't suffice, the text is as before.
 pub fn put_end(
     alloc: Global,

@@ -62,7 +62,7 @@ impl Indexed {
         }
     }
 
-    /// Adds a document behind the others, and converts the segment that it closed. False exactly where there is no room for
+    /// Adds a document after the others, and converts the segment that it closed. False exactly where there is no room for
     /// it. Takes no memory.
     pub fn add<G: Gate>(&mut self, document: &Document, gate: &G) -> bool
         requires { (σ : Setting) × (docs : List Doc) × Holds self.old σ docs }

@@ -1,4 +1,4 @@
--- The pieces of a text, and its lines, where the text is two texts one behind the other.
+-- The pieces of a text, and its lines, where the text is two texts one after the other.
 use Rattle.std.proofs.Common.{◌≡◌, ◌≢◌, inl, inr, ℕ, Bool, true, false, List, [], ◌∷◌, ◌++◌, map, refl, sym, ap, ◌∙◌, append_assoc, append-nil, arith}
 use Rattle.std.specs.Prelude.{◌==◌}
 use Rattle.std.proofs.lemmas.List.{map-append}
@@ -32,7 +32,7 @@ whole_pieces-uncut [] uncut = refl
 whole_pieces-uncut (b ∷ bs) uncut =
     rw (is_no_lf b (uncut_head b bs uncut)) (ap (before_first_piece b) (whole_pieces-uncut bs (uncut_rest b bs uncut)))
 
--- a text that ends in a LF has at least one piece, a LF ends each of them, and more text comes behind
+-- a text that ends in a LF has at least one piece, a LF ends each of them, and more text comes after
 record Ends (front more : List ℕ) : Type 0 where
   first : List ℕ
   others : List (List ℕ)
@@ -63,7 +63,7 @@ ends : (front more : List ℕ) → Ends front more
 ends [] more = record { first = []; others = []; alone = refl; whole = refl; followed = refl; whole_followed = refl }
 ends (b ∷ bs) more = ends_after (b == 10) b bs more refl (ends bs more)
 
--- behind whole lines another text begins
+-- after whole lines another text begins
 pub pieces-append : (front more : List ℕ) → AreWhole front → pieces (front ++ more) ≡ pieces front ++ pieces more
 pieces-append front more (inl e) = rw e refl
 pieces-append front more (inr (f, e)) =
@@ -97,7 +97,7 @@ whole_lines-uncut bytes uncut = ap (map line_from) (whole_pieces-uncut bytes unc
 pub whole_lines-whole : (bytes : List ℕ) → AreWhole bytes → whole_lines bytes ≡ lines_of bytes
 whole_lines-whole bytes w = ap (map line_from) (whole_pieces-whole bytes w)
 
--- behind whole lines, bytes without a LF end no line
+-- after whole lines, bytes without a LF end no line
 pub whole_lines-open : (front more : List ℕ) → AreWhole front → IsUncut more → whole_lines (front ++ more) ≡ lines_of front
 whole_lines-open front more w uncut =
     whole_lines-append front more w ∙ (ap (λ t. whole_lines front ++ t) (whole_lines-uncut more uncut) ∙ (append-nil (whole_lines front) ∙ whole_lines-whole front w))

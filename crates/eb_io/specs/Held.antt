@@ -21,7 +21,7 @@ no_part = record { is_long = false; bytes = [] }
 
 -- `Lines` between two calls
 pub record Held : Type 0 where
-  -- what is kept of the line that comes next, and the bytes that were taken behind it
+  -- what is kept of the line that comes next, and the bytes that were taken after it
   pub part : Part
   pub rest : List ℕ
   -- the line that was given last

@@ -180,7 +180,7 @@ impl Lines {
         self.to - self.from
     }
 
-    // Moves the first bytes of the rest behind the part.
+    // Moves the first bytes of the rest after the part.
     fn join(&mut self, count: usize)
         requires { count ≤ length self.old.rest }
         ensures held { self.new ≡ record self.old { part = self.new.part; rest = drop count self.old.rest } }
@@ -287,7 +287,7 @@ impl Lines {
     /// them. `ReadFault` comes only where the source's number of faults rose in this call. After the
     /// end was met, the source isn't asked again. Takes no memory.
     pub fn next_line<S: Source>(&mut self, source: &mut S) -> Next
-        // the call took some bytes; with those that were taken before, and behind the lines that were
+        // the call took some bytes; with those that were taken before, and after the lines that were
         // given before, the answer says what comes next
         ensures told { (before : List ℕ) (given : List Line) → HasGiven before given self.old
             → (seen : List ℕ) × (S.left source.old ≡ after seen (S.left source.new))

@@ -327,7 +327,7 @@ module _ {P A : Type 0} (has_run : P → A → List Line → List ℕ → Type 0
 pub running_on : {P A : Type 0} (has_run : P → A → List Line → List ℕ → Type 0) (old new : P) (t0 t1 : List ℕ) → IsRunning has_run old → WorksOn has_run old new t0 t1 → IsRunning has_run new
 running_on has_run old new t0 t1 r f = let w = f r.0 r.1 r.2 r.3 in (r.0, r.1, r.2 ++ w.0, w.1)
 
--- ---- the last lines are worked off
+-- ---- the last lines are processed
 
 module _ {P A : Type 0} (has_run : P → A → List Line → List ℕ → Type 0) (prints ends_with : A → List Line → List ℕ → Type 0) (refuses accepts : A → List Line → Type 0) (a : A)
     (l0 l1 p0 p1 p2 : Option (List ℕ)) (h : Held) (run new : P) (text t : List ℕ) (on : WorksOn has_run run new text t)

@@ -50,6 +50,6 @@ Means refuses accepts NoMemory bytes left = (taken : List ℕ) × AreTaken bytes
 Means refuses accepts Usage bytes left = ⊥
 Means refuses accepts BadImage bytes left = ⊥
 
--- the whole input is worked off, unless memory ran out
+-- the whole input is processed, unless memory ran out
 abbrev pub IsWorkedOff : Status → Type 0
 IsWorkedOff status = (status ≡ Done) ⊎ ((status ≡ Refused) ⊎ (status ≡ NoMemory))

@@ -14,7 +14,7 @@ use Rattle.eb_lines.specs.declared.passing.Upcoming.TheVariants as next
 abbrev pub AreFirstLines : List Line → List ℕ → Option (List ℕ) → Type 0
 AreFirstLines lines taken left = (rest : List ℕ) → left ≡ Some rest → (more : List Line) × (lines_of (taken ++ rest) ≡ lines ++ more)
 
--- between two lines: the lines given are those of the bytes taken, and what those that are worked off print is written or
+-- between two lines: the lines given are those of the bytes taken, and what those that are processed print is written or
 -- gathered
 pub record IsAt {P A : Type 0} (has_run : P → A → List Line → List ℕ → Type 0)
     (a : A) (left_old left_new printed_old printed_new : Option (List ℕ)) (held : Held) (run : P) (gathered : List ℕ) : Type 0 where

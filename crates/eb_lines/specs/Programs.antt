@@ -7,7 +7,7 @@ use Rattle.eb_io.specs.Lines.{Line}
 abbrev pub IsRunning : {P A : Type 0} → (P → A → List Line → List ℕ → Type 0) → P → Type 0
 IsRunning {P} {A} has_run p = (a : A) × (given : List Line) × (so_far : List ℕ) × has_run p a given so_far
 
--- the program worked off lines that it held, if any, and put what they print behind the text
+-- the program processed lines that it held, if any, and put what they print after the text
 abbrev pub WorksOn : {P A : Type 0} → (P → A → List Line → List ℕ → Type 0) → P → P → List ℕ → List ℕ → Type 0
 WorksOn {P} {A} has_run old new text_old text_new = (a : A) (given : List Line) (so_far : List ℕ) → has_run old a given so_far
     → (printed : List ℕ) × has_run new a given (so_far ++ printed) × (text_new ≡ text_old ++ printed)
@@ -29,7 +29,7 @@ prints_all prints a given so_far h = (given, [], [], sym (append-nil given), sub
 abbrev pub HasPrinted : {P A : Type 0} → (P → A → List Line → List ℕ → Type 0) → (A → List Line → List ℕ → Type 0) → P → Type 0
 HasPrinted {P} {A} has_run prints p = (a : A) (given : List Line) (so_far : List ℕ) → has_run p a given so_far → prints a given so_far
 
--- the end of the input was put behind the text, and so many lines are refused
+-- the end of the input was put after the text, and so many lines are refused
 pub record Finishes {P A : Type 0} (has_run : P → A → List Line → List ℕ → Type 0) (ends_with : A → List Line → List ℕ → Type 0) (refuses accepts : A → List Line → Type 0)
     (old : P) (text_old text_new : List ℕ) (refused : ℕ) (a : A) (given : List Line) (so_far : List ℕ) : Type 0 where
   pub printed : List ℕ

@@ -1,4 +1,4 @@
--- What is printed for a line, and behind the last one.
+-- What is printed for a line, and after the last one.
 use Rattle.std.specs.Prelude.{ℕ, List, [], ◌∷◌, ◌++◌, codes, flat_map}
 use Rattle.std.specs.Fmt.{decimal}
 use Rattle.eb_lines.specs.declared.refusal.Refusal.{Refusal}

@@ -98,7 +98,7 @@ fn take_next<P: LineProgram, S: Source>(
     }
 }
 
-// How a program ends where reading does, by this status: all lines are worked off before, and what is gathered is written.
+// How a program ends where reading does, by this status: all lines are processed before, and what is gathered is written.
 fn stop<P: LineProgram, K: Sink>(
     program: &mut P,
     text: &mut Vec<u8>,
@@ -133,7 +133,7 @@ fn status_of(refused: u64) -> Status
     }
 }
 
-// How a program ends where its input does: all lines are worked off before, and the end is printed.
+// How a program ends where its input does: all lines are processed before, and the end is printed.
 fn close<P: LineProgram, K: Sink>(program: &mut P, text: &mut Vec<u8>, out: &mut K) -> Status
     requires { (held : Held) × (l1 : Option (List ℕ)) × IsSomewhere P.has_run l1 (K.taken out.old) held program.old text.old.items }
     ensures ends { (a : P.Asked) (l0 l1 p0 : Option (List ℕ)) (held : Held) → IsAtEnd P.has_run a l0 l1 p0 (K.taken out.old) held program.old text.old.items

@@ -5,7 +5,7 @@ ghost use Rattle.eb_lines.specs.Programs.{IsRunning, WorksOn, WorksOnGiven, Prin
 
 use eb_base::NoMemory;
 
-/// A program over the lines of an input: what it does with each of them, and at the end. What it prints it puts behind a
+/// A program over the lines of an input: what it does with each of them, and at the end. What it prints it puts after a
 /// text that is written by whoever calls it.
 pub trait LineProgram {
     // What the program was asked to do.
@@ -24,7 +24,7 @@ pub trait LineProgram {
 
     ghost accepts: { Asked → List Line → Type 0 };
 
-    // All lines that it was given are worked off.
+    // All lines that it was given are processed.
     ghost settled: { Self → Type 0 };
 
     // How many lines it was given.
@@ -44,19 +44,19 @@ pub trait LineProgram {
         ensures ok { OnOk result (WorksOnGiven has_run self.old self.new text.old.items text.new.items long_line) }
         ensures err { OnErr result (WorksOn has_run self.old self.new text.old.items text.new.items) };
 
-    /// Works off what may not wait until the source gives a further line.
+    /// Processes what may not wait until the source gives a further line.
     fn settle(&mut self, text: &mut Vec<u8>) -> Result<(), NoMemory>
         requires { IsRunning has_run self.old }
         ensures { WorksOn has_run self.old self.new text.old.items text.new.items };
 
-    /// Works off all lines that it was given.
+    /// Processes all lines that it was given.
     fn settle_all(&mut self, text: &mut Vec<u8>) -> Result<(), NoMemory>
         requires { IsRunning has_run self.old }
         ensures on { WorksOn has_run self.old self.new text.old.items text.new.items }
         ensures all { OnOk result (settled self.new) }
         ensures printed { OnOk result (HasPrinted has_run prints self.new) };
 
-    /// Puts the end of the input behind the text, where all lines are worked off, and gives how many of them are refused.
+    /// Puts the end of the input after the text, where all lines are processed, and gives how many of them are refused.
     /// Where memory doesn't suffice, the text is as before.
     fn finish(&mut self, text: &mut Vec<u8>) -> Result<u64, NoMemory>
         requires running { IsRunning has_run self.old }

@@ -7,19 +7,19 @@ pub const MAX_INPUT: u64 = 1_099_511_627_776;
 /// How a run ends.
 #[derive(Clone, Copy, Debug, PartialEq, Eq)]
 pub enum Status {
-    /// The input is worked off, and no line was refused.
+    /// The input is processed, and no line was refused.
     Done,
-    /// The input is worked off, and at least one line was refused.
+    /// The input is processed, and at least one line was refused.
     Refused,
     /// The words ask for no command. Nothing was read, and nothing was printed.
     Usage,
-    /// Reading failed. What was read of whole lines is worked off.
+    /// Reading failed. What was read of whole lines is processed.
     ReadFault,
     /// Writing failed.
     WriteFault,
     /// Memory ran out. It can come in any run.
     NoMemory,
-    /// [`MAX_INPUT`] bytes were read without an end. Their whole lines are worked off.
+    /// [`MAX_INPUT`] bytes were read without an end. Their whole lines are processed.
     InputTooLong,
     /// What was read is no image. It comes from a load alone; nothing was printed.
     BadImage,

@@ -413,7 +413,7 @@ module _ (names : List Text) (ok : AreNames names) where
         never true e = refl
         never false e = sym e
 
-  -- ---- the word behind `--name`
+  -- ---- the word after `--name`
 
   module _ (rows : List Row) (name : Text) (key : IsKey name) (word : Text) (plain : bytes_eq word (45 ∷ 45 ∷ []) ≡ false) where
     abbrev wants : Walk

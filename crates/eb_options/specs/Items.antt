@@ -9,7 +9,7 @@ use Rattle.eb_options.specs.Numbers.{number}
 
 -- ---- names
 
--- the texts behind references
+-- the texts after references
 abbrev pub texts : List (Bor (List ℕ)) → List (List ℕ)
 texts names = map (λ name. name.now) names
 
@@ -36,7 +36,7 @@ is_one_of names word = list_any (λ name. bytes_eq word (dashed name)) names
 abbrev pub name_in : List ℕ → List ℕ
 name_in word = before_first is_equals word
 
--- what stands behind the first `=` of a word, if it has one
+-- what stands after the first `=` of a word, if it has one
 abbrev pub value_in : List ℕ → Option (List ℕ)
 value_in word = if list_any is_equals word then Some (after_first is_equals word) else None
 

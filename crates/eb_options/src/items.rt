@@ -32,7 +32,7 @@ pub(crate) struct Number {
     number: Option<u32>,
 }
 
-/// The items that the words behind a command's name are: for each flag of the command whether it stands there, and for each
+/// The items that the words after a command's name are: for each flag of the command whether it stands there, and for each
 /// of its options the number, if it stands there.
 #[derive(Debug, Drop)]
 pub struct Items {
@@ -243,7 +243,7 @@ fn read_values<'a>(
     }
 }
 
-/// The items that the words behind a command's name are, for a command with these flags and options. Names are without
+/// The items that the words after a command's name are, for a command with these flags and options. Names are without
 /// their dashes; a name of an option isn't empty, and has no `=`.
 ///
 /// The words are items in any order: `--x` for a flag, and for an option the two words `--x V` or the one word `--x=V`, where

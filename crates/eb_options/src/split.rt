@@ -1,3 +1,7 @@
+//! The flags of a command, and its other words.
+//!
+//! Flags are taken out of the words before `clap` reads them, where each stands as an item of its own and not as a
+//! value of an option; `clap`'s flags have a default value, which each law of the options would have to speak of.
 ghost use Rattle.std.specs.Prelude.{◌≡◌, ◌++◌, ◌∷◌, false, [], List, ℕ, IfOk, OnOk, map, string_bytes};
 ghost use Rattle.std.specs.Str.{bytes_eq};
 ghost use Rattle.eb_options.specs.Items.{dashed, is_one_of, texts};

@@ -79,7 +79,7 @@ admit_low parts σ docs d last is low =
     let e : nat_le d.id last ≡ true = le-leb d.id last low in
     ap (λ o. refusal_above o d (refusal_of_part parts σ docs d)) is ∙ ap (λ (b : Bool). if b then Some (NotRising last) else refusal_of_part parts σ docs d) e
 
--- ---- the store behind it
+-- ---- the store after it
 
 short_more : (parts : ℕ) (σ : Setting) (docs : List Doc) (d : Doc) (p : ℕ) → 1 ≤ parts → σ.segments ≤ 64 → has_room σ (part parts docs (d.id % parts)) d ≡ true
     → length (cut σ (history (cut_into parts docs) p)) ≤ 64 → length (cut σ (history (cut_into parts (docs ++ d ∷ [])) p)) ≤ 64

@@ -13,7 +13,7 @@ last_id [] = None
 last_id (d ∷ []) = Some d.id
 last_id (d ∷ e ∷ ds) = last_id (e ∷ ds)
 
--- a document goes to the part that is the rest of its id by the number of parts, where that has room for it behind those of
+-- a document goes to the part that is its id modulo the number of parts, where that has room for it after those of
 -- these documents that went there; else it is refused as full
 abbrev pub refusal_of_part : ℕ → Setting → List Doc → Doc → Option Refusal
 refusal_of_part parts σ docs d = if has_room σ (part parts docs (d.id % parts)) d then None else Some Full
@@ -23,6 +23,6 @@ abbrev pub refusal_above : Option ℕ → Doc → Option Refusal → Option Refu
 refusal_above None d r = r
 refusal_above (Some last) d r = if nat_le d.id last then Some (NotRising last) else r
 
--- why a document is refused behind these accepted ones
+-- why a document is refused after these accepted ones
 abbrev pub refusal_in_parts : ℕ → Setting → List Doc → Doc → Option Refusal
 refusal_in_parts parts σ docs d = refusal_above (last_id docs) d (refusal_of_part parts σ docs d)

@@ -29,7 +29,7 @@ pub record Holds (s : Store) (parts : ℕ) (σ : Setting) (docs : List Doc) : Ty
   pub counts : counted (lengths_of (cut_into parts docs)) ≡ min (length docs) (2 ^ 64 - 1)
   pub short : (p : ℕ) → length (cut σ (history (cut_into parts docs) p)) ≤ 64
 
--- a document behind these was placed, or refused
+-- a document after these was placed, or refused
 pub record WithPlaced (s : Store) (parts : ℕ) (σ : Setting) (docs : List Doc) (d : Doc) (r : Option Refusal) : Type 0 where
   pub refusal : r ≡ refusal_in_parts parts σ docs d
   pub holds : Holds s parts σ (docs ++ documents_in (document_outcome d r))

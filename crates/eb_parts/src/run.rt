@@ -13,8 +13,8 @@ use eb_io::{Sink, Source};
 use eb_lines::Status;
 use std::alloc::Global;
 
-/// Works off the lines that the source gives, in order, over so many parts, from 1 to 16, each an index of this setting:
-/// a document goes to the part that is the rest of its id by their number; prints answers, refusals and the summary on
+/// Processes the lines that the source gives, in order, over so many parts, from 1 to 16, each an index of this setting:
+/// a document goes to the part that is its id modulo their number; prints answers, refusals and the summary on
 /// `out`. Lines are numbered from 1. A query sees all documents that were accepted before its line, and its answer is that
 /// of one history of them. With `stats` the line of the segments of all parts follows the summary.
 ///
@@ -44,7 +44,7 @@ pub fn run_parts<S: Source, K: Sink, G: Gate>(
     // Faults come only from outside.
     ensures read_fault { result ≡ Status.ReadFault → HasRisen (S.faults source.old) (S.faults source.new) }
     ensures write_fault { result ≡ Status.WriteFault → HasRisen (K.faults out.old) (K.faults out.new) }
-    // Without a fault and with an end in time, the input is worked off.
+    // Without a fault and with an end in time, the input is processed.
     ensures completes { (HasRisen (S.faults source.old) (S.faults source.new) → ⊥) → (HasRisen (K.faults out.old) (K.faults out.new) → ⊥)
         → (bytes : List ℕ) → S.left source.old ≡ Some bytes → length bytes < longest_input → IsWorkedOff result }
 {

@@ -28,7 +28,7 @@ front_later t u n us h = rw h refl
 split_cons : (t u : Term) (us f g rest : List Term) → f ≡ u ∷ g → us ≡ g ++ t ∷ rest → u ∷ us ≡ f ++ t ∷ rest
 split_cons t u us f g rest e h = rw e (ap (λ (x : List Term). u ∷ x) h)
 
--- the list goes on with the term behind the front
+-- the list goes on with the term after the front
 pub front_split : (t : Term) (n : ℕ) (ts : List Term) → n < count_of t ts → (rest : List Term) × (ts ≡ front_of t n ts ++ t ∷ rest)
 front_split t n [] h = let e = count_of-nil t in absurd (omega arith)
 front_split t zero (u ∷ us) h = let d = count_of-cons t u us in elim (cases_Bool (bytes_eq t u)) [

@@ -89,7 +89,7 @@ next_is_free cells terms t h = let l = length-cells_of cells terms in
     ap (λ n. is_taken (cells_of cells terms) (free_from cells (cells_of cells terms) n (home_cell cells t))) (sym l)
     ∙ free_from_free cells (cells_of cells terms) (home_cell cells t) (mod-lt (hash t) (omega arith)) (omega arith)
 
--- where a free cell is met behind taken ones, it is the cell of the next term
+-- where a free cell is met after taken ones, it is the cell of the next term
 pub next_is : (cells : ℕ) (terms : List Term) (t : Term) (k : ℕ) → 1 ≤ cells → length terms < cells
     → ((i : ℕ) → i < k → is_taken (cells_of cells terms) (cell_at cells (home_cell cells t) i) ≡ true) → is_taken (cells_of cells terms) (cell_at cells (home_cell cells t) k) ≡ false
     → cell_of_next cells terms t ≡ cell_at cells (home_cell cells t) k

@@ -204,7 +204,7 @@ is_converted m s is ins e = elim (cases_lt s m.conversions.converted) [
 
 -- ---- the directory word and the packed words of a term
 
--- a list of terms up to one, and behind it
+-- a list of terms up to one, and after it
 sum_front : (f : Term → ℕ) (ts : List Term) (k : ℕ) → k < length ts → sum_by f (take k ts) + f (get_or ts k []) ≤ sum_by f ts
 sum_front f [] k h = absurd (omega arith)
 sum_front f (t ∷ ts) zero h = omega (arith, sum_by-cons f t ts)

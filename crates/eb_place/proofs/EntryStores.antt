@@ -23,7 +23,7 @@ use Rattle.eb_place.proofs.RegionStores.{Picks, filter_none, filter_whole}
 abbrev pub is_entry : ℕ → Store → Bool
 is_entry s y = is_in s text_region y || is_in s text_place_region y || is_in s cell_region y
 
--- the stores that enter these terms behind others, one term after the other
+-- the stores that enter these terms after others, one term after the other
 unfoldable pub entries : Setting → ℕ → List Term → List Term → List Store
 entries σ s before [] = []
 entries σ s before (t ∷ ts) = enter_stores σ s before t ++ entries σ s (before ++ t ∷ []) ts

@@ -124,7 +124,7 @@ not_first : (s : ℕ) (x : Slot) → of_token x ≡ true → x ≡ slot s first_
 unfolding of_token
 not_first s x h e = false≢true (sym (ap of_token e) ∙ h)
 
--- the stores behind the first
+-- the stores after the first
 abbrev pub rest_stores : Setting → ℕ → List Doc → ℕ → Doc → List Store
 rest_stores σ s seg count d = tokens_stores σ s (length seg) 0 (terms_of seg) d.terms ++ (slot s id_region (length seg), d.id) ∷ (published, count + 1) ∷ []
 

@@ -116,7 +116,7 @@ pub begin_offset : (f : ℕ) → begins f ≡ true → 1 ≤ pool_at f → offse
 unfolding pool_at offset_at slice_start
 begin_offset f h l = grind (arith, nat_tests)
 
--- postings of linked slices stand behind the link
+-- postings of linked slices stand after the link
 pub offset_linked : (f : ℕ) → 1 ≤ pool_at f → 1 ≤ offset_at f
 unfolding pool_at offset_at
 offset_linked f h = grind (arith, nat_tests)

@@ -179,17 +179,17 @@ placed_more m d stores k is n goes some low =
 pub next_as : (m : Moment) (d : Doc) (p q v w : ℕ) → IsNext m d p v → q ≡ p → w ≡ v → IsNext m d q w
 next_as m d p q v w h e f = subst (λ (z : ℕ × ℕ). IsNext m d z.0 z.1) (λ j. (sym e j, sym f j)) h
 
--- ---- more stores come behind
+-- ---- more stores come after
 
 get_seam : {X : Type 0} (xs ys : List X) (y : X) → slice_get (xs ++ y ∷ ys) (length xs) ≡ Some y
 get_seam [] ys y = refl
 get_seam (x ∷ xs) ys y = get_seam xs ys y
 
--- the element behind a front
+-- the element after a front
 pub get_at : {X : Type 0} (xs ys : List X) (y : X) (k : ℕ) → k ≡ length xs → slice_get (xs ++ y ∷ ys) k ≡ Some y
 get_at xs ys y k e = ap (slice_get (xs ++ y ∷ ys)) e ∙ get_seam xs ys y
 
--- behind next stores of which none is that of the count, more come
+-- after next stores of which none is that of the count, more come
 pub goes_on : (m : Moment) (d : Doc) (stores : List Store) → AreNext m d stores → 1 ≤ length stores → Each (λ (y : Store). y.0 ≡ published → ⊥) stores → HasMoreAfter m d stores
 unfolding doc_stores
 goes_on m d stores n some plain =

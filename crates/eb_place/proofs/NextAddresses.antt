@@ -70,7 +70,7 @@ tokens_stores-append σ s n p before (x ∷ xs) ys =
     ∙ ap (λ (z : List Term). tokens_stores σ s n (p + 1) (before ++ x ∷ []) xs ++ tokens_stores σ s n (p + suc (length xs)) z ys) a)
     ∙ sym (append_assoc (token_stores σ s before x (posting_of n p)) (tokens_stores σ s n (p + 1) (before ++ x ∷ []) xs) (tokens_stores σ s n (p + suc (length xs)) (before ++ (x ∷ xs)) ys))
 
--- of a list that goes on with `now` and then `rest` at place i, `rest` stands behind `now`
+-- of a list that goes on with `now` and then `rest` at place i, `rest` stands after `now`
 pub next_rest : (xs now rest : List Store) (i : ℕ) → drop i xs ≡ now ++ rest → drop (i + length now) xs ≡ rest
 next_rest xs now rest i h = sym (drop-drop (length now) i xs) ∙ ap (drop (length now)) h ∙ drop_at now rest (length now) refl
 

@@ -9,7 +9,7 @@ use Rattle.eb_place.specs.Room.{text_words, holds, fits, all_slices}
 abbrev least : Setting
 least = record { segments = 1; docs = 1; terms = 1024 }
 
--- n different terms: the numbers from `first` on, in two bytes each, and `more` bytes behind them
+-- n different terms: the numbers from `first` on, in two bytes each, and `more` bytes after them
 abbrev different : ℕ → ℕ → ℕ → List Term
 different first zero more = []
 different first (suc n) more = ((first + n) % 256 ∷ (first + n) / 256 ∷ replicate more 0) ∷ different first n more

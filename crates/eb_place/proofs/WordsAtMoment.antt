@@ -50,7 +50,7 @@ placings_after-append σ before (x ∷ xs) ys =
 pub placings-append : (σ : Setting) (xs ys : List Doc) → placings σ (xs ++ ys) ≡ placings σ xs ++ placings_after σ xs ys
 placings-append σ xs ys = placings_after-append σ [] xs ys
 
--- the stores of one more document come behind
+-- the stores of one more document come after
 pub placings_push : (σ : Setting) (docs : List Doc) (d : Doc) → placings σ (docs ++ d ∷ []) ≡ placings σ docs ++ doc_stores σ docs d
 unfolding placings_after
 placings_push σ docs d = placings_after-append σ [] docs (d ∷ []) ∙ ap (λ (z : List Store). placings σ docs ++ z) (append-nil (doc_stores σ docs d))

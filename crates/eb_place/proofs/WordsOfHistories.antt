@@ -19,14 +19,14 @@ use Rattle.eb_place.proofs.StoringTokens.{Agrees}
 
 -- ---- which segment a document goes to
 
--- one more document goes to the end of segment `last`, behind `before`, and the others stay
+-- one more document goes to the end of segment `last`, after `before`, and the others stay
 pub record Goes (σ : Setting) (segs : List (List Doc)) (d : Doc) (new : List (List Doc)) (last : ℕ) (before : List Doc) : Type 0 where
   pub most : length new ≡ last + 1
   pub here : get_or new last [] ≡ before ++ d ∷ []
   pub old : get_or segs last [] ≡ before
   pub other : (s : ℕ) → s ≢ last → get_or new s [] ≡ get_or segs s []
 
--- the documents that it stands behind in its segment
+-- the documents that it stands after in its segment
 abbrev pub before_in : Setting → List (List Doc) → Doc → List Doc
 before_in σ segs d = if fits σ (last_of segs) d then last_of segs else []
 
@@ -174,7 +174,7 @@ agrees_doc seg d =
     (sym (segment_push 0 seg d ∙ ap (λ k. segment_from 0 seg ++ tokens_from k 0 d.terms) (let e : 0 + length seg ≡ length seg = omega arith in e)))
     (subst (λ z. Agrees (numbers (segment_from 0 seg ++ tokens_from (length seg) 0 d.terms)) (length seg) 0 z d.terms) (segment_terms 0 seg) (agrees (length seg) 0 (segment_from 0 seg) d.terms))
 
--- the tokens of further documents come behind
+-- the tokens of further documents come after
 pub terms_more : (seg ds : List Doc) → terms_of (seg ++ ds) ≡ terms_of seg ++ terms_of ds
 unfolding terms_of
 terms_more [] ds = refl

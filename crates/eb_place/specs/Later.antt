@@ -11,7 +11,7 @@ abbrev pub Further : Doc × ℕ → Option (Doc × ℕ) → Type 0
 Further c None = ⊥
 Further c (Some e) = (c.0 ≡ e.0) × (c.1 ≤ e.1)
 
--- the document that is being placed behind a history is so still, or is accepted behind that history
+-- the document that is being placed after a history is so still, or is accepted after that history
 abbrev pub Goes : List Doc → Option (Doc × ℕ) → Documents → Type 0
 Goes docs None b = Unit {0}
 Goes docs (Some c) b = ((docs ≡ b.accepted) × Further c b.current) ⊎ IsPrefix (docs ++ c.0 ∷ []) b.accepted

@@ -15,11 +15,11 @@ abbrev pub current_of : Option (Doc × ℕ) → List Doc
 current_of None = []
 current_of (Some c) = c.0 ∷ []
 
--- the history, and behind it the document that is being placed
+-- the history, and after it the document that is being placed
 abbrev pub with_current : Documents → List Doc
 with_current x = x.accepted ++ current_of x.current
 
--- the stores that place further documents behind a history, one document after the other
+-- the stores that place further documents after a history, one document after the other
 unfoldable pub placings_after : Setting → List Doc → List Doc → List Store
 placings_after σ before [] = []
 placings_after σ before (d ∷ ds) = doc_stores σ before d ++ placings_after σ (before ++ d ∷ []) ds

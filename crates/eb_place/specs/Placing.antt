@@ -59,11 +59,11 @@ with_cell cells taken t = taken ++ free_from cells taken (length taken) (home_ce
 unfoldable pub cells_of : ℕ → List Term → List ℕ
 cells_of cells terms = fold (with_cell cells) [] terms
 
--- the cell of a new term, behind those before it
+-- the cell of a new term, after those before it
 unfoldable pub cell_of_next : ℕ → List Term → Term → ℕ
 cell_of_next cells terms t = free_from cells (cells_of cells terms) (length terms) (home_cell cells t)
 
--- the stores that enter a new term behind those before it: its text, its text place, its cell
+-- the stores that enter a new term after those before it: its text, its text place, its cell
 unfoldable pub enter_stores : Setting → ℕ → List Term → Term → List Store
 enter_stores σ s terms t = in_row s text_region (sum_by text_words terms) (text_of t)
     ++ (slot s text_place_region (length terms), sum_by text_words terms)
@@ -85,7 +85,7 @@ unfoldable pub tokens_stores : Setting → ℕ → ℕ → ℕ → List Term →
 tokens_stores σ s n p before [] = []
 tokens_stores σ s n p before (t ∷ ts) = token_stores σ s before t (posting_of n p) ++ tokens_stores σ s n (p + 1) (before ++ t ∷ []) ts
 
--- the stores of a document in segment s behind the documents seg, with `count` documents before it in all:
+-- the stores of a document in segment s after the documents seg, with `count` documents before it in all:
 -- the first-document word where it begins the segment, its tokens, its id, and the greater count
 unfoldable pub stores_in : Setting → ℕ → List Doc → ℕ → Doc → List Store
 stores_in σ s seg count d = (if length seg == 0 then ((slot s first_region 0, count + 1) ∷ []) else [])
@@ -96,10 +96,10 @@ stores_in σ s seg count d = (if length seg == 0 then ((slot s first_region 0, c
 abbrev pub segment_before : Setting → List Doc → Doc → List Doc
 segment_before σ docs d = if fits σ (last_of (cut σ docs)) d then last_of (cut σ docs) else []
 
--- the stores that place a document behind a history
+-- the stores that place a document after a history
 unfoldable pub doc_stores : Setting → List Doc → Doc → List Store
 doc_stores σ docs d = stores_in σ (length (with_doc σ (cut σ docs) d) - 1) (segment_before σ docs d) (length docs) d
 
--- the placing of a document behind a history: pairs of place and value, in the order of the stores
+-- the placing of a document after a history: pairs of place and value, in the order of the stores
 abbrev pub placing : Setting → List Doc → Doc → List (ℕ × ℕ)
 placing σ docs d = pairs_of σ (doc_stores σ docs d)

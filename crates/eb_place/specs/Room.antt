@@ -28,11 +28,11 @@ holds σ seg = nat_le (length seg) σ.docs && nat_le (length (distinct (terms_of
     && nat_le (all_slices 0 (terms_of seg)) (pool_slices σ 0) && nat_le (all_slices 1 (terms_of seg)) (pool_slices σ 1)
     && nat_le (all_slices 2 (terms_of seg)) (pool_slices σ 2) && nat_le (all_slices 3 (terms_of seg)) (pool_slices σ 3)
 
--- whether a document fits behind those of a segment
+-- whether a document fits after those of a segment
 abbrev pub fits : Setting → List Doc → Doc → Bool
 fits σ seg d = holds σ (seg ++ d ∷ [])
 
--- the document fits behind those of the segment
+-- the document fits after those of the segment
 abbrev pub Fits : Setting → List Doc → Doc → Type 0
 Fits σ seg d = IsTrue (fits σ seg d)
 
@@ -56,7 +56,7 @@ last_of (s ∷ r ∷ rs) = last_of (r ∷ rs)
 unfoldable pub has_room : Setting → List Doc → Doc → Bool
 has_room σ docs d = nat_lt (length (cut σ docs)) σ.segments || fits σ (last_of (cut σ docs)) d
 
--- the index takes the document behind this history
+-- the index takes the document after this history
 abbrev pub HasRoom : Setting → List Doc → Doc → Type 0
 HasRoom σ docs d = IsTrue (has_room σ docs d)
 

@@ -25,7 +25,7 @@ pub fn cut(alloc: Global, config: &Config, documents: &[Document]) -> Result<Vec
     Ok(closed)
 }
 
-/// Whether an index of this setting has room for the document behind this history: a further segment
+/// Whether an index of this setting has room for the document after this history: a further segment
 /// can be begun, or the last one fits it.
 pub fn has_room(
     alloc: Global,

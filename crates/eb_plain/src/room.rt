@@ -9,7 +9,7 @@ use crate::scan::has_term;
 use eb_base::{Config, Document, NoMemory, Term, Terms};
 use std::alloc::Global;
 
-/// Whether a document fits a segment of this setting behind its documents, by counting all of them
+/// Whether a document fits a segment of this setting after its documents, by counting all of them
 /// again: the documents, the distinct terms, their text words, and the slices of each pool.
 pub fn fits(
     alloc: Global,
@@ -30,7 +30,7 @@ pub fn fits(
     has_room_for(alloc, config, &terms)
 }
 
-// The terms of the document, behind the list.
+// The terms of the document, after the list.
 fn put_terms(alloc: Global, document: &Document, terms: &mut Terms) -> Result<(), NoMemory>
     ensures terms { OnOk result (terms.new ≡ terms.old ++ document.now.terms) }
     ensures document { OnOk result (IsDocument document.now) }

@@ -8,7 +8,7 @@ use eb_base::{Document, Queries, Query, Term};
 
 /// Whether the query matches the document: a word where it is one of the document's terms, a phrase
 /// where its terms stand one after another in the document, a Window where they stand in their order
-/// at places of which the last is at most its reach behind the first, a Since where the document's id
+/// at places of which the last is at most its reach after the first, a Since where the document's id
 /// is greater, a Not where its part doesn't match, an And where each part matches, an Or where some
 /// part does. Takes no memory.
 pub fn is_match(query: &Query, document: &Document) -> bool
@@ -80,7 +80,7 @@ fn contains_phrase(terms: &[Term], phrase: &[Term]) -> bool
 }
 
 // Whether the terms of the window stand in their order at places of which the last is at most so
-// many behind the first.
+// many after the first.
 fn contains_window(terms: &[Term], window: &[Term], reach: usize) -> bool
     ensures { result ≡ has_window window.now reach terms.now }
 {

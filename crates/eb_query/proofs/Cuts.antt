@@ -99,7 +99,7 @@ pub tilde_digits : (bs : List ℕ) → has_tilde bs ≡ true → tilde_len bs �
 unfolding tilde_len
 tilde_digits bs h = rw h refl
 
--- the place that a test found behind at + 1
+-- the place that a test found after at + 1
 pub cut_within : (p : ℕ → Bool) (line : List ℕ) (at n : ℕ) → at < length line → n ≡ position_or_len p (drop (at + 1) line) → at + 1 + n ≤ length line
 cut_within p line at n h e =
     let l : position_or_len p (drop (at + 1) line) ≤ length (drop (at + 1) line) = prefix_len-le-length (λ b. not (p b)) (drop (at + 1) line) in
@@ -122,7 +122,7 @@ cut_before p line at n small h e = go (nat_lt (at + 1 + n) (length line)) refl
     go true t = IsCharBoundary-before_ascii line (at + 1 + n) (ltb-true _ _ t) (ascii (ltb-true _ _ t))
     go false f = let k = ltb-false _ _ f in (within, λ l. absurd (omega arith))
 
--- behind the closing quotation mark
+-- after the closing quotation mark
 pub quote_boundary : (line : List ℕ) (at n : ℕ) → IsUtf8 line → at < length line
     → n ≡ position_or_len is_quote (drop (at + 1) line) → n < length (drop (at + 1) line) → IsCharBoundary line (at + 1 + n + 1)
 quote_boundary line at n u h e k =

@@ -41,7 +41,7 @@ decimal_is k n some few small = record {
   value = digits_value-decimal own n small;
 }
 
--- digits, and something else behind them
+-- digits, and something else after them
 pub digits_first : (ds rest : List ℕ) → AreDigits ds → position_or_len is_no_digit rest ≡ 0 → position_or_len is_no_digit (ds ++ rest) ≡ length ds
 digits_first [] rest h e = e
 digits_first (d ∷ ds) rest h e = rw (h.0, digits_first ds rest h.1 e) (omega arith)

@@ -34,7 +34,7 @@ window_is text bytes line from n r e digits reach =
     let count : n ≡ position_or_len is_no_digit (drop from line) = digits ∙ ap (position_or_len is_no_digit) whole in
     ap (λ (o : Option ℕ). of_leaf (option_and_then (window_of (tokens_of text)) o)) (reach ∙ ap (reach_by n) whole ∙ ap (λ (k : ℕ). reach_by k (drop from line)) count)
 
--- behind digits
+-- after digits
 pub digits_boundary : (line : List ℕ) (from n : ℕ) → IsUtf8 line → IsCharBoundary line from → from ≤ length line → n ≡ position_or_len is_no_digit (drop from line) → IsCharBoundary line (from + n)
 digits_boundary line from zero u b w e = let same : from ≡ from + 0 = omega arith in subst (λ (k : ℕ). IsCharBoundary line k) same b
 digits_boundary line from (suc m) u b w e =
@@ -68,7 +68,7 @@ closed_end line k h =
     tilde_digits (drop k line) h ∙ ap (λ (xs : List ℕ). 1 + position_or_len is_no_digit xs) (drop-drop 1 k line) in
     omega (arith, e)
 
--- the quoted text behind a first quotation mark at a place
+-- the quoted text after a first quotation mark at a place
 pub quoted_is : (line part : List ℕ) (at n : ℕ) → n ≡ position_or_len is_quote (drop (at + 1) line) → n < length (drop (at + 1) line) → part ≡ take (at + 1 + n - (at + 1)) (drop (at + 1) line)
     → quoted (drop (at + 1) line) ≡ (quoted_lexeme part (drop (at + 1 + n + 1) line), n + 1 + tilde_len (drop (at + 1 + n + 1) line))
 quoted_is line part at n e less is =

@@ -41,7 +41,7 @@ is_run_end [] = true
 is_run_end (b ∷ bs) = ends_run b
 
 -- the first n bytes are digits that write a reach: one to four of a value from 1 to the greatest reach, with
--- what ends a run behind them, or nothing
+-- what ends a run after them, or nothing
 abbrev pub is_reach : ℕ → List ℕ → Bool
 is_reach n bs =
     (nat_le 1 n && nat_le n 4) && ((nat_le 1 (decimal_after 0 (take n bs)) && nat_le (decimal_after 0 (take n bs)) most_reach) && is_run_end (drop n bs))
@@ -54,7 +54,7 @@ reach_by n bs = if is_reach n bs then Some (decimal_after 0 (take n bs)) else No
 unfoldable pub reach_of : List ℕ → Option ℕ
 reach_of bs = reach_by (position_or_len is_no_digit bs) bs
 
--- a text, and the bytes behind the tilde after it: with a reach it is a window, or a word where it is one token
+-- a text, and the bytes after the tilde after it: with a reach it is a window, or a word where it is one token
 unfoldable pub window_lexeme : List ℕ → List ℕ → Lexeme
 window_lexeme text bs = of_leaf (option_and_then (window_of (tokens_of text)) (reach_of bs))
 
@@ -63,15 +63,15 @@ abbrev pub has_tilde : List ℕ → Bool
 has_tilde [] = false
 has_tilde (b ∷ bs) = eqb b 126
 
--- a text between quotation marks, and the bytes behind the second one: a tilde there makes it a window text
+-- a text between quotation marks, and the bytes after the second one: a tilde there makes it a window text
 unfoldable pub quoted_lexeme : List ℕ → List ℕ → Lexeme
 quoted_lexeme text bs = if has_tilde bs then window_lexeme text (drop 1 bs) else text_lexeme text
 
--- how many bytes behind the second quotation mark belong to the lexeme: a tilde, and the digits behind it
+-- how many bytes after the second quotation mark belong to the lexeme: a tilde, and the digits after it
 unfoldable pub tilde_len : List ℕ → ℕ
 tilde_len bs = if has_tilde bs then 1 + position_or_len is_no_digit (drop 1 bs) else 0
 
--- behind a quotation mark: all up to the next one and what goes on behind that, and how many bytes belong to the
+-- after a quotation mark: all up to the next one and what goes on after that, and how many bytes belong to the
 -- lexeme
 unfoldable pub quoted : List ℕ → Lexeme × ℕ
 quoted bs =

@@ -16,7 +16,7 @@ pub data Level : Type 0 where
 pub data State : Type 0 where
   state : Level → List Level → State
 
--- the tree behind so many minuses
+-- the tree after so many minuses
 abbrev pub negated : ℕ → Tree → Tree
 negated zero t = t
 negated (suc n) t = negated n (negation t)

@@ -33,7 +33,7 @@ open_after (broken ∷ ls) os = open_after ls os
 abbrev pub most_open : ℕ
 most_open = 16
 
--- how many are open behind these lexemes
+-- how many are open after these lexemes
 abbrev pub nesting : List Lexeme → ℕ
 nesting ls = length (open_after ls [])
 

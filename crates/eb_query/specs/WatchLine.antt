@@ -14,9 +14,9 @@ pub data WatchOutcome : Type 0 where
 pub data ReadsWatchAs (line : List ℕ) : WatchOutcome → Type 0 where
   -- it has no number
   without_number : (HasWatchNumber line → ⊥) → ReadsWatchAs line (reads bad_number)
-  -- it has one, and nothing but blanks behind it
+  -- it has one, and nothing but blanks after it
   alone : HasWatchNumber line → lexemes_of_line line ≡ [] → ReadsWatchAs line (removes (number_in_line line))
-  -- it has one, and the query text behind it decides
+  -- it has one, and the query text after it decides
   with_text : {o : Outcome} → HasWatchNumber line → (lexemes_of_line line ≡ [] → ⊥)
       → IsOutcome line [] (lexemes_of_line line) o → ReadsWatchAs line (reads o)
 

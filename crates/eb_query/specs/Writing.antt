@@ -29,7 +29,7 @@ abbrev pub in_parentheses : List ℕ → List ℕ
 in_parentheses text = 40 ∷ text ++ 41 ∷ []
 
 abbrev mutual
-  -- a query as a part of an and, and behind a minus: an and and an or stand in parentheses
+  -- a query as a part of an and, and after a minus: an and and an or stand in parentheses
   pub unary_text : Tree → List ℕ
   unary_text (word t) = in_quotes t
   unary_text (phrase ts) = in_quotes (spaced_terms ts)
@@ -54,7 +54,7 @@ abbrev mutual
   and_text no_trees = []
   and_text (trees t ts) = unary_text t ++ and_more_text ts
 
-  -- the further parts of an and, each behind a space
+  -- the further parts of an and, each after a space
   pub and_more_text : Trees → List ℕ
   and_more_text no_trees = []
   and_more_text (trees t ts) = 32 ∷ unary_text t ++ and_more_text ts
@@ -64,7 +64,7 @@ abbrev mutual
   or_text no_trees = []
   or_text (trees t ts) = part_text t ++ or_more_text ts
 
-  -- the further parts of an or, each behind ` OR `
+  -- the further parts of an or, each after ` OR `
   pub or_more_text : Trees → List ℕ
   or_more_text no_trees = []
   or_more_text (trees t ts) = 32 ∷ 79 ∷ 82 ∷ 32 ∷ part_text t ++ or_more_text ts

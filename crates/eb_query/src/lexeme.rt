@@ -33,7 +33,7 @@ pub enum Lexeme {
 pub struct Found {
     /// The lexeme.
     pub lexeme: Lexeme,
-    /// The place of the byte behind its last one, counted from 0.
+    /// The place of the byte after its last one, counted from 0.
     pub end: usize,
 }
 

@@ -12,7 +12,7 @@ pub const MAX_NUMBER: u32 = 1000;
 pub struct Number {
     /// Its value.
     pub value: u32,
-    /// The place of the byte behind its last digit, counted from 0.
+    /// The place of the byte after its last digit, counted from 0.
     pub end: usize,
 }
 
@@ -24,8 +24,8 @@ fn is_apart(line: &[u8], from: usize) -> bool
     from == line.len() || is_blank_byte(line[from])
 }
 
-/// The number behind the first byte of a line, if it has one: at least one digit and at most so many, of a value that
-/// isn't over the most, and behind them a blank or the end. Takes no memory.
+/// The number after the first byte of a line, if it has one: at least one digit and at most so many, of a value that
+/// isn't over the most, and after them a blank or the end. Takes no memory.
 pub fn number_up_to(line: &[u8], most_digits: usize, most: u32) -> Option<Number>
     requires first { 0 < length line.now }
     requires few { most_digits ≤ 16 }
@@ -54,7 +54,7 @@ pub fn number_up_to(line: &[u8], most_digits: usize, most: u32) -> Option<Number
 }
 
 /// The number of a line that begins with a question mark, if it has one: one to four digits of a
-/// value from 1 to [`MAX_NUMBER`], and behind them a blank or the end. Takes no memory.
+/// value from 1 to [`MAX_NUMBER`], and after them a blank or the end. Takes no memory.
 pub fn number_at(line: &[u8]) -> Option<Number>
     requires { 0 < length line.now }
     ensures none { IfNone result (HasQueryNumber line.now → ⊥) }

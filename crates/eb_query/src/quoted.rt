@@ -42,7 +42,7 @@ fn is_run_end_at(bytes: &[u8], from: usize) -> bool
 }
 
 // The reach that the digits in front write, so many as there are: one to four of a value from 1 to
-// the greatest reach, with what ends a run behind them, or the end. Takes no memory.
+// the greatest reach, with what ends a run after them, or the end. Takes no memory.
 fn reach_at(bytes: &[u8], digits: usize) -> Option<u32>
     requires { digits ≤ length bytes.now }
     ensures { result ≡ reach_by digits bytes.now }
@@ -71,7 +71,7 @@ fn window_leaf(alloc: Global, text: &str, reach: Option<u32>) -> Result<Lexeme, 
     }
 }
 
-// The window text of this text, behind whose tilde the digits begin at this place of the line.
+// The window text of this text, after whose tilde the digits begin at this place of the line.
 fn window_at(alloc: Global, text: &str, line: &str, from: usize) -> Result<Found, NoMemory>
     requires within { from ≤ length line.now }
     requires boundary { IsCharBoundary line.now from }

@@ -21,7 +21,7 @@ use std::fmt;
 #[derive(Clone, Copy, Debug, PartialEq, Eq)]
 pub enum QueryFault {
     /// The question mark isn't followed by one to four digits of a value from 1 to 1,000, or the exclamation mark by
-    /// one to ten of a value that 32 bits hold, with a blank or the end of the line behind them.
+    /// one to ten of a value that 32 bits hold, with a blank or the end of the line after them.
     BadNumber,
     /// A lexeme can't stand at its place, is a quote that isn't closed, has no token, or is a window
     /// text without a reach or a bound without an id; or the line ends before the query is complete.
@@ -110,16 +110,16 @@ pub(crate) fn read_text(alloc: Global, line: &str, from: usize) -> Result<Query,
 }
 
 /// What a line that begins with `?` asks: how many matches, 1 to 1,000, and a well-formed query
-/// (this project's profile, docs/FORMATS.md). Behind the number stand, apart by spaces and tabs as
+/// (this project's profile, docs/FORMATS.md). After the number stand, apart by spaces and tabs as
 /// wanted:
 ///
 /// - a word, or a text between two `"`, cut into tokens as documents are: one token asks for that
 ///   word, several for the phrase of them in this order;
-/// - a text between two `"` with `~` and one to four digits of a value from 1 to 1,023 right behind
+/// - a text between two `"` with `~` and one to four digits of a value from 1 to 1,023 right after
 ///   it, apart by a blank, a parenthesis, a `"` or the end from what follows: the window of its
-///   tokens, in this order with the last at most so many places behind the first; one token asks
+///   tokens, in this order with the last at most so many places after the first; one token asks
 ///   for that word;
-/// - `since:` with one to twenty digits of a value that 64 bits hold right behind it, up to a blank,
+/// - `since:` with one to twenty digits of a value that 64 bits hold right after it, up to a blank,
 ///   a parenthesis, a `"` or the end: the documents with a greater id;
 /// - parts side by side: all of them;
 /// - parts with `OR` between: any of them; it binds less than standing side by side;

@@ -74,7 +74,7 @@ impl Group {
     }
 }
 
-// The query behind these minuses.
+// The query after these minuses.
 fn negate(alloc: Global, minuses: u32, query: Query) -> Result<Query, NoMemory>
     ensures { IfOk result (λ found. tree found ≡ negated minuses (tree query)) }
 {
@@ -151,7 +151,7 @@ impl Reader {
         Step::Stood
     }
 
-    // Takes an `OR`, behind which the next part begins.
+    // Takes an `OR`, after which the next part begins.
     fn begin_part(&mut self, alloc: Global) -> Result<Step, NoMemory>
         requires { IsCounted self.old }
         ensures steps { IfOk result (λ went.
@@ -185,7 +185,7 @@ impl Reader {
         Ok(Step::Stood)
     }
 
-    // Takes an operand of the innermost group, behind its minuses.
+    // Takes an operand of the innermost group, after its minuses.
     fn take(&mut self, alloc: Global, query: Query) -> Result<(), NoMemory>
         requires { IsCounted self.old }
         ensures state { OnOk result

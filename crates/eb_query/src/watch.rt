@@ -27,7 +27,7 @@ fn is_blank_from(line: &[u8], from: usize) -> bool
     are_blanks(&line[from..])
 }
 
-/// What a line that begins with `!` asks: a number of one to ten digits, at most 4,294,967,295, and behind it and a
+/// What a line that begins with `!` asks: a number of one to ten digits, at most 4,294,967,295, and after it and a
 /// blank a query text, which [`read_query`](crate::read_query) describes: the watch of this number is to be set to the
 /// query, which is well formed. Where nothing but blanks follows the number, there is no query: the watch of this number
 /// is to be removed.

@@ -80,7 +80,7 @@ fn put_since(alloc: Global, out: &mut Vec<u8>, bound: u64) -> Result<(), NoMemor
     put_number(alloc, out, bound)
 }
 
-// Puts a query as a part of an `and`, or behind a minus.
+// Puts a query as a part of an `and`, or after a minus.
 #[cycle(put)]
 fn put_unary(alloc: Global, out: &mut Vec<u8>, query: &Query) -> Result<(), NoMemory>
     ensures { OnOk result (out.new.items ≡ out.old.items ++ unary_text (tree query.now)) }
@@ -151,9 +151,9 @@ fn put_any(alloc: Global, out: &mut Vec<u8>, parts: &Queries) -> Result<(), NoMe
 
 /// The line that asks for the first `k` matches of the query: `?`, `k`, a space and the query,
 /// without a LF (this project's profile, docs/FORMATS.md). A word or a phrase is its terms between
-/// two `"` with one space between, and a window is so too, with `~` and its reach behind; a bound is
+/// two `"` with one space between, and a window is so too, with `~` and its reach after; a bound is
 /// `since:` and its number; the parts of an `and` have a space between, those of an `or` ` OR `; a `-`
-/// stands before what is negated; an `and` or an `or` inside another or behind a `-` stands in
+/// stands before what is negated; an `and` or an `or` inside another or after a `-` stands in
 /// parentheses, but for an `and` inside an `or`. `NoMemory` comes where a growth was refused.
 pub fn write_query(alloc: Global, k: u32, query: &Query) -> Result<Vec<u8>, NoMemory>
     requires well_formed { IsWellFormed (tree query.now) }

@@ -45,7 +45,7 @@ asks e = is_query e.reading
 abbrev pub fails : Entry → Bool
 fails e = is_refused e.reading
 
--- these lines were worked off over an index of this setting, whose documents were the old ones and are the new ones, and printed this text
+-- these lines were processed over an index of this setting, whose documents were the old ones and are the new ones, and printed this text
 pub record WorkedOff (σ : Setting) (held : List HeldLine) (docs_old docs_new : List Doc) (counts_old counts_new : Counted) (printed : List ℕ) : Type 0 where
   pub raw : List Entry
   pub shown : List Shown
@@ -58,7 +58,7 @@ pub record WorkedOff (σ : Setting) (held : List HeldLine) (docs_old docs_new : 
   pub queries : counts_new.queries ≡ counts_old.queries + count_by asks (map shown_entry shown)
   pub refused : counts_new.refused ≡ counts_old.refused + count_by fails (map shown_entry shown)
 
--- two rounds were worked off, one after the other
+-- two rounds were processed, one after the other
 pub record WorkedOffBoth (σ : Setting) (ahead held : List HeldLine) (docs_old docs_new : List Doc) (counts_old counts_new : Counted) (printed : List ℕ) : Type 0 where
   pub docs_between : List Doc
   pub counts_between : Counted
@@ -68,7 +68,7 @@ pub record WorkedOffBoth (σ : Setting) (ahead held : List HeldLine) (docs_old d
   pub behind : WorkedOff σ held docs_between docs_new counts_between counts_new printed_then
   pub text : printed ≡ printed_first ++ printed_then
 
--- the lines were worked off, whatever was counted before: with so many documents, queries and refused lines more
+-- the lines were processed, whatever was counted before: with so many documents, queries and refused lines more
 abbrev pub WorksOff : Setting → List HeldLine → List Doc → List Doc → List ℕ → List ℕ → ℕ → ℕ → ℕ → Type 0
 WorksOff σ held docs_old docs_new text_old text_new d q r = (before after : Counted)
     → after.documents ≡ before.documents + d → after.queries ≡ before.queries + q → after.refused ≡ before.refused + r
@@ -84,7 +84,7 @@ need (watch n q) = 68
 
 -- ---- the two halves of a round
 
--- these lines without documents were worked off, over an index that held the old documents at first and the new ones at last
+-- these lines without documents were processed, over an index that held the old documents at first and the new ones at last
 pub record AreAnswered (docs_old docs_new : List Doc) (entries : List Entry) (text_old text_new : List ℕ) (answers refusals : ℕ) : Type 0 where
   pub shown : List Shown
   pub lines : map shown_entry shown ≡ entries
@@ -97,7 +97,7 @@ pub record AreAnswered (docs_old docs_new : List Doc) (entries : List Entry) (te
 abbrev pub quiet : Entry → Shown
 quiet e = record { line = e; seen = 0 }
 
--- these lines without queries were worked off
+-- these lines without queries were processed
 pub record AreAdded (σ : Setting) (docs_old docs_new : List Doc) (entries : List Entry) (text_old text_new : List ℕ) (additions refusals : ℕ) : Type 0 where
   pub docs : docs_new ≡ docs_old ++ added (admitted_in σ docs_old entries)
   pub text : text_new ≡ text_old ++ shown_text [] (map quiet (admitted_in σ docs_old entries))

@@ -4,7 +4,7 @@ use Rattle.eb_rounds.specs.Inputs.{HeldInput, document_line, query_line, refused
 use Rattle.eb_rounds.specs.Shown.{Counted}
 
 -- the held lines in order, those of the round before that is closed and those of the round that is open, the counts of what was
--- worked off, and the greatest number that was put
+-- processed, and the greatest number that was put
 pub record Standing : Type 0 where
   pub ahead : List HeldLine
   pub held : List HeldLine

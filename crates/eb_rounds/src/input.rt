@@ -3,7 +3,7 @@ ghost use Rattle.eb_rounds.specs.Passed.{input_kind};
 
 use eb_lines::Refusal;
 
-/// A line that is to be worked off. A blank line is none.
+/// A line that is to be processed. A blank line is none.
 #[derive(Clone, Copy, Debug, Drop)]
 pub enum Input<'a> {
     /// A document line, as JSON text of any bytes.

@@ -34,7 +34,7 @@ fn query_work(alloc: Global, text: &str) -> Result<AskedWork, NoMemory>
     }
 }
 
-// Reads a document line, or a line behind it.
+// Reads a document line, or a line after it.
 fn read_then(alloc: Global, line: &ThenLine) -> Result<Given, NoMemory>
     ensures { IfOk result (λ task. ReadsLine (then_line line.now) (given_entry task)) }
 {

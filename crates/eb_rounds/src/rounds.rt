@@ -1,3 +1,14 @@
+//! Rounds of lines.
+//!
+//! Held lines stand in two lists: query lines first, document lines after, since a query is only taken where no
+//! document line is held. A round takes the room of its whole text before its first add: 68 bytes a line (64 for an
+//! answer), and 21 more for each id that a query may have.
+//!
+//! A second thread costs some 26 microseconds, so it is started only where a round has both documents to add and
+//! queries to answer once its lines are read; no size of a round leaves it out, so that a tiny one shows that both go
+//! on at once. The new thread answers: adding stays on the thread that calls, whose caches know the index. Document
+//! lines are read in pieces of 128 lines and up, one a thread: `rayon`'s own least piece is 1,024, so that a round of
+//! fewer than 2,048 lines was read on one thread.
 ghost use Rattle.std.specs.Prelude.{◌≡◌, ◌+◌, ◌<◌, ◌≤◌, ◌^◌, ◌++◌, true, Some, slice_get, ℕ, List, []};
 ghost use Rattle.std.specs.Prelude.{length, vec_len, vec_capacity, IfOk, OnErr, OnOk, IsTrue, ◌↔◌};
 ghost use Rattle.std.specs.List.{AllZip};
@@ -24,8 +35,8 @@ use std::marker::Model;
 use std::mem;
 use std::thread::Threads;
 
-/// The lines that are held, of a round that is open and of one before it that isn't, and the counts of what was worked off. In
-/// a round no query line is behind a document line, and at most 4,096 document lines, 512 query lines and 4,096 refused lines
+/// The lines that are held, of a round that is open and of one before it that isn't, and the counts of what was processed. In
+/// a round no query line is after a document line, and at most 4,096 document lines, 512 query lines and 4,096 refused lines
 /// are held of it (this project's profile, docs/FORMATS.md).
 #[derive(Drop)]
 pub struct Rounds {
@@ -74,7 +85,7 @@ impl Rounds {
         }
     }
 
-    /// What was worked off so far. Takes no memory.
+    /// What was processed so far. Takes no memory.
     pub fn counts(&self) -> Counts
         ensures { (result.documents ≡ self.now.counts.documents) × (result.queries ≡ self.now.counts.queries) × (result.refused ≡ self.now.counts.refused) }
     {
@@ -107,7 +118,7 @@ impl Rounds {
         self.ahead.first.len() + self.ahead.last.len() > 0
     }
 
-    /// Opens a round behind the held lines: these are worked off with its lines, and read beside them. Takes no memory.
+    /// Opens a round after the held lines: these are processed with its lines, and read beside them. Takes no memory.
     pub fn open_round(&mut self)
         requires { self.old.ahead ≡ [] }
         ensures { self.new ≡ with_round self.old }
@@ -190,7 +201,7 @@ impl Rounds {
         Ok(())
     }
 
-    // Holds a refused line behind a document line.
+    // Holds a refused line after a document line.
     fn put_last(&mut self, number: u64, refusal: Refusal) -> Result<(), NoMemory>
         requires takes { takes_kind self.old.held Kind.RefusedLine ≡ true }
         requires documents { 0 < documents_held self.old.held }
@@ -240,7 +251,7 @@ impl Rounds {
         Ok((ahead, held))
     }
 
-    // Counts what was worked off, and holds no line any more.
+    // Counts what was processed, and holds no line any more.
     fn close(&mut self, counts: Counts)
         requires { counts.documents + (counts.queries + counts.refused) ≤ length self.old.ahead + length self.old.held }
         ensures { self.new ≡ record {
@@ -261,7 +272,7 @@ impl Rounds {
         self.counts.refused += counts.refused;
     }
 
-    /// Works off the held lines: they are read by several threads where there are many, and then, round after round, documents
+    /// Processes the held lines: they are read by several threads where there are many, and then, round after round, documents
     /// are added beside answering the queries, which one reader answers in order, and beside converting each segment that was
     /// closed before. The result is what they print, line for line. Afterwards no line is held, and reader and converter know the writer's
     /// history. Where memory doesn't suffice, which shows before the first document is added, nothing is done. The tokens
@@ -297,7 +308,7 @@ impl Rounds {
         Ok(text)
     }
 
-    /// As `step`, with what the lines print behind the text, and over a reader of its own, which the writer then takes in.
+    /// As `step`, with what the lines print after the text, and over a reader of its own, which the writer then takes in.
     /// Where memory doesn't suffice, the text is as before, too.
     pub fn step_behind<R: Threads + Sync, G: Gate + Sync>(
         &mut self,

@@ -179,7 +179,7 @@ fn work_round<R: Threads + Sync, G: Gate + Sync>(
     counts
 }
 
-// Converts beside working off the lines of a round: a thread is started. Takes no memory.
+// Converts beside processing the lines of a round: a thread is started. Takes no memory.
 fn convert_beside<R: Threads + Sync, G: Gate + Sync>(
     rt: &R,
     index: &Index,
@@ -217,7 +217,7 @@ fn convert_beside<R: Threads + Sync, G: Gate + Sync>(
     counts
 }
 
-// Works off the lines of a round, and converts all segments that are closed before it: beside the lines where both is to be
+// Processes the lines of a round, and converts all segments that are closed before it: beside the lines where both is to be
 // done. The converter knows the history. Takes no memory.
 fn work_and_convert<R: Threads + Sync, G: Gate + Sync>(
     rt: &R,
@@ -257,7 +257,7 @@ fn work_and_convert<R: Threads + Sync, G: Gate + Sync>(
     work_round(rt, index, writer, asked, given, gate, text, refusals)
 }
 
-// Tells the converter the history, works off the lines of a round, and converts all segments that are closed before it. Takes
+// Tells the converter the history, processes the lines of a round, and converts all segments that are closed before it. Takes
 // no memory.
 pub(crate) fn work_tasks<R: Threads + Sync, G: Gate + Sync>(
     rt: &R,

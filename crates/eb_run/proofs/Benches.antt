@@ -234,6 +234,6 @@ figures_end status.BadImage lines old new rose f fault sound = absurd f.2
 pub figures_none : (lines : List Line) (printed : Option (List ℕ)) → PrintsFigures status.NoMemory lines printed printed
 figures_none lines printed = let raw = some_read lines in (admitted usual raw.0, (raw.0, raw.1, refl), refl)
 
--- five parts of a text, one behind the other
+-- five parts of a text, one after the other
 pub five_parts : (a b c d e : List ℕ) → a ++ (b ++ (c ++ (d ++ e))) ≡ a ++ b ++ c ++ d ++ e
 five_parts a b c d e = sym (append_assoc a b (c ++ (d ++ e))) ∙ sym (append_assoc (a ++ b) c (d ++ e)) ∙ sym (append_assoc (a ++ b ++ c) d e)

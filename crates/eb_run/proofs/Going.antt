@@ -204,7 +204,7 @@ asked_low [] j e = absurd (cc e)
 asked_low (r ∷ rs) zero e = omega arith
 asked_low (r ∷ rs) (suc j) e = omega (arith, asked_low rs j e)
 
--- the round is worked off
+-- the round is processed
 pub overlapped : (σ : Setting) (given : List Line) (docs docs_new : List Doc) (held : Standing) (counts_new : Counted) (so_far printed : List ℕ)
     → HasWorkedOff σ given docs held so_far → WorkedOff σ held.held docs docs_new held.counts counts_new printed
     → HasSettled σ given docs_new counts_new (so_far ++ printed)

@@ -1,4 +1,4 @@
--- A run takes lines, and works them off.
+-- A run takes lines, and processes them.
 use Rattle.std.proofs.Common.{◌≡◌, ℕ, ◌+◌, ◌≤◌, true, false, List, [], ◌∷◌, ◌++◌, length, Some, None, refl, sym, ap, ap₂, subst, ◌∙◌, arith, append_assoc, append-nil, length-append}
 use Rattle.std.specs.Prelude.{Result, Ok, Err, OnOk, OnErr}
 use Rattle.std.proofs.lemmas.Bool.Decides.{nat_tests}
@@ -69,7 +69,7 @@ module _ (old new : Running) (a : Asked) (given : List Line) (so_far : List ℕ)
   setting_is : old.index.setting ≡ a.setting
   setting_is = ap (λ (x : Words). x.setting) h.index ∙ h.setting
 
-  -- the held lines are worked off
+  -- the held lines are processed
   pub run_off : (printed : List ℕ) → new.number ≡ old.number
       → WorkedOffBoth old.index.setting old.rounds.ahead old.rounds.held old.writer.docs new.writer.docs old.rounds.counts new.rounds.counts printed
       → HoldsNone new → new.rounds.greatest ≡ old.rounds.greatest → HasRun new a given (so_far ++ printed)
@@ -175,7 +175,7 @@ module _ (old new : Running) (a : Asked) (given : List Line) (so_far : List ℕ)
         more docs (quiet_round (ap asks_query is)) ahead lines (ap (λ (s : Standing). s.counts) rounds)
         (omega (arith, ap (λ (s : Standing). s.greatest) rounds, h.worked.greatest))
 
--- ---- the held lines, worked off or not
+-- ---- the held lines, processed or not
 
 module _ (old new : Running) (t0 t1 : List ℕ) (stats : new.stats ≡ old.stats) (index : new.index ≡ old.index) (writer : new.writer.index ≡ old.writer.index)
     (converter : new.converter.index ≡ old.converter.index) (number : new.number ≡ old.number) where

@@ -48,11 +48,11 @@ body_none a = record { readings = []; numbers = told []; read = read_none Reads 
 abbrev last : (r : Running) (a : Asked) (given : List Line) (so_far : List ℕ) → HasRun r a given so_far → HoldsNone r → HasSettled a.setting given r.writer.docs r.rounds.counts so_far
 last r a given so_far h none = all_settled a.setting given r.writer.docs r.rounds so_far h.worked none.0 none.1
 
--- all lines given are worked off, and the run printed what they print
+-- all lines given are processed, and the run printed what they print
 pub run_body : (r : Running) (a : Asked) (given : List Line) (so_far : List ℕ) → HasRun r a given so_far → HoldsNone r → IsBodyOf a given so_far
 run_body r a given so_far h none = body_of a given so_far r.writer.docs r.rounds.counts h.mode (last r a given so_far h none)
 
--- a program that has such a run in it put the end behind the text
+-- a program that has such a run in it put the end after the text
 pub run_finishes : {P : Type 0} (has_run : P → Asked → List Line → List ℕ → Type 0) (p : P) (r : Running) (t0 t1 : List ℕ)
     (documents answers refused begun converted : ℕ) (a : Asked) (given : List Line) (so_far : List ℕ)
     → t1 ≡ t0 ++ summary_with documents answers refused (segments_tail r.stats begun converted)

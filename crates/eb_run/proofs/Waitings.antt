@@ -1,4 +1,4 @@
--- A round of waiting lines is worked off.
+-- A round of waiting lines is processed.
 use Rattle.std.proofs.Common.{◌≡◌, ℕ, zero, suc, ◌+◌, ◌≤◌, Bool, true, false, List, [], ◌∷◌, ◌++◌, map, Option, Some}
 use Rattle.std.proofs.Common.{None, Ok, Err, refl, sym, ap, ap₂, subst, ◌∙◌, arith, append-nil, le_refl, le_trans}
 use Rattle.std.specs.Prelude.{Result}

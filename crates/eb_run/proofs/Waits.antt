@@ -1,4 +1,4 @@
--- Lines are held, one after another, and worked off.
+-- Lines are held, one after another, and processed.
 use Rattle.std.proofs.Common.{◌≡◌, ℕ, suc, ◌+◌, ◌≤◌, Bool, true, false, List, [], ◌∷◌, ◌++◌, length, Option, Some, None, refl, sym, ap, ap₂, subst, ◌∙◌, arith, append_assoc, append-nil, length-append}
 use Rattle.std.specs.List.{AllZip, AllByRecursion}
 use Rattle.eb_base.specs.Document.{Doc}
@@ -83,12 +83,12 @@ no_query_push : (rs : List Reading) (r : Reading) → NoQueryLine rs → is_quer
 no_query_push [] r h e = (e, tt)
 no_query_push (x ∷ rs) r h e = (h.0, no_query_push rs r h.1 e)
 
--- a line that is no query line goes behind all
+-- a line that is no query line goes after all
 first_push : (rs : List Reading) (r : Reading) → QueriesFirst rs → is_query_line r ≡ false → QueriesFirst (rs ++ r ∷ [])
 first_push [] r h e = (λ d. tt, tt)
 first_push (x ∷ rs) r h e = (λ d. no_query_push rs r (h.0 d) e, first_push rs r h.1 e)
 
--- any line goes behind lines of which none is a document line
+-- any line goes after lines of which none is a document line
 first_free : (rs : List Reading) (r : Reading) → AllByRecursion (λ x. is_document_line x ≡ false) rs → QueriesFirst (rs ++ r ∷ [])
 first_free [] r h = (λ d. tt, tt)
 first_free (x ∷ rs) r h = (λ d. absurd (cc (d, h.0)), first_free rs r h.1)
@@ -122,7 +122,7 @@ wait_behind σ before behind given docs held so_far s parts lines round le = rec
   printed = s.printed;
 }
 
--- nothing waits behind these lines
+-- nothing waits after these lines
 abbrev none_behind : (σ : Setting) (given : List Line) (docs : List Doc) (s : Standing) (so_far : List ℕ)
     → HasWorkedOff σ given docs (round_ahead s) so_far → s.held ≡ [] → s.greatest ≤ length given → HasGathered σ given docs s so_far
 none_behind σ given docs s so_far w none le = record {
@@ -140,7 +140,7 @@ pub gathered_none : (σ : Setting) (given : List Line) (docs : List Doc) (s : St
 gathered_none σ given docs s so_far x ahead held le =
     none_behind σ given docs s so_far (of_settled σ given docs (round_ahead s) so_far x ahead (omega arith)) held le
 
--- both rounds are worked off
+-- both rounds are processed
 pub both_off : (σ : Setting) (given : List Line) (docs docs_new : List Doc) (s : Standing) (counts_new : Counted) (so_far printed : List ℕ)
     → HasGathered σ given docs s so_far → WorkedOffBoth σ s.ahead s.held docs docs_new s.counts counts_new printed
     → HasSettled σ given docs_new counts_new (so_far ++ printed)

@@ -20,7 +20,7 @@ use Rattle.eb_indexed.specs.LinesRead.{AreRead, HasRefusal, HasNoRefusal}
 abbrev pub usual : Setting
 usual = record { segments = 12; docs = 4096; terms = 8192 }
 
--- the ids in the answer of a line behind these documents
+-- the ids in the answer of a line after these documents
 abbrev pub answer_in : List Doc → Reading → List ℕ
 answer_in docs blank = []
 answer_in docs (document d) = []
@@ -28,7 +28,7 @@ answer_in docs (query k q) = answer q k docs
 answer_in docs (refused r) = []
 answer_in docs (watch n q) = []
 
--- the ids in all answers of the lines behind these documents, in order
+-- the ids in all answers of the lines after these documents, in order
 unfoldable pub answers_from : List Doc → List Reading → List ℕ
 answers_from docs [] = []
 answers_from docs (r ∷ rs) = answer_in docs r ++ answers_from (docs ++ documents_in r) rs
@@ -52,7 +52,7 @@ bench_line d q i x = counts_text d q ++ sums_text i x
 abbrev pub figures : List Reading → List ℕ
 figures rs = bench_line (length (accepted rs)) (queries rs) (length (all_answers rs)) (sum (all_answers rs))
 
--- the line of figures of the made input of so many documents, worked off with the usual setting
+-- the line of figures of the made input of so many documents, processed with the usual setting
 pub record IsBenchOf (start count : ℕ) (printed : List ℕ) (refused_lines : ℕ) : Type 0 where
   pub readings : List Reading
   pub read : AreRead usual (lines_of (made start count)) readings
@@ -108,7 +108,7 @@ unfoldable pub lines_until : ℕ → ℕ → ℕ → List Line
 lines_until start count zero = []
 lines_until start count (suc n) = lines_until start count n ++ line (made_line start n) ∷ query_lines start count n
 
--- these lines are worked off, and the ids in their answers are counted and summed
+-- these lines are processed, and the ids in their answers are counted and summed
 pub record HasCounted (b : Bench) (lines : List Line) : Type 0 where
   pub readings : List Reading
   pub read : AreRead usual lines readings
@@ -120,6 +120,6 @@ pub record HasCounted (b : Bench) (lines : List Line) : Type 0 where
   pub few_ids : b.ids ≤ 2 ^ 17 * length lines
   pub small_sum : b.sum ≤ 2 ^ 64 * b.ids
 
--- a line of this reading was worked off
+-- a line of this reading was processed
 abbrev pub Takes : Bench → Bench → Reading → Type 0
 Takes old new r = (lines : List Line) (l : Line) → Reads l r → HasCounted old lines → length lines < 2 ^ 17 → HasCounted new (lines ++ l ∷ [])

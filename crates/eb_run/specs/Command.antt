@@ -37,12 +37,12 @@ run_by false false (Some n) None stats σ = with_workers n stats σ
 run_by false false None (Some n) stats σ = over_parts n stats σ
 run_by overlap watch workers parts stats σ = None
 
--- what the items behind `run` ask for
+-- what the items after `run` ask for
 abbrev pub run_with : Items → Option Command
 run_with items = option_and_then (λ σ. run_by (has (codes "overlap") items) (has (codes "watch") items) (option_number (codes "workers") items) (option_number (codes "parts") items)
     (has (codes "stats") items) σ) (setting_of items)
 
--- what the words behind `run` ask for: its flags and options, in any order, each at most once
+-- what the words after `run` ask for: its flags and options, in any order, each at most once
 abbrev pub run_of : List (List ℕ) → Option Command
 run_of words = option_and_then run_with (items_of run_flags run_options words)
 
@@ -52,26 +52,26 @@ run_of words = option_and_then run_with (items_of run_flags run_options words)
 abbrev pub bench_docs : List ℕ → Option ℕ
 bench_docs word = option_and_then (λ n. if nat_le 1 n && nat_le n 40000 then Some n else None) (number 9 word)
 
--- the words behind `bench`: exactly START and DOCS
+-- the words after `bench`: exactly START and DOCS
 abbrev pub bench_of : List (List ℕ) → Option Command
 bench_of (start ∷ docs ∷ []) = option_and_then (λ first. option_map (λ count. Bench first count) (bench_docs docs)) (number 20 start)
 bench_of words = None
 
 -- ---- `save` and `load`
 
--- what the items behind `save` ask for
+-- what the items after `save` ask for
 abbrev pub save_with : Items → Option Command
 save_with items = option_map (λ σ. Save σ) (setting_of items)
 
--- what the words behind `save` ask for: the options of a setting
+-- what the words after `save` ask for: the options of a setting
 abbrev pub save_of : List (List ℕ) → Option Command
 save_of words = option_and_then save_with (items_of [] setting_options words)
 
--- what the items behind `load` ask for
+-- what the items after `load` ask for
 abbrev pub load_with : Items → Command
 load_with items = Load (has (codes "stats") items)
 
--- what the words behind `load` ask for: one flag, or none
+-- what the words after `load` ask for: one flag, or none
 abbrev pub load_of : List (List ℕ) → Option Command
 load_of words = option_map load_with (items_of (codes "stats" ∷ []) [] words)
 
@@ -101,7 +101,7 @@ AsksParts words n stats σ = command_of words ≡ Some (RunParts n stats σ)
 abbrev pub AsksWatches : List (List ℕ) → Bool → Setting → Type 0
 AsksWatches words stats σ = command_of words ≡ Some (RunWatches stats σ)
 
--- the words ask to work off a made input
+-- the words ask to process a made input
 abbrev pub AsksBench : List (List ℕ) → ℕ → ℕ → Type 0
 AsksBench words start count = command_of words ≡ Some (Bench start count)
 

@@ -1,4 +1,4 @@
--- What the lines of an input are held as until they are worked off.
+-- What the lines of an input are held as until they are processed.
 use Rattle.std.specs.Prelude.{ℕ, ◌+◌, List, [], ◌∷◌, Option, Some, None}
 use Rattle.eb_io.specs.Lines.{Line, line, long_line}
 use Rattle.eb_lines.specs.declared.refusal.Refusal.TheVariants.{BadLine, LongLine}

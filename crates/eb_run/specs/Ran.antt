@@ -1,5 +1,5 @@
 -- What the program leaves, by the command that the words ask for: `l0` and `l1` are what the source has left before and
--- behind it, and `p0` and `p1` what `out` has taken, each where that is told.
+-- after it, and `p0` and `p1` what `out` has taken, each where that is told.
 use Rattle.std.specs.Prelude.{◌≡◌, ◌⊎◌, ℕ, ◌<◌, Bool, true, false, List, [], ◌++◌, length, Option, Some, None}
 use Rattle.eb_answer.specs.Rules.{is_bad, IsBody, IsText}
 use Rattle.eb_answer.specs.Rules as answered
@@ -58,7 +58,7 @@ pub record HasImage (bytes : List ℕ) : Type 0 where
   pub lawful : IsLawful setting documents
   pub is : bytes ≡ image_of setting documents ++ rest
 
--- what a load that ends so has printed, of any bytes: nothing where no image was read to its end, and else what it says of the lines behind it
+-- what a load that ends so has printed, of any bytes: nothing where no image was read to its end, and else what it says of the lines after it
 abbrev pub WroteLoad : Bool → Status → List ℕ → Option (List ℕ) → List ℕ → Type 0
 WroteLoad stats status bytes left printed = ((printed ≡ []) × ((taken : List ℕ) × outcomes.AreTaken bytes left taken × WhyUnread status taken left))
     ⊎ ((i : HasImage bytes) × (let a : Loaded = record { setting = i.setting; documents = i.documents; stats = stats } in
@@ -101,7 +101,7 @@ Means (Bench start count) status l0 l1 = MeansBench status start count
 Means (Save σ) status l0 l1 = Told (saved.MeansSaved σ status) l0 l1
 Means (Load stats) status l0 l1 = LoadMeans stats status l0 l1
 
--- ---- when the input is worked off
+-- ---- when the input is processed
 
 -- where no fault comes, and the source ends in time
 abbrev pub InTime : (read_risen write_risen : Type 0) → Status → Option (List ℕ) → Type 0

@@ -16,7 +16,7 @@ use Rattle.eb_run.specs.Waiting.{HasGathered}
 abbrev pub HoldsNone : Running → Type 0
 HoldsNone r = (r.rounds.ahead ≡ []) × (r.rounds.held ≡ [])
 
--- of these lines the run has worked off some, as it was asked, and they printed this text: the history of the index's writer
+-- of these lines the run has processed some, as it was asked, and they printed this text: the history of the index's writer
 -- is the documents that the run accepted
 pub record HasRun (r : Running) (a : Asked) (given : List Line) (so_far : List ℕ) : Type 0 where
   pub words : Words
@@ -29,7 +29,7 @@ pub record HasRun (r : Running) (a : Asked) (given : List Line) (so_far : List �
   pub number : r.number ≡ length given
   pub worked : HasGathered a.setting given r.writer.docs r.rounds so_far
 
--- what may be called between two lines, and works off the held lines, if memory suffices
+-- what may be called between two lines, and processes the held lines, if memory suffices
 pub record WorksOffHeld {W Z E : Type 0} (pre : W → MutBor Running → MutBor (Vec ℕ Z) → Type 0)
     (post : W → MutBor Running → MutBor (Vec ℕ Z) → Result (Unit {0}) E → MutBor Running → MutBor (Vec ℕ Z) → Type 0) (worker : W) : Type 0 where
   pub may : (old : MutBor Running) (text : MutBor (Vec ℕ Z)) → IsRunning HasRun old.now → pre worker old text
@@ -43,7 +43,7 @@ abbrev pub HasRunBy : {W Z E : Type 0} → (W → MutBor Running → MutBor (Vec
     → (W → MutBor Running → MutBor (Vec ℕ Z) → Result (Unit {0}) E → MutBor Running → MutBor (Vec ℕ Z) → Type 0) → W → Running → Asked → List Line → List ℕ → Type 0
 HasRunBy pre post worker r a given so_far = WorksOffHeld pre post worker × HasRun r a given so_far
 
--- the lines that are worked off are the first ones, and printed this
+-- the lines that are processed are the first ones, and printed this
 pub run_first : (r : Running) (a : Asked) (given : List Line) (so_far : List ℕ) → HasRun r a given so_far → PrintsFront IsBodyOf a given so_far
 run_first r a given so_far h =
     let w = h.worked.worked in (

@@ -1,4 +1,4 @@
-//! `bench`: works off a made input and prints its line of figures.
+//! `bench`: processes a made input and prints its line of figures.
 ghost use Rattle.std.specs.Prelude.{◌≡◌, ◌+◌, ◌*◌, ◌<◌, ◌≤◌, ◌++◌, ◌∷◌, ◌^◌, List, [], length, sum, IfOk, OnOk};
 ghost use Rattle.eb_cursor.specs.Frames.{query_of, k_of};
 ghost use Rattle.eb_gen.specs.Made.{made};
@@ -75,7 +75,7 @@ impl Bench {
         self.refused += 1;
     }
 
-    // Works off one line.
+    // Processes one line.
     fn work_line<G: Gate>(&mut self, alloc: Global, bytes: &[u8], gate: &G) -> Result<(), NoMemory>
         requires { (lines : List Line) × HasCounted self.old lines × (length lines < 2 ^ 17) }
         ensures { OnOk result ((lines : List Line) → HasCounted self.old lines → length lines < 2 ^ 17 → HasCounted self.new (lines ++ line bytes.now ∷ [])) }
@@ -97,7 +97,7 @@ impl Bench {
         }
     }
 
-    // Works off the lines of one document of a made input of `docs` documents.
+    // Processes the lines of one document of a made input of `docs` documents.
     fn work_document<G: Gate>(
         &mut self,
         alloc: Global,
@@ -170,7 +170,7 @@ fn sum_of(ids: &[u64]) -> u128
     total
 }
 
-// Works off the whole made input.
+// Processes the whole made input.
 fn count_made<G: Gate>(alloc: Global, start: u64, docs: u32, gate: &G) -> Result<Bench, NoMemory>
     requires { docs ≤ 40000 }
     ensures { IfOk result (λ bench. HasCounted bench (lines_until start docs docs)) }
@@ -182,7 +182,7 @@ fn count_made<G: Gate>(alloc: Global, start: u64, docs: u32, gate: &G) -> Result
     Ok(bench)
 }
 
-// Works off the made input of so many documents, and prints its line of figures.
+// Processes the made input of so many documents, and prints its line of figures.
 pub(crate) fn run_bench<K: Sink, G: Gate>(
     alloc: Global,
     start: u64,

@@ -18,7 +18,7 @@ pub enum Command {
     Run {
         /// Whether documents are added while queries are answered (`--overlap`).
         overlap: bool,
-        /// Whether the segments are told behind the summary (`--stats`).
+        /// Whether the segments are told after the summary (`--stats`).
         stats: bool,
         /// The setting that the options give; what they don't name is as in `Config::usual`.
         config: Config,
@@ -27,7 +27,7 @@ pub enum Command {
     RunWorkers {
         /// How many workers live for the whole run, 1 to 16.
         workers: u32,
-        /// Whether the segments are told behind the summary (`--stats`).
+        /// Whether the segments are told after the summary (`--stats`).
         stats: bool,
         /// The setting that the options give, as of `Run`.
         config: Config,
@@ -36,19 +36,19 @@ pub enum Command {
     RunParts {
         /// How many indexes there are, 1 to 16.
         parts: u32,
-        /// Whether the segments of all parts are told behind the summary (`--stats`).
+        /// Whether the segments of all parts are told after the summary (`--stats`).
         stats: bool,
         /// The setting of each of them, that the options give, as of `Run`.
         config: Config,
     },
     /// `run --watch`: read lines, those that set and remove watches among them.
     RunWatches {
-        /// Whether the segments are told behind the summary (`--stats`).
+        /// Whether the segments are told after the summary (`--stats`).
         stats: bool,
         /// The setting that the options give, as of `Run`.
         config: Config,
     },
-    /// `bench START DOCS`: work off made input.
+    /// `bench START DOCS`: process made input.
     Bench {
         /// Where the made input starts, any 64-bit number.
         start: u64,
@@ -62,7 +62,7 @@ pub enum Command {
     },
     /// `load`: read an image, and then lines as `run` does.
     Load {
-        /// Whether the segments are told behind the summary (`--stats`).
+        /// Whether the segments are told after the summary (`--stats`).
         stats: bool,
     },
 }
@@ -85,7 +85,7 @@ pub enum CommandFault {
 ///   16, and the words of all parts together are at most 134,217,728.
 /// - `bench START DOCS`: one to twenty digits of value at most 18446744073709551615, and one to nine
 ///   digits of value 1 to 40,000; leading zeros allowed.
-/// - `save`, and then the options of a setting as behind `run`.
+/// - `save`, and then the options of a setting as after `run`.
 /// - `load`, and then `--stats` at most once.
 ///
 /// Usage comes exactly where the words are none of these; NoMemory is free.

@@ -51,14 +51,14 @@ where
     ensures usage { result ≡ Status.Usage → command_of (map string_bytes words.now.items) ≡ None }
     ensures no_command { command_of (map string_bytes words.now.items) ≡ None → (result ≡ Status.Usage) ⊎ (result ≡ Status.NoMemory) }
     ensures unprinted { command_of (map string_bytes words.now.items) ≡ None → out.new ≡ out.old }
-    // The source isn't read where they ask for no command, or to work off a made input.
+    // The source isn't read where they ask for no command, or to process a made input.
     ensures unread { reads_source (command_of (map string_bytes words.now.items)) ≡ false → source.new ≡ source.old }
     // What was printed, by the command: where source and `out` tell their bytes, a text of the input as the status says.
     ensures ran { (c : Command) → command_of (map string_bytes words.now.items) ≡ Some c
         → Ran c result (S.left source.old) (S.left source.new) (K.taken out.old) (K.taken out.new) }
     // What the status says of the input holds whatever becomes of the output.
     ensures means { (c : Command) → command_of (map string_bytes words.now.items) ≡ Some c → Means c result (S.left source.old) (S.left source.new) }
-    // Without a fault and with an end in time, the input is worked off.
+    // Without a fault and with an end in time, the input is processed.
     ensures completes { (c : Command) → command_of (map string_bytes words.now.items) ≡ Some c
         → Completes c (HasRisen (S.faults source.old) (S.faults source.new)) (HasRisen (K.faults out.old) (K.faults out.new)) result (S.left source.old) }
     // Faults come only from outside.
@@ -120,7 +120,7 @@ fn run_words<R: Threads + Wait + Sync, S: Source, K: Sink, G: Gate + Sync>(
     }
 }
 
-// Works off the lines one after the other, or adds documents while queries are answered.
+// Processes the lines one after the other, or adds documents while queries are answered.
 fn run_lines<R: Threads + Sync, S: Source, K: Sink, G: Gate + Sync>(
     rt: &R,
     alloc: Global,
@@ -142,7 +142,7 @@ fn run_lines<R: Threads + Sync, S: Source, K: Sink, G: Gate + Sync>(
     }
 }
 
-// Works off the lines one after the other.
+// Processes the lines one after the other.
 fn run_in_order<S: Source, K: Sink, G: Gate>(
     alloc: Global,
     stats: bool,

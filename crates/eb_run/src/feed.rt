@@ -54,7 +54,7 @@ where
     // Faults come only from outside.
     ensures read_fault { result ≡ Status.ReadFault → HasRisen (S.faults source.old) (S.faults source.new) }
     ensures write_fault { result ≡ Status.WriteFault → HasRisen (K.faults out.old) (K.faults out.new) }
-    // Without a fault and with an end in time, the input is worked off.
+    // Without a fault and with an end in time, the input is processed.
     ensures completes { (keep : ℕ) (σ : Setting) → AsksFeed (map string_bytes words.now) keep σ
         → (HasRisen (S.faults source.old) (S.faults source.new) → ⊥) → (HasRisen (K.faults out.old) (K.faults out.new) → ⊥)
         → (bytes : List ℕ) → S.left source.old ≡ Some bytes → length bytes < longest_input → IsWorkedOff result }
@@ -92,7 +92,7 @@ fn run_words<S: Source, K: Sink, G: Gate>(
     run_lines(alloc, command.keep, command.config, source, out, gate)
 }
 
-// Works off an input over a feed.
+// Processes an input over a feed.
 fn run_lines<S: Source, K: Sink, G: Gate>(
     alloc: Global,
     keep: u32,

@@ -5,7 +5,7 @@ ghost use Rattle.eb_run.specs.Bench.{bench_line, counts_text, sums_text};
 use eb_base::NoMemory;
 use std::fmt::Write;
 
-// The line of figures of a made input, behind the text.
+// The line of figures of a made input, after the text.
 pub(crate) fn put_figures(
     text: &mut String,
     documents: u64,

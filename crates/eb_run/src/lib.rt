@@ -1,6 +1,6 @@
 //! The commands of the program: what the words of a command line ask for, and the runs over a source and a sink.
 //!
-//! [`run`] reads the commands `run`, `bench`, `save` and `load`, and [`run_feed`] what stands behind the word `feed`.
+//! [`run`] reads the commands `run`, `bench`, `save` and `load`, and [`run_feed`] what stands after the word `feed`.
 //! `specs/Ran.antt` says what `run` leaves, by the command, and `specs/FeedOutput.antt` what a feed prints.
 #![tactic(auto)]
 

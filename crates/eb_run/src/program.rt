@@ -6,7 +6,7 @@ use eb_indexed::put_end;
 use eb_lines::LineProgram;
 use std::alloc::Global;
 
-// A run, with its allocator, and with what works off the lines that it holds: a closure, since what is sent to other threads
+// A run, with its allocator, and with what processes the lines that it holds: a closure, since what is sent to other threads
 // needs the bounds of a function.
 #[derive(Drop)]
 pub(crate) struct RunProgram<W: Fn(&mut Running, &mut Vec<u8>) -> Result<(), NoMemory>> {

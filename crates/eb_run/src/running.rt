@@ -46,7 +46,7 @@ impl Running {
         })
     }
 
-    // What was worked off so far.
+    // What was processed so far.
     pub(crate) fn counts(&self) -> Counts
         ensures { (result.documents ≡ self.now.rounds.counts.documents) × (result.queries ≡ self.now.rounds.counts.queries)
             × (result.refused ≡ self.now.rounds.counts.refused) }
@@ -63,7 +63,7 @@ impl Running {
         close(&self.index, &mut self.writer, &mut self.converter)
     }
 
-    // Works off the held lines, with what they print behind the text. Where memory doesn't suffice, nothing is done.
+    // Processes the held lines, with what they print after the text. Where memory doesn't suffice, nothing is done.
     pub(crate) fn work_held<R: Threads + Sync, G: Gate + Sync>(
         &mut self,
         rt: &R,
@@ -87,7 +87,7 @@ impl Running {
         )
     }
 
-    // Works off the held lines where a query waits among them.
+    // Processes the held lines where a query waits among them.
     pub(crate) fn answer_held<W: Fn(&mut Running, &mut Vec<u8>) -> Result<(), NoMemory>>(
         &mut self,
         worker: &W,
@@ -106,15 +106,15 @@ impl Running {
         }
     }
 
-    // Whether a line of this kind, which doesn't go behind the held ones, opens a round: a query line behind documents alone,
-    // which are read beside what comes behind it.
+    // Whether a line of this kind, which doesn't go after the held ones, opens a round: a query line after documents alone,
+    // which are read beside what comes after it.
     fn opens_round(&self, kind: Kind) -> bool
         ensures { IsTrue result → self.now.rounds.ahead ≡ [] }
     {
         kind == Kind::QueryLine && !self.rounds.has_query() && !self.rounds.has_round_ahead()
     }
 
-    // Where no line of this kind goes behind the held lines, opens a round for it, or works them off.
+    // Where no line of this kind goes after the held lines, opens a round for it, or processes them.
     fn make_way<W: Fn(&mut Running, &mut Vec<u8>) -> Result<(), NoMemory>>(
         &mut self,
         kind: Kind,
@@ -137,7 +137,7 @@ impl Running {
         worker(self, text)
     }
 
-    // Holds the next line, where one of its kind goes behind those that are held.
+    // Holds the next line, where one of its kind goes after those that are held.
     fn put(&mut self, input: Input<'_>) -> Result<(), NoMemory>
         requires state { IsRunning HasRun self.old }
         requires number { self.old.number + 1 < 2 ^ 64 }
@@ -152,7 +152,7 @@ impl Running {
         Ok(())
     }
 
-    // Holds the next line, and works off the held lines before where it doesn't go behind them.
+    // Holds the next line, and processes the held lines before where it doesn't go after them.
     fn hold<W: Fn(&mut Running, &mut Vec<u8>) -> Result<(), NoMemory>>(
         &mut self,
         input: Input<'_>,

@@ -32,7 +32,7 @@ walk_down q k docs low (suc more) ids le none w =
     ] in
     walk_down q k docs low more ids (omega arith) (λ n a b m. none n a (omega arith) m) (walk_other q k docs at d ids (omega arith) e away (subst (λ z. IsWalk q k docs z ids) next w))
 
--- the matches that are found of a segment, down to a place, behind those ids that were there before
+-- the matches that are found of a segment, down to a place, after those ids that were there before
 pub record HasFound (q : Tree) (k : ℕ) (before : List ℕ) (docs : List Doc) (end : ℕ) (ids : List ℕ) : Type 0 where
   pub found : List ℕ
   pub all : ids ≡ before ++ found
@@ -81,7 +81,7 @@ answer_none : (q : Tree) (docs : List Doc) → answer q 0 docs ≡ []
 unfolding answer
 answer_none q docs = refl
 
--- a segment's answer behind that of the newer segments
+-- a segment's answer after that of the newer segments
 pub answer_next : (q : Tree) (k : ℕ) (docs part : List Doc) (start end : ℕ) (ids ids' : List ℕ) → drop start docs ≡ part ++ drop end docs
     → ids ≡ answer q k (drop end docs) → ids' ≡ ids ++ answer q (k - length ids) part → ids' ≡ answer q k (drop start docs)
 answer_next q k docs part start end ids ids' e i j =
@@ -101,11 +101,11 @@ unfolding answer
 answer_nothing q zero = refl
 answer_nothing q (suc k) = refl
 
--- no document is behind the last
+-- no document is after the last
 pub answer_first : (q : Tree) (k : ℕ) (docs : List Doc) (end : ℕ) (ids : List ℕ) → end ≡ length docs → ids ≡ [] → ids ≡ answer q k (drop end docs)
 answer_first q k docs end ids e i = i ∙ sym (ap (answer q k) (ap (λ n. drop n docs) e ∙ drop-length docs) ∙ answer_nothing q k)
 
--- ---- the same behind ids that a frame held before
+-- ---- the same after ids that a frame held before
 
 pub more_next : (q : Tree) (k : ℕ) (before : List ℕ) (docs part : List Doc) (start end : ℕ) (ids ids' : List ℕ) → drop start docs ≡ part ++ drop end docs
     → ids ≡ before ++ answer q (k - length before) (drop end docs) → ids' ≡ ids ++ answer q (k - length ids) part
@@ -127,7 +127,7 @@ pub more_first : (q : Tree) (k : ℕ) (before : List ℕ) (docs : List Doc) (end
 more_first q k before docs end e =
     sym (ap (λ (z : List ℕ). before ++ z) (sym (answer_first q (k - length before) docs end [] e refl)) ∙ append-nil before)
 
--- behind none it is the answer
+-- after none it is the answer
 pub more_none : (q : Tree) (k : ℕ) (before : List ℕ) (docs : List Doc) (ids : List ℕ) → before ≡ [] → ids ≡ before ++ answer q (k - length before) docs → ids ≡ answer q k docs
 more_none q k before docs ids e i =
     let all : k - length before ≡ k = omega (arith, ap length e) in

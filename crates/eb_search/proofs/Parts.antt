@@ -35,7 +35,7 @@ before_cons x xs s =
     let q : suc s + 1 ≡ suc (s + 1) = omega arith in
     ap (documents_before (x ∷ xs)) q ∙ sum_by-cons {X = List Doc} length x (take (s + 1) xs)
 
--- from a segment on: it, and what is behind it
+-- from a segment on: it, and what is after it
 drop_flat : (segs : List (List Doc)) (s : ℕ) → s < length segs → drop (documents_before segs s) (flat segs) ≡ get_or segs s [] ++ drop (documents_before segs (s + 1)) (flat segs)
 drop_flat [] s h = absurd (omega arith)
 drop_flat (x ∷ xs) zero h =

@@ -14,7 +14,7 @@ pub record Searched (m n : Moment) (q : Tree) (k counted : ℕ) (found : List �
   pub count : counted ≡ length loaded.documents.accepted
   pub ids : found ≡ answer q k loaded.documents.accepted
 
--- the same where the frame held ids before: those that are found stand behind them, as many as it still took
+-- the same where the frame held ids before: those that are found stand after them, as many as it still took
 pub record SearchedOn (m n : Moment) (q : Tree) (k counted : ℕ) (held found : List ℕ) : Type 0 where
   pub loaded : Moment
   pub after : IsNotBefore loaded m

@@ -15,7 +15,7 @@ use eb_place::{Port, Steps};
 use std::sync::ledger::Ledger;
 
 /// Searches exactly the first `count` documents, all of which are accepted: it loads no count, and puts the ids that it
-/// finds behind those of the frame, as many as the frame still takes. So documents that are accepted later change
+/// finds after those of the frame, as many as the frame still takes. So documents that are accepted later change
 /// nothing of it, whenever it is asked. Takes no memory.
 pub fn search_first<P: Port, L: Ledger>(
     port: &mut P,

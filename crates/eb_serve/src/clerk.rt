@@ -1,3 +1,9 @@
+//! The clerk.
+//!
+//! The clerk's call is the second argument of `join_mut`: the first runs on a new thread, or last where none can be
+//! made. With the clerk first, workers would sleep before it ever began; with it second, it answers its jobs itself.
+//! A waiting clerk sleeps until an answer comes; a job that it missed is a worker's. An answer that is there is taken
+//! without waiting by a call of its own, which takes no handle that may wait.
 ghost use Rattle.std.specs.Prelude.{◌≡◌, ◌⊎◌, MatchOption};
 ghost use Rattle.eb_serve.specs.Jobs.{pair_of, asker, answer_pair, answerer};
 ghost use Rattle.eb_serve.specs.Rule.{IsAboveEach};

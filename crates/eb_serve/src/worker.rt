@@ -1,3 +1,8 @@
+//! A worker.
+//!
+//! Who has nothing to do tries for a while and then sleeps by an event count. Before it sleeps it announces the wait
+//! and looks again by the take that fails only at an empty queue, since the quick one also fails where another thread
+//! is in the way. A worker has a number because slices of tokens without bytes get no proof.
 ghost use Rattle.std.specs.Prelude.{◌≡◌, ◌+◌, MatchOption};
 ghost use Rattle.eb_serve.specs.Jobs.{answer_pair, answerer};
 ghost use Rattle.eb_serve.specs.Rule.{IsMadeTask};

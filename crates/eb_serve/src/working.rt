@@ -42,7 +42,7 @@ pub fn work_all<R: Threads + Wait + Sync, G: Gate + Sync>(
     );
 }
 
-/// Puts a stop for each of so many workers: what the clerk's part ends with, behind a fault too. Takes no memory.
+/// Puts a stop for each of so many workers: what the clerk's part ends with, after a fault too. Takes no memory.
 pub fn stop_all<R: Wait>(rt: &R, desk: &Desk, clerk: &mut Clerk, workers: u32)
     requires { clerk.old.queues ≡ desk.now.queues }
     ensures { clerk.new ≡ with_stops clerk.old workers }

@@ -1,4 +1,4 @@
--- What stands behind newer turns.
+-- What stands after newer turns.
 use Rattle.std.proofs.Common.{◌≡◌, ℕ, zero, suc, ◌+◌, ◌^◌, ◌<◌, ◌≤◌, List, [], ◌∷◌, ◌++◌, length}
 use Rattle.std.proofs.Common.{take, min, ◌-◌, reverse, get_or, refl, ap, sym, ◌∙◌, subst, arith, append_assoc, append-nil, length-append}
 use Rattle.std.proofs.lemmas.List.{reverse-append, length-reverse, length-take}
@@ -10,7 +10,7 @@ use Rattle.eb_stream.specs.declared.turn.Turn.{Turn}
 use Rattle.eb_stream.proofs.Helds.{held_docs}
 use Rattle.eb_stream.specs.Turns.{PieceToken, turn, past_of, generations_of, history_of, AreHeld, counted}
 
--- the documents of the generation behind these turns, the last one first
+-- the documents of the generation after these turns, the last one first
 abbrev pub docs_behind : List Doc → List Turn → List Doc
 docs_behind docs [] = docs
 docs_behind docs (t ∷ ts) = docs_behind t.before ts

@@ -8,7 +8,7 @@ use Rattle.eb_engine.specs.Tokens.{HistoryToken}
 use Rattle.eb_feed.specs.Generations.{generations, joined_generations}
 use Rattle.eb_stream.specs.declared.turn.Turn.{Turn}
 
--- a generation was begun, with this index, behind one of these documents
+-- a generation was begun, with this index, after one of these documents
 abbrev pub turn : Words → List Doc → Turn
 turn index before = record { index = index; before = before }
 

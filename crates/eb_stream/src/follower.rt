@@ -41,7 +41,7 @@ impl Model for Follower {
 
 impl Follower {
     /// Takes in what it was told last, if anything. True where all that it knew is known on; false where it had fallen
-    /// behind so far that the generation that was its newest is held no more: of that one the documents that it knew may
+    /// so far behind that the generation that was its newest is held no more: of that one the documents that it knew may
     /// be unknown. Doesn't wait, and takes no memory.
     pub fn hear(&mut self) -> bool
         ensures book { self.new.book ≡ self.old.book }

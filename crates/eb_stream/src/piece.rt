@@ -95,7 +95,7 @@ impl Piece {
         self.reader.search(&self.index, frame, gate, steps)
     }
 
-    // Searches exactly the documents that it knows, behind what the frame holds.
+    // Searches exactly the documents that it knows, after what the frame holds.
     pub(crate) fn search_known<L: Ledger>(&mut self, frame: &mut Frame, steps: &mut Steps<L>)
         ensures same { self.new ≡ self.old }
         ensures query { query_of frame.new ≡ query_of frame.old }
@@ -106,7 +106,7 @@ impl Piece {
     }
 }
 
-// Puts pieces that know what these know behind the others.
+// Puts pieces that know what these know after the others.
 pub(crate) fn copy_all(pieces: &mut [Piece], copies: &mut Vec<Piece>) -> Result<(), NoMemory>
     ensures same { pieces.new ≡ pieces.old }
     ensures copies { OnOk result (copies.new.items ≡ copies.old.items ++ pieces.old) }

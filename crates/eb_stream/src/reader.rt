@@ -122,7 +122,7 @@ impl FeedReader {
 
     /// Takes in another reader of the feed. Where that one knows as many turns or more, this one then holds what that one
     /// holds, and knows what it knows; where it knows fewer, nothing is changed. True where all that this reader knew is
-    /// known on; false where it had fallen behind so far that the other one no longer holds the generation that was its
+    /// known on; false where it had fallen so far behind that the other one no longer holds the generation that was its
     /// newest: of that one the documents that it knew may be unknown. Doesn't wait, and takes no memory.
     pub fn meet(&mut self, mut other: FeedReader) -> bool
         requires { other.book ≡ self.old.book }
@@ -166,7 +166,7 @@ impl FeedReader {
     }
 }
 
-// The piece at a place takes in a reader of its index. The piece in front may learn of more documents; one behind it
+// The piece at a place takes in a reader of its index. The piece in front may learn of more documents; one after it
 // knows all, so what the reader knows has to be no more: false where it is more.
 fn take_in(pieces: &mut [Piece], at: usize, reader: Reader) -> bool
     requires place { at < length pieces.old }
@@ -225,7 +225,7 @@ fn search_pieces<G: Gate, L: Ledger>(
     count
 }
 
-// Goes on behind the newest piece.
+// Goes on after the newest piece.
 fn search_older<L: Ledger>(pieces: &mut [Piece], frame: &mut Frame, steps: &mut Steps<L>)
     requires some { 1 ≤ length pieces.old }
     ensures same { pieces.new ≡ pieces.old }
@@ -242,7 +242,7 @@ fn search_older<L: Ledger>(pieces: &mut [Piece], frame: &mut Frame, steps: &mut 
     }
 }
 
-// Goes on with all pieces behind what the frame holds, and stops where it is full.
+// Goes on with all pieces after what the frame holds, and stops where it is full.
 pub(crate) fn search_behind<L: Ledger>(
     pieces: &mut [Piece],
     frame: &mut Frame,

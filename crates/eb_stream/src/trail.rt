@@ -89,7 +89,7 @@ impl Trail {
         }
     }
 
-    // Adds a turn behind all that was seen. False where the log is longer, or can't grow.
+    // Adds a turn after all that was seen. False where the log is longer, or can't grow.
     pub(crate) fn begin(&mut self, head: &Head, pair: &Pair) -> bool
         requires { head.now ≡ self.old.book }
         ensures book { self.new.book ≡ self.old.book }

@@ -98,7 +98,7 @@ impl FeedWriter {
         })
     }
 
-    /// Adds a document behind the history. Where the newest generation has no room for it, another is begun, in the index
+    /// Adds a document after the history. Where the newest generation has no room for it, another is begun, in the index
     /// that was lent or in one for which it takes memory, and the oldest that it holds is let go where it holds as many as
     /// it keeps. Gives how many documents stand in the history then. `NoMemory` only where another has to be begun and
     /// there is no memory for it: nothing is changed then. The gate is told of the number of documents of the newest

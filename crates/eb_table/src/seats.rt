@@ -1,3 +1,9 @@
+//! The seats of the shared words.
+//!
+//! A join's moment is the least after both where tests say that they lie on one history, else a moment that no words
+//! have. A join tells nothing of the words, so a load of word 0 follows that rules the second one out; it shows the
+//! seat nothing else (`ConfirmStep`), so that the seat knows exactly the least moment after both, and no later one. A
+//! store of the writer names its document by a ghost type, since no word does.
 ghost use Rattle.std.specs.Prelude.{◌≡◌, ◌<◌};
 ghost use Rattle.eb_base.specs.Setting.{words_of};
 ghost use Rattle.eb_place.specs.Laws.{IsLeastAfter};

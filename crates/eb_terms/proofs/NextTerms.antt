@@ -104,7 +104,7 @@ length-enter_stores σ s terms t =
 pub enter_goes_on : (m : Moment) (d : Doc) (s : ℕ) (t : Term) → IsNextTerm m d s t → HasMoreAfter m d (enter_stores m.setting s (entered m s) t)
 enter_goes_on m d s t n = goes_on m d (enter_stores m.setting s (entered m s) t) n (omega (arith, length-enter_stores m.setting s (entered m s) t)) (enter_plain m.setting s (entered m s) t)
 
--- behind its text: the text place, then the cell
+-- after its text: the text place, then the cell
 pub enter_at : (σ : Setting) (s : ℕ) (terms : List Term) (t : Term) → slice_get (enter_stores σ s terms t) (text_words t) ≡ Some (slot s text_place_region (length terms), sum_by text_words terms)
 unfolding enter_stores
 enter_at σ s terms t =
@@ -248,7 +248,7 @@ ready m n d s t u is l f h tells =
       small = (setting_terms n.setting is.setting).1;
     }
 
--- behind the text comes the text place
+-- after the text comes the text place
 pub place_next : (n : Moment) (d : Doc) (s : ℕ) (t : Term) (u : Used) (p v : ℕ) → IsReady n d s t u
     → p ≡ place n.setting (slot s text_place_region u.terms) → v ≡ u.text → IsNext (with_placed n d (text_words t)) d p v
 place_next n d s t u p v r e w =

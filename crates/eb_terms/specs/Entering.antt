@@ -10,7 +10,7 @@ use Rattle.eb_place.specs.NextStores.{AreNext, with_stores}
 use Rattle.eb_place.specs.Seen.{entered}
 use Rattle.eb_terms.specs.Finding.{HasNumber}
 
--- the next stores are those that enter the term in the segment, behind the terms that are entered there
+-- the next stores are those that enter the term in the segment, after the terms that are entered there
 abbrev pub IsNextTerm : Moment → Doc → ℕ → Term → Type 0
 IsNextTerm m d s t = AreNext m d (enter_stores m.setting s (entered m s) t)
 

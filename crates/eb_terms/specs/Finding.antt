@@ -35,6 +35,6 @@ is_filled m s c = nat_lt 0 (word m (place m.setting (slot s cell_region c)))
 unfoldable pub filled_run : Moment → ℕ → Term → ℕ
 filled_run m s t = prefix_len (λ k. is_filled m s ((home_cell (cells_in m) t + k) % cells_in m)) (range_with_len 0 (cells_in m))
 
--- the most loads of a search: three and the text words of the term, for each cell of the run and the one behind it
+-- the most loads of a search: three and the text words of the term, for each cell of the run and the one after it
 abbrev pub most_finding_loads : Moment → ℕ → Term → ℕ
 most_finding_loads m s t = (filled_run m s t + 1) * (3 + text_words t)

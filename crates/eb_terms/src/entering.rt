@@ -1,3 +1,8 @@
+//! Entering a term into the dictionary.
+//!
+//! The condition is that the next stores of the placing enter this term after the entered ones: room for the term and
+//! its text, and that the segment is one of the index, follow from it. The free cell is found before the first store,
+//! by a counter of its own.
 ghost use Rattle.std.specs.Prelude.{◌≡◌, ◌+◌, ◌<◌};
 ghost use Rattle.eb_place.specs.declared.moment.Moment.{Moment};
 ghost use Rattle.eb_place.specs.Room.{text_words};

@@ -1,3 +1,7 @@
+//! Finding a term in the dictionary.
+//!
+//! A filled cell is one whose word isn't 0; the run from the home cell counts at most all cells. None is answered
+//! where all cells were come round; a free one is always met earlier.
 ghost use Rattle.std.specs.Prelude.{◌≡◌, ◌+◌, ◌*◌, ◌<◌, ◌≤◌, ◌↔◌, IsTrue};
 ghost use Rattle.eb_place.specs.declared.moment.Moment.{Moment};
 ghost use Rattle.eb_place.specs.Placing.{text_of};

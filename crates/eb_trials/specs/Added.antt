@@ -6,7 +6,7 @@ use Rattle.eb_place.specs.declared.moment.Moment.{Moment}
 use Rattle.eb_writer.specs.Progress.{PlacerProgress, PlacerStands}
 use Rattle.eb_cursor.specs.Accepted.{accepted_in}
 
--- the port stands for a moment of the same setting with these documents accepted behind those of the first,
+-- the port stands for a moment of the same setting with these documents accepted after those of the first,
 -- and so does the placer
 pub record HasAdded {S : Type 0} (stands : S → Moment → Type 0) (s : S) (p : PlacerProgress) (m : Moment) (docs : List Doc) : Type 0 where
   pub moment : Moment

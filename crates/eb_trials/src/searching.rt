@@ -102,7 +102,7 @@ impl SearchingPen {
         }
     }
 
-    // Puts an answer behind the others.
+    // Puts an answer after the others.
     fn push(&mut self, seen: u64) -> Result<(), NoMemory>
         ensures { self.new.pen ≡ self.old.pen }
     {

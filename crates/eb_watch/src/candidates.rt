@@ -30,7 +30,7 @@ pub(crate) fn candidate_numbers(
     Ok(numbers)
 }
 
-// Puts the numbers behind the list to which one of the terms leads, those of a term that stands several times once.
+// Puts the numbers after the list to which one of the terms leads, those of a term that stands several times once.
 fn put_led(by_term: &ByTerm, terms: &[Term], numbers: &mut Vec<u32>) -> Result<(), NoMemory>
     ensures { OnOk result ((n : ℕ) → list_any (nat_eq n) numbers.new.items
         ≡ (list_any (nat_eq n) numbers.old.items || list_any (λ t. leads by_term.now t n) terms.now)) }
@@ -46,7 +46,7 @@ fn put_led(by_term: &ByTerm, terms: &[Term], numbers: &mut Vec<u32>) -> Result<(
     Ok(())
 }
 
-// Puts the numbers of the set behind the list.
+// Puts the numbers of the set after the list.
 fn put_numbers(set: &BTreeSet<u32>, numbers: &mut Vec<u32>) -> Result<(), NoMemory>
     ensures { OnOk result (numbers.new.items ≡ numbers.old.items ++ set.now.keys) }
 {

@@ -11,7 +11,7 @@ use std::sync::ledger::Ledger;
 
 /// Whether the query matches the document: a word where it is one of the document's terms, a phrase where its terms
 /// stand one after another in the document, a window where they stand in their order at places of which the last is
-/// at most its reach behind the first, a bound where the document's id is greater, a Not where its part doesn't match,
+/// at most its reach after the first, a bound where the document's id is greater, a Not where its part doesn't match,
 /// an And where each part matches, an Or where some part does. The tests count it. Takes no memory.
 pub fn matches<L: Ledger>(query: &Query, document: &Document, tests: &mut Steps<L>) -> bool
     ensures fact { IsTrue result ↔ Matches (tree query.now) document.now }

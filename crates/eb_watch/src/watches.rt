@@ -1,4 +1,9 @@
 //! The watches that are set.
+//!
+//! The watches lie in a `BTreeMap` by number, from a term of a key leads a `HashMap` to a `BTreeSet` of numbers, and
+//! the watches without a key are a set of their own: setting and removing one touches only the sets of its own terms,
+//! and a document costs a look-up for each of its terms. What `set` had put in when memory ran out is taken out
+//! again.
 ghost use Rattle.std.specs.Prelude.{◌≡◌, ◌≤◌, ◌↔◌, [], true, false, length, IsTrue, IsErr, IsErrOf, OnOk, OnErr};
 ghost use Rattle.std.specs.BTreeMap.{btree_map_len, keys};
 ghost use Rattle.std.specs.List.Sorted.{IsStrictlyIncreasing};

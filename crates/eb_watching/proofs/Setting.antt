@@ -17,7 +17,7 @@ use Rattle.eb_watching.specs.declared.watched.WatchedIndex.{WatchedIndex}
 use Rattle.eb_watching.specs.Watched.{IsWatched}
 use Rattle.eb_watching.specs.WatchRules.{watch_rules, watch_refusal, watches_then}
 
--- the watches behind a watch line that comes to this
+-- the watches after a watch line that comes to this
 abbrev pub behind : List Watched → ℕ → Option Tree → Option Refusal → List Watched
 behind ws n q None = watches_then ws n q
 behind ws n q (Some r) = ws

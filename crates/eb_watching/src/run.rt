@@ -14,7 +14,7 @@ use eb_io::{Sink, Source};
 use eb_lines::Status;
 use std::alloc::Global;
 
-/// Works off the lines that the source gives, in order, with an index of this setting; prints answers, what watches are
+/// Processes the lines that the source gives, in order, with an index of this setting; prints answers, what watches are
 /// told, refusals and the summary on `out`. Lines are numbered from 1. A line `!N QUERY` sets the watch N, and `!N` takes it
 /// away (this project's profile, docs/FORMATS.md); a document that is accepted tells the numbers of the set watches whose
 /// query it matches, where there are any. A query sees all documents that were accepted before its line. With `stats` the
@@ -41,7 +41,7 @@ pub fn run_watches<S: Source, K: Sink, G: Gate>(
     // Faults come only from outside.
     ensures read_fault { result ≡ Status.ReadFault → HasRisen (S.faults source.old) (S.faults source.new) }
     ensures write_fault { result ≡ Status.WriteFault → HasRisen (K.faults out.old) (K.faults out.new) }
-    // Without a fault and with an end in time, the input is worked off.
+    // Without a fault and with an end in time, the input is processed.
     ensures completes { (HasRisen (S.faults source.old) (S.faults source.new) → ⊥) → (HasRisen (K.faults out.old) (K.faults out.new) → ⊥)
         → (bytes : List ℕ) → S.left source.old ≡ Some bytes → length bytes < longest_input → IsWorkedOff result }
 {

@@ -1,4 +1,7 @@
 //! An index whose documents tell watches.
+//!
+//! The room for all that a document may tell is taken before it is added, so that nothing can fail after the add: 21
+//! bytes for each watch that is set. The room stays with the text, so it is taken once.
 ghost use Rattle.std.specs.Prelude.{◌≡◌, ◌<◌, ◌≤◌, ◌^◌, [], Some, None, length, IfOk, OnErr};
 ghost use Rattle.eb_answer.specs.Stores.{IsHolding, TakesOther, Keeps};
 ghost use Rattle.eb_base.specs.Query.{tree, IsWellFormed};

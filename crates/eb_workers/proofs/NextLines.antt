@@ -45,7 +45,7 @@ pub split_waiting : (docs : List Doc) (t : ℕ) (rs : List Reading) (w : Waiting
 split_waiting docs t [] w ws h = absurd h
 split_waiting docs t (r ∷ rest) w ws h = (r, rest, refl, h.0, h.1)
 
--- lines that are done, and one more behind them
+-- lines that are done, and one more after them
 module _ (docs : List Doc) (done : List Reading) (r : Reading) (w : Waiting) (n : ℕ → ℕ) (ready : IsReady w) (stands : WaitsAs docs (length (accepted done)) r w) where
   abbrev pub numbers_on : ℕ → ℕ
   numbers_on = joined_numbers (length done) n (λ i. seen_by w)

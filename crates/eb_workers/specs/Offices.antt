@@ -18,7 +18,7 @@ pub record Keeps (old new : Office) : Type 0 where
   pub staffed : IsStaffed new
   pub index : new.index.now ≡ old.index.now
 
--- a document was placed behind the others; or there was no room for it
+-- a document was placed after the others; or there was no room for it
 abbrev pub WithPlaced : Office → Office → Doc → Bool → Type 0
 WithPlaced old new d true = HasRoom old.index.now.setting old.writer.docs d × (new.writer.docs ≡ old.writer.docs ++ d ∷ [])
 WithPlaced old new d false = (has_room old.index.now.setting old.writer.docs d ≡ false) × (new.writer.docs ≡ old.writer.docs)

@@ -37,7 +37,7 @@ pub(crate) struct Office<'a> {
 impl Office<'_> {
     ghost use Rattle.eb_workers.specs.Offices.{IsStaffed, Keeps, WithPlaced};
 
-    // Adds a document behind the others. False exactly where there is no room for it.
+    // Adds a document after the others. False exactly where there is no room for it.
     fn place<G: Gate>(&mut self, document: &Document, gate: &G) -> bool
         requires staffed { IsStaffed self.old }
         ensures keeps { Keeps self.old self.new }
@@ -60,7 +60,7 @@ impl Office<'_> {
         let _ = self.converter.convert(self.index);
     }
 
-    // Adds a document behind the others, and packs the segment that it closed. False exactly where there is no room for
+    // Adds a document after the others, and packs the segment that it closed. False exactly where there is no room for
     // it. Takes no memory.
     pub(crate) fn add<G: Gate>(&mut self, document: &Document, gate: &G) -> bool
         requires staffed { IsStaffed self.old }

@@ -22,7 +22,7 @@ use std::alloc::Global;
 use std::sync::Wait;
 use std::thread::{Threads, join_mut};
 
-// Passes the lines to the program, and puts behind them one stop for each worker, after a fault and want of memory too.
+// Passes the lines to the program, and puts after them one stop for each worker, after a fault and want of memory too.
 fn pass_and_stop<R: Threads + Wait + Sync, S: Source, K: Sink, G: Gate + Sync>(
     rt: &R,
     alloc: Global,
@@ -200,7 +200,7 @@ fn pass_at_desk<R: Threads + Wait + Sync, S: Source, K: Sink, G: Gate + Sync>(
 
 /// Runs over the lines that the source gives, with so many workers, from 1 to 16, that live for the whole run and answer
 /// queries beside the one writer: document lines add, query lines ask, and answers and refusals are printed on `out`, each
-/// in its line's place, and behind them the summary. A query's answer is over a prefix of the accepted documents that holds
+/// in its line's place, and after them the summary. A query's answer is over a prefix of the accepted documents that holds
 /// at least those before its line. With `stats` the line of the segments follows the summary.
 ///
 /// At most 512 queries are unanswered and 4,096 lines unprinted at once: where one of these numbers is reached, and at the
@@ -233,7 +233,7 @@ where
     // Faults come only from outside.
     ensures read_fault { result ≡ Status.ReadFault → HasRisen (S.faults source.old) (S.faults source.new) }
     ensures write_fault { result ≡ Status.WriteFault → HasRisen (K.faults out.old) (K.faults out.new) }
-    // Without a fault and with an end in time, the input is worked off.
+    // Without a fault and with an end in time, the input is processed.
     ensures completes { (HasRisen (S.faults source.old) (S.faults source.new) → ⊥) → (HasRisen (K.faults out.old) (K.faults out.new) → ⊥)
         → (bytes : List ℕ) → S.left source.old ≡ Some bytes → length bytes < longest_input → IsWorkedOff result }
 {

@@ -153,7 +153,7 @@ impl<'a> Serving<'a> {
         }
     }
 
-    // Puts what the next line prints behind the text, where it is known, and says whether it was. Where memory doesn't
+    // Puts what the next line prints after the text, where it is known, and says whether it was. Where memory doesn't
     // suffice, nothing is done.
     fn print_next(&mut self, text: &mut Vec<u8>) -> Result<bool, NoMemory>
         requires running { IsRunning HasServed self.old }
@@ -172,7 +172,7 @@ impl<'a> Serving<'a> {
         Ok(true)
     }
 
-    // Puts what the next lines print behind the text, as far as it is known.
+    // Puts what the next lines print after the text, as far as it is known.
     fn print_ready(&mut self, text: &mut Vec<u8>) -> Result<(), NoMemory>
         requires running { IsRunning HasServed self.old }
         ensures on { WorksOn HasServed self.old self.new text.old.items text.new.items }
@@ -365,7 +365,7 @@ impl<'a> Serving<'a> {
         self.wait_down(rt, gate, 0, 0, text)
     }
 
-    // Puts the end of the input behind the text, where no line waits, and gives how many lines are refused. Where memory
+    // Puts the end of the input after the text, where no line waits, and gives how many lines are refused. Where memory
     // doesn't suffice, the text is as before.
     pub(crate) fn finish(&mut self, alloc: Global, text: &mut Vec<u8>) -> Result<u64, NoMemory>
         requires running { IsRunning HasServed self.old }

@@ -61,7 +61,7 @@ impl Waiting {
         }
     }
 
-    // Puts what it prints behind the text, which has room for it. Takes no memory.
+    // Puts what it prints after the text, which has room for it. Takes no memory.
     pub(crate) fn print(self, number: u64, text: &mut Vec<u8>)
         requires { vec_len text.old + need_of self ≤ vec_capacity text.old }
         ensures { text.new.items ≡ text.old.items ++ printed_by number self }
@@ -83,7 +83,7 @@ pub(crate) fn replace(lines: &mut VecDeque<Waiting>, at: usize, line: Waiting)
     lines[at] = line;
 }
 
-// Puts a line behind those that wait, which have room for it.
+// Puts a line after those that wait, which have room for it.
 pub(crate) fn push(lines: &mut VecDeque<Waiting>, line: Waiting)
     requires { deque_len lines.old + 1 ≤ deque_capacity lines.old }
     ensures { lines.new.items ≡ lines.old.items ++ line ∷ [] }

@@ -53,7 +53,7 @@ left_token m d s i low h =
     let e : drop i d.terms ≡ t ∷ drop (i + 1) d.terms = drop_one d.terms i t (element d.terms i [] low) in
     h.left ∙ ap (stores_from σ docs d s i b) e ∙ simp append_assoc
 
--- what is left behind the stores that enter the term, if it is new
+-- what is left after the stores that enter the term, if it is new
 abbrev pub posting_stores : Moment → Doc → ℕ → ℕ → List Store
 posting_stores m d s i = append_stores s (tokens_until m d i) (token_at d.terms i) (count_of (token_at d.terms i) (tokens_until m d i)) (posting_of (length (before_it m d)) i)
     ++ stores_from m.setting m.documents.accepted d s (i + 1) (tokens_until m d i ++ token_at d.terms i ∷ []) (drop (i + 1) d.terms)

@@ -34,7 +34,7 @@ pub count_few : (u : Term) (ts : List Term) (i : ℕ) → i ≤ length ts → co
 count_few u ts zero h = omega (arith, count_of-nil u)
 count_few u ts (suc i) h = omega (arith, count_few u ts i (omega arith), count_take u ts i (omega arith), Rattle.eb_writer.proofs.Tallies.one_low (Rattle.std.proofs.Common.bytes_eq u (token_at ts i)))
 
--- a front and what stands behind a shorter one
+-- a front and what stands after a shorter one
 take_rest : {X : Type 0} (xs : List X) (q i : ℕ) → q ≤ i → (rest : List X) × (take i xs ≡ take q xs ++ rest)
 take_rest xs zero i h = (take i xs, refl)
 take_rest [] (suc q) zero h = absurd (omega arith)

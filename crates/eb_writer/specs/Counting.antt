@@ -31,7 +31,7 @@ pub record IsUsedBy (u : Used) (ts : List Term) : Type 0 where
   pub pool2 : u.pool2 ≡ slices_begun 2 ts
   pub pool3 : u.pool3 ≡ slices_begun 3 ts
 
--- of the token at place i of a document that comes behind the tokens of a segment: the number that its term
+-- of the token at place i of a document that comes after the tokens of a segment: the number that its term
 -- has or will get, the term's tail word before the document, and how often the term stands earlier in it
 pub record IsFound (before ts : List Term) (i : ℕ) (k : Found) : Type 0 where
   pub number : k.number ≡ number_of (token_at ts i) (before ++ take i ts)

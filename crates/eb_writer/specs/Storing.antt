@@ -56,7 +56,7 @@ pub record HasStoredMore (m n : Moment) : Type 0 where
 abbrev pub IsNumbered : Moment → Doc → ℕ → ℕ → Type 0
 IsNumbered m d i k = k ≡ number_of (token_at d.terms i) (tokens_until m d i)
 
--- the documents with d accepted behind them
+-- the documents with d accepted after them
 abbrev pub with_accepted : Documents → Doc → Documents
 with_accepted x d = record { accepted = x.accepted ++ d ∷ []; current = None }
 

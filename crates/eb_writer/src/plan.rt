@@ -25,7 +25,7 @@ pub(crate) const BUCKETS: usize = 512;
 pub(crate) struct Recall {
     // The last token of each bucket.
     pub latest: [u16; BUCKETS],
-    // For each token the one before it in its bucket. Behind the tokens so far stands what earlier documents left.
+    // For each token the one before it in its bucket. After the tokens so far stands what earlier documents left.
     pub before: [u16; MAX_TOKENS],
     ghost places: { length before ≡ most_tokens },
 }
@@ -41,7 +41,7 @@ fn recall_nothing() -> Recall {
 // What the placing of a document in a segment will do.
 #[derive(Drop)]
 pub(crate) struct Plan {
-    // Its tokens, in order. Behind them stands what earlier plans left, so that a plan costs no more than its tokens.
+    // Its tokens, in order. After them stands what earlier plans left, so that a plan costs no more than its tokens.
     pub found: [Found; MAX_TOKENS],
     // What is used of the segment with them.
     pub used: Used,

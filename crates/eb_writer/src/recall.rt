@@ -40,7 +40,7 @@ pub(crate) fn last_place(recall: &Recall, terms: &Terms, at: usize, bucket: usiz
     None
 }
 
-// Puts the token at a place behind those before it.
+// Puts the token at a place after those before it.
 pub(crate) fn remember(recall: &mut Recall, terms: &Terms, at: usize, bucket: usize)
     requires { (at < length terms.now) × (length terms.now ≤ most_tokens) × Remembers recall.old terms.now at × (bucket ≡ bucket_in terms.now at) }
     ensures { Remembers recall.new terms.now (at + 1) }

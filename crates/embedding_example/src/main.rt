@@ -64,7 +64,7 @@ fn frame(alloc: Global, word: &[u8]) -> Result<Frame, NoMemory> {
     Frame::new(alloc, Query::Word(Term::new(alloc, word)?), 10)
 }
 
-// Adds the messages. `Writer::add` puts each behind the history, or answers that there is no room for it, and takes no
+// Adds the messages. `Writer::add` puts each after the history, or answers that there is no room for it, and takes no
 // memory. The gate is told of each document; this one does nothing.
 fn add_all(index: &Index, writer: Writer, messages: &[Document]) -> Writer
     requires { writer.index ≡ index.now }

@@ -32,7 +32,7 @@ const NO_FAULT: Fault = Fault {
     leaves: 0,
 };
 
-// What is left of a text behind one of these that it begins with.
+// What is left of a text after one of these that it begins with.
 fn behind<'a>(text: &'a [u8], allowed: &[Vec<u8>]) -> Option<&'a [u8]> {
     for front in allowed {
         if let Some(rest) = text.strip_prefix(front.as_slice()) {
@@ -94,7 +94,7 @@ fn difference(row: &Row, left: &Left) -> Option<&'static str> {
     difference_of_points(row, left)
 }
 
-// In what a run with a fault differs from its row. Of two faults that of the sink is told, and none behind the whole text.
+// In what a run with a fault differs from its row. Of two faults that of the sink is told, and none after the whole text.
 fn difference_at(row: &Row, fault: Fault, text: &[u8], left: &Left) -> Option<&'static str> {
     if fault.leaves as usize == text.len() {
         return difference(row, left);

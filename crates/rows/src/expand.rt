@@ -4,8 +4,8 @@ use crate::numbers::put_numbers;
 use anyhow::{Context, Result, bail};
 use std::alloc::Global;
 
-// Where the reading of a text stands: at a byte that stands for itself, behind a backslash, among digits of two for a byte, or
-// behind the mark of a number.
+// Where the reading of a text stands: at a byte that stands for itself, after a backslash, among digits of two for a byte, or
+// after the mark of a number.
 #[derive(Clone, Copy)]
 enum State {
     Text,
@@ -26,7 +26,7 @@ fn put_decimal(bytes: &mut Vec<u8>, alloc: Global, value: u64) -> Result<()> {
     Ok(())
 }
 
-// Behind a byte that stands for itself, or at the begin of a text.
+// After a byte that stands for itself, or at the begin of a text.
 fn put_byte(bytes: &mut Vec<u8>, alloc: Global, marks: Marks, byte: u8) -> Result<State> {
     match (byte, marks.line, marks.part) {
         (b'\\', _, _) => return Ok(State::Escape),
@@ -84,7 +84,7 @@ fn put_number(bytes: &mut Vec<u8>, alloc: Global, value: u64, sign: Option<u8>) 
     Ok(())
 }
 
-// Behind the mark of a number: `*`, `+` or `-` and one digit go on with it, and any other byte ends it.
+// After the mark of a number: `*`, `+` or `-` and one digit go on with it, and any other byte ends it.
 fn go_on(
     bytes: &mut Vec<u8>,
     alloc: Global,

@@ -12,7 +12,7 @@ pub(crate) struct Points {
     pub(crate) order: AtomicU64,
 }
 
-// The number of the points, where a further one is reached behind them.
+// The number of the points, where a further one is reached after them.
 pub(crate) fn ordered(order: u64, point: Point) -> u64 {
     let code = match point {
         Point::Added(count) => count.wrapping_mul(2).wrapping_add(1),

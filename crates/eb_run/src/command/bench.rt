@@ -18,7 +18,7 @@ fn read_docs(word: &str) -> Option<u32>
     Some(docs)
 }
 
-// What the words behind `bench` ask for.
+// What the words after `bench` ask for.
 pub(super) fn read_bench(words: &[String]) -> Option<Command>
     ensures { result ≡ bench_of (map string_bytes words.now) }
 {

@@ -13,7 +13,7 @@ const LOAD_FLAGS: [&str; 1] = ["stats"];
 // The options of `load`: none.
 const LOAD_OPTIONS: [&str; 0] = [];
 
-// What the words behind `save` ask for.
+// What the words after `save` ask for.
 pub(super) fn read_save(alloc: Global, words: &[String]) -> Result<Command, CommandFault>
     ensures command { IfOk result (λ command. save_of (map string_bytes words.now) ≡ Some command) }
     ensures usage { IsErrOf result CommandFault.Usage → save_of (map string_bytes words.now) ≡ None }
@@ -29,7 +29,7 @@ pub(super) fn read_save(alloc: Global, words: &[String]) -> Result<Command, Comm
     }
 }
 
-// What the words behind `load` ask for.
+// What the words after `load` ask for.
 pub(super) fn read_load(alloc: Global, words: &[String]) -> Result<Command, CommandFault>
     ensures command { IfOk result (λ command. load_of (map string_bytes words.now) ≡ Some command) }
     ensures usage { IsErrOf result CommandFault.Usage → load_of (map string_bytes words.now) ≡ None }

@@ -67,7 +67,7 @@ fn run_in_way(
     }
 }
 
-// What the items behind `run` ask for.
+// What the items after `run` ask for.
 fn read_way(items: &Items) -> Option<Command>
     ensures { result ≡ run_with items.now }
 {
@@ -80,7 +80,7 @@ fn read_way(items: &Items) -> Option<Command>
     run_in_way(overlap, watch, workers, parts, stats, config)
 }
 
-// The items that the words behind `run` are.
+// The items that the words after `run` are.
 fn read_items(alloc: Global, words: &[String]) -> Result<Items, CommandFault>
     ensures items { IfOk result (λ items. items_of run_flags run_options (map string_bytes words.now) ≡ Some items) }
     ensures usage { IsErrOf result CommandFault.Usage → items_of run_flags run_options (map string_bytes words.now) ≡ None }
@@ -92,7 +92,7 @@ fn read_items(alloc: Global, words: &[String]) -> Result<Items, CommandFault>
     }
 }
 
-// What the words behind `run` ask for.
+// What the words after `run` ask for.
 pub(super) fn read_run(alloc: Global, words: &[String]) -> Result<Command, CommandFault>
     ensures command { IfOk result (λ command. run_of (map string_bytes words.now) ≡ Some command) }
     ensures usage { IsErrOf result CommandFault.Usage → run_of (map string_bytes words.now) ≡ None }

@@ -9,7 +9,7 @@ use std::alloc::Global;
 // The options of a feed: how many generations it keeps, and those of their setting.
 const FEED_OPTIONS: [&str; 4] = ["keep", "segments", "docs", "terms"];
 
-/// What the words behind `feed` ask for.
+/// What the words after `feed` ask for.
 #[derive(Clone, Copy, Debug, PartialEq, Eq)]
 pub struct FeedCommand {
     /// How many generations are kept, 2 to 64 (`--keep`).

@@ -75,7 +75,7 @@ fn put(alloc: Global, queries: &mut Vec<Query>, word: &[u8]) -> Result<(), Fail>
     Ok(())
 }
 
-// The query that a text writes, with each operator behind its parts: `-` is Not, `&2` and `&3` are And of
+// The query that a text writes, with each operator after its parts: `-` is Not, `&2` and `&3` are And of
 // so many parts, `|2` and `|3` Or, `"` begins and ends a phrase, `~` and a number make of the phrase before
 // it a window of that reach, `>` and a number are a bound on the id, and any other word is a word.
 pub(super) fn query(alloc: Global, text: &[u8]) -> Result<Query, Fail> {

@@ -40,7 +40,7 @@ fn is_packable(postings: &[Posting]) -> bool
     true
 }
 
-// Packs the postings of one block and unpacks it: the words go behind `words`, the postings behind `back`.
+// Packs the postings of one block and unpacks it: the words go after `words`, the postings after `back`.
 fn put_block(
     postings: &[Posting],
     words: &mut Vec<u64>,

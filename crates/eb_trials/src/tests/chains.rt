@@ -28,7 +28,7 @@ pub(super) fn of_a(alloc: Global, times: usize) -> Result<Document, Fail> {
     Ok(Document::new(1, terms)?)
 }
 
-// Puts the postings of the first positions of a document, by its number, behind the list.
+// Puts the postings of the first positions of a document, by its number, after the list.
 fn put_postings(postings: &mut Vec<u64>, document: u64, times: u64) -> Result<(), Fail> {
     let first = document.saturating_mul(PLACES);
     for position in 0..times {
@@ -37,7 +37,7 @@ fn put_postings(postings: &mut Vec<u64>, document: u64, times: u64) -> Result<()
     Ok(())
 }
 
-// Adds documents of the term `a` with so many postings in all, which are put behind the list.
+// Adds documents of the term `a` with so many postings in all, which are put after the list.
 fn add_postings(
     alloc: Global,
     placer: &mut Placer,

@@ -92,7 +92,7 @@ fn is_as_scanned(
     Ok(numbers.as_slice() == scanned(alloc, text, documents)?.as_slice())
 }
 
-// The number behind this one.
+// The number after this one.
 fn next(number: u64) -> u64 {
     number
         .wrapping_mul(6_364_136_223_846_793_005)

@@ -82,7 +82,7 @@ fn kept_of(row: &Row) -> &[Document] {
     rear(row.history.as_slice(), from)
 }
 
-// Adds a document to the feed, and behind the plain history.
+// Adds a document to the feed, and after the plain history.
 fn add(alloc: Global, row: &mut Row, config: &Config, document: Document) -> Result<(), Fail>
     requires { (σ : Setting) × (keep : ℕ) × (history : List Doc) × IsFedWith row.old.feed σ keep history }
     ensures { (σ : Setting) × (keep : ℕ) × (history : List Doc) × IsFedWith row.new.feed σ keep history }
@@ -116,7 +116,7 @@ fn ask(rt: &impl Abort, alloc: Global, row: &mut Row, number: u64) -> Result<(),
     Ok(())
 }
 
-// Takes so many made documents, compares behind each, and gives the number of generations that were begun.
+// Takes so many made documents, compares after each, and gives the number of generations that were begun.
 fn compare(rt: &impl Abort, alloc: Global, fills: Fills, documents: u64) -> Result<usize, Fail> {
     let config = Config::new(1, 20, 1024)?;
     let mut row = Row {

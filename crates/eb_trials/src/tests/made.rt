@@ -108,7 +108,7 @@ pub(super) fn growing(
     Ok(GrowingPort::new(words, last, pen.into_stores(), done, pace))
 }
 
-// The word at this place, none behind the last.
+// The word at this place, none after the last.
 pub(super) fn word_at(words: &mut FlatWords, place: u64) -> Option<u64>
     requires { (m : Moment) × StandsFor words.old m }
     ensures { words.new ≡ words.old }

@@ -384,7 +384,7 @@ fn fill(placer: &mut Placer, pen: &mut RecordingPen, empty: &Document, from: u64
     }
 }
 
-// Puts the numbers of the documents behind the first 2,011 that a list stands in.
+// Puts the numbers of the documents after the first 2,011 that a list stands in.
 fn put_last(lists: &[Wide], numbers: &mut Vec<u64>) -> Result<(), Fail> {
     for list in lists {
         if list.last() >= 2011 {

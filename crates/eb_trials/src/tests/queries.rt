@@ -129,7 +129,7 @@ fn of_size4(alloc: Global) -> Result<Vec<Vec<u8>>, Fail> {
     Ok(texts)
 }
 
-// Puts all texts of the second list behind the first.
+// Puts all texts of the second list after the first.
 fn put_all(texts: &mut Vec<Vec<u8>>, more: Vec<Vec<u8>>) -> Result<(), Fail> {
     for text in more {
         texts.push(text)?;

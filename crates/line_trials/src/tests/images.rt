@@ -38,7 +38,7 @@ fn fault_of(fault: ImageFault) -> Read {
     }
 }
 
-// Reads what comes behind a head, up to the byte 0, and writes it again.
+// Reads what comes after a head, up to the byte 0, and writes it again.
 fn read_parts<S: Source>(
     alloc: Global,
     source: &mut S,
@@ -86,7 +86,7 @@ fn next_of(left: usize, piece: usize) -> Got {
     Got::Bytes(left.min(4).min(piece))
 }
 
-// Whether the bytes begin with those that were written for them, and what stands behind these is still in the source.
+// Whether the bytes begin with those that were written for them, and what stands after these is still in the source.
 fn is_left<S: Source>(source: &mut S, bytes: &[u8], piece: usize, out: &[u8]) -> bool {
     let Some(rest) = bytes.strip_prefix(out) else {
         return false;
@@ -96,7 +96,7 @@ fn is_left<S: Source>(source: &mut S, bytes: &[u8], piece: usize, out: &[u8]) ->
 }
 
 // Looks that a reading of these bytes, from a source that gives so many at a time and fails at some of its calls, ends so;
-// and, where it comes to the byte 0, that it wrote them again and left what stands behind them in the source.
+// and, where it comes to the byte 0, that it wrote them again and left what stands after them in the source.
 fn read_as(
     rt: &impl Abort,
     alloc: Global,

@@ -1,4 +1,4 @@
-//! The words behind the name of a command.
+//! The words after the name of a command.
 use eb_base::Config;
 use eb_options::{Items, OptionFault, SETTING_OPTIONS, read_options, read_setting};
 use std::alloc::{AllocError, Global};
@@ -23,7 +23,7 @@ fn words_of(alloc: Global, line: &str) -> Result<Vec<String>, AllocError> {
     Ok(words)
 }
 
-// The names that are there as flags, and those with a number, each with a blank behind it.
+// The names that are there as flags, and those with a number, each with a blank after it.
 fn text_of(alloc: Global, items: &Items) -> Result<String, Fail> {
     let mut text = String::new(alloc);
     for name in NAMES {

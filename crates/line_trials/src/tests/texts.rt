@@ -4,7 +4,7 @@ use eb_text::tokens;
 use std::alloc::Global;
 use std::test::Fail;
 
-// The tokens of the text, each with a bar behind it.
+// The tokens of the text, each with a bar after it.
 fn barred(alloc: Global, text: &str) -> Result<Vec<u8>, NoMemory> {
     let mut bytes = Vec::new(alloc);
     for term in tokens(alloc, text)?.as_slice() {

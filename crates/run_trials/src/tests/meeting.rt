@@ -8,7 +8,7 @@ use std::test::Fail;
 use std::thread;
 use std::thread::Threads;
 
-// A gate at which so many searches meet: each is held behind the load of its count until that many came there, for at most
+// A gate at which so many searches meet: each is held after the load of its count until that many came there, for at most
 // 10,000,000 turns. It keeps the count that the last of them loaded. Whoever adds the first document rests for some turns, in
 // which workers without a job fall asleep.
 #[derive(Drop)]
@@ -72,7 +72,7 @@ fn meet<R: Threads + Wait + Sync>(
     Ok(Some(gate.last.load(Ordering::SeqCst)))
 }
 
-// A text, and behind it another one so many times.
+// A text, and after it another one so many times.
 fn with_many(alloc: Global, text: &str, other: &str, times: u64) -> Result<String, AllocError> {
     let mut all = String::from_str(alloc, text)?;
     for _ in 0..times {

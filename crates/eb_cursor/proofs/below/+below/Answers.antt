@@ -350,7 +350,7 @@ round_below-returns-clause-found g t c = λ docs last h.
     (trees_in c.in-Some.others.now) c.below-found.new.cursors c.round_below.new.cursors c.args.end c.below-found.result c.round_below.result
     e.parts (gives_later m n w2) i.0 i.1 more)
 
--- ---- a bound on the id is asked behind the parts that follow it
+-- ---- a bound on the id is asked after the parts that follow it
 
 pub round_below-below-requires : goal.round_below-below-requires
 round_below-below-requires g t c = λ κs lv.
