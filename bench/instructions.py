@@ -1,26 +1,39 @@
 #!/usr/bin/env python3
 """Counts the instructions of a document and of a query by callgrind, which are the same however busy a machine is.
 
-    python3 bench/instructions.py [--program FILE] [--documents N] [--queries N]
+    python3 bench/instructions.py [--program FILE] [--documents N] [--queries N] [--out FILE]
+    python3 bench/instructions.py --table FILE
 
 Of each corpus N documents (5,000) in order mode, and of each class N queries (2,000) over the first 20,000 Zipf documents in
-twelve segments of 4,000: a rare word, a common one, both of two, one of two, and a phrase of two. What an empty input takes, or the
-documents alone, is taken off. Bytes that one instruction sets to 0 (`rep stos`), which callgrind counts one by one, are told apart.
-Prints JSON. Takes some minutes, and wants valgrind and objdump; it is no part of the gate.
+twelve segments of 4,000: a rare word, a common one, both of two, one of two, a phrase of two and a window of two. What an empty
+input takes, or the documents alone, is taken off. Bytes that one instruction sets to 0 (`rep stos`), which callgrind counts one by
+one, are told apart.
+
+Then each class once more over 20,000 documents in one segment, which holds them in live slices, and over the same segment with one
+document in the next, which closes it, so that it is read from packed lists. And so of leaps: the word `a` stands in each of these
+documents, and another word in each n-th of them; an And of both passes n postings of `a` for each match.
+
+Prints JSON, and writes it to bench/results/ with the date and the commit; --table prints such a file as the tables of
+docs/PERFORMANCE.md. Takes some minutes, and wants valgrind and objdump; it is no part of the gate.
 """
 import argparse
+import datetime
 import json
 import os
 import random
 import re
 import subprocess
 import tempfile
+import textwrap
 
 from corpora import ROOT, Zipf, made_words
 
 SETTINGS = ["--segments", "12", "--docs", "20000", "--terms", "65536"]
 QUERIED = ["--segments", "12", "--docs", "4000", "--terms", "65536"]
 QUERIED_DOCUMENTS = 20_000
+ONE_SEGMENT = ["--segments", "2", "--docs", "20000", "--terms", "65536"]
+LEAPS = [1, 3, 10, 30, 100, 1_000, 10_000]
+LEAP_QUERIES = 200
 
 
 def spelled(rank):
@@ -54,11 +67,17 @@ def queries(kind, count):
         "both of two": lambda: "%s %s" % (common(), common()),
         "one of two": lambda: "%s OR %s" % (common(), common()),
         "a phrase": lambda: '"%s %s"' % (spelled(chance.randrange(0, 20)), common()),
+        "a window": lambda: '"%s %s"~5' % (spelled(chance.randrange(0, 20)), common()),
     }[kind]
     return "".join("?10 %s\n" % asked() for _ in range(count))
 
 
-KINDS = ["a rare word", "a common word", "both of two", "one of two", "a phrase"]
+KINDS = ["a rare word", "a common word", "both of two", "one of two", "a phrase", "a window"]
+
+
+def leap_lines(count):
+    """Documents that all hold `a`, and each n-th of them `b` and n, for each n of the leaps."""
+    return "".join(document(m, ["a"] + ["b%d" % n for n in LEAPS if m % n == 0]) for m in range(count))
 
 
 def filling(file, known={}):
@@ -99,24 +118,72 @@ def each(more, less, count):
     return {"instructions": round((more[0] - more[1] - less[0] + less[1]) / count), "bytes set": round((more[1] - less[1]) / count)}
 
 
+def commit():
+    done = subprocess.run(["git", "-C", ROOT, "rev-parse", "HEAD"], stdout=subprocess.PIPE, stderr=subprocess.DEVNULL)
+    return done.stdout.decode().strip()
+
+
+def live_and_packed(count, held, asked, times):
+    """What a query takes over a segment that isn't closed, and over the same one converted, of each of these query texts."""
+    told = {}
+    last = document(QUERIED_DOCUMENTS, ["last"])
+    for state, lines in (("live", held), ("packed", held + last)):
+        before = count(ONE_SEGMENT, lines)
+        told[state] = {name: each(count(ONE_SEGMENT, lines + text), before, times)["instructions"] for name, text in asked.items()}
+    return told
+
+
+def table(told):
+    """The result as the tables of docs/PERFORMANCE.md."""
+    number = "{:,}".format
+    filled = lambda it: textwrap.fill(it, 100, break_on_hyphens=False, break_long_words=False)
+    lines = [filled("%s, commit %s; %s documents of a corpus, %s queries of a class, each for the newest ten."
+                    % (told["date"], told["commit"][:7], number(told["documents"]), number(told["queries"]))), ""]
+    lines += ["| What | instructions | bytes set to 0 |", "|---|---|---|"]
+    lines += ["| %s | %s | %s |" % (name, number(it["instructions"]), number(it["bytes set"])) for name, it in told["each"].items()]
+    lines += ["", filled("Over one segment of 20,000 documents, live and packed:"), "", "| A query | live | packed | packed to live |", "|---|---|---|---|"]
+    row = lambda name, live, packed: "| %s | %s | %s | %.2f |" % (name, number(live), number(packed), packed / live)
+    lines += [row(name, live, told["classes"]["packed"][name]) for name, live in told["classes"]["live"].items()]
+    lines += ["", filled("An And of a word in each document and one in each n-th, for the newest 100, a match:"), ""]
+    lines += ["| n | live | packed | packed to live |", "|---|---|---|---|"]
+    lines += [row(name, live, told["leaps"]["packed"][name]) for name, live in told["leaps"]["live"].items()]
+    return "\n".join(lines)
+
+
 def main():
     parser = argparse.ArgumentParser(description=__doc__.split("\n")[0])
     parser.add_argument("--program", default=os.path.join(ROOT, "dist", "earlybird"))
     parser.add_argument("--documents", type=int, default=5_000)
     parser.add_argument("--queries", type=int, default=2_000)
+    parser.add_argument("--out", metavar="FILE", help="where the result goes in place of bench/results/")
+    parser.add_argument("--table", metavar="FILE", help="print this result as tables, and count nothing")
     given = parser.parse_args()
+    if given.table:
+        with open(given.table, encoding="utf-8") as file:
+            return print(table(json.load(file)))
     count = lambda settings, text: counted(given.program, ["run", *settings], text)
     start = count(SETTINGS, "")
-    told = {
-        "start": {"instructions": start[0] - start[1], "bytes set": start[1]},
+    told = {"date": datetime.date.today().isoformat(), "commit": commit(), "documents": given.documents, "queries": given.queries}
+    told["each"] = {
+        "the start": {"instructions": start[0] - start[1], "bytes set": start[1]},
         "a Zipf document": each(count(SETTINGS, zipf_lines(given.documents)), start, given.documents),
         "a made document": each(count(SETTINGS, made_lines(given.documents)), start, given.documents),
     }
     held = zipf_lines(QUERIED_DOCUMENTS)
+    asked = {kind: queries(kind, given.queries) for kind in KINDS}
     before = count(QUERIED, held)
     for kind in KINDS:
-        told[kind] = each(count(QUERIED, held + queries(kind, given.queries)), before, given.queries)
-    print(json.dumps(told, indent=2, ensure_ascii=False))
+        told["each"][kind] = each(count(QUERIED, held + asked[kind]), before, given.queries)
+    told["classes"] = live_and_packed(count, held, asked, given.queries)
+    # each n-th document has the word, so that few matches are there for a great n
+    matches = {str(n): min(100, QUERIED_DOCUMENTS // n) for n in LEAPS}
+    leaps = live_and_packed(count, leap_lines(QUERIED_DOCUMENTS), {str(n): "?100 a b%d\n" % n * LEAP_QUERIES for n in LEAPS}, LEAP_QUERIES)
+    told["leaps"] = {state: {name: round(it / matches[name]) for name, it in whole.items()} for state, whole in leaps.items()}
+    path = given.out or os.path.join(ROOT, "bench", "results", "instructions-%s-%s.json" % (told["date"], told["commit"][:7]))
+    with open(path, "w", encoding="utf-8") as file:
+        json.dump(told, file, indent=1)
+        file.write("\n")
+    print(table(told))
 
 
 if __name__ == "__main__":
