@@ -64,7 +64,7 @@ def make_queries(count, rng):
 
 
 def run_alone(words, documents, queries):
-    """What one program prints for the queries behind the documents, without the numbers."""
+    """What one program prints for the queries after the documents, without the numbers."""
     lines = b"".join(line + b"\n" for line in documents + queries)
     done = subprocess.run([PROGRAM, *words], input=lines, stdout=subprocess.PIPE, check=False)
     return [line.split(b" ", 1)[1] for line in done.stdout.splitlines()[:-1]][-len(queries):]

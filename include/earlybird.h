@@ -82,7 +82,7 @@ uint64_t eb_words(uint32_t segments, uint32_t docs, uint32_t terms);
 uint32_t eb_begin(uint64_t *words, size_t words_len, struct eb_index *index, uint32_t segments, uint32_t docs, uint32_t terms);
 
 /* Adds the document of a line: one JSON object with a number as "id" and a string as "text", without the end of the line.
- * EB_OK: it is accepted, behind the documents before it, and the next ask finds it. EB_FULL exactly where there is no room
+ * EB_OK: it is accepted, after the documents before it, and the next ask finds it. EB_FULL exactly where there is no room
  * for it. EB_BAD_LINE, EB_LONG_LINE, EB_BAD_JSON, EB_BAD_DOCUMENT, EB_TOO_LONG, EB_NO_MEMORY. Where it isn't EB_OK, nothing
  * is changed. */
 uint32_t eb_add_line(uint64_t *words, size_t words_len, struct eb_index *index, const unsigned char *line, size_t line_len);
@@ -138,7 +138,7 @@ struct eb_handle {
  * EB_NO_MEMORY. */
 uint32_t eb_open(struct eb_handle *writer, struct eb_handle *converter, uint32_t segments, uint32_t docs, uint32_t terms);
 
-/* Add a document behind those that the writer added, as eb_add_line and eb_add_text do. Where it isn't EB_OK, the writer's
+/* Add a document after those that the writer added, as eb_add_line and eb_add_text do. Where it isn't EB_OK, the writer's
  * history is as before. */
 uint32_t eb_writer_add_line(struct eb_handle *writer, const unsigned char *line, size_t line_len);
 uint32_t eb_writer_add_text(struct eb_handle *writer, uint64_t id, const unsigned char *text, size_t text_len);

@@ -50,7 +50,7 @@ def read_words():
     up.add_argument("--fsync", choices=("everysec", "always"), default="everysec", help="when the log of a Redis that is started is on disk")
     up.add_argument("--program", default=os.path.join(ROOT, "earlybird"), help="the index program (%(default)s)")
     up.add_argument("--retain", type=int, metavar="DOCUMENTS", help="cut each log to this many documents, at least; with a feed to what it keeps")
-    up.epilog = "What stands behind -- are the program's words: up 4 -- feed --keep 8; without them those of before, at first: run."
+    up.epilog = "What stands after -- are the program's words: up 4 -- feed --keep 8; without them those of before, at first: run."
     command("down", "end all that `up` started in the folder")
 
     worker = command("worker", "serve one partition until it is ended")
@@ -66,7 +66,7 @@ def read_words():
     usual = {"redis": os.environ.get("EARLYBIRD_REDIS"), "name": "earlybird", "folder": default_folder(), "patience": 5.0}
     words = argparse.Namespace(**{**usual, **vars(top.parse_args(own))})
     if program and words.command != "up":
-        top.error("words of the program stand behind `up N` alone")
+        top.error("words of the program stand after `up N` alone")
     words.words = program
     return words
 
@@ -130,7 +130,7 @@ def do_add(words, redis):
             sys.stdout.buffer.write(b"%d refused: %s\n" % (number, why))
             sys.stdout.buffer.flush()
     except LOST as lost:
-        say("Redis: %s; all lines up to %d are accepted or refused, of those behind some may be in the log" % (lost, router.settled))
+        say("Redis: %s; all lines up to %d are accepted or refused, of those after it some may be in the log" % (lost, router.settled))
         return 3
     finally:
         if tell:

@@ -12,7 +12,7 @@ class ProgramEnded(Exception):
 
 
 class Program:
-    """One index. Lines are worked off in order, so once a query is answered all lines before it are settled: those that were
+    """One index. Lines are processed in order, so once a query is answered all lines before it are settled: those that were
     refused are known, and all others are accepted."""
 
     def __init__(self, words):

@@ -26,7 +26,7 @@ def run_alone(words, lines):
 
 
 def ids_alone(messages, queries, most, words=("run",)):
-    """The ids that each query finds behind the messages, by the index program alone."""
+    """The ids that each query finds after the messages, by the index program alone."""
     printed, _ = run_alone(words, [*messages, *(("?%d %s" % (most, query)).encode() for query in queries)])
     answers = [printed[len(messages) + place + 1] for place in range(len(queries))]
     return [[int(each) for each in answer.partition(":")[2].split()] if answer.startswith("seen") else answer for answer in answers]

@@ -98,7 +98,7 @@ def make_harmful(first):
         b'"text"', b"nothing", b'{"id":-1,"text":"a"}', b'{"id":1.0,"text":"a"}', b'{"id":"1","text":"a"}', b'{"id":1,"text":null}', b'{"id":1}',
         b' {"id":1,"text":"a"}', b'{"id":1,"text":"a"} x', b'\xef\xbb\xbf{"id":1,"text":"a"}', b'{"id":14,"text":"%s"}' % (b"a " * 1025),
         b'{"id":16,"text":"a\x00b"}', b'{"id":17,"text":NaN}', b'{"id":18,"text":"a","x":1e999}', b"\x00",
-        # taken behind them
+        # taken after them
         b'{"id":19,"text":"the last of them"}',
     ]
     return lines

@@ -17,11 +17,11 @@ ROOM = {"--keep": 4, "--segments": 12, "--docs": 4096}
 
 
 def read_words(words):
-    """The command's words: its own, and behind `--` those of the index program."""
+    """The command's words: its own, and after `--` those of the index program."""
     place = words.index("--") if "--" in words else len(words)
     parser = argparse.ArgumentParser(
         prog="earlybird-console", description="A page over an index of messages: docs/CONSOLE.md.",
-        epilog="Words behind -- go to the index program: `-- --keep 8`, or `-- run --docs 65536` for an index that drops nothing.")
+        epilog="Words after -- go to the index program: `-- --keep 8`, or `-- run --docs 65536` for an index that drops nothing.")
     parser.add_argument("--listen", metavar="HOST:PORT", default="127.0.0.1:8080", help="where it listens (127.0.0.1:8080)")
     parser.add_argument("--token-file", metavar="FILE", help="a file whose first line each request has to know; needed where others than this machine can ask")
     parser.add_argument("--texts", metavar="FILE", default=":memory:", help="the SQLite file that keeps the messages (else memory)")

@@ -231,7 +231,7 @@ class Console:
     # queries
 
     async def _order(self, line, before, query):
-        """Asks or sets with a line in which a query stands behind so many bytes."""
+        """Asks or sets with a line in which a query stands after so many bytes."""
         if "\n" in query:
             raise Refused("bad query", query.index("\n") + 1)
         order = Order(line)

@@ -7,7 +7,7 @@ from .shown import for_page, for_programs
 # bytes that a reader may leave unread
 ROOM = 1 << 22
 KERNEL = 1 << 16
-# for a page: how long it has no matches behind some, and how much of those that come meanwhile is sent, the newest
+# for a page: how long it has no matches after some, and how much of those that come meanwhile is sent, the newest
 PAUSE = 0.05
 MOST = 50
 BYTES = 1 << 18

@@ -67,7 +67,7 @@ class Index:
         return self._process.pid
 
     def send(self, what):
-        """Puts a message or an order behind those that are to be sent."""
+        """Puts a message or an order after those that are to be sent."""
         self._waiting.append(what)
         self._wake.set()
 

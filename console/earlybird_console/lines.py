@@ -40,7 +40,7 @@ def read_printed(line):
 
 
 def refused_query(refusal, before, query):
-    """A refusal of a query that stood behind so many bytes of its line, told of the query alone: its name, and the column, counted in
+    """A refusal of a query that stood after so many bytes of its line, told of the query alone: its name, and the column, counted in
     characters from 1, or None."""
     found = COLUMN.fullmatch(refusal)
     if not found:
@@ -68,5 +68,5 @@ class Splitter:
         return lines
 
     def last(self):
-        """The line behind the last LF, where there is one."""
+        """The line after the last LF, where there is one."""
         return [LONG] if self._long else [self.rest] if self.rest else []

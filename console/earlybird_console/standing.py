@@ -1,4 +1,4 @@
-"""Standing queries, by either of two ways: the program's watches where it takes them, else one query for each of them behind each
+"""Standing queries, by either of two ways: the program's watches where it takes them, else one query for each of them after each
 batch of messages. Which of them it is, is settled where the program is started: one that ends over the word `--watch` with the status of a
 usage that it doesn't know gets the other way."""
 import asyncio
@@ -14,7 +14,7 @@ class Order:
     def __init__(self, line, after=None, again=None):
         self.line = line
         self.outcome = asyncio.get_running_loop().create_future()
-        # the standing query and the messages that it is asked behind
+        # the standing query and the messages that it is asked after
         self.after = after
         # whether it is for this run of the program alone
         self.again = again
@@ -38,12 +38,12 @@ class ByWatches:
 
     @staticmethod
     def behind(_standing, _messages):
-        """The orders that stand behind a batch of messages."""
+        """The orders that stand after a batch of messages."""
         return ()
 
 
 class ByQueries:
-    """Standing queries that are asked behind each batch of messages: the newest answers are those of the batch."""
+    """Standing queries that are asked after each batch of messages: the newest answers are those of the batch."""
 
     words = ()
 

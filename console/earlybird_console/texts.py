@@ -67,7 +67,7 @@ class Texts:
             self.newest = rows[-1][0]
 
     def after(self, seq, count):
-        """So many messages behind this one, the oldest first: (sequence number, line)."""
+        """So many messages after this one, the oldest first: (sequence number, line)."""
         return self._base.execute("SELECT seq, line FROM messages WHERE seq > ? ORDER BY seq LIMIT ?", (seq, count)).fetchall()
 
     def of_id(self, number, count):

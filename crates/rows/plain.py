@@ -107,7 +107,7 @@ ASKED = [("d", word("d")), ("c", word("c")), ("a -b", each(word("a"), without(wo
 
 
 def beside():
-    """Sixty documents with a query behind each, which may see any number of those behind it."""
+    """Sixty documents with a query after each, which may see any number of those after it."""
     def words(doc):
         return [name for name, by in (("a", 2), ("b", 3), ("c", 5), ("d", 1)) if doc % by == 0]
     documents, given, wanted = [(doc, words(doc)) for doc in range(60)], [], []
