@@ -10,7 +10,7 @@ ghost use Rattle.eb_c.specs.Adding.{WithPlaced, WithAdded, number_after, docs_af
 use crate::index::{Index, begun_setting, index_of, placer_of};
 use crate::refusal::Refusal;
 use eb_base::{Config, Document};
-use eb_lent::LentWordsMut;
+use eb_flat::LentWordsMut;
 use eb_writer::{Full, Placer};
 
 // Places a document. False exactly where there is no room for it; all is then as before.

@@ -13,7 +13,7 @@ use crate::reading::Question;
 use crate::refusal::Refusal;
 use eb_base::{Config, OpenGate};
 use eb_cursor::Frame;
-use eb_lent::LentWords;
+use eb_flat::LentWords;
 use eb_place::Steps;
 use eb_search::search;
 use std::marker::Brand;

@@ -2,7 +2,7 @@ use Rattle.std.proofs.Common.{◌<◌, refl, sym, ◌∙◌, subst}
 use Rattle.eb_base.specs.Setting.{Setting, words_of}
 use Rattle.eb_place.proofs.LaterMoments.{later_self}
 use Rattle.eb_flat.proofs.FlatImages.{place_in_words, word_in_words}
-use Rattle.eb_lent.proofs.words.LentWordsMutPort.load.Goals as goal
+use Rattle.eb_flat.proofs.lent.LentWordsPort.load.Goals as goal
 
 pub bounds-self-place : goal.bounds-self-place
 bounds-self-place g c = let r = c.requires in place_in_words _ r.0 _ r.1 r.2

@@ -2,7 +2,7 @@ use Rattle.std.proofs.Common.{◌<◌, refl, arith}
 use Rattle.eb_base.specs.Setting.{words_of}
 use Rattle.eb_flat.proofs.FlatImages.{stands_stored, next_in_words}
 use Rattle.eb_place.proofs.NextStore.{next_in_table}
-use Rattle.eb_lent.proofs.words.LentWordsMutPen.store.Goals as goal
+use Rattle.eb_flat.proofs.lent.LentWordsMutPen.store.Goals as goal
 
 pub offset_bounds-self-place : goal.offset_bounds-self-place
 offset_bounds-self-place c =
