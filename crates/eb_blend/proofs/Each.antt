@@ -273,7 +273,7 @@ no_token (Some x) h = absurd (h x refl)
 pub converted_set : (cs : List ConverterToken) (n : ℕ) (v new : ConverterToken) → v ≡ get_or cs n v → new.converted ≡ v.converted → converted_of (set cs n new) ≡ converted_of cs
 converted_set cs n v new a e = map-set_same (λ (x : ConverterToken). x.converted) cs n new v (e ∙ ap (λ (x : ConverterToken). x.converted) a)
 
-new_history : (cs : List ConverterToken) (n : ℕ) (new : ConverterToken) → n < length cs → history (converter_histories_of (set cs n new)) n ≡ new.docs
+pub new_history : (cs : List ConverterToken) (n : ℕ) (new : ConverterToken) → n < length cs → history (converter_histories_of (set cs n new)) n ≡ new.docs
 new_history cs n new lt = ap (λ (z : List (List Doc)). history z n) (map-set (λ (x : ConverterToken). x.docs) cs n new)
     ∙ get_or-set_same (converter_histories_of cs) n new.docs [] (omega (arith, lt, length_converter_histories cs))
 

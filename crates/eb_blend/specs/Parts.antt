@@ -1,5 +1,5 @@
 -- What a blend, its tokens and its frames are to a contract.
-use Rattle.std.specs.Prelude.{◌≡◌, ℕ, ◌+◌, ◌-◌, ◌<◌, ◌%◌, ◌^◌, List, [], ◌∷◌, ◌++◌, map, length, get_or, set, min, sum, Option, Some, None}
+use Rattle.std.specs.Prelude.{◌≡◌, ◌≢◌, ℕ, ◌+◌, ◌-◌, ◌<◌, ◌%◌, ◌^◌, List, [], ◌∷◌, ◌++◌, map, flat_map, zip, length, get_or, set, min, sum, Option, Some, None}
 use mathlib.Core.List.{IsPrefix}
 use Rattle.eb_base.specs.Document.{Doc}
 use Rattle.eb_base.specs.Setting.{Setting}
@@ -45,6 +45,10 @@ converter_histories_of ts = map (λ t. t.docs) ts
 abbrev pub converted_of : List ConverterToken → List ℕ
 converted_of ts = map (λ t. t.converted) ts
 
+-- what a converter of these parts is to a contract
+abbrev pub tokens_of : List ConverterToken → ConverterTokens
+tokens_of ts = record { indexes = converter_indexes_of ts; histories = converter_histories_of ts; converted = converted_of ts }
+
 -- how many documents the histories have
 abbrev pub lengths_of : List (List Doc) → List ℕ
 lengths_of hs = map length hs
@@ -59,9 +63,7 @@ few_counted ns = min (sum ns) (2 ^ 32 - 1)
 
 -- the number of segments of each part
 abbrev pub segments_of : List Words → List (List Doc) → List ℕ
-segments_of [] hs = []
-segments_of (w ∷ ws) [] = []
-segments_of (w ∷ ws) (h ∷ hs) = length (cut w.setting h) ∷ segments_of ws hs
+segments_of ws hs = map (λ (p : Words × List Doc). length (cut p.0.setting p.1)) (zip ws hs)
 
 -- what a part holds of the histories
 abbrev pub history : List (List Doc) → ℕ → List Doc
@@ -85,6 +87,13 @@ pub record AreFronts (hs all : List (List Doc)) : Type 0 where
   pub parts : length hs ≡ length all
   pub each : (p : ℕ) → IsPrefix (history hs p) (history all p)
 
+-- the converter knows the history of a part, and each of its segments whose following segment has a document is converted; of the
+-- other parts it knows as much as before, and converted as many segments
+pub record IsCaughtUp (σ : Setting) (hs : List (List Doc)) (p : ℕ) (old new : ConverterTokens) : Type 0 where
+  pub told : IsPrefix (history hs p) (history new.histories p)
+  pub converted : (s : ℕ) → s + 1 < length (cut σ (history hs p)) → s < get_or new.converted p 0
+  pub others : (q : ℕ) → q ≢ p → (history new.histories q ≡ history old.histories q) × (get_or new.converted q 0 ≡ get_or old.converted q 0)
+
 -- in each part the segments that are converted are closed in the history
 pub record AllClosed (σ : Setting) (hs : List (List Doc)) (converted : List ℕ) : Type 0 where
   pub each : (p : ℕ) → p < length hs → AreClosed σ (history hs p) (get_or converted p 0)
@@ -95,5 +104,4 @@ pub record AllConverted (σ : Setting) (hs : List (List Doc)) (converted : List 
 
 -- the lists one after the other
 abbrev pub joined : List (List ℕ) → List ℕ
-joined [] = []
-joined (xs ∷ rest) = xs ++ joined rest
+joined xss = flat_map (λ xs. xs) xss

@@ -117,7 +117,7 @@ fn convert_each(converters: &mut [Converter], indexes: &[Index])
 }
 
 // Converts in a part until there is nothing to convert.
-fn convert_part(converter: &mut Converter, index: &Index)
+pub(crate) fn convert_part(converter: &mut Converter, index: &Index)
     requires { converter.old.index ≡ index.now }
     ensures index { converter.new.index ≡ converter.old.index }
     ensures known { IsPrefix converter.old.docs converter.new.docs }

@@ -3,6 +3,7 @@
 #![tactic(auto)]
 
 mod blend;
+mod catching_up;
 mod converter;
 mod frame;
 mod laws;

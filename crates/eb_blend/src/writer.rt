@@ -1,12 +1,13 @@
-ghost use Rattle.std.specs.Prelude.{◌≡◌, ◌≤◌, ◌<◌, [], replicate, None, Some, IfOk, IfErr, IfSome, OnErr, ℕ};
+ghost use Rattle.std.specs.Prelude.{◌≡◌, ◌%◌, ◌≤◌, ◌<◌, [], length, get_or, replicate, None, Some, IfOk, IfErr, IfSome, OnErr, ℕ};
 ghost use Rattle.eb_place.specs.Room.{HasRoom};
 ghost use Rattle.eb_blend.specs.Parts.{WriterTokens, indexes_of, histories_of, converter_indexes_of, converter_histories_of, converted_of, lengths_of, counted};
-ghost use Rattle.eb_blend.specs.Parts.{few_counted, segments_of, history, part_of, with_document, IsAbove, AreFronts, AllClosed};
+ghost use Rattle.eb_blend.specs.Parts.{few_counted, segments_of, history, part_of, with_document, IsAbove, AreFronts, AllClosed, IsCaughtUp};
 ghost use Rattle.eb_base.specs.Setting.{Setting};
 ghost use Rattle.std.specs.List.{All};
 ghost use Rattle.eb_blend.specs.Refused.{Refuses};
 
 use crate::blend::Blend;
+use crate::catching_up::catch_up_at;
 use crate::converter::BlendConverter;
 use crate::reader::BlendReader;
 use crate::refusal::BlendRefusal;
@@ -137,6 +138,33 @@ impl BlendWriter {
         hear_each(
             self.writers.as_mut_slice(),
             blend.parts.as_slice(),
+            converter.converters.as_mut_slice(),
+        );
+    }
+
+    /// Catches up with the part of the last document, where there is one: the converter is told the part's history and,
+    /// where a segment of it waits, converts until there is nothing to convert, and the writer is told of that. Both must
+    /// have been made with this blend. Takes no memory.
+    pub fn catch_up(&mut self, blend: &Blend, converter: &mut BlendConverter)
+        requires this { self.old.indexes ≡ blend.now.indexes }
+        requires converter { converter.old.indexes ≡ blend.now.indexes }
+        ensures this { self.new ≡ self.old }
+        ensures indexes { converter.new.indexes ≡ converter.old.indexes }
+        ensures parts { length converter.new.converted ≡ length converter.old.converted }
+        ensures known { AreFronts converter.old.histories converter.new.histories }
+        ensures rising { (p : ℕ) → get_or converter.old.converted p 0 ≤ get_or converter.new.converted p 0 }
+        ensures last { (id : ℕ) → self.old.last ≡ Some id
+            → IsCaughtUp blend.now.setting self.old.histories (id % length self.old.histories) converter.old converter.new }
+        ensures none { self.old.last ≡ None → converter.new ≡ converter.old }
+    {
+        let Some(id) = self.last else {
+            return;
+        };
+        let at = (id % blend.parts.len() as u64) as usize;
+        catch_up_at(
+            at,
+            blend.parts.as_slice(),
+            self.writers.as_mut_slice(),
             converter.converters.as_mut_slice(),
         );
     }
