@@ -1,6 +1,6 @@
-/* Handles that are closed, of another kind or closed twice, in every order; lengths of 0; texts that aren't UTF-8; rooms for ids
- * that are named as large as a number goes; a thousand hand-overs from reader to reader; and each allocation failing in turn. To
- * be linked with -Wl,--wrap=malloc. */
+/* Handles that are closed, of another kind, closed twice or made anew, in every order; lengths of 0, with null pointers too; texts
+ * that aren't UTF-8; rooms for ids that are named as large as a number goes; a thousand hand-overs from reader to reader; and each
+ * allocation failing in turn. To be linked with -Wl,--wrap=malloc. */
 #include "earlybird.h"
 #include <inttypes.h>
 #include <stdio.h>
@@ -88,6 +88,33 @@ static void refused(void) {
     eb_close(&reader);
     eb_close(&reader);
     EXPECT(ask(&reader, "train"), EB_BAD_HANDLE);
+    EXPECT(eb_open(&writer, &converter, 2, 4, 1024), EB_OK);
+    EXPECT(eb_reader(&writer, &reader), EB_OK);
+    EXPECT(ask(&reader, "train"), EB_OK);
+    EXPECT(answer.seen, 0);
+    EXPECT(eb_open(&writer, &converter, 2, 4, 1024), EB_BAD_HANDLE);
+    eb_close(&reader);
+    eb_close(&converter);
+    eb_close(&writer);
+}
+
+/* Null pointers where nothing is named: the header asks for others, but a program that passes them is answered all the same. */
+static void nothing_named(void) {
+    struct eb_handle writer = {NULL, 0}, converter = {NULL, 0}, reader = {NULL, 0};
+    EXPECT(eb_open(&writer, &converter, 2, 2, 1024), EB_OK);
+    EXPECT(eb_writer_add_text(&writer, 1, NULL, 0), EB_OK);
+    EXPECT(eb_writer_add_line(&writer, NULL, 0), EB_BAD_LINE);
+    EXPECT(add(&writer, 2, "train"), EB_OK);
+    EXPECT(eb_reader(&writer, &reader), EB_OK);
+    EXPECT(eb_reader_ask_text(&reader, 1, bytes("train"), 5, NULL, 0, &answer), EB_OK);
+    EXPECT(answer.seen * 10 + answer.count, 21);
+    EXPECT(eb_reader_ask_text(&reader, 1, NULL, 0, NULL, 0, &answer), EB_BAD_QUERY);
+    EXPECT(answer.column, 1);
+    EXPECT(eb_reader_ask_line(&reader, NULL, 0, NULL, 0, &answer), EB_BAD_LINE);
+    eb_close(&writer);
+    EXPECT(eb_writer_add_text(&writer, 3, NULL, 0), EB_BAD_HANDLE);
+    eb_close(&converter);
+    eb_close(&reader);
 }
 
 /* Texts and rooms at their ends. */
@@ -99,12 +126,17 @@ static void at_the_ends(void) {
     EXPECT(eb_writer_add_text(&writer, 1, bytes(""), 0), EB_OK);
     EXPECT(eb_writer_add_line(&writer, bytes(""), 0), EB_BAD_LINE);
     EXPECT(add(&writer, 2, "\xff"), EB_BAD_TEXT);
+    EXPECT(eb_writer_add_line(&writer, bytes("{\"id\":2,\"text\":\"\xff\"}"), 19), EB_BAD_JSON);
     EXPECT(eb_writer_add_line(&writer, bytes("{\"id\":2}"), 8), EB_BAD_DOCUMENT);
     EXPECT(add(&writer, 2, "late train"), EB_OK);
     EXPECT(add(&writer, 3, "train"), EB_OK);
     EXPECT(add(&writer, 4, "train"), EB_OK);
     EXPECT(add(&writer, 5, "train"), EB_FULL);
     EXPECT(ask(&reader, "\xff"), EB_BAD_TEXT);
+    EXPECT(ask(&reader, ""), EB_BAD_QUERY);
+    EXPECT(answer.column, 1);
+    EXPECT(eb_reader_ask_line(&reader, bytes(""), 0, ids, 10, &answer), EB_BAD_LINE);
+    EXPECT(eb_reader_ask_line(&reader, bytes("?1 \xff"), 4, ids, 10, &answer), EB_BAD_LINE);
     EXPECT(ask(&reader, "train -"), EB_BAD_QUERY);
     EXPECT(answer.column, 8);
     EXPECT(eb_reader_ask_text(&reader, 0, bytes("train"), 5, ids, 10, &answer), EB_BAD_NUMBER);
@@ -121,6 +153,8 @@ static void at_the_ends(void) {
     EXPECT(eb_reader_ask_text(&reader, 10, bytes("train"), 5, ids, SIZE_MAX, &answer), EB_OK);
     EXPECT(answer.count, 3);
     EXPECT(ids[2], 2);
+    EXPECT(eb_reader_ask_line(&reader, bytes("?1 train"), 8, ids, SIZE_MAX, &answer), EB_OK);
+    EXPECT(answer.count, 1);
     eb_close(&reader);
     eb_close(&writer);
     eb_close(&converter);
@@ -208,6 +242,7 @@ static long without_memory(void) {
 
 int main(void) {
     refused();
+    nothing_named();
     at_the_ends();
     closed_in_every_order();
     handed_over();
