@@ -6,6 +6,8 @@ use Rattle.eb_base.specs.Document.{Doc}
 use Rattle.eb_base.specs.Match.{answer}
 use Rattle.eb_base.specs.Query.{Tree}
 use Rattle.eb_io.specs.Lines.{Line}
+use Rattle.eb_lines.specs.declared.form.Form.{Form}
+use Rattle.eb_lines.specs.declared.form.Tail.{Tail}
 use Rattle.eb_lines.specs.declared.refusal.Refusal.{Refusal}
 use Rattle.eb_lines.specs.declared.status.Status.TheVariants.{NoMemory}
 use Rattle.eb_lines.specs.Passing.{Ends}
@@ -18,7 +20,7 @@ use Rattle.eb_lines.proofs.Advancing.{accepted-push, accepted_few, queries-push,
 use Rattle.eb_answer.specs.declared.answering.Answering.{Answering}
 use Rattle.eb_answer.specs.Answering.{HasAnswered, TakesLine, body_first}
 use Rattle.eb_answer.specs.Rules.{Rules, document_outcome, comes, watches_after, ReadsWith, AreRead, held_behind, watches_behind, says, body, end_of, IsBody, IsText, HasRefusal, HasNoRefusal}
-use Rattle.eb_answer.specs.Stores.{IsHolding, Places, Tells, PutsAnswer, IsOutcome, TakesOther, Keeps}
+use Rattle.eb_answer.specs.Stores.{IsHolding, HasForm, Places, Tells, PutsAnswer, IsOutcome, TakesOther, Keeps}
 use Rattle.eb_answer.proofs.Coming.{read_none, read_push, read_long, watches-push, watches-nil, body-nil, body-push}
 
 queries_few : (rs : List Reading) → queries rs ≤ length rs
@@ -109,15 +111,16 @@ module _ {G S W : Type 0} (other : List ℕ → Reading → Type 0) (holds : S �
         sym (append-nil text),
       )
 
-  pub takes_refused : (old new : Answering G S) (x : Refusal) (t0 t1 : List ℕ) → new.store ≡ old.store → new.number ≡ old.number + 1 → old.number ≤ 2 ^ 40
-      → new.queries ≡ old.queries → new.refused ≡ old.refused + 1 → t1 ≡ t0 ++ refusal_line (old.number + 1) x → TakesLine other holds old new t0 t1 (refused x)
-  takes_refused old new x t0 t1 store number few asked failed text = λ l reads rules given so_far h.
+  pub takes_refused : (old new : Answering G S) (form : Form) → HasForm holds old.store form → (x : Refusal) (t0 t1 : List ℕ) → new.store ≡ old.store → new.number ≡ old.number + 1
+      → old.number ≤ 2 ^ 40
+      → new.queries ≡ old.queries → new.refused ≡ old.refused + 1 → t1 ≡ t0 ++ refusal_line form (old.number + 1) x → TakesLine other holds old new t0 t1 (refused x)
+  takes_refused old new form written x t0 t1 store number few asked failed text = λ l reads rules given so_far h.
       let docs = held_behind rules h.readings in
       let ws = watches_behind rules h.readings in (
-        refusal_line (old.number + 1) x,
+        refusal_line rules.form (old.number + 1) x,
         one_more old new rules given so_far l (refused x) h reads (refused x) refl (subst (λ (s : S). holds s rules (docs ++ []) ws) (sym store) (holds_more holds old.store rules docs ws h.store))
             number few (asked ∙ omega arith) failed,
-        text,
+        text ∙ ap (λ (f : Form). t0 ++ refusal_line f (old.number + 1) x) (written rules docs ws h.store),
       )
 
   pub takes_query : (old new : Answering G S) (k : ℕ) (q : Tree) (t0 t1 : List ℕ) → PutsAnswer holds old.store new.store (old.number + 1) k q t0 t1
@@ -126,31 +129,31 @@ module _ {G S W : Type 0} (other : List ℕ → Reading → Type 0) (holds : S �
       let docs = held_behind rules h.readings in
       let ws = watches_behind rules h.readings in
       let put = puts rules docs ws h.store (few_held old rules given so_far h) in (
-        answer_line (old.number + 1) (length docs) (answer q k (rules.sees docs)),
+        answer_line rules.form (old.number + 1) (length docs) (answer q k (rules.sees docs)),
         one_more old new rules given so_far l (query k q) h reads (query k q) refl (holds_more holds new.store rules docs ws put.0) number few asked (failed ∙ omega arith),
         put.1,
       )
 
-  pub takes_document : (old new : Answering G S) (d : Doc) (ns t0 t1 : List ℕ) → Places holds old.store new.store d None → Tells holds old.store d ns
+  pub takes_document : (old new : Answering G S) (form : Form) → HasForm holds old.store form → (d : Doc) (ns t0 t1 : List ℕ) → Places holds old.store new.store d None → Tells holds old.store d ns
       → new.number ≡ old.number + 1 → old.number ≤ 2 ^ 40 → new.queries ≡ old.queries → new.refused ≡ old.refused
-      → t1 ≡ t0 ++ watch_line (old.number + 1) ns → TakesLine other holds old new t0 t1 (document d)
-  takes_document old new d ns t0 t1 places tells number few asked failed text = λ l reads rules given so_far h.
+      → t1 ≡ t0 ++ watch_line form (old.number + 1) ns → TakesLine other holds old new t0 t1 (document d)
+  takes_document old new form written d ns t0 t1 places tells number few asked failed text = λ l reads rules given so_far h.
       let docs = held_behind rules h.readings in
       let ws = watches_behind rules h.readings in
       let placed = places rules docs ws h.store in (
-        watch_line (old.number + 1) (rules.tells ws d),
+        watch_line rules.form (old.number + 1) (rules.tells ws d),
         one_more old new rules given so_far l (document d) h reads (document d) (ap (document_outcome d) placed.0) placed.1 number few (asked ∙ omega arith) (failed ∙ omega arith),
-        text ∙ ap (λ xs. t0 ++ watch_line (old.number + 1) xs) (tells rules docs ws h.store),
+        text ∙ ap₂ (λ (f : Form) xs. t0 ++ watch_line f (old.number + 1) xs) (written rules docs ws h.store) (tells rules docs ws h.store),
       )
 
-  pub takes_unplaced : (old new : Answering G S) (d : Doc) (x : Refusal) (t0 t1 : List ℕ) → Places holds old.store new.store d (Some x)
+  pub takes_unplaced : (old new : Answering G S) (form : Form) → HasForm holds old.store form → (d : Doc) (x : Refusal) (t0 t1 : List ℕ) → Places holds old.store new.store d (Some x)
       → new.number ≡ old.number + 1 → old.number ≤ 2 ^ 40 → new.queries ≡ old.queries → new.refused ≡ old.refused + 1
-      → t1 ≡ t0 ++ refusal_line (old.number + 1) x → TakesLine other holds old new t0 t1 (document d)
-  takes_unplaced old new d x t0 t1 places number few asked failed text = λ l reads rules given so_far h.
+      → t1 ≡ t0 ++ refusal_line form (old.number + 1) x → TakesLine other holds old new t0 t1 (document d)
+  takes_unplaced old new form written d x t0 t1 places number few asked failed text = λ l reads rules given so_far h.
       let placed = places rules (held_behind rules h.readings) (watches_behind rules h.readings) h.store in (
-        refusal_line (old.number + 1) x,
+        refusal_line rules.form (old.number + 1) x,
         one_more old new rules given so_far l (document d) h reads (refused x) (ap (document_outcome d) placed.0) placed.1 number few (asked ∙ omega arith) failed,
-        text,
+        text ∙ ap (λ (f : Form). t0 ++ refusal_line f (old.number + 1) x) (written rules _ _ h.store),
       )
 
   -- a line that is neither blank, nor a document or query line, that comes to this
@@ -171,12 +174,13 @@ module _ {G S W : Type 0} (other : List ℕ → Reading → Type 0) (holds : S �
     taken_other (query k q) is o store failed text = absurd o
 
     refused_other : (r : Reading) (x : Refusal) → r ≡ comes rules (held_behind rules h.readings) (watches_behind rules h.readings) raw → IsOutcome r (Some x)
-        → holds new.store rules (held_behind rules h.readings) (watches_after rules (watches_behind rules h.readings) r) → new.refused ≡ old.refused + 1 → t1 ≡ t0 ++ refusal_line (old.number + 1) x
+        → holds new.store rules (held_behind rules h.readings) (watches_after rules (watches_behind rules h.readings) r) → new.refused ≡ old.refused + 1
+        → t1 ≡ t0 ++ refusal_line rules.form (old.number + 1) x
         → (printed : List ℕ) × HasAnswered other holds new rules (given ++ l ∷ []) (so_far ++ printed) × (t1 ≡ t0 ++ printed)
     refused_other (refused y) x is o store failed text = (
-      refusal_line (old.number + 1) y,
+      refusal_line rules.form (old.number + 1) y,
       one_more old new rules given so_far l raw h reads (refused y) is (holds_more holds new.store rules _ _ store) number few (asked ∙ omega arith) failed,
-      text ∙ ap (λ z. t0 ++ refusal_line (old.number + 1) z) (sym o),
+      text ∙ ap (λ z. t0 ++ refusal_line rules.form (old.number + 1) z) (sym o),
     )
     refused_other (watch n q) x is o store failed text = absurd o
     refused_other blank x is o store failed text = absurd o
@@ -189,12 +193,13 @@ module _ {G S W : Type 0} (other : List ℕ → Reading → Type 0) (holds : S �
       let taken = takes rules (held_behind rules h.readings) (watches_behind rules h.readings) h.store in
       taken_other old new rules given so_far l raw h reads number few asked t0 t1 _ refl taken.0 taken.1 failed text
 
-  pub refuses_other : (old new : Answering G S) (raw : Reading) (x : Refusal) (t0 t1 : List ℕ) → TakesOther holds old.store new.store raw (Some x)
+  pub refuses_other : (old new : Answering G S) (form : Form) → HasForm holds old.store form → (raw : Reading) (x : Refusal) (t0 t1 : List ℕ) → TakesOther holds old.store new.store raw (Some x)
       → new.number ≡ old.number + 1 → old.number ≤ 2 ^ 40 → new.queries ≡ old.queries → new.refused ≡ old.refused + 1
-      → t1 ≡ t0 ++ refusal_line (old.number + 1) x → TakesLine other holds old new t0 t1 raw
-  refuses_other old new raw x t0 t1 takes number few asked failed text = λ l reads rules given so_far h.
+      → t1 ≡ t0 ++ refusal_line form (old.number + 1) x → TakesLine other holds old new t0 t1 raw
+  refuses_other old new form written raw x t0 t1 takes number few asked failed text = λ l reads rules given so_far h.
       let taken = takes rules (held_behind rules h.readings) (watches_behind rules h.readings) h.store in
-      refused_other old new rules given so_far l raw h reads number few asked t0 t1 _ x refl taken.0 taken.1 failed text
+      refused_other old new rules given so_far l raw h reads number few asked t0 t1 _ x refl taken.0 taken.1 failed
+      (text ∙ ap (λ (f : Form). t0 ++ refusal_line f (old.number + 1) x) (written rules _ _ h.store))
 
   -- nothing was done but that the store holds what it held
   pub kept : (old new : Answering G S) → Keeps holds old.store new.store → new.number ≡ old.number → new.queries ≡ old.queries → new.refused ≡ old.refused
@@ -217,17 +222,18 @@ module _ {G S W : Type 0} (other : List ℕ → Reading → Type 0) (holds : S �
 
   -- ---- the end
 
-  pub answering_ends : (s : Answering G S) (t0 t1 tail : List ℕ) (documents : ℕ) (rules : Rules W) (given : List Line) (so_far : List ℕ) (h : HasAnswered other holds s rules given so_far)
+  pub answering_ends : (s : Answering G S) (form : Form) → HasForm holds s.store form
+      → (t0 t1 : List ℕ) (tail : Tail) (documents : ℕ) (rules : Rules W) (given : List Line) (so_far : List ℕ) (h : HasAnswered other holds s rules given so_far)
       → documents ≡ length (held_behind rules h.readings) → tail ≡ rules.tail (held_behind rules h.readings)
-      → t1 ≡ t0 ++ summary_with documents s.queries s.refused tail
+      → t1 ≡ t0 ++ summary_with form documents s.queries s.refused tail
       → Finishes (HasAnswered other holds) (IsText other) (HasRefusal other) (HasNoRefusal other) s t0 t1 s.refused rules given so_far
-  answering_ends s t0 t1 tail documents rules given so_far h count behind put =
+  answering_ends s form written t0 t1 tail documents rules given so_far h count behind put =
       let rs = h.readings in
       let last = end_of rules rs in
       record {
         printed = last;
         whole = record { readings = rs; read = h.read; bytes = ap (λ b. b ++ last) h.printed };
-        text = put ∙ (λ i. t0 ++ summary_with (count i) (h.queries i) (h.refused i) (behind i));
+        text = put ∙ (λ i. t0 ++ summary_with (written rules _ _ h.store i) (count i) (h.queries i) (h.refused i) (behind i));
         some = λ n e. (rs, h.read, omega (arith, e, h.refused));
         none = λ e. (rs, h.read, sym h.refused ∙ e);
       }

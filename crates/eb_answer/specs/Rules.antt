@@ -5,6 +5,8 @@ use Rattle.eb_base.specs.Document.{Doc}
 use Rattle.eb_base.specs.Match.{answer}
 use Rattle.eb_base.specs.Query.{Tree}
 use Rattle.eb_io.specs.Lines.{Line, line, long_line}
+use Rattle.eb_lines.specs.declared.form.Form.{Form}
+use Rattle.eb_lines.specs.declared.form.Tail.{Tail}
 use Rattle.eb_lines.specs.declared.refusal.Refusal.{Refusal}
 use Rattle.eb_lines.specs.declared.refusal.Refusal.TheVariants.{BadLine, LongLine}
 use Rattle.eb_lines.specs.Kinds.{Kind, blank_line, document_line, query_line, bad_line, kind_of}
@@ -15,7 +17,8 @@ use Rattle.eb_lines.specs.Text.{answer_line, refusal_line, watch_line, summary_w
 
 -- by which rules a store takes lines, where W is what it holds beside documents: what it holds before the first line; why it
 -- refuses a document after those that it has accepted, if it does, and which watches it tells else; over which of them a query is
--- answered; why it refuses a watch line, and what it holds after one that it doesn't refuse; and what stands after the counts of the summary
+-- answered; why it refuses a watch line, and what it holds after one that it doesn't refuse; how what is printed is written, and what is
+-- told beside the counts of the summary
 pub record Rules (W : Type 0) : Type 0 where
   pub start : List Doc
   pub watches : W
@@ -24,7 +27,8 @@ pub record Rules (W : Type 0) : Type 0 where
   pub sees : List Doc → List Doc
   pub watch_refusal : W → ℕ → Option Tree → Option Refusal
   pub with_watch : W → ℕ → Option Tree → W
-  pub tail : List Doc → List ℕ
+  pub form : Form
+  pub tail : List Doc → Tail
 
 -- what a document comes to; a watch line
 abbrev pub document_outcome : Doc → Option Refusal → Reading
@@ -86,9 +90,9 @@ watches_behind rules rs = watches_from rules rules.watches rs
 -- what line `number` prints after these
 abbrev pub says : {W : Type 0} → Rules W → ℕ → List Doc → W → Reading → List ℕ
 says rules number docs ws blank = []
-says rules number docs ws (document d) = watch_line number (rules.tells ws d)
-says rules number docs ws (query k q) = answer_line number (length docs) (answer q k (rules.sees docs))
-says rules number docs ws (refused r) = refusal_line number r
+says rules number docs ws (document d) = watch_line rules.form number (rules.tells ws d)
+says rules number docs ws (query k q) = answer_line rules.form number (length docs) (answer q k (rules.sees docs))
+says rules number docs ws (refused r) = refusal_line rules.form number r
 says rules number docs ws (watch n q) = []
 
 -- what the lines from line j + 1 on print, after these
@@ -99,9 +103,9 @@ body_from rules j docs ws (r ∷ rs) = says rules (j + 1) docs ws r ++ body_from
 abbrev pub body : {W : Type 0} → Rules W → List Reading → List ℕ
 body rules rs = body_from rules 0 rules.start rules.watches rs
 
--- the summary, with what stands after the counts
+-- the summary, with what is told beside the counts
 abbrev pub end_of : {W : Type 0} → Rules W → List Reading → List ℕ
-end_of rules rs = summary_with (length (held_behind rules rs)) (queries rs) (refusals rs) (rules.tail (held_behind rules rs))
+end_of rules rs = summary_with rules.form (length (held_behind rules rs)) (queries rs) (refusals rs) (rules.tail (held_behind rules rs))
 
 -- what these lines print
 pub record IsBody {W : Type 0} (other : List ℕ → Reading → Type 0) (rules : Rules W) (lines : List Line) (printed : List ℕ) : Type 0 where
@@ -124,8 +128,8 @@ HasNoRefusal other rules lines = (rs : List Reading) × AreRead other rules line
 
 -- ---- of a store without watches
 
-abbrev pub plain_rules : List Doc → (List Doc → Doc → Option Refusal) → (List Doc → List Doc) → (List Doc → List ℕ) → Rules (Unit {0})
-plain_rules start refusal sees tail = record {
+abbrev pub plain_rules : List Doc → (List Doc → Doc → Option Refusal) → (List Doc → List Doc) → Form → (List Doc → Tail) → Rules (Unit {0})
+plain_rules start refusal sees form tail = record {
   start = start;
   watches = tt;
   refusal = refusal;
@@ -133,6 +137,7 @@ plain_rules start refusal sees tail = record {
   sees = sees;
   watch_refusal = λ ws n q. None;
   with_watch = λ ws n q. ws;
+  form = form;
   tail = tail;
 }
 

@@ -3,6 +3,7 @@ use Rattle.std.specs.Prelude.{◌≡◌, ℕ, ◌+◌, ◌≤◌, ◌^◌, List,
 use Rattle.eb_base.specs.Document.{Doc}
 use Rattle.eb_base.specs.Match.{answer}
 use Rattle.eb_base.specs.Query.{Tree}
+use Rattle.eb_lines.specs.declared.form.Form.{Form}
 use Rattle.eb_lines.specs.declared.refusal.Refusal.{Refusal}
 use Rattle.eb_lines.specs.Progress.{documents_in}
 use Rattle.eb_lines.specs.Reading.{Reading, blank, document, query, refused, watch}
@@ -17,6 +18,10 @@ pub record IsHolding {P W : Type 0} (holds : P → Rules W → List Doc → W �
   pub is : holds s rules docs watches
   pub few : length docs ≤ length rules.start + 2 ^ 41
 
+-- what is printed is written so
+abbrev pub HasForm : {P W : Type 0} → (P → Rules W → List Doc → W → Type 0) → P → Form → Type 0
+HasForm {P} {W} holds s form = (rules : Rules W) (docs : List Doc) (ws : W) → holds s rules docs ws → form ≡ rules.form
+
 -- the document was accepted, or refused for this cause
 abbrev pub Places : {P W : Type 0} → (P → Rules W → List Doc → W → Type 0) → P → P → Doc → Option Refusal → Type 0
 Places {P} {W} holds old new d r = (rules : Rules W) (docs : List Doc) (ws : W) → holds old rules docs ws
@@ -29,7 +34,7 @@ Tells {P} {W} holds s d ns = (rules : Rules W) (docs : List Doc) (ws : W) → ho
 -- the answer of line `number` was put after the text
 abbrev pub PutsAnswer : {P W : Type 0} → (P → Rules W → List Doc → W → Type 0) → P → P → ℕ → ℕ → Tree → List ℕ → List ℕ → Type 0
 PutsAnswer {P} {W} holds old new number k q text_old text_new = (rules : Rules W) (docs : List Doc) (ws : W) → holds old rules docs ws → length docs ≤ length rules.start + 2 ^ 41
-    → holds new rules docs ws × (text_new ≡ text_old ++ answer_line number (length docs) (answer q k (rules.sees docs)))
+    → holds new rules docs ws × (text_new ≡ text_old ++ answer_line rules.form number (length docs) (answer q k (rules.sees docs)))
 
 -- a watch line was taken, or a line refused
 abbrev pub IsOutcome : Reading → Option Refusal → Type 0

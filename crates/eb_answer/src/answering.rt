@@ -14,7 +14,7 @@ use crate::store::Store;
 use eb_base::{Document, Gate, NoMemory, Query};
 use eb_doc::DocumentReader;
 use eb_lines::{
-    LineKind, LineProgram, Refusal, line_kind, put_refusal, put_summary, put_watches,
+    LineKind, LineProgram, Refusal, line_kind, line_room, put_refusal, put_summary, put_watches,
     read_document_line_by,
 };
 use std::alloc::Global;
@@ -66,10 +66,11 @@ impl<'a, G: Gate, S: Store> Answering<'a, G, S> {
         ensures ok { OnOk result (TakesLine S.other S.holds self.old self.new text.old.items text.new.items (is_refused refusal)) }
         ensures err { OnErr result ((self.new ≡ self.old) × (text.new.items ≡ text.old.items)) }
     {
-        text.reserve(68)?;
+        let form = self.store.form();
+        text.reserve(line_room(0))?;
         self.number += 1;
         self.refused += 1;
-        put_refusal(text, self.number, refusal);
+        put_refusal(text, form, self.number, refusal);
         Ok(())
     }
 
@@ -80,15 +81,16 @@ impl<'a, G: Gate, S: Store> Answering<'a, G, S> {
         ensures ok { OnOk result (TakesLine S.other S.holds self.old self.new text.old.items text.new.items (reads_document document.now)) }
         ensures err { OnErr result ((self.new ≡ self.old) × (text.new.items ≡ text.old.items)) }
     {
+        let form = self.store.form();
         let told = self.store.told(self.alloc, document)?;
-        text.reserve(68 + 21 * told.len())?;
+        text.reserve(line_room(told.len()))?;
         self.number += 1;
         if let Some(refusal) = self.store.place(document, self.gate) {
             self.refused += 1;
-            put_refusal(text, self.number, refusal);
+            put_refusal(text, form, self.number, refusal);
             return Ok(());
         }
-        put_watches(text, self.number, told.as_slice());
+        put_watches(text, form, self.number, told.as_slice());
         Ok(())
     }
 
@@ -116,13 +118,14 @@ impl<'a, G: Gate, S: Store> Answering<'a, G, S> {
         ensures ok { OnOk result (WorksOnGiven (HasAnswered S.other S.holds) self.old self.new text.old.items text.new.items (line bytes.now)) }
         ensures err { OnErr result (WorksOn (HasAnswered S.other S.holds) self.old self.new text.old.items text.new.items) }
     {
-        text.reserve(68)?;
+        let form = self.store.form();
+        text.reserve(line_room(0))?;
         match self.store.take_other(self.alloc, bytes)? {
             None => self.number += 1,
             Some(refusal) => {
                 self.number += 1;
                 self.refused += 1;
-                put_refusal(text, self.number, refusal);
+                put_refusal(text, form, self.number, refusal);
             }
         }
         Ok(())
@@ -204,16 +207,10 @@ impl<G: Gate, S: Store> LineProgram for Answering<'_, G, S> {
     }
 
     fn finish(&mut self, text: &mut Vec<u8>) -> Result<u64, NoMemory> {
+        let form = self.store.form();
         let documents = self.store.documents();
         let tail = self.store.close(self.alloc)?;
-        put_summary(
-            self.alloc,
-            text,
-            documents,
-            self.queries,
-            self.refused,
-            tail.as_str(),
-        )?;
+        put_summary(text, form, documents, self.queries, self.refused, tail)?;
         Ok(self.refused)
     }
 

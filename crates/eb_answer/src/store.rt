@@ -1,14 +1,14 @@
-ghost use Rattle.std.specs.Prelude.{◌≡◌, ◌+◌, ◌≤◌, ◌^◌, ℕ, List, length, string_bytes, Option, IfOk, OnErr, OnOk};
+ghost use Rattle.std.specs.Prelude.{◌≡◌, ◌+◌, ◌≤◌, ◌^◌, ℕ, List, length, Option, IfOk, OnErr, OnOk};
 ghost use Rattle.eb_lines.specs.Kinds.{bad_line, kind_of};
 ghost use Rattle.eb_lines.specs.Reading.{Reading};
 ghost use Rattle.eb_answer.specs.Questions.{MayAsk};
 ghost use Rattle.eb_answer.specs.Rules.{Rules};
-ghost use Rattle.eb_answer.specs.Stores.{IsHolding, Places, Tells, PutsAnswer, TakesOther, Keeps};
+ghost use Rattle.eb_answer.specs.Stores.{IsHolding, HasForm, Places, Tells, PutsAnswer, TakesOther, Keeps};
 ghost use Rattle.eb_base.specs.Document.{Doc};
 ghost use Rattle.eb_base.specs.Query.{tree};
 
 use eb_base::{Document, Gate, NoMemory, Query};
-use eb_lines::Refusal;
+use eb_lines::{Form, Refusal, Tail};
 use std::alloc::Global;
 
 /// What the lines of an input fill and ask.
@@ -63,9 +63,14 @@ pub trait Store {
         ensures { (rules : Rules Watches) (docs : List Doc) (ws : Watches) → holds self.now rules docs ws → length docs ≤ length rules.start + 2 ^ 41
             → result ≡ length docs };
 
-    /// Ends an input, and gives what stands after the counts of its summary.
-    fn close(&mut self, alloc: Global) -> Result<String, NoMemory>
+    /// How what is printed is written.
+    fn form(&self) -> Form
+        requires { IsHolding holds self.now }
+        ensures { HasForm holds self.now result };
+
+    /// Ends an input, and gives what is told beside the counts of its summary.
+    fn close(&mut self, alloc: Global) -> Result<Tail, NoMemory>
         requires { IsHolding holds self.old }
         ensures { IfOk result (λ tail. (rules : Rules Watches) (docs : List Doc) (ws : Watches)
-            → holds self.old rules docs ws → string_bytes tail ≡ rules.tail docs) };
+            → holds self.old rules docs ws → tail ≡ rules.tail docs) };
 }

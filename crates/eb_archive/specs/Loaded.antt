@@ -1,5 +1,5 @@
 -- What `load` makes of an image and of the lines after it.
-use Rattle.std.specs.Prelude.{◌≡◌, ℕ, ◌+◌, ◌⊎◌, Bool, List, [], ◌++◌, length, Option}
+use Rattle.std.specs.Prelude.{◌≡◌, ℕ, ◌⊎◌, List, [], Option}
 use Rattle.eb_answer.specs.Rules.{Rules, is_bad, IsBody, IsText, HasRefusal, HasNoRefusal}
 use Rattle.eb_base.specs.Document.{Doc}
 use Rattle.eb_base.specs.Setting.{Setting, IsSetting}
@@ -8,17 +8,18 @@ use Rattle.eb_image.specs.Reading.{IsBad, HasNone}
 use Rattle.eb_indexed.specs.IndexRules.{index_rules}
 use Rattle.eb_io.specs.Lines.{Line}
 use Rattle.eb_io.specs.Source.{after}
+use Rattle.eb_lines.specs.declared.form.Form.{Form}
 use Rattle.eb_lines.specs.declared.status.Status.{Status}
 use Rattle.eb_lines.specs.declared.status.Status.TheVariants.{Done, Refused, Usage, ReadFault, WriteFault, NoMemory, InputTooLong, BadImage}
 use Rattle.eb_lines.specs.Outcomes.{Wrote, Means}
 use Rattle.eb_lines.specs.Passing.{Ends}
 use Rattle.eb_place.specs.Room.{IsLawful}
 
--- an index of this setting is loaded with these documents, and whether the segments are told
+-- an index of this setting is loaded with these documents, and what is printed is written in this form
 pub record Loaded : Type 0 where
   pub setting : Setting
   pub documents : List Doc
-  pub stats : Bool
+  pub form : Form
 
 -- an index can have this history
 pub record IsLoadable (a : Loaded) : Type 0 where
@@ -35,7 +36,7 @@ pub record IsImage (bytes : List ℕ) : Type 0 where
 
 -- an index that holds them at first: a query sees these and all that the lines before it added
 abbrev pub rules_of : Loaded → Rules (Unit {0})
-rules_of a = index_rules a.setting a.stats a.documents
+rules_of a = index_rules a.setting a.form a.documents
 
 -- the answers and refusals of these lines; their whole text
 abbrev pub IsBodyBehind : Loaded → List Line → List ℕ → Type 0
@@ -71,17 +72,17 @@ pub record IsUnread (status : Status) (left_old left_new printed_old printed_new
   pub printed : printed_new ≡ printed_old
 
 -- an image was read, exactly its bytes, and then lines
-pub record IsRead (stats : Bool) (status : Status) (left_old left_new printed_old printed_new : Option (List ℕ)) : Type 0 where
+pub record IsRead (form : Form) (status : Status) (left_old left_new printed_old printed_new : Option (List ℕ)) : Type 0 where
   pub loaded : Loaded
   pub loadable : IsLoadable loaded
-  pub same : loaded.stats ≡ stats
+  pub same : loaded.form ≡ form
   pub lines : Option (List ℕ)
   pub image : left_old ≡ after (image_of loaded.setting loaded.documents) lines
   pub ends : Ends (IsBodyBehind loaded) (IsTextBehind loaded) (HasRefusalBehind loaded) (HasNoRefusalBehind loaded) status lines left_new printed_old printed_new
 
 -- how a load ends
-abbrev pub EndsLoad : Bool → Status → Option (List ℕ) → Option (List ℕ) → Option (List ℕ) → Option (List ℕ) → Type 0
-EndsLoad stats status l0 l1 p0 p1 = IsUnread status l0 l1 p0 p1 ⊎ IsRead stats status l0 l1 p0 p1
+abbrev pub EndsLoad : Form → Status → Option (List ℕ) → Option (List ℕ) → Option (List ℕ) → Option (List ℕ) → Type 0
+EndsLoad form status l0 l1 p0 p1 = IsUnread status l0 l1 p0 p1 ⊎ IsRead form status l0 l1 p0 p1
 
 -- what a load that ends so has printed, of these bytes of lines after the image of the loaded documents, of which this is
 -- left: nothing where the image wasn't read to its end, for a read fault or want of memory

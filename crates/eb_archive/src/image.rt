@@ -10,6 +10,7 @@ use eb_base::Gate;
 use eb_image::{HeadFault, ImageFault, ImageReader, read_head};
 use eb_indexed::Indexed;
 use eb_io::Source;
+use eb_lines::Form;
 use std::alloc::Global;
 
 // Reads the next part, and adds its document to the index; `None` at the end of the image.
@@ -78,7 +79,14 @@ pub(crate) fn read_image<S: Source, G: Gate>(
         Err(HeadFault::BadImage) => return Err(ImageFault::BadImage),
         Err(HeadFault::ReadFault) => return Err(ImageFault::ReadFault),
     };
-    let Ok(mut store) = Indexed::new(alloc, false, config) else {
+    let Ok(mut store) = Indexed::new(
+        alloc,
+        Form {
+            json: false,
+            stats: false,
+        },
+        config,
+    ) else {
         return Err(ImageFault::NoMemory);
     };
     read_parts(alloc, &mut store, reader, source, gate)?;

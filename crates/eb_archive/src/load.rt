@@ -15,26 +15,26 @@ use eb_answer::answer_lines;
 use eb_base::Gate;
 use eb_image::ImageFault;
 use eb_io::{Sink, Source};
-use eb_lines::Status;
+use eb_lines::{Form, Status};
 use std::alloc::Global;
 
 /// Loads an image and processes the lines after it, which come from the same source: reads the image, exactly its bytes,
 /// into an index of its setting, and then document lines and query lines in order; prints answers, refusals and the
 /// summary on `out`. Lines are numbered from 1. A query sees the documents of the image and those of the lines before it.
-/// With `stats` the line of the segments follows the summary.
+/// The form says how what is printed is written, and whether the segments are told after the summary.
 ///
 /// `BadImage` says that what was read begins no image of documents that an index of its setting has room for, or that
 /// the source ended in it; then nothing was printed, as wherever the image wasn't read to its end. A source that gives
 /// few bytes a call is slow here. Takes the memory of the index at once.
 pub fn load_lines<S: Source, K: Sink, G: Gate>(
     alloc: Global,
-    stats: bool,
+    form: Form,
     source: &mut S,
     out: &mut K,
     gate: &G,
 ) -> Status
     // No image was read and nothing was printed; or an image was read, and the lines after it as the status says.
-    ensures ends { EndsLoad stats result (S.left source.old) (S.left source.new) (K.taken out.old) (K.taken out.new) }
+    ensures ends { EndsLoad form result (S.left source.old) (S.left source.new) (K.taken out.old) (K.taken out.new) }
     // What was read begins no image, and nothing was printed.
     ensures bad_image { result ≡ Status.BadImage → (K.taken out.new ≡ K.taken out.old)
         × ((taken : List ℕ) × (S.left source.old ≡ after taken (S.left source.new)) × IsBad IsImage taken (S.left source.new)) }
@@ -42,11 +42,11 @@ pub fn load_lines<S: Source, K: Sink, G: Gate>(
     ensures output { (σ : Setting) (docs : List Doc) (rest before : List ℕ) → IsSetting σ → IsLawful σ docs
         → S.left source.old ≡ Some (image_of σ docs ++ rest) → K.taken out.old ≡ Some before
         → (printed : List ℕ) × (K.taken out.new ≡ Some (before ++ printed))
-        × WroteLoaded (record { setting = σ; documents = docs; stats = stats }) result rest (S.left source.new) printed }
+        × WroteLoaded (record { setting = σ; documents = docs; form = form }) result rest (S.left source.new) printed }
     // What the status says of the lines holds whatever becomes of the output.
     ensures means { (σ : Setting) (docs : List Doc) (rest : List ℕ) → IsSetting σ → IsLawful σ docs
         → S.left source.old ≡ Some (image_of σ docs ++ rest)
-        → MeansLoaded (record { setting = σ; documents = docs; stats = stats }) result rest (S.left source.new) }
+        → MeansLoaded (record { setting = σ; documents = docs; form = form }) result rest (S.left source.new) }
     // Faults come only from outside.
     ensures read_fault { result ≡ Status.ReadFault → HasRisen (S.faults source.old) (S.faults source.new) }
     ensures write_fault { result ≡ Status.WriteFault → HasRisen (K.faults out.old) (K.faults out.new) }
@@ -55,17 +55,17 @@ pub fn load_lines<S: Source, K: Sink, G: Gate>(
         → (σ : Setting) (docs : List Doc) (rest : List ℕ) → IsSetting σ → IsLawful σ docs → S.left source.old ≡ Some (image_of σ docs ++ rest)
         → length rest < longest_input → IsWorkedOff result }
 {
-    pass_loaded(alloc, stats, source, out, gate)
+    pass_loaded(alloc, form, source, out, gate)
 }
 
 fn pass_loaded<S: Source, K: Sink, G: Gate>(
     alloc: Global,
-    stats: bool,
+    form: Form,
     source: &mut S,
     out: &mut K,
     gate: &G,
 ) -> Status
-    ensures ends { EndsLoad stats result (S.left source.old) (S.left source.new) (K.taken out.old) (K.taken out.new) }
+    ensures ends { EndsLoad form result (S.left source.old) (S.left source.new) (K.taken out.old) (K.taken out.new) }
     ensures read_fault { result ≡ Status.ReadFault → HasRisen (S.faults source.old) (S.faults source.new) }
     ensures write_fault { result ≡ Status.WriteFault → HasRisen (K.faults out.old) (K.faults out.new) }
 {
@@ -75,5 +75,5 @@ fn pass_loaded<S: Source, K: Sink, G: Gate>(
         Err(ImageFault::ReadFault) => return Status::ReadFault,
         Err(ImageFault::NoMemory) => return Status::NoMemory,
     };
-    answer_lines(alloc, indexed.telling(stats), source, out, gate)
+    answer_lines(alloc, indexed.telling(form), source, out, gate)
 }

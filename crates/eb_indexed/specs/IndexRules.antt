@@ -1,10 +1,12 @@
 -- The rules of an index.
-use Rattle.std.specs.Prelude.{ℕ, ◌-◌, Bool, true, false, List, [], ◌∷◌, ◌++◌, length, codes, Option, None, Some, if◌then◌else◌}
-use Rattle.std.specs.Fmt.{decimal}
+use Rattle.std.specs.Prelude.{ℕ, List, length, Option, None, Some, if◌then◌else◌}
 use Rattle.eb_answer.specs.Rules.{Rules, plain_rules}
 use Rattle.eb_base.specs.Document.{Doc}
 use Rattle.eb_base.specs.Setting.{Setting}
 use Rattle.eb_indexed.specs.Conversions.{most_converted}
+use Rattle.eb_lines.specs.declared.form.Form.{Form}
+use Rattle.eb_lines.specs.declared.form.Tail.{Tail}
+use Rattle.eb_lines.specs.declared.form.Tail.TheVariants.{Nothing, Segments}
 use Rattle.eb_lines.specs.declared.refusal.Refusal.{Refusal}
 use Rattle.eb_lines.specs.declared.refusal.Refusal.TheVariants.{Full}
 use Rattle.eb_place.specs.Room.{cut, has_room}
@@ -13,15 +15,14 @@ use Rattle.eb_place.specs.Room.{cut, has_room}
 abbrev pub refusal_in : Setting → List Doc → Doc → Option Refusal
 refusal_in σ docs d = if has_room σ docs d then None else Some Full
 
--- where the segments are told, their line stands after the summary, without its own end
-abbrev pub segments_tail : Bool → ℕ → ℕ → List ℕ
-segments_tail false begun converted = []
-segments_tail true begun converted = 10 ∷ (codes "segments " ++ decimal begun ++ codes ", converted " ++ decimal converted)
+-- the segments are told where the form says so
+abbrev pub segments_tail : Form → ℕ → ℕ → Tail
+segments_tail form begun converted = if form.stats then Segments begun converted else Nothing
 
 -- an index of this setting that holds these documents at first: a query sees all documents, and all segments but the last one
 -- are converted at the end
-abbrev pub index_tail : Setting → Bool → List Doc → List ℕ
-index_tail σ stats docs = segments_tail stats (length (cut σ docs)) (most_converted (length (cut σ docs)))
+abbrev pub index_tail : Setting → Form → List Doc → Tail
+index_tail σ form docs = segments_tail form (length (cut σ docs)) (most_converted (length (cut σ docs)))
 
-abbrev pub index_rules : Setting → Bool → List Doc → Rules (Unit {0})
-index_rules σ stats start = plain_rules start (refusal_in σ) (λ docs. docs) (index_tail σ stats)
+abbrev pub index_rules : Setting → Form → List Doc → Rules (Unit {0})
+index_rules σ form start = plain_rules start (refusal_in σ) (λ docs. docs) form (index_tail σ form)

@@ -1,12 +1,10 @@
-ghost use Rattle.std.specs.Prelude.{◌≡◌, ◌++◌, IfOk, OnErr, OnOk};
-ghost use Rattle.std.specs.String.{string_bytes};
+ghost use Rattle.std.specs.Prelude.{◌≡◌, ◌++◌, OnErr, OnOk};
 ghost use Rattle.eb_lines.specs.Text.{summary_with};
 ghost use Rattle.eb_indexed.specs.IndexRules.{segments_tail};
 
 use crate::converting::SegmentCounts;
 use eb_base::NoMemory;
-use eb_lines::put_summary;
-use std::alloc::Global;
+use eb_lines::{Form, Tail, put_summary};
 
 /// How many documents were accepted, queries answered and lines refused.
 #[derive(Clone, Copy, Debug, PartialEq, Eq)]
@@ -19,35 +17,29 @@ pub struct Counts {
     pub refused: u64,
 }
 
-/// What tells the segments after the counts of a summary, where they are told.
-pub fn segments_text(
-    alloc: Global,
-    stats: bool,
-    segments: SegmentCounts,
-) -> Result<String, NoMemory>
-    ensures { IfOk result (λ text. string_bytes text ≡ segments_tail stats segments.segments segments.converted) }
+/// What tells the segments beside the counts of a summary, where they are told.
+pub fn tell_segments(form: Form, segments: SegmentCounts) -> Tail
+    ensures { result ≡ segments_tail form segments.segments segments.converted }
 {
-    if !stats {
-        return Ok(String::new(alloc));
+    if !form.stats {
+        return Tail::Nothing;
     }
-    let SegmentCounts {
-        segments,
-        converted,
-    } = segments;
-    Ok(format!(in alloc; "\nsegments {segments}, converted {converted}")?)
+    Tail::Segments {
+        begun: u64::from(segments.segments),
+        converted: u64::from(segments.converted),
+    }
 }
 
-/// The end of a run, after the text: the summary, with the line of the segments where `stats` asks for it. Where memory
-/// doesn't suffice, the text is as before.
+/// The end of a run, after the text: the summary, and the segments where they are told. Where memory doesn't suffice, the text
+/// is as before.
 pub fn put_end(
-    alloc: Global,
     text: &mut Vec<u8>,
+    form: Form,
     counts: Counts,
-    stats: bool,
     segments: SegmentCounts,
 ) -> Result<(), NoMemory>
     ensures ok { OnOk result (text.new.items ≡ text.old.items
-        ++ summary_with counts.documents counts.queries counts.refused (segments_tail stats segments.segments segments.converted)) }
+        ++ summary_with form counts.documents counts.queries counts.refused (segments_tail form segments.segments segments.converted)) }
     ensures err { OnErr result (text.new.items ≡ text.old.items) }
 {
     let Counts {
@@ -55,6 +47,12 @@ pub fn put_end(
         queries,
         refused,
     } = counts;
-    let tail = segments_text(alloc, stats, segments)?;
-    put_summary(alloc, text, documents, queries, refused, tail.as_str())
+    put_summary(
+        text,
+        form,
+        documents,
+        queries,
+        refused,
+        tell_segments(form, segments),
+    )
 }

@@ -6,59 +6,58 @@ ghost use Rattle.eb_indexed.specs.Indexed.{Holds, WithPlaced};
 ghost use Rattle.eb_indexed.specs.IndexRules.{index_tail};
 ghost use Rattle.eb_base.specs.Match.{answer};
 ghost use Rattle.eb_cursor.specs.Frames.{query_of, k_of, ids_of};
-ghost use Rattle.std.specs.String.{string_bytes};
 
 use crate::converting::{catch_up, close};
-use crate::ending::segments_text;
+use crate::ending::tell_segments;
 use crate::searching::search_all;
 use eb_answer::Store;
 use eb_base::{Config, Document, Gate, NoMemory, Query};
 use eb_cursor::Frame;
 use eb_engine::{Converter, Index, Writer};
-use eb_lines::{Refusal, put_answer};
+use eb_lines::{Form, Refusal, Tail, line_room, put_answer};
 use eb_writer::Full;
 use std::alloc::Global;
 
-/// An index with its writer and its converter, and whether its segments are told at the end.
+/// An index with its writer and its converter, and how what is printed of it is written.
 #[derive(Drop)]
 pub struct Indexed {
     index: Index,
     writer: Writer,
     converter: Converter,
-    stats: bool,
+    form: Form,
 }
 
 impl Indexed {
     /// An empty index. Takes all its memory.
-    pub fn new(alloc: Global, stats: bool, config: Config) -> Result<Indexed, NoMemory>
+    pub fn new(alloc: Global, form: Form, config: Config) -> Result<Indexed, NoMemory>
         ensures holds { IfOk result (λ s. Holds s config []) }
-        ensures stats { IfOk result (λ s. s.stats ≡ stats) }
+        ensures form { IfOk result (λ s. s.form ≡ form) }
     {
         let (index, writer, converter) = Index::open(alloc, config)?;
         Ok(Indexed {
             index,
             writer,
             converter,
-            stats,
+            form,
         })
     }
 
-    /// The same, whose segments are told at the end or not.
-    pub fn telling(self, stats: bool) -> Indexed
+    /// The same, of which what is printed is written in this form.
+    pub fn telling(self, form: Form) -> Indexed
         ensures holds { (σ : Setting) (docs : List Doc) → Holds self σ docs → Holds result σ docs }
-        ensures stats { result.stats ≡ stats }
+        ensures form { result.form ≡ form }
     {
         let Indexed {
             index,
             writer,
             converter,
-            stats: _,
+            form: _,
         } = self;
         Indexed {
             index,
             writer,
             converter,
-            stats,
+            form,
         }
     }
 
@@ -67,7 +66,7 @@ impl Indexed {
     pub fn add<G: Gate>(&mut self, document: &Document, gate: &G) -> bool
         requires { (σ : Setting) × (docs : List Doc) × Holds self.old σ docs }
         ensures placed { (σ : Setting) (docs : List Doc) → Holds self.old σ docs → WithPlaced self.new σ docs document.now result }
-        ensures stats { self.new.stats ≡ self.old.stats }
+        ensures form { self.new.form ≡ self.old.form }
     {
         match self.writer.add(&self.index, document, gate) {
             Ok(_) => {
@@ -97,12 +96,19 @@ impl Indexed {
     }
 
     /// Converts all segments but the last one, and gives what is told of them.
-    pub fn tail(&mut self, alloc: Global) -> Result<String, NoMemory>
+    pub fn tail(&mut self) -> Tail
         requires { (σ : Setting) × (docs : List Doc) × Holds self.old σ docs }
-        ensures { IfOk result (λ text. (σ : Setting) (docs : List Doc) → Holds self.old σ docs → string_bytes text ≡ index_tail σ self.old.stats docs) }
+        ensures { (σ : Setting) (docs : List Doc) → Holds self.old σ docs → result ≡ index_tail σ self.old.form docs }
     {
         let counts = close(&self.index, &mut self.writer, &mut self.converter);
-        segments_text(alloc, self.stats, counts)
+        tell_segments(self.form, counts)
+    }
+
+    /// How what is printed is written.
+    pub fn form(&self) -> Form
+        ensures { result ≡ self.now.form }
+    {
+        self.form
     }
 }
 
@@ -144,9 +150,9 @@ impl Store for Indexed {
         text: &mut Vec<u8>,
     ) -> Result<(), NoMemory> {
         let mut frame = Frame::new(alloc, query, k)?;
-        text.reserve(64 + 21 * k as usize)?;
+        text.reserve(line_room(k as usize))?;
         let seen = search_all(&self.index, &mut self.writer, &mut frame, gate);
-        put_answer(text, number, seen, frame.ids());
+        put_answer(text, self.form, number, seen, frame.ids());
         Ok(())
     }
 
@@ -154,8 +160,12 @@ impl Store for Indexed {
         self.writer.accepted()
     }
 
-    fn close(&mut self, alloc: Global) -> Result<String, NoMemory> {
+    fn form(&self) -> Form {
+        self.form
+    }
+
+    fn close(&mut self, _alloc: Global) -> Result<Tail, NoMemory> {
         let counts = close(&self.index, &mut self.writer, &mut self.converter);
-        segments_text(alloc, self.stats, counts)
+        Ok(tell_segments(self.form, counts))
     }
 }

@@ -7,6 +7,6 @@ mod indexed;
 mod searching;
 
 pub use converting::{SegmentCounts, catch_up, close, convert_all, has_waiting};
-pub use ending::{Counts, put_end, segments_text};
+pub use ending::{Counts, put_end, tell_segments};
 pub use indexed::Indexed;
 pub use searching::search_all;

@@ -6,3 +6,5 @@ pub mod Told
 pub mod Results
 pub mod Runs
 pub mod Refused
+pub mod JsonLines
+pub mod TextOfForm

@@ -4,6 +4,9 @@ pub mod Kinds
 pub mod LineKinds
 pub mod Reads
 pub mod Works
+pub mod Words
+pub mod Values
+pub mod JsonTexts
 pub mod Text
 pub mod StatusLine
 pub mod Programs

@@ -1,48 +1,32 @@
--- What is printed for a line, and after the last one.
-use Rattle.std.specs.Prelude.{ℕ, List, [], ◌∷◌, ◌++◌, codes, flat_map}
-use Rattle.std.specs.Fmt.{decimal}
+-- What is printed for a line, and after the last one, in both forms.
+use Rattle.std.specs.Prelude.{ℕ, ◌+◌, ◌*◌, List, [], ◌∷◌, ◌++◌, if◌then◌else◌}
+use Rattle.eb_lines.specs.declared.form.Form.{Form}
+use Rattle.eb_lines.specs.declared.form.Tail.{Tail}
 use Rattle.eb_lines.specs.declared.refusal.Refusal.{Refusal}
-use Rattle.eb_lines.specs.declared.refusal.Refusal.TheVariants.{BadLine, LongLine, BadJson, BadDocument, TooLong}
-use Rattle.eb_lines.specs.declared.refusal.Refusal.TheVariants.{NotRising, Full, BadNumber, BadQuery, QueryTooLarge, QueryTooDeep, NoWatch, WatchTaken, WatchesFull}
+use Rattle.eb_lines.specs.Words.{answer_words, watch_words, refusal_words, summary_words}
+use Rattle.eb_lines.specs.Values.{json_line, answer_value, watch_value, refusal_value, summary_value, segments_lines}
 
--- each id, with a space before it
-abbrev pub spaced : List ℕ → List ℕ
-spaced ids = flat_map (λ id. 32 ∷ decimal id) ids
+-- the most bytes of a line that lists so many numbers
+abbrev pub room_of : ℕ → ℕ
+room_of listed = 96 + 21 * listed
 
 -- the answer to a query in line `number`: how many accepted documents it saw, and the ids
-abbrev pub answer_line : ℕ → ℕ → List ℕ → List ℕ
-answer_line number seen ids = decimal number ++ codes " seen " ++ decimal seen ++ codes ":" ++ spaced ids ++ 10 ∷ []
+unfoldable pub answer_line : Form → ℕ → ℕ → List ℕ → List ℕ
+answer_line form number seen ids = if form.json then json_line (answer_value number seen ids) else answer_words number seen ids
 
 -- the numbers of the watches that the document in line `number` matches, where there are any
-abbrev pub watch_line : ℕ → List ℕ → List ℕ
-watch_line number [] = []
-watch_line number (n ∷ ns) = decimal number ++ codes " watch:" ++ spaced (n ∷ ns) ++ 10 ∷ []
+unfoldable pub some_watch_line : Form → ℕ → List ℕ → List ℕ
+some_watch_line form number ns = if form.json then json_line (watch_value number ns) else watch_words number ns
 
--- the name of a refusal
-abbrev pub refusal_name : Refusal → List ℕ
-refusal_name BadLine = codes "bad line"
-refusal_name LongLine = codes "long line"
-refusal_name BadJson = codes "bad json"
-refusal_name BadDocument = codes "bad document"
-refusal_name TooLong = codes "too long"
-refusal_name (NotRising last) = codes "not rising after " ++ decimal last
-refusal_name Full = codes "full"
-refusal_name BadNumber = codes "bad number"
-refusal_name (BadQuery column) = codes "bad query at " ++ decimal column
-refusal_name QueryTooLarge = codes "query too large"
-refusal_name QueryTooDeep = codes "query too deep"
-refusal_name NoWatch = codes "no watch"
-refusal_name WatchTaken = codes "watch taken"
-refusal_name WatchesFull = codes "watches full"
+abbrev pub watch_line : Form → ℕ → List ℕ → List ℕ
+watch_line form number [] = []
+watch_line form number (n ∷ ns) = some_watch_line form number (n ∷ ns)
 
 -- the refusal of line `number`
-abbrev pub refusal_line : ℕ → Refusal → List ℕ
-refusal_line number r = decimal number ++ codes " refused: " ++ refusal_name r ++ 10 ∷ []
+unfoldable pub refusal_line : Form → ℕ → Refusal → List ℕ
+refusal_line form number r = if form.json then json_line (refusal_value number r) else refusal_words number r
 
--- the last line: the documents accepted, the queries answered, the lines refused, and what a program says beside
-abbrev pub summary_with : ℕ → ℕ → ℕ → List ℕ → List ℕ
-summary_with d q r more = codes "end: documents " ++ decimal d ++ codes ", queries " ++ decimal q ++ codes ", refused " ++ decimal r ++ more ++ 10 ∷ []
-
--- the same, with nothing beside
-abbrev pub summary_of : ℕ → ℕ → ℕ → List ℕ
-summary_of d q r = codes "end: documents " ++ decimal d ++ codes ", queries " ++ decimal q ++ codes ", refused " ++ decimal r ++ 10 ∷ []
+-- the end: the documents accepted, the queries answered, the lines refused, and what is told beside, of which the segments
+-- stand in a line of their own
+unfoldable pub summary_with : Form → ℕ → ℕ → ℕ → Tail → List ℕ
+summary_with form d q r tail = if form.json then json_line (summary_value d q r tail) ++ segments_lines tail else summary_words d q r tail

@@ -2,15 +2,20 @@
 //! program over lines ends. The forms are those of this project's profile, docs/FORMATS.md.
 #![tactic(auto)]
 
+mod form;
 mod gathered;
 mod kind;
+mod objects;
 mod passing;
+mod pieces;
 mod program;
 mod refusal;
 mod status;
+mod words;
 mod work;
 mod writing;
 
+pub use form::{Form, Tail};
 pub use gathered::{write_gathered, write_much};
 pub use kind::{LineKind, line_kind};
 pub use passing::pass_lines;
@@ -20,4 +25,4 @@ pub use status::{MAX_INPUT, Status};
 pub use work::{
     Work, query_refusal, read_document_line, read_document_line_by, read_line, read_query_text,
 };
-pub use writing::{put_answer, put_refusal, put_summary, put_watches};
+pub use writing::{line_room, put_answer, put_refusal, put_summary, put_watches};

@@ -15,7 +15,7 @@ use Rattle.eb_blend.specs.Blended.{blended}
 use Rattle.eb_blend.specs.declared.refusal.BlendRefusal.{BlendRefusal}
 use Rattle.eb_blend.specs.declared.refusal.BlendRefusal.TheVariants as blend
 use Rattle.eb_blend.specs.Laws.{part, cut_into}
-use Rattle.eb_blend.specs.Parts.{Parts, WriterTokens, ConverterTokens, history, part_of, with_document, IsAbove, counted, lengths_of, AreFronts}
+use Rattle.eb_blend.specs.Parts.{Parts, WriterTokens, ConverterTokens, history, part_of, with_document, IsAbove, counted, lengths_of, AreFronts, AllConverted, IsCaughtUp}
 use Rattle.eb_blend.specs.Refused.{Refuses}
 use Rattle.eb_blend.proofs.Law.{is_answer, own_part, other_part}
 use Rattle.eb_blend.proofs.Each.{no_lengths}
@@ -98,11 +98,30 @@ short_more parts σ docs d p some few room short = elim (cases_lt p parts) [
   | inr le ↦ subst (λ (h : List Doc). length (cut σ h) ≤ 64) (sym (history_past parts p (docs ++ d ∷ []) le)) (short_none σ)
 ]
 
+-- of all parts but that of the document the segments were converted before, and that part is caught up with
+converted_more : (parts : ℕ) (σ : Setting) (docs : List Doc) (d : Doc) (old new : ConverterTokens) → 1 ≤ parts → AllConverted σ (cut_into parts docs) old.converted
+    → IsCaughtUp σ (cut_into parts (docs ++ d ∷ [])) (d.id % parts) old new → AllConverted σ (cut_into parts (docs ++ d ∷ [])) new.converted
+converted_more parts σ docs d old new some are caught = record {
+  each = λ p s lt low. elim (cases_eq p (d.id % parts)) [
+    | inl e ↦
+        let here : s + 1 < length (cut σ (history (cut_into parts (docs ++ d ∷ [])) (d.id % parts))) =
+        subst (λ m. s + 1 < length (cut σ (history (cut_into parts (docs ++ d ∷ [])) m))) e low in
+        subst (λ m. s < get_or new.converted m 0) (sym e) (caught.converted s here)
+    | inr ne ↦
+        let below : p < parts = omega (arith, lt, cut_length parts (docs ++ d ∷ [])) in
+        let same : history (cut_into parts (docs ++ d ∷ [])) p ≡ history (cut_into parts docs) p =
+        history_of parts p (docs ++ d ∷ []) below ∙ other_part parts docs d p ne ∙ sym (history_of parts p docs below) in
+        let before : s + 1 < length (cut σ (history (cut_into parts docs) p)) = subst (λ (h : List Doc). s + 1 < length (cut σ h)) same low in
+        subst (λ n. s < n) (sym (caught.others p ne).1) (are.each p s (omega (arith, below, cut_length parts docs)) before)
+  ];
+}
+
 pub placed : (old new : Store) (parts : ℕ) (σ : Setting) (docs : List Doc) (d : Doc) → Holds old parts σ docs → IsAbove old.writer.last d.id
     → HasRoom old.blend.setting (history old.writer.histories (part_of old.writer.histories d)) d → new.blend ≡ old.blend
     → new.writer ≡ (let w : WriterTokens = record { indexes = old.writer.indexes; histories = with_document old.writer.histories d; last = Some d.id } in w)
-    → new.converter ≡ old.converter → WithPlaced new parts σ docs d None
-placed old new parts σ docs d h above room blend writer converter =
+    → new.converter.indexes ≡ old.converter.indexes → length new.converter.converted ≡ length old.converter.converted
+    → IsCaughtUp old.blend.setting new.writer.histories (d.id % length new.writer.histories) old.converter new.converter → WithPlaced new parts σ docs d None
+placed old new parts σ docs d h above room blend writer converter counters caught =
     let hs = cut_into parts docs in
     let last : old.writer.last ≡ last_id docs = ap (λ (w : WriterTokens). w.last) h.writer in
     let hist : old.writer.histories ≡ hs = ap (λ (w : WriterTokens). w.histories) h.writer in
@@ -110,6 +129,11 @@ placed old new parts σ docs d h above room blend writer converter =
     let low : IsAbove (last_id docs) d.id = subst (λ o. IsAbove o d.id) last above in
     let roomy : has_room σ (history hs (part_of hs d)) d ≡ true = sym (λ i. has_room (setting i) (history (hist i) (part_of (hist i) d)) d) ∙ room in
     let own : has_room σ (part parts docs (d.id % parts)) d ≡ true = ap (λ (x : List Doc). has_room σ x d) (sym (part_is parts docs d h.some)) ∙ roomy in
+    let holds : new.writer ≡ (let w : WriterTokens = record { indexes = h.words; histories = cut_into parts (docs ++ d ∷ []); last = last_id (docs ++ d ∷ []) } in w) =
+    writer ∙ (λ i. record { indexes = (h.writer i).indexes; histories = with_document (hist i) d; last = Some d.id })
+    ∙ (λ i. record { indexes = h.words; histories = sym (histories_push parts docs d h.some) i; last = sym (last-push docs d) i }) in
+    let parted : new.writer.histories ≡ cut_into parts (docs ++ d ∷ []) = ap (λ (w : WriterTokens). w.histories) holds in
+    let number : length new.writer.histories ≡ parts = ap length parted ∙ cut_length parts (docs ++ d ∷ []) in
     record {
       refusal = sym (admit_roomy parts σ docs d h.some low roomy);
       holds = record {
@@ -120,10 +144,11 @@ placed old new parts σ docs d h above room blend writer converter =
         number = h.number;
         settings = h.settings;
         blend = blend ∙ h.blend;
-        writer = writer ∙ (λ i. record { indexes = (h.writer i).indexes; histories = with_document (hist i) d; last = Some d.id })
-            ∙ (λ i. record { indexes = h.words; histories = sym (histories_push parts docs d h.some) i; last = sym (last-push docs d) i });
-        converter = ap (λ (c : ConverterTokens). c.indexes) converter ∙ h.converter;
-        converted = ap (λ (c : ConverterTokens). length c.converted) converter ∙ h.converted;
+        writer = holds;
+        converter = converter ∙ h.converter;
+        counters = counters ∙ h.counters;
+        converted = converted_more parts σ docs d old.converter new.converter h.some h.converted
+            (subst (λ (x : Setting × List (List Doc) × ℕ). IsCaughtUp x.0 x.1 (d.id % x.2) old.converter new.converter) (λ i. (setting i, parted i, number i)) caught);
         rising = rising-push docs d h.rising low;
         counts = counts_push parts docs d h.some h.counts;
         short = λ p. short_more parts σ docs d p h.some h.allowed.segments.1 own (h.short p);
@@ -159,6 +184,18 @@ not_placed old new parts σ docs d (blend.Full p) h r same =
 
 -- ---- the store at first
 
+-- nothing is closed
+cut_none : (σ : Setting) → length (cut σ []) ≡ 0
+unfolding cut
+cut_none σ = refl
+
+none_closed : (parts : ℕ) (σ : Setting) (converted : List ℕ) → AllConverted σ (cut_into parts []) converted
+none_closed parts σ converted = record {
+  each = λ p s lt low.
+      let none = ap (λ (h : List Doc). length (cut σ h)) (history_of parts p [] (omega (arith, lt, cut_length parts []))) ∙ cut_none σ in
+      absurd (omega (arith, low, none));
+}
+
 pub holds_none : (s : Store) (parts : ℕ) (σ : Setting) (ws : List Words) → 1 ≤ parts → parts ≤ 16 → IsSetting σ → length ws ≡ parts → All (λ w. w.setting ≡ σ) ws
     → s.blend ≡ (let b : Parts = record { setting = σ; indexes = ws } in b)
     → s.writer ≡ (let w : WriterTokens = record { indexes = ws; histories = replicate parts []; last = None } in w)
@@ -173,30 +210,11 @@ holds_none s parts σ ws some most allowed number settings blend writer converte
   blend = blend;
   writer = writer ∙ (λ i. record { indexes = ws; histories = parts_none parts i; last = None });
   converter = ap (λ (c : ConverterTokens). c.indexes) converter;
-  converted = ap (λ (c : ConverterTokens). length c.converted) converter ∙ length_replicated parts 0;
+  counters = ap (λ (c : ConverterTokens). length c.converted) converter ∙ length_replicated parts 0;
+  converted = none_closed parts σ s.converter.converted;
   rising = tt;
   counts = counted_none parts;
   short = λ p. short_parts parts p σ;
-}
-
--- ---- packing changes nothing
-
-pub packed : (old new : Store) (parts : ℕ) (σ : Setting) (docs : List Doc) → Holds old parts σ docs → new.blend ≡ old.blend → new.writer ≡ old.writer → new.converter.indexes ≡ old.converter.indexes
-    → length new.converter.converted ≡ length old.blend.indexes → Holds new parts σ docs
-packed old new parts σ docs h blend writer indexes converted = record {
-  some = h.some;
-  most = h.most;
-  allowed = h.allowed;
-  words = h.words;
-  number = h.number;
-  settings = h.settings;
-  blend = blend ∙ h.blend;
-  writer = writer ∙ h.writer;
-  converter = indexes ∙ h.converter;
-  converted = converted ∙ ap (λ (b : Parts). length b.indexes) h.blend ∙ h.number;
-  rising = h.rising;
-  counts = h.counts;
-  short = h.short;
 }
 
 -- ---- a search over all documents

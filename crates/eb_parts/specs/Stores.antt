@@ -1,11 +1,11 @@
 -- What a blend that a run fills holds.
-use Rattle.std.specs.Prelude.{◌≡◌, ℕ, ◌-◌, ◌^◌, ◌≤◌, List, ◌++◌, length, min, Option, Some, None}
+use Rattle.std.specs.Prelude.{◌≡◌, ℕ, ◌-◌, ◌^◌, ◌≤◌, List, ◌++◌, length, min, Option}
 use Rattle.std.specs.List.{All}
 use Rattle.eb_answer.specs.Rules.{document_outcome}
 use Rattle.eb_base.specs.Document.{Doc}
 use Rattle.eb_base.specs.Setting.{Setting, IsSetting}
 use Rattle.eb_blend.specs.Laws.{cut_into, HasRisingIds}
-use Rattle.eb_blend.specs.Parts.{WriterTokens, counted, lengths_of, history}
+use Rattle.eb_blend.specs.Parts.{WriterTokens, counted, lengths_of, history, AllConverted}
 use Rattle.eb_lines.specs.declared.refusal.Refusal.{Refusal}
 use Rattle.eb_lines.specs.Progress.{documents_in}
 use Rattle.eb_place.specs.Room.{cut}
@@ -13,7 +13,8 @@ use Rattle.eb_table.specs.Known.{Words}
 use Rattle.eb_parts.specs.declared.store.Store.{Store}
 use Rattle.eb_parts.specs.AcceptedInParts.{last_id, refusal_in_parts}
 
--- these documents, cut into so many parts of this setting
+-- these documents, cut into so many parts of this setting; and in each part each segment whose following segment has a document is
+-- converted
 pub record Holds (s : Store) (parts : ℕ) (σ : Setting) (docs : List Doc) : Type 0 where
   pub some : 1 ≤ parts
   pub most : parts ≤ 16
@@ -24,7 +25,8 @@ pub record Holds (s : Store) (parts : ℕ) (σ : Setting) (docs : List Doc) : Ty
   pub blend : s.blend ≡ record { setting = σ; indexes = words }
   pub writer : s.writer ≡ (let w : WriterTokens = record { indexes = words; histories = cut_into parts docs; last = last_id docs } in w)
   pub converter : s.converter.indexes ≡ words
-  pub converted : length s.converter.converted ≡ parts
+  pub counters : length s.converter.converted ≡ parts
+  pub converted : AllConverted σ (cut_into parts docs) s.converter.converted
   pub rising : HasRisingIds docs
   pub counts : counted (lengths_of (cut_into parts docs)) ≡ min (length docs) (2 ^ 64 - 1)
   pub short : (p : ℕ) → length (cut σ (history (cut_into parts docs) p)) ≤ 64

@@ -7,16 +7,16 @@ use crate::store::Store as Parts;
 use eb_answer::Store;
 use eb_base::{Config, Document, Gate, NoMemory, Query};
 use eb_blend::BlendFrame;
-use eb_indexed::segments_text;
-use eb_lines::{Refusal, put_answer};
+use eb_indexed::tell_segments;
+use eb_lines::{Form, Refusal, Tail, line_room, put_answer};
 use std::alloc::Global;
 
-// So many parts, and whether their segments are told at the end.
+// So many parts, and how what is printed of them is written.
 #[derive(Drop)]
 pub(crate) struct Parted {
     parts: Parts,
     number: u32,
-    stats: bool,
+    form: Form,
 }
 
 impl Parted {
@@ -24,17 +24,17 @@ impl Parted {
     pub(crate) fn new(
         alloc: Global,
         number: u32,
-        stats: bool,
+        form: Form,
         config: Config,
     ) -> Result<Parted, NoMemory>
         requires { (1 ≤ number) × (number ≤ 16) }
-        ensures { IfOk result (λ parted. IsParted parted (parts_rules number config stats) [] tt) }
+        ensures { IfOk result (λ parted. IsParted parted (parts_rules number config form) [] tt) }
     {
         let parts = Parts::new(alloc, number, config)?;
         Ok(Parted {
             parts,
             number,
-            stats,
+            form,
         })
     }
 }
@@ -71,10 +71,10 @@ impl Store for Parted {
         text: &mut Vec<u8>,
     ) -> Result<(), NoMemory> {
         let mut frame = BlendFrame::new(alloc, &query, k, self.number)?;
-        text.reserve(64 + 21 * k as usize)?;
+        text.reserve(line_room(k as usize))?;
         let reader = self.parts.reader(alloc)?;
         let seen = self.parts.search(reader, &mut frame, gate);
-        put_answer(text, number, seen, frame.ids());
+        put_answer(text, self.form, number, seen, frame.ids());
         Ok(())
     }
 
@@ -82,8 +82,12 @@ impl Store for Parted {
         self.parts.documents()
     }
 
-    fn close(&mut self, alloc: Global) -> Result<String, NoMemory> {
+    fn form(&self) -> Form {
+        self.form
+    }
+
+    fn close(&mut self, alloc: Global) -> Result<Tail, NoMemory> {
         let counts = self.parts.close(alloc)?;
-        segments_text(alloc, self.stats, counts)
+        Ok(tell_segments(self.form, counts))
     }
 }

@@ -10,13 +10,14 @@ use crate::parted::Parted;
 use eb_answer::answer_lines;
 use eb_base::{Config, Gate};
 use eb_io::{Sink, Source};
-use eb_lines::Status;
+use eb_lines::{Form, Status};
 use std::alloc::Global;
 
 /// Processes the lines that the source gives, in order, over so many parts, from 1 to 16, each an index of this setting:
 /// a document goes to the part that is its id modulo their number; prints answers, refusals and the summary on
 /// `out`. Lines are numbered from 1. A query sees all documents that were accepted before its line, and its answer is that
-/// of one history of them. With `stats` the line of the segments of all parts follows the summary.
+/// of one history of them. The form says how what is printed is written, and whether the segments of all parts are
+/// told after the summary.
 ///
 /// A document line whose id isn't above that of the last accepted document is refused as `not rising`, and then one whose
 /// part has no room as `full`. Each answer is written before the source is asked for a line that it hasn't given yet. The
@@ -24,23 +25,23 @@ use std::alloc::Global;
 pub fn run_parts<S: Source, K: Sink, G: Gate>(
     alloc: Global,
     parts: u32,
-    stats: bool,
+    form: Form,
     config: Config,
     source: &mut S,
     out: &mut K,
     gate: &G,
 ) -> Status
     requires { (1 ≤ parts) × (parts ≤ 16) }
-    ensures ends { let rules = parts_rules parts config stats in
+    ensures ends { let rules = parts_rules parts config form in
         Ends (IsBody is_bad rules) (IsText is_bad rules) (HasRefusal is_bad rules) (HasNoRefusal is_bad rules) result
         (S.left source.old) (S.left source.new) (K.taken out.old) (K.taken out.new) }
     // Where source and `out` tell their bytes, `out` took what the status says of the input.
     ensures output { (bytes before : List ℕ) → S.left source.old ≡ Some bytes → K.taken out.old ≡ Some before
         → (printed : List ℕ) × (K.taken out.new ≡ Some (before ++ printed))
-        × WroteInParts (parts_rules parts config stats) result bytes (S.left source.new) printed }
+        × WroteInParts (parts_rules parts config form) result bytes (S.left source.new) printed }
     // What the status says of the input holds whatever becomes of the output.
     ensures means { (bytes : List ℕ) → S.left source.old ≡ Some bytes
-        → MeansInParts (parts_rules parts config stats) result bytes (S.left source.new) }
+        → MeansInParts (parts_rules parts config form) result bytes (S.left source.new) }
     // Faults come only from outside.
     ensures read_fault { result ≡ Status.ReadFault → HasRisen (S.faults source.old) (S.faults source.new) }
     ensures write_fault { result ≡ Status.WriteFault → HasRisen (K.faults out.old) (K.faults out.new) }
@@ -48,26 +49,26 @@ pub fn run_parts<S: Source, K: Sink, G: Gate>(
     ensures completes { (HasRisen (S.faults source.old) (S.faults source.new) → ⊥) → (HasRisen (K.faults out.old) (K.faults out.new) → ⊥)
         → (bytes : List ℕ) → S.left source.old ≡ Some bytes → length bytes < longest_input → IsWorkedOff result }
 {
-    pass_parts(alloc, parts, stats, config, source, out, gate)
+    pass_parts(alloc, parts, form, config, source, out, gate)
 }
 
 fn pass_parts<S: Source, K: Sink, G: Gate>(
     alloc: Global,
     parts: u32,
-    stats: bool,
+    form: Form,
     config: Config,
     source: &mut S,
     out: &mut K,
     gate: &G,
 ) -> Status
     requires { (1 ≤ parts) × (parts ≤ 16) }
-    ensures ends { let rules = parts_rules parts config stats in
+    ensures ends { let rules = parts_rules parts config form in
         Ends (IsBody is_bad rules) (IsText is_bad rules) (HasRefusal is_bad rules) (HasNoRefusal is_bad rules) result
         (S.left source.old) (S.left source.new) (K.taken out.old) (K.taken out.new) }
     ensures read_fault { result ≡ Status.ReadFault → HasRisen (S.faults source.old) (S.faults source.new) }
     ensures write_fault { result ≡ Status.WriteFault → HasRisen (K.faults out.old) (K.faults out.new) }
 {
-    let Ok(parted) = Parted::new(alloc, parts, stats, config) else {
+    let Ok(parted) = Parted::new(alloc, parts, form, config) else {
         return Status::NoMemory;
     };
     answer_lines(alloc, parted, source, out, gate)

@@ -89,36 +89,20 @@ impl Store {
         })
     }
 
-    // Adds a document to its part, or gives why it is refused.
-    fn place<G: Gate>(&mut self, document: &Document, gate: &G) -> Option<Refusal>
-        requires { (parts : ℕ) × (σ : Setting) × (docs : List Doc) × Holds self.old parts σ docs }
-        ensures { (parts : ℕ) (σ : Setting) (docs : List Doc) → Holds self.old parts σ docs → WithPlaced self.new parts σ docs document.now result }
-    {
-        match self.writer.add(&self.blend, document, gate) {
-            Ok(_count) => None,
-            Err(BlendRefusal::NotRising { last }) => Some(Refusal::NotRising(last)),
-            Err(BlendRefusal::Full { part: _ }) => Some(Refusal::Full),
-        }
-    }
-
-    // Packs the segments that are closed.
-    fn pack(&mut self)
-        requires { (parts : ℕ) × (σ : Setting) × (docs : List Doc) × Holds self.old parts σ docs }
-        ensures { (parts : ℕ) (σ : Setting) (docs : List Doc) → Holds self.old parts σ docs → Holds self.new parts σ docs }
-    {
-        self.converter.convert_all(&self.blend);
-    }
-
-    // Adds a document to its part, and packs the segment that it closed; or gives why it is refused. Takes no memory.
+    // Adds a document to its part, and converts the segment that it closed there; or gives why it is refused. Takes no
+    // memory.
     pub(crate) fn add<G: Gate>(&mut self, document: &Document, gate: &G) -> Option<Refusal>
         requires { (parts : ℕ) × (σ : Setting) × (docs : List Doc) × Holds self.old parts σ docs }
         ensures { (parts : ℕ) (σ : Setting) (docs : List Doc) → Holds self.old parts σ docs → WithPlaced self.new parts σ docs document.now result }
     {
-        let refusal = self.place(document, gate);
-        if refusal.is_none() {
-            self.pack();
+        match self.writer.add(&self.blend, document, gate) {
+            Ok(_count) => {
+                self.writer.catch_up(&self.blend, &mut self.converter);
+                None
+            }
+            Err(BlendRefusal::NotRising { last }) => Some(Refusal::NotRising(last)),
+            Err(BlendRefusal::Full { part: _ }) => Some(Refusal::Full),
         }
-        refusal
     }
 
     // A reader that knows all documents.
@@ -157,7 +141,7 @@ impl Store {
         self.writer.accepted()
     }
 
-    // Packs of each part all segments but the last one, and gives how many are begun and how many are packed.
+    // Converts of each part all segments but the last one, and gives how many are begun and how many are converted.
     pub(crate) fn close(&mut self, alloc: Global) -> Result<SegmentCounts, NoMemory>
         requires { (parts : ℕ) × (σ : Setting) × (docs : List Doc) × Holds self.old parts σ docs }
         ensures documents { self.new.writer ≡ self.old.writer }

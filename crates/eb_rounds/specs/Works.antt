@@ -19,6 +19,7 @@ use Rattle.eb_rounds.specs.declared.tasks.GivenWork.{GivenWork}
 use Rattle.eb_rounds.specs.declared.tasks.GivenWork.TheVariants as given
 use Rattle.eb_lines.specs.Reading.{Reading, document, query, refused}
 use Rattle.eb_lines.specs.Progress.{is_query}
+use Rattle.eb_lines.specs.Text.{room_of}
 use Rattle.eb_rounds.specs.Inputs.{HeldInput, document_line, query_line, refused_line, HeldLine, Entry, ReadsLine}
 
 abbrev pub first_input : FirstInput → HeldInput
@@ -73,11 +74,11 @@ entries_of t = map asked_entry t.asked.items ++ map given_entry t.given.items
 
 -- the most bytes that a round prints
 abbrev pub need_of_tasks : Tasks → ℕ
-need_of_tasks t = sum_by asked_need t.asked.items + 68 * length t.given.items
+need_of_tasks t = sum_by asked_need t.asked.items + room_of 0 * length t.given.items
 
 -- room was taken for the refusals of document lines
 abbrev pub HasRoomForRefusals : Tasks → Type 0
-HasRoomForRefusals t = (t.refusals.items ≡ []) × (vec_len t.refusals ≡ 0) × (68 * length t.given.items ≤ vec_capacity t.refusals)
+HasRoomForRefusals t = (t.refusals.items ≡ []) × (vec_len t.refusals ≡ 0) × (room_of 0 * length t.given.items ≤ vec_capacity t.refusals)
 
 -- how many lines that are
 abbrev pub count_of_tasks : Tasks → ℕ

@@ -8,7 +8,7 @@ ghost use Rattle.eb_rounds.specs.Works.{first_line, then_line, asked_reading, gi
 use crate::held::{FirstInput, FirstLine, Held, ThenInput, ThenLine};
 use crate::tasks::{Asked, AskedWork, Given, GivenWork, Tasks};
 use eb_base::NoMemory;
-use eb_lines::{read_document_line, read_query_text};
+use eb_lines::{line_room, read_document_line, read_query_text};
 use rayon::prelude::*;
 use std::alloc::{AllocError, Global};
 use std::thread::{Threads, join};
@@ -126,7 +126,7 @@ fn read_round<R: Threads + Sync>(rt: &R, alloc: Global, round: &Held) -> Result<
     ensures { IfOk result (IsReadAs round.now) }
 {
     let (asked, given) = read_lines(rt, alloc, round.first.as_slice(), round.last.as_slice())?;
-    let refusals = Vec::with_capacity(alloc, 68 * given.len())?;
+    let refusals = Vec::with_capacity(alloc, line_room(0) * given.len())?;
     Ok(Tasks {
         asked,
         given,

@@ -1,8 +1,8 @@
 //! Rounds of lines.
 //!
 //! Held lines stand in two lists: query lines first, document lines after, since a query is only taken where no
-//! document line is held. A round takes the room of its whole text before its first add: 68 bytes a line (64 for an
-//! answer), and 21 more for each id that a query may have.
+//! document line is held. A round takes the room of its whole text before its first add: that of a line for each line,
+//! and for each id that a query may have.
 //!
 //! A second thread costs some 26 microseconds, so it is started only where a round has both documents to add and
 //! queries to answer once its lines are read; no size of a round leaves it out, so that a tiny one shows that both go
@@ -29,7 +29,7 @@ use crate::working::{needs_of, work_tasks};
 use eb_base::{Gate, NoMemory};
 use eb_engine::{Converter, Index, Reader, Writer};
 use eb_indexed::Counts;
-use eb_lines::Refusal;
+use eb_lines::{Form, Refusal};
 use std::alloc::Global;
 use std::marker::Model;
 use std::mem;
@@ -286,6 +286,7 @@ impl Rounds {
         reader: &mut Reader,
         converter: &mut Converter,
         gate: &G,
+        form: Form,
     ) -> Result<Vec<u8>, NoMemory>
         requires writer { writer.old.index ≡ index.now }
         requires reader { reader.old.index ≡ index.now }
@@ -294,7 +295,7 @@ impl Rounds {
         ensures reader { reader.new.index ≡ reader.old.index }
         ensures converter { converter.new.index ≡ converter.old.index }
         ensures ok { IfOk result
-            (λ text. WorkedOffBoth index.now.setting self.old.ahead self.old.held writer.old.docs writer.new.docs
+            (λ text. WorkedOffBoth form index.now.setting self.old.ahead self.old.held writer.old.docs writer.new.docs
             self.old.counts self.new.counts text.items) }
         ensures held { OnOk result ((self.new.ahead ≡ []) × (self.new.held ≡ []) × (self.new.greatest ≡ self.old.greatest)) }
         ensures told { OnOk result (IsPrefix writer.new.docs converter.new.docs × IsPrefix writer.new.docs reader.new.docs) }
@@ -303,7 +304,7 @@ impl Rounds {
         ensures err { OnErr result ((self.new ≡ self.old) × (writer.new ≡ writer.old) × (reader.new ≡ reader.old) × (converter.new ≡ converter.old)) }
     {
         let mut text = Vec::new(alloc);
-        self.step_behind(rt, alloc, index, writer, converter, gate, &mut text)?;
+        self.step_behind(rt, alloc, index, writer, converter, gate, form, &mut text)?;
         reader.meet(index, writer.reader(index));
         Ok(text)
     }
@@ -318,6 +319,7 @@ impl Rounds {
         writer: &mut Writer,
         converter: &mut Converter,
         gate: &G,
+        form: Form,
         text: &mut Vec<u8>,
     ) -> Result<(), NoMemory>
         requires writer { writer.old.index ≡ index.now }
@@ -325,7 +327,7 @@ impl Rounds {
         ensures writer { writer.new.index ≡ writer.old.index }
         ensures converter { converter.new.index ≡ converter.old.index }
         ensures ok { OnOk result ((printed : List ℕ)
-            × WorkedOffBoth index.now.setting self.old.ahead self.old.held writer.old.docs writer.new.docs
+            × WorkedOffBoth form index.now.setting self.old.ahead self.old.held writer.old.docs writer.new.docs
             self.old.counts self.new.counts printed
             × (text.new.items ≡ text.old.items ++ printed)) }
         ensures held { OnOk result ((self.new.ahead ≡ []) × (self.new.held ≡ []) × (self.new.greatest ≡ self.old.greatest)) }
@@ -335,8 +337,8 @@ impl Rounds {
         ensures err { OnErr result ((self.new ≡ self.old) × (writer.new ≡ writer.old) × (converter.new ≡ converter.old) × (text.new.items ≡ text.old.items)) }
     {
         let (mut ahead, mut held) = self.prepare(rt, alloc, text)?;
-        let first = work_tasks(rt, index, writer, converter, &mut ahead, gate, text);
-        let then = work_tasks(rt, index, writer, converter, &mut held, gate, text);
+        let first = work_tasks(rt, index, writer, converter, &mut ahead, gate, form, text);
+        let then = work_tasks(rt, index, writer, converter, &mut held, gate, form, text);
         converter.meet(index, writer.reader(index));
         self.close(Counts {
             documents: first.documents + then.documents,

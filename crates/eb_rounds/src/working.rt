@@ -3,6 +3,7 @@ ghost use Rattle.std.specs.List.{AllZip, list_any};
 ghost use mathlib.Core.List.{IsPrefix};
 ghost use Rattle.eb_indexed.specs.Conversions.{AreConverted};
 ghost use Rattle.eb_rounds.specs.Inputs.{HeldLine, ReadsLine};
+ghost use Rattle.eb_lines.specs.Text.{room_of};
 ghost use Rattle.eb_rounds.specs.Shown.{AreAnswered, AreAdded, IsRoundOfLines, WorksOff};
 ghost use Rattle.eb_rounds.specs.Works.{asked_entry, asked_need, is_answer, is_add, given_entry, entries_of, need_of_tasks, count_of_tasks, HasRoomForRefusals};
 
@@ -12,6 +13,7 @@ use crate::tasks::{Asked, AskedWork, Given, GivenWork, Tasks};
 use eb_base::Gate;
 use eb_engine::{Converter, Index, Reader, Writer};
 use eb_indexed::{Counts, convert_all, has_waiting};
+use eb_lines::{Form, line_room};
 use std::thread::{Threads, join_mut};
 
 // The most bytes that a line prints.
@@ -20,8 +22,8 @@ fn need_of(task: &Asked) -> usize
     ensures small { result ≤ 2 ^ 40 }
 {
     match &task.work {
-        AskedWork::Answer(frame) => 64 + 21 * frame.k() as usize,
-        AskedWork::Refuse(_) => 68,
+        AskedWork::Answer(frame) => line_room(frame.k() as usize),
+        AskedWork::Refuse(_) => line_room(0),
     }
 }
 
@@ -45,7 +47,7 @@ pub(crate) fn needs_of(tasks: &Tasks) -> usize
     ensures needs { result ≡ need_of_tasks tasks.now }
     ensures small { result ≤ 2 ^ 57 }
 {
-    needs_of_asked(tasks.asked.as_slice()) + 68 * tasks.given.len()
+    needs_of_asked(tasks.asked.as_slice()) + line_room(0) * tasks.given.len()
 }
 
 // Whether some line is a query that is to be answered.
@@ -81,27 +83,28 @@ fn work_beside<R: Threads + Sync, G: Gate + Sync>(
     asked: &mut [Asked],
     given: &[Given],
     gate: &G,
+    form: Form,
     answers: &mut Vec<u8>,
     refusals: &mut Vec<u8>,
 ) -> ((u64, u64), (u64, u64))
     requires writer { writer.old.index ≡ index.now }
     requires reader { reader.old.index ≡ index.now }
     requires answers { vec_len answers.old + sum_by asked_need asked.old ≤ vec_capacity answers.old }
-    requires refusals { vec_len refusals.old + 68 * length given.now ≤ vec_capacity refusals.old }
+    requires refusals { vec_len refusals.old + room_of 0 * length given.now ≤ vec_capacity refusals.old }
     ensures writer { writer.new.index ≡ writer.old.index }
     ensures reader { reader.new.index ≡ reader.old.index }
     ensures answers { vec_len answers.new ≤ vec_len answers.old + sum_by asked_need asked.old }
     ensures room { vec_capacity answers.old ≤ vec_capacity answers.new }
-    ensures refusals { vec_len refusals.new ≤ vec_len refusals.old + 68 * length given.now }
-    ensures answered { AreAnswered reader.old.docs reader.new.docs (map asked_entry asked.old) answers.old.items answers.new.items result.1.0 result.1.1 }
-    ensures added { AreAdded index.now.setting writer.old.docs writer.new.docs
+    ensures refusals { vec_len refusals.new ≤ vec_len refusals.old + room_of 0 * length given.now }
+    ensures answered { AreAnswered form reader.old.docs reader.new.docs (map asked_entry asked.old) answers.old.items answers.new.items result.1.0 result.1.1 }
+    ensures added { AreAdded form index.now.setting writer.old.docs writer.new.docs
         (map given_entry given.now) refusals.old.items refusals.new.items result.0.0 result.0.1 }
 {
     // The first call goes to the new thread. Adding stays on this one, whose caches know the index.
     let (answered, added) = join_mut(
         rt,
-        &mut || answer_all(index, reader, asked, gate, answers),
-        &mut || add_all(index, writer, given, gate, refusals),
+        &mut || answer_all(index, reader, asked, gate, form, answers),
+        &mut || add_all(index, writer, given, gate, form, refusals),
     );
     (added, answered)
 }
@@ -115,29 +118,30 @@ fn work_either<R: Threads + Sync, G: Gate + Sync>(
     asked: &mut [Asked],
     given: &[Given],
     gate: &G,
+    form: Form,
     answers: &mut Vec<u8>,
     refusals: &mut Vec<u8>,
 ) -> ((u64, u64), (u64, u64))
     requires writer { writer.old.index ≡ index.now }
     requires reader { reader.old.index ≡ index.now }
     requires answers { vec_len answers.old + sum_by asked_need asked.old ≤ vec_capacity answers.old }
-    requires refusals { vec_len refusals.old + 68 * length given.now ≤ vec_capacity refusals.old }
+    requires refusals { vec_len refusals.old + room_of 0 * length given.now ≤ vec_capacity refusals.old }
     ensures writer { writer.new.index ≡ writer.old.index }
     ensures reader { reader.new.index ≡ reader.old.index }
     ensures answers { vec_len answers.new ≤ vec_len answers.old + sum_by asked_need asked.old }
     ensures room { vec_capacity answers.old ≤ vec_capacity answers.new }
-    ensures refusals { vec_len refusals.new ≤ vec_len refusals.old + 68 * length given.now }
-    ensures answered { AreAnswered reader.old.docs reader.new.docs (map asked_entry asked.old) answers.old.items answers.new.items result.1.0 result.1.1 }
-    ensures added { AreAdded index.now.setting writer.old.docs writer.new.docs
+    ensures refusals { vec_len refusals.new ≤ vec_len refusals.old + room_of 0 * length given.now }
+    ensures answered { AreAnswered form reader.old.docs reader.new.docs (map asked_entry asked.old) answers.old.items answers.new.items result.1.0 result.1.1 }
+    ensures added { AreAdded form index.now.setting writer.old.docs writer.new.docs
         (map given_entry given.now) refusals.old.items refusals.new.items result.0.0 result.0.1 }
 {
     if has_answer(asked) && has_add(given) {
         return work_beside(
-            rt, index, writer, reader, asked, given, gate, answers, refusals,
+            rt, index, writer, reader, asked, given, gate, form, answers, refusals,
         );
     }
-    let answered = answer_all(index, reader, asked, gate, answers);
-    let added = add_all(index, writer, given, gate, refusals);
+    let answered = answer_all(index, reader, asked, gate, form, answers);
+    let added = add_all(index, writer, given, gate, form, refusals);
     (added, answered)
 }
 
@@ -149,16 +153,17 @@ fn work_round<R: Threads + Sync, G: Gate + Sync>(
     asked: &mut [Asked],
     given: &[Given],
     gate: &G,
+    form: Form,
     text: &mut Vec<u8>,
     refusals: &mut Vec<u8>,
 ) -> ((u64, u64), (u64, u64))
     requires writer { writer.old.index ≡ index.now }
-    requires text { vec_len text.old + (sum_by asked_need asked.old + 68 * length given.now) ≤ vec_capacity text.old }
-    requires refusals { (refusals.old.items ≡ []) × (vec_len refusals.old ≡ 0) × (68 * length given.now ≤ vec_capacity refusals.old) }
+    requires text { vec_len text.old + (sum_by asked_need asked.old + room_of 0 * length given.now) ≤ vec_capacity text.old }
+    requires refusals { (refusals.old.items ≡ []) × (vec_len refusals.old ≡ 0) × (room_of 0 * length given.now ≤ vec_capacity refusals.old) }
     ensures index { writer.new.index ≡ writer.old.index }
-    ensures len { vec_len text.new ≤ vec_len text.old + (sum_by asked_need asked.old + 68 * length given.now) }
+    ensures len { vec_len text.new ≤ vec_len text.old + (sum_by asked_need asked.old + room_of 0 * length given.now) }
     ensures room { vec_capacity text.old ≤ vec_capacity text.new }
-    ensures round { IsRoundOfLines index.now.setting writer.old.docs writer.new.docs
+    ensures round { IsRoundOfLines form index.now.setting writer.old.docs writer.new.docs
         (map asked_entry asked.old) (map given_entry given.now) text.old.items text.new.items
         result.1.0 result.0.0 result.1.1 result.0.1 }
 {
@@ -171,6 +176,7 @@ fn work_round<R: Threads + Sync, G: Gate + Sync>(
         asked,
         given,
         gate,
+        form,
         text,
         refusals,
     );
@@ -188,20 +194,21 @@ fn convert_beside<R: Threads + Sync, G: Gate + Sync>(
     asked: &mut [Asked],
     given: &[Given],
     gate: &G,
+    form: Form,
     text: &mut Vec<u8>,
     refusals: &mut Vec<u8>,
 ) -> ((u64, u64), (u64, u64))
     requires writer { writer.old.index ≡ index.now }
     requires converter { converter.old.index ≡ index.now }
-    requires text { vec_len text.old + (sum_by asked_need asked.old + 68 * length given.now) ≤ vec_capacity text.old }
-    requires refusals { (refusals.old.items ≡ []) × (vec_len refusals.old ≡ 0) × (68 * length given.now ≤ vec_capacity refusals.old) }
+    requires text { vec_len text.old + (sum_by asked_need asked.old + room_of 0 * length given.now) ≤ vec_capacity text.old }
+    requires refusals { (refusals.old.items ≡ []) × (vec_len refusals.old ≡ 0) × (room_of 0 * length given.now ≤ vec_capacity refusals.old) }
     ensures index { writer.new.index ≡ writer.old.index }
     ensures converter { converter.new.index ≡ converter.old.index }
     ensures grown { converter.old.converted ≤ converter.new.converted }
     ensures converted { AreConverted index.now.setting converter.old.docs converter.new.converted }
-    ensures len { vec_len text.new ≤ vec_len text.old + (sum_by asked_need asked.old + 68 * length given.now) }
+    ensures len { vec_len text.new ≤ vec_len text.old + (sum_by asked_need asked.old + room_of 0 * length given.now) }
     ensures room { vec_capacity text.old ≤ vec_capacity text.new }
-    ensures round { IsRoundOfLines index.now.setting writer.old.docs writer.new.docs
+    ensures round { IsRoundOfLines form index.now.setting writer.old.docs writer.new.docs
         (map asked_entry asked.old) (map given_entry given.now) text.old.items text.new.items
         result.1.0 result.0.0 result.1.1 result.0.1 }
 {
@@ -210,9 +217,9 @@ fn convert_beside<R: Threads + Sync, G: Gate + Sync>(
         &mut || convert_all(index, converter),
         &mut ||
             requires writer { writer.now.index ≡ index.now }
-            requires text { vec_len text.now + (sum_by asked_need asked.now + 68 * length given.now) ≤ vec_capacity text.now }
-            requires refusals { (refusals.now.items ≡ []) × (vec_len refusals.now ≡ 0) × (68 * length given.now ≤ vec_capacity refusals.now) }
-        { work_round(rt, index, writer, asked, given, gate, text, refusals) },
+            requires text { vec_len text.now + (sum_by asked_need asked.now + room_of 0 * length given.now) ≤ vec_capacity text.now }
+            requires refusals { (refusals.now.items ≡ []) × (vec_len refusals.now ≡ 0) × (room_of 0 * length given.now ≤ vec_capacity refusals.now) }
+        { work_round(rt, index, writer, asked, given, gate, form, text, refusals) },
     );
     counts
 }
@@ -227,34 +234,35 @@ fn work_and_convert<R: Threads + Sync, G: Gate + Sync>(
     asked: &mut [Asked],
     given: &[Given],
     gate: &G,
+    form: Form,
     text: &mut Vec<u8>,
     refusals: &mut Vec<u8>,
 ) -> ((u64, u64), (u64, u64))
     requires writer { writer.old.index ≡ index.now }
     requires converter { converter.old.index ≡ index.now }
     requires told { IsPrefix writer.old.docs converter.old.docs }
-    requires text { vec_len text.old + (sum_by asked_need asked.old + 68 * length given.now) ≤ vec_capacity text.old }
-    requires refusals { (refusals.old.items ≡ []) × (vec_len refusals.old ≡ 0) × (68 * length given.now ≤ vec_capacity refusals.old) }
+    requires text { vec_len text.old + (sum_by asked_need asked.old + room_of 0 * length given.now) ≤ vec_capacity text.old }
+    requires refusals { (refusals.old.items ≡ []) × (vec_len refusals.old ≡ 0) × (room_of 0 * length given.now ≤ vec_capacity refusals.old) }
     ensures index { writer.new.index ≡ writer.old.index }
     ensures converter { converter.new.index ≡ converter.old.index }
     ensures grown { converter.old.converted ≤ converter.new.converted }
     ensures converted { AreConverted index.now.setting writer.old.docs converter.new.converted }
-    ensures len { vec_len text.new ≤ vec_len text.old + (sum_by asked_need asked.old + 68 * length given.now) }
+    ensures len { vec_len text.new ≤ vec_len text.old + (sum_by asked_need asked.old + room_of 0 * length given.now) }
     ensures room { vec_capacity text.old ≤ vec_capacity text.new }
-    ensures round { IsRoundOfLines index.now.setting writer.old.docs writer.new.docs
+    ensures round { IsRoundOfLines form index.now.setting writer.old.docs writer.new.docs
         (map asked_entry asked.old) (map given_entry given.now) text.old.items text.new.items
         result.1.0 result.0.0 result.1.1 result.0.1 }
 {
     if !has_waiting(writer, converter) {
-        return work_round(rt, index, writer, asked, given, gate, text, refusals);
+        return work_round(rt, index, writer, asked, given, gate, form, text, refusals);
     }
     if has_answer(asked) || has_add(given) {
         return convert_beside(
-            rt, index, writer, converter, asked, given, gate, text, refusals,
+            rt, index, writer, converter, asked, given, gate, form, text, refusals,
         );
     }
     convert_all(index, converter);
-    work_round(rt, index, writer, asked, given, gate, text, refusals)
+    work_round(rt, index, writer, asked, given, gate, form, text, refusals)
 }
 
 // Tells the converter the history, processes the lines of a round, and converts all segments that are closed before it. Takes
@@ -266,6 +274,7 @@ pub(crate) fn work_tasks<R: Threads + Sync, G: Gate + Sync>(
     converter: &mut Converter,
     tasks: &mut Tasks,
     gate: &G,
+    form: Form,
     text: &mut Vec<u8>,
 ) -> Counts
     requires writer { writer.old.index ≡ index.now }
@@ -280,7 +289,7 @@ pub(crate) fn work_tasks<R: Threads + Sync, G: Gate + Sync>(
     ensures len { vec_len text.new ≤ vec_len text.old + need_of_tasks tasks.old }
     ensures room { vec_capacity text.old ≤ vec_capacity text.new }
     ensures works { (held : List HeldLine) → AllZip ReadsLine held (entries_of tasks.old)
-        → WorksOff index.now.setting held writer.old.docs writer.new.docs text.old.items text.new.items result.documents result.queries result.refused }
+        → WorksOff form index.now.setting held writer.old.docs writer.new.docs text.old.items text.new.items result.documents result.queries result.refused }
     ensures few { result.documents + (result.queries + result.refused) ≤ count_of_tasks tasks.old }
 {
     converter.meet(index, writer.reader(index));
@@ -292,6 +301,7 @@ pub(crate) fn work_tasks<R: Threads + Sync, G: Gate + Sync>(
         tasks.asked.as_mut_slice(),
         tasks.given.as_slice(),
         gate,
+        form,
         text,
         &mut tasks.refusals,
     );

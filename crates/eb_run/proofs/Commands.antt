@@ -3,24 +3,26 @@ use Rattle.std.proofs.Common.{◌≡◌, ℕ, ◌≤◌, List, [], ◌∷◌, Op
 use Rattle.std.specs.Prelude.{◌&&◌, ◌*◌, ◌^◌, Bool, true, false, codes, nat_le, if◌then◌else◌, option_map, option_and_then}
 use Rattle.std.specs.Str.{bytes_eq}
 use Rattle.std.proofs.lemmas.Bool.{and_parts, leb-true}
+use Rattle.eb_lines.specs.declared.form.Form.{Form}
 use Rattle.eb_base.specs.Setting.{Setting, words_of}
 use Rattle.eb_options.specs.Numbers.{number}
 use Rattle.eb_options.specs.Items.{has, items_of, option_number}
 use Rattle.eb_options.specs.Settings.{setting_of, setting_options}
 use Rattle.eb_run.specs.declared.command.Command.{Command}
 use Rattle.eb_run.specs.declared.command.Command.TheVariants.{Run, RunWorkers, RunParts, RunWatches, Bench, Save, Load}
-use Rattle.eb_run.specs.Command.{run_flags, run_options, is_few, with_workers, over_parts, run_by, run_with, run_of, bench_docs, bench_of, save_with, save_of, load_with, load_of, command_of}
+use Rattle.eb_run.specs.Command.{form_of, run_flags, run_options}
+use Rattle.eb_run.specs.Command.{is_few, with_workers, over_parts, run_by, run_with, run_of, bench_docs, bench_of, save_with, save_of, load_flags, load_with, load_of, command_of}
 
 -- what is asked for is in range: a made input of at most 40,000 documents, 1 to 16 workers, 1 to 16 parts
 abbrev IsInRange : Option Command → Type 0
 IsInRange None = Unit {0}
-IsInRange (Some (Run overlap stats σ)) = Unit {0}
-IsInRange (Some (RunWorkers n stats σ)) = (1 ≤ n) × (n ≤ 16)
-IsInRange (Some (RunParts n stats σ)) = (1 ≤ n) × (n ≤ 16)
-IsInRange (Some (RunWatches stats σ)) = Unit {0}
+IsInRange (Some (Run overlap form σ)) = Unit {0}
+IsInRange (Some (RunWorkers n form σ)) = (1 ≤ n) × (n ≤ 16)
+IsInRange (Some (RunParts n form σ)) = (1 ≤ n) × (n ≤ 16)
+IsInRange (Some (RunWatches form σ)) = Unit {0}
 IsInRange (Some (Bench start docs)) = docs ≤ 40000
 IsInRange (Some (Save σ)) = Unit {0}
-IsInRange (Some (Load stats)) = Unit {0}
+IsInRange (Some (Load form)) = Unit {0}
 
 mapped : {A : Type 0} (f : A → Command) → ((x : A) → IsInRange (Some (f x))) → (o : Option A) → IsInRange (option_map f o)
 mapped f h None = tt
@@ -42,35 +44,35 @@ where_in false c h = tt
 few_is : (n : ℕ) → is_few n ≡ true → (1 ≤ n) × (n ≤ 16)
 few_is n e = let p = and_parts (nat_le 1 n) (nat_le n 16) e in (leb-true 1 n p.0, leb-true n 16 p.1)
 
-workers_in : (n : ℕ) (stats : Bool) (σ : Setting) → IsInRange (with_workers n stats σ)
-workers_in n stats σ = where_in (is_few n) (RunWorkers n stats σ) (few_is n)
+workers_in : (n : ℕ) (form : Form) (σ : Setting) → IsInRange (with_workers n form σ)
+workers_in n form σ = where_in (is_few n) (RunWorkers n form σ) (few_is n)
 
-parts_in : (n : ℕ) (stats : Bool) (σ : Setting) → IsInRange (over_parts n stats σ)
-parts_in n stats σ = where_in (is_few n && nat_le (n * words_of σ) (2 ^ 27)) (RunParts n stats σ) (λ e. few_is n (and_parts (is_few n) (nat_le (n * words_of σ) (2 ^ 27)) e).0)
+parts_in : (n : ℕ) (form : Form) (σ : Setting) → IsInRange (over_parts n form σ)
+parts_in n form σ = where_in (is_few n && nat_le (n * words_of σ) (2 ^ 27)) (RunParts n form σ) (λ e. few_is n (and_parts (is_few n) (nat_le (n * words_of σ) (2 ^ 27)) e).0)
 
-by_in : (overlap watch : Bool) (workers parts : Option ℕ) (stats : Bool) (σ : Setting) → IsInRange (run_by overlap watch workers parts stats σ)
-by_in true false None None stats σ = tt
-by_in false false None None stats σ = tt
-by_in false true None None stats σ = tt
-by_in true true None None stats σ = tt
-by_in false false (Some n) None stats σ = workers_in n stats σ
-by_in true false (Some n) None stats σ = tt
-by_in false true (Some n) None stats σ = tt
-by_in true true (Some n) None stats σ = tt
-by_in false false None (Some n) stats σ = parts_in n stats σ
-by_in true false None (Some n) stats σ = tt
-by_in false true None (Some n) stats σ = tt
-by_in true true None (Some n) stats σ = tt
-by_in false false (Some n) (Some p) stats σ = tt
-by_in true false (Some n) (Some p) stats σ = tt
-by_in false true (Some n) (Some p) stats σ = tt
-by_in true true (Some n) (Some p) stats σ = tt
+by_in : (overlap watch : Bool) (workers parts : Option ℕ) (form : Form) (σ : Setting) → IsInRange (run_by overlap watch workers parts form σ)
+by_in true false None None form σ = tt
+by_in false false None None form σ = tt
+by_in false true None None form σ = tt
+by_in true true None None form σ = tt
+by_in false false (Some n) None form σ = workers_in n form σ
+by_in true false (Some n) None form σ = tt
+by_in false true (Some n) None form σ = tt
+by_in true true (Some n) None form σ = tt
+by_in false false None (Some n) form σ = parts_in n form σ
+by_in true false None (Some n) form σ = tt
+by_in false true None (Some n) form σ = tt
+by_in true true None (Some n) form σ = tt
+by_in false false (Some n) (Some p) form σ = tt
+by_in true false (Some n) (Some p) form σ = tt
+by_in false true (Some n) (Some p) form σ = tt
+by_in true true (Some n) (Some p) form σ = tt
 
 run_in : (words : List (List ℕ)) → IsInRange (run_of words)
 run_in words =
     then_in run_with (λ items. then_in
-    (λ σ. run_by (has (codes "overlap") items) (has (codes "watch") items) (option_number (codes "workers") items) (option_number (codes "parts") items) (has (codes "stats") items) σ)
-    (λ σ. by_in (has (codes "overlap") items) (has (codes "watch") items) (option_number (codes "workers") items) (option_number (codes "parts") items) (has (codes "stats") items) σ)
+    (λ σ. run_by (has (codes "overlap") items) (has (codes "watch") items) (option_number (codes "workers") items) (option_number (codes "parts") items) (form_of items) σ)
+    (λ σ. by_in (has (codes "overlap") items) (has (codes "watch") items) (option_number (codes "workers") items) (option_number (codes "parts") items) (form_of items) σ)
     (setting_of items))
     (items_of run_flags run_options words)
 
@@ -78,7 +80,7 @@ save_in : (words : List (List ℕ)) → IsInRange (save_of words)
 save_in words = then_in save_with (λ items. mapped (λ (σ : Setting). Save σ) (λ σ. tt) (setting_of items)) (items_of [] setting_options words)
 
 load_in : (words : List (List ℕ)) → IsInRange (load_of words)
-load_in words = mapped load_with (λ items. tt) (items_of (codes "stats" ∷ []) [] words)
+load_in words = mapped load_with (λ items. tt) (items_of load_flags [] words)
 
 counted_in : (start n : ℕ) (b : Bool) → (b ≡ true → n ≤ 40000) → IsInRange (option_map (λ count. Bench start count) (if b then Some n else None))
 counted_in start n true h = h refl
@@ -112,8 +114,8 @@ pub few_made : (words : List (List ℕ)) (start docs : ℕ) → command_of words
 few_made words start docs e = in_range words (Bench start docs) e
 
 -- workers and parts that are asked for are 1 to 16
-pub few_workers : (words : List (List ℕ)) (n : ℕ) (stats : Bool) (σ : Setting) → command_of words ≡ Some (RunWorkers n stats σ) → (1 ≤ n) × (n ≤ 16)
-few_workers words n stats σ e = in_range words (RunWorkers n stats σ) e
+pub few_workers : (words : List (List ℕ)) (n : ℕ) (form : Form) (σ : Setting) → command_of words ≡ Some (RunWorkers n form σ) → (1 ≤ n) × (n ≤ 16)
+few_workers words n form σ e = in_range words (RunWorkers n form σ) e
 
-pub few_parts : (words : List (List ℕ)) (n : ℕ) (stats : Bool) (σ : Setting) → command_of words ≡ Some (RunParts n stats σ) → (1 ≤ n) × (n ≤ 16)
-few_parts words n stats σ e = in_range words (RunParts n stats σ) e
+pub few_parts : (words : List (List ℕ)) (n : ℕ) (form : Form) (σ : Setting) → command_of words ≡ Some (RunParts n form σ) → (1 ≤ n) × (n ≤ 16)
+few_parts words n form σ e = in_range words (RunParts n form σ) e

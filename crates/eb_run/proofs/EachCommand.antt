@@ -1,5 +1,5 @@
 -- What the clauses by the command say of each of them.
-use Rattle.std.proofs.Common.{◌≡◌, ℕ, ◌<◌, Bool, false, List, ◌++◌, length, Option, Some, ap, ◌∙◌}
+use Rattle.std.proofs.Common.{◌≡◌, ℕ, ◌<◌, Bool, false, List, ◌++◌, length, Option, Some, ap}
 use Rattle.eb_archive.specs.Loaded.{IsImage, WroteLoaded, MeansLoaded}
 use Rattle.eb_archive.specs.Saved.{WroteSaved, MeansSaved}
 use Rattle.eb_base.specs.Document.{Doc}
@@ -8,6 +8,7 @@ use Rattle.eb_image.specs.Image.{image_of}
 use Rattle.eb_image.specs.Reading.{IsBad}
 use Rattle.eb_io.specs.Lines.{longest_input}
 use Rattle.eb_io.specs.Source.{after}
+use Rattle.eb_lines.specs.declared.form.Form.{Form}
 use Rattle.eb_lines.specs.declared.status.Status.{Status}
 use Rattle.eb_lines.specs.declared.status.Status.TheVariants.{BadImage}
 use Rattle.eb_lines.specs.Outcomes.{IsWorkedOff}
@@ -25,41 +26,41 @@ use Rattle.eb_run.specs.Ran.{Ran, Means, Completes, InTime, Prints, Told, reads_
 module _ (words : List (List ℕ)) (result : Status) (l0 l1 p0 p1 : Option (List ℕ)) (read_risen write_risen : Type 0)
     (ran : (c : Command) → command_of words ≡ Some c → Ran c result l0 l1 p0 p1) (means : (c : Command) → command_of words ≡ Some c → Means c result l0 l1)
     (completes : (c : Command) → command_of words ≡ Some c → Completes c read_risen write_risen result l0) where
-  pub run_output : (overlap stats : Bool) (σ : Setting) → AsksRun words overlap stats σ → Prints (output.Wrote σ overlap stats result) l0 l1 p0 p1
-  run_output overlap stats σ is = ran (Run overlap stats σ) is
+  pub run_output : (overlap : Bool) (form : Form) (σ : Setting) → AsksRun words overlap form σ → Prints (output.Wrote σ overlap form result) l0 l1 p0 p1
+  run_output overlap form σ is = ran (Run overlap form σ) is
 
-  pub run_means : (overlap stats : Bool) (σ : Setting) → AsksRun words overlap stats σ → Told (output.Means σ result) l0 l1
-  run_means overlap stats σ is = means (Run overlap stats σ) is
+  pub run_means : (overlap : Bool) (form : Form) (σ : Setting) → AsksRun words overlap form σ → Told (output.Means σ result) l0 l1
+  run_means overlap form σ is = means (Run overlap form σ) is
 
-  pub run_completes : (overlap stats : Bool) (σ : Setting) → AsksRun words overlap stats σ → InTime read_risen write_risen result l0
-  run_completes overlap stats σ is = completes (Run overlap stats σ) is
+  pub run_completes : (overlap : Bool) (form : Form) (σ : Setting) → AsksRun words overlap form σ → InTime read_risen write_risen result l0
+  run_completes overlap form σ is = completes (Run overlap form σ) is
 
-  pub workers_output : (n : ℕ) (stats : Bool) (σ : Setting) → AsksWorkers words n stats σ → Prints (WroteWorkers (asked σ stats) result) l0 l1 p0 p1
-  workers_output n stats σ is = ran (RunWorkers n stats σ) is
+  pub workers_output : (n : ℕ) (form : Form) (σ : Setting) → AsksWorkers words n form σ → Prints (WroteWorkers (asked σ form) result) l0 l1 p0 p1
+  workers_output n form σ is = ran (RunWorkers n form σ) is
 
-  pub workers_mean : (n : ℕ) (stats : Bool) (σ : Setting) → AsksWorkers words n stats σ → Told (MeansWorkers (asked σ stats) result) l0 l1
-  workers_mean n stats σ is = means (RunWorkers n stats σ) is
+  pub workers_mean : (n : ℕ) (form : Form) (σ : Setting) → AsksWorkers words n form σ → Told (MeansWorkers (asked σ form) result) l0 l1
+  workers_mean n form σ is = means (RunWorkers n form σ) is
 
-  pub workers_complete : (n : ℕ) (stats : Bool) (σ : Setting) → AsksWorkers words n stats σ → InTime read_risen write_risen result l0
-  workers_complete n stats σ is = completes (RunWorkers n stats σ) is
+  pub workers_complete : (n : ℕ) (form : Form) (σ : Setting) → AsksWorkers words n form σ → InTime read_risen write_risen result l0
+  workers_complete n form σ is = completes (RunWorkers n form σ) is
 
-  pub parts_output : (n : ℕ) (stats : Bool) (σ : Setting) → AsksParts words n stats σ → Prints (WroteInParts (parts_rules n σ stats) result) l0 l1 p0 p1
-  parts_output n stats σ is = ran (RunParts n stats σ) is
+  pub parts_output : (n : ℕ) (form : Form) (σ : Setting) → AsksParts words n form σ → Prints (WroteInParts (parts_rules n σ form) result) l0 l1 p0 p1
+  parts_output n form σ is = ran (RunParts n form σ) is
 
-  pub parts_mean : (n : ℕ) (stats : Bool) (σ : Setting) → AsksParts words n stats σ → Told (MeansInParts (parts_rules n σ stats) result) l0 l1
-  parts_mean n stats σ is = means (RunParts n stats σ) is
+  pub parts_mean : (n : ℕ) (form : Form) (σ : Setting) → AsksParts words n form σ → Told (MeansInParts (parts_rules n σ form) result) l0 l1
+  parts_mean n form σ is = means (RunParts n form σ) is
 
-  pub parts_complete : (n : ℕ) (stats : Bool) (σ : Setting) → AsksParts words n stats σ → InTime read_risen write_risen result l0
-  parts_complete n stats σ is = completes (RunParts n stats σ) is
+  pub parts_complete : (n : ℕ) (form : Form) (σ : Setting) → AsksParts words n form σ → InTime read_risen write_risen result l0
+  parts_complete n form σ is = completes (RunParts n form σ) is
 
-  pub watches_output : (stats : Bool) (σ : Setting) → AsksWatches words stats σ → Prints (WroteWatches (watch_rules σ stats) result) l0 l1 p0 p1
-  watches_output stats σ is = ran (RunWatches stats σ) is
+  pub watches_output : (form : Form) (σ : Setting) → AsksWatches words form σ → Prints (WroteWatches (watch_rules σ form) result) l0 l1 p0 p1
+  watches_output form σ is = ran (RunWatches form σ) is
 
-  pub watches_mean : (stats : Bool) (σ : Setting) → AsksWatches words stats σ → Told (MeansWatches (watch_rules σ stats) result) l0 l1
-  watches_mean stats σ is = means (RunWatches stats σ) is
+  pub watches_mean : (form : Form) (σ : Setting) → AsksWatches words form σ → Told (MeansWatches (watch_rules σ form) result) l0 l1
+  watches_mean form σ is = means (RunWatches form σ) is
 
-  pub watches_complete : (stats : Bool) (σ : Setting) → AsksWatches words stats σ → InTime read_risen write_risen result l0
-  watches_complete stats σ is = completes (RunWatches stats σ) is
+  pub watches_complete : (form : Form) (σ : Setting) → AsksWatches words form σ → InTime read_risen write_risen result l0
+  watches_complete form σ is = completes (RunWatches form σ) is
 
   -- `bench` reads nothing, and asks nothing of the source
   pub bench_reads : (start count : ℕ) → AsksBench words start count → reads_source (command_of words) ≡ false
@@ -85,18 +86,18 @@ module _ (words : List (List ℕ)) (result : Status) (l0 l1 p0 p1 : Option (List
   saved_completes σ is = completes (Save σ) is
 
   -- of an image and then lines
-  pub loaded_output : (stats : Bool) → AsksLoad words stats → (σ : Setting) (docs : List Doc) (rest before : List ℕ) → IsSetting σ → IsLawful σ docs
+  pub loaded_output : (form : Form) → AsksLoad words form → (σ : Setting) (docs : List Doc) (rest before : List ℕ) → IsSetting σ → IsLawful σ docs
       → l0 ≡ Some (image_of σ docs ++ rest) → p0 ≡ Some before
-      → (printed : List ℕ) × (p1 ≡ Some (before ++ printed)) × WroteLoaded (record { setting = σ; documents = docs; stats = stats }) result rest l1 printed
-  loaded_output stats is = (ran (Load stats) is).lines
+      → (printed : List ℕ) × (p1 ≡ Some (before ++ printed)) × WroteLoaded (record { setting = σ; documents = docs; form = form }) result rest l1 printed
+  loaded_output form is = (ran (Load form) is).lines
 
-  pub loaded_means : (stats : Bool) → AsksLoad words stats → (σ : Setting) (docs : List Doc) (rest : List ℕ) → IsSetting σ → IsLawful σ docs
-      → l0 ≡ Some (image_of σ docs ++ rest) → MeansLoaded (record { setting = σ; documents = docs; stats = stats }) result rest l1
-  loaded_means stats is = (means (Load stats) is).lines
+  pub loaded_means : (form : Form) → AsksLoad words form → (σ : Setting) (docs : List Doc) (rest : List ℕ) → IsSetting σ → IsLawful σ docs
+      → l0 ≡ Some (image_of σ docs ++ rest) → MeansLoaded (record { setting = σ; documents = docs; form = form }) result rest l1
+  loaded_means form is = (means (Load form) is).lines
 
-  pub bad_image : (stats : Bool) → AsksLoad words stats → result ≡ BadImage → (p1 ≡ p0) × ((taken : List ℕ) × (l0 ≡ after taken l1) × IsBad IsImage taken l1)
-  bad_image stats is bad = ((ran (Load stats) is).bad_image bad, (means (Load stats) is).bad_image bad)
+  pub bad_image : (form : Form) → AsksLoad words form → result ≡ BadImage → (p1 ≡ p0) × ((taken : List ℕ) × (l0 ≡ after taken l1) × IsBad IsImage taken l1)
+  bad_image form is bad = ((ran (Load form) is).bad_image bad, (means (Load form) is).bad_image bad)
 
-  pub loaded_completes : (stats : Bool) → AsksLoad words stats → (read_risen → ⊥) → (write_risen → ⊥) → (σ : Setting) (docs : List Doc) (rest : List ℕ) → IsSetting σ → IsLawful σ docs
+  pub loaded_completes : (form : Form) → AsksLoad words form → (read_risen → ⊥) → (write_risen → ⊥) → (σ : Setting) (docs : List Doc) (rest : List ℕ) → IsSetting σ → IsLawful σ docs
       → l0 ≡ Some (image_of σ docs ++ rest) → length rest < longest_input → IsWorkedOff result
-  loaded_completes stats is = completes (Load stats) is
+  loaded_completes form is = completes (Load form) is

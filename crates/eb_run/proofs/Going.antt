@@ -4,26 +4,25 @@ use Rattle.std.proofs.Common.{refl, sym, ap, ap₂, subst, ◌∙◌, arith, app
 use Rattle.std.specs.List.{AllZip}
 use Rattle.std.proofs.lemmas.List.{take-append-le}
 use Rattle.std.proofs.lemmas.List.Sums.{sum_by-append}
-use Rattle.std.proofs.lemmas.Slice.Zip.{AllZip-long}
 use Rattle.eb_base.specs.Document.{Doc}
 use Rattle.eb_base.specs.Setting.{Setting}
 use Rattle.eb_place.specs.Room.{has_room}
 use Rattle.eb_io.specs.Lines.{Line}
+use Rattle.eb_lines.specs.declared.form.Form.{Form}
 use Rattle.eb_lines.specs.Reading.{Reading, blank, document, query, refused, watch}
-use Rattle.eb_lines.specs.Progress.{documents_in, is_query, is_refused, one_if, accepted, queries, refusals, told}
+use Rattle.eb_lines.specs.Progress.{documents_in, is_query, is_refused, one_if, accepted, queries, refusals}
 use Rattle.eb_indexed.specs.Admitted.{admit, admitted_from}
 use Rattle.eb_indexed.specs.Text.{output_of, body_from}
 use Rattle.eb_lines.specs.Text.{answer_line}
-use Rattle.eb_lines.proofs.Advancing.{told_within}
 use Rattle.eb_base.specs.Match.{answer}
 use Rattle.eb_rounds.specs.Inputs.{ReadsLine, admitted_in, added}
 use Rattle.eb_rounds.specs.Shown.{shown_entry, shown_text, Counted, asks, fails, WorkedOff}
 use Rattle.eb_indexed.specs.Sees.{is_document_line, is_query_line, IsAsked, SeesBetween}
 use Rattle.eb_indexed.specs.Rows.{added_count, NoQueryLine, QueriesFirst, joined_numbers, SeesWithin}
 use Rattle.eb_rounds.specs.Standing.{Standing}
-use Rattle.eb_indexed.proofs.Seeing.{accepted-append, sees_on, front_is, back_is, next_within, told_front, told_back, told_none}
+use Rattle.eb_indexed.proofs.Seeing.{accepted-append, sees_on, front_is, back_is, next_within}
 use Rattle.eb_indexed.proofs.LinesRead.{read_long}
-use Rattle.eb_rounds.proofs.Rounded.{long_in, zip_append}
+use Rattle.eb_rounds.proofs.Rounded.{zip_append}
 use Rattle.eb_indexed.proofs.Texts.{body_append}
 use Rattle.eb_indexed.specs.LinesRead.{AreRead}
 use Rattle.eb_lines.specs.Reads.{Reads}
@@ -75,25 +74,26 @@ admitted-append σ docs (r ∷ rs) ss =
     let more = docs ++ documents_in own in
     ap (λ xs. own ∷ xs) (admitted-append σ more rs ss ∙ ap (λ ds. admitted_from σ more rs ++ admitted_from σ ds ss) (append_assoc docs (documents_in own) (accepted (admitted_from σ more rs))))
 
-output_asked : (number n m : ℕ) (docs more : List Doc) (r : Reading) → (is_query r ≡ true → (m ≡ n) × (n ≤ length docs)) → output_of number n docs r ≡ output_of number m (docs ++ more) r
-output_asked number n m docs more blank h = refl
-output_asked number n m docs more (document d) h = refl
-output_asked number n m docs more (query k q) h =
+output_asked : (form : Form) (number n m : ℕ) (docs more : List Doc) (r : Reading) → (is_query r ≡ true → (m ≡ n) × (n ≤ length docs))
+    → output_of form number n docs r ≡ output_of form number m (docs ++ more) r
+output_asked form number n m docs more blank h = refl
+output_asked form number n m docs more (document d) h = refl
+output_asked form number n m docs more (query k q) h =
     let a = h refl in
-    ap (λ ds. answer_line number n (answer q k ds)) (sym (take-append-le n docs more a.1)) ∙ ap (λ x. answer_line number x (answer q k (take x (docs ++ more)))) (sym a.0)
-output_asked number n m docs more (refused x) h = refl
-output_asked number n m docs more (watch w q) h = refl
+    ap (λ ds. answer_line form number n (answer q k ds)) (sym (take-append-le n docs more a.1)) ∙ ap (λ x. answer_line form number x (answer q k (take x (docs ++ more)))) (sym a.0)
+output_asked form number n m docs more (refused x) h = refl
+output_asked form number n m docs more (watch w q) h = refl
 
 -- lines print the same among more documents, where their queries see the same
-body_asked : (n m : ℕ → ℕ) (docs more : List Doc) (j : ℕ) (rs : List Reading) → ((i : ℕ) → IsAsked rs i → (m (j + i) ≡ n (j + i)) × (n (j + i) ≤ length docs))
-    → body_from n docs j rs ≡ body_from m (docs ++ more) j rs
+body_asked : (form : Form) (n m : ℕ → ℕ) (docs more : List Doc) (j : ℕ) (rs : List Reading) → ((i : ℕ) → IsAsked rs i → (m (j + i) ≡ n (j + i)) × (n (j + i) ≤ length docs))
+    → body_from form n docs j rs ≡ body_from form m (docs ++ more) j rs
 unfolding body_from
-body_asked n m docs more j [] h = refl
-body_asked n m docs more j (r ∷ rs) h =
+body_asked form n m docs more j [] h = refl
+body_asked form n m docs more j (r ∷ rs) h =
     let none : j + 0 ≡ j = omega arith in
     ap₂ (λ a b. a ++ b)
-    (output_asked (j + 1) (n j) (m j) docs more r (λ a. subst (λ k. (m k ≡ n k) × (n k ≤ length docs)) none (h 0 a)))
-    (body_asked n m docs more (j + 1) rs (λ i a. let plus : j + suc i ≡ j + 1 + i = omega arith in subst (λ k. (m k ≡ n k) × (n k ≤ length docs)) plus (h (suc i) a)))
+    (output_asked form (j + 1) (n j) (m j) docs more r (λ a. subst (λ k. (m k ≡ n k) × (n k ≤ length docs)) none (h 0 a)))
+    (body_asked form n m docs more (j + 1) rs (λ i a. let plus : j + suc i ≡ j + 1 + i = omega arith in subst (λ k. (m k ≡ n k) × (n k ≤ length docs)) plus (h (suc i) a)))
 
 -- ---- counts
 
@@ -135,8 +135,8 @@ counts_append rs ss c d e f g h =
 
 -- ---- the round
 
-module _ (σ : Setting) (given : List Line) (docs docs_new : List Doc) (held : Standing) (counts_new : Counted) (so_far printed : List ℕ)
-    (a : HasWorkedOff σ given docs held so_far) (w : WorkedOff σ held.held docs docs_new held.counts counts_new printed) where
+module _ (form : Form) (σ : Setting) (given : List Line) (docs docs_new : List Doc) (held : Standing) (counts_new : Counted) (so_far printed : List ℕ)
+    (a : HasWorkedOff form σ given docs held so_far) (w : WorkedOff form σ held.held docs docs_new held.counts counts_new printed) where
   abbrev pub k : ℕ
   k = length a.done
 
@@ -179,7 +179,7 @@ module _ (σ : Setting) (given : List Line) (docs docs_new : List Doc) (held : S
   -- with any numbers that go on so
   pub goes_on : (n : ℕ → ℕ) → SeesBetween (a.readings ++ ss) n → ((j : ℕ) → IsAsked a.readings j → (n j ≡ a.numbers j) × (a.numbers j ≤ added_count a.readings))
       → ((i : ℕ) → IsAsked ss i → n (length a.readings + i) ≡ seen_in ss w.shown i)
-      → HasSettled σ given docs_new counts_new (so_far ++ printed)
+      → HasSettled form σ given docs_new counts_new (so_far ++ printed)
   goes_on n sees front rest = record {
     readings = a.readings ++ ss;
     numbers = n;
@@ -192,11 +192,11 @@ module _ (σ : Setting) (given : List Line) (docs docs_new : List Doc) (held : S
     printed =
         let zero_front : (i : ℕ) → IsAsked a.readings i → (n (0 + i) ≡ a.numbers (0 + i)) × (a.numbers (0 + i) ≤ length (accepted a.readings)) =
         λ i q. let same : i ≡ 0 + i = omega arith in subst (λ j. (n j ≡ a.numbers j) × (a.numbers j ≤ length (accepted a.readings))) same (front i q) in
-        let own = body_asked a.numbers n (accepted a.readings) (accepted ss) 0 a.readings zero_front in
+        let own = body_asked form a.numbers n (accepted a.readings) (accepted ss) 0 a.readings zero_front in
         let last : (i : ℕ) → IsAsked ss i → n (k + i) ≡ seen_in ss w.shown i = λ i q. ap (λ x. n (x + i)) (sym long_is) ∙ rest i q in
-        let more = w.text ∙ ap (λ ds. shown_text ds w.shown) docs_are ∙ round_text n (accepted a.readings ++ accepted ss) k ss w.shown lines_are last in
-        let whole = body_append n (accepted a.readings ++ accepted ss) 0 k a.readings ss (omega (arith, long_is)) in
-        ap₂ (λ x y. x ++ y) (a.printed ∙ own) more ∙ sym whole ∙ ap (λ ds. body_from n ds 0 (a.readings ++ ss)) (sym (accepted-append a.readings ss));
+        let more = w.text ∙ ap (λ ds. shown_text form ds w.shown) docs_are ∙ round_text form n (accepted a.readings ++ accepted ss) k ss w.shown lines_are last in
+        let whole = body_append form n (accepted a.readings ++ accepted ss) 0 k a.readings ss (omega (arith, long_is)) in
+        ap₂ (λ x y. x ++ y) (a.printed ∙ own) more ∙ sym whole ∙ ap (λ ds. body_from form n ds 0 (a.readings ++ ss)) (sym (accepted-append a.readings ss));
   }
 
 asked_low : (rs : List Reading) (j : ℕ) → IsAsked rs j → j < length rs
@@ -205,15 +205,15 @@ asked_low (r ∷ rs) zero e = omega arith
 asked_low (r ∷ rs) (suc j) e = omega (arith, asked_low rs j e)
 
 -- the round is processed
-pub overlapped : (σ : Setting) (given : List Line) (docs docs_new : List Doc) (held : Standing) (counts_new : Counted) (so_far printed : List ℕ)
-    → HasWorkedOff σ given docs held so_far → WorkedOff σ held.held docs docs_new held.counts counts_new printed
-    → HasSettled σ given docs_new counts_new (so_far ++ printed)
-overlapped σ given docs docs_new held counts_new so_far printed a w =
+pub overlapped : (form : Form) (σ : Setting) (given : List Line) (docs docs_new : List Doc) (held : Standing) (counts_new : Counted) (so_far printed : List ℕ)
+    → HasWorkedOff form σ given docs held so_far → WorkedOff form σ held.held docs docs_new held.counts counts_new printed
+    → HasSettled form σ given docs_new counts_new (so_far ++ printed)
+overlapped form σ given docs docs_new held counts_new so_far printed a w =
     let rs = a.readings in
-    let more = ss σ given docs docs_new held counts_new so_far printed a w in
+    let more = ss form σ given docs docs_new held counts_new so_far printed a w in
     let m = seen_in more w.shown in
-    let h = within σ given docs docs_new held counts_new so_far printed a w in
-    let q = first_is σ given docs docs_new held counts_new so_far printed a w in
-    goes_on σ given docs docs_new held counts_new so_far printed a w (joined_numbers (length rs) a.numbers m) (sees_on rs more a.numbers m a.sees h q)
+    let h = within form σ given docs docs_new held counts_new so_far printed a w in
+    let q = first_is form σ given docs docs_new held counts_new so_far printed a w in
+    goes_on form σ given docs docs_new held counts_new so_far printed a w (joined_numbers (length rs) a.numbers m) (sees_on rs more a.numbers m a.sees h q)
     (λ j e. (front_is rs more a.numbers m a.sees h q j (asked_low rs j e), le_trans (a.sees.most j e) (next_within rs j)))
     (λ i e. back_is rs more a.numbers m a.sees h q i)

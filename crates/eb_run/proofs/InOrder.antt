@@ -1,14 +1,15 @@
 -- What lines come to and print by the rules of an index is what they come to and print in order mode.
-use Rattle.std.proofs.Common.{◌≡◌, Option, ℕ, zero, suc, ◌+◌, ◌<◌, List, [], ◌∷◌, ◌++◌, length, take, Some, None, refl, sym, ap, ap₂, subst, ◌∙◌, arith, append_assoc, append-nil, length-append}
+use Rattle.std.proofs.Common.{◌≡◌, Option, ℕ, suc, ◌+◌, ◌<◌, List, [], ◌∷◌, ◌++◌, length, take, Some, None, refl, sym, ap, ap₂, ◌∙◌, arith, append_assoc, length-append}
 use Rattle.std.specs.Prelude.{Bool, true, false, if◌then◌else◌}
 use Rattle.std.proofs.Math.Seq.{take-append_seam}
 use Rattle.eb_answer.specs.Rules as answered
-use Rattle.eb_answer.specs.Rules.{Rules, is_bad, document_outcome, comes, come_behind, watches_after, ReadsKind, ReadsWith, says, body_from, body, IsBody, IsText}
+use Rattle.eb_answer.specs.Rules.{Rules, is_bad, document_outcome, comes, come_behind, ReadsKind, ReadsWith, says, body_from, body, IsBody, IsText}
 use Rattle.eb_base.specs.Document.{Doc}
 use Rattle.eb_base.specs.Match.{answer}
 use Rattle.eb_base.specs.Setting.{Setting}
 use Rattle.eb_indexed.specs.IndexRules.{index_rules}
 use Rattle.eb_io.specs.Lines.{Line, line, long_line}
+use Rattle.eb_lines.specs.declared.form.Form.{Form}
 use Rattle.eb_lines.specs.declared.refusal.Refusal.TheVariants.{Full}
 use Rattle.eb_lines.specs.Progress.{documents_in, accepted, told}
 use Rattle.eb_lines.specs.Reading.{Reading, blank, document, query, refused, watch}
@@ -56,9 +57,9 @@ raw_read [] (r ∷ rs) h = absurd h
 raw_read (l ∷ ls) [] h = absurd h
 raw_read (l ∷ ls) (r ∷ rs) h = (line_read l r h.0, raw_read ls rs h.1)
 
-module _ (σ : Setting) (stats : Bool) (start : List Doc) where
+module _ (σ : Setting) (form : Form) (start : List Doc) where
   abbrev rules : Rules (Unit {0})
-  rules = index_rules σ stats start
+  rules = index_rules σ form start
 
   by_room : (b : Bool) (d : Doc) → document_outcome d (if b then None else Some Full) ≡ (if b then document d else refused Full)
   by_room true d = refl
@@ -80,15 +81,15 @@ module _ (σ : Setting) (stats : Bool) (start : List Doc) where
   pub read_same : (lines : List Line) (rs : List Reading) → answered.AreRead is_bad rules lines rs → AreReadBehind Reads σ start lines rs
   read_same lines rs h = (h.0, raw_read lines h.0 h.1, h.2 ∙ come_same start h.0)
 
-  says_same : (number seen : ℕ) (all docs : List Doc) (r : Reading) → seen ≡ length docs → take seen all ≡ docs → says rules number docs tt r ≡ rounds.output_of number seen all r
+  says_same : (number seen : ℕ) (all docs : List Doc) (r : Reading) → seen ≡ length docs → take seen all ≡ docs → says rules number docs tt r ≡ rounds.output_of form number seen all r
   says_same number seen all docs blank e f = refl
   says_same number seen all docs (document d) e f = refl
-  says_same number seen all docs (query k q) e f = ap₂ (λ n ds. answer_line number n (answer q k ds)) (sym e) (sym f)
+  says_same number seen all docs (query k q) e f = ap₂ (λ n ds. answer_line form number n (answer q k ds)) (sym e) (sym f)
   says_same number seen all docs (refused r) e f = refl
   says_same number seen all docs (watch n q) e f = refl
 
   from_same : (n : ℕ → ℕ) (all docs : List Doc) (j : ℕ) (rs : List Reading) → all ≡ docs ++ accepted rs → ((i m : ℕ) → i < length rs → m ≡ j + i → n m ≡ length docs + told rs i)
-      → body_from rules j docs tt rs ≡ rounds.body_from n all j rs
+      → body_from rules j docs tt rs ≡ rounds.body_from form n all j rs
   unfolding body_from rounds.body_from
   from_same n all docs j [] e h = refl
   from_same n all docs j (r ∷ rs) e h =
@@ -103,31 +104,31 @@ module _ (σ : Setting) (stats : Bool) (start : List Doc) where
 
 -- ---- an index that held nothing at first
 
-module _ (σ : Setting) (stats : Bool) where
+module _ (σ : Setting) (form : Form) where
   abbrev empty : Rules (Unit {0})
-  empty = index_rules σ stats []
+  empty = index_rules σ form []
 
-  pub body_in_order : (rs : List Reading) → body empty rs ≡ rounds.body (told rs) rs
-  body_in_order rs = from_same σ stats [] (told rs) (accepted rs) [] 0 rs refl (λ i m low is. (let same : m ≡ i = omega (arith, is) in ap (told rs) same ∙ omega arith))
+  pub body_in_order : (rs : List Reading) → body empty rs ≡ rounds.body form (told rs) rs
+  body_in_order rs = from_same σ form [] (told rs) (accepted rs) [] 0 rs refl (λ i m low is. (let same : m ≡ i = omega (arith, is) in ap (told rs) same ∙ omega arith))
 
-  pub is_body : (lines : List Line) (printed : List ℕ) → IsBody is_bad empty lines printed → IsBodyOf (asked σ false stats) lines printed
+  pub is_body : (lines : List Line) (printed : List ℕ) → IsBody is_bad empty lines printed → IsBodyOf (asked σ false form) lines printed
   is_body lines printed b = record {
     readings = b.readings;
     numbers = told b.readings;
-    read = read_same σ stats [] lines b.readings b.read;
+    read = read_same σ form [] lines b.readings b.read;
     sees = λ j. refl;
     bytes = b.bytes ∙ body_in_order b.readings;
   }
 
-  pub is_text : (lines : List Line) (printed : List ℕ) → IsText is_bad empty lines printed → IsTextOf (asked σ false stats) lines printed
+  pub is_text : (lines : List Line) (printed : List ℕ) → IsText is_bad empty lines printed → IsTextOf (asked σ false form) lines printed
   is_text lines printed t =
       let rs = t.readings in
       record {
         readings = rs;
         numbers = told rs;
-        read = read_same σ stats [] lines rs t.read;
+        read = read_same σ form [] lines rs t.read;
         sees = λ j. refl;
-        bytes = t.bytes ∙ ap (λ x. x ++ rounds.end_of σ stats rs) (body_in_order rs);
+        bytes = t.bytes ∙ ap (λ x. x ++ rounds.end_of σ form rs) (body_in_order rs);
       }
 
 -- ---- how a run in order ends
@@ -153,9 +154,9 @@ module _ (prints prints' ends_with ends_with' : List Line → List ℕ → Type 
       → passing.Ends prints' ends_with' refuses' accepts' status l0 l1 p0 p1
   ends_as status l0 l1 p0 p1 h = record { taken = h.taken; printed = h.printed; left = h.left; put = h.put; ends = each_as status h.taken l1 h.printed h.ends }
 
-pub ends_in_order : (σ : Setting) (stats : Bool) (status : Status) (l0 l1 p0 p1 : Option (List ℕ))
-    → (let rules = index_rules σ stats [] in passing.Ends (IsBody is_bad rules) (IsText is_bad rules) (answered.HasRefusal is_bad rules) (answered.HasNoRefusal is_bad rules) status l0 l1 p0 p1)
-    → Ends σ false stats status l0 l1 p0 p1
-ends_in_order σ stats status l0 l1 p0 p1 h =
-    ends_as _ (IsBodyOf (asked σ false stats)) _ (IsTextOf (asked σ false stats)) _ (HasRefusal σ) _ (HasNoRefusal σ) (is_body σ stats) (is_text σ stats)
-    (λ ls x. (x.0, read_same σ stats [] ls x.0 x.1, x.2)) (λ ls x. (x.0, read_same σ stats [] ls x.0 x.1, x.2)) status l0 l1 p0 p1 h
+pub ends_in_order : (σ : Setting) (form : Form) (status : Status) (l0 l1 p0 p1 : Option (List ℕ))
+    → (let rules = index_rules σ form [] in passing.Ends (IsBody is_bad rules) (IsText is_bad rules) (answered.HasRefusal is_bad rules) (answered.HasNoRefusal is_bad rules) status l0 l1 p0 p1)
+    → Ends σ false form status l0 l1 p0 p1
+ends_in_order σ form status l0 l1 p0 p1 h =
+    ends_as _ (IsBodyOf (asked σ false form)) _ (IsTextOf (asked σ false form)) _ (HasRefusal σ) _ (HasNoRefusal σ) (is_body σ form) (is_text σ form)
+    (λ ls x. (x.0, read_same σ form [] ls x.0 x.1, x.2)) (λ ls x. (x.0, read_same σ form [] ls x.0 x.1, x.2)) status l0 l1 p0 p1 h

@@ -1,11 +1,12 @@
 -- How a load ends that reads no image.
-use Rattle.std.proofs.Common.{◌≡◌, ℕ, Bool, List, [], ◌++◌, Option, inl, inr, refl, sym, ap, ◌∙◌, subst}
+use Rattle.std.proofs.Common.{◌≡◌, ℕ, List, [], ◌++◌, Option, inl, inr, refl, sym, ap, ◌∙◌, subst}
 use Rattle.eb_archive.specs.Loaded.{EndsLoad, IsImage}
 use Rattle.eb_archive.proofs.Images.{none_head}
 use Rattle.eb_image.specs.Image.{head_of}
 use Rattle.eb_image.specs.Reading.{IsHead, HasNone, IsBad}
 use Rattle.eb_io.specs.Source.{after}
 use Rattle.eb_io.proofs.Bytes.{after-nil}
+use Rattle.eb_lines.specs.declared.form.Form.{Form}
 use Rattle.eb_lines.specs.declared.status.Status.{Status}
 use Rattle.eb_lines.specs.declared.status.Status.TheVariants.{NoMemory, BadImage}
 
@@ -16,14 +17,14 @@ no_bytes whole h f =
     let no : ⊥ = cc e in no
 
 -- no memory before anything is read
-pub load_none : (stats : Bool) (left printed : Option (List ℕ)) → EndsLoad stats NoMemory left left printed printed
-load_none stats left printed = inl (record { taken = []; left = sym (after-nil left); why = none_head [] no_bytes; printed = refl })
+pub load_none : (form : Form) (left printed : Option (List ℕ)) → EndsLoad form NoMemory left left printed printed
+load_none form left printed = inl (record { taken = []; left = sym (after-nil left); why = none_head [] no_bytes; printed = refl })
 
 -- nothing was printed where no image was read
-pub bad_told : (stats : Bool) (status : Status) (l0 l1 p0 p1 : Option (List ℕ)) → EndsLoad stats status l0 l1 p0 p1 → status ≡ BadImage
+pub bad_told : (form : Form) (status : Status) (l0 l1 p0 p1 : Option (List ℕ)) → EndsLoad form status l0 l1 p0 p1 → status ≡ BadImage
     → (p1 ≡ p0) × ((taken : List ℕ) × (l0 ≡ after taken l1) × IsBad IsImage taken l1)
-bad_told stats status l0 l1 p0 p1 e is = go (subst (λ (s : Status). EndsLoad stats s l0 l1 p0 p1) is e)
+bad_told form status l0 l1 p0 p1 e is = go (subst (λ (s : Status). EndsLoad form s l0 l1 p0 p1) is e)
   where
-    go : EndsLoad stats BadImage l0 l1 p0 p1 → (p1 ≡ p0) × ((taken : List ℕ) × (l0 ≡ after taken l1) × IsBad IsImage taken l1)
+    go : EndsLoad form BadImage l0 l1 p0 p1 → (p1 ≡ p0) × ((taken : List ℕ) × (l0 ≡ after taken l1) × IsBad IsImage taken l1)
     go (inl u) = (u.printed, (u.taken, u.left, u.why))
     go (inr r) = absurd r.ends.ends

@@ -2,6 +2,7 @@
 use Rattle.std.proofs.Common.{◌≡◌, ℕ, zero, suc, ◌+◌, ◌≤◌, Bool, true, false, List, [], ◌∷◌, ◌++◌, take, refl, sym, ap, ◌∙◌, arith}
 use Rattle.eb_base.specs.Setting.{Setting}
 use Rattle.eb_io.specs.Lines.{Line}
+use Rattle.eb_lines.specs.declared.form.Form.{Form}
 use Rattle.eb_lines.specs.Reading.{Reading}
 use Rattle.eb_lines.proofs.OneReading.{raw_same, some_read}
 use Rattle.eb_indexed.specs.LinesRead.{AreRead}
@@ -20,15 +21,15 @@ all_read : (σ : Setting) (ls : List Line) (rs ss : List Reading) → AreRead σ
 all_read σ ls rs ss e f = e.2 ∙ ap (admitted σ) (raw_same ls e.0 f.0 e.1 f.1) ∙ sym f.2
 
 -- what is printed, by the numbers in order
-in_order : (n : ℕ → ℕ) (rs : List Reading) → SeesInOrder rs n → body n rs ≡ body (told rs) rs
-in_order n rs order = body_same n (told rs) (accepted rs) (accepted rs) 0 rs (λ i low high. (order i, refl))
+in_order : (form : Form) (n : ℕ → ℕ) (rs : List Reading) → SeesInOrder rs n → body form n rs ≡ body form (told rs) rs
+in_order form n rs order = body_same form n (told rs) (accepted rs) (accepted rs) 0 rs (λ i low high. (order i, refl))
 
-pub one_text_of : (σ : Setting) (stats : Bool) (lines : List Line) (a b : List ℕ) → IsTextOf (asked σ false stats) lines a → IsTextOf (asked σ false stats) lines b → a ≡ b
-one_text_of σ stats lines a b p q =
+pub one_text_of : (σ : Setting) (form : Form) (lines : List Line) (a b : List ℕ) → IsTextOf (asked σ false form) lines a → IsTextOf (asked σ false form) lines b → a ≡ b
+one_text_of σ form lines a b p q =
     let same = all_read σ lines p.readings q.readings p.read q.read in
-    let of_p = p.bytes ∙ ap (λ t. t ++ end_of σ stats p.readings) (in_order p.numbers p.readings p.sees) in
-    let of_q = q.bytes ∙ ap (λ t. t ++ end_of σ stats q.readings) (in_order q.numbers q.readings q.sees) in
-    of_p ∙ ap (λ rs. body (told rs) rs ++ end_of σ stats rs) same ∙ sym of_q
+    let of_p = p.bytes ∙ ap (λ t. t ++ end_of σ form p.readings) (in_order form p.numbers p.readings p.sees) in
+    let of_q = q.bytes ∙ ap (λ t. t ++ end_of σ form q.readings) (in_order form q.numbers q.readings q.sees) in
+    of_p ∙ ap (λ rs. body form (told rs) rs ++ end_of σ form rs) same ∙ sym of_q
 
 -- ---- what lines print in order
 
@@ -56,15 +57,15 @@ between rs n order = record {
   rises = λ i j le e f. omega (arith, told_next rs i j le, order i, order j);
 }
 
-pub order_text_of : (σ : Setting) (stats : Bool) (lines : List Line) (printed : List ℕ) → IsTextOf (asked σ false stats) lines printed → IsTextOf (asked σ true stats) lines printed
-order_text_of σ stats lines printed t = record { readings = t.readings; numbers = t.numbers; read = t.read; sees = between t.readings t.numbers t.sees; bytes = t.bytes }
+pub order_text_of : (σ : Setting) (form : Form) (lines : List Line) (printed : List ℕ) → IsTextOf (asked σ false form) lines printed → IsTextOf (asked σ true form) lines printed
+order_text_of σ form lines printed t = record { readings = t.readings; numbers = t.numbers; read = t.read; sees = between t.readings t.numbers t.sees; bytes = t.bytes }
 
 pub sees_told : (overlap : Bool) (rs : List Reading) → Sees overlap rs (told rs)
 sees_told false rs = λ j. refl
 sees_told true rs = between rs (told rs) (λ j. refl)
 
-pub some_text_of : (σ : Setting) (overlap stats : Bool) (lines : List Line) → (printed : List ℕ) × IsTextOf (asked σ overlap stats) lines printed
-some_text_of σ overlap stats lines =
+pub some_text_of : (σ : Setting) (overlap : Bool) (form : Form) (lines : List Line) → (printed : List ℕ) × IsTextOf (asked σ overlap form) lines printed
+some_text_of σ overlap form lines =
     let raw = some_read lines in
     let rs = admitted σ raw.0 in
-    (body (told rs) rs ++ end_of σ stats rs, record { readings = rs; numbers = told rs; read = (raw.0, raw.1, refl); sees = sees_told overlap rs; bytes = refl })
+    (body form (told rs) rs ++ end_of σ form rs, record { readings = rs; numbers = told rs; read = (raw.0, raw.1, refl); sees = sees_told overlap rs; bytes = refl })

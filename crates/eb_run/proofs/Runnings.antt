@@ -18,6 +18,7 @@ use Rattle.eb_rounds.specs.Takes.{takes_kind}
 use Rattle.eb_run.specs.declared.running.Running.{Running}
 use Rattle.eb_run.specs.Holding.{held_as, before_held}
 use Rattle.eb_run.specs.Waiting.{HasGathered, AreRound}
+use Rattle.eb_lines.specs.declared.form.Form.{Form}
 use Rattle.eb_lines.specs.Programs.{WorksOn, WorksOnGiven}
 use Rattle.eb_run.specs.Output.{Asked}
 use Rattle.eb_run.specs.Running.{HasRun, HoldsNone}
@@ -27,7 +28,7 @@ use Rattle.eb_run.proofs.Waits.{both_off, gathered_none, round_opened, one_more,
 -- the run with these in place of its own
 abbrev pub with_parts : Running → HistoryToken → ConverterToken → Standing → ℕ → Running
 with_parts r writer converter rounds number =
-    record { stats = r.stats; index = r.index; writer = writer; converter = converter; rounds = rounds; number = number }
+    record { form = r.form; index = r.index; writer = writer; converter = converter; rounds = rounds; number = number }
 
 pub takes_none : (k : Kind) → takes_kind [] k ≡ true
 unfolding documents_held queries_held refused_held
@@ -64,18 +65,19 @@ pub goes_beside : (T : Type 0) (old new : Running) (t0 t1 : List ℕ) (l : Line)
 goes_beside T old new t0 t1 l goes a given so_far h = let w = goes a given so_far h.1 in (w.0, (h.0, w.1), w.2)
 
 module _ (old new : Running) (a : Asked) (given : List Line) (so_far : List ℕ)
-    (h : HasRun old a given so_far) (stats : new.stats ≡ old.stats) (index : new.index ≡ old.index)
+    (h : HasRun old a given so_far) (form : new.form ≡ old.form) (index : new.index ≡ old.index)
     (writer : new.writer.index ≡ old.writer.index) (converter : new.converter.index ≡ old.converter.index) where
   setting_is : old.index.setting ≡ a.setting
   setting_is = ap (λ (x : Words). x.setting) h.index ∙ h.setting
 
   -- the held lines are processed
   pub run_off : (printed : List ℕ) → new.number ≡ old.number
-      → WorkedOffBoth old.index.setting old.rounds.ahead old.rounds.held old.writer.docs new.writer.docs old.rounds.counts new.rounds.counts printed
+      → WorkedOffBoth old.form old.index.setting old.rounds.ahead old.rounds.held old.writer.docs new.writer.docs old.rounds.counts new.rounds.counts printed
       → HoldsNone new → new.rounds.greatest ≡ old.rounds.greatest → HasRun new a given (so_far ++ printed)
   run_off printed number w none greatest =
-      let worked = subst (λ (s : Setting). WorkedOffBoth s old.rounds.ahead old.rounds.held old.writer.docs new.writer.docs old.rounds.counts new.rounds.counts printed) setting_is w in
-      let s = both_off a.setting given old.writer.docs new.writer.docs old.rounds new.rounds.counts so_far printed h.worked worked in
+      let worked = subst (λ (f : Form). WorkedOffBoth f a.setting old.rounds.ahead old.rounds.held old.writer.docs new.writer.docs old.rounds.counts new.rounds.counts printed) h.form
+      (subst (λ (s : Setting). WorkedOffBoth old.form s old.rounds.ahead old.rounds.held old.writer.docs new.writer.docs old.rounds.counts new.rounds.counts printed) setting_is w) in
+      let s = both_off a.form a.setting given old.writer.docs new.writer.docs old.rounds new.rounds.counts so_far printed h.worked worked in
       record {
         words = h.words;
         index = index ∙ h.index;
@@ -83,9 +85,9 @@ module _ (old new : Running) (a : Asked) (given : List Line) (so_far : List ℕ)
         writer = writer ∙ h.writer;
         converter = converter ∙ h.converter;
         mode = h.mode;
-        stats = stats ∙ h.stats;
+        form = form ∙ h.form;
         number = number ∙ h.number;
-        worked = gathered_none a.setting given new.writer.docs new.rounds (so_far ++ printed) s none.0 none.1 (omega (arith, greatest, h.worked.greatest));
+        worked = gathered_none a.form a.setting given new.writer.docs new.rounds (so_far ++ printed) s none.0 none.1 (omega (arith, greatest, h.worked.greatest));
       }
 
   -- nothing is done
@@ -97,9 +99,9 @@ module _ (old new : Running) (a : Asked) (given : List Line) (so_far : List ℕ)
     writer = writer ∙ h.writer;
     converter = converter ∙ h.converter;
     mode = h.mode;
-    stats = stats ∙ h.stats;
+    form = form ∙ h.form;
     number = number ∙ h.number;
-    worked = subst (λ s. HasGathered a.setting given new.writer.docs s so_far) (sym rounds) (subst (λ ds. HasGathered a.setting given ds old.rounds so_far) (sym docs) h.worked);
+    worked = subst (λ s. HasGathered a.form a.setting given new.writer.docs s so_far) (sym rounds) (subst (λ ds. HasGathered a.form a.setting given ds old.rounds so_far) (sym docs) h.worked);
   }
 
   -- a round is opened
@@ -111,10 +113,10 @@ module _ (old new : Running) (a : Asked) (given : List Line) (so_far : List ℕ)
     writer = writer ∙ h.writer;
     converter = converter ∙ h.converter;
     mode = h.mode;
-    stats = stats ∙ h.stats;
+    form = form ∙ h.form;
     number = number ∙ h.number;
-    worked = subst (λ s. HasGathered a.setting given new.writer.docs s so_far) (sym rounds)
-        (round_opened a.setting given new.writer.docs old.rounds so_far (subst (λ ds. HasGathered a.setting given ds old.rounds so_far) (sym docs) h.worked) ahead);
+    worked = subst (λ s. HasGathered a.form a.setting given new.writer.docs s so_far) (sym rounds)
+        (round_opened a.form a.setting given new.writer.docs old.rounds so_far (subst (λ ds. HasGathered a.form a.setting given ds old.rounds so_far) (sym docs) h.worked) ahead);
   }
 
   module _ (l : Line) (number : new.number ≡ old.number + 1) where
@@ -145,10 +147,10 @@ module _ (old new : Running) (a : Asked) (given : List Line) (so_far : List ℕ)
       writer = writer ∙ h.writer;
       converter = converter ∙ h.converter;
       mode = h.mode;
-      stats = stats ∙ h.stats;
+      form = form ∙ h.form;
       number = number_is;
-      worked = subst (λ ds. HasGathered a.setting (given ++ l ∷ []) ds new.rounds so_far) (sym docs)
-          (one_more a.setting given l old.writer.docs old.rounds new.rounds so_far h.worked round ahead lines counts greatest);
+      worked = subst (λ ds. HasGathered a.form a.setting (given ++ l ∷ []) ds new.rounds so_far) (sym docs)
+          (one_more a.form a.setting given l old.writer.docs old.rounds new.rounds so_far h.worked round ahead lines counts greatest);
     }
 
     input_round : (input : Input) → takes_kind old.rounds.held (input_kind input) ≡ true → held_as l ≡ Some (input_of input) → AreRound (h.worked.behind ++ l ∷ [])
@@ -177,19 +179,19 @@ module _ (old new : Running) (a : Asked) (given : List Line) (so_far : List ℕ)
 
 -- ---- the held lines, processed or not
 
-module _ (old new : Running) (t0 t1 : List ℕ) (stats : new.stats ≡ old.stats) (index : new.index ≡ old.index) (writer : new.writer.index ≡ old.writer.index)
+module _ (old new : Running) (t0 t1 : List ℕ) (form : new.form ≡ old.form) (index : new.index ≡ old.index) (writer : new.writer.index ≡ old.writer.index)
     (converter : new.converter.index ≡ old.converter.index) (number : new.number ≡ old.number) where
   pub unchanged_on : new.rounds ≡ old.rounds → new.writer.docs ≡ old.writer.docs → t1 ≡ t0 → WorksOn HasRun old new t0 t1
   unchanged_on rounds docs text = λ a given so_far h.
-      ([], subst (HasRun new a given) (sym (append-nil so_far)) (run_same old new a given so_far h stats index writer converter number docs rounds), text ∙ sym (append-nil t0))
+      ([], subst (HasRun new a given) (sym (append-nil so_far)) (run_same old new a given so_far h form index writer converter number docs rounds), text ∙ sym (append-nil t0))
 
   pub opened_on : new.rounds ≡ with_round old.rounds → old.rounds.ahead ≡ [] → new.writer.docs ≡ old.writer.docs → t1 ≡ t0 → WorksOn HasRun old new t0 t1
   opened_on rounds ahead docs text = λ a given so_far h.
-      ([], subst (HasRun new a given) (sym (append-nil so_far)) (run_opened old new a given so_far h stats index writer converter number docs ahead rounds), text ∙ sym (append-nil t0))
+      ([], subst (HasRun new a given) (sym (append-nil so_far)) (run_opened old new a given so_far h form index writer converter number docs ahead rounds), text ∙ sym (append-nil t0))
 
   pub held_on : {T E : Type 0} (r : Result T E)
-      → OnOk r ((printed : List ℕ) × WorkedOffBoth old.index.setting old.rounds.ahead old.rounds.held old.writer.docs new.writer.docs old.rounds.counts new.rounds.counts printed
+      → OnOk r ((printed : List ℕ) × WorkedOffBoth old.form old.index.setting old.rounds.ahead old.rounds.held old.writer.docs new.writer.docs old.rounds.counts new.rounds.counts printed
       × (t1 ≡ t0 ++ printed))
       → OnOk r ((new.rounds.ahead ≡ []) × (new.rounds.held ≡ []) × (new.rounds.greatest ≡ old.rounds.greatest)) → OnErr r (WorksOn HasRun old new t0 t1) → WorksOn HasRun old new t0 t1
-  held_on (Ok x) done held err = λ a given so_far h. (done.0, run_off old new a given so_far h stats index writer converter done.0 number done.1 (held.0, held.1) held.2, done.2)
+  held_on (Ok x) done held err = λ a given so_far h. (done.0, run_off old new a given so_far h form index writer converter done.0 number done.1 (held.0, held.1) held.2, done.2)
   held_on (Err e) done held err = err

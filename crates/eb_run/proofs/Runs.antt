@@ -3,6 +3,7 @@ use Rattle.std.proofs.Common.{◌≡◌, ℕ, true, List, [], ◌++◌, length, 
 use Rattle.eb_base.specs.Document.{Doc}
 use Rattle.eb_base.specs.Setting.{Setting}
 use Rattle.eb_io.specs.Lines.{Line}
+use Rattle.eb_lines.specs.declared.form.Form.{Form}
 use Rattle.eb_lines.specs.Programs.{Finishes}
 use Rattle.eb_lines.specs.Progress.{accepted, queries, refusals, told}
 use Rattle.eb_lines.specs.Reads.{Reads}
@@ -26,16 +27,17 @@ use Rattle.eb_run.proofs.Waits.{gathered_none, all_settled}
 
 -- ---- before the first line
 
-settled_none : (σ : Setting) → HasSettled σ [] [] no_counts []
+settled_none : (form : Form) (σ : Setting) → HasSettled form σ [] [] no_counts []
 unfolding accepted queries refusals body_from
-settled_none σ = record { readings = []; numbers = told []; read = read_none Reads σ []; sees = sees_told true []; adds = refl; counted = refl; printed = refl }
+settled_none form σ = record { readings = []; numbers = told []; read = read_none Reads σ []; sees = sees_told true []; adds = refl; counted = refl; printed = refl }
 
-pub worked_none : (σ : Setting) (held : Standing) → held ≡ record { ahead = []; held = []; counts = no_counts; greatest = 0 } → HasGathered σ [] [] held []
-worked_none σ held e =
-    let s = subst (λ c. HasSettled σ [] [] c []) (sym (ap (λ (h : Standing). h.counts) e)) (settled_none σ) in
-    gathered_none σ [] [] held [] s (ap (λ (h : Standing). h.ahead) e) (ap (λ (h : Standing). h.held) e) (omega (arith, ap (λ (h : Standing). h.greatest) e))
+pub worked_none : (form : Form) (σ : Setting) (held : Standing) → held ≡ record { ahead = []; held = []; counts = no_counts; greatest = 0 } → HasGathered form σ [] [] held []
+worked_none form σ held e =
+    let s = subst (λ c. HasSettled form σ [] [] c []) (sym (ap (λ (h : Standing). h.counts) e)) (settled_none form σ) in
+    gathered_none form σ [] [] held [] s (ap (λ (h : Standing). h.ahead) e) (ap (λ (h : Standing). h.held) e) (omega (arith, ap (λ (h : Standing). h.greatest) e))
 
-abbrev body_of : (a : Asked) (given : List Line) (so_far : List ℕ) (docs : List Doc) (counts : Counted) → a.overlap ≡ true → HasSettled a.setting given docs counts so_far → IsBodyOf a given so_far
+abbrev body_of : (a : Asked) (given : List Line) (so_far : List ℕ) (docs : List Doc) (counts : Counted) → a.overlap ≡ true → HasSettled a.form a.setting given docs counts so_far
+    → IsBodyOf a given so_far
 body_of a given so_far docs counts mode s =
     record { readings = s.readings; numbers = s.numbers; read = s.read; sees = subst (λ b. Sees b s.readings s.numbers) (sym mode) s.sees; bytes = s.printed }
 
@@ -45,8 +47,8 @@ body_none a = record { readings = []; numbers = told []; read = read_none Reads 
 
 -- ---- where no line is held
 
-abbrev last : (r : Running) (a : Asked) (given : List Line) (so_far : List ℕ) → HasRun r a given so_far → HoldsNone r → HasSettled a.setting given r.writer.docs r.rounds.counts so_far
-last r a given so_far h none = all_settled a.setting given r.writer.docs r.rounds so_far h.worked none.0 none.1
+abbrev last : (r : Running) (a : Asked) (given : List Line) (so_far : List ℕ) → HasRun r a given so_far → HoldsNone r → HasSettled a.form a.setting given r.writer.docs r.rounds.counts so_far
+last r a given so_far h none = all_settled a.form a.setting given r.writer.docs r.rounds so_far h.worked none.0 none.1
 
 -- all lines given are processed, and the run printed what they print
 pub run_body : (r : Running) (a : Asked) (given : List Line) (so_far : List ℕ) → HasRun r a given so_far → HoldsNone r → IsBodyOf a given so_far
@@ -55,7 +57,7 @@ run_body r a given so_far h none = body_of a given so_far r.writer.docs r.rounds
 -- a program that has such a run in it put the end after the text
 pub run_finishes : {P : Type 0} (has_run : P → Asked → List Line → List ℕ → Type 0) (p : P) (r : Running) (t0 t1 : List ℕ)
     (documents answers refused begun converted : ℕ) (a : Asked) (given : List Line) (so_far : List ℕ)
-    → t1 ≡ t0 ++ summary_with documents answers refused (segments_tail r.stats begun converted)
+    → t1 ≡ t0 ++ summary_with r.form documents answers refused (segments_tail r.form begun converted)
     → (documents ≡ r.rounds.counts.documents) × (answers ≡ r.rounds.counts.queries) × (refused ≡ r.rounds.counts.refused)
     → begun ≡ length (cut r.index.setting r.writer.docs) → converted ≡ most_converted (length (cut r.index.setting r.writer.docs))
     → HoldsNone r → HasRun r a given so_far
@@ -71,9 +73,9 @@ run_finishes has_run p r t0 t1 documents answers refused begun converted a given
     let begun_is = segments ∙ cuts in
     let converted_is = packed ∙ ap most_converted cuts in
     record {
-      printed = end_of a.setting a.stats rs;
+      printed = end_of a.setting a.form rs;
       whole = body_text a given so_far (body_of a given so_far r.writer.docs r.rounds.counts h.mode s);
-      text = put ∙ (λ i. t0 ++ summary_with (added i) (answered i) (failed i) (segments_tail (h.stats i) (begun_is i) (converted_is i)));
+      text = put ∙ (λ i. t0 ++ summary_with (h.form i) (added i) (answered i) (failed i) (segments_tail (h.form i) (begun_is i) (converted_is i)));
       some = λ n e. (rs, s.read, omega (arith, e, failed));
       none = λ e. (rs, s.read, sym failed ∙ e);
     }

@@ -11,6 +11,7 @@ use Rattle.eb_doc.specs.DocumentLine.{document_of}
 use Rattle.eb_doc.specs.declared.LineFault.{LineFault}
 use Rattle.eb_doc.specs.declared.LineFault.TheVariants as fault
 use Rattle.eb_query.specs.Reading.{Outcome, asks, bad_number, bad_query, too_deep, too_many_nodes}
+use Rattle.eb_lines.specs.declared.form.Form.{Form}
 use Rattle.eb_lines.specs.Reading.{Reading, blank, document, query, refused, watch}
 use Rattle.eb_lines.specs.Progress.{documents_in, is_query, accepted}
 use Rattle.eb_indexed.specs.Admitted.{admit, admitted_from}
@@ -139,16 +140,16 @@ seen_in (refused x ∷ rs) ss (suc i) = seen_in rs (tail ss) i
 seen_in (watch w x ∷ rs) ss zero = head_seen ss
 seen_in (watch w x ∷ rs) ss (suc i) = seen_in rs (tail ss) i
 
-seen_same : (number n m : ℕ) (docs : List Doc) (r : Reading) → (is_query r ≡ true → m ≡ n) → output_of number n docs r ≡ output_of number m docs r
-seen_same number n m docs blank h = refl
-seen_same number n m docs (document d) h = refl
-seen_same number n m docs (query k q) h = ap (λ x. output_of number x docs (query k q)) (sym (h refl))
-seen_same number n m docs (refused x) h = refl
-seen_same number n m docs (watch w x) h = refl
+seen_same : (form : Form) (number n m : ℕ) (docs : List Doc) (r : Reading) → (is_query r ≡ true → m ≡ n) → output_of form number n docs r ≡ output_of form number m docs r
+seen_same form number n m docs blank h = refl
+seen_same form number n m docs (document d) h = refl
+seen_same form number n m docs (query k q) h = ap (λ x. output_of form number x docs (query k q)) (sym (h refl))
+seen_same form number n m docs (refused x) h = refl
+seen_same form number n m docs (watch w x) h = refl
 
-one_text : (s : Shown) (number : ℕ) (r : Reading) (m : ℕ) (docs : List Doc) → s.line ≡ record { number = number; reading = r }
-    → (is_query r ≡ true → m ≡ s.seen) → output_in docs s ≡ output_of number m docs r
-one_text s number r m docs e h = ap (λ (x : Entry). output_of x.number s.seen docs x.reading) e ∙ seen_same number s.seen m docs r h
+one_text : (form : Form) (s : Shown) (number : ℕ) (r : Reading) (m : ℕ) (docs : List Doc) → s.line ≡ record { number = number; reading = r }
+    → (is_query r ≡ true → m ≡ s.seen) → output_in form docs s ≡ output_of form number m docs r
+one_text form s number r m docs e h = ap (λ (x : Entry). output_of form x.number s.seen docs x.reading) e ∙ seen_same form number s.seen m docs r h
 
 further : (rs : List Reading) (ss : List Shown) (r : Reading) (k : ℕ) (n f : ℕ → ℕ) → ((i : ℕ) → IsAsked (r ∷ rs) i → n (k + i) ≡ f i) → (i : ℕ) → IsAsked rs i → n (k + 1 + i) ≡ f (suc i)
 further rs ss r k n f h i a = let plus : k + 1 + i ≡ k + suc i = omega arith in ap n plus ∙ h (suc i) a
@@ -157,36 +158,36 @@ here : (rs : List Reading) (r : Reading) (k : ℕ) (n f : ℕ → ℕ) → ((i :
 here rs r k n f h a = let plus : k ≡ k + 0 = omega arith in ap n plus ∙ h 0 a
 
 -- what a round prints is what its lines print, where each query sees what it is shown to see
-pub round_text : (n : ℕ → ℕ) (docs : List Doc) (k : ℕ) (rs : List Reading) (ss : List Shown) → map shown_entry ss ≡ entries_from k rs
-    → ((i : ℕ) → IsAsked rs i → n (k + i) ≡ seen_in rs ss i) → shown_text docs ss ≡ body_from n docs k rs
+pub round_text : (form : Form) (n : ℕ → ℕ) (docs : List Doc) (k : ℕ) (rs : List Reading) (ss : List Shown) → map shown_entry ss ≡ entries_from k rs
+    → ((i : ℕ) → IsAsked rs i → n (k + i) ≡ seen_in rs ss i) → shown_text form docs ss ≡ body_from form n docs k rs
 unfolding shown_text body_from
-round_text n docs k [] [] e h = refl
-round_text n docs k [] (s ∷ ss) e h = absurd (cc e)
-round_text n docs k (blank ∷ rs) ss e h = round_text n docs (k + 1) rs ss e (further rs ss blank k n (seen_in (blank ∷ rs) ss) h)
-round_text n docs k (document d ∷ rs) [] e h = absurd (cc e)
-round_text n docs k (document d ∷ rs) (s ∷ ss) e h =
+round_text form n docs k [] [] e h = refl
+round_text form n docs k [] (s ∷ ss) e h = absurd (cc e)
+round_text form n docs k (blank ∷ rs) ss e h = round_text form n docs (k + 1) rs ss e (further rs ss blank k n (seen_in (blank ∷ rs) ss) h)
+round_text form n docs k (document d ∷ rs) [] e h = absurd (cc e)
+round_text form n docs k (document d ∷ rs) (s ∷ ss) e h =
     let first : s.line ≡ record { number = k + 1; reading = document d } = cc e in
     let rest : map shown_entry ss ≡ entries_from (k + 1) rs = cc e in
-    ap₂ (λ a b. a ++ b) (one_text s (k + 1) (document d) (n k) docs first (here rs (document d) k n (seen_in (document d ∷ rs) (s ∷ ss)) h))
-    (round_text n docs (k + 1) rs ss rest (further rs ss (document d) k n (seen_in (document d ∷ rs) (s ∷ ss)) h))
-round_text n docs k (query j q ∷ rs) [] e h = absurd (cc e)
-round_text n docs k (query j q ∷ rs) (s ∷ ss) e h =
+    ap₂ (λ a b. a ++ b) (one_text form s (k + 1) (document d) (n k) docs first (here rs (document d) k n (seen_in (document d ∷ rs) (s ∷ ss)) h))
+    (round_text form n docs (k + 1) rs ss rest (further rs ss (document d) k n (seen_in (document d ∷ rs) (s ∷ ss)) h))
+round_text form n docs k (query j q ∷ rs) [] e h = absurd (cc e)
+round_text form n docs k (query j q ∷ rs) (s ∷ ss) e h =
     let first : s.line ≡ record { number = k + 1; reading = query j q } = cc e in
     let rest : map shown_entry ss ≡ entries_from (k + 1) rs = cc e in
-    ap₂ (λ a b. a ++ b) (one_text s (k + 1) (query j q) (n k) docs first (here rs (query j q) k n (seen_in (query j q ∷ rs) (s ∷ ss)) h))
-    (round_text n docs (k + 1) rs ss rest (further rs ss (query j q) k n (seen_in (query j q ∷ rs) (s ∷ ss)) h))
-round_text n docs k (refused x ∷ rs) [] e h = absurd (cc e)
-round_text n docs k (refused x ∷ rs) (s ∷ ss) e h =
+    ap₂ (λ a b. a ++ b) (one_text form s (k + 1) (query j q) (n k) docs first (here rs (query j q) k n (seen_in (query j q ∷ rs) (s ∷ ss)) h))
+    (round_text form n docs (k + 1) rs ss rest (further rs ss (query j q) k n (seen_in (query j q ∷ rs) (s ∷ ss)) h))
+round_text form n docs k (refused x ∷ rs) [] e h = absurd (cc e)
+round_text form n docs k (refused x ∷ rs) (s ∷ ss) e h =
     let first : s.line ≡ record { number = k + 1; reading = refused x } = cc e in
     let rest : map shown_entry ss ≡ entries_from (k + 1) rs = cc e in
-    ap₂ (λ a b. a ++ b) (one_text s (k + 1) (refused x) (n k) docs first (here rs (refused x) k n (seen_in (refused x ∷ rs) (s ∷ ss)) h))
-    (round_text n docs (k + 1) rs ss rest (further rs ss (refused x) k n (seen_in (refused x ∷ rs) (s ∷ ss)) h))
-round_text n docs k (watch w x ∷ rs) [] e h = absurd (cc e)
-round_text n docs k (watch w x ∷ rs) (s ∷ ss) e h =
+    ap₂ (λ a b. a ++ b) (one_text form s (k + 1) (refused x) (n k) docs first (here rs (refused x) k n (seen_in (refused x ∷ rs) (s ∷ ss)) h))
+    (round_text form n docs (k + 1) rs ss rest (further rs ss (refused x) k n (seen_in (refused x ∷ rs) (s ∷ ss)) h))
+round_text form n docs k (watch w x ∷ rs) [] e h = absurd (cc e)
+round_text form n docs k (watch w x ∷ rs) (s ∷ ss) e h =
     let first : s.line ≡ record { number = k + 1; reading = watch w x } = cc e in
     let rest : map shown_entry ss ≡ entries_from (k + 1) rs = cc e in
-    ap₂ (λ a b. a ++ b) (one_text s (k + 1) (watch w x) (n k) docs first (here rs (watch w x) k n (seen_in (watch w x ∷ rs) (s ∷ ss)) h))
-    (round_text n docs (k + 1) rs ss rest (further rs ss (watch w x) k n (seen_in (watch w x ∷ rs) (s ∷ ss)) h))
+    ap₂ (λ a b. a ++ b) (one_text form s (k + 1) (watch w x) (n k) docs first (here rs (watch w x) k n (seen_in (watch w x ∷ rs) (s ∷ ss)) h))
+    (round_text form n docs (k + 1) rs ss rest (further rs ss (watch w x) k n (seen_in (watch w x ∷ rs) (s ∷ ss)) h))
 
 -- ---- what the queries of a round see
 

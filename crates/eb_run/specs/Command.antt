@@ -2,17 +2,22 @@
 use Rattle.std.specs.Prelude.{◌≡◌, ℕ, ◌*◌, ◌^◌, ◌&&◌, Bool, true, false, List, [], ◌∷◌, codes, nat_le, Option, Some, None, if◌then◌else◌, option_map, option_and_then}
 use Rattle.std.specs.Str.{bytes_eq}
 use Rattle.eb_base.specs.Setting.{Setting, words_of}
+use Rattle.eb_lines.specs.declared.form.Form.{Form}
 use Rattle.eb_options.specs.Numbers.{number}
 use Rattle.eb_options.specs.Items.{Items, has, items_of, option_number}
 use Rattle.eb_options.specs.Settings.{setting_of, setting_options}
 use Rattle.eb_run.specs.declared.command.Command.{Command}
 use Rattle.eb_run.specs.declared.command.Command.TheVariants.{Run, RunWorkers, RunParts, RunWatches, Bench, Save, Load}
 
+-- in which form what is printed is written, where the items say so
+abbrev pub form_of : Items → Form
+form_of items = record { json = has (codes "json") items; stats = has (codes "stats") items }
+
 -- ---- `run`
 
 -- its flags and its options
 abbrev pub run_flags : List (List ℕ)
-run_flags = codes "overlap" ∷ codes "watch" ∷ codes "stats" ∷ []
+run_flags = codes "overlap" ∷ codes "watch" ∷ codes "json" ∷ codes "stats" ∷ []
 
 abbrev pub run_options : List (List ℕ)
 run_options = codes "workers" ∷ codes "parts" ∷ setting_options
@@ -22,25 +27,25 @@ abbrev pub is_few : ℕ → Bool
 is_few n = nat_le 1 n && nat_le n 16
 
 -- to run with so many workers
-abbrev pub with_workers : ℕ → Bool → Setting → Option Command
-with_workers n stats σ = if is_few n then Some (RunWorkers n stats σ) else None
+abbrev pub with_workers : ℕ → Form → Setting → Option Command
+with_workers n form σ = if is_few n then Some (RunWorkers n form σ) else None
 
 -- to run over so many parts, which together have at most as many words as an index may have
-abbrev pub over_parts : ℕ → Bool → Setting → Option Command
-over_parts n stats σ = if is_few n && nat_le (n * words_of σ) (2 ^ 27) then Some (RunParts n stats σ) else None
+abbrev pub over_parts : ℕ → Form → Setting → Option Command
+over_parts n form σ = if is_few n && nat_le (n * words_of σ) (2 ^ 27) then Some (RunParts n form σ) else None
 
 -- at most one of overlap, watches, workers and parts
-abbrev pub run_by : Bool → Bool → Option ℕ → Option ℕ → Bool → Setting → Option Command
-run_by overlap false None None stats σ = Some (Run overlap stats σ)
-run_by false true None None stats σ = Some (RunWatches stats σ)
-run_by false false (Some n) None stats σ = with_workers n stats σ
-run_by false false None (Some n) stats σ = over_parts n stats σ
-run_by overlap watch workers parts stats σ = None
+abbrev pub run_by : Bool → Bool → Option ℕ → Option ℕ → Form → Setting → Option Command
+run_by overlap false None None form σ = Some (Run overlap form σ)
+run_by false true None None form σ = Some (RunWatches form σ)
+run_by false false (Some n) None form σ = with_workers n form σ
+run_by false false None (Some n) form σ = over_parts n form σ
+run_by overlap watch workers parts form σ = None
 
 -- what the items after `run` ask for
 abbrev pub run_with : Items → Option Command
 run_with items = option_and_then (λ σ. run_by (has (codes "overlap") items) (has (codes "watch") items) (option_number (codes "workers") items) (option_number (codes "parts") items)
-    (has (codes "stats") items) σ) (setting_of items)
+    (form_of items) σ) (setting_of items)
 
 -- what the words after `run` ask for: its flags and options, in any order, each at most once
 abbrev pub run_of : List (List ℕ) → Option Command
@@ -67,13 +72,16 @@ save_with items = option_map (λ σ. Save σ) (setting_of items)
 abbrev pub save_of : List (List ℕ) → Option Command
 save_of words = option_and_then save_with (items_of [] setting_options words)
 
+abbrev pub load_flags : List (List ℕ)
+load_flags = codes "json" ∷ codes "stats" ∷ []
+
 -- what the items after `load` ask for
 abbrev pub load_with : Items → Command
-load_with items = Load (has (codes "stats") items)
+load_with items = Load (form_of items)
 
--- what the words after `load` ask for: one flag, or none
+-- what the words after `load` ask for: its flags, in any order, each at most once
 abbrev pub load_of : List (List ℕ) → Option Command
-load_of words = option_map load_with (items_of (codes "stats" ∷ []) [] words)
+load_of words = option_map load_with (items_of load_flags [] words)
 
 -- ---- the command
 
@@ -86,20 +94,20 @@ command_of (name ∷ words) =
     else (if bytes_eq name (codes "save") then save_of words
     else (if bytes_eq name (codes "load") then load_of words else None)))
 
--- the words ask to run with an index of this setting, with or without overlap, and with or without figures
-abbrev pub AsksRun : List (List ℕ) → Bool → Bool → Setting → Type 0
-AsksRun words overlap stats σ = command_of words ≡ Some (Run overlap stats σ)
+-- the words ask to run with an index of this setting, with or without overlap, and what is printed in this form
+abbrev pub AsksRun : List (List ℕ) → Bool → Form → Setting → Type 0
+AsksRun words overlap form σ = command_of words ≡ Some (Run overlap form σ)
 
 -- to run with so many workers, or over so many parts with an index of this setting each
-abbrev pub AsksWorkers : List (List ℕ) → ℕ → Bool → Setting → Type 0
-AsksWorkers words n stats σ = command_of words ≡ Some (RunWorkers n stats σ)
+abbrev pub AsksWorkers : List (List ℕ) → ℕ → Form → Setting → Type 0
+AsksWorkers words n form σ = command_of words ≡ Some (RunWorkers n form σ)
 
-abbrev pub AsksParts : List (List ℕ) → ℕ → Bool → Setting → Type 0
-AsksParts words n stats σ = command_of words ≡ Some (RunParts n stats σ)
+abbrev pub AsksParts : List (List ℕ) → ℕ → Form → Setting → Type 0
+AsksParts words n form σ = command_of words ≡ Some (RunParts n form σ)
 
 -- to run with watches
-abbrev pub AsksWatches : List (List ℕ) → Bool → Setting → Type 0
-AsksWatches words stats σ = command_of words ≡ Some (RunWatches stats σ)
+abbrev pub AsksWatches : List (List ℕ) → Form → Setting → Type 0
+AsksWatches words form σ = command_of words ≡ Some (RunWatches form σ)
 
 -- the words ask to process a made input
 abbrev pub AsksBench : List (List ℕ) → ℕ → ℕ → Type 0
@@ -109,6 +117,6 @@ AsksBench words start count = command_of words ≡ Some (Bench start count)
 abbrev pub AsksSave : List (List ℕ) → Setting → Type 0
 AsksSave words σ = command_of words ≡ Some (Save σ)
 
--- the words ask to load an image and go on with lines, with or without figures
-abbrev pub AsksLoad : List (List ℕ) → Bool → Type 0
-AsksLoad words stats = command_of words ≡ Some (Load stats)
+-- the words ask to load an image and go on with lines
+abbrev pub AsksLoad : List (List ℕ) → Form → Type 0
+AsksLoad words form = command_of words ≡ Some (Load form)

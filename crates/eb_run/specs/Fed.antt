@@ -11,5 +11,5 @@ use Rattle.eb_run.specs.FeedOutput.{feed_rules}
 pub record IsFed (s : Fed) (rules : Rules (Unit {0})) (docs : List Doc) (none : Unit {0}) : Type 0 where
   pub setting : Setting
   pub keep : ℕ
-  pub by_rules : rules ≡ feed_rules setting keep
+  pub by_rules : rules ≡ feed_rules setting keep s.form
   pub fed : IsFedWith s.feed setting keep docs

@@ -2,18 +2,19 @@
 use Rattle.std.specs.Prelude.{◌≡◌, ℕ, List}
 use Rattle.eb_base.specs.Setting.{Setting}
 use Rattle.eb_io.specs.Lines.{Line}
+use Rattle.eb_lines.specs.declared.form.Form.{Form}
 use Rattle.eb_lines.specs.declared.refusal.Refusal.TheVariants.{Full}
 use Rattle.eb_lines.specs.Reading.{refused}
 use Rattle.eb_lines.specs.Reads.{Reads}
 use Rattle.eb_run.specs.FeedOutput.{IsFeedOutput}
 
--- each input has a text, whatever a feed keeps
+-- each input has a text, whatever a feed keeps, in each form
 abbrev pub SomeFeedText : Type 0
-SomeFeedText = (σ : Setting) (keep : ℕ) (bytes : List ℕ) → (printed : List ℕ) × IsFeedOutput σ keep bytes printed
+SomeFeedText = (σ : Setting) (keep : ℕ) (form : Form) (bytes : List ℕ) → (printed : List ℕ) × IsFeedOutput σ keep form bytes printed
 
 -- and no other
 abbrev pub OneFeedText : Type 0
-OneFeedText = (σ : Setting) (keep : ℕ) (bytes a b : List ℕ) → IsFeedOutput σ keep bytes a → IsFeedOutput σ keep bytes b → a ≡ b
+OneFeedText = (σ : Setting) (keep : ℕ) (form : Form) (bytes a b : List ℕ) → IsFeedOutput σ keep form bytes a → IsFeedOutput σ keep form bytes b → a ≡ b
 
 -- no line is read as one that is refused as full
 abbrev pub NeverFull : Type 0

@@ -4,20 +4,21 @@ use Rattle.eb_base.specs.Setting.{Setting}
 use Rattle.eb_io.specs.Lines.{Line, lines_of}
 use Rattle.eb_lines.specs.Outcomes as outcomes
 use Rattle.eb_lines.specs.Passing as passing
+use Rattle.eb_lines.specs.declared.form.Form.{Form}
 use Rattle.eb_lines.specs.declared.status.Status.{Status}
 use Rattle.eb_lines.specs.Reading.{Reading}
 use Rattle.eb_indexed.specs.LinesRead.{AreRead, HasRefusal, HasNoRefusal}
 use Rattle.eb_indexed.specs.Sees.{Sees}
 use Rattle.eb_indexed.specs.Text.{body, end_of}
 
--- the setting of the index, whether documents are added while queries are answered, and whether the segments are told
+-- the setting of the index, whether documents are added while queries are answered, and how what is printed is written
 pub record Asked : Type 0 where
   pub setting : Setting
   pub overlap : Bool
-  pub stats : Bool
+  pub form : Form
 
-abbrev pub asked : Setting → Bool → Bool → Asked
-asked σ overlap stats = record { setting = σ; overlap = overlap; stats = stats }
+abbrev pub asked : Setting → Bool → Form → Asked
+asked σ overlap form = record { setting = σ; overlap = overlap; form = form }
 
 -- what these lines print, with or without overlap: the answers and refusals, in order
 pub record IsBodyOf (a : Asked) (lines : List Line) (printed : List ℕ) : Type 0 where
@@ -25,27 +26,27 @@ pub record IsBodyOf (a : Asked) (lines : List Line) (printed : List ℕ) : Type 
   pub numbers : ℕ → ℕ
   pub read : AreRead a.setting lines readings
   pub sees : Sees a.overlap readings numbers
-  pub bytes : printed ≡ body numbers readings
+  pub bytes : printed ≡ body a.form numbers readings
 
--- the whole text of these lines: with the summary, and the line of the segments where it is told
+-- the whole text of these lines: with the summary, and the segments where they are told
 pub record IsTextOf (a : Asked) (lines : List Line) (printed : List ℕ) : Type 0 where
   pub readings : List Reading
   pub numbers : ℕ → ℕ
   pub read : AreRead a.setting lines readings
   pub sees : Sees a.overlap readings numbers
-  pub bytes : printed ≡ body numbers readings ++ end_of a.setting a.stats readings
+  pub bytes : printed ≡ body a.form numbers readings ++ end_of a.setting a.form readings
 
 -- the text of an input of these bytes
-abbrev pub IsOutput : Setting → Bool → Bool → List ℕ → List ℕ → Type 0
-IsOutput σ overlap stats bytes printed = IsTextOf (asked σ overlap stats) (lines_of bytes) printed
+abbrev pub IsOutput : Setting → Bool → Form → List ℕ → List ℕ → Type 0
+IsOutput σ overlap form bytes printed = IsTextOf (asked σ overlap form) (lines_of bytes) printed
 
 -- how a run over an index of this setting ends, also over a source or a sink that tells no bytes
-abbrev pub Ends : Setting → Bool → Bool → Status → Option (List ℕ) → Option (List ℕ) → Option (List ℕ) → Option (List ℕ) → Type 0
-Ends σ overlap stats = passing.Ends (IsBodyOf (asked σ overlap stats)) (IsTextOf (asked σ overlap stats)) (HasRefusal σ) (HasNoRefusal σ)
+abbrev pub Ends : Setting → Bool → Form → Status → Option (List ℕ) → Option (List ℕ) → Option (List ℕ) → Option (List ℕ) → Type 0
+Ends σ overlap form = passing.Ends (IsBodyOf (asked σ overlap form)) (IsTextOf (asked σ overlap form)) (HasRefusal σ) (HasNoRefusal σ)
 
 -- what a run that ends so has printed, of an input of these bytes of which this is left
-abbrev pub Wrote : Setting → Bool → Bool → Status → List ℕ → Option (List ℕ) → List ℕ → Type 0
-Wrote σ overlap stats = outcomes.Wrote (IsBodyOf (asked σ overlap stats)) (IsTextOf (asked σ overlap stats)) (HasRefusal σ) (HasNoRefusal σ)
+abbrev pub Wrote : Setting → Bool → Form → Status → List ℕ → Option (List ℕ) → List ℕ → Type 0
+Wrote σ overlap form = outcomes.Wrote (IsBodyOf (asked σ overlap form)) (IsTextOf (asked σ overlap form)) (HasRefusal σ) (HasNoRefusal σ)
 
 -- what its status says of the input
 abbrev pub Means : Setting → Status → List ℕ → Option (List ℕ) → Type 0

@@ -12,6 +12,7 @@ use Rattle.eb_image.specs.Image.{image_of}
 use Rattle.eb_image.specs.Reading.{IsBad}
 use Rattle.eb_io.specs.Lines.{longest_input, lines_of}
 use Rattle.eb_io.specs.Source.{after}
+use Rattle.eb_lines.specs.declared.form.Form.{Form}
 use Rattle.eb_lines.specs.declared.status.Status.{Status}
 use Rattle.eb_lines.specs.declared.status.Status.TheVariants.{Done, Refused, BadImage}
 use Rattle.eb_lines.specs.Outcomes as outcomes
@@ -31,17 +32,17 @@ use Rattle.eb_run.specs.Output as output
 -- ---- how a command ends, also where source and `out` tell no bytes
 
 abbrev pub EndsBy : Command → Status → (l0 l1 p0 p1 : Option (List ℕ)) → Type 0
-EndsBy (Run overlap stats σ) status l0 l1 p0 p1 = Ends σ overlap stats status l0 l1 p0 p1
-EndsBy (RunWorkers n stats σ) status l0 l1 p0 p1 =
-    let a = workers.asked σ stats in passing.Ends (workers.IsWorkersBody a) (workers.IsWorkersText a) (HasRefusal σ) (HasNoRefusal σ) status l0 l1 p0 p1
-EndsBy (RunParts n stats σ) status l0 l1 p0 p1 =
-    let rules = parts_rules n σ stats in passing.Ends (IsBody is_bad rules) (IsText is_bad rules) (answered.HasRefusal is_bad rules) (answered.HasNoRefusal is_bad rules) status l0 l1 p0 p1
-EndsBy (RunWatches stats σ) status l0 l1 p0 p1 =
-    let rules = watch_rules σ stats in
+EndsBy (Run overlap form σ) status l0 l1 p0 p1 = Ends σ overlap form status l0 l1 p0 p1
+EndsBy (RunWorkers n form σ) status l0 l1 p0 p1 =
+    let a = workers.asked σ form in passing.Ends (workers.IsWorkersBody a) (workers.IsWorkersText a) (HasRefusal σ) (HasNoRefusal σ) status l0 l1 p0 p1
+EndsBy (RunParts n form σ) status l0 l1 p0 p1 =
+    let rules = parts_rules n σ form in passing.Ends (IsBody is_bad rules) (IsText is_bad rules) (answered.HasRefusal is_bad rules) (answered.HasNoRefusal is_bad rules) status l0 l1 p0 p1
+EndsBy (RunWatches form σ) status l0 l1 p0 p1 =
+    let rules = watch_rules σ form in
     passing.Ends (IsBody ReadsOther rules) (IsText ReadsOther rules) (answered.HasRefusal ReadsOther rules) (answered.HasNoRefusal ReadsOther rules) status l0 l1 p0 p1
 EndsBy (Bench start count) status l0 l1 p0 p1 = PrintsFigures status (lines_of (made start count)) p0 p1
 EndsBy (Save σ) status l0 l1 p0 p1 = passing.Ends (saved.AreParts σ) (saved.IsSaved σ) (saved.HasUnsaved σ) (saved.HasNoUnsaved σ) status l0 l1 p0 p1
-EndsBy (Load stats) status l0 l1 p0 p1 = EndsLoad stats status l0 l1 p0 p1
+EndsBy (Load form) status l0 l1 p0 p1 = EndsLoad form status l0 l1 p0 p1
 
 -- ---- what is printed
 
@@ -59,47 +60,47 @@ pub record HasImage (bytes : List ℕ) : Type 0 where
   pub is : bytes ≡ image_of setting documents ++ rest
 
 -- what a load that ends so has printed, of any bytes: nothing where no image was read to its end, and else what it says of the lines after it
-abbrev pub WroteLoad : Bool → Status → List ℕ → Option (List ℕ) → List ℕ → Type 0
-WroteLoad stats status bytes left printed = ((printed ≡ []) × ((taken : List ℕ) × outcomes.AreTaken bytes left taken × WhyUnread status taken left))
-    ⊎ ((i : HasImage bytes) × (let a : Loaded = record { setting = i.setting; documents = i.documents; stats = stats } in
+abbrev pub WroteLoad : Form → Status → List ℕ → Option (List ℕ) → List ℕ → Type 0
+WroteLoad form status bytes left printed = ((printed ≡ []) × ((taken : List ℕ) × outcomes.AreTaken bytes left taken × WhyUnread status taken left))
+    ⊎ ((i : HasImage bytes) × (let a : Loaded = record { setting = i.setting; documents = i.documents; form = form } in
     outcomes.Wrote (IsBodyBehind a) (IsTextBehind a) (HasRefusalBehind a) (HasNoRefusalBehind a) status i.rest left printed))
 
 -- of bytes that are an image and a rest, it is what it says of the rest; at BadImage `out` took nothing, also where it tells no bytes
-pub record RanLoad (stats : Bool) (status : Status) (l0 l1 p0 p1 : Option (List ℕ)) : Type 0 where
-  pub all : Prints (WroteLoad stats status) l0 l1 p0 p1
+pub record RanLoad (form : Form) (status : Status) (l0 l1 p0 p1 : Option (List ℕ)) : Type 0 where
+  pub all : Prints (WroteLoad form status) l0 l1 p0 p1
   pub lines : (σ : Setting) (docs : List Doc) (rest before : List ℕ) → IsSetting σ → IsLawful σ docs → l0 ≡ Some (image_of σ docs ++ rest) → p0 ≡ Some before
-      → (printed : List ℕ) × (p1 ≡ Some (before ++ printed)) × WroteLoaded (record { setting = σ; documents = docs; stats = stats }) status rest l1 printed
+      → (printed : List ℕ) × (p1 ≡ Some (before ++ printed)) × WroteLoaded (record { setting = σ; documents = docs; form = form }) status rest l1 printed
   pub bad_image : status ≡ BadImage → p1 ≡ p0
 
 abbrev pub Ran : Command → Status → (l0 l1 p0 p1 : Option (List ℕ)) → Type 0
-Ran (Run overlap stats σ) status l0 l1 p0 p1 = Prints (Wrote σ overlap stats status) l0 l1 p0 p1
-Ran (RunWorkers n stats σ) status l0 l1 p0 p1 = Prints (workers.WroteWorkers (workers.asked σ stats) status) l0 l1 p0 p1
-Ran (RunParts n stats σ) status l0 l1 p0 p1 = Prints (WroteInParts (parts_rules n σ stats) status) l0 l1 p0 p1
-Ran (RunWatches stats σ) status l0 l1 p0 p1 = Prints (WroteWatches (watch_rules σ stats) status) l0 l1 p0 p1
+Ran (Run overlap form σ) status l0 l1 p0 p1 = Prints (Wrote σ overlap form status) l0 l1 p0 p1
+Ran (RunWorkers n form σ) status l0 l1 p0 p1 = Prints (workers.WroteWorkers (workers.asked σ form) status) l0 l1 p0 p1
+Ran (RunParts n form σ) status l0 l1 p0 p1 = Prints (WroteInParts (parts_rules n σ form) status) l0 l1 p0 p1
+Ran (RunWatches form σ) status l0 l1 p0 p1 = Prints (WroteWatches (watch_rules σ form) status) l0 l1 p0 p1
 Ran (Bench start count) status l0 l1 p0 p1 = (before : List ℕ) → p0 ≡ Some before → (printed : List ℕ) × (p1 ≡ Some (before ++ printed)) × WroteBench status start count printed
 Ran (Save σ) status l0 l1 p0 p1 = Prints (saved.WroteSaved σ status) l0 l1 p0 p1
-Ran (Load stats) status l0 l1 p0 p1 = RanLoad stats status l0 l1 p0 p1
+Ran (Load form) status l0 l1 p0 p1 = RanLoad form status l0 l1 p0 p1
 
 -- ---- what the status means, whatever became of the output
 
 abbrev pub Told : (List ℕ → Option (List ℕ) → Type 0) → (l0 l1 : Option (List ℕ)) → Type 0
 Told means l0 l1 = (bytes : List ℕ) → l0 ≡ Some bytes → means bytes l1
 
-pub record LoadMeans (stats : Bool) (status : Status) (l0 l1 : Option (List ℕ)) : Type 0 where
+pub record LoadMeans (form : Form) (status : Status) (l0 l1 : Option (List ℕ)) : Type 0 where
   -- at Done and Refused the input was an image and lines
   pub image : (status ≡ Done) ⊎ (status ≡ Refused) → (bytes : List ℕ) → l0 ≡ Some bytes → HasImage bytes
   pub lines : (σ : Setting) (docs : List Doc) (rest : List ℕ) → IsSetting σ → IsLawful σ docs → l0 ≡ Some (image_of σ docs ++ rest)
-      → MeansLoaded (record { setting = σ; documents = docs; stats = stats }) status rest l1
+      → MeansLoaded (record { setting = σ; documents = docs; form = form }) status rest l1
   pub bad_image : status ≡ BadImage → (taken : List ℕ) × (l0 ≡ after taken l1) × IsBad IsImage taken l1
 
 abbrev pub Means : Command → Status → (l0 l1 : Option (List ℕ)) → Type 0
-Means (Run overlap stats σ) status l0 l1 = Told (output.Means σ status) l0 l1
-Means (RunWorkers n stats σ) status l0 l1 = Told (workers.MeansWorkers (workers.asked σ stats) status) l0 l1
-Means (RunParts n stats σ) status l0 l1 = Told (MeansInParts (parts_rules n σ stats) status) l0 l1
-Means (RunWatches stats σ) status l0 l1 = Told (MeansWatches (watch_rules σ stats) status) l0 l1
+Means (Run overlap form σ) status l0 l1 = Told (output.Means σ status) l0 l1
+Means (RunWorkers n form σ) status l0 l1 = Told (workers.MeansWorkers (workers.asked σ form) status) l0 l1
+Means (RunParts n form σ) status l0 l1 = Told (MeansInParts (parts_rules n σ form) status) l0 l1
+Means (RunWatches form σ) status l0 l1 = Told (MeansWatches (watch_rules σ form) status) l0 l1
 Means (Bench start count) status l0 l1 = MeansBench status start count
 Means (Save σ) status l0 l1 = Told (saved.MeansSaved σ status) l0 l1
-Means (Load stats) status l0 l1 = LoadMeans stats status l0 l1
+Means (Load form) status l0 l1 = LoadMeans form status l0 l1
 
 -- ---- when the input is processed
 
@@ -108,23 +109,23 @@ abbrev pub InTime : (read_risen write_risen : Type 0) → Status → Option (Lis
 InTime read_risen write_risen status l0 = (read_risen → ⊥) → (write_risen → ⊥) → (bytes : List ℕ) → l0 ≡ Some bytes → length bytes < longest_input → outcomes.IsWorkedOff status
 
 abbrev pub Completes : Command → (read_risen write_risen : Type 0) → Status → Option (List ℕ) → Type 0
-Completes (Run overlap stats σ) read_risen write_risen status l0 = InTime read_risen write_risen status l0
-Completes (RunWorkers n stats σ) read_risen write_risen status l0 = InTime read_risen write_risen status l0
-Completes (RunParts n stats σ) read_risen write_risen status l0 = InTime read_risen write_risen status l0
-Completes (RunWatches stats σ) read_risen write_risen status l0 = InTime read_risen write_risen status l0
+Completes (Run overlap form σ) read_risen write_risen status l0 = InTime read_risen write_risen status l0
+Completes (RunWorkers n form σ) read_risen write_risen status l0 = InTime read_risen write_risen status l0
+Completes (RunParts n form σ) read_risen write_risen status l0 = InTime read_risen write_risen status l0
+Completes (RunWatches form σ) read_risen write_risen status l0 = InTime read_risen write_risen status l0
 Completes (Bench start count) read_risen write_risen status l0 = (write_risen → ⊥) → outcomes.IsWorkedOff status
 Completes (Save σ) read_risen write_risen status l0 = InTime read_risen write_risen status l0
-Completes (Load stats) read_risen write_risen status l0 = (read_risen → ⊥) → (write_risen → ⊥)
+Completes (Load form) read_risen write_risen status l0 = (read_risen → ⊥) → (write_risen → ⊥)
     → (σ : Setting) (docs : List Doc) (rest : List ℕ) → IsSetting σ → IsLawful σ docs → l0 ≡ Some (image_of σ docs ++ rest) → length rest < longest_input → outcomes.IsWorkedOff status
 
 -- ---- whether the source is read
 
 abbrev pub reads_source : Option Command → Bool
 reads_source None = false
-reads_source (Some (Run overlap stats σ)) = true
-reads_source (Some (RunWorkers n stats σ)) = true
-reads_source (Some (RunParts n stats σ)) = true
-reads_source (Some (RunWatches stats σ)) = true
+reads_source (Some (Run overlap form σ)) = true
+reads_source (Some (RunWorkers n form σ)) = true
+reads_source (Some (RunParts n form σ)) = true
+reads_source (Some (RunWatches form σ)) = true
 reads_source (Some (Bench start count)) = false
 reads_source (Some (Save σ)) = true
-reads_source (Some (Load stats)) = true
+reads_source (Some (Load form)) = true

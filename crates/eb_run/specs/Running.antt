@@ -25,9 +25,9 @@ pub record HasRun (r : Running) (a : Asked) (given : List Line) (so_far : List �
   pub writer : r.writer.index ≡ words
   pub converter : r.converter.index ≡ words
   pub mode : a.overlap ≡ true
-  pub stats : r.stats ≡ a.stats
+  pub form : r.form ≡ a.form
   pub number : r.number ≡ length given
-  pub worked : HasGathered a.setting given r.writer.docs r.rounds so_far
+  pub worked : HasGathered a.form a.setting given r.writer.docs r.rounds so_far
 
 -- what may be called between two lines, and processes the held lines, if memory suffices
 pub record WorksOffHeld {W Z E : Type 0} (pre : W → MutBor Running → MutBor (Vec ℕ Z) → Type 0)
@@ -54,15 +54,15 @@ run_first r a given so_far h =
       record { readings = w.readings; numbers = w.numbers; read = w.read; sees = subst (λ b. Sees b w.readings w.numbers) (sym h.mode) w.sees; bytes = append-nil so_far ∙ w.printed },
     )
 
-pub body_text : (a : Asked) (lines : List Line) (printed : List ℕ) (b : IsBodyOf a lines printed) → IsTextOf a lines (printed ++ end_of a.setting a.stats b.readings)
+pub body_text : (a : Asked) (lines : List Line) (printed : List ℕ) (b : IsBodyOf a lines printed) → IsTextOf a lines (printed ++ end_of a.setting a.form b.readings)
 body_text a lines printed b = record {
   readings = b.readings;
   numbers = b.numbers;
   read = b.read;
   sees = b.sees;
-  bytes = ap (λ x. x ++ end_of a.setting a.stats b.readings) b.bytes;
+  bytes = ap (λ x. x ++ end_of a.setting a.form b.readings) b.bytes;
 }
 
 -- what lines print comes first in their whole text
 pub body_first : (a : Asked) (lines : List Line) (printed : List ℕ) → IsBodyOf a lines printed → (more : List ℕ) × IsTextOf a lines (printed ++ more)
-body_first a lines printed b = (end_of a.setting a.stats b.readings, body_text a lines printed b)
+body_first a lines printed b = (end_of a.setting a.form b.readings, body_text a lines printed b)

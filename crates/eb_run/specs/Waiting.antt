@@ -4,6 +4,7 @@ use Rattle.std.specs.List.{AllZip}
 use Rattle.eb_base.specs.Document.{Doc}
 use Rattle.eb_base.specs.Setting.{Setting}
 use Rattle.eb_io.specs.Lines.{Line}
+use Rattle.eb_lines.specs.declared.form.Form.{Form}
 use Rattle.eb_lines.specs.Reading.{Reading}
 use Rattle.eb_lines.specs.Progress.{accepted, queries, refusals}
 use Rattle.eb_indexed.specs.Text.{body}
@@ -23,7 +24,7 @@ abbrev pub counts_of : List Reading → Counted
 counts_of rs = record { documents = length (accepted rs); queries = queries rs; refused = refusals rs }
 
 -- of the lines given these are done, and these wait as one round; those done printed this text
-pub record HasWorkedOff (σ : Setting) (given : List Line) (docs : List Doc) (held : Standing) (so_far : List ℕ) : Type 0 where
+pub record HasWorkedOff (form : Form) (σ : Setting) (given : List Line) (docs : List Doc) (held : Standing) (so_far : List ℕ) : Type 0 where
   pub done : List Line
   pub waiting : List Line
   pub readings : List Reading
@@ -36,28 +37,28 @@ pub record HasWorkedOff (σ : Setting) (given : List Line) (docs : List Doc) (he
   pub round : AreRound waiting
   pub counts : held.counts ≡ counts_of readings
   pub greatest : held.greatest ≤ length given
-  pub printed : so_far ≡ body numbers readings
+  pub printed : so_far ≡ body form numbers readings
 
 -- the round before the open one, by itself
 abbrev pub round_ahead : Standing → Standing
 round_ahead s = record { ahead = []; held = s.ahead; counts = s.counts; greatest = 0 }
 
 -- of the lines given the first wait as the round ahead, or are done, and the others wait as the open round
-pub record HasGathered (σ : Setting) (given : List Line) (docs : List Doc) (s : Standing) (so_far : List ℕ) : Type 0 where
+pub record HasGathered (form : Form) (σ : Setting) (given : List Line) (docs : List Doc) (s : Standing) (so_far : List ℕ) : Type 0 where
   pub before : List Line
   pub behind : List Line
   pub parts : given ≡ before ++ behind
-  pub worked : HasWorkedOff σ before docs (round_ahead s) so_far
+  pub worked : HasWorkedOff form σ before docs (round_ahead s) so_far
   pub lines : s.held ≡ held_from (length before) behind
   pub round : AreRound behind
   pub greatest : s.greatest ≤ length given
 
 -- all lines given are done, and printed this text
-pub record HasSettled (σ : Setting) (given : List Line) (docs : List Doc) (counts : Counted) (so_far : List ℕ) : Type 0 where
+pub record HasSettled (form : Form) (σ : Setting) (given : List Line) (docs : List Doc) (counts : Counted) (so_far : List ℕ) : Type 0 where
   pub readings : List Reading
   pub numbers : ℕ → ℕ
   pub read : AreRead σ given readings
   pub sees : SeesBetween readings numbers
   pub adds : docs ≡ accepted readings
   pub counted : counts ≡ counts_of readings
-  pub printed : so_far ≡ body numbers readings
+  pub printed : so_far ≡ body form numbers readings

@@ -14,7 +14,7 @@ use eb_cursor::Frame;
 use eb_gen::{line_of, query_of};
 use eb_indexed::Indexed;
 use eb_io::Sink;
-use eb_lines::{Refusal, Status, Work, read_line};
+use eb_lines::{Form, Refusal, Status, Work, read_line};
 use std::alloc::Global;
 
 // A run over a made input: its index, how many queries were answered and lines refused, and the number of ids in all answers
@@ -33,7 +33,14 @@ impl Bench {
     fn new(alloc: Global) -> Result<Bench, NoMemory>
         ensures { IfOk result (λ bench. HasCounted bench []) }
     {
-        let indexed = Indexed::new(alloc, false, Config::usual())?;
+        let indexed = Indexed::new(
+            alloc,
+            Form {
+                json: false,
+                stats: false,
+            },
+            Config::usual(),
+        )?;
         Ok(Bench {
             indexed,
             queries: 0,

@@ -2,11 +2,13 @@ ghost use Rattle.std.specs.Prelude.{◌≡◌, Some, None, IfOk, IsErrOf, map, s
 ghost use Rattle.eb_run.specs.Command.{command_of};
 
 mod bench;
+mod form;
 mod images;
 mod lines;
 
 use bench::read_bench;
 use eb_base::Config;
+use eb_lines::Form;
 use images::{read_load, read_save};
 use lines::read_run;
 use std::alloc::Global;
@@ -18,8 +20,8 @@ pub enum Command {
     Run {
         /// Whether documents are added while queries are answered (`--overlap`).
         overlap: bool,
-        /// Whether the segments are told after the summary (`--stats`).
-        stats: bool,
+        /// How what is printed is written (`--json`), and whether the segments are told after the summary (`--stats`).
+        form: Form,
         /// The setting that the options give; what they don't name is as in `Config::usual`.
         config: Config,
     },
@@ -27,8 +29,8 @@ pub enum Command {
     RunWorkers {
         /// How many workers live for the whole run, 1 to 16.
         workers: u32,
-        /// Whether the segments are told after the summary (`--stats`).
-        stats: bool,
+        /// How what is printed is written (`--json`), and whether the segments are told after the summary (`--stats`).
+        form: Form,
         /// The setting that the options give, as of `Run`.
         config: Config,
     },
@@ -36,15 +38,16 @@ pub enum Command {
     RunParts {
         /// How many indexes there are, 1 to 16.
         parts: u32,
-        /// Whether the segments of all parts are told after the summary (`--stats`).
-        stats: bool,
+        /// How what is printed is written (`--json`), and whether the segments of all parts are told after the summary
+        /// (`--stats`).
+        form: Form,
         /// The setting of each of them, that the options give, as of `Run`.
         config: Config,
     },
     /// `run --watch`: read lines, those that set and remove watches among them.
     RunWatches {
-        /// Whether the segments are told after the summary (`--stats`).
-        stats: bool,
+        /// How what is printed is written (`--json`), and whether the segments are told after the summary (`--stats`).
+        form: Form,
         /// The setting that the options give, as of `Run`.
         config: Config,
     },
@@ -62,8 +65,8 @@ pub enum Command {
     },
     /// `load`: read an image, and then lines as `run` does.
     Load {
-        /// Whether the segments are told after the summary (`--stats`).
-        stats: bool,
+        /// How what is printed is written (`--json`), and whether the segments are told after the summary (`--stats`).
+        form: Form,
     },
 }
 
@@ -78,15 +81,15 @@ pub enum CommandFault {
 
 /// The command that the words ask for; they are without the program's name.
 ///
-/// - `run`, and then items in any order, each option at most once: `--overlap`, `--watch`, `--stats`, and for x of `workers`,
-///   `parts`, `segments`, `docs` and `terms` the two words `--x V` or the one word `--x=V`. V is one to nine digits, leading
+/// - `run`, and then items in any order, each option at most once: `--overlap`, `--watch`, `--json`, `--stats`, and for x of
+///   `workers`, `parts`, `segments`, `docs` and `terms` the two words `--x V` or the one word `--x=V`. V is one to nine digits, leading
 ///   zeros allowed; what isn't named of a setting is as in `Config::usual`. `Config::new` has to allow the setting. At most
 ///   one of `--overlap`, `--workers`, `--parts` and `--watch` stands there; the number of workers and of parts is from 1 to
 ///   16, and the words of all parts together are at most 134,217,728.
 /// - `bench START DOCS`: one to twenty digits of value at most 18446744073709551615, and one to nine
 ///   digits of value 1 to 40,000; leading zeros allowed.
 /// - `save`, and then the options of a setting as after `run`.
-/// - `load`, and then `--stats` at most once.
+/// - `load`, and then `--json` and `--stats`, each at most once.
 ///
 /// Usage comes exactly where the words are none of these; NoMemory is free.
 pub fn read_command(alloc: Global, words: &Vec<String>) -> Result<Command, CommandFault>

@@ -17,7 +17,7 @@ use eb_archive::{load_lines, save_lines};
 use eb_base::{Config, Gate, NoMemory};
 use eb_indexed::Indexed;
 use eb_io::{Sink, Source, write_all};
-use eb_lines::{Status, pass_lines};
+use eb_lines::{Form, Status, pass_lines};
 use eb_parts::run_parts;
 use eb_watching::run_watches;
 use eb_workers::run_workers;
@@ -98,25 +98,25 @@ fn run_words<R: Threads + Wait + Sync, S: Source, K: Sink, G: Gate + Sync>(
     match command {
         Command::Run {
             overlap,
-            stats,
+            form,
             config,
-        } => run_lines(rt, alloc, overlap, stats, config, source, out, gate),
+        } => run_lines(rt, alloc, overlap, form, config, source, out, gate),
         Command::RunWorkers {
             workers,
-            stats,
+            form,
             config,
-        } => run_workers(rt, alloc, workers, stats, config, source, out, gate),
+        } => run_workers(rt, alloc, workers, form, config, source, out, gate),
         Command::RunParts {
             parts,
-            stats,
+            form,
             config,
-        } => run_parts(alloc, parts, stats, config, source, out, gate),
-        Command::RunWatches { stats, config } => {
-            run_watches(alloc, stats, config, source, out, gate)
+        } => run_parts(alloc, parts, form, config, source, out, gate),
+        Command::RunWatches { form, config } => {
+            run_watches(alloc, form, config, source, out, gate)
         }
         Command::Bench { start, docs } => run_bench(alloc, start, docs, out, gate),
         Command::Save { config } => save_lines(alloc, config, source, out, gate),
-        Command::Load { stats } => load_lines(alloc, stats, source, out, gate),
+        Command::Load { form } => load_lines(alloc, form, source, out, gate),
     }
 }
 
@@ -125,37 +125,37 @@ fn run_lines<R: Threads + Sync, S: Source, K: Sink, G: Gate + Sync>(
     rt: &R,
     alloc: Global,
     overlap: bool,
-    stats: bool,
+    form: Form,
     config: Config,
     source: &mut S,
     out: &mut K,
     gate: &G,
 ) -> Status
-    ensures ends { Ends config overlap stats result (S.left source.old) (S.left source.new) (K.taken out.old) (K.taken out.new) }
+    ensures ends { Ends config overlap form result (S.left source.old) (S.left source.new) (K.taken out.old) (K.taken out.new) }
     ensures read_fault { result ≡ Status.ReadFault → HasRisen (S.faults source.old) (S.faults source.new) }
     ensures write_fault { result ≡ Status.WriteFault → HasRisen (K.faults out.old) (K.faults out.new) }
 {
     if overlap {
-        run_beside(rt, alloc, stats, config, source, out, gate)
+        run_beside(rt, alloc, form, config, source, out, gate)
     } else {
-        run_in_order(alloc, stats, config, source, out, gate)
+        run_in_order(alloc, form, config, source, out, gate)
     }
 }
 
 // Processes the lines one after the other.
 fn run_in_order<S: Source, K: Sink, G: Gate>(
     alloc: Global,
-    stats: bool,
+    form: Form,
     config: Config,
     source: &mut S,
     out: &mut K,
     gate: &G,
 ) -> Status
-    ensures ends { Ends config false stats result (S.left source.old) (S.left source.new) (K.taken out.old) (K.taken out.new) }
+    ensures ends { Ends config false form result (S.left source.old) (S.left source.new) (K.taken out.old) (K.taken out.new) }
     ensures read_fault { result ≡ Status.ReadFault → HasRisen (S.faults source.old) (S.faults source.new) }
     ensures write_fault { result ≡ Status.WriteFault → HasRisen (K.faults out.old) (K.faults out.new) }
 {
-    let Ok(indexed) = Indexed::new(alloc, stats, config) else {
+    let Ok(indexed) = Indexed::new(alloc, form, config) else {
         return Status::NoMemory;
     };
     answer_lines(alloc, indexed, source, out, gate)
@@ -165,17 +165,17 @@ fn run_in_order<S: Source, K: Sink, G: Gate>(
 fn run_beside<R: Threads + Sync, S: Source, K: Sink, G: Gate + Sync>(
     rt: &R,
     alloc: Global,
-    stats: bool,
+    form: Form,
     config: Config,
     source: &mut S,
     out: &mut K,
     gate: &G,
 ) -> Status
-    ensures ends { Ends config true stats result (S.left source.old) (S.left source.new) (K.taken out.old) (K.taken out.new) }
+    ensures ends { Ends config true form result (S.left source.old) (S.left source.new) (K.taken out.old) (K.taken out.new) }
     ensures read_fault { result ≡ Status.ReadFault → HasRisen (S.faults source.old) (S.faults source.new) }
     ensures write_fault { result ≡ Status.WriteFault → HasRisen (K.faults out.old) (K.faults out.new) }
 {
-    let Ok(running) = Running::new(alloc, stats, config) else {
+    let Ok(running) = Running::new(alloc, form, config) else {
         return Status::NoMemory;
     };
     let mut program = RunProgram {

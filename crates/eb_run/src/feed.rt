@@ -18,7 +18,7 @@ pub use command::{FeedCommand, read_feed_command};
 use eb_answer::answer_lines;
 use eb_base::{Config, Gate};
 use eb_io::{Sink, Source, write_all};
-use eb_lines::Status;
+use eb_lines::{Form, Status};
 use fed::Fed;
 use std::alloc::Global;
 
@@ -45,17 +45,17 @@ where
     ensures unread { feed_command_of (map string_bytes words.now) ≡ None → (source.new ≡ source.old) × (out.new ≡ out.old) }
     // Where the words ask for a feed, and source and `out` tell their bytes, the run printed the text of the input as the
     // status says.
-    ensures output { (keep : ℕ) (σ : Setting) → AsksFeed (map string_bytes words.now) keep σ
+    ensures output { (keep : ℕ) (form : Form) (σ : Setting) → AsksFeed (map string_bytes words.now) keep form σ
         → (bytes before : List ℕ) → S.left source.old ≡ Some bytes → K.taken out.old ≡ Some before
-        → (printed : List ℕ) × (K.taken out.new ≡ Some (before ++ printed)) × WroteFeed σ keep result bytes (S.left source.new) printed }
+        → (printed : List ℕ) × (K.taken out.new ≡ Some (before ++ printed)) × WroteFeed σ keep form result bytes (S.left source.new) printed }
     // What the status says of the input holds whatever becomes of the output.
-    ensures means { (keep : ℕ) (σ : Setting) → AsksFeed (map string_bytes words.now) keep σ → (bytes : List ℕ) → S.left source.old ≡ Some bytes
-        → FeedMeans σ keep result bytes (S.left source.new) }
+    ensures means { (keep : ℕ) (form : Form) (σ : Setting) → AsksFeed (map string_bytes words.now) keep form σ
+        → (bytes : List ℕ) → S.left source.old ≡ Some bytes → FeedMeans σ keep form result bytes (S.left source.new) }
     // Faults come only from outside.
     ensures read_fault { result ≡ Status.ReadFault → HasRisen (S.faults source.old) (S.faults source.new) }
     ensures write_fault { result ≡ Status.WriteFault → HasRisen (K.faults out.old) (K.faults out.new) }
     // Without a fault and with an end in time, the input is processed.
-    ensures completes { (keep : ℕ) (σ : Setting) → AsksFeed (map string_bytes words.now) keep σ
+    ensures completes { (keep : ℕ) (form : Form) (σ : Setting) → AsksFeed (map string_bytes words.now) keep form σ
         → (HasRisen (S.faults source.old) (S.faults source.new) → ⊥) → (HasRisen (K.faults out.old) (K.faults out.new) → ⊥)
         → (bytes : List ℕ) → S.left source.old ≡ Some bytes → length bytes < longest_input → IsWorkedOff result }
     // `err` took the line of the status, unless it failed.
@@ -77,8 +77,8 @@ fn run_words<S: Source, K: Sink, G: Gate>(
     ensures usage { result ≡ Status.Usage → feed_command_of (map string_bytes words.now) ≡ None }
     ensures no_command { feed_command_of (map string_bytes words.now) ≡ None → (result ≡ Status.Usage) ⊎ (result ≡ Status.NoMemory) }
     ensures unread { feed_command_of (map string_bytes words.now) ≡ None → (source.new ≡ source.old) × (out.new ≡ out.old) }
-    ensures ends { (keep : ℕ) (σ : Setting) → AsksFeed (map string_bytes words.now) keep σ
-        → let rules = feed_rules σ keep in
+    ensures ends { (keep : ℕ) (form : Form) (σ : Setting) → AsksFeed (map string_bytes words.now) keep form σ
+        → let rules = feed_rules σ keep form in
         Ends (IsBody is_bad rules) (IsText is_bad rules) (HasRefusal is_bad rules) (HasNoRefusal is_bad rules)
         result (S.left source.old) (S.left source.new) (K.taken out.old) (K.taken out.new) }
     ensures read_fault { result ≡ Status.ReadFault → HasRisen (S.faults source.old) (S.faults source.new) }
@@ -89,26 +89,28 @@ fn run_words<S: Source, K: Sink, G: Gate>(
         Err(CommandFault::Usage) => return Status::Usage,
         Err(CommandFault::NoMemory) => return Status::NoMemory,
     };
-    run_lines(alloc, command.keep, command.config, source, out, gate)
+    let FeedCommand { keep, form, config } = command;
+    run_lines(alloc, keep, form, config, source, out, gate)
 }
 
 // Processes an input over a feed.
 fn run_lines<S: Source, K: Sink, G: Gate>(
     alloc: Global,
     keep: u32,
+    form: Form,
     config: Config,
     source: &mut S,
     out: &mut K,
     gate: &G,
 ) -> Status
     requires { (2 ≤ keep) × (keep ≤ 64) }
-    ensures ends { let rules = feed_rules config keep in
+    ensures ends { let rules = feed_rules config keep form in
         Ends (IsBody is_bad rules) (IsText is_bad rules) (HasRefusal is_bad rules) (HasNoRefusal is_bad rules) result
         (S.left source.old) (S.left source.new) (K.taken out.old) (K.taken out.new) }
     ensures read_fault { result ≡ Status.ReadFault → HasRisen (S.faults source.old) (S.faults source.new) }
     ensures write_fault { result ≡ Status.WriteFault → HasRisen (K.faults out.old) (K.faults out.new) }
 {
-    let Ok(fed) = Fed::new(alloc, keep, config) else {
+    let Ok(fed) = Fed::new(alloc, keep, form, config) else {
         return Status::NoMemory;
     };
     answer_lines(alloc, fed, source, out, gate)

@@ -54,10 +54,10 @@ impl<W: Fn(&mut Running, &mut Vec<u8>) -> Result<(), NoMemory>> LineProgram for 
     }
 
     fn finish(&mut self, text: &mut Vec<u8>) -> Result<u64, NoMemory> {
-        let stats = self.running.stats;
+        let form = self.running.form;
         let counts = self.running.counts();
         let segments = self.running.finish();
-        put_end(self.alloc, text, counts, stats, segments)?;
+        put_end(text, form, counts, segments)?;
         Ok(counts.refused)
     }
 

@@ -13,16 +13,16 @@ ghost use Rattle.eb_run.specs.Running.{HasRun, HoldsNone, WorksOffHeld};
 use eb_base::{Config, Gate, NoMemory};
 use eb_engine::{Converter, Index, Writer};
 use eb_indexed::{Counts, SegmentCounts, close};
-use eb_lines::{LineKind, Refusal, line_kind};
+use eb_lines::{Form, LineKind, Refusal, line_kind};
 use eb_rounds::{Input, Kind, Rounds};
 use std::alloc::Global;
 use std::thread::Threads;
 
-// A run with overlap between two lines: whether the segments are told, the index of the accepted documents, the lines that are
+// A run with overlap between two lines: how what is printed is written, the index of the accepted documents, the lines that are
 // held, and the number of the last line given.
 #[derive(Drop)]
 pub(crate) struct Running {
-    pub(crate) stats: bool,
+    pub(crate) form: Form,
     index: Index,
     writer: Writer,
     converter: Converter,
@@ -32,12 +32,12 @@ pub(crate) struct Running {
 
 impl Running {
     // A run with an empty index. Takes all the memory of the index.
-    pub(crate) fn new(alloc: Global, stats: bool, config: Config) -> Result<Running, NoMemory>
-        ensures { IfOk result (λ running. HasRun running (asked config true stats) [] []) }
+    pub(crate) fn new(alloc: Global, form: Form, config: Config) -> Result<Running, NoMemory>
+        ensures { IfOk result (λ running. HasRun running (asked config true form) [] []) }
     {
         let (index, writer, converter) = Index::open(alloc, config)?;
         Ok(Running {
-            stats,
+            form,
             index,
             writer,
             converter,
@@ -83,6 +83,7 @@ impl Running {
             &mut self.writer,
             &mut self.converter,
             gate,
+            self.form,
             text,
         )
     }

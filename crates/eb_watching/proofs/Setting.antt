@@ -2,7 +2,7 @@
 use Rattle.std.proofs.Common.{◌≡◌, ℕ, Bool, true, false, List, [], ◌∷◌, ◌++◌, length, append-nil, Option, Some, None, refl, sym, ap, ap₂, subst, ◌∙◌, eqb→eq}
 use Rattle.std.specs.Prelude.{T, ◌==◌, Result, Ok, Err, if◌then◌else◌}
 use Rattle.std.proofs.lemmas.Bool.{false_from_ne_true}
-use Rattle.eb_answer.specs.Rules.{Rules, comes, watch_outcome, watches_after}
+use Rattle.eb_answer.specs.Rules.{Rules, watch_outcome, watches_after}
 use Rattle.eb_answer.specs.Stores.{IsOutcome, TakesOther}
 use Rattle.eb_base.specs.Document.{Doc}
 use Rattle.eb_base.specs.Query.{Tree}
@@ -10,7 +10,7 @@ use Rattle.eb_indexed.specs.Indexed.{Holds, WithPlaced}
 use Rattle.eb_indexed.specs.declared.indexed.Indexed.{Indexed}
 use Rattle.eb_lines.specs.declared.refusal.Refusal.{Refusal}
 use Rattle.eb_lines.specs.declared.refusal.Refusal.TheVariants.{Full, NoWatch, WatchTaken, WatchesFull}
-use Rattle.eb_lines.specs.Reading.{Reading, watch}
+use Rattle.eb_lines.specs.Reading.{watch}
 use Rattle.eb_watch.specs.Seen.{watches_of}
 use Rattle.eb_watch.specs.Watches.{Watched, is_set}
 use Rattle.eb_watching.specs.declared.watched.WatchedIndex.{WatchedIndex}
@@ -26,7 +26,7 @@ module _ (old new : WatchedIndex) (same : new.indexed ≡ old.indexed) where
   pub on : (rules : Rules (List Watched)) (docs : List Doc) (ws vs : List Watched) → IsWatched old rules docs ws → watches_of new.watches ≡ vs → IsWatched new rules docs vs
   on rules docs ws vs h set = record {
     setting = h.setting;
-    by_rules = h.by_rules ∙ ap (λ (i : Indexed). watch_rules h.setting i.stats) (sym same);
+    by_rules = h.by_rules ∙ ap (λ (i : Indexed). watch_rules h.setting i.form) (sym same);
     holds = subst (λ (i : Indexed). Holds i h.setting docs) (sym same) h.holds;
     set = set;
   }
@@ -53,20 +53,20 @@ module _ (old new : WatchedIndex) (same : new.indexed ≡ old.indexed) where
 -- ---- a document is placed, or there is no room for it
 
 module _ (old new : WatchedIndex) (rules : Rules (List Watched)) (docs : List Doc) (ws : List Watched) (d : Doc) (h : IsWatched old rules docs ws) where
-  pub places_one : WithPlaced new.indexed h.setting docs d true → new.indexed.stats ≡ old.indexed.stats → watches_of new.watches ≡ ws
+  pub places_one : WithPlaced new.indexed h.setting docs d true → new.indexed.form ≡ old.indexed.form → watches_of new.watches ≡ ws
       → (None ≡ rules.refusal docs d) × IsWatched new rules (docs ++ d ∷ []) ws
-  places_one placed stats set = (
+  places_one placed form set = (
     sym (ap (λ (r : Rules (List Watched)). r.refusal docs d) h.by_rules ∙ ap (λ b. if b then None else Some Full) placed.0),
-    record { setting = h.setting; by_rules = h.by_rules ∙ ap (watch_rules h.setting) (sym stats); holds = placed.1; set = set },
+    record { setting = h.setting; by_rules = h.by_rules ∙ ap (watch_rules h.setting) (sym form); holds = placed.1; set = set },
   )
 
-  pub places_none : WithPlaced new.indexed h.setting docs d false → new.indexed.stats ≡ old.indexed.stats → watches_of new.watches ≡ ws
+  pub places_none : WithPlaced new.indexed h.setting docs d false → new.indexed.form ≡ old.indexed.form → watches_of new.watches ≡ ws
       → (Some Full ≡ rules.refusal docs d) × IsWatched new rules (docs ++ []) ws
-  places_none placed stats set = (
+  places_none placed form set = (
     sym (ap (λ (r : Rules (List Watched)). r.refusal docs d) h.by_rules ∙ ap (λ b. if b then None else Some Full) placed.0),
     record {
       setting = h.setting;
-      by_rules = h.by_rules ∙ ap (watch_rules h.setting) (sym stats);
+      by_rules = h.by_rules ∙ ap (watch_rules h.setting) (sym form);
       holds = subst (Holds new.indexed h.setting) (sym (append-nil docs)) placed.1;
       set = set;
     },

@@ -1,9 +1,10 @@
 -- The rules of an index whose documents tell watches.
-use Rattle.std.specs.Prelude.{ℕ, ◌==◌, Bool, List, [], length, Option, Some, None, if◌then◌else◌}
+use Rattle.std.specs.Prelude.{ℕ, ◌==◌, List, [], length, Option, Some, None, if◌then◌else◌}
 use Rattle.eb_answer.specs.Rules.{Rules, IsBody, IsText, HasRefusal, HasNoRefusal}
 use Rattle.eb_base.specs.Query.{Tree}
 use Rattle.eb_base.specs.Setting.{Setting}
 use Rattle.eb_indexed.specs.IndexRules.{refusal_in, index_tail}
+use Rattle.eb_lines.specs.declared.form.Form.{Form}
 use Rattle.eb_lines.specs.declared.refusal.Refusal.{Refusal}
 use Rattle.eb_lines.specs.declared.refusal.Refusal.TheVariants.{NoWatch, WatchTaken, WatchesFull}
 use Rattle.eb_lines.specs.declared.status.Status.{Status}
@@ -22,8 +23,8 @@ watches_then ws n None = without_watch ws n
 
 -- an index of this setting, without documents or watches at first: a document tells the watches that it matches, and a query sees
 -- all documents
-abbrev pub watch_rules : Setting → Bool → Rules (List Watched)
-watch_rules σ stats = record {
+abbrev pub watch_rules : Setting → Form → Rules (List Watched)
+watch_rules σ form = record {
   start = [];
   watches = [];
   refusal = refusal_in σ;
@@ -31,7 +32,8 @@ watch_rules σ stats = record {
   sees = λ docs. docs;
   watch_refusal = watch_refusal;
   with_watch = watches_then;
-  tail = index_tail σ stats;
+  form = form;
+  tail = index_tail σ form;
 }
 
 -- what a run with watches that ends so has written, of an input of these bytes of which this is left

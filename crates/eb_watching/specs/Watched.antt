@@ -11,6 +11,6 @@ use Rattle.eb_watching.specs.WatchRules.{watch_rules}
 
 pub record IsWatched (s : WatchedIndex) (rules : Rules (List Watched)) (docs : List Doc) (ws : List Watched) : Type 0 where
   pub setting : Setting
-  pub by_rules : rules ≡ watch_rules setting s.indexed.stats
+  pub by_rules : rules ≡ watch_rules setting s.indexed.form
   pub holds : Holds s.indexed setting docs
   pub set : watches_of s.watches ≡ ws

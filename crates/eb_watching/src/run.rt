@@ -11,33 +11,33 @@ use crate::watched::WatchedIndex;
 use eb_answer::answer_lines;
 use eb_base::{Config, Gate};
 use eb_io::{Sink, Source};
-use eb_lines::Status;
+use eb_lines::{Form, Status};
 use std::alloc::Global;
 
 /// Processes the lines that the source gives, in order, with an index of this setting; prints answers, what watches are
 /// told, refusals and the summary on `out`. Lines are numbered from 1. A line `!N QUERY` sets the watch N, and `!N` takes it
 /// away (this project's profile, docs/FORMATS.md); a document that is accepted tells the numbers of the set watches whose
-/// query it matches, where there are any. A query sees all documents that were accepted before its line. With `stats` the
-/// line of the segments follows the summary.
+/// query it matches, where there are any. A query sees all documents that were accepted before its line. The form says
+/// how what is printed is written, and whether the segments are told after the summary.
 ///
 /// What lines print is written before the source is asked for a line that it hasn't given yet. The gate is told of each add
 /// and each search. Takes the memory of the index at once, and that of each watch while it is set.
 pub fn run_watches<S: Source, K: Sink, G: Gate>(
     alloc: Global,
-    stats: bool,
+    form: Form,
     config: Config,
     source: &mut S,
     out: &mut K,
     gate: &G,
 ) -> Status
-    ensures ends { let rules = watch_rules config stats in
+    ensures ends { let rules = watch_rules config form in
         Ends (IsBody ReadsOther rules) (IsText ReadsOther rules) (HasRefusal ReadsOther rules) (HasNoRefusal ReadsOther rules) result
         (S.left source.old) (S.left source.new) (K.taken out.old) (K.taken out.new) }
     // Where source and `out` tell their bytes, `out` took what the status says of the input.
     ensures output { (bytes before : List ℕ) → S.left source.old ≡ Some bytes → K.taken out.old ≡ Some before
-        → (printed : List ℕ) × (K.taken out.new ≡ Some (before ++ printed)) × WroteWatches (watch_rules config stats) result bytes (S.left source.new) printed }
+        → (printed : List ℕ) × (K.taken out.new ≡ Some (before ++ printed)) × WroteWatches (watch_rules config form) result bytes (S.left source.new) printed }
     // What the status says of the input holds whatever becomes of the output.
-    ensures means { (bytes : List ℕ) → S.left source.old ≡ Some bytes → MeansWatches (watch_rules config stats) result bytes (S.left source.new) }
+    ensures means { (bytes : List ℕ) → S.left source.old ≡ Some bytes → MeansWatches (watch_rules config form) result bytes (S.left source.new) }
     // Faults come only from outside.
     ensures read_fault { result ≡ Status.ReadFault → HasRisen (S.faults source.old) (S.faults source.new) }
     ensures write_fault { result ≡ Status.WriteFault → HasRisen (K.faults out.old) (K.faults out.new) }
@@ -45,24 +45,24 @@ pub fn run_watches<S: Source, K: Sink, G: Gate>(
     ensures completes { (HasRisen (S.faults source.old) (S.faults source.new) → ⊥) → (HasRisen (K.faults out.old) (K.faults out.new) → ⊥)
         → (bytes : List ℕ) → S.left source.old ≡ Some bytes → length bytes < longest_input → IsWorkedOff result }
 {
-    pass_watched(alloc, stats, config, source, out, gate)
+    pass_watched(alloc, form, config, source, out, gate)
 }
 
 fn pass_watched<S: Source, K: Sink, G: Gate>(
     alloc: Global,
-    stats: bool,
+    form: Form,
     config: Config,
     source: &mut S,
     out: &mut K,
     gate: &G,
 ) -> Status
-    ensures ends { let rules = watch_rules config stats in
+    ensures ends { let rules = watch_rules config form in
         Ends (IsBody ReadsOther rules) (IsText ReadsOther rules) (HasRefusal ReadsOther rules) (HasNoRefusal ReadsOther rules) result
         (S.left source.old) (S.left source.new) (K.taken out.old) (K.taken out.new) }
     ensures read_fault { result ≡ Status.ReadFault → HasRisen (S.faults source.old) (S.faults source.new) }
     ensures write_fault { result ≡ Status.WriteFault → HasRisen (K.faults out.old) (K.faults out.new) }
 {
-    let Ok(watched) = WatchedIndex::new(alloc, stats, config) else {
+    let Ok(watched) = WatchedIndex::new(alloc, form, config) else {
         return Status::NoMemory;
     };
     answer_lines(alloc, watched, source, out, gate)

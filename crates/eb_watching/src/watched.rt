@@ -16,7 +16,7 @@ use eb_answer::Store;
 use eb_base::{Config, Document, Gate, NoMemory, Query};
 use eb_cursor::Frame;
 use eb_indexed::Indexed;
-use eb_lines::{Refusal, put_answer};
+use eb_lines::{Form, Refusal, Tail, line_room, put_answer};
 use eb_place::Steps;
 use eb_watch::{NoWatch, SetFault, Watches};
 use std::alloc::Global;
@@ -48,10 +48,10 @@ fn told_of<L: Ledger>(
 
 impl WatchedIndex {
     // An empty index, and no watches. Takes all the memory of the index.
-    pub(crate) fn new(alloc: Global, stats: bool, config: Config) -> Result<WatchedIndex, NoMemory>
-        ensures { IfOk result (λ s. IsWatched s (watch_rules config stats) [] []) }
+    pub(crate) fn new(alloc: Global, form: Form, config: Config) -> Result<WatchedIndex, NoMemory>
+        ensures { IfOk result (λ s. IsWatched s (watch_rules config form) [] []) }
     {
-        let indexed = Indexed::new(alloc, stats, config)?;
+        let indexed = Indexed::new(alloc, form, config)?;
         Ok(WatchedIndex {
             indexed,
             watches: Watches::new(alloc),
@@ -125,9 +125,9 @@ impl Store for WatchedIndex {
         text: &mut Vec<u8>,
     ) -> Result<(), NoMemory> {
         let mut frame = Frame::new(alloc, query, k)?;
-        text.reserve(64 + 21 * k as usize)?;
+        text.reserve(line_room(k as usize))?;
         let seen = self.indexed.search(&mut frame, gate);
-        put_answer(text, number, seen, frame.ids());
+        put_answer(text, self.indexed.form(), number, seen, frame.ids());
         Ok(())
     }
 
@@ -135,7 +135,11 @@ impl Store for WatchedIndex {
         self.indexed.accepted()
     }
 
-    fn close(&mut self, alloc: Global) -> Result<String, NoMemory> {
-        self.indexed.tail(alloc)
+    fn form(&self) -> Form {
+        self.indexed.form()
+    }
+
+    fn close(&mut self, _alloc: Global) -> Result<Tail, NoMemory> {
+        Ok(self.indexed.tail())
     }
 }

@@ -1,9 +1,13 @@
 -- Before the first line.
-use Rattle.std.proofs.Common.{◌≡◌, ◌+◌, List, [], sym, ap, subst, ◌∙◌, arith}
+use Rattle.std.proofs.Common.{◌≡◌, ℕ, ◌+◌, List, [], sym, ap, subst, ◌∙◌, arith}
 use Rattle.std.specs.Prelude.{Option, Some}
 use Rattle.std.proofs.lemmas.List.Elements.{All-nil}
+use Rattle.eb_base.specs.Document.{Doc}
+use Rattle.eb_base.specs.Setting.{Setting}
 use Rattle.eb_lines.specs.Progress.{accepted, queries, refusals}
 use Rattle.eb_lines.specs.Reads.{Reads}
+use Rattle.eb_place.specs.Room.{cut}
+use Rattle.eb_indexed.specs.Conversions.{AreConverted}
 use Rattle.eb_indexed.proofs.LinesRead.{read_none}
 use Rattle.eb_indexed.proofs.Texts.{body_none}
 use Rattle.eb_serve.specs.Desk.{Queues, ClerkBook, new_clerk}
@@ -23,22 +27,28 @@ pub new_side : (q : Queues) (w : Words) (o : Option Side) (s : Side) → IsNewSi
     → (s.clerk ≡ new_clerk q w) × (s.writer.index ≡ w) × (s.writer.docs ≡ []) × (s.converter.index ≡ w)
 new_side q w o s h e = subst (IsNewSide q w) (sym e) h
 
-pub served_none : (s : Serving) (o : Office) (stats : _) → s.office ≡ o → o.clerk ≡ new_clerk o.desk.now.queues o.index.now
+-- nothing is closed
+none_closed : (σ : Setting) (n : ℕ) → AreConverted σ [] n
+unfolding cut
+none_closed σ n = record { each = λ s h. absurd (omega (arith, h)) }
+
+pub served_none : (s : Serving) (o : Office) (form : _) → s.office ≡ o → o.clerk ≡ new_clerk o.desk.now.queues o.index.now
     → o.writer.index ≡ o.index.now → o.writer.docs ≡ [] → o.converter.index ≡ o.index.now
-    → s.stats ≡ stats → (s.number ≡ 0) × (s.queries ≡ 0) × (s.refused ≡ 0) → s.waiting.items ≡ [] → HasServed s (asked o.index.now.setting stats) [] []
+    → s.form ≡ form → (s.number ≡ 0) × (s.queries ≡ 0) × (s.refused ≡ 0) → s.waiting.items ≡ [] → HasServed s (asked o.index.now.setting form) [] []
 unfolding accepted queries refusals
-served_none s o stats office clerk writer docs converter told counts items =
+served_none s o form office clerk writer docs converter told counts items =
     let none : s.office.writer.docs ≡ [] = ap (λ (x : Office). x.writer.docs) office ∙ docs in
     let staffed : IsStaffed o = record {
       clerk = (ap (λ (k : ClerkBook). k.queues) clerk, ap (λ (k : ClerkBook). k.index) clerk, ap (λ (k : ClerkBook). k.stops) clerk);
       writer = writer;
       converter = converter;
+      converted = subst (λ (ds : List Doc). AreConverted o.index.now.setting ds o.converter.converted) (sym docs) (none_closed o.index.now.setting o.converter.converted);
     } in
     let put : s.office.clerk.put ≡ [] = ap (λ (x : Office). x.clerk.put) office ∙ ap (λ (k : ClerkBook). k.put) clerk in
     record {
       staffed = subst (λ (x : Office). IsStaffed x) (sym office) staffed;
       setting = ap (λ (x : Office). x.index.now.setting) office;
-      stats = told;
+      form = told;
       done = [];
       ahead = [];
       numbers = λ j. 0;
@@ -53,7 +63,7 @@ served_none s o stats office clerk writer docs converter told counts items =
       least = λ j e. (let no : ⊥ = cc (get_behind [] j (omega arith), e) in absurd no);
       most = λ j. omega arith;
       waiting = subst (λ (xs : List Waiting). AreWaiting s.office.writer.docs 0 [] xs) (sym items) tt;
-      printed = sym (body_none (λ j. 0) s.office.writer.docs 0);
+      printed = sym (body_none form (λ j. 0) s.office.writer.docs 0);
     }
 
 pub body_none_given : (a : Asked) → IsWorkersBody a [] []
@@ -63,5 +73,5 @@ body_none_given a = record {
   numbers = λ j. 0;
   read = read_none Reads a.setting [];
   sees = record { least = λ j e. (let no : ⊥ = cc (get_behind [] j (omega arith), e) in absurd no); most = λ j e. omega arith };
-  bytes = sym (body_none (λ j. 0) (accepted []) 0);
+  bytes = sym (body_none a.form (λ j. 0) (accepted []) 0);
 }

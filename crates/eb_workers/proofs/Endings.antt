@@ -22,12 +22,12 @@ none_left (x ∷ xs) e = absurd (omega (arith, e))
 
 -- all is printed where no line waits
 pub body_over : (s : Serving) (a : Asked) (given : List Line) (so_far : List ℕ) (h : HasServed s a given so_far)
-    → s.waiting.items ≡ [] → so_far ≡ body (numbers_all s a given so_far h) (h.done ++ h.ahead)
+    → s.waiting.items ≡ [] → so_far ≡ body a.form (numbers_all s a given so_far h) (h.done ++ h.ahead)
 body_over s a given so_far h none =
     let rs = h.done ++ h.ahead in
     let n = numbers_all s a given so_far h in
     let empty : h.ahead ≡ [] = none_left h.ahead (waiting_long s.office.writer.docs (length (accepted h.done)) h.ahead s.waiting.items h.waiting ∙ ap length none) in
-    let over : body_from n (accepted rs) (length h.done) h.ahead ≡ [] = ap (body_from n (accepted rs) (length h.done)) empty ∙ body_none n (accepted rs) (length h.done) in
+    let over : body_from a.form n (accepted rs) (length h.done) h.ahead ≡ [] = ap (body_from a.form n (accepted rs) (length h.done)) empty ∙ body_none a.form n (accepted rs) (length h.done) in
     sym (body_all s a given so_far h ∙ ap (λ b. so_far ++ b) over ∙ append-nil so_far)
 
 -- where no line waits, what was printed is what all lines print
@@ -36,7 +36,7 @@ served_body s a given so_far h none =
     record { readings = h.done ++ h.ahead; numbers = numbers_all s a given so_far h; read = h.read; sees = sees_all s a given so_far h; bytes = body_over s a given so_far h none }
 
 pub served_ends : (s : Serving) (t0 t1 : List ℕ) (documents begun converted : ℕ) (a : Asked) (given : List Line) (so_far : List ℕ)
-    → t1 ≡ t0 ++ summary_with documents s.queries s.refused (segments_tail s.stats begun converted) → documents ≡ length s.office.writer.docs
+    → t1 ≡ t0 ++ summary_with s.form documents s.queries s.refused (segments_tail s.form begun converted) → documents ≡ length s.office.writer.docs
     → begun ≡ length (cut s.office.index.now.setting s.office.writer.docs) → converted ≡ most_converted (length (cut s.office.index.now.setting s.office.writer.docs)) → s.waiting.items ≡ []
     → HasServed s a given so_far → Finishes HasServed IsWorkersText (λ x. HasRefusal x.setting) (λ x. HasNoRefusal x.setting) s t0 t1 s.refused a given so_far
 served_ends s t0 t1 documents begun converted a given so_far put count segments packed none h =
@@ -46,10 +46,10 @@ served_ends s t0 t1 documents begun converted a given so_far put count segments 
     let begun_is = segments ∙ cuts in
     let converted_is = packed ∙ ap most_converted cuts in
     record {
-      printed = end_of a.setting a.stats rs;
+      printed = end_of a.setting a.form rs;
       whole =
           body_text a given so_far (record { readings = rs; numbers = numbers_all s a given so_far h; read = h.read; sees = sees_all s a given so_far h; bytes = body_over s a given so_far h none });
-      text = put ∙ (λ i. t0 ++ summary_with (added i) (h.queries i) (h.refused i) (segments_tail (h.stats i) (begun_is i) (converted_is i)));
+      text = put ∙ (λ i. t0 ++ summary_with (h.form i) (added i) (h.queries i) (h.refused i) (segments_tail (h.form i) (begun_is i) (converted_is i)));
       some = λ n e. (rs, h.read, omega (arith, e, h.refused));
       none = λ e. (rs, h.read, sym h.refused ∙ e);
     }

@@ -1,5 +1,6 @@
 pub mod Waits
 pub mod NextLines
+pub mod Staffing
 pub mod Servings
 pub mod Endings
 pub mod Beginnings

@@ -1,6 +1,7 @@
 -- The next line is printed.
 use Rattle.std.proofs.Common.{◌≡◌, ℕ, ◌+◌, ◌<◌, ◌≤◌, ◌⊎◌, inl, inr, true, List, [], ◌∷◌, ◌++◌, length, refl, sym, ap, ap₂, subst, ◌∙◌, arith, length-append}
 use Rattle.eb_base.specs.Document.{Doc}
+use Rattle.eb_lines.specs.declared.form.Form.{Form}
 use Rattle.eb_lines.specs.Reading.{Reading}
 use Rattle.eb_lines.specs.Progress.{documents_in, accepted, told, is_query}
 use Rattle.eb_lines.specs.Text.{answer_line}
@@ -22,11 +23,11 @@ seen_by (waits.Refused x) = 0
 seen_by (waits.Asked t k q) = 0
 seen_by (waits.Answered seen frame) = seen
 
-pub prints_as : (docs : List Doc) (t : ℕ) (r : Reading) (w : Waiting) (number : ℕ) → IsReady w → WaitsAs docs t r w → printed_by number w ≡ output_of number (seen_by w) docs r
-prints_as docs t r waits.Nothing number ready h = sym (h.nothing number 0 docs)
-prints_as docs t r (waits.Refused x) number ready h = rw h refl
-prints_as docs t r (waits.Asked told k q) number ready h = absurd ready
-prints_as docs t r (waits.Answered seen frame) number ready h = ap (answer_line number seen) h.3 ∙ sym (ap (output_of number seen docs) h.0)
+pub prints_as : (form : Form) (docs : List Doc) (t : ℕ) (r : Reading) (w : Waiting) (number : ℕ) → IsReady w → WaitsAs docs t r w → printed_by form number w ≡ output_of form number (seen_by w) docs r
+prints_as form docs t r waits.Nothing number ready h = sym (h.nothing form number 0 docs)
+prints_as form docs t r (waits.Refused x) number ready h = rw h refl
+prints_as form docs t r (waits.Asked told k q) number ready h = absurd ready
+prints_as form docs t r (waits.Answered seen frame) number ready h = ap (answer_line form number seen) h.3 ∙ sym (ap (output_of form number seen docs) h.0)
 
 pub seen_within : (docs : List Doc) (t : ℕ) (r : Reading) (w : Waiting) → WaitsAs docs t r w → seen_by w ≤ length docs
 seen_within docs t r waits.Nothing h = omega arith
@@ -75,8 +76,8 @@ module _ (docs : List Doc) (done : List Reading) (r : Reading) (w : Waiting) (n 
     | inr high ↦ omega (arith, joined_back (length done) n (λ i. seen_by w) j high, seen_within docs (length (accepted done)) r w stands)
   ]
 
-  pub body_on : (number : ℕ) → number ≡ length done + 1 → body_from numbers_on docs 0 (done ++ r ∷ []) ≡ body_from n docs 0 done ++ printed_by number w
-  body_on number is =
-      body_append numbers_on docs 0 (length done) done (r ∷ []) (omega arith)
-      ∙ ap₂ (λ x y. x ++ y) (joined_body (length done) n (λ i. seen_by w) docs done refl)
-      (body_one numbers_on docs (length done) r ∙ ap₂ (λ i s. output_of i s docs r) (sym is) at_end ∙ sym (prints_as docs (length (accepted done)) r w number ready stands))
+  pub body_on : (form : Form) (number : ℕ) → number ≡ length done + 1 → body_from form numbers_on docs 0 (done ++ r ∷ []) ≡ body_from form n docs 0 done ++ printed_by form number w
+  body_on form number is =
+      body_append form numbers_on docs 0 (length done) done (r ∷ []) (omega arith)
+      ∙ ap₂ (λ x y. x ++ y) (joined_body (length done) n (λ i. seen_by w) form docs done refl)
+      (body_one form numbers_on docs (length done) r ∙ ap₂ (λ i s. output_of form i s docs r) (sym is) at_end ∙ sym (prints_as form docs (length (accepted done)) r w number ready stands))

@@ -9,6 +9,7 @@ use Rattle.eb_cursor.specs.declared.frame.Frame.{Frame}
 use Rattle.eb_cursor.specs.Frames.{query_of, k_of, ids_of}
 use Rattle.eb_engine.specs.Tokens.{HistoryToken}
 use Rattle.eb_io.specs.Lines.{Line}
+use Rattle.eb_lines.specs.declared.form.Form.{Form}
 use Rattle.eb_lines.specs.Programs.{IsRunning, WorksOn, WorksOnGiven}
 use Rattle.eb_lines.specs.Reading.{Reading}
 use Rattle.eb_lines.specs.Reads.{Reads}
@@ -42,7 +43,7 @@ served_further old new a given so_far f h =
     record {
       staffed = f.keeps.staffed;
       setting = ap (λ (x : Words). x.setting) f.keeps.index ∙ h.setting;
-      stats = f.stats ∙ h.stats;
+      form = f.form ∙ h.form;
       done = h.done;
       ahead = h.ahead;
       numbers = h.numbers;
@@ -57,7 +58,7 @@ served_further old new a given so_far f h =
       least = h.least;
       most = λ j. subst (λ (ds : List Doc). h.numbers j ≤ length ds) (sym docs) (h.most j);
       waiting = subst (λ (ds : List Doc). AreWaiting ds (length (accepted h.done)) h.ahead new.waiting.items) (sym docs) (f.waiting (length (accepted h.done)) h.ahead h.waiting);
-      printed = h.printed ∙ ap (λ ds. body_from h.numbers ds 0 h.done) (sym docs);
+      printed = h.printed ∙ ap (λ ds. body_from a.form h.numbers ds 0 h.done) (sym docs);
     }
 
 pub further_on : (old new : Serving) (text : List ℕ) → IsFurther old new → WorksOn HasServed old new text text
@@ -83,7 +84,7 @@ further_trans old mid new f g =
       keeps = record { staffed = g.keeps.staffed; index = g.keeps.index ∙ f.keeps.index };
       writer = g.writer ∙ f.writer;
       put = g.put ∙ f.put;
-      stats = g.stats ∙ f.stats;
+      form = g.form ∙ f.form;
       number = g.number ∙ f.number;
       queries = g.queries ∙ f.queries;
       refused = g.refused ∙ f.refused;
@@ -95,10 +96,10 @@ further_trans old mid new f g =
 -- an answer is taken in
 pub further_in : (old new : Serving) (at seen : ℕ) (frame : Frame) (known : List Doc) → Keeps old.office new.office
     → new.office.writer ≡ old.office.writer → new.office.clerk.put ≡ old.office.clerk.put
-    → new.stats ≡ old.stats → new.number ≡ old.number → new.queries ≡ old.queries → new.refused ≡ old.refused → AwaitsAt old.waiting.items at frame seen
+    → new.form ≡ old.form → new.number ≡ old.number → new.queries ≡ old.queries → new.refused ≡ old.refused → AwaitsAt old.waiting.items at frame seen
     → new.waiting.items ≡ set old.waiting.items at (waits.Answered seen frame) → ids_of frame ≡ answer (query_of frame) (k_of frame) known → seen ≡ length known
     → IsPrefix known new.office.writer.docs → IsFurther old new
-further_in old new at seen frame known keeps writer put stats number queries refused awaits items ids count prefix =
+further_in old new at seen frame known keeps writer put form number queries refused awaits items ids count prefix =
     let docs : new.office.writer.docs ≡ old.office.writer.docs = ap (λ (t : HistoryToken). t.docs) writer in
     let whole : known ++ prefix.0 ≡ old.office.writer.docs = prefix.1 ∙ docs in
     let front : take seen old.office.writer.docs ≡ known = ap₂ (λ n ds. take n ds) count (sym whole) ∙ take-append_seam known prefix.0 in
@@ -108,7 +109,7 @@ further_in old new at seen frame known keeps writer put stats number queries ref
       keeps = keeps;
       writer = writer;
       put = put;
-      stats = stats;
+      form = form;
       number = number;
       queries = queries;
       refused = refused;
@@ -119,10 +120,10 @@ further_in old new at seen frame known keeps writer put stats number queries ref
 
 -- ---- the next line is printed
 
-module _ (old new : Serving) (w : Waiting) (ws : List Waiting) (text text_new : List ℕ) (n : ℕ) (office : new.office ≡ old.office) (stats : new.stats ≡ old.stats) (number : new.number ≡ old.number)
+module _ (old new : Serving) (w : Waiting) (ws : List Waiting) (text text_new : List ℕ) (n : ℕ) (office : new.office ≡ old.office) (form : new.form ≡ old.form) (number : new.number ≡ old.number)
     (queries_same : new.queries ≡ old.queries) (refused_same : new.refused ≡ old.refused) (first : old.waiting.items ≡ w ∷ ws) (rest : new.waiting.items ≡ ws) (ready : IsReady w)
-    (is : n ≡ old.number - length ws) (put : text_new ≡ text ++ printed_by n w) where
-  served_printed : (a : Asked) (given : List Line) (so_far : List ℕ) → HasServed old a given so_far → HasServed new a given (so_far ++ printed_by n w)
+    (is : n ≡ old.number - length ws) (put : text_new ≡ text ++ printed_by old.form n w) where
+  served_printed : (a : Asked) (given : List Line) (so_far : List ℕ) → HasServed old a given so_far → HasServed new a given (so_far ++ printed_by a.form n w)
   served_printed a given so_far h =
       let docs = old.office.writer.docs in
       let same : new.office.writer.docs ≡ docs = ap (λ (o : Office). o.writer.docs) office in
@@ -136,7 +137,7 @@ module _ (old new : Serving) (w : Waiting) (ws : List Waiting) (text text_new : 
       record {
         staffed = subst (λ (o : Office). IsStaffed o) (sym office) h.staffed;
         setting = ap (λ (o : Office). o.index.now.setting) office ∙ h.setting;
-        stats = stats ∙ h.stats;
+        form = form ∙ h.form;
         done = h.done ++ r ∷ [];
         ahead = s.1;
         numbers = numbers_on docs h.done r w h.numbers ready s.3;
@@ -154,18 +155,18 @@ module _ (old new : Serving) (w : Waiting) (ws : List Waiting) (text text_new : 
             let A : List Doc → ℕ → List Waiting → Type 0 = λ ds t xs. AreWaiting ds t s.1 xs in
             subst (λ ds. A ds (length (accepted (h.done ++ r ∷ []))) new.waiting.items) (sym same)
             (subst (λ t. A docs t new.waiting.items) (sym told) (subst (λ xs. A docs (length (accepted h.done) + length (documents_in r)) xs) (sym rest) s.4));
-        printed = ap (λ b. b ++ printed_by n w) h.printed ∙ sym (body_on docs h.done r w h.numbers ready s.3 n at)
-            ∙ ap (λ ds. body_from (numbers_on docs h.done r w h.numbers ready s.3) ds 0 (h.done ++ r ∷ [])) (sym same);
+        printed = ap (λ b. b ++ printed_by a.form n w) h.printed ∙ sym (body_on docs h.done r w h.numbers ready s.3 a.form n at)
+            ∙ ap (λ ds. body_from a.form (numbers_on docs h.done r w h.numbers ready s.3) ds 0 (h.done ++ r ∷ [])) (sym same);
       }
 
   pub printed_on : WorksOn HasServed old new text text_new
-  printed_on = λ a given so_far h. (printed_by n w, served_printed a given so_far h, put)
+  printed_on = λ a given so_far h. (printed_by a.form n w, served_printed a given so_far h, put ∙ ap (λ (f : Form). text ++ printed_by f n w) h.form)
 
 -- ---- a line is taken
 
 module _ (old new : Serving) (r : Reading) (w : Waiting) (own : Reading) (is : admit old.office.index.now.setting old.office.writer.docs r ≡ own) (keeps : Keeps old.office new.office)
     (docs : new.office.writer.docs ≡ old.office.writer.docs ++ documents_in own)
-    (stats : new.stats ≡ old.stats) (number : new.number ≡ old.number + 1) (asks : new.queries ≡ old.queries + one_if (is_query own))
+    (form : new.form ≡ old.form) (number : new.number ≡ old.number + 1) (asks : new.queries ≡ old.queries + one_if (is_query own))
     (fails : new.refused ≡ old.refused + one_if (is_refused own)) (low : (one_if (is_query own) ≤ 1) × (one_if (is_refused own) ≤ 1)) (above : IsAboveEach (new.number + 1) new.office.clerk.put)
     (items : new.waiting.items ≡ old.waiting.items ++ w ∷ []) (stands : WaitsAs (old.office.writer.docs ++ documents_in own) (length old.office.writer.docs) own w) where
   pub served_line : TakesLine old new r
@@ -183,7 +184,7 @@ module _ (old new : Serving) (r : Reading) (w : Waiting) (own : Reading) (is : a
       record {
         staffed = keeps.staffed;
         setting = ap (λ (x : Words). x.setting) keeps.index ∙ h.setting;
-        stats = stats ∙ h.stats;
+        form = form ∙ h.form;
         done = h.done;
         ahead = h.ahead ++ own ∷ [];
         numbers = h.numbers;
@@ -201,7 +202,7 @@ module _ (old new : Serving) (r : Reading) (w : Waiting) (own : Reading) (is : a
             let A : List Doc → List Waiting → Type 0 = λ ds xs. AreWaiting ds (length (accepted h.done)) (h.ahead ++ own ∷ []) xs in
             subst (λ ds. A ds new.waiting.items) (sym docs) (subst (λ xs. A (before ++ more) xs) (sym items)
             (waiting_push (before ++ more) (length (accepted h.done)) h.ahead old.waiting.items own w grown (subst (λ t. WaitsAs (before ++ more) t own w) (sym told) stands)));
-        printed = h.printed ∙ body_grown h.numbers before more 0 h.done h.most ∙ ap (λ ds. body_from h.numbers ds 0 h.done) (sym docs);
+        printed = h.printed ∙ body_grown a.form h.numbers before more 0 h.done h.most ∙ ap (λ ds. body_from a.form h.numbers ds 0 h.done) (sym docs);
       }
 
 -- ---- the lines that wait
@@ -210,13 +211,13 @@ pub above_more : (n : ℕ) (ps : List Pair) → IsAboveEach n ps → IsAboveEach
 above_more n ps a = All-weaker (λ (q : Pair). q.number < n) (λ q. q.number < n + 1) (λ q h. omega (arith, h)) ps a
 
 -- the same lines wait
-pub further_items : (old new : Serving) → IsStaffed old.office → new.office ≡ old.office → new.stats ≡ old.stats → new.number ≡ old.number → new.queries ≡ old.queries → new.refused ≡ old.refused
+pub further_items : (old new : Serving) → IsStaffed old.office → new.office ≡ old.office → new.form ≡ old.form → new.number ≡ old.number → new.queries ≡ old.queries → new.refused ≡ old.refused
     → new.waiting.items ≡ old.waiting.items → IsFurther old new
-further_items old new staffed office stats number asks fails items = record {
+further_items old new staffed office form number asks fails items = record {
   keeps = record { staffed = subst (λ (o : Office). IsStaffed o) (sym office) staffed; index = ap (λ (o : Office). o.index.now) office };
   writer = ap (λ (o : Office). o.writer) office;
   put = ap (λ (o : Office). o.clerk.put) office;
-  stats = stats;
+  form = form;
   number = number;
   queries = asks;
   refused = fails;
@@ -230,10 +231,10 @@ pub next_is : (items : List Waiting) (need : ℕ) (w : Waiting) (ws : List Waiti
 next_is items need w ws h e = subst (λ (xs : List Waiting). NextNeeds xs need) e h
 
 pub room_on : (old mid new : Serving) (t0 t1 : List ℕ) → IsRunning HasServed old → WorksOn HasServed old mid t0 t1
-    → new.office ≡ mid.office → new.stats ≡ mid.stats → new.number ≡ mid.number → new.queries ≡ mid.queries
+    → new.office ≡ mid.office → new.form ≡ mid.form → new.number ≡ mid.number → new.queries ≡ mid.queries
     → new.refused ≡ mid.refused → new.waiting.items ≡ mid.waiting.items → WorksOn HasServed old new t0 t1
-room_on old mid new t0 t1 r f office stats number asks fails items =
-    on_on old mid new t0 t1 t1 f (further_on mid new t1 (further_items mid new (goes_running old mid t0 t1 r f).3.staffed office stats number asks fails items))
+room_on old mid new t0 t1 r f office form number asks fails items =
+    on_on old mid new t0 t1 t1 f (further_on mid new t1 (further_items mid new (goes_running old mid t0 t1 r f).3.staffed office form number asks fails items))
 
 pub same_number : (old new : Serving) (t0 t1 : List ℕ) → IsRunning HasServed old → WorksOn HasServed old new t0 t1 → new.number ≡ old.number
 same_number old new t0 t1 r f = works_number HasServed (λ (s : Serving). s.number) (λ s a given so_far h. h.number) old new t0 t1 r f

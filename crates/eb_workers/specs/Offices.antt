@@ -1,17 +1,20 @@
 -- A desk with its clerk, beside the writer and the converter of its index.
 use Rattle.std.specs.Prelude.{◌≡◌, Bool, true, false, [], ◌∷◌, ◌++◌, Option, Some, None}
 use Rattle.eb_base.specs.Document.{Doc}
+use Rattle.eb_indexed.specs.Conversions.{AreConverted}
 use Rattle.eb_place.specs.Room.{has_room, HasRoom}
 use Rattle.eb_serve.specs.Desk.{Queues, IsOpen, new_clerk}
 use Rattle.eb_table.specs.Known.{Words}
 use Rattle.eb_workers.specs.declared.office.Side.{Side}
 use Rattle.eb_workers.specs.declared.office.Office.{Office}
 
--- the clerk is the desk's and has put no stop, and all are of the index
+-- the clerk is the desk's and has put no stop, all are of the index, and each segment whose following segment has a document is
+-- converted
 pub record IsStaffed (o : Office) : Type 0 where
   pub clerk : IsOpen o.desk.now.queues o.index.now o.clerk
   pub writer : o.writer.index ≡ o.index.now
   pub converter : o.converter.index ≡ o.index.now
+  pub converted : AreConverted o.index.now.setting o.writer.docs o.converter.converted
 
 -- the office is still one of the same index
 pub record Keeps (old new : Office) : Type 0 where

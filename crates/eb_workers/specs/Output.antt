@@ -1,7 +1,8 @@
 -- What a run with workers prints for the lines of an input.
-use Rattle.std.specs.Prelude.{◌≡◌, ℕ, ◌≤◌, Bool, List, ◌++◌, length, Option}
+use Rattle.std.specs.Prelude.{◌≡◌, ℕ, ◌≤◌, List, ◌++◌, length, Option}
 use Rattle.eb_base.specs.Setting.{Setting}
 use Rattle.eb_io.specs.Lines.{Line, lines_of}
+use Rattle.eb_lines.specs.declared.form.Form.{Form}
 use Rattle.eb_lines.specs.Outcomes.{Wrote, Means}
 use Rattle.eb_lines.specs.declared.status.Status.{Status}
 use Rattle.eb_lines.specs.Progress.{accepted, told}
@@ -10,13 +11,13 @@ use Rattle.eb_indexed.specs.LinesRead.{AreRead, HasRefusal, HasNoRefusal}
 use Rattle.eb_indexed.specs.Sees.{IsAsked}
 use Rattle.eb_indexed.specs.Text.{body, end_of}
 
--- the setting of the index, and whether the segments are told
+-- the setting of the index, and how what is printed is written
 pub record Asked : Type 0 where
   pub setting : Setting
-  pub stats : Bool
+  pub form : Form
 
-abbrev pub asked : Setting → Bool → Asked
-asked σ stats = record { setting = σ; stats = stats }
+abbrev pub asked : Setting → Form → Asked
+asked σ form = record { setting = σ; form = form }
 
 -- each query sees at least the documents accepted before its line, and no more than all
 pub record SeesTold (rs : List Reading) (n : ℕ → ℕ) : Type 0 where
@@ -29,7 +30,7 @@ pub record IsWorkersBody (a : Asked) (lines : List Line) (printed : List ℕ) : 
   pub numbers : ℕ → ℕ
   pub read : AreRead a.setting lines readings
   pub sees : SeesTold readings numbers
-  pub bytes : printed ≡ body numbers readings
+  pub bytes : printed ≡ body a.form numbers readings
 
 -- the whole text of these lines
 pub record IsWorkersText (a : Asked) (lines : List Line) (printed : List ℕ) : Type 0 where
@@ -37,11 +38,11 @@ pub record IsWorkersText (a : Asked) (lines : List Line) (printed : List ℕ) : 
   pub numbers : ℕ → ℕ
   pub read : AreRead a.setting lines readings
   pub sees : SeesTold readings numbers
-  pub bytes : printed ≡ body numbers readings ++ end_of a.setting a.stats readings
+  pub bytes : printed ≡ body a.form numbers readings ++ end_of a.setting a.form readings
 
 -- the text of an input of these bytes
-abbrev pub IsWorkersOutput : Setting → Bool → List ℕ → List ℕ → Type 0
-IsWorkersOutput σ stats bytes printed = IsWorkersText (asked σ stats) (lines_of bytes) printed
+abbrev pub IsWorkersOutput : Setting → Form → List ℕ → List ℕ → Type 0
+IsWorkersOutput σ form bytes printed = IsWorkersText (asked σ form) (lines_of bytes) printed
 
 -- what a run with workers that ends so has printed, of an input of these bytes of which this is left
 abbrev pub WroteWorkers : Asked → Status → List ℕ → Option (List ℕ) → List ℕ → Type 0

@@ -17,7 +17,7 @@ use Rattle.eb_workers.specs.Waiting.{AreWaiting}
 pub record HasServed (s : Serving) (a : Asked) (given : List Line) (so_far : List ℕ) : Type 0 where
   pub staffed : IsStaffed s.office
   pub setting : s.office.index.now.setting ≡ a.setting
-  pub stats : s.stats ≡ a.stats
+  pub form : s.form ≡ a.form
   pub done : List Reading
   pub ahead : List Reading
   pub numbers : ℕ → ℕ
@@ -32,14 +32,14 @@ pub record HasServed (s : Serving) (a : Asked) (given : List Line) (so_far : Lis
   pub least : (j : ℕ) → IsAsked done j → told done j ≤ numbers j
   pub most : (j : ℕ) → numbers j ≤ length s.office.writer.docs
   pub waiting : AreWaiting s.office.writer.docs (length (accepted done)) ahead s.waiting.items
-  pub printed : so_far ≡ body_from numbers s.office.writer.docs 0 done
+  pub printed : so_far ≡ body_from a.form numbers s.office.writer.docs 0 done
 
 -- answers may have come, and nothing else
 pub record IsFurther (old new : Serving) : Type 0 where
   pub keeps : Keeps old.office new.office
   pub writer : new.office.writer ≡ old.office.writer
   pub put : new.office.clerk.put ≡ old.office.clerk.put
-  pub stats : new.stats ≡ old.stats
+  pub form : new.form ≡ old.form
   pub number : new.number ≡ old.number
   pub queries : new.queries ≡ old.queries
   pub refused : new.refused ≡ old.refused

@@ -42,12 +42,13 @@ module _ (s : Serving) (a : Asked) (given : List Line) (so_far : List ℕ) (h : 
   }
 
   abbrev pub rest : List ℕ
-  rest = body_from numbers_all (accepted all_readings) (length h.done) h.ahead
+  rest = body_from a.form numbers_all (accepted all_readings) (length h.done) h.ahead
 
-  pub body_all : body numbers_all all_readings ≡ so_far ++ rest
+  pub body_all : body a.form numbers_all all_readings ≡ so_far ++ rest
   body_all =
-      body_append numbers_all (accepted all_readings) 0 (length h.done) h.done h.ahead (omega arith)
-      ∙ ap (λ b. b ++ rest) (joined_body (length h.done) h.numbers back (accepted all_readings) h.done refl ∙ ap (λ ds. body_from h.numbers ds 0 h.done) (sym h.documents) ∙ sym h.printed)
+      body_append a.form numbers_all (accepted all_readings) 0 (length h.done) h.done h.ahead (omega arith)
+      ∙ ap (λ b. b ++ rest) (joined_body (length h.done) h.numbers back a.form (accepted all_readings) h.done refl
+      ∙ ap (λ ds. body_from a.form h.numbers ds 0 h.done) (sym h.documents) ∙ sym h.printed)
 
   -- what was printed is a front of what the lines given print
   pub served_first : PrintsFront IsWorkersBody a given so_far
@@ -55,15 +56,15 @@ module _ (s : Serving) (a : Asked) (given : List Line) (so_far : List ℕ) (h : 
 
 -- ---- the whole text
 
-pub body_text : (a : Asked) (lines : List Line) (printed : List ℕ) (b : IsWorkersBody a lines printed) → IsWorkersText a lines (printed ++ end_of a.setting a.stats b.readings)
+pub body_text : (a : Asked) (lines : List Line) (printed : List ℕ) (b : IsWorkersBody a lines printed) → IsWorkersText a lines (printed ++ end_of a.setting a.form b.readings)
 body_text a lines printed b = record {
   readings = b.readings;
   numbers = b.numbers;
   read = b.read;
   sees = b.sees;
-  bytes = ap (λ x. x ++ end_of a.setting a.stats b.readings) b.bytes;
+  bytes = ap (λ x. x ++ end_of a.setting a.form b.readings) b.bytes;
 }
 
 -- a body comes first in the whole text
 pub body_first : (a : Asked) (lines : List Line) (printed : List ℕ) → IsWorkersBody a lines printed → (more : List ℕ) × IsWorkersText a lines (printed ++ more)
-body_first a lines printed b = (end_of a.setting a.stats b.readings, body_text a lines printed b)
+body_first a lines printed b = (end_of a.setting a.form b.readings, body_text a lines printed b)

@@ -1,13 +1,14 @@
 -- Lines that wait until it is their turn to be printed.
-use Rattle.std.specs.Prelude.{◌≡◌, ℕ, ◌+◌, ◌*◌, ◌≤◌, false, List, [], ◌∷◌, length, take, Some, slice_get}
+use Rattle.std.specs.Prelude.{◌≡◌, ℕ, ◌+◌, ◌≤◌, false, List, [], ◌∷◌, length, take, Some, slice_get}
 use Rattle.eb_base.specs.Document.{Doc}
 use Rattle.eb_base.specs.Match.{answer}
 use Rattle.eb_base.specs.Query.{tree}
 use Rattle.eb_cursor.specs.declared.frame.Frame.{Frame}
 use Rattle.eb_cursor.specs.Frames.{query_of, k_of, ids_of}
+use Rattle.eb_lines.specs.declared.form.Form.{Form}
 use Rattle.eb_lines.specs.Progress.{documents_in, is_query}
 use Rattle.eb_lines.specs.Reading.{Reading, query, refused}
-use Rattle.eb_lines.specs.Text.{answer_line, refusal_line}
+use Rattle.eb_lines.specs.Text.{room_of, answer_line, refusal_line}
 use Rattle.eb_indexed.specs.Text.{output_of}
 use Rattle.eb_workers.specs.declared.waiting.Waiting.{Waiting}
 use Rattle.eb_workers.specs.declared.waiting.Waiting.TheVariants as waits
@@ -31,18 +32,18 @@ abbrev pub AwaitsAt : List Waiting → ℕ → Frame → ℕ → Type 0
 AwaitsAt ws at frame seen = (w : Waiting) × (slice_get ws at ≡ Some w) × Awaits w frame seen
 
 -- what it prints, where it is known
-abbrev pub printed_by : ℕ → Waiting → List ℕ
-printed_by number waits.Nothing = []
-printed_by number (waits.Refused x) = refusal_line number x
-printed_by number (waits.Asked t k q) = []
-printed_by number (waits.Answered seen frame) = answer_line number seen (ids_of frame)
+abbrev pub printed_by : Form → ℕ → Waiting → List ℕ
+printed_by form number waits.Nothing = []
+printed_by form number (waits.Refused x) = refusal_line form number x
+printed_by form number (waits.Asked t k q) = []
+printed_by form number (waits.Answered seen frame) = answer_line form number seen (ids_of frame)
 
 -- how many bytes it prints at most
 abbrev pub need_of : Waiting → ℕ
 need_of waits.Nothing = 0
-need_of (waits.Refused x) = 68
+need_of (waits.Refused x) = room_of 0
 need_of (waits.Asked t k q) = 0
-need_of (waits.Answered seen frame) = 64 + 21 * k_of frame
+need_of (waits.Answered seen frame) = room_of (k_of frame)
 
 -- it is known what the next line prints, so many bytes at most
 abbrev pub NextNeeds : List Waiting → ℕ → Type 0
@@ -52,7 +53,7 @@ NextNeeds (w ∷ ws) need = IsReady w × (need ≡ need_of w)
 -- the line prints nothing
 pub record IsQuiet (r : Reading) : Type 0 where
   pub asks : is_query r ≡ false
-  pub nothing : (number seen : ℕ) (docs : List Doc) → output_of number seen docs r ≡ []
+  pub nothing : (form : Form) (number seen : ℕ) (docs : List Doc) → output_of form number seen docs r ≡ []
 
 -- a line of this reading, before which `told` of these documents were accepted, waits as this
 abbrev pub WaitsAs : List Doc → ℕ → Reading → Waiting → Type 0

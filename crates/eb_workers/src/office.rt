@@ -3,13 +3,14 @@ ghost use Rattle.std.specs.Prelude.{◌≡◌, ◌+◌, length, max, MatchOption
 ghost use mathlib.Core.List.{IsPrefix};
 ghost use Rattle.eb_place.specs.Room.{cut};
 ghost use Rattle.eb_indexed.specs.Conversions.{most_converted};
-ghost use Rattle.eb_serve.specs.Jobs.{answerer};
+ghost use Rattle.eb_serve.specs.Desk.{with_put};
+ghost use Rattle.eb_serve.specs.Jobs.{answerer, pair};
 ghost use Rattle.eb_serve.specs.Rule.{IsAboveEach};
 
 use eb_base::{Document, Gate};
 use eb_cursor::Frame;
 use eb_engine::{Converter, Index, Reader, Writer};
-use eb_indexed::{SegmentCounts, close};
+use eb_indexed::{SegmentCounts, catch_up, close};
 use eb_serve::{Answer, Clerk, Desk, Job, stop_all};
 use eb_writer::Full;
 use std::sync::Wait;
@@ -37,30 +38,7 @@ pub(crate) struct Office<'a> {
 impl Office<'_> {
     ghost use Rattle.eb_workers.specs.Offices.{IsStaffed, Keeps, WithPlaced};
 
-    // Adds a document after the others. False exactly where there is no room for it.
-    fn place<G: Gate>(&mut self, document: &Document, gate: &G) -> bool
-        requires staffed { IsStaffed self.old }
-        ensures keeps { Keeps self.old self.new }
-        ensures clerk { self.new.clerk ≡ self.old.clerk }
-        ensures placed { WithPlaced self.old self.new document.now result }
-    {
-        match self.writer.add(self.index, document, gate) {
-            Ok(_) => true,
-            Err(Full) => false,
-        }
-    }
-
-    // Packs the next segment where it is closed.
-    fn pack(&mut self)
-        requires staffed { IsStaffed self.old }
-        ensures keeps { Keeps self.old self.new }
-        ensures clerk { self.new.clerk ≡ self.old.clerk }
-        ensures writer { self.new.writer ≡ self.old.writer }
-    {
-        let _ = self.converter.convert(self.index);
-    }
-
-    // Adds a document after the others, and packs the segment that it closed. False exactly where there is no room for
+    // Adds a document after the others, and converts the segment that it closed. False exactly where there is no room for
     // it. Takes no memory.
     pub(crate) fn add<G: Gate>(&mut self, document: &Document, gate: &G) -> bool
         requires staffed { IsStaffed self.old }
@@ -68,11 +46,13 @@ impl Office<'_> {
         ensures clerk { self.new.clerk ≡ self.old.clerk }
         ensures placed { WithPlaced self.old self.new document.now result }
     {
-        let placed = self.place(document, gate);
-        if placed {
-            self.pack();
+        match self.writer.add(self.index, document, gate) {
+            Ok(_) => {
+                catch_up(self.index, &mut self.writer, &mut self.converter);
+                true
+            }
+            Err(Full) => false,
         }
-        placed
     }
 
     // How many documents were added.
@@ -82,12 +62,14 @@ impl Office<'_> {
         self.writer.accepted()
     }
 
-    // Asks the query of a frame, under the number of its line, with a reader that knows all documents.
+    // Asks the query of a frame, under the number of its line, with a reader that knows all documents: the clerk puts this
+    // job after the others.
     pub(crate) fn ask<R: Wait>(&mut self, rt: &R, number: u64, frame: Frame)
         requires staffed { IsStaffed self.old }
         requires above { IsAboveEach number self.old.clerk.put }
         ensures keeps { Keeps self.old self.new }
         ensures writer { self.new.writer ≡ self.old.writer }
+        ensures put { self.new.clerk ≡ with_put self.old.clerk (pair number (length self.old.writer.docs)) }
         ensures above { IsAboveEach (number + 1) self.new.clerk.put }
     {
         let reader = self.writer.reader(self.index);
@@ -129,7 +111,7 @@ impl Office<'_> {
         self.writer.meet(self.index, reader);
     }
 
-    // Packs all segments but the last one, and gives how many are begun and how many are packed.
+    // Converts all segments but the last one, and gives how many are begun and how many are converted.
     pub(crate) fn close(&mut self) -> SegmentCounts
         requires staffed { IsStaffed self.old }
         ensures keeps { Keeps self.old self.new }

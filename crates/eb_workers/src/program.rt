@@ -56,7 +56,7 @@ impl<R: Wait, G: Gate> LineProgram for WorkersProgram<'_, R, G> {
     }
 
     fn finish(&mut self, text: &mut Vec<u8>) -> Result<u64, NoMemory> {
-        self.serving.finish(self.alloc, text)
+        self.serving.finish(text)
     }
 
     ghost printed_first = { λ p. served_first p.serving };

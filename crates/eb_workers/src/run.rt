@@ -16,7 +16,7 @@ use crate::serving::Serving;
 use eb_base::{Config, Gate};
 use eb_engine::Index;
 use eb_io::{Sink, Source};
-use eb_lines::{Status, pass_lines};
+use eb_lines::{Form, Status, pass_lines};
 use eb_serve::{Clerk, Desk, Worker, work_all};
 use std::alloc::Global;
 use std::sync::Wait;
@@ -54,14 +54,14 @@ fn serve<'a, R: Threads + Wait + Sync, S: Source, K: Sink, G: Gate + Sync>(
     index: &'a Index,
     gate: &'a G,
     side: &mut Option<Side>,
-    stats: bool,
+    form: Form,
     source: &mut S,
     out: &mut K,
     workers: u32,
 ) -> (Status, Clerk)
     requires { IsNewSide desk.now.queues index.now side.old }
     ensures stops { result.1.stops ≡ workers }
-    ensures ends { let a = asked index.now.setting stats in
+    ensures ends { let a = asked index.now.setting form in
         Ends (IsWorkersBody a) (IsWorkersText a) (HasRefusal a.setting) (HasNoRefusal a.setting) result.0
         (S.left source.old) (S.left source.new) (K.taken out.old) (K.taken out.new) }
     ensures read_fault { result.0 ≡ Status.ReadFault → HasRisen (S.faults source.old) (S.faults source.new) }
@@ -88,7 +88,7 @@ fn serve<'a, R: Threads + Wait + Sync, S: Source, K: Sink, G: Gate + Sync>(
         rt,
         alloc,
         gate,
-        serving: Serving::new(alloc, office, stats),
+        serving: Serving::new(alloc, office, form),
     };
     pass_and_stop(rt, alloc, program, source, out, workers)
 }
@@ -125,14 +125,14 @@ fn serve_beside<R: Threads + Wait + Sync, S: Source, K: Sink, G: Gate + Sync>(
     gate: &G,
     workers: &mut [Worker],
     side: &mut Option<Side>,
-    stats: bool,
+    form: Form,
     source: &mut S,
     out: &mut K,
     count: u32,
 ) -> Status
     requires workers { All (λ w. IsWorkerOf desk.now.queues index.now w) workers.old }
     requires side { IsNewSide desk.now.queues index.now side.old }
-    ensures ends { let a = asked index.now.setting stats in
+    ensures ends { let a = asked index.now.setting form in
         Ends (IsWorkersBody a) (IsWorkersText a) (HasRefusal a.setting) (HasNoRefusal a.setting) result
         (S.left source.old) (S.left source.new) (K.taken out.old) (K.taken out.new) }
     ensures read_fault { result ≡ Status.ReadFault → HasRisen (S.faults source.old) (S.faults source.new) }
@@ -146,11 +146,7 @@ fn serve_beside<R: Threads + Wait + Sync, S: Source, K: Sink, G: Gate + Sync>(
         workers,
         &mut ||
             requires { IsNewSide desk.now.queues index.now side.now }
-        {
-            serve(
-                rt, alloc, desk, index, gate, side, stats, source, out, count,
-            )
-        },
+        { serve(rt, alloc, desk, index, gate, side, form, source, out, count) },
     );
     status
 }
@@ -159,14 +155,14 @@ fn pass_at_desk<R: Threads + Wait + Sync, S: Source, K: Sink, G: Gate + Sync>(
     rt: &R,
     alloc: Global,
     workers: u32,
-    stats: bool,
+    form: Form,
     config: Config,
     source: &mut S,
     out: &mut K,
     gate: &G,
 ) -> Status
     requires { (1 ≤ workers) × (workers ≤ 16) }
-    ensures ends { let a = asked config stats in
+    ensures ends { let a = asked config form in
         Ends (IsWorkersBody a) (IsWorkersText a) (HasRefusal a.setting) (HasNoRefusal a.setting) result
         (S.left source.old) (S.left source.new) (K.taken out.old) (K.taken out.new) }
     ensures read_fault { result ≡ Status.ReadFault → HasRisen (S.faults source.old) (S.faults source.new) }
@@ -191,7 +187,7 @@ fn pass_at_desk<R: Threads + Wait + Sync, S: Source, K: Sink, G: Gate + Sync>(
         gate,
         all.as_mut_slice(),
         &mut side,
-        stats,
+        form,
         source,
         out,
         workers,
@@ -201,7 +197,7 @@ fn pass_at_desk<R: Threads + Wait + Sync, S: Source, K: Sink, G: Gate + Sync>(
 /// Runs over the lines that the source gives, with so many workers, from 1 to 16, that live for the whole run and answer
 /// queries beside the one writer: document lines add, query lines ask, and answers and refusals are printed on `out`, each
 /// in its line's place, and after them the summary. A query's answer is over a prefix of the accepted documents that holds
-/// at least those before its line. With `stats` the line of the segments follows the summary.
+/// at least those before its line. The form says how what is printed is written, and whether the segments are told after the summary.
 ///
 /// At most 512 queries are unanswered and 4,096 lines unprinted at once: where one of these numbers is reached, and at the
 /// end of the lines, the clerk waits for answers, or answers a query itself. The call may wait, and its promise holds if its
@@ -210,7 +206,7 @@ pub fn run_workers<R, S, K, G>(
     rt: &R,
     alloc: Global,
     workers: u32,
-    stats: bool,
+    form: Form,
     config: Config,
     source: &mut S,
     out: &mut K,
@@ -222,14 +218,14 @@ where
     K: Sink,
     G: Gate + Sync,
     requires { (1 ≤ workers) × (workers ≤ 16) }
-    ensures ends { let a = asked config stats in
+    ensures ends { let a = asked config form in
         Ends (IsWorkersBody a) (IsWorkersText a) (HasRefusal a.setting) (HasNoRefusal a.setting) result
         (S.left source.old) (S.left source.new) (K.taken out.old) (K.taken out.new) }
     // Where source and `out` tell their bytes, `out` took what the status says, of the lines of the input.
     ensures output { (bytes before : List ℕ) → S.left source.old ≡ Some bytes → K.taken out.old ≡ Some before
-        → (printed : List ℕ) × (K.taken out.new ≡ Some (before ++ printed)) × WroteWorkers (asked config stats) result bytes (S.left source.new) printed }
+        → (printed : List ℕ) × (K.taken out.new ≡ Some (before ++ printed)) × WroteWorkers (asked config form) result bytes (S.left source.new) printed }
     // What the status says of the input holds whatever becomes of the output.
-    ensures means { (bytes : List ℕ) → S.left source.old ≡ Some bytes → MeansWorkers (asked config stats) result bytes (S.left source.new) }
+    ensures means { (bytes : List ℕ) → S.left source.old ≡ Some bytes → MeansWorkers (asked config form) result bytes (S.left source.new) }
     // Faults come only from outside.
     ensures read_fault { result ≡ Status.ReadFault → HasRisen (S.faults source.old) (S.faults source.new) }
     ensures write_fault { result ≡ Status.WriteFault → HasRisen (K.faults out.old) (K.faults out.new) }
@@ -237,5 +233,5 @@ where
     ensures completes { (HasRisen (S.faults source.old) (S.faults source.new) → ⊥) → (HasRisen (K.faults out.old) (K.faults out.new) → ⊥)
         → (bytes : List ℕ) → S.left source.old ≡ Some bytes → length bytes < longest_input → IsWorkedOff result }
 {
-    pass_at_desk(rt, alloc, workers, stats, config, source, out, gate)
+    pass_at_desk(rt, alloc, workers, form, config, source, out, gate)
 }

@@ -19,7 +19,7 @@ use crate::waiting::{Waiting, push, replace};
 use eb_base::{Document, Gate, NoMemory, Query};
 use eb_cursor::Frame;
 use eb_indexed::{Counts, put_end};
-use eb_lines::{Refusal, Work, read_line};
+use eb_lines::{Form, Refusal, Work, read_line};
 use eb_serve::{Answer, Clerk};
 use std::alloc::Global;
 use std::collections::VecDeque;
@@ -36,7 +36,7 @@ const UNPRINTED: usize = 4096;
 #[derive(Drop)]
 pub(crate) struct Serving<'a> {
     pub(crate) office: Office<'a>,
-    pub(crate) stats: bool,
+    pub(crate) form: Form,
     pub(crate) number: u64,
     pub(crate) queries: u64,
     pub(crate) refused: u64,
@@ -46,15 +46,15 @@ pub(crate) struct Serving<'a> {
 
 impl<'a> Serving<'a> {
     // Before the first line. Takes no memory.
-    pub(crate) fn new(alloc: Global, office: Office<'a>, stats: bool) -> Serving<'a>
+    pub(crate) fn new(alloc: Global, office: Office<'a>, form: Form) -> Serving<'a>
         ensures office { result.office ≡ office.entry }
-        ensures stats { result.stats ≡ stats }
+        ensures form { result.form ≡ form }
         ensures number { (result.number ≡ 0) × (result.queries ≡ 0) × (result.refused ≡ 0) }
         ensures waiting { result.waiting.items ≡ [] }
     {
         Serving {
             office,
-            stats,
+            form,
             number: 0,
             queries: 0,
             refused: 0,
@@ -168,7 +168,7 @@ impl<'a> Serving<'a> {
             return Ok(false);
         };
         let number = self.number.saturating_sub(self.waiting.len() as u64);
-        line.print(number, text);
+        line.print(self.form, number, text);
         Ok(true)
     }
 
@@ -367,7 +367,7 @@ impl<'a> Serving<'a> {
 
     // Puts the end of the input after the text, where no line waits, and gives how many lines are refused. Where memory
     // doesn't suffice, the text is as before.
-    pub(crate) fn finish(&mut self, alloc: Global, text: &mut Vec<u8>) -> Result<u64, NoMemory>
+    pub(crate) fn finish(&mut self, text: &mut Vec<u8>) -> Result<u64, NoMemory>
         requires running { IsRunning HasServed self.old }
         requires settled { self.old.waiting.items ≡ [] }
         ensures staffed { IsStaffed self.new.office }
@@ -382,7 +382,7 @@ impl<'a> Serving<'a> {
             refused: self.refused,
         };
         let segments = self.office.close();
-        put_end(alloc, text, counts, self.stats, segments)?;
+        put_end(text, self.form, counts, segments)?;
         Ok(counts.refused)
     }
 

@@ -4,7 +4,7 @@ ghost use Rattle.std.specs.VecDeque.{deque_len, deque_capacity};
 
 use eb_base::Query;
 use eb_cursor::Frame;
-use eb_lines::{Refusal, put_answer, put_refusal};
+use eb_lines::{Form, Refusal, line_room, put_answer, put_refusal};
 use std::collections::VecDeque;
 
 // What a line that was taken waits for, or what it prints.
@@ -55,22 +55,22 @@ impl Waiting {
     {
         match self {
             Waiting::Nothing => 0,
-            Waiting::Refused(_) => 68,
+            Waiting::Refused(_) => line_room(0),
             Waiting::Asked { .. } => 0,
-            Waiting::Answered { seen: _, frame } => 64 + 21 * frame.k() as usize,
+            Waiting::Answered { seen: _, frame } => line_room(frame.k() as usize),
         }
     }
 
     // Puts what it prints after the text, which has room for it. Takes no memory.
-    pub(crate) fn print(self, number: u64, text: &mut Vec<u8>)
+    pub(crate) fn print(self, form: Form, number: u64, text: &mut Vec<u8>)
         requires { vec_len text.old + need_of self ≤ vec_capacity text.old }
-        ensures { text.new.items ≡ text.old.items ++ printed_by number self }
+        ensures { text.new.items ≡ text.old.items ++ printed_by form number self }
     {
         match self {
             Waiting::Nothing => {}
-            Waiting::Refused(refusal) => put_refusal(text, number, refusal),
+            Waiting::Refused(refusal) => put_refusal(text, form, number, refusal),
             Waiting::Asked { .. } => {}
-            Waiting::Answered { seen, frame } => put_answer(text, number, seen, frame.ids()),
+            Waiting::Answered { seen, frame } => put_answer(text, form, number, seen, frame.ids()),
         }
     }
 }

@@ -1,6 +1,7 @@
 ghost use Rattle.std.specs.Prelude.{◌≡◌, Some, None, IfOk, IsErrOf, map, string_bytes};
 ghost use Rattle.eb_run.specs.Command.{save_of, load_of};
 
+use crate::command::form::read_form;
 use crate::command::{Command, CommandFault};
 use eb_options::{OptionFault, SETTING_OPTIONS, read_options, read_setting};
 use std::alloc::Global;
@@ -8,7 +9,7 @@ use std::alloc::Global;
 // The flags of `save`: none; and of `load`.
 const SAVE_FLAGS: [&str; 0] = [];
 
-const LOAD_FLAGS: [&str; 1] = ["stats"];
+const LOAD_FLAGS: [&str; 2] = ["json", "stats"];
 
 // The options of `load`: none.
 const LOAD_OPTIONS: [&str; 0] = [];
@@ -36,7 +37,7 @@ pub(super) fn read_load(alloc: Global, words: &[String]) -> Result<Command, Comm
 {
     match read_options(alloc, words, &LOAD_FLAGS, &LOAD_OPTIONS) {
         Ok(items) => Ok(Command::Load {
-            stats: items.has("stats"),
+            form: read_form(&items),
         }),
         Err(OptionFault::Usage) => Err(CommandFault::Usage),
         Err(OptionFault::NoMemory) => Err(CommandFault::NoMemory),

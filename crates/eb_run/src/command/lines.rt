@@ -2,13 +2,15 @@ ghost use Rattle.std.specs.Prelude.{◌≡◌, Some, None, IfOk, IsErrOf, map, s
 ghost use Rattle.eb_options.specs.Items.{items_of};
 ghost use Rattle.eb_run.specs.Command.{run_by, run_flags, run_of, run_options, run_with, over_parts, with_workers};
 
+use crate::command::form::read_form;
 use crate::command::{Command, CommandFault};
 use eb_base::{Config, MAX_WORDS};
+use eb_lines::Form;
 use eb_options::{Items, OptionFault, read_options, read_setting};
 use std::alloc::Global;
 
 // The flags and the options of `run`.
-const RUN_FLAGS: [&str; 3] = ["overlap", "watch", "stats"];
+const RUN_FLAGS: [&str; 4] = ["overlap", "watch", "json", "stats"];
 
 const RUN_OPTIONS: [&str; 5] = ["workers", "parts", "segments", "docs", "terms"];
 
@@ -16,29 +18,29 @@ const RUN_OPTIONS: [&str; 5] = ["workers", "parts", "segments", "docs", "terms"]
 const MOST: u32 = 16;
 
 // To run with so many workers.
-fn run_with_workers(workers: u32, stats: bool, config: Config) -> Option<Command>
-    ensures { result ≡ with_workers workers stats config }
+fn run_with_workers(workers: u32, form: Form, config: Config) -> Option<Command>
+    ensures { result ≡ with_workers workers form config }
 {
     if workers < 1 || workers > MOST {
         return None;
     }
     Some(Command::RunWorkers {
         workers,
-        stats,
+        form,
         config,
     })
 }
 
 // To run over so many parts.
-fn run_over_parts(parts: u32, stats: bool, config: Config) -> Option<Command>
-    ensures { result ≡ over_parts parts stats config }
+fn run_over_parts(parts: u32, form: Form, config: Config) -> Option<Command>
+    ensures { result ≡ over_parts parts form config }
 {
     if parts < 1 || parts > MOST || u64::from(parts) * config.words() > MAX_WORDS {
         return None;
     }
     Some(Command::RunParts {
         parts,
-        stats,
+        form,
         config,
     })
 }
@@ -49,20 +51,20 @@ fn run_in_way(
     watch: bool,
     workers: Option<u32>,
     parts: Option<u32>,
-    stats: bool,
+    form: Form,
     config: Config,
 ) -> Option<Command>
-    ensures { result ≡ run_by overlap watch workers parts stats config }
+    ensures { result ≡ run_by overlap watch workers parts form config }
 {
     match (workers, parts) {
         (None, None) if !watch => Some(Command::Run {
             overlap,
-            stats,
+            form,
             config,
         }),
-        (None, None) if !overlap => Some(Command::RunWatches { stats, config }),
-        (Some(workers), None) if !overlap && !watch => run_with_workers(workers, stats, config),
-        (None, Some(parts)) if !overlap && !watch => run_over_parts(parts, stats, config),
+        (None, None) if !overlap => Some(Command::RunWatches { form, config }),
+        (Some(workers), None) if !overlap && !watch => run_with_workers(workers, form, config),
+        (None, Some(parts)) if !overlap && !watch => run_over_parts(parts, form, config),
         _ => None,
     }
 }
@@ -76,8 +78,8 @@ fn read_way(items: &Items) -> Option<Command>
     let watch = items.has("watch");
     let workers = items.number("workers");
     let parts = items.number("parts");
-    let stats = items.has("stats");
-    run_in_way(overlap, watch, workers, parts, stats, config)
+    let form = read_form(items);
+    run_in_way(overlap, watch, workers, parts, form, config)
 }
 
 // The items that the words after `run` are.

@@ -3,10 +3,13 @@ ghost use Rattle.eb_run.specs.FeedCommand.{feed_command_of, feed_of, feed_with};
 
 use crate::command::CommandFault;
 use eb_base::{Config, MAX_WORDS};
+use eb_lines::Form;
 use eb_options::{Items, OptionFault, read_options, read_setting};
 use std::alloc::Global;
 
-// The options of a feed: how many generations it keeps, and those of their setting.
+// The flag of a feed, and its options: how many generations it keeps, and those of their setting.
+const FEED_FLAGS: [&str; 1] = ["json"];
+
 const FEED_OPTIONS: [&str; 4] = ["keep", "segments", "docs", "terms"];
 
 /// What the words after `feed` ask for.
@@ -14,14 +17,16 @@ const FEED_OPTIONS: [&str; 4] = ["keep", "segments", "docs", "terms"];
 pub struct FeedCommand {
     /// How many generations are kept, 2 to 64 (`--keep`).
     pub keep: u32,
+    /// How what is printed is written (`--json`); the segments aren't told.
+    pub form: Form,
     /// The setting of each; what the options don't name is as in `Config::usual`.
     pub config: Config,
 }
 
 /// The feed that the words ask for; they are without the program's name and the word `feed`.
 ///
-/// They are items in any order, each option at most once: for x of `keep`, `segments`, `docs` and `terms` the two words
-/// `--x V` or the one word `--x=V`. V is one to nine digits, leading zeros allowed; what isn't named is 4 generations, and
+/// They are items in any order, each option at most once: `--json`, and for x of `keep`, `segments`, `docs` and `terms` the
+/// two words `--x V` or the one word `--x=V`. V is one to nine digits, leading zeros allowed; what isn't named is 4 generations, and
 /// else as in `Config::usual`. `Config::new` has to allow the setting, and keep is 2 to 64; keep + 1 indexes have at most
 /// 134,217,728 words together.
 ///
@@ -31,7 +36,7 @@ pub fn read_feed_command(alloc: Global, words: &[String]) -> Result<FeedCommand,
     ensures keep { IfOk result (λ command. (2 ≤ command.keep) × (command.keep ≤ 64)) }
     ensures usage { IsErrOf result CommandFault.Usage → feed_command_of (map string_bytes words.now) ≡ None }
 {
-    let items = match read_options(alloc, words, &[], &FEED_OPTIONS) {
+    let items = match read_options(alloc, words, &FEED_FLAGS, &FEED_OPTIONS) {
         Ok(items) => items,
         Err(OptionFault::Usage) => return Err(CommandFault::Usage),
         Err(OptionFault::NoMemory) => return Err(CommandFault::NoMemory),
@@ -45,12 +50,12 @@ fn read_feed(items: &Items) -> Option<FeedCommand>
     ensures keep { IfSome result (λ command. (2 ≤ command.keep) × (command.keep ≤ 64)) }
 {
     let keep = items.number("keep").unwrap_or(4);
-    allow(keep, read_setting(items)?)
+    allow(keep, items.has("json"), read_setting(items)?)
 }
 
 // The feed that keeps so many generations of this setting, if it is allowed.
-fn allow(keep: u32, config: Config) -> Option<FeedCommand>
-    ensures feed { result ≡ feed_of keep config }
+fn allow(keep: u32, json: bool, config: Config) -> Option<FeedCommand>
+    ensures feed { result ≡ feed_of keep json config }
     ensures keep { IfSome result (λ command. (2 ≤ command.keep) × (command.keep ≤ 64)) }
 {
     if keep < 2 || keep > 64 {
@@ -59,5 +64,6 @@ fn allow(keep: u32, config: Config) -> Option<FeedCommand>
     if (u64::from(keep) + 1) * config.words() > MAX_WORDS {
         return None;
     }
-    Some(FeedCommand { keep, config })
+    let form = Form { json, stats: false };
+    Some(FeedCommand { keep, form, config })
 }

@@ -14,16 +14,17 @@ use eb_answer::Store;
 use eb_base::{Config, Document, Gate, NoMemory, Query};
 use eb_cursor::Frame;
 use eb_feed::Feed;
-use eb_lines::{Refusal, put_answer};
+use eb_lines::{Form, Refusal, Tail, line_room, put_answer};
 use eb_place::Steps;
 use std::alloc::Global;
 use std::marker::Brand;
 use std::sync::ledger::{Blank, Ledger};
 
-// A feed, as the lines of an input fill and ask it.
+// A feed, as the lines of an input fill and ask it, and how what is printed is written.
 #[derive(Drop)]
 pub(crate) struct Fed {
     feed: Feed,
+    form: Form,
 }
 
 // Searches what the feed keeps, and gives the number of accepted documents. Takes no memory.
@@ -47,12 +48,12 @@ fn search_kept<G: Gate, L: Ledger>(
 
 impl Fed {
     // An empty feed. Takes all its memory.
-    pub(crate) fn new(alloc: Global, keep: u32, config: Config) -> Result<Fed, NoMemory>
+    pub(crate) fn new(alloc: Global, keep: u32, form: Form, config: Config) -> Result<Fed, NoMemory>
         requires { (2 ≤ keep) × (keep ≤ 64) }
-        ensures { IfOk result (λ fed. IsFed fed (feed_rules config keep) [] tt) }
+        ensures { IfOk result (λ fed. IsFed fed (feed_rules config keep form) [] tt) }
     {
         let feed = Feed::open(alloc, config, keep)?;
-        Ok(Fed { feed })
+        Ok(Fed { feed, form })
     }
 }
 
@@ -89,9 +90,9 @@ impl Store for Fed {
         text: &mut Vec<u8>,
     ) -> Result<(), NoMemory> {
         let mut frame = Frame::new(alloc, query, k)?;
-        text.reserve(64 + 21 * k as usize)?;
+        text.reserve(line_room(k as usize))?;
         let seen = search_kept::<G, Brand>(&mut self.feed, &mut frame, gate, Blank::new(1));
-        put_answer(text, number, seen, frame.ids());
+        put_answer(text, self.form, number, seen, frame.ids());
         Ok(())
     }
 
@@ -99,8 +100,11 @@ impl Store for Fed {
         self.feed.accepted()
     }
 
-    fn close(&mut self, alloc: Global) -> Result<String, NoMemory> {
-        let kept = self.feed.kept();
-        Ok(format!(in alloc; ", kept {kept}")?)
+    fn form(&self) -> Form {
+        self.form
+    }
+
+    fn close(&mut self, _alloc: Global) -> Result<Tail, NoMemory> {
+        Ok(Tail::Kept(self.feed.kept()))
     }
 }

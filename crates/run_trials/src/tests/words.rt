@@ -3,66 +3,66 @@ use super::words_of;
 use eb_run::{read_command, read_feed_command};
 use std::test::Fail;
 
-const COMMANDS: [(&str, &str); 22] = [
+const COMMANDS: [(&str, &str); 25] = [
     (
         "run",
-        "Run { overlap: false, stats: false, config: Config { segments: 12, docs: 4096, terms: 8192 } }",
+        "Run { overlap: false, form: Form { json: false, stats: false }, config: Config { segments: 12, docs: 4096, terms: 8192 } }",
     ),
     (
         "run --overlap",
-        "Run { overlap: true, stats: false, config: Config { segments: 12, docs: 4096, terms: 8192 } }",
+        "Run { overlap: true, form: Form { json: false, stats: false }, config: Config { segments: 12, docs: 4096, terms: 8192 } }",
     ),
     (
         "run --docs=1",
-        "Run { overlap: false, stats: false, config: Config { segments: 12, docs: 1, terms: 8192 } }",
+        "Run { overlap: false, form: Form { json: false, stats: false }, config: Config { segments: 12, docs: 1, terms: 8192 } }",
     ),
     (
         "run --docs 1 --segments=1",
-        "Run { overlap: false, stats: false, config: Config { segments: 1, docs: 1, terms: 8192 } }",
+        "Run { overlap: false, form: Form { json: false, stats: false }, config: Config { segments: 1, docs: 1, terms: 8192 } }",
     ),
     (
         "run --docs 1 --overlap --segments=1",
-        "Run { overlap: true, stats: false, config: Config { segments: 1, docs: 1, terms: 8192 } }",
+        "Run { overlap: true, form: Form { json: false, stats: false }, config: Config { segments: 1, docs: 1, terms: 8192 } }",
     ),
     (
         "run --stats --terms 1024 --overlap",
-        "Run { overlap: true, stats: true, config: Config { segments: 12, docs: 4096, terms: 1024 } }",
+        "Run { overlap: true, form: Form { json: false, stats: true }, config: Config { segments: 12, docs: 4096, terms: 1024 } }",
     ),
     (
         "run --docs=000000005 --stats",
-        "Run { overlap: false, stats: true, config: Config { segments: 12, docs: 5, terms: 8192 } }",
+        "Run { overlap: false, form: Form { json: false, stats: true }, config: Config { segments: 12, docs: 5, terms: 8192 } }",
     ),
     (
         "run --terms=1048576 --segments 1",
-        "Run { overlap: false, stats: false, config: Config { segments: 1, docs: 4096, terms: 1048576 } }",
+        "Run { overlap: false, form: Form { json: false, stats: false }, config: Config { segments: 1, docs: 4096, terms: 1048576 } }",
     ),
     (
         "run --workers 1",
-        "RunWorkers { workers: 1, stats: false, config: Config { segments: 12, docs: 4096, terms: 8192 } }",
+        "RunWorkers { workers: 1, form: Form { json: false, stats: false }, config: Config { segments: 12, docs: 4096, terms: 8192 } }",
     ),
     (
         "run --stats --segments=2 --workers=16 --docs 2 --terms 1024",
-        "RunWorkers { workers: 16, stats: true, config: Config { segments: 2, docs: 2, terms: 1024 } }",
+        "RunWorkers { workers: 16, form: Form { json: false, stats: true }, config: Config { segments: 2, docs: 2, terms: 1024 } }",
     ),
     (
         "run --parts 1",
-        "RunParts { parts: 1, stats: false, config: Config { segments: 12, docs: 4096, terms: 8192 } }",
+        "RunParts { parts: 1, form: Form { json: false, stats: false }, config: Config { segments: 12, docs: 4096, terms: 8192 } }",
     ),
     (
         "run --parts=16 --stats --terms=1024 --docs 2 --segments=2",
-        "RunParts { parts: 16, stats: true, config: Config { segments: 2, docs: 2, terms: 1024 } }",
+        "RunParts { parts: 16, form: Form { json: false, stats: true }, config: Config { segments: 2, docs: 2, terms: 1024 } }",
     ),
     (
         "run --parts 16 --docs 68264",
-        "RunParts { parts: 16, stats: false, config: Config { segments: 12, docs: 68264, terms: 8192 } }",
+        "RunParts { parts: 16, form: Form { json: false, stats: false }, config: Config { segments: 12, docs: 68264, terms: 8192 } }",
     ),
     (
         "run --watch",
-        "RunWatches { stats: false, config: Config { segments: 12, docs: 4096, terms: 8192 } }",
+        "RunWatches { form: Form { json: false, stats: false }, config: Config { segments: 12, docs: 4096, terms: 8192 } }",
     ),
     (
         "run --docs 2 --watch --terms=1024 --stats --segments=2",
-        "RunWatches { stats: true, config: Config { segments: 2, docs: 2, terms: 1024 } }",
+        "RunWatches { form: Form { json: false, stats: true }, config: Config { segments: 2, docs: 2, terms: 1024 } }",
     ),
     (
         "save",
@@ -72,8 +72,23 @@ const COMMANDS: [(&str, &str); 22] = [
         "save --terms=1024 --docs 2 --segments=2",
         "Save { config: Config { segments: 2, docs: 2, terms: 1024 } }",
     ),
-    ("load", "Load { stats: false }"),
-    ("load --stats", "Load { stats: true }"),
+    ("load", "Load { form: Form { json: false, stats: false } }"),
+    (
+        "run --json",
+        "Run { overlap: false, form: Form { json: true, stats: false }, config: Config { segments: 12, docs: 4096, terms: 8192 } }",
+    ),
+    (
+        "run --json --watch --stats",
+        "RunWatches { form: Form { json: true, stats: true }, config: Config { segments: 12, docs: 4096, terms: 8192 } }",
+    ),
+    (
+        "load --json",
+        "Load { form: Form { json: true, stats: false } }",
+    ),
+    (
+        "load --stats",
+        "Load { form: Form { json: false, stats: true } }",
+    ),
     ("bench 0 1", "Bench { start: 0, docs: 1 }"),
     (
         "bench 18446744073709551615 40000",
@@ -82,31 +97,35 @@ const COMMANDS: [(&str, &str); 22] = [
     ("bench 007 00001", "Bench { start: 7, docs: 1 }"),
 ];
 
-const FEEDS: [(&str, &str); 5] = [
+const FEEDS: [(&str, &str); 6] = [
     (
         "--keep=2",
-        "FeedCommand { keep: 2, config: Config { segments: 12, docs: 4096, terms: 8192 } }",
+        "FeedCommand { keep: 2, form: Form { json: false, stats: false }, config: Config { segments: 12, docs: 4096, terms: 8192 } }",
     ),
     (
         "--keep 000000016",
-        "FeedCommand { keep: 16, config: Config { segments: 12, docs: 4096, terms: 8192 } }",
+        "FeedCommand { keep: 16, form: Form { json: false, stats: false }, config: Config { segments: 12, docs: 4096, terms: 8192 } }",
     ),
     (
         "--terms 1024 --keep 64 --segments=1",
-        "FeedCommand { keep: 64, config: Config { segments: 1, docs: 4096, terms: 1024 } }",
+        "FeedCommand { keep: 64, form: Form { json: false, stats: false }, config: Config { segments: 1, docs: 4096, terms: 1024 } }",
     ),
     (
         "--segments=1 --terms=262144 --docs=13369341 --keep=3",
-        "FeedCommand { keep: 3, config: Config { segments: 1, docs: 13369341, terms: 262144 } }",
+        "FeedCommand { keep: 3, form: Form { json: false, stats: false }, config: Config { segments: 1, docs: 13369341, terms: 262144 } }",
+    ),
+    (
+        "--json --keep=2",
+        "FeedCommand { keep: 2, form: Form { json: true, stats: false }, config: Config { segments: 12, docs: 4096, terms: 8192 } }",
     ),
     (
         "--docs=2 --segments 3 --terms=1024",
-        "FeedCommand { keep: 4, config: Config { segments: 3, docs: 2, terms: 1024 } }",
+        "FeedCommand { keep: 4, form: Form { json: false, stats: false }, config: Config { segments: 3, docs: 2, terms: 1024 } }",
     ),
 ];
 
 const USUAL_FEED: &str =
-    "FeedCommand { keep: 4, config: Config { segments: 12, docs: 4096, terms: 8192 } }";
+    "FeedCommand { keep: 4, form: Form { json: false, stats: false }, config: Config { segments: 12, docs: 4096, terms: 8192 } }";
 
 #[test]
 fn words_ask_for_a_command(rt: HostRuntime) -> Result<(), Fail> {

@@ -4,10 +4,10 @@ use Rattle.eb_parts.specs.Texts.{parts_rules}
 use Rattle.eb_parts.proofs.run.pass_parts.Goals as goal
 
 pub returns-in_default-clause-ends : goal.returns-in_default-clause-ends
-returns-in_default-clause-ends g c = ends_none is_bad (parts_rules c.args.parts c.args.config c.args.stats) _ _
+returns-in_default-clause-ends g c = ends_none is_bad (parts_rules c.args.parts c.args.config c.args.form) _ _
 
 pub answer_lines-requires : goal.answer_lines-requires
-answer_lines-requires g c = (parts_rules c.args.parts c.args.config c.args.stats, c.in-Ok.ensures)
+answer_lines-requires g c = (parts_rules c.args.parts c.args.config c.args.form, c.in-Ok.ensures)
 
 pub returns-clause-ends : goal.returns-clause-ends
-returns-clause-ends g c = c.answer_lines.ensures.ends (parts_rules c.args.parts c.args.config c.args.stats) c.in-Ok.ensures
+returns-clause-ends g c = c.answer_lines.ensures.ends (parts_rules c.args.parts c.args.config c.args.form) c.in-Ok.ensures

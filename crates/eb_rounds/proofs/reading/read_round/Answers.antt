@@ -1,4 +1,4 @@
-use Rattle.std.proofs.Common.{List, subst, map, arith}
+use Rattle.std.proofs.Common.{List, ◌*◌, subst, map, ap, arith}
 use Rattle.std.specs.List.{AllZip}
 use Rattle.std.proofs.lemmas.Slice.Zip.{AllZip-long}
 use Rattle.eb_rounds.specs.Inputs.{ReadsLine}
@@ -21,7 +21,7 @@ returns g c =
     record {
       read = zip_append ReadsLine (map first_line round.first.items) (map asked_entry asked) (map then_line round.last.items) (map given_entry given)
           (zip_map ReadsLine first_line asked_entry round.first.items asked first) (zip_map ReadsLine then_line given_entry round.last.items given last);
-      refusals = (room.items, room.len, omega (arith, room.capacity, c.len.ensures));
+      refusals = (room.items, room.len, omega (arith, room.capacity, c.len.ensures, ap (λ n. n * c.len.result) c.line_room.ensures));
       asked = AllZip-long _ _ _ first;
       given = AllZip-long _ _ _ last;
     }

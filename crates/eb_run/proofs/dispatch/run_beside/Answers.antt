@@ -6,7 +6,7 @@ use Rattle.eb_run.proofs.Runs.{body_none}
 use Rattle.eb_run.proofs.dispatch.run_beside.Goals as goal
 
 pub returns-in_default-clause-ends : goal.returns-in_default-clause-ends
-returns-in_default-clause-ends g c = let a = asked c.args.config true c.args.stats in ends_at_once _ _ _ _ (body_first a) _ _ [] (body_none a)
+returns-in_default-clause-ends g c = let a = asked c.args.config true c.args.form in ends_at_once _ _ _ _ (body_first a) _ _ [] (body_none a)
 
 pub returns-clause-ends : goal.returns-clause-ends
-returns-clause-ends g c = c.pass_lines.ensures.ends (asked c.args.config true c.args.stats) (search rules)
+returns-clause-ends g c = c.pass_lines.ensures.ends (asked c.args.config true c.args.form) (search rules)

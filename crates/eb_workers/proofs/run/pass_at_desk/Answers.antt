@@ -6,7 +6,7 @@ use Rattle.eb_workers.proofs.Beginnings.{body_none_given}
 use Rattle.eb_workers.proofs.run.pass_at_desk.Goals as goal
 
 pub returns-in_default-clause-ends : goal.returns-in_default-clause-ends
-returns-in_default-clause-ends g c = let a = asked c.args.config c.args.stats in ends_at_once _ _ _ _ (body_first a) _ _ [] (body_none_given a)
+returns-in_default-clause-ends g c = let a = asked c.args.config c.args.form in ends_at_once _ _ _ _ (body_first a) _ _ [] (body_none_given a)
 
 pub returns-in_default-open-clause-ends : goal.returns-in_default-open-clause-ends
-returns-in_default-open-clause-ends g c = let a = asked c.args.config c.args.stats in ends_at_once _ _ _ _ (body_first a) _ _ [] (body_none_given a)
+returns-in_default-open-clause-ends g c = let a = asked c.args.config c.args.form in ends_at_once _ _ _ _ (body_first a) _ _ [] (body_none_given a)

@@ -1,8 +1,7 @@
-use Rattle.std.proofs.Common.{◌+◌, ◌++◌, List, ℕ, Option, None, Some, refl, ap, subst, ◌∙◌, arith}
+use Rattle.std.proofs.Common.{◌+◌, ◌++◌, List, ℕ, Option, refl, ap, subst, ◌∙◌, arith}
 use Rattle.eb_io.specs.Lines.{line}
 use Rattle.eb_lines.specs.declared.refusal.Refusal.{Refusal}
 use Rattle.eb_lines.specs.Kinds.{bad_line}
-use Rattle.eb_lines.specs.Reading.{Reading}
 use Rattle.eb_lines.specs.Text.{refusal_line}
 use Rattle.eb_answer.specs.Stores.{TakesOther}
 use Rattle.eb_lines.proofs.Results.{err_any}
@@ -29,8 +28,8 @@ returns-in-Some-clause-ok g c =
     let bytes = c.args.bytes.now in
     let own = c.in_ok-take_other.ensures.ok in
     let T : Option Refusal → Type 0 = λ x. TakesOther g.S.Store.holds c.args.self.now.store c.take_other.new.self own.0 x in
-    refuses_other g.S.Store.other g.S.Store.holds c.args.self.now _ own.0 c.in-Some.refusal _ _ (subst T c.in-Some.is own.2) refl c.requires.number refl refl
-    (c.put_refusal.ensures.text ∙ ap (λ (t : List ℕ). t ++ refusal_line (c.args.self.now.number + 1) c.in-Some.refusal) c.in_ok-reserve.ensures.items)
+    refuses_other g.S.Store.other g.S.Store.holds c.args.self.now _ c.form-form.result c.form-form.ensures own.0 c.in-Some.refusal _ _ (subst T c.in-Some.is own.2) refl c.requires.number refl refl
+    (c.put_refusal.ensures.text ∙ ap (λ (t : List ℕ). t ++ refusal_line c.form-form.result (c.args.self.now.number + 1) c.in-Some.refusal) c.in_ok-reserve.ensures.items)
     (line bytes) (reads_with g.S.Store.other bytes bad_line own.0 c.requires.kind own.1)
 
 pub returns-in_err-reserve-clause-err : goal.returns-in_err-reserve-clause-err
@@ -40,3 +39,6 @@ returns-in_err-reserve-clause-err g c =
 pub returns-in_err-take_other-clause-err : goal.returns-in_err-take_other-clause-err
 returns-in_err-take_other-clause-err g c =
     err_any c.from_residual-in_err-take_other.result (keeps_on g.S.Store.other g.S.Store.holds c.args.self.now _ _ _ c.in_err-take_other.ensures.err refl refl refl c.in_ok-reserve.ensures.items)
+
+pub form-form-requires : goal.form-form-requires
+form-form-requires g c = holding_of g.S.Store.other g.S.Store.holds c.args.self.now c.requires.state

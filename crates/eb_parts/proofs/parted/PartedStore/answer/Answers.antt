@@ -1,8 +1,9 @@
-use Rattle.std.proofs.Common.{◌≡◌, ◌<◌, ◌≤◌, ℕ, List, ◌++◌, length, sym, ap, ap₂, subst, ◌∙◌, arith}
+use Rattle.std.proofs.Common.{◌<◌, ℕ, List, ◌++◌, length, sym, ap, ap₂, subst, ◌∙◌, arith}
 use Rattle.std.specs.Prelude.{◌^◌}
 use Rattle.eb_answer.specs.Rules.{Rules}
 use Rattle.eb_base.specs.Match.{answer}
 use Rattle.eb_base.specs.Query.{tree}
+use Rattle.eb_lines.specs.declared.form.Form.{Form}
 use Rattle.eb_lines.specs.Text.{answer_line}
 use Rattle.eb_parts.specs.declared.store.Store.{Store}
 use Rattle.eb_parts.specs.Stores.{Holds}
@@ -26,7 +27,8 @@ returns-clause-ok g c = λ rules docs none h few.
     let found = c.ids.ensures ∙ c.search-seen.ensures.ids n h.setting docs (tree c.args.query) c.args.k held c.in_ok-frame.ensures.asks in
     let after = subst (λ (z : Store). Holds z n h.setting docs) (sym (c.search-seen.ensures.store ∙ c.reader.ensures.store)) h.holds in (
       record { setting = h.setting; by_rules = h.by_rules; holds = after },
-      c.put_answer.ensures.text ∙ ap (λ (t : List ℕ). t ++ answer_line c.args.number c.search-seen.result c.ids.result.now) c.in_ok-reserve.ensures.items
-          ∙ ap₂ (λ (s : ℕ) (xs : List ℕ). c.args.text.now.items ++ answer_line c.args.number s xs) (c.search-seen.ensures.count n h.setting docs held small)
+      c.put_answer.ensures.text ∙ ap (λ (t : List ℕ). t ++ answer_line c.args.self.now.form c.args.number c.search-seen.result c.ids.result.now) c.in_ok-reserve.ensures.items
+          ∙ ap (λ (f : Form). c.args.text.now.items ++ answer_line f c.args.number c.search-seen.result c.ids.result.now) (sym (ap (λ (r : Rules (Unit {0})). r.form) h.by_rules))
+          ∙ ap₂ (λ (s : ℕ) (xs : List ℕ). c.args.text.now.items ++ answer_line rules.form c.args.number s xs) (c.search-seen.ensures.count n h.setting docs held small)
           (found ∙ ap (λ (r : Rules (Unit {0})). answer (tree c.args.query) c.args.k (r.sees docs)) (sym h.by_rules)),
     )

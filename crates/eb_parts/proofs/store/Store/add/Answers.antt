@@ -1,4 +1,25 @@
+use Rattle.std.proofs.Common.{◌%◌, ◌∙◌, Some, length, refl, ap, sym, subst}
+use Rattle.eb_blend.specs.declared.refusal.BlendRefusal.{BlendRefusal}
+use Rattle.eb_blend.specs.Parts.{WriterTokens, IsCaughtUp}
+use Rattle.eb_parts.specs.declared.store.Store.{Store}
+use Rattle.eb_parts.specs.Stores.{WithPlaced}
+use Rattle.eb_parts.proofs.Placings.{placed, refused_by, not_placed}
 use Rattle.eb_parts.proofs.store.Store.add.Goals as goal
 
-pub pack-requires : goal.pack-requires
-pack-requires g c = let r = c.requires in let p = c.place-refusal.ensures r.0 r.1 r.2 r.3 in (r.0, r.1, _, p.holds)
+pub returns-in-Ok : goal.returns-in-Ok
+returns-in-Ok g c = λ parts σ docs h.
+    let old : Store = c.args.self.now in
+    let d = c.args.document.now in
+    let ok = c.in-Ok.ensures.ok in
+    let e = c.catch_up.ensures in
+    let caught = subst (λ (w : WriterTokens). IsCaughtUp old.blend.setting w.histories (d.id % length w.histories) old.converter c.catch_up.new.converter) (sym e.this)
+    (e.last d.id (ap (λ (w : WriterTokens). w.last) ok.2)) in
+    placed old _ parts σ docs d h ok.0 ok.1 refl (e.this ∙ ok.2) e.indexes e.parts caught
+
+pub returns-in-Err-Full : goal.returns-in-Err-Full
+returns-in-Err-Full g c = λ parts σ docs h.
+    let old : Store = c.args.self.now in
+    let new : Store = record { blend = old.blend; writer = c.add.new.self; converter = old.converter } in
+    let W : BlendRefusal → Type 0 = λ b. WithPlaced new parts σ docs c.args.document.now (Some (refused_by b)) in
+    subst W c.in-Err-Full.field-0-is (not_placed old new parts σ docs c.args.document.now c.in-Err-Full.field-0 h c.in-Err-Full.ensures.refused
+    (λ i. let s : Store = record { blend = old.blend; writer = c.in-Err-Full.ensures.unchanged i; converter = old.converter } in s))

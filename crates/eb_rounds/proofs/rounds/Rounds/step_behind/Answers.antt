@@ -38,7 +38,7 @@ returns-clause-ok g c =
     let a = first.ensures.works s.ahead c.in_ok-ahead.ensures.ahead s.counts between refl refl refl in
     let b = last.ensures.works s.held c.in_ok-ahead.ensures.held between after (omega (arith, ap (λ (k : Counted). k.documents) counts))
     (omega (arith, ap (λ (k : Counted). k.queries) counts)) (omega (arith, ap (λ (k : Counted). k.refused) counts)) in
-    let W : List Doc → Type 0 = λ docs. WorkedOff c.args.index.now.setting s.held first.new.writer.docs docs between after b.0 in (
+    let W : List Doc → Type 0 = λ docs. WorkedOff c.args.form c.args.index.now.setting s.held first.new.writer.docs docs between after b.0 in (
       a.0 ++ b.0,
       record {
         docs_between = first.new.writer.docs;

@@ -6,7 +6,7 @@ use Rattle.eb_run.proofs.running.Running.new.Goals as goal
 
 pub returns : goal.returns
 returns c =
-    let W : List Doc → Type 0 = λ docs. HasGathered c.args.config [] docs c.new.result [] in
+    let W : List Doc → Type 0 = λ docs. HasGathered c.args.form c.args.config [] docs c.new.result [] in
     record {
       words = c.in_ok-index.index;
       index = refl;
@@ -14,7 +14,7 @@ returns c =
       writer = ap (λ t. t.index) c.in_ok-index.ensures.writer;
       converter = ap (λ t. t.index) c.in_ok-index.ensures.converter;
       mode = refl;
-      stats = refl;
+      form = refl;
       number = refl;
-      worked = subst W (sym (ap (λ t. t.docs) c.in_ok-index.ensures.writer)) (worked_none c.args.config c.new.result c.new.ensures);
+      worked = subst W (sym (ap (λ t. t.docs) c.in_ok-index.ensures.writer)) (worked_none c.args.form c.args.config c.new.result c.new.ensures);
     }

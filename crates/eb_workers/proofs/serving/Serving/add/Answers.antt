@@ -17,7 +17,7 @@ returns-then-add g c =
     served_line c.args.self.now _ (document d) waits.Nothing (document d)
     (ap (λ b. if b then document d else refused Full) p.0) c.add.ensures.keeps p.1 refl refl (omega arith) (omega arith) (omega arith, omega arith)
     (above_more _ _ (subst (λ (k : ClerkBook). IsAboveEach (c.args.self.now.number + 1) k.put) (sym c.add.ensures.clerk) r.3.above)) c.push.ensures
-    (record { asks = refl; nothing = λ number seen docs. refl })
+    (record { asks = refl; nothing = λ form number seen docs. refl })
 
 pub returns-else-add : goal.returns-else-add
 returns-else-add g c =

@@ -1,0 +1,24 @@
+/// How what a run prints is written.
+#[derive(Clone, Copy, Debug, PartialEq, Eq)]
+pub struct Form {
+    /// Whether each line is a JSON object, or words.
+    pub json: bool,
+    /// Whether the segments are told at the end.
+    pub stats: bool,
+}
+
+/// What is told at the end beside the counts.
+#[derive(Clone, Copy, Debug, PartialEq, Eq)]
+pub enum Tail {
+    /// Nothing.
+    Nothing,
+    /// How many of the accepted documents are kept.
+    Kept(u64),
+    /// The segments.
+    Segments {
+        /// How many are begun.
+        begun: u64,
+        /// How many of them are converted.
+        converted: u64,
+    },
+}

@@ -1,0 +1,121 @@
+//! The lines as JSON.
+ghost use Rattle.std.specs.Prelude.{◌≡◌, ◌+◌, ◌*◌, ◌≤◌, ◌++◌, length, vec_len, vec_capacity};
+ghost use Rattle.eb_lines.specs.JsonTexts.{answer_text, watch_text, cause_text, refusal_text, summary_text, tail_text};
+
+use crate::form::Tail;
+use crate::pieces::{put, put_id_list, put_number, put_number_list};
+use crate::refusal::Refusal;
+
+pub(crate) fn put_answer_json(text: &mut Vec<u8>, number: u64, seen: u64, ids: &[u64])
+    requires { vec_len text.old + (96 + 21 * length ids.now) ≤ vec_capacity text.old }
+    ensures text { text.new.items ≡ text.old.items ++ answer_text number seen ids.now }
+    ensures len { vec_len text.new ≤ vec_len text.old + (96 + 21 * length ids.now) }
+    ensures room { vec_capacity text.old ≤ vec_capacity text.new }
+{
+    put(text, b"{\"line\":");
+    put_number(text, number);
+    put(text, b",\"seen\":");
+    put_number(text, seen);
+    put(text, b",\"ids\":[");
+    put_id_list(text, ids);
+    put(text, b"]}\n");
+}
+
+pub(crate) fn put_watch_json(text: &mut Vec<u8>, number: u64, watches: &[u32])
+    requires { vec_len text.old + (96 + 21 * length watches.now) ≤ vec_capacity text.old }
+    ensures text { text.new.items ≡ text.old.items ++ watch_text number watches.now }
+    ensures len { vec_len text.new ≤ vec_len text.old + (96 + 21 * length watches.now) }
+    ensures room { vec_capacity text.old ≤ vec_capacity text.new }
+{
+    put(text, b"{\"line\":");
+    put_number(text, number);
+    put(text, b",\"watches\":[");
+    put_number_list(text, watches);
+    put(text, b"]}\n");
+}
+
+// Why a line is refused, and the end of the object.
+fn put_cause(text: &mut Vec<u8>, refusal: Refusal)
+    requires { vec_len text.old + 48 ≤ vec_capacity text.old }
+    ensures text { text.new.items ≡ text.old.items ++ cause_text refusal }
+    ensures len { vec_len text.new ≤ vec_len text.old + 48 }
+    ensures room { vec_capacity text.old ≤ vec_capacity text.new }
+{
+    match refusal {
+        Refusal::BadLine => put(text, b"\"bad line\"}\n"),
+        Refusal::LongLine => put(text, b"\"long line\"}\n"),
+        Refusal::BadJson => put(text, b"\"bad json\"}\n"),
+        Refusal::BadDocument => put(text, b"\"bad document\"}\n"),
+        Refusal::TooLong => put(text, b"\"too long\"}\n"),
+        Refusal::NotRising(last) => {
+            put(text, b"\"not rising\",\"after\":");
+            put_number(text, last);
+            put(text, b"}\n");
+        }
+        Refusal::Full => put(text, b"\"full\"}\n"),
+        Refusal::BadNumber => put(text, b"\"bad number\"}\n"),
+        Refusal::BadQuery(column) => {
+            put(text, b"\"bad query\",\"column\":");
+            put_number(text, column);
+            put(text, b"}\n");
+        }
+        Refusal::QueryTooLarge => put(text, b"\"query too large\"}\n"),
+        Refusal::QueryTooDeep => put(text, b"\"query too deep\"}\n"),
+        Refusal::NoWatch => put(text, b"\"no watch\"}\n"),
+        Refusal::WatchTaken => put(text, b"\"watch taken\"}\n"),
+        Refusal::WatchesFull => put(text, b"\"watches full\"}\n"),
+    }
+}
+
+pub(crate) fn put_refusal_json(text: &mut Vec<u8>, number: u64, refusal: Refusal)
+    requires { vec_len text.old + 96 ≤ vec_capacity text.old }
+    ensures text { text.new.items ≡ text.old.items ++ refusal_text number refusal }
+    ensures len { vec_len text.new ≤ vec_len text.old + 96 }
+    ensures room { vec_capacity text.old ≤ vec_capacity text.new }
+{
+    put(text, b"{\"line\":");
+    put_number(text, number);
+    put(text, b",\"refused\":");
+    put_cause(text, refusal);
+}
+
+// What is told beside the counts, from the end of the object of the counts on.
+fn put_tail(text: &mut Vec<u8>, tail: Tail)
+    requires { vec_len text.old + 80 ≤ vec_capacity text.old }
+    ensures { text.new.items ≡ text.old.items ++ tail_text tail }
+{
+    match tail {
+        Tail::Nothing => put(text, b"}}\n"),
+        Tail::Kept(kept) => {
+            put(text, b",\"kept\":");
+            put_number(text, kept);
+            put(text, b"}}\n");
+        }
+        Tail::Segments { begun, converted } => {
+            put(text, b"}}\n{\"segments\":");
+            put_number(text, begun);
+            put(text, b",\"converted\":");
+            put_number(text, converted);
+            put(text, b"}\n");
+        }
+    }
+}
+
+pub(crate) fn put_summary_json(
+    text: &mut Vec<u8>,
+    documents: u64,
+    queries: u64,
+    refused: u64,
+    tail: Tail,
+)
+    requires { vec_len text.old + 192 ≤ vec_capacity text.old }
+    ensures { text.new.items ≡ text.old.items ++ summary_text documents queries refused tail }
+{
+    put(text, b"{\"end\":{\"documents\":");
+    put_number(text, documents);
+    put(text, b",\"queries\":");
+    put_number(text, queries);
+    put(text, b",\"refused\":");
+    put_number(text, refused);
+    put_tail(text, tail);
+}

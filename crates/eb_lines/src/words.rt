@@ -1,0 +1,116 @@
+//! The lines in words.
+ghost use Rattle.std.specs.Prelude.{◌≡◌, ◌+◌, ◌*◌, ◌≤◌, ◌++◌, length, vec_len, vec_capacity};
+ghost use Rattle.eb_lines.specs.Words.{answer_words, watch_words, refusal_words, refusal_name, summary_words, tail_words};
+
+use crate::form::Tail;
+use crate::pieces::{put, put_ids, put_number, put_numbers};
+use crate::refusal::Refusal;
+
+pub(crate) fn put_answer_words(text: &mut Vec<u8>, number: u64, seen: u64, ids: &[u64])
+    requires { vec_len text.old + (96 + 21 * length ids.now) ≤ vec_capacity text.old }
+    ensures text { text.new.items ≡ text.old.items ++ answer_words number seen ids.now }
+    ensures len { vec_len text.new ≤ vec_len text.old + (96 + 21 * length ids.now) }
+    ensures room { vec_capacity text.old ≤ vec_capacity text.new }
+{
+    put_number(text, number);
+    put(text, b" seen ");
+    put_number(text, seen);
+    put(text, b":");
+    put_ids(text, b' ', ids);
+    put(text, b"\n");
+}
+
+pub(crate) fn put_watch_words(text: &mut Vec<u8>, number: u64, watches: &[u32])
+    requires { vec_len text.old + (96 + 21 * length watches.now) ≤ vec_capacity text.old }
+    ensures text { text.new.items ≡ text.old.items ++ watch_words number watches.now }
+    ensures len { vec_len text.new ≤ vec_len text.old + (96 + 21 * length watches.now) }
+    ensures room { vec_capacity text.old ≤ vec_capacity text.new }
+{
+    put_number(text, number);
+    put(text, b" watch:");
+    put_numbers(text, b' ', watches);
+    put(text, b"\n");
+}
+
+fn put_name(text: &mut Vec<u8>, refusal: Refusal)
+    requires { vec_len text.old + 37 ≤ vec_capacity text.old }
+    ensures text { text.new.items ≡ text.old.items ++ refusal_name refusal }
+    ensures len { vec_len text.new ≤ vec_len text.old + 37 }
+    ensures room { vec_capacity text.old ≤ vec_capacity text.new }
+{
+    match refusal {
+        Refusal::BadLine => put(text, b"bad line"),
+        Refusal::LongLine => put(text, b"long line"),
+        Refusal::BadJson => put(text, b"bad json"),
+        Refusal::BadDocument => put(text, b"bad document"),
+        Refusal::TooLong => put(text, b"too long"),
+        Refusal::NotRising(last) => {
+            put(text, b"not rising after ");
+            put_number(text, last);
+        }
+        Refusal::Full => put(text, b"full"),
+        Refusal::BadNumber => put(text, b"bad number"),
+        Refusal::BadQuery(column) => {
+            put(text, b"bad query at ");
+            put_number(text, column);
+        }
+        Refusal::QueryTooLarge => put(text, b"query too large"),
+        Refusal::QueryTooDeep => put(text, b"query too deep"),
+        Refusal::NoWatch => put(text, b"no watch"),
+        Refusal::WatchTaken => put(text, b"watch taken"),
+        Refusal::WatchesFull => put(text, b"watches full"),
+    }
+}
+
+pub(crate) fn put_refusal_words(text: &mut Vec<u8>, number: u64, refusal: Refusal)
+    requires { vec_len text.old + 96 ≤ vec_capacity text.old }
+    ensures text { text.new.items ≡ text.old.items ++ refusal_words number refusal }
+    ensures len { vec_len text.new ≤ vec_len text.old + 96 }
+    ensures room { vec_capacity text.old ≤ vec_capacity text.new }
+{
+    put_number(text, number);
+    put(text, b" refused: ");
+    put_name(text, refusal);
+    put(text, b"\n");
+}
+
+fn put_tail(text: &mut Vec<u8>, tail: Tail)
+    requires { vec_len text.old + 64 ≤ vec_capacity text.old }
+    ensures text { text.new.items ≡ text.old.items ++ tail_words tail }
+    ensures len { vec_len text.new ≤ vec_len text.old + 64 }
+    ensures room { vec_capacity text.old ≤ vec_capacity text.new }
+{
+    match tail {
+        Tail::Nothing => {}
+        Tail::Kept(kept) => {
+            put(text, b", kept ");
+            put_number(text, kept);
+        }
+        Tail::Segments { begun, converted } => {
+            put(text, b"\nsegments ");
+            put_number(text, begun);
+            put(text, b", converted ");
+            put_number(text, converted);
+        }
+    }
+}
+
+pub(crate) fn put_summary_words(
+    text: &mut Vec<u8>,
+    documents: u64,
+    queries: u64,
+    refused: u64,
+    tail: Tail,
+)
+    requires { vec_len text.old + 192 ≤ vec_capacity text.old }
+    ensures { text.new.items ≡ text.old.items ++ summary_words documents queries refused tail }
+{
+    put(text, b"end: documents ");
+    put_number(text, documents);
+    put(text, b", queries ");
+    put_number(text, queries);
+    put(text, b", refused ");
+    put_number(text, refused);
+    put_tail(text, tail);
+    put(text, b"\n");
+}
