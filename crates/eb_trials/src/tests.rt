@@ -13,6 +13,7 @@ mod generations;
 mod hashes;
 mod leading;
 mod leaps;
+mod long_lists;
 mod made;
 mod packing;
 mod placing;

@@ -4,7 +4,7 @@
 //! Each call's contract asks that they were made with this index, and promises what is written beside it here.
 #![tactic(auto)]
 
-ghost use Rattle.std.specs.Prelude.{◌≡◌, ◌<◌, length};
+ghost use Rattle.std.specs.Prelude.{◌≡◌, ◌<◌, length, IfOk};
 ghost use mathlib.Core.List.{IsPrefix};
 ghost use Rattle.eb_base.specs.Match.{answer};
 ghost use Rattle.eb_cursor.specs.Frames.{query_of, k_of, ids_of};
@@ -172,36 +172,52 @@ fn search_beside<R: Threads + Sync>(
     )
 }
 
-fn main(rt: HostRuntime) -> Result<(), Trouble> {
-    let alloc = rt.alloc();
-    // Two segments of at most 100 messages and 1,024 terms each. `open` takes all memory of the index.
+// An index of two segments of at most 100 messages and 1,024 terms each, and its writer. `open` takes all memory of the index.
+fn opened(alloc: Global) -> Result<(Index, Writer), Trouble>
+    ensures { IfOk result (λ made. made.1.index ≡ made.0) }
+{
     let Ok(config) = Config::new(2, 100, 1024) else {
         return Err(Trouble::BadSetting);
     };
-    let Ok((index, mut writer, _converter)) = Index::open(alloc, config) else {
-        return Err(Trouble::NoMemory);
-    };
-    let messages = messages(alloc)?;
-    // A reader of `Writer::reader` knows the whole history, which has no message yet.
-    let readers = (writer.reader(&index), writer.reader(&index));
-    let frames = (frame(alloc, b"rain")?, frame(alloc, b"berlin")?);
-    let (mut writer, ((first, rain), (second, berlin))) = run(
-        &rt,
-        &index,
-        writer,
-        readers,
-        frames,
-        messages.as_slice(),
-    );
-    // Who takes in a reader learns that what it knew is a front of the history.
-    writer.meet(&index, first);
-    writer.meet(&index, second);
+    match Index::open(alloc, config) {
+        Ok((index, writer, _converter)) => Ok((index, writer)),
+        Err(_) => Err(Trouble::NoMemory),
+    }
+}
+
+// Prints what was found. Who takes in a reader learns that what it knew is a front of the history.
+fn report(
+    rt: &impl Print,
+    index: &Index,
+    writer: Writer,
+    rain: (Reader, Frame),
+    berlin: (Reader, Frame),
+) -> io::Result<()>
+    requires writer { writer.index ≡ index.now }
+    requires readers { (rain.0.index ≡ index.now) × (berlin.0.index ≡ index.now) }
+{
+    let mut writer = writer;
+    let (first, rain) = rain;
+    let (second, berlin) = berlin;
+    writer.meet(index, first);
+    writer.meet(index, second);
     println!(rt;
         "messages {}, segments {}",
         writer.accepted(),
         writer.segments()
     )?;
     println!(rt; "rain {:?}", rain.ids())?;
-    println!(rt; "berlin {:?}", berlin.ids())?;
+    println!(rt; "berlin {:?}", berlin.ids())
+}
+
+fn main(rt: HostRuntime) -> Result<(), Trouble> {
+    let alloc = rt.alloc();
+    let messages = messages(alloc)?;
+    let frames = (frame(alloc, b"rain")?, frame(alloc, b"berlin")?);
+    let (index, mut writer) = opened(alloc)?;
+    // A reader of `Writer::reader` knows the whole history, which has no message yet.
+    let readers = (writer.reader(&index), writer.reader(&index));
+    let (writer, (rain, berlin)) = run(&rt, &index, writer, readers, frames, messages.as_slice());
+    report(&rt, &index, writer, rain, berlin)?;
     Ok(())
 }

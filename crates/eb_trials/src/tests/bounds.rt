@@ -1,5 +1,5 @@
 //! How many words a search of a word in a converted segment loads, by a port that counts its own loads.
-ghost use Rattle.std.specs.Prelude.{◌≡◌, ◌<◌, ◌≤◌, IfOk};
+ghost use Rattle.std.specs.Prelude.{◌≡◌, ◌<◌, IfOk};
 ghost use Rattle.eb_place.specs.declared.moment.Moment.{Moment};
 ghost use Rattle.eb_trials.specs.Recorded.{IsRecord};
 
@@ -13,6 +13,7 @@ use eb_search::search;
 use eb_writer::Placer;
 use std::alloc::Global;
 use std::marker::Brand;
+use std::process::Abort;
 use std::sync::ledger::{Blank, Ledger};
 use std::test::Fail;
 
@@ -100,11 +101,8 @@ fn searched(
     config: Config,
     documents: &[Document],
     word: &[u8],
-    k: u32,
-) -> Result<(u64, Frame, u64), Fail>
-    requires { (1 ≤ k) × (k ≤ 1000) }
-{
-    let mut frame = Frame::new(alloc, Query::Word(Term::new(alloc, word)?), k)?;
+) -> Result<(u64, Frame, u64), Fail> {
+    let mut frame = Frame::new(alloc, Query::Word(Term::new(alloc, word)?), 1000)?;
     let mut words = CountedWords {
         words: converted(alloc, config, documents)?,
         loads: 0,
@@ -113,26 +111,70 @@ fn searched(
     Ok((count, frame, words.loads))
 }
 
+// Looks that a search for a word sees all these documents, finds these ids, and loads at most so many words.
+fn finds(
+    rt: &impl Abort,
+    alloc: Global,
+    config: Config,
+    documents: &[Document],
+    word: &[u8],
+    ids: &[u64],
+    most: u64,
+) -> Result<(), Fail> {
+    let (count, frame, loads) = searched(alloc, config, documents, word)?;
+    assert_eq!(rt; (count, frame.ids()), (documents.len() as u64, ids));
+    assert!(rt; loads <= most, "{loads}");
+    Ok(())
+}
+
+#[test]
+fn a_search_of_a_word_of_two_documents_loads_few_words(rt: HostRuntime) -> Result<(), Fail> {
+    let alloc = rt.alloc();
+    let few = [document(alloc, 7, b"ab b ab")?, document(alloc, 8, b"b")?];
+    finds(
+        &rt,
+        alloc,
+        Config::new(2, 1, 1024)?,
+        &few,
+        b"b",
+        &[8, 7],
+        32,
+    )
+}
+
+// Documents of the word `a` with the ids 1 to 128, and one of `b` with the id 129.
+fn many(alloc: Global) -> Result<Vec<Document>, Fail> {
+    let mut many = Vec::new(alloc);
+    for id in 1..129 {
+        many.push(document(alloc, id, b"a")?)?;
+    }
+    many.push(document(alloc, 129, b"b")?)?;
+    Ok(many)
+}
+
+// The ids 128 to 1.
+fn newest_first(alloc: Global) -> Result<Vec<u64>, Fail> {
+    let mut ids = Vec::new(alloc);
+    for id in 1..129 {
+        ids.push(129 - id)?;
+    }
+    Ok(ids)
+}
+
+// The 128 postings of `a` are 35 packed words; over their slices the same search makes 131 loads for them.
 #[test]
 fn a_search_of_a_word_loads_the_packed_words(rt: HostRuntime) -> Result<(), Fail> {
     let alloc = rt.alloc();
-    let few = [document(alloc, 7, b"ab b ab")?, document(alloc, 8, b"b")?];
-    let (count, frame, loads) = searched(alloc, Config::new(2, 1, 1024)?, &few, b"b", 10)?;
-    assert_eq!(rt; count, 2);
-    assert_eq!(rt; frame.ids(), [8, 7].as_slice());
-    assert!(rt; loads <= 32, "{loads}");
-    // The 128 postings of `a` are 35 packed words; over their slices the same search makes 131 loads for them.
-    let mut many = Vec::new(alloc);
-    let mut newest_first = Vec::new(alloc);
-    for id in 1..129 {
-        many.push(document(alloc, id, b"a")?)?;
-        newest_first.push(129 - id)?;
-    }
-    many.push(document(alloc, 129, b"b")?)?;
+    let many = many(alloc)?;
+    let ids = newest_first(alloc)?;
     let config = Config::new(2, 128, 1024)?;
-    let (count, frame, loads) = searched(alloc, config, many.as_slice(), b"a", 1000)?;
-    assert_eq!(rt; count, 129);
-    assert_eq!(rt; frame.ids(), newest_first.as_slice());
-    assert!(rt; loads <= 185, "{loads}");
-    Ok(())
+    finds(
+        &rt,
+        alloc,
+        config,
+        many.as_slice(),
+        b"a",
+        ids.as_slice(),
+        185,
+    )
 }

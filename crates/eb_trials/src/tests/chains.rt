@@ -136,17 +136,30 @@ fn walk<L: Ledger>(
 
 // The tail word of the first term, and the link words of the first slices of pools 1 and 2 and of the
 // first two of pool 3, in an index of one segment with 4,096 documents and 8,192 terms.
-fn chain_words(words: &mut FlatWords) -> [Option<u64>; 5]
+fn chain_words(words: &mut FlatWords) -> [u64; 5]
     requires { (m : Moment) × StandsFor words.old m }
     ensures { words.new ≡ words.old }
 {
-    let tail = word_at(words, 24_579);
-    let pool1 = word_at(words, 86_019);
-    let pool2 = word_at(words, 151_555);
-    let pool3 = word_at(words, 217_091);
-    let next = word_at(words, 219_139);
+    let tail = word_at(words, 24_579).unwrap_or(u64::MAX);
+    let pool1 = word_at(words, 86_019).unwrap_or(u64::MAX);
+    let pool2 = word_at(words, 151_555).unwrap_or(u64::MAX);
+    let pool3 = word_at(words, 217_091).unwrap_or(u64::MAX);
+    let next = word_at(words, 219_139).unwrap_or(u64::MAX);
     [tail, pool1, pool2, pool3, next]
 }
+
+// How many postings more there are, and the words then: the tail, and the links of the slices.
+const SLICES: [(usize, [u64; 5]); 9] = [
+    (1, [1, 0, 0, 0, 0]),
+    (1, [2, 0, 0, 0, 0]),
+    (1, [1073741826, 1, 0, 0, 0]),
+    (14, [1073741840, 1, 0, 0, 0]),
+    (1, [2147483650, 1, 1073741839, 0, 0]),
+    (126, [2147483776, 1, 1073741839, 0, 0]),
+    (1, [3221225474, 1, 1073741839, 2147483775, 0]),
+    (2046, [3221227520, 1, 1073741839, 2147483775, 0]),
+    (1, [3221227522, 1, 1073741839, 2147483775, 3221227519]),
+];
 
 #[test]
 fn postings_take_slices_of_greater_pools(rt: HostRuntime) -> Result<(), Fail> {
@@ -155,26 +168,10 @@ fn postings_take_slices_of_greater_pools(rt: HostRuntime) -> Result<(), Fail> {
     let mut words = FlatWords::new(alloc, config)?;
     let mut placer = Placer::new(config);
     let mut postings = Vec::new(alloc);
-    for (more, tail, pool1, pool2, pool3, next) in [
-        (1, 1, 0, 0, 0, 0),
-        (1, 2, 0, 0, 0, 0),
-        (1, 1073741826, 1, 0, 0, 0),
-        (14, 1073741840, 1, 0, 0, 0),
-        (1, 2147483650, 1, 1073741839, 0, 0),
-        (126, 2147483776, 1, 1073741839, 0, 0),
-        (1, 3221225474, 1, 1073741839, 2147483775, 0),
-        (2046, 3221227520, 1, 1073741839, 2147483775, 0),
-        (1, 3221227522, 1, 1073741839, 2147483775, 3221227519),
-    ] {
+    for (more, want) in SLICES {
         add_postings(alloc, &mut placer, &mut words, &mut postings, more)?;
-        let want = [
-            Some(tail),
-            Some(pool1),
-            Some(pool2),
-            Some(pool3),
-            Some(next),
-        ];
-        assert_eq!(rt; chain_words(&mut words), want, "{more}");
+        let left = chain_words(&mut words);
+        assert_eq!(rt; left, want, "{more}");
     }
     let term = Term::new(alloc, b"a")?;
     let given = walk::<Brand>(alloc, &mut words, &term, 2194, Blank::new(1))?;

@@ -129,55 +129,47 @@ fn found_of_two(alloc: Global, texts: [&[u8]; 2], text: &[u8]) -> Result<Vec<u64
     found_of(alloc, documents.as_slice(), text)
 }
 
-#[test]
-fn cursors_find_by_hand(rt: HostRuntime) -> Result<(), Fail> {
-    let alloc = rt.alloc();
-    let none: &[u64] = &[];
-    let runs = [b"a b b a b a".as_slice(), b""];
-    let pairs = [b"a b".as_slice(), b"c d"];
-    for (texts, text, want) in [
-        (
-            [b"".as_slice(), b"foo"],
-            b"foo -".as_slice(),
-            [0].as_slice(),
-        ),
-        (runs, b"\" a b a \"", &[0]),
-        (runs, b"\" b b a b \"", &[0]),
-        (runs, b"\" b a b b \"", none),
-        (pairs, b"\" b c \"", none),
-        (pairs, b"b c &2", none),
-        (pairs, b"b c |2", &[1, 0]),
-    ] {
-        assert_eq!(rt; found_of_two(alloc, texts, text)?.as_slice(), want);
-    }
-    Ok(())
-}
+// Nothing is found.
+const NONE: &[u64] = &[];
+
+const RUNS: [&[u8]; 2] = [b"a b b a b a", b""];
+
+const ROWS: [&[u8]; 2] = [b"a b b a b a", b"b a"];
+
+const PAIRS: [&[u8]; 2] = [b"a b", b"c d"];
+
+// Two documents, a query, and what it finds of them.
+const BY_HAND: [([&[u8]; 2], &[u8], &[u64]); 23] = [
+    ([b"", b"foo"], b"foo -", &[0]),
+    (RUNS, b"\" a b a \"", &[0]),
+    (RUNS, b"\" b b a b \"", &[0]),
+    (RUNS, b"\" b a b b \"", NONE),
+    (PAIRS, b"\" b c \"", NONE),
+    (PAIRS, b"b c &2", NONE),
+    (PAIRS, b"b c |2", &[1, 0]),
+    (ROWS, b"\" a a \" ~2", &[0]),
+    (ROWS, b"\" a a \" ~1", NONE),
+    (ROWS, b"\" b b b \" ~3", &[0]),
+    (ROWS, b"\" a a a \" ~5", &[0]),
+    (ROWS, b"\" a a a \" ~4", NONE),
+    (ROWS, b"\" b a \" ~1", &[1, 0]),
+    (ROWS, b"\" a b a \" ~2", &[0]),
+    (ROWS, b"\" b a b b \" ~1023", NONE),
+    (PAIRS, b"\" b c \" ~1023", NONE),
+    (PAIRS, b"\" a b \" ~1 \" c d \" ~1 |2", &[1, 0]),
+    (ROWS, b">1 a &2", &[1]),
+    (ROWS, b"a >1 &2", &[1]),
+    (ROWS, b">1 -", &[0]),
+    (ROWS, b">0 >1 &2", &[1]),
+    (ROWS, b">0 b - &2", NONE),
+    (ROWS, b">18446744073709551615", NONE),
+];
 
 #[test]
-fn cursors_find_windows_and_bounds_by_hand(rt: HostRuntime) -> Result<(), Fail> {
-    let alloc = rt.alloc();
-    let none: &[u64] = &[];
-    let rows = [b"a b b a b a".as_slice(), b"b a"];
-    let pairs = [b"a b".as_slice(), b"c d"];
-    for (texts, text, want) in [
-        (rows, b"\" a a \" ~2".as_slice(), [0].as_slice()),
-        (rows, b"\" a a \" ~1", none),
-        (rows, b"\" b b b \" ~3", &[0]),
-        (rows, b"\" a a a \" ~5", &[0]),
-        (rows, b"\" a a a \" ~4", none),
-        (rows, b"\" b a \" ~1", &[1, 0]),
-        (rows, b"\" a b a \" ~2", &[0]),
-        (rows, b"\" b a b b \" ~1023", none),
-        (pairs, b"\" b c \" ~1023", none),
-        (pairs, b"\" a b \" ~1 \" c d \" ~1 |2", &[1, 0]),
-        (rows, b">1 a &2", &[1]),
-        (rows, b"a >1 &2", &[1]),
-        (rows, b">1 -", &[0]),
-        (rows, b">0 >1 &2", &[1]),
-        (rows, b">0 b - &2", none),
-        (rows, b">18446744073709551615", none),
-    ] {
-        assert_eq!(rt; found_of_two(alloc, texts, text)?.as_slice(), want);
+fn cursors_find_by_hand(rt: HostRuntime) -> Result<(), Fail> {
+    for (texts, text, want) in BY_HAND {
+        let found = found_of_two(rt.alloc(), texts, text)?;
+        assert_eq!(rt; found.as_slice(), want, "{text:?}");
     }
     Ok(())
 }
@@ -191,20 +183,22 @@ fn in_no_order(alloc: Global) -> Result<Vec<Document>, Fail> {
     Ok(documents)
 }
 
+// Bounds on these ids, and what they find.
+const BOUNDS: [(&[u8], &[u64]); 6] = [
+    (b">4", &[4, 2, 0]),
+    (b">5", &[4, 2]),
+    (b">4 -", &[3, 1]),
+    (b">4 a &2", &[4, 2, 0]),
+    (b">4 >6 - &2", &[0]),
+    (b">8 >2 - |2", &[3, 2]),
+];
+
 #[test]
 fn bounds_hold_for_ids_in_any_order(rt: HostRuntime) -> Result<(), Fail> {
-    let alloc = rt.alloc();
-    let documents = in_no_order(alloc)?;
-    let documents = documents.as_slice();
-    for (text, want) in [
-        (b">4".as_slice(), [4, 2, 0].as_slice()),
-        (b">5", &[4, 2]),
-        (b">4 -", &[3, 1]),
-        (b">4 a &2", &[4, 2, 0]),
-        (b">4 >6 - &2", &[0]),
-        (b">8 >2 - |2", &[3, 2]),
-    ] {
-        assert_eq!(rt; found_of(alloc, documents, text)?.as_slice(), want);
+    let documents = in_no_order(rt.alloc())?;
+    for (text, want) in BOUNDS {
+        let found = found_of(rt.alloc(), documents.as_slice(), text)?;
+        assert_eq!(rt; found.as_slice(), want, "{text:?}");
     }
     Ok(())
 }
@@ -274,17 +268,25 @@ fn found_growing(
     asked::<GrowingPort, Brand>(alloc, &mut port, text, documents, Blank::new(1))
 }
 
+// Whether cursors find what a scan of the documents does, however many stores of one document more are done.
+fn is_as_accepted(alloc: Global, text: &[u8], documents: &[Document]) -> Result<bool, Fail> {
+    let want = scanned(alloc, text, documents)?;
+    for stores in [0, 3, 10, 19] {
+        let numbers = found_growing(alloc, text, documents, stores)?;
+        if numbers.as_slice() != want.as_slice() {
+            return Ok(false);
+        }
+    }
+    Ok(true)
+}
+
 #[test]
 fn cursors_find_what_was_accepted(rt: HostRuntime) -> Result<(), Fail> {
-    let alloc = rt.alloc();
-    let documents = made(alloc, 20)?;
-    for text in small_queries(alloc)?.as_slice() {
-        let text = text.as_slice();
-        let want = scanned(alloc, text, documents.as_slice())?;
-        for stores in [0, 3, 10, 19] {
-            let numbers = found_growing(alloc, text, documents.as_slice(), stores)?;
-            assert_eq!(rt; numbers.as_slice(), want.as_slice(), "{stores}");
-        }
+    let documents = made(rt.alloc(), 20)?;
+    let texts = small_queries(rt.alloc())?;
+    for text in texts.as_slice() {
+        let is = is_as_accepted(rt.alloc(), text.as_slice(), documents.as_slice())?;
+        assert!(rt; is, "{text:?}");
     }
     Ok(())
 }

@@ -12,6 +12,7 @@ use eb_place::{Places, Port, Steps};
 use eb_terms::find;
 use std::alloc::Global;
 use std::marker::Brand;
+use std::process::Abort;
 use std::sync::ledger::{Blank, Ledger};
 use std::test::Fail;
 
@@ -51,37 +52,49 @@ fn numbers_in(
     Ok(numbers)
 }
 
+// Looks that the terms `po`, `r1`, `aonpo`, `aonr1` and `zz` have these numbers in the two segments.
+fn are_numbered(
+    rt: &impl Abort,
+    alloc: Global,
+    words: &mut FlatWords,
+    first: &[Option<u32>],
+    second: &[Option<u32>],
+) -> Result<(), Fail>
+    requires { (m : Moment) × StandsFor words.old m }
+    ensures { words.new ≡ words.old }
+{
+    let asked = terms(alloc, b"po r1 aonpo aonr1 zz")?;
+    let in_first = numbers_in(alloc, words, 0, &asked)?;
+    let in_second = numbers_in(alloc, words, 1, &asked)?;
+    assert_eq!(rt; in_first.as_slice(), first);
+    assert_eq!(rt; in_second.as_slice(), second);
+    Ok(())
+}
+
+// The numbers in a segment without a document.
+const NONE: [Option<u32>; 5] = [None, None, None, None, None];
+
+#[test]
+fn an_empty_segment_has_no_terms(rt: HostRuntime) -> Result<(), Fail> {
+    let mut words = index_of(rt.alloc(), Config::new(2, 1, 1024)?, &[])?;
+    are_numbered(&rt, rt.alloc(), &mut words, &NONE, &NONE)
+}
+
 #[test]
 fn terms_stand_in_the_cells_of_their_hashes(rt: HostRuntime) -> Result<(), Fail> {
-    let alloc = rt.alloc();
     let config = Config::new(2, 1, 1024)?;
-    let asked = terms(alloc, b"po r1 aonpo aonr1 zz")?;
-    let none = [None, None, None, None, None];
-    let mut words = index_of(alloc, config, &[])?;
-    assert_eq!(rt;
-        numbers_in(alloc, &mut words, 0, &asked)?.as_slice(),
-        none.as_slice()
-    );
-    assert_eq!(rt;
-        numbers_in(alloc, &mut words, 1, &asked)?.as_slice(),
-        none.as_slice()
-    );
-    let document = document(alloc, 1, b"po r1 aonpo aonr1")?;
-    let mut words = index_of(alloc, config, [document].as_slice())?;
+    let document = document(rt.alloc(), 1, b"po r1 aonpo aonr1")?;
+    let mut words = index_of(rt.alloc(), config, [document].as_slice())?;
     let places = Places::new(config);
-    assert_eq!(rt; word_at(&mut words, places.cell(0, 1535)), Some(1));
-    assert_eq!(rt; word_at(&mut words, places.cell(0, 1536)), Some(2));
-    assert_eq!(rt; word_at(&mut words, places.cell(0, 2047)), Some(3));
-    assert_eq!(rt; word_at(&mut words, places.cell(0, 0)), Some(4));
-    assert_eq!(rt;
-        numbers_in(alloc, &mut words, 0, &asked)?.as_slice(),
-        [Some(0), Some(1), Some(2), Some(3), None].as_slice()
-    );
-    assert_eq!(rt;
-        numbers_in(alloc, &mut words, 1, &asked)?.as_slice(),
-        none.as_slice()
-    );
-    Ok(())
+    let cells = [
+        word_at(&mut words, places.cell(0, 1535)),
+        word_at(&mut words, places.cell(0, 1536)),
+        word_at(&mut words, places.cell(0, 2047)),
+        word_at(&mut words, places.cell(0, 0)),
+    ];
+    assert_eq!(rt; cells, [Some(1), Some(2), Some(3), Some(4)]);
+    let numbers = [Some(0), Some(1), Some(2), Some(3), None];
+    are_numbered(&rt, rt.alloc(), &mut words, &numbers, &NONE)
 }
 
 // What is found of a term while words grow.
@@ -194,28 +207,37 @@ fn search_all(alloc: Global, search: Search, number: u32) -> Result<Tally, Fail>
     Ok(tally)
 }
 
+// Documents, terms of theirs, the stores of the terms' cells, and the terms' numbers.
+const ENTERED: [(&[u8], &[u8], (u64, u64), u32); 6] = [
+    (b"ab b ab", b"ab", (1060, 1), 0),
+    (b"ab b ab", b"b", (101, 2), 1),
+    (b"po r1 aonpo aonr1", b"po", (1538, 1), 0),
+    (b"po r1 aonpo aonr1", b"r1", (1539, 2), 1),
+    (b"po r1 aonpo aonr1", b"aonpo", (2050, 3), 2),
+    (b"po r1 aonpo aonr1", b"aonr1", (3, 4), 3),
+];
+
 #[test]
 fn a_term_is_found_while_it_is_entered(rt: HostRuntime) -> Result<(), Fail> {
-    let alloc = rt.alloc();
-    for (text, term, store, number) in [
-        (b"ab b ab".as_slice(), b"ab".as_slice(), (1060, 1), 0),
-        (b"ab b ab", b"b", (101, 2), 1),
-        (b"po r1 aonpo aonr1", b"po", (1538, 1), 0),
-        (b"po r1 aonpo aonr1", b"r1", (1539, 2), 1),
-        (b"po r1 aonpo aonr1", b"aonpo", (2050, 3), 2),
-        (b"po r1 aonpo aonr1", b"aonr1", (3, 4), 3),
-    ] {
+    for (text, term, store, number) in ENTERED {
         let search = Search { text, term, store };
-        let tally = search_all(alloc, search, number)?;
-        assert_eq!(rt; tally.wrong, 0, "{number}");
-        assert!(rt; tally.entered_meanwhile > 0, "{number}");
+        let tally = search_all(rt.alloc(), search, number)?;
+        assert!(rt;
+            tally.wrong == 0 && tally.entered_meanwhile > 0,
+            "{number}: {tally:?}"
+        );
     }
+    Ok(())
+}
+
+#[test]
+fn a_term_that_is_not_entered_is_not_found(rt: HostRuntime) -> Result<(), Fail> {
     let search = Search {
         text: b"po r1 aonpo aonr1",
         term: b"zz",
         store: (0, 2),
     };
-    let tally = search_all(alloc, search, 4)?;
+    let tally = search_all(rt.alloc(), search, 4)?;
     assert_eq!(rt; (tally.wrong, tally.entered_meanwhile), (0, 0));
     Ok(())
 }

@@ -11,8 +11,7 @@ fn a_frame_takes_ids(rt: HostRuntime) -> Result<(), Fail> {
     assert!(rt; frame.ids().is_empty() && !frame.is_full());
     frame.push(7);
     frame.push(9);
-    assert_eq!(rt; frame.ids(), [7, 9].as_slice());
-    assert!(rt; frame.is_full());
+    assert_eq!(rt; (frame.ids(), frame.is_full()), ([7, 9].as_slice(), true));
     frame.clear();
     assert!(rt; frame.ids().is_empty() && !frame.is_full());
     Ok(())

@@ -2,6 +2,7 @@
 ghost use Rattle.std.specs.Prelude.{◌≡◌};
 ghost use Rattle.eb_place.specs.declared.moment.Moment.{Moment};
 ghost use Rattle.eb_flat.specs.Flat.{StandsFor};
+ghost use Rattle.eb_writer.specs.Progress.{PlacerStands};
 
 use super::made::{added, document, word_at};
 use eb_base::Config;
@@ -11,32 +12,18 @@ use eb_writer::Placer;
 use std::alloc::Global;
 use std::test::Fail;
 
-// The words of a document: so many, of so many bytes each, from this number on, each so many times.
-#[derive(Clone, Copy)]
-struct Words {
-    bytes: usize,
-    first: u64,
-    count: u64,
-    times: usize,
-}
-
-fn of(bytes: usize, first: u64, count: u64, times: usize) -> Words {
-    Words {
-        bytes,
-        first,
-        count,
-        times,
-    }
-}
+// The words of a document: how many bytes each has, the number of the first, how many there are, and how often each stands.
+type Words = (usize, u64, u64, usize);
 
 // Puts a word: a letter where it has one byte, else a number in three digits and then letters `x`.
 fn put_word(text: &mut Vec<u8>, bytes: usize, number: u64) -> Result<(), Fail> {
     if bytes == 1 {
         text.push(b'a' + (number % 26) as u8)?;
     } else {
-        text.push(b'0' + (number / 100 % 10) as u8)?;
-        text.push(b'0' + (number / 10 % 10) as u8)?;
-        text.push(b'0' + (number % 10) as u8)?;
+        let hundreds = b'0' + (number / 100 % 10) as u8;
+        let tens = b'0' + (number / 10 % 10) as u8;
+        let ones = b'0' + (number % 10) as u8;
+        text.extend_from_slice(&[hundreds, tens, ones])?;
         for _ in 3..bytes {
             text.push(b'x')?;
         }
@@ -46,11 +33,12 @@ fn put_word(text: &mut Vec<u8>, bytes: usize, number: u64) -> Result<(), Fail> {
 }
 
 // The text of a document.
-fn text(alloc: Global, words: &Words) -> Result<Vec<u8>, Fail> {
+fn text(alloc: Global, words: Words) -> Result<Vec<u8>, Fail> {
+    let (bytes, first, count, times) = words;
     let mut text = Vec::new(alloc);
-    for at in 0..words.count {
-        for _ in 0..words.times {
-            put_word(&mut text, words.bytes, words.first.wrapping_add(at))?;
+    for at in 0..count {
+        for _ in 0..times {
+            put_word(&mut text, bytes, first.wrapping_add(at))?;
         }
     }
     Ok(text)
@@ -70,74 +58,87 @@ fn all_words(alloc: Global, words: &mut FlatWords) -> Result<Vec<u64>, Fail>
     Ok(all)
 }
 
-// Which of these documents, added in order to one segment, have room; and whether all words were left as they
-// were by those that have none.
-fn room(alloc: Global, documents: &[Words]) -> Result<(Vec<bool>, bool), Fail> {
+// Whether a document has room, and whether all words are left as they were where it has none.
+fn add(
+    alloc: Global,
+    words: &mut FlatWords,
+    placer: &mut Placer,
+    part: Words,
+) -> Result<(bool, bool), Fail>
+    requires { (m : Moment) × StandsFor words.old m × PlacerStands placer.old m }
+    ensures { (m : Moment) × StandsFor words.new m × PlacerStands placer.new m }
+{
+    let text = text(alloc, part)?;
+    let document = document(alloc, 1, text.as_slice())?;
+    let before = all_words(alloc, words)?;
+    let has_room = added(placer, words, &document).is_some();
+    let after = all_words(alloc, words)?;
+    Ok((has_room, has_room || before.as_slice() == after.as_slice()))
+}
+
+// Which of these documents, added in order to one segment, have room; none where one that has none changes a word.
+fn room(alloc: Global, documents: &[Words]) -> Result<Option<Vec<bool>>, Fail> {
     let config = Config::new(1, 4096, 1024)?;
     let mut words = FlatWords::new(alloc, config)?;
     let mut placer = Placer::new(config);
     let mut room = Vec::new(alloc);
-    let mut is_left = true;
     for part in documents {
-        let document = document(alloc, 1, text(alloc, part)?.as_slice())?;
-        let before = all_words(alloc, &mut words)?;
-        let has_room = added(&mut placer, &mut words, &document).is_some();
-        let after = all_words(alloc, &mut words)?;
-        if !has_room && before.as_slice() != after.as_slice() {
-            is_left = false;
+        let (has_room, is_left) = add(alloc, &mut words, &mut placer, *part)?;
+        if !is_left {
+            return Ok(None);
         }
         room.push(has_room)?;
     }
-    Ok((room, is_left))
+    Ok(Some(room))
 }
+
+// Documents that are added to a segment, and which of them have room.
+const SEGMENTS: [(&[Words], &[bool]); 4] = [
+    (
+        &[
+            (256, 0, 64, 1),
+            (256, 64, 60, 1),
+            (1, 0, 2, 1),
+            (1, 2, 1, 1),
+            (1, 1, 1, 1),
+        ],
+        &[true, true, true, false, true],
+    ),
+    (
+        &[
+            (4, 0, 341, 3),
+            (4, 341, 171, 3),
+            (4, 512, 1, 3),
+            (4, 512, 1, 2),
+            (4, 512, 1, 1),
+        ],
+        &[true, true, false, true, false],
+    ),
+    (
+        &[
+            (4, 0, 56, 18),
+            (4, 56, 8, 18),
+            (4, 64, 1, 18),
+            (4, 64, 1, 17),
+        ],
+        &[true, true, false, true],
+    ),
+    (
+        &[
+            (1, 0, 7, 145),
+            (1, 7, 1, 145),
+            (1, 8, 1, 145),
+            (1, 8, 1, 144),
+        ],
+        &[true, true, false, true],
+    ),
+];
 
 #[test]
 fn a_segment_is_filled_to_the_last(rt: HostRuntime) -> Result<(), Fail> {
-    let alloc = rt.alloc();
-    let rows: [(&[Words], &[bool]); 4] = [
-        (
-            &[
-                of(256, 0, 64, 1),
-                of(256, 64, 60, 1),
-                of(1, 0, 2, 1),
-                of(1, 2, 1, 1),
-                of(1, 1, 1, 1),
-            ],
-            &[true, true, true, false, true],
-        ),
-        (
-            &[
-                of(4, 0, 341, 3),
-                of(4, 341, 171, 3),
-                of(4, 512, 1, 3),
-                of(4, 512, 1, 2),
-                of(4, 512, 1, 1),
-            ],
-            &[true, true, false, true, false],
-        ),
-        (
-            &[
-                of(4, 0, 56, 18),
-                of(4, 56, 8, 18),
-                of(4, 64, 1, 18),
-                of(4, 64, 1, 17),
-            ],
-            &[true, true, false, true],
-        ),
-        (
-            &[
-                of(1, 0, 7, 145),
-                of(1, 7, 1, 145),
-                of(1, 8, 1, 145),
-                of(1, 8, 1, 144),
-            ],
-            &[true, true, false, true],
-        ),
-    ];
-    for (documents, wanted) in rows {
-        let (room, is_left) = room(alloc, documents)?;
+    for (documents, wanted) in SEGMENTS {
+        let room = room(rt.alloc(), documents)?.ok_or("a word is changed")?;
         assert_eq!(rt; room.as_slice(), wanted);
-        assert!(rt; is_left);
     }
     Ok(())
 }

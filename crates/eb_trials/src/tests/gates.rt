@@ -3,13 +3,12 @@ ghost use Rattle.std.specs.Prelude.{◌≡◌, ◌<◌, ◌≤◌};
 ghost use Rattle.eb_place.specs.declared.moment.Moment.{Moment};
 ghost use Rattle.eb_flat.specs.Flat.{StandsFor};
 
-use super::made::{added, document};
+use super::made::{four, index_of};
 use eb_base::{Config, Gate, Point, Query, Term};
 use eb_cursor::Frame;
 use eb_flat::FlatWords;
 use eb_place::{Port, Steps};
 use eb_search::search;
-use eb_writer::Placer;
 use std::alloc::Global;
 use std::cell::Cell;
 use std::marker::Brand;
@@ -127,12 +126,8 @@ fn searched(port: &mut CountedWords, frame: &mut Frame, gate: &Recorder) -> u64
 
 #[test]
 fn the_newest_come_first(rt: HostRuntime) -> Result<(), Fail> {
-    let config = Config::new(2, 2, 1024)?;
-    let mut words = FlatWords::new(rt.alloc(), config)?;
-    let mut placer = Placer::new(config);
-    for id in 1..5 {
-        added(&mut placer, &mut words, &document(rt.alloc(), id, b"a")?);
-    }
+    let documents = four(rt.alloc())?;
+    let words = index_of(rt.alloc(), Config::new(2, 2, 1024)?, documents.as_slice())?;
     let loads = Cell::new(0);
     let gate = Recorder::new(&loads);
     let mut port = CountedWords {
@@ -140,14 +135,14 @@ fn the_newest_come_first(rt: HostRuntime) -> Result<(), Fail> {
         loads: &loads,
     };
     let mut few = frame(rt.alloc(), 3)?;
-    assert_eq!(rt; searched(&mut port, &mut few, &gate), 4);
-    assert_eq!(rt; few.ids(), [4, 3, 2].as_slice());
+    let mut many = frame(rt.alloc(), 9)?;
+    let seen = searched(&mut port, &mut few, &gate);
+    assert_eq!(rt; (seen, few.ids()), (4, [4, 3, 2].as_slice()));
     // One load for the count, two for each of the two segments, one for each of three ids, and in each
     // segment ten to find the term, two for its postings, one for its slice and one for its tail.
     assert!(rt; loads.get() <= 36);
-    let mut many = frame(rt.alloc(), 9)?;
-    assert_eq!(rt; searched(&mut port, &mut many, &gate), 4);
-    assert_eq!(rt; many.ids(), [4, 3, 2, 1].as_slice());
+    let seen = searched(&mut port, &mut many, &gate);
+    assert_eq!(rt; (seen, many.ids()), (4, [4, 3, 2, 1].as_slice()));
     assert!(rt; loads.get() <= 37);
     assert_eq!(rt; gate.told(), (4, 2, 1));
     Ok(())
@@ -163,8 +158,8 @@ fn the_gate_is_told_directly_after_the_load_of_the_count(rt: HostRuntime) -> Res
         loads: &loads,
     };
     let mut few = frame(rt.alloc(), 3)?;
-    assert_eq!(rt; searched(&mut port, &mut few, &gate), 0);
+    let seen = searched(&mut port, &mut few, &gate);
     assert!(rt; few.ids().is_empty());
-    assert_eq!(rt; gate.told(), (0, 1, 1));
+    assert_eq!(rt; (seen, gate.told()), (0, (0, 1, 1)));
     Ok(())
 }

@@ -55,8 +55,30 @@ fn slices_of(postings: usize) -> u64 {
     firsts.iter().filter(|first| **first < postings).count() as u64
 }
 
-// Whether a leap to `most`, the next posting then, and a leap to the half of `most` give what the list has;
-// and whether the first leap makes at most two loads for each slice that it leaves behind, and 23.
+// What a leap to a posting gave, the next one then, and a leap to the half of it; and how many loads the first leap made.
+#[derive(Clone, Copy)]
+struct Leapt {
+    first: Option<Posting>,
+    second: Option<Posting>,
+    third: Option<Posting>,
+    loads: u64,
+}
+
+// Whether that is what these postings have at or below `most`, after it, and at or below its half; and whether the first leap
+// made at most two loads for each slice that it leaves behind, and 23.
+fn is_as_listed(postings: &[u64], most: Posting, leapt: Leapt) -> bool {
+    let at_first = count_at_most(postings, most);
+    let at_second = at_first.saturating_sub(1);
+    let at_third = count_at_most(postings, most / 2).min(at_second.saturating_sub(1));
+    let passed = slices_of(postings.len()).saturating_sub(slices_of(at_first));
+    let bound = passed.saturating_mul(2).saturating_add(23);
+    leapt.loads <= bound
+        && is_last(leapt.first, postings, at_first)
+        && is_last(leapt.second, postings, at_second)
+        && is_last(leapt.third, postings, at_third)
+}
+
+// Whether the leaps of the chain of `a` are so.
 fn leaps_as_listed<L: Ledger>(
     alloc: Global,
     port: &mut GrowingPort,
@@ -72,23 +94,18 @@ fn leaps_as_listed<L: Ledger>(
         return Ok(false);
     };
     let stored = postings_stored(alloc, port, 3075)?;
-    let postings = stored.as_slice();
     let before = port.loads();
     let first = chain.next_at_most(port, most, &mut steps);
     let loads = port.loads().saturating_sub(before);
     let second = chain.next(port, &mut steps);
     let third = chain.next_at_most(port, most / 2, &mut steps);
-    let at_first = count_at_most(postings, most);
-    let at_second = at_first.saturating_sub(1);
-    let at_third = count_at_most(postings, most / 2).min(at_second.saturating_sub(1));
-    let passed = slices_of(postings.len()).saturating_sub(slices_of(at_first));
-    let bound = passed.saturating_mul(2).saturating_add(23);
-    Ok(
-        loads <= bound
-            && is_last(first, postings, at_first)
-            && is_last(second, postings, at_second)
-            && is_last(third, postings, at_third),
-    )
+    let leapt = Leapt {
+        first,
+        second,
+        third,
+        loads,
+    };
+    Ok(is_as_listed(stored.as_slice(), most, leapt))
 }
 
 // The same for so many postings, with five stores of a further document done before, and one more before
@@ -102,37 +119,40 @@ fn leaps(alloc: Global, postings: usize, most: Posting) -> Result<bool, Fail> {
     leaps_as_listed::<Brand>(alloc, &mut port, most, Blank::new(1))
 }
 
+// The numbers of the postings that are leapt to.
+const MOSTS: [u64; 24] = [
+    0,
+    1,
+    2,
+    3,
+    15,
+    16,
+    17,
+    18,
+    142,
+    143,
+    144,
+    145,
+    2189,
+    2190,
+    2191,
+    2192,
+    4236,
+    4237,
+    4238,
+    4239,
+    5998,
+    5999,
+    6000,
+    1 << 23,
+];
+
 #[test]
 fn a_leap_gives_what_the_list_has(rt: HostRuntime) -> Result<(), Fail> {
-    let alloc = rt.alloc();
     for postings in [2, 17, 144, 2191, 6000] {
-        for most in [
-            0,
-            1,
-            2,
-            3,
-            15,
-            16,
-            17,
-            18,
-            142,
-            143,
-            144,
-            145,
-            2189,
-            2190,
-            2191,
-            2192,
-            4236,
-            4237,
-            4238,
-            4239,
-            5998,
-            5999,
-            6000,
-            1 << 23,
-        ] {
-            assert!(rt; leaps(alloc, postings, nth(most))?, "{postings} {most}");
+        for most in MOSTS {
+            let is = leaps(rt.alloc(), postings, nth(most))?;
+            assert!(rt; is, "{postings} {most}");
         }
     }
     Ok(())

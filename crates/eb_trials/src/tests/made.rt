@@ -40,6 +40,15 @@ pub(super) fn document(alloc: Global, id: u64, text: &[u8]) -> Result<Document, 
     Ok(Document::new(id, terms(alloc, text)?)?)
 }
 
+// Documents of the term `a` with the ids 1 to 4.
+pub(super) fn four(alloc: Global) -> Result<Vec<Document>, Fail> {
+    let mut documents = Vec::new(alloc);
+    for id in 1..5 {
+        documents.push(document(alloc, id, b"a")?)?;
+    }
+    Ok(documents)
+}
+
 // Adds a document: the new count, none where there is no room.
 pub(super) fn added<P: Pen>(placer: &mut Placer, pen: &mut P, document: &Document) -> Option<u64>
     requires { (m : Moment) × P.stands pen.old m × PlacerStands placer.old m }

@@ -43,7 +43,11 @@ fn convert(pen: &mut RecordingPen) -> Option<Converted>
 }
 
 // What so many calls of the converter do.
-fn convert_all(alloc: Global, pen: &mut RecordingPen, times: usize) -> Result<Vec<Converted>, Fail>
+pub(super) fn convert_all(
+    alloc: Global,
+    pen: &mut RecordingPen,
+    times: usize,
+) -> Result<Vec<Converted>, Fail>
     requires { (m : Moment) × IsRecord pen.old m }
     ensures { (m : Moment) × IsRecord pen.new m }
 {
@@ -56,56 +60,58 @@ fn convert_all(alloc: Global, pen: &mut RecordingPen, times: usize) -> Result<Ve
     Ok(done)
 }
 
+// The words of a packed segment, in the order in which they are stored: each a place and a value.
+const PUTS: [(u64, u64); 6] = [
+    (44036, 131586),
+    (44037, 2),
+    (43012, 2),
+    (44038, 65537),
+    (43013, 8589934593),
+    (2, 1),
+];
+
 #[test]
 fn a_segment_is_converted_word_by_word(rt: HostRuntime) -> Result<(), Fail> {
     let alloc = rt.alloc();
-    let config = Config::new(2, 1, 1024)?;
     let documents = [document(alloc, 7, b"ab b ab")?, document(alloc, 8, b"b")?];
-    let mut pen = placed(alloc, config, &documents)?;
+    let mut pen = placed(alloc, Config::new(2, 1, 1024)?, &documents)?;
     let done = convert_all(alloc, &mut pen, 3)?;
-    assert_eq!(rt;
-        done.as_slice(),
-        [Converted::One(0), Converted::Nothing, Converted::Nothing].as_slice()
-    );
-    assert_eq!(rt;
-        pen.puts(),
-        [
-            (44036, 131586),
-            (44037, 2),
-            (43012, 2),
-            (44038, 65537),
-            (43013, 8589934593),
-            (2, 1),
-        ]
-        .as_slice()
-    );
+    let want = [Converted::One(0), Converted::Nothing, Converted::Nothing];
+    assert_eq!(rt; done.as_slice(), want.as_slice());
+    assert_eq!(rt; pen.puts(), PUTS.as_slice());
     assert!(rt; !pen.has_lost());
     Ok(())
 }
 
+// How many documents there are, and how many segments are converted.
+const CLOSED: [(u64, u32); 7] = [(0, 0), (1, 0), (2, 0), (3, 1), (4, 1), (5, 2), (6, 2)];
+
+// How many segments of an index of so many documents are converted, and what the last call of the converter does.
+fn converted(alloc: Global, count: u64) -> Result<(u32, Option<Converted>), Fail> {
+    let mut documents = Vec::new(alloc);
+    for id in 0..count {
+        documents.push(document(alloc, id, b"a")?)?;
+    }
+    let mut pen = placed(alloc, Config::new(3, 2, 1024)?, documents.as_slice())?;
+    let done = convert_all(alloc, &mut pen, 4)?;
+    Ok((pen.converted(), done.as_slice().last().copied()))
+}
+
 #[test]
 fn what_is_not_closed_is_not_converted(rt: HostRuntime) -> Result<(), Fail> {
-    let alloc = rt.alloc();
-    let config = Config::new(3, 2, 1024)?;
-    for (count, converted) in [(0, 0), (1, 0), (2, 0), (3, 1), (4, 1), (5, 2), (6, 2)] {
-        let mut documents = Vec::new(alloc);
-        for id in 0..count {
-            documents.push(document(alloc, id, b"a")?)?;
-        }
-        let mut pen = placed(alloc, config, documents.as_slice())?;
-        let done = convert_all(alloc, &mut pen, 4)?;
-        assert_eq!(rt; pen.converted(), converted, "{count}");
-        assert_eq!(rt;
-            done.as_slice().last(),
-            Some(&Converted::Nothing),
-            "{count}"
-        );
+    for (count, segments) in CLOSED {
+        let left = converted(rt.alloc(), count)?;
+        assert_eq!(rt; left, (segments, Some(Converted::Nothing)), "{count}");
     }
     Ok(())
 }
 
 // Opens the packed list of a term in segment 0, if the segment is converted and has the term.
-fn open<L: Ledger>(pen: &mut RecordingPen, term: &Term, steps: &mut Steps<L>) -> Option<PackedList>
+pub(super) fn open<L: Ledger>(
+    pen: &mut RecordingPen,
+    term: &Term,
+    steps: &mut Steps<L>,
+) -> Option<PackedList>
     requires { (m : Moment) × IsRecord pen.old m }
     ensures list { MatchOption result (Unit {0}) (λ list. (m : Moment) × (s : ℕ) × (t : List ℕ) × (rest : List ℕ) × (budget : ℕ)
         × IsRecord pen.old m × ListStands m s t list rest budget) }
@@ -142,7 +148,7 @@ fn ask<L: Ledger>(
 }
 
 // What `next` gives after a seek to each of these, each time from the same list.
-fn seek_each<L: Ledger>(
+pub(super) fn seek_each<L: Ledger>(
     alloc: Global,
     list: PackedList,
     pen: &mut RecordingPen,
@@ -231,13 +237,58 @@ fn around(alloc: Global, postings: &[Posting]) -> Result<Vec<Posting>, Fail> {
     Ok(mosts)
 }
 
-// Whether the packed list of a term in segment 0 gives these postings, rising here, and leaps to each of
-// them, one above and one below it.
-fn is_packed<L: Ledger>(
+// What a walk over a list of these postings, rising here, gives with two calls more than it has postings.
+fn walked(alloc: Global, postings: &[Posting]) -> Result<Vec<Option<Posting>>, Fail> {
+    let mut given = Vec::new(alloc);
+    for posting in postings.iter().rev() {
+        given.push(Some(*posting))?;
+    }
+    given.push(None)?;
+    given.push(None)?;
+    Ok(given)
+}
+
+// Every fortieth of these.
+fn some_of(alloc: Global, mosts: &[Posting]) -> Result<Vec<Posting>, Fail> {
+    let mut some = Vec::new(alloc);
+    for most in mosts.iter().step_by(40) {
+        some.push(*most)?;
+    }
+    Ok(some)
+}
+
+// What a list has to give when it is walked; to where it is leapt each time from its front, and what it gives then; and to where
+// it is leapt one after the other, and what it gives then.
+#[derive(Drop)]
+struct Wanted {
+    walked: Vec<Option<Posting>>,
+    mosts: Vec<Posting>,
+    each: Vec<Option<Posting>>,
+    some: Vec<Posting>,
+    on: Vec<Option<Posting>>,
+}
+
+// Of a list of these postings, rising here: leaps to each of them, to one above and to one below it.
+fn leaps_wanted(alloc: Global, postings: &[Posting]) -> Result<Wanted, Fail> {
+    let mosts = around(alloc, postings)?;
+    let some = some_of(alloc, mosts.as_slice())?;
+    let each = greatest_each(alloc, postings, mosts.as_slice())?;
+    let on = greatest_on(alloc, postings, some.as_slice())?;
+    Ok(Wanted {
+        walked: walked(alloc, postings)?,
+        mosts,
+        each,
+        some,
+        on,
+    })
+}
+
+// Whether the packed list of a term in segment 0 gives what is wanted.
+fn gives<L: Ledger>(
     alloc: Global,
     pen: &mut RecordingPen,
     term: &Term,
-    postings: &[Posting],
+    wanted: &Wanted,
     blank: Blank,
 ) -> Result<bool, Fail>
     requires blank { (blank.name ≡ L.name) × (blank.parts ≡ L.parts) × (0 < blank.parts) }
@@ -248,27 +299,30 @@ fn is_packed<L: Ledger>(
     let Some(list) = open(pen, term, &mut steps) else {
         return Ok(false);
     };
-    let mut want = Vec::new(alloc);
-    for posting in postings.iter().rev() {
-        want.push(Some(*posting))?;
-    }
-    want.push(None)?;
-    want.push(None)?;
-    let given = ask(alloc, list, pen, want.len(), &mut steps)?;
-    if given.as_slice() != want.as_slice() {
-        return Ok(false);
-    }
-    let mosts = around(alloc, postings)?;
-    let each = seek_each(alloc, list, pen, mosts.as_slice(), &mut steps)?;
-    let mut some = Vec::new(alloc);
-    for most in mosts.as_slice().iter().step_by(40) {
-        some.push(*most)?;
-    }
-    let on = seek_on(alloc, list, pen, some.as_slice(), &mut steps)?;
+    let walked = ask(alloc, list, pen, wanted.walked.len(), &mut steps)?;
+    let each = seek_each(alloc, list, pen, wanted.mosts.as_slice(), &mut steps)?;
+    let on = seek_on(alloc, list, pen, wanted.some.as_slice(), &mut steps)?;
     Ok(
-        each.as_slice() == greatest_each(alloc, postings, mosts.as_slice())?.as_slice()
-            && on.as_slice() == greatest_on(alloc, postings, some.as_slice())?.as_slice(),
+        walked.as_slice() == wanted.walked.as_slice()
+            && each.as_slice() == wanted.each.as_slice()
+            && on.as_slice() == wanted.on.as_slice(),
     )
+}
+
+// Whether the packed list of a word in segment 0 gives these postings, rising here, and leaps to each of them, one above and one
+// below it.
+fn is_packed(
+    alloc: Global,
+    pen: &mut RecordingPen,
+    word: &[u8],
+    postings: &[Posting],
+) -> Result<bool, Fail>
+    requires { (m : Moment) × IsRecord pen.old m }
+    ensures { (m : Moment) × IsRecord pen.new m }
+{
+    let term = Term::new(alloc, word)?;
+    let wanted = leaps_wanted(alloc, postings)?;
+    gives::<Brand>(alloc, pen, &term, &wanted, Blank::new(1))
 }
 
 // A list of a term whose greatest difference of two postings has so many bits: it stands in as many documents
@@ -297,6 +351,9 @@ impl Wide {
     }
 }
 
+// How many postings a list has, of three for each number of bits.
+const COUNTS: [u64; 3] = [2, 3, 128];
+
 // The lists: the first has eleven blocks, the second one posting, and the others have greatest differences of
 // all numbers of bits from 17 to 40.
 fn wide_lists(alloc: Global) -> Result<Vec<Wide>, Fail> {
@@ -309,10 +366,11 @@ fn wide_lists(alloc: Global) -> Result<Vec<Wide>, Fail> {
         bits: 0,
         postings: 1,
     })?;
-    for bits in 17..=40 {
-        for postings in [2, 3, 128] {
-            lists.push(Wide { bits, postings })?;
-        }
+    for at in 0..72u32 {
+        lists.push(Wide {
+            bits: 17 + at / 3,
+            postings: COUNTS[(at % 3) as usize],
+        })?;
     }
     Ok(lists)
 }
@@ -336,17 +394,21 @@ fn with_lists(alloc: Global, lists: &[Wide], number: u64) -> Result<Document, Fa
     document(alloc, number, text.as_slice())
 }
 
-// A document whose word `n` stands twice, with a difference of so many bits.
+// The word of the document with a difference of so many bits.
+fn narrow_word(bits: u32) -> [u8; 2] {
+    [b'n', b'0' + (bits % 10) as u8]
+}
+
+// A document whose word stands twice, with a difference of so many bits.
 fn narrow(alloc: Global, bits: u32) -> Result<Document, Fail> {
+    let word = narrow_word(bits);
     let mut text = Vec::new(alloc);
-    text.push(b'n')?;
-    text.push(b'0' + (bits % 10) as u8)?;
-    text.push(b' ')?;
-    for _ in 1..1u32.wrapping_shl(bits.wrapping_sub(1)) {
-        text.extend_from_slice(b"f ")?;
+    text.extend_from_slice(&word)?;
+    for _ in 0..1u32.wrapping_shl(bits.wrapping_sub(1)).wrapping_sub(1) {
+        text.extend_from_slice(b" f")?;
     }
-    text.push(b'n')?;
-    text.push(b'0' + (bits % 10) as u8)?;
+    text.push(b' ')?;
+    text.extend_from_slice(&word)?;
     document(alloc, 0, text.as_slice())
 }
 
@@ -384,13 +446,74 @@ fn fill(placer: &mut Placer, pen: &mut RecordingPen, empty: &Document, from: u64
     }
 }
 
-// Puts the numbers of the documents after the first 2,011 that a list stands in.
-fn put_last(lists: &[Wide], numbers: &mut Vec<u64>) -> Result<(), Fail> {
-    for list in lists {
-        if list.last() >= 2011 {
-            numbers.push(list.last())?;
-        }
+// Adds the first 2,001 documents, of the lists that stand in them.
+fn add_first(
+    alloc: Global,
+    lists: &[Wide],
+    placer: &mut Placer,
+    pen: &mut RecordingPen,
+) -> Result<(), Fail>
+    requires { (m : Moment) × IsRecord pen.old m × PlacerStands placer.old m }
+    ensures { (m : Moment) × IsRecord pen.new m × PlacerStands placer.new m }
+{
+    for number in 0..2001 {
+        let document = with_lists(alloc, lists, number)?;
+        let _ = added(placer, pen, &document);
     }
+    Ok(())
+}
+
+// Adds the ten narrow ones.
+fn add_narrow(alloc: Global, placer: &mut Placer, pen: &mut RecordingPen) -> Result<(), Fail>
+    requires { (m : Moment) × IsRecord pen.old m × PlacerStands placer.old m }
+    ensures { (m : Moment) × IsRecord pen.new m × PlacerStands placer.new m }
+{
+    for bits in 1..=10 {
+        let document = narrow(alloc, bits)?;
+        let _ = added(placer, pen, &document);
+    }
+    Ok(())
+}
+
+// Adds the document of this number, which a list ends in, if it comes after the first 2,011, and empty ones between what is done and
+// it: how many are done then.
+fn add_end(
+    alloc: Global,
+    lists: &[Wide],
+    placer: &mut Placer,
+    pen: &mut RecordingPen,
+    empty: &Document,
+    done: u64,
+    last: u64,
+) -> Result<u64, Fail>
+    requires { (m : Moment) × IsRecord pen.old m × PlacerStands placer.old m }
+    ensures { (m : Moment) × IsRecord pen.new m × PlacerStands placer.new m }
+{
+    if last < 2011 {
+        return Ok(done);
+    }
+    let document = with_lists(alloc, lists, last)?;
+    fill(placer, pen, empty, done, last);
+    let _ = added(placer, pen, &document);
+    Ok(last.wrapping_add(1))
+}
+
+// Adds after these 2,011 the further documents that a list ends in, and empty ones between and after them, up to 8,388,801 in all.
+fn add_last(
+    alloc: Global,
+    lists: &[Wide],
+    placer: &mut Placer,
+    pen: &mut RecordingPen,
+) -> Result<(), Fail>
+    requires { (m : Moment) × IsRecord pen.old m × PlacerStands placer.old m }
+    ensures { (m : Moment) × IsRecord pen.new m × PlacerStands placer.new m }
+{
+    let empty = document(alloc, 0, b"")?;
+    let mut done = 2011;
+    for list in lists {
+        done = add_end(alloc, lists, placer, pen, &empty, done, list.last())?;
+    }
+    fill(placer, pen, &empty, done, 8_388_801);
     Ok(())
 }
 
@@ -401,25 +524,36 @@ fn with_all_widths(alloc: Global, lists: &[Wide]) -> Result<RecordingPen, Fail>
     let config = Config::new(2, 8_388_800, 1024)?;
     let mut pen = RecordingPen::unrecorded(alloc, config)?;
     let mut placer = Placer::new(config);
-    let empty = document(alloc, 0, b"")?;
-    let mut done = 0u64;
-    for number in 0..2001 {
-        let _ = added(&mut placer, &mut pen, &with_lists(alloc, lists, number)?);
-        done = done.wrapping_add(1);
-    }
-    for bits in 1..=10 {
-        let _ = added(&mut placer, &mut pen, &narrow(alloc, bits)?);
-        done = done.wrapping_add(1);
-    }
-    let mut numbers = Vec::new(alloc);
-    put_last(lists, &mut numbers)?;
-    for number in numbers {
-        fill(&mut placer, &mut pen, &empty, done, number);
-        let _ = added(&mut placer, &mut pen, &with_lists(alloc, lists, number)?);
-        done = number.wrapping_add(1);
-    }
-    fill(&mut placer, &mut pen, &empty, done, 8_388_801);
+    add_first(alloc, lists, &mut placer, &mut pen)?;
+    add_narrow(alloc, &mut placer, &mut pen)?;
+    add_last(alloc, lists, &mut placer, &mut pen)?;
     Ok(pen)
+}
+
+// Whether this list is packed.
+fn list_is_packed(
+    alloc: Global,
+    pen: &mut RecordingPen,
+    lists: &[Wide],
+    list: usize,
+) -> Result<bool, Fail>
+    requires { (m : Moment) × IsRecord pen.old m }
+    ensures { (m : Moment) × IsRecord pen.new m }
+{
+    let postings = postings_of(alloc, lists, list)?;
+    let mut word = Vec::new(alloc);
+    put_word(&mut word, list)?;
+    is_packed(alloc, pen, word.as_slice(), postings.as_slice())
+}
+
+// Whether the list with a difference of so many bits is packed.
+fn narrow_is_packed(alloc: Global, pen: &mut RecordingPen, bits: u32) -> Result<bool, Fail>
+    requires { (m : Moment) × IsRecord pen.old m }
+    ensures { (m : Moment) × IsRecord pen.new m }
+{
+    let first = u64::from(bits).wrapping_add(2000).wrapping_mul(PLACES);
+    let second = first.wrapping_add(1u64.wrapping_shl(bits.wrapping_sub(1)));
+    is_packed(alloc, pen, &narrow_word(bits), &[first, second])
 }
 
 #[test]
@@ -430,19 +564,11 @@ fn packed_lists_are_walked_and_leapt_over(rt: HostRuntime) -> Result<(), Fail> {
     let done = convert_all(alloc, &mut pen, 1)?;
     assert_eq!(rt; done.as_slice(), [Converted::One(0)].as_slice());
     for list in 0..lists.len() {
-        let postings = postings_of(alloc, lists.as_slice(), list)?;
-        let mut word = Vec::new(alloc);
-        put_word(&mut word, list)?;
-        let term = Term::new(alloc, word.as_slice())?;
-        let is = is_packed::<Brand>(alloc, &mut pen, &term, postings.as_slice(), Blank::new(1))?;
+        let is = list_is_packed(alloc, &mut pen, lists.as_slice(), list)?;
         assert!(rt; is, "{list}");
     }
     for bits in 1..=10u32 {
-        let word = [b'n', b'0' + (bits % 10) as u8];
-        let first = u64::from(2000 + bits) * PLACES;
-        let postings = [first, first + 1u64.wrapping_shl(bits - 1)];
-        let term = Term::new(alloc, &word)?;
-        let is = is_packed::<Brand>(alloc, &mut pen, &term, &postings, Blank::new(1))?;
+        let is = narrow_is_packed(alloc, &mut pen, bits)?;
         assert!(rt; is, "{bits}");
     }
     Ok(())

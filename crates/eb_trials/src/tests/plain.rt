@@ -1,7 +1,7 @@
 //! What the plain programs say.
 use super::asking::query;
 use super::chains::of_a;
-use super::made::document;
+use super::made::{document, four};
 use eb_base::{Config, Document, Query, Term};
 use eb_plain::{cut, fits, has_room, is_match, newest};
 use std::alloc::Global;
@@ -50,15 +50,6 @@ fn windows_and_bounds_match(rt: HostRuntime) -> Result<(), Fail> {
     Ok(())
 }
 
-// Documents of the term `a` with the ids 1 to 4.
-fn four(alloc: Global) -> Result<Vec<Document>, Fail> {
-    let mut documents = Vec::new(alloc);
-    for id in 1..5 {
-        documents.push(document(alloc, id, b"a")?)?;
-    }
-    Ok(documents)
-}
-
 #[test]
 fn two_segments_of_two_are_full(rt: HostRuntime) -> Result<(), Fail> {
     let alloc = rt.alloc();
@@ -67,8 +58,11 @@ fn two_segments_of_two_are_full(rt: HostRuntime) -> Result<(), Fail> {
     let lengths = cut(alloc, &config, documents.as_slice())?;
     assert_eq!(rt; lengths.as_slice(), [2, 2].as_slice());
     let first = of_a(alloc, 1024)?;
-    assert!(rt; fits(alloc, &config, &[], &first)?);
-    assert!(rt; has_room(alloc, &config, &[], &first)?);
+    let alone = (
+        fits(alloc, &config, &[], &first)?,
+        has_room(alloc, &config, &[], &first)?,
+    );
+    assert_eq!(rt; alone, (true, true));
     assert!(rt; !has_room(alloc, &config, documents.as_slice(), &first)?);
     Ok(())
 }

@@ -61,16 +61,14 @@ fn a_document_is_seen_with_its_last_store(rt: HostRuntime) -> Result<(), Fail> {
     let second = document(alloc, 8, b"b")?;
     let mut pen = searched(alloc, config, b"b ab |2")?;
     let mut placer = Placer::new(config);
-    assert_eq!(rt; added(&mut placer, &mut pen, &first), Some(1));
-    assert_eq!(rt; pen.stores(), 17);
-    assert_eq!(rt; added(&mut placer, &mut pen, &second), Some(2));
-    assert_eq!(rt; pen.stores(), 26);
-    assert_eq!(rt; convert(&mut pen), Some(Converted::One(0)));
-    assert_eq!(rt; pen.stores(), 32);
-    assert_eq!(rt; pen.answers().len(), 2);
+    let one = (added(&mut placer, &mut pen, &first), pen.stores());
+    let two = (added(&mut placer, &mut pen, &second), pen.stores());
+    assert_eq!(rt; (one, two), ((Some(1), 17), (Some(2), 26)));
+    let converted = convert(&mut pen);
+    assert_eq!(rt; (converted, pen.stores()), (Some(Converted::One(0)), 32));
+    assert!(rt; pen.answers().len() == 2 && !pen.has_lost());
     assert!(rt; is_answer(pen.answers().get(0), 17, 1, &[7]));
     assert!(rt; is_answer(pen.answers().get(1), 26, 2, &[8, 7]));
-    assert!(rt; !pen.has_lost());
     Ok(())
 }
 
@@ -113,27 +111,26 @@ fn conversions(pen: &mut SearchingPen, calls: u32) -> u32
     converted
 }
 
+// Whether the answer to the query of this text changes with the last store of each document, as often as there are documents, and
+// with none of 16 calls of the converter, 15 of which convert a segment.
+fn are_answered(alloc: Global, text: &[u8], documents: &[Document]) -> Result<bool, Fail> {
+    let config = Config::new(16, 7, 1024)?;
+    let mut pen = searched(alloc, config, text)?;
+    let mut placer = Placer::new(config);
+    if !are_seen_whole(alloc, &mut placer, &mut pen, text, documents)? {
+        return Ok(false);
+    }
+    let converted = conversions(&mut pen, 16);
+    Ok(converted == 15 && pen.answers().len() == documents.len() && !pen.has_lost())
+}
+
 #[test]
 fn answers_change_with_the_last_store_alone(rt: HostRuntime) -> Result<(), Fail> {
-    let alloc = rt.alloc();
-    let config = Config::new(16, 7, 1024)?;
-    let documents = made(alloc, 110)?;
-    let texts = small_queries(alloc)?;
+    let documents = made(rt.alloc(), 110)?;
+    let texts = small_queries(rt.alloc())?;
     for text in texts.as_slice().iter().step_by(13) {
-        let mut pen = searched(alloc, config, text.as_slice())?;
-        let mut placer = Placer::new(config);
-        assert!(rt;
-            are_seen_whole(
-                alloc,
-                &mut placer,
-                &mut pen,
-                text.as_slice(),
-                documents.as_slice()
-            )?
-        );
-        assert_eq!(rt; conversions(&mut pen, 16), 15);
-        assert_eq!(rt; pen.answers().len(), 110);
-        assert!(rt; !pen.has_lost());
+        let are = are_answered(rt.alloc(), text.as_slice(), documents.as_slice())?;
+        assert!(rt; are, "{text:?}");
     }
     Ok(())
 }

@@ -9,7 +9,9 @@ use super::chains::open;
 use super::made::document;
 use eb_base::{Config, Document, Term};
 use eb_place::{PLACES, Port, Steps};
-use eb_table::{ConverterPort, ReaderPort, ReaderSeat, SharedWords, WriterPort, WriterSeat};
+use eb_table::{
+    ConverterPort, ConverterSeat, ReaderPort, ReaderSeat, SharedWords, WriterPort, WriterSeat,
+};
 use eb_writer::{Full, Placer};
 use std::marker::Brand;
 use std::sync::ledger::{Blank, Ledger};
@@ -178,16 +180,47 @@ fn count_of<P: Port>(port: &mut P) -> u64
     count_by::<P, Brand>(port, Blank::new(1))
 }
 
+// Each kind of seat takes in a reader's, and then still loads: the counts by a reader, the writer and the converter.
+fn counts_met(
+    words: &SharedWords,
+    reader: &mut ReaderSeat,
+    writer: &mut WriterSeat,
+    converter: &mut ConverterSeat,
+) -> [u64; 3]
+    requires reader { MadeWith reader.old words.now }
+    requires writer { MadeWith writer.old words.now }
+    requires converter { MadeWith converter.old words.now }
+{
+    let told = writer.split(words);
+    reader.meet(words, told);
+    let told = reader.split(words);
+    converter.meet(words, told);
+    let told = converter.split(words);
+    writer.meet(words, told);
+    let by_reader = count_of(&mut ReaderPort {
+        seat: reader,
+        words,
+    });
+    let by_writer = count_of(&mut WriterPort {
+        seat: writer,
+        words,
+    });
+    let by_converter = count_of(&mut ConverterPort {
+        seat: converter,
+        words,
+    });
+    [by_reader, by_writer, by_converter]
+}
+
 #[test]
 fn a_reader_walks_beside_the_writer(rt: HostRuntime) -> Result<(), Fail> {
-    let alloc = rt.alloc();
     let config = Config::new(1, DOCUMENTS, 1024)?;
-    let Ok((words, mut writer, mut converter)) = SharedWords::open(alloc, config) else {
+    let added = document(rt.alloc(), 1, b"a")?;
+    let term = Term::new(rt.alloc(), b"a")?;
+    let Ok((words, mut writer, mut converter)) = SharedWords::open(rt.alloc(), config) else {
         return Err(Fail::new("no memory"));
     };
     let reader = writer.split(&words);
-    let added = document(alloc, 1, b"a")?;
-    let term = Term::new(alloc, b"a")?;
     let ((mut writer, last), (mut reader, walked)) = beside(
         &rt,
         &words,
@@ -197,29 +230,8 @@ fn a_reader_walks_beside_the_writer(rt: HostRuntime) -> Result<(), Fail> {
         reader,
         &term,
     );
-    assert_eq!(rt; (last, walked), (u64::from(DOCUMENTS), true));
-    // Each kind of seat takes in a reader's, and then still loads.
-    let told = writer.split(&words);
-    reader.meet(&words, told);
-    let told = reader.split(&words);
-    converter.meet(&words, told);
-    let told = converter.split(&words);
-    writer.meet(&words, told);
-    let by_reader = count_of(&mut ReaderPort {
-        seat: &mut reader,
-        words: &words,
-    });
-    let by_writer = count_of(&mut WriterPort {
-        seat: &mut writer,
-        words: &words,
-    });
-    let by_converter = count_of(&mut ConverterPort {
-        seat: &mut converter,
-        words: &words,
-    });
-    assert_eq!(rt;
-        [by_reader, by_writer, by_converter],
-        [u64::from(DOCUMENTS); 3]
-    );
+    let counts = counts_met(&words, &mut reader, &mut writer, &mut converter);
+    let count = u64::from(DOCUMENTS);
+    assert_eq!(rt; (last, walked, counts), (count, true, [count; 3]));
     Ok(())
 }

@@ -56,12 +56,19 @@ fn settings_keep_their_limits(rt: HostRuntime) {
     assert_eq!(rt; Config::usual().words(), 7_618_585);
 }
 
+// An and of one part: how many parts it has, and whether it is well formed.
+fn and_of_one(alloc: Global) -> Result<(usize, bool), Fail> {
+    let mut parts = Queries::new(alloc);
+    parts.push(Query::Word(Term::new(alloc, b"a")?))?;
+    let count = parts.len();
+    let query = Query::And(parts);
+    Ok((count, query.is_well_formed()))
+}
+
 #[test]
 fn an_and_of_one_part_is_not_well_formed(rt: HostRuntime) -> Result<(), Fail> {
-    let mut parts = Queries::new(rt.alloc());
-    parts.push(Query::Word(Term::new(rt.alloc(), b"a")?))?;
-    assert_eq!(rt; parts.len(), 1);
-    assert!(rt; !Query::And(parts).is_well_formed());
+    let told = and_of_one(rt.alloc())?;
+    assert_eq!(rt; told, (1, false));
     Ok(())
 }
 

@@ -41,54 +41,67 @@ fn cuts_a_text_however_it_is_read(rt: HostRuntime) -> Result<(), Fail> {
     Ok(())
 }
 
-// How many bytes stand before a rest, and what comes of the line that they begin.
-const LENGTHS: [(usize, &[u8], Next); 6] = [
-    (65_535, b"\nb", Next::Line),
-    (65_536, b"\nb", Next::Line),
-    (65_537, b"\nb", Next::LongLine),
-    (200_000, b"\nb", Next::LongLine),
-    (65_535, b"\r\nb", Next::Line),
-    (65_536, b"\r\nb", Next::LongLine),
+// How many bytes stand before a rest, what comes of the line that they begin, and its length.
+const LENGTHS: [(usize, &[u8], Next, Option<usize>); 6] = [
+    (65_535, b"\nb", Next::Line, Some(65_535)),
+    (65_536, b"\nb", Next::Line, Some(65_536)),
+    (65_537, b"\nb", Next::LongLine, None),
+    (200_000, b"\nb", Next::LongLine, None),
+    (65_535, b"\r\nb", Next::Line, Some(65_535)),
+    (65_536, b"\r\nb", Next::LongLine, None),
 ];
 
-// Looks that of a text of so many letters and a rest the first line comes so, and the second is `b`.
-fn passes_over(
-    rt: &impl Abort,
+// What comes of a text of so many letters and a rest: of its first line, with the length of what is a line; of its second, with
+// whether that is `b`; and of its end.
+fn passed(
     alloc: Global,
     length: usize,
     rest: &[u8],
-    wanted: Next,
-) -> Result<(), NoMemory> {
+) -> Result<(Next, Option<usize>, (Next, bool), Next), NoMemory> {
     let mut text = vec![in alloc; b'a'; length]?;
     text.extend_from_slice(rest)?;
     let mut source = SureSource::new(alloc, &text)?;
     let mut lines = Lines::new(alloc, 1_000_000)?;
-    assert_eq!(rt; lines.next_line(&mut source), wanted, "length {length}");
-    assert!(rt; wanted != Next::Line || lines.line().len() == length);
-    assert_eq!(rt; lines.next_line(&mut source), Next::Line);
-    assert!(rt; lines.line() == b"b".as_slice());
-    assert_eq!(rt; lines.next_line(&mut source), Next::End);
-    Ok(())
+    let first = lines.next_line(&mut source);
+    let has = if first == Next::Line {
+        Some(lines.line().len())
+    } else {
+        None
+    };
+    let second = lines.next_line(&mut source);
+    let is_b = lines.line() == b"b".as_slice();
+    Ok((first, has, (second, is_b), lines.next_line(&mut source)))
 }
 
 #[test]
 fn passes_over_long_lines(rt: HostRuntime) -> Result<(), Fail> {
-    for (length, rest, wanted) in LENGTHS {
-        passes_over(&rt, rt.alloc(), length, rest, wanted)?;
+    for (length, rest, wanted, has) in LENGTHS {
+        let told = passed(rt.alloc(), length, rest)?;
+        assert_eq!(rt;
+            told,
+            (wanted, has, (Next::Line, true), Next::End),
+            "length {length}"
+        );
     }
     Ok(())
 }
 
+// What comes of a text of 11 bytes where 8 are the limit: what the first line is, whether it is `abc`, and twice what comes then,
+// with the number of bytes that were taken.
+fn stopped(alloc: Global) -> Result<(Next, bool, [(Next, u64); 2]), NoMemory> {
+    let mut source = SureSource::new(alloc, b"abc\ndefg\nhi")?;
+    let mut lines = Lines::new(alloc, 8)?;
+    let first = lines.next_line(&mut source);
+    let is_abc = lines.line() == b"abc".as_slice();
+    let second = (lines.next_line(&mut source), lines.taken());
+    let third = (lines.next_line(&mut source), lines.taken());
+    Ok((first, is_abc, [second, third]))
+}
+
 #[test]
 fn stops_at_its_limit(rt: HostRuntime) -> Result<(), Fail> {
-    let mut source = SureSource::new(rt.alloc(), b"abc\ndefg\nhi")?;
-    let mut lines = Lines::new(rt.alloc(), 8)?;
-    assert_eq!(rt; lines.next_line(&mut source), Next::Line);
-    assert!(rt; lines.line() == b"abc".as_slice());
-    for _ in 0..2 {
-        assert_eq!(rt; lines.next_line(&mut source), Next::InputTooLong);
-        assert_eq!(rt; lines.taken(), 8);
-    }
+    let told = stopped(rt.alloc())?;
+    assert_eq!(rt; told, (Next::Line, true, [(Next::InputTooLong, 8); 2]));
     Ok(())
 }
 

@@ -1,7 +1,3 @@
-use Rattle.std.proofs.Common.{ℕ, List}
-use Rattle.eb_place.specs.declared.moment.Moment.{Moment}
-use Rattle.eb_chain.specs.Chains.{Stands}
-use Rattle.eb_trials.specs.Grown.{Grows}
 use Rattle.eb_trials.proofs.Givings.{still_stands}
 use Rattle.eb_trials.proofs.tests.leaps.leaps_as_listed.Goals as goal
 

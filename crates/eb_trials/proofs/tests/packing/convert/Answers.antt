@@ -1,4 +1,4 @@
-use Rattle.std.proofs.Common.{◌<◌, ◌∙◌, ap, sym, arith}
+use Rattle.std.proofs.Common.{◌∙◌, ap, sym, arith}
 use Rattle.eb_base.specs.Setting.{Setting}
 use Rattle.eb_trials.proofs.Packs.{are_converted}
 use Rattle.eb_trials.proofs.tests.packing.convert.Goals as goal

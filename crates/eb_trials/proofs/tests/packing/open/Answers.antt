@@ -1,4 +1,4 @@
-use Rattle.std.proofs.Common.{◌≡◌, ◌<◌, ◌∙◌, ap, sym, subst, arith}
+use Rattle.std.proofs.Common.{◌≡◌, ◌<◌, ◌∙◌, ap, subst, arith}
 use Rattle.eb_base.specs.Setting.{Setting}
 use Rattle.eb_place.proofs.ConverterWords.{later_converted}
 use Rattle.eb_trials.specs.Recorded.{IsRecord}

@@ -2,9 +2,6 @@ use Rattle.eb_place.specs.declared.moment.Moment.{Moment}
 use Rattle.eb_trials.specs.Recorded.{IsRecord}
 use Rattle.eb_trials.proofs.tests.packing.packed_lists_are_walked_and_leapt_over.Given as goal
 
-abbrev pub ghosts-is_packed : goal.ghosts-is_packed
-ghosts-is_packed g a = record { name = a.blank.name; parts = a.blank.parts }
-
 abbrev pub invariant-loop-list : goal.invariant-loop-list
 invariant-loop-list g l = (m : Moment) × IsRecord l.pen m
 

@@ -1,7 +1,4 @@
-use Rattle.std.proofs.Common.{◌≡◌, ℕ, List}
-use Rattle.eb_place.specs.declared.moment.Moment.{Moment}
-use Rattle.eb_block.specs.Reading.{ListStands}
-use Rattle.eb_trials.specs.Recorded.{IsRecord}
+use Rattle.std.proofs.Common.{◌≡◌}
 use Rattle.eb_trials.proofs.tests.packing.seek_each.Given as goal
 
 abbrev pub invariant-loop-most : goal.invariant-loop-most

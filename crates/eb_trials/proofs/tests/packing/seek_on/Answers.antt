@@ -1,5 +1,4 @@
 use Rattle.std.proofs.Common.{◌∙◌}
-use Rattle.eb_block.specs.Reading.{up_to}
 use Rattle.eb_trials.proofs.Packs.{still_listed}
 use Rattle.eb_trials.proofs.tests.packing.seek_on.Goals as goal
 

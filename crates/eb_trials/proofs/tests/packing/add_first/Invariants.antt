@@ -1,0 +1,7 @@
+use Rattle.eb_place.specs.declared.moment.Moment.{Moment}
+use Rattle.eb_writer.specs.Progress.{PlacerStands}
+use Rattle.eb_trials.specs.Recorded.{IsRecord}
+use Rattle.eb_trials.proofs.tests.packing.add_first.Given as goal
+
+abbrev pub invariant-loop-number : goal.invariant-loop-number
+invariant-loop-number l = (m : Moment) × IsRecord l.pen m × PlacerStands l.placer m
