@@ -1,37 +1,7 @@
 /* Handles that are closed, of another kind, closed twice or made anew, in every order; lengths of 0, with null pointers too; texts
  * that aren't UTF-8; rooms for ids that are named as large as a number goes; a thousand hand-overs from reader to reader; and each
  * allocation failing in turn. To be linked with -Wl,--wrap=malloc. */
-#include "earlybird.h"
-#include <inttypes.h>
-#include <stdio.h>
-#include <stdlib.h>
-#include <string.h>
-
-void *__real_malloc(size_t size);
-void *__wrap_malloc(size_t size);
-
-static long left = -1; /* how many allocations still go well; below 0: all */
-
-void *__wrap_malloc(size_t size) {
-    if (left == 0)
-        return NULL;
-    if (left > 0)
-        left--;
-    return __real_malloc(size);
-}
-
-static int failures;
-
-#define EXPECT(got, want)                                                                                                                 \
-    do {                                                                                                                                  \
-        uint64_t found = (got);                                                                                                           \
-        if (found != (want)) {                                                                                                            \
-            failures++;                                                                                                                   \
-            printf("line %d: %s is %" PRIu64 "\n", __LINE__, #got, found);                                                                \
-        }                                                                                                                                 \
-    } while (0)
-
-static const unsigned char *bytes(const char *text) { return (const unsigned char *)text; }
+#include "expect.h"
 
 static uint32_t add(struct eb_handle *writer, uint64_t id, const char *text) {
     return eb_writer_add_text(writer, id, bytes(text), strlen(text));

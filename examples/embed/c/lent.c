@@ -2,40 +2,10 @@
  * setting, too few words, lengths of 0, with null pointers too, texts that aren't UTF-8, rooms for no id and for as many as a number
  * goes, and each allocation failing in turn. After each refusal the words and the numbers are as before. To be linked with
  * -Wl,--wrap=malloc. */
-#include "earlybird.h"
-#include <inttypes.h>
-#include <stdio.h>
-#include <stdlib.h>
-#include <string.h>
-
-void *__real_malloc(size_t size);
-void *__wrap_malloc(size_t size);
-
-static long left = -1; /* how many allocations still go well; below 0: all */
-
-void *__wrap_malloc(size_t size) {
-    if (left == 0)
-        return NULL;
-    if (left > 0)
-        left--;
-    return __real_malloc(size);
-}
-
-static int failures;
-
-#define EXPECT(got, want)                                                                                                                 \
-    do {                                                                                                                                  \
-        uint64_t found = (got);                                                                                                           \
-        if (found != (want)) {                                                                                                            \
-            failures++;                                                                                                                   \
-            printf("line %d: %s is %" PRIu64 "\n", __LINE__, #got, found);                                                                \
-        }                                                                                                                                 \
-    } while (0)
+#include "expect.h"
 
 /* 1 segment of 3 documents and 1,024 terms */
 #define SIZE 78854
-
-static const unsigned char *bytes(const char *text) { return (const unsigned char *)text; }
 
 static uint64_t *words, *words_then;
 static struct eb_index numbers, numbers_then;
