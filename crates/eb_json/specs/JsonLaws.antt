@@ -62,11 +62,15 @@ TellsWords Nothing = ⊤
 TellsWords (Kept kept) = IsWord kept
 TellsWords (Segments begun converted) = IsWord begun × IsWord converted
 
+-- the counts, and the documents kept where that is told
+abbrev pub counts_read_as : ℕ → ℕ → ℕ → Tail → Data
+counts_read_as d q r t = object (counted (codes "documents") d (followed_by (kept_member t) (counted (codes "queries") q (counted (codes "refused") r no_members))))
+
 -- the counts stand in a line of their own, and the segments, where they are told, in one after it
 abbrev pub EndsRead : Type 0
 EndsRead = (form : Form) → form.json ≡ true → (d q r : ℕ) (t : Tail) → IsWord d → IsWord q → IsWord r → TellsWords t
     → (line : List ℕ) × (summary_with form d q r t ≡ line ++ segments_lines t)
-    × IsLineOf line (object (member (codes "end") (object (counted (codes "documents") d (followed_by (kept_member t) (counted (codes "queries") q (counted (codes "refused") r no_members))))) no_members))
+    × IsLineOf line (object (member (codes "end") (counts_read_as d q r t) no_members))
 
 abbrev pub SegmentsRead : Type 0
 SegmentsRead = (begun converted : ℕ) → IsWord begun → IsWord converted
