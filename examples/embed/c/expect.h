@@ -33,4 +33,18 @@ static int failures;
 
 static const unsigned char *bytes(const char *text) { return (const unsigned char *)text; }
 
+/* Does a call with the first, the second, the third .. allocation failing, until it goes well: each time before it answers
+ * EB_NO_MEMORY, and all is as it was; `tried` counts these. */
+#define UNTIL_IT_GOES_WELL(call, as_before)                                                                                               \
+    for (long goes = 0;; goes++) {                                                                                                        \
+        left = goes;                                                                                                                      \
+        uint32_t got = (call);                                                                                                            \
+        left = -1;                                                                                                                        \
+        if (got == EB_OK)                                                                                                                 \
+            break;                                                                                                                        \
+        EXPECT(got, EB_NO_MEMORY);                                                                                                        \
+        EXPECT(as_before, 1);                                                                                                             \
+        tried++;                                                                                                                          \
+    }
+
 #endif

@@ -180,20 +180,6 @@ static void handed_over(void) {
     eb_close(&reader);
 }
 
-/* Does a call with the first, the second, the third .. allocation failing, until it goes well: each time before it answers
- * EB_NO_MEMORY, and the handle is as it was. */
-#define UNTIL_IT_GOES_WELL(call, as_before)                                                                                               \
-    for (long goes = 0;; goes++) {                                                                                                        \
-        left = goes;                                                                                                                      \
-        uint32_t got = (call);                                                                                                            \
-        left = -1;                                                                                                                        \
-        if (got == EB_OK)                                                                                                                 \
-            break;                                                                                                                        \
-        EXPECT(got, EB_NO_MEMORY);                                                                                                        \
-        EXPECT(as_before, 1);                                                                                                             \
-        tried++;                                                                                                                          \
-    }
-
 static long without_memory(void) {
     struct eb_handle writer = {NULL, 0}, converter = {NULL, 0}, reader = {NULL, 0};
     long tried = 0;

@@ -113,27 +113,12 @@ static void nothing_named(void) {
     REFUSED(eb_ask_line(words, SIZE, &numbers, NULL, 0, NULL, 0, &answer), EB_BAD_LINE);
 }
 
-/* Does a call with the first, the second, the third .. allocation failing, until it goes well: each time before it answers
- * EB_NO_MEMORY, and nothing is changed. */
-#define UNTIL_IT_GOES_WELL(call)                                                                                                          \
-    for (long goes = 0;; goes++) {                                                                                                        \
-        keep();                                                                                                                           \
-        left = goes;                                                                                                                      \
-        uint32_t got = (call);                                                                                                            \
-        left = -1;                                                                                                                        \
-        if (got == EB_OK)                                                                                                                 \
-            break;                                                                                                                        \
-        EXPECT(got, EB_NO_MEMORY);                                                                                                        \
-        EXPECT(as_before(), 1);                                                                                                           \
-        tried++;                                                                                                                          \
-    }
-
 static long without_memory(void) {
     long tried = 0;
     EXPECT(eb_begin(words, SIZE, &numbers, 1, 3, 1024), EB_OK);
-    UNTIL_IT_GOES_WELL(add(SIZE, 7, "night train"))
-    UNTIL_IT_GOES_WELL(eb_add_line(words, SIZE, &numbers, bytes("{\"id\":8,\"text\":\"late\"}"), 22))
-    UNTIL_IT_GOES_WELL(ask(SIZE, 4, "night OR late", 4))
+    UNTIL_IT_GOES_WELL((keep(), add(SIZE, 7, "night train")), as_before())
+    UNTIL_IT_GOES_WELL((keep(), eb_add_line(words, SIZE, &numbers, bytes("{\"id\":8,\"text\":\"late\"}"), 22)), as_before())
+    UNTIL_IT_GOES_WELL((keep(), ask(SIZE, 4, "night OR late", 4)), as_before())
     EXPECT(answer.count, 2);
     EXPECT(ids[0] * 10 + ids[1], 87);
     return tried;
