@@ -1,13 +1,15 @@
 #!/usr/bin/env python3
 """Counts the instructions of a document and of a query by callgrind, which are the same however busy a machine is.
 
-    python3 bench/instructions.py [--program FILE] [--documents N] [--queries N] [--out FILE]
+    python3 bench/instructions.py [--program FILE] [--plain FILE] [--documents N] [--queries N] [--out FILE]
     python3 bench/instructions.py --table FILE
 
 Of each corpus N documents (5,000) in order mode, and of each class N queries (2,000) over the first 20,000 Zipf documents in
 twelve segments of 4,000: a rare word, a common one, both of two, one of two, a phrase of two and a window of two. What an empty
 input takes, or the documents alone, is taken off. Bytes that one instruction sets to 0 (`rep stos`), which callgrind counts one by
 one, are told apart.
+
+With --plain, the same documents and queries by an index in plain Rust (bench/plain, which bench/turns.py builds) stand beside.
 
 Then each class once more over 20,000 documents in one segment, which holds them in live slices, and over the same segment with one
 document in the next, which closes it, so that it is read from packed lists. And so of leaps: the word `a` stands in each of these
@@ -123,6 +125,19 @@ def commit():
     return done.stdout.decode().strip()
 
 
+def by_each(count, held, asked, given):
+    """What the start, a document of each corpus and a query of each class take."""
+    start = count(SETTINGS, "")
+    before = count(QUERIED, held)
+    told = {
+        "the start": {"instructions": start[0] - start[1], "bytes set": start[1]},
+        "a Zipf document": each(count(SETTINGS, zipf_lines(given.documents)), start, given.documents),
+        "a made document": each(count(SETTINGS, made_lines(given.documents)), start, given.documents),
+    }
+    told.update((kind, each(count(QUERIED, held + text), before, given.queries)) for kind, text in asked.items())
+    return told
+
+
 def live_and_packed(count, held, asked, times):
     """What a query takes over a segment that isn't closed, and over the same one converted, of each of these query texts."""
     told = {}
@@ -139,8 +154,12 @@ def table(told):
     filled = lambda it: textwrap.fill(it, 100, break_on_hyphens=False, break_long_words=False)
     lines = [filled("%s, commit %s; %s documents of a corpus, %s queries of a class, each for the newest ten."
                     % (told["date"], told["commit"][:7], number(told["documents"]), number(told["queries"]))), ""]
-    lines += ["| What | instructions | bytes set to 0 |", "|---|---|---|"]
-    lines += ["| %s | %s | %s |" % (name, number(it["instructions"]), number(it["bytes set"])) for name, it in told["each"].items()]
+    plain = told.get("plain", {})
+    heads = ["What", "instructions", "bytes set to 0"] + ["plain Rust"] * bool(plain)
+    lines += ["| %s |" % " | ".join(heads), "|%s" % ("---|" * len(heads))]
+    for name, it in told["each"].items():
+        cells = [name, number(it["instructions"]), number(it["bytes set"])] + ([number(plain[name]["instructions"])] if plain else [])
+        lines.append("| %s |" % " | ".join(cells))
     lines += ["", filled("Over one segment of 20,000 documents, live and packed:"), "", "| A query | live | packed | packed to live |", "|---|---|---|---|"]
     row = lambda name, live, packed: "| %s | %s | %s | %.2f |" % (name, number(live), number(packed), packed / live)
     lines += [row(name, live, told["classes"]["packed"][name]) for name, live in told["classes"]["live"].items()]
@@ -153,6 +172,7 @@ def table(told):
 def main():
     parser = argparse.ArgumentParser(description=__doc__.split("\n")[0])
     parser.add_argument("--program", default=os.path.join(ROOT, "dist", "earlybird"))
+    parser.add_argument("--plain", metavar="FILE", help="the program of bench/plain, to be counted beside")
     parser.add_argument("--documents", type=int, default=5_000)
     parser.add_argument("--queries", type=int, default=2_000)
     parser.add_argument("--out", metavar="FILE", help="where the result goes in place of bench/results/")
@@ -162,18 +182,12 @@ def main():
         with open(given.table, encoding="utf-8") as file:
             return print(table(json.load(file)))
     count = lambda settings, text: counted(given.program, ["run", *settings], text)
-    start = count(SETTINGS, "")
     told = {"date": datetime.date.today().isoformat(), "commit": commit(), "documents": given.documents, "queries": given.queries}
-    told["each"] = {
-        "the start": {"instructions": start[0] - start[1], "bytes set": start[1]},
-        "a Zipf document": each(count(SETTINGS, zipf_lines(given.documents)), start, given.documents),
-        "a made document": each(count(SETTINGS, made_lines(given.documents)), start, given.documents),
-    }
     held = zipf_lines(QUERIED_DOCUMENTS)
     asked = {kind: queries(kind, given.queries) for kind in KINDS}
-    before = count(QUERIED, held)
-    for kind in KINDS:
-        told["each"][kind] = each(count(QUERIED, held + asked[kind]), before, given.queries)
+    told["each"] = by_each(count, held, asked, given)
+    if given.plain:
+        told["plain"] = by_each(lambda settings, text: counted(given.plain, [], text), held, asked, given)
     told["classes"] = live_and_packed(count, held, asked, given.queries)
     # each n-th document has the word, so that few matches are there for a great n
     matches = {str(n): min(100, QUERIED_DOCUMENTS // n) for n in LEAPS}

@@ -1,4 +1,5 @@
 //! Indexes that threads share.
 mod beside;
+mod conversions;
 mod holding;
 mod made;

@@ -71,15 +71,24 @@ fn made_documents(alloc: Global) -> Result<Documents, Fail> {
     Ok(Documents { all, parts })
 }
 
-fn asker_of(alloc: Global, blend: &Blend, reader: BlendReader, query: Query) -> Result<Asker, Fail>
-    requires { length blend.now.indexes ≡ 4 }
-    ensures reader { IfOk result (λ asker. asker.reader ≡ reader) }
+// A reader of the writer, who asks this.
+fn asker_of(
+    alloc: Global,
+    blend: &Blend,
+    writer: &mut BlendWriter,
+    query: Query,
+) -> Result<Asker, Fail>
+    requires made { writer.old.indexes ≡ blend.now.indexes }
+    requires parts { length blend.now.indexes ≡ 4 }
+    ensures writer { writer.new.indexes ≡ writer.old.indexes }
+    ensures reader { IfOk result (λ asker. asker.reader.indexes ≡ blend.now.indexes) }
     ensures asks { IfOk result (λ asker. Asks asker.frame (tree asker.query) 10 (length blend.now.indexes)) }
 {
     if !query.is_well_formed() {
         return Err(Fail::new("no such query"));
     }
     let frame = BlendFrame::new(alloc, &query, 10, 4)?;
+    let reader = writer.reader(alloc, blend)?;
     Ok(Asker {
         reader,
         query,
@@ -304,17 +313,19 @@ fn all_beside<R: Threads + Sync>(
     )
 }
 
+// Whether what a reader saw was right, and over all documents in the end.
+fn is_right(seen: Seen) -> bool {
+    seen.right && seen.searches > 0 && seen.lengths == [400, 360, 390, 350]
+}
+
 #[test]
 fn readers_search_beside_the_writer_of_a_blend(rt: HostRuntime) -> Result<(), Fail> {
     let alloc = rt.alloc();
-    let config = Config::new(4, 100, 1024)?;
-    let (blend, mut writer, converter) = Blend::open(alloc, 4, config)?;
     let documents = made_documents(alloc)?;
     assert_eq!(rt; documents.all.len(), 1500);
-    let reader = writer.reader(alloc, &blend)?;
-    let all = asker_of(alloc, &blend, reader, word(alloc, b"a")?)?;
-    let reader = writer.reader(alloc, &blend)?;
-    let some = asker_of(alloc, &blend, reader, c_without_d(alloc)?)?;
+    let (blend, mut writer, converter) = Blend::open(alloc, 4, Config::new(4, 100, 1024)?)?;
+    let all = asker_of(alloc, &blend, &mut writer, word(alloc, b"a")?)?;
+    let some = asker_of(alloc, &blend, &mut writer, c_without_d(alloc)?)?;
     let ((added, first), (converted, second)) = all_beside(
         &rt,
         alloc,
@@ -325,9 +336,6 @@ fn readers_search_beside_the_writer_of_a_blend(rt: HostRuntime) -> Result<(), Fa
         &documents,
     );
     assert_eq!(rt; (added, converted), ((1500, 16), 12));
-    for seen in [first, second] {
-        assert!(rt; seen.right && seen.searches > 0, "{seen:?}");
-        assert_eq!(rt; seen.lengths, [400, 360, 390, 350]);
-    }
+    assert!(rt; is_right(first) && is_right(second), "{first:?} {second:?}");
     Ok(())
 }

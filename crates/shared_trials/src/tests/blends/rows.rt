@@ -44,9 +44,8 @@ fn finds(
         return Err(Fail::new("no such query"));
     }
     let (frame, count) = asked(alloc, blend, writer, &query, 3, 2)?;
-    assert_eq!(rt; frame.ids(), ids);
-    assert_eq!(rt; frame.lengths(), lengths);
-    assert_eq!(rt; count, writer.accepted());
+    let found = (frame.ids(), frame.lengths(), count);
+    assert_eq!(rt; found, (ids, lengths, writer.accepted()));
     Ok(())
 }
 

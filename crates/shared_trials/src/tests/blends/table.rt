@@ -30,9 +30,30 @@ fn ask(
     }
     let want = newest(alloc, &query, 9, history)?;
     let (frame, count) = asked(alloc, blend, writer, &query, 9, 4)?;
-    assert_eq!(rt; count, history.len() as u64);
-    assert_eq!(rt; frame.ids(), want.as_slice());
+    let found = (count, frame.ids());
+    assert_eq!(rt; found, (history.len() as u64, want.as_slice()));
     Ok(())
+}
+
+// Adds a made document, and asks.
+fn add(
+    rt: &impl Abort,
+    alloc: Global,
+    blend: &Blend,
+    writer: &mut BlendWriter,
+    history: &mut Vec<Document>,
+    number: u64,
+) -> Result<(), Fail>
+    requires made { writer.old.indexes ≡ blend.now.indexes }
+    requires parts { length blend.now.indexes ≡ 4 }
+    ensures { writer.new.indexes ≡ writer.old.indexes }
+{
+    let document = document(alloc, number.saturating_add(number / 7))?;
+    if writer.add(blend, &document, &OpenGate).is_err() {
+        return Err(Fail::new("refused"));
+    }
+    history.push(document)?;
+    ask(rt, alloc, blend, writer, history.as_slice())
 }
 
 // Adds so many made documents, and asks after each.
@@ -48,12 +69,7 @@ fn fill(
     ensures { writer.new.indexes ≡ writer.old.indexes }
 {
     for number in 0..300u64 {
-        let document = document(alloc, number + number / 7)?;
-        if writer.add(blend, &document, &OpenGate).is_err() {
-            return Err(Fail::new("refused"));
-        }
-        history.push(document)?;
-        ask(rt, alloc, blend, writer, history.as_slice())?;
+        add(rt, alloc, blend, writer, history, number)?;
     }
     Ok(())
 }

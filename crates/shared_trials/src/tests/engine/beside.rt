@@ -3,29 +3,13 @@
 //! never get fewer for a reader.
 ghost use Rattle.std.specs.Prelude.{◌≡◌};
 
-use super::made::{added, documents, frame, is_scanned, query, searched};
-use eb_base::{Config, Document, OpenGate, Query};
-use eb_cursor::Frame;
+use super::made::{Question, added, documents, is_scanned, question_of, searched};
+use eb_base::{Config, Document, OpenGate};
 use eb_engine::{Converter, Index, Reader, Writer};
 use std::alloc::Global;
 use std::test::Fail;
 use std::thread;
 use std::thread::Threads;
-
-// What a reader asks: a query, and a frame for it.
-#[derive(Drop)]
-struct Question {
-    query: Query,
-    frame: Frame,
-}
-
-// The question of a number.
-fn question_of(alloc: Global, number: u32) -> Result<Question, Fail> {
-    Ok(Question {
-        query: query(alloc, number)?,
-        frame: frame(alloc, query(alloc, number)?)?,
-    })
-}
 
 // Searches until all documents are seen: whether each answer was right, and none over fewer documents than before.
 fn search_beside(

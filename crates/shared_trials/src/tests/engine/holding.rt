@@ -221,37 +221,57 @@ fn finds(rt: &impl Abort, reader: &mut Reader, index: &Index, frame: &mut Frame,
     assert_eq!(rt; frame.ids(), ids);
 }
 
+// Looks that another reader and one that is told of the third document find it.
+fn find_the_third(
+    rt: &impl Abort,
+    index: &Index,
+    writer: &mut Writer,
+    held: &mut Reader,
+    other: &mut Reader,
+    frame: &mut Frame,
+)
+    requires writer { writer.old.index ≡ index.now }
+    requires held { held.old.index ≡ index.now }
+    requires other { other.old.index ≡ index.now }
+{
+    assert_eq!(rt; (held.seen(), other.seen()), (2, 2));
+    finds(rt, other, index, frame, &[3, 2, 1]);
+    let told = writer.reader(index);
+    held.meet(index, told);
+    assert_eq!(rt; held.seen(), 3);
+    finds(rt, held, index, frame, &[3, 2, 1]);
+}
+
 #[test]
 fn a_search_answers_over_the_documents_of_its_count(rt: HostRuntime) -> Result<(), Fail> {
     let alloc = rt.alloc();
-    let (index, mut writer, converter) = with_two(alloc)?;
     let third = document(alloc, 3)?;
     let asked = frame(alloc, word(alloc, b"d")?)?;
+    let (index, mut writer, converter) = with_two(alloc)?;
     let held = writer.reader(&index);
     let mut other = writer.reader(&index);
     let ((mut held, mut asked, found), ((mut writer, added), converted)) = overlapping(
         &rt, &index, writer, converter, held, asked, &third,
     );
     assert_eq!(rt; (added, converted), (Some(3), Converted::One(0)));
-    assert_eq!(rt; (found, held.seen(), other.seen()), (2, 2, 2));
-    assert_eq!(rt; asked.ids(), [2, 1].as_slice());
-    finds(&rt, &mut other, &index, &mut asked, &[3, 2, 1]);
-    let told = writer.reader(&index);
-    held.meet(&index, told);
-    assert_eq!(rt; held.seen(), 3);
-    finds(&rt, &mut held, &index, &mut asked, &[3, 2, 1]);
+    assert_eq!(rt; (found, asked.ids()), (2, [2, 1].as_slice()));
+    find_the_third(&rt, &index, &mut writer, &mut held, &mut other, &mut asked);
     Ok(())
 }
+
+// What the adds of an index that fills up answer.
+const COUNTS: [Option<u64>; 5] = [Some(1), Some(2), Some(3), Some(4), None];
+
+// What its conversions do.
+const CONVERSIONS: [Converted; 3] = [Converted::Nothing, Converted::One(0), Converted::Nothing];
 
 #[test]
 fn an_index_fills_up(rt: HostRuntime) -> Result<(), Fail> {
     let alloc = rt.alloc();
     let (index, mut writer, mut converter) = opened(alloc)?;
     let (counts, conversions) = fill(alloc, &index, &mut writer, &mut converter)?;
-    let want = [Some(1), Some(2), Some(3), Some(4), None];
-    assert_eq!(rt; counts.as_slice(), want.as_slice());
-    let done = [Converted::Nothing, Converted::One(0), Converted::Nothing];
-    assert_eq!(rt; conversions.as_slice(), done.as_slice());
+    assert_eq!(rt; counts.as_slice(), COUNTS.as_slice());
+    assert_eq!(rt; conversions.as_slice(), CONVERSIONS.as_slice());
     assert_eq!(rt; told(&index, writer, converter), (4, 2, 1));
     Ok(())
 }

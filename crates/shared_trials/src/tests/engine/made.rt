@@ -55,28 +55,56 @@ fn pair(alloc: Global, first: &[u8], second: &[u8]) -> Result<Terms, Fail> {
     Ok(terms)
 }
 
-// The query of a number below 7: a word of each document, `a` without `b`, `b` or `c`, `a` before `b`, `a` and `d` within two
-// places, `c` from id 57 on, and `b` before `d` or `c` without `a`.
-pub(super) fn query(alloc: Global, number: u32) -> Result<Query, Fail> {
-    Ok(match number {
-        0 => word(alloc, b"d")?,
-        1 => without(alloc, b"a", b"b")?,
-        2 => Query::Or(both(alloc, word(alloc, b"b")?, word(alloc, b"c")?)?),
-        3 => Query::Phrase(pair(alloc, b"a", b"b")?),
-        4 => Query::Window(pair(alloc, b"a", b"d")?, 2),
-        5 => Query::And(both(alloc, Query::Since(57), word(alloc, b"c")?)?),
-        _ => Query::Or(both(
-            alloc,
-            Query::Phrase(pair(alloc, b"b", b"d")?),
-            without(alloc, b"c", b"a")?,
-        )?),
-    })
+fn phrase(alloc: Global, first: &[u8], second: &[u8]) -> Result<Query, Fail> {
+    Ok(Query::Phrase(pair(alloc, first, second)?))
+}
+
+fn either(alloc: Global, first: Query, second: Query) -> Result<Query, Fail> {
+    Ok(Query::Or(both(alloc, first, second)?))
+}
+
+// The documents with a word from this id on.
+fn since(alloc: Global, id: u64, term: &[u8]) -> Result<Query, Fail> {
+    Ok(Query::And(both(alloc, Query::Since(id), word(alloc, term)?)?))
 }
 
 // The documents with the first word and not the second.
 fn without(alloc: Global, first: &[u8], second: &[u8]) -> Result<Query, Fail> {
     let other = Query::Not(Box::new(alloc, word(alloc, second)?)?);
     Ok(Query::And(both(alloc, word(alloc, first)?, other)?))
+}
+
+// The query of a number below 7: a word of each document, `a` without `b`, `b` or `c`, `a` before `b`, `a` and `d` within two
+// places, `c` from id 57 on, and `b` before `d` or `c` without `a`.
+fn query(alloc: Global, number: u32) -> Result<Query, Fail> {
+    match number {
+        0 => word(alloc, b"d"),
+        1 => without(alloc, b"a", b"b"),
+        2 => either(alloc, word(alloc, b"b")?, word(alloc, b"c")?),
+        3 => phrase(alloc, b"a", b"b"),
+        4 => Ok(Query::Window(pair(alloc, b"a", b"d")?, 2)),
+        5 => since(alloc, 57, b"c"),
+        _ => either(
+            alloc,
+            phrase(alloc, b"b", b"d")?,
+            without(alloc, b"c", b"a")?,
+        ),
+    }
+}
+
+// A query, and a frame for it.
+#[derive(Drop)]
+pub(super) struct Question {
+    pub(super) query: Query,
+    pub(super) frame: Frame,
+}
+
+// The question of a number.
+pub(super) fn question_of(alloc: Global, number: u32) -> Result<Question, Fail> {
+    Ok(Question {
+        query: query(alloc, number)?,
+        frame: frame(alloc, query(alloc, number)?)?,
+    })
 }
 
 // Whether the ids are those of the plain scan over the first documents.

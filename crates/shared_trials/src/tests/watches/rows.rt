@@ -22,47 +22,54 @@ fn tells(
     requires { writer.old.index ≡ index.now }
     ensures { writer.new.index ≡ writer.old.index }
 {
-    let (count, numbers) = want;
     match told(alloc, watches, index, writer, terms) {
         Ok((seen, told)) => {
-            assert_eq!(rt; seen, count);
-            assert_eq!(rt; told.as_slice(), numbers);
+            assert_eq!(rt; (seen, told.as_slice()), want);
             Ok(())
         }
         Err(_fault) => Err(Fail::new("not added")),
     }
 }
 
+// Two watches: 1 for `a`, and 2 for all but `a`.
+fn two(alloc: Global) -> Result<Watches, Fail> {
+    let mut watches = Watches::new(alloc);
+    if set_word(alloc, &mut watches, 1, b"a").is_err() {
+        return Err(Fail::new("not set"));
+    }
+    if set(&mut watches, 2, no_word(alloc, b"a")?).is_err() {
+        return Err(Fail::new("not set"));
+    }
+    Ok(watches)
+}
+
 #[test]
 fn a_document_is_told_to_those_it_matches(rt: HostRuntime) -> Result<(), Fail> {
     let alloc = rt.alloc();
+    let mut watches = two(alloc)?;
     let (index, mut writer, _converter) = Index::open(alloc, Config::new(1, 8, 1024)?)?;
-    let mut watches = Watches::new(alloc);
-    assert_eq!(rt; set_word(alloc, &mut watches, 1, b"a"), Ok(()));
-    assert_eq!(rt; set(&mut watches, 2, no_word(alloc, b"a")?), Ok(()));
-    tells(
-        &rt,
-        alloc,
-        &watches,
-        &index,
-        &mut writer,
-        &[b"a", b"b"],
-        (1, &[1]),
-    )?;
+    let terms: [&[u8]; 2] = [b"a", b"b"];
+    tells(&rt, alloc, &watches, &index, &mut writer, &terms, (1, &[1]))?;
     assert_eq!(rt; watches.remove(1), Ok(()));
     tells(&rt, alloc, &watches, &index, &mut writer, &[b"a"], (2, &[]))
 }
 
+// Whether there is no watch at first; what the removal of one answers then, and what it answers when one is set twice; and how
+// many there are in the end.
+fn set_twice(alloc: Global) -> (bool, Result<(), NoWatch>, [Result<(), SetFault>; 2], usize) {
+    let mut watches = Watches::new(alloc);
+    let is_empty = watches.is_empty();
+    let removed = watches.remove(9);
+    let first = set_word(alloc, &mut watches, 2, b"a");
+    let second = set_word(alloc, &mut watches, 2, b"b");
+    (is_empty, removed, [first, second], watches.len())
+}
+
 #[test]
 fn a_number_is_set_once(rt: HostRuntime) {
-    let alloc = rt.alloc();
-    let mut watches = Watches::new(alloc);
-    assert!(rt; watches.is_empty());
-    assert_eq!(rt; watches.remove(9), Err(NoWatch));
-    assert_eq!(rt; set_word(alloc, &mut watches, 2, b"a"), Ok(()));
-    let again = set_word(alloc, &mut watches, 2, b"b");
-    assert_eq!(rt; again, Err(SetFault::Taken));
-    assert_eq!(rt; watches.len(), 1);
+    let (is_empty, removed, set, count) = set_twice(rt.alloc());
+    assert_eq!(rt; (is_empty, removed, count), (true, Err(NoWatch), 1));
+    assert_eq!(rt; set, [Ok(()), Err(SetFault::Taken)]);
 }
 
 // Sets 10,000 watches for `a`.
@@ -82,17 +89,21 @@ fn full(alloc: Global) -> Result<Watches, Fail> {
     Ok(watches)
 }
 
+// What it answers when 10,000 are set, then a further one, and then one of the same number; and how many there are in the end.
+fn overfilled(alloc: Global) -> ([Result<(), SetFault>; 3], usize) {
+    let mut watches = Watches::new(alloc);
+    let filled = fill(alloc, &mut watches);
+    let further = set_word(alloc, &mut watches, 10_000, b"b");
+    let again = set_word(alloc, &mut watches, 7, b"b");
+    ([filled, further, again], watches.len())
+}
+
 #[test]
 fn ten_thousand_are_full(rt: HostRuntime) -> Result<(), Fail> {
-    let alloc = rt.alloc();
-    let mut watches = Watches::new(alloc);
-    assert_eq!(rt; fill(alloc, &mut watches), Ok(()));
-    assert_eq!(rt; watches.len(), MAX_WATCHES);
-    let further = set_word(alloc, &mut watches, 10_000, b"b");
-    assert_eq!(rt; further, Err(SetFault::Full));
-    let again = set_word(alloc, &mut watches, 7, b"b");
-    assert_eq!(rt; again, Err(SetFault::Taken));
-    assert_eq!(rt; full(alloc)?.len(), MAX_WATCHES);
+    let (set, count) = overfilled(rt.alloc());
+    let full = full(rt.alloc())?.len();
+    assert_eq!(rt; set, [Ok(()), Err(SetFault::Full), Err(SetFault::Taken)]);
+    assert_eq!(rt; (count, full), (MAX_WATCHES, MAX_WATCHES));
     Ok(())
 }
 
@@ -127,11 +138,21 @@ fn a_full_index_tells_nothing(rt: HostRuntime) -> Result<(), Fail> {
     Ok(())
 }
 
+// Whether the word `b` matches a document of it, and whether the query for all but `b` does.
+fn both_tested(alloc: Global) -> Result<(bool, bool), Fail> {
+    let word = word(alloc, b"b")?;
+    let other = no_word(alloc, b"b")?;
+    let terms: [&[u8]; 1] = [b"b"];
+    Ok((
+        tested(alloc, &word, &terms)?,
+        tested(alloc, &other, &terms)?,
+    ))
+}
+
 #[test]
 fn one_test(rt: HostRuntime) -> Result<(), Fail> {
-    let alloc = rt.alloc();
     a_match_has_a_key_term();
-    assert!(rt; tested(alloc, &word(alloc, b"b")?, &[b"b"])?);
-    assert!(rt; !tested(alloc, &no_word(alloc, b"b")?, &[b"b"])?);
+    let tested = both_tested(rt.alloc())?;
+    assert_eq!(rt; tested, (true, false));
     Ok(())
 }
