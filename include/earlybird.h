@@ -1,5 +1,6 @@
-/* Earlybird, an in-memory real-time search index, for C and what calls C. There are two kinds of index: one in memory that
- * the caller lends, here, and one that threads share, behind handles (below, from eb_open on).
+/* Earlybird, an in-memory real-time search index, for C and what calls C. There are three kinds: an index in memory that the
+ * caller lends, here; one that threads share, behind handles (below, from eb_open on); and a feed that threads share, which
+ * never ends (from eb_stream_open on).
  *
  * Of an index that is lent the caller keeps all memory: its words, and a struct of numbers. eb_words says how many words a setting
  * needs, and eb_begin makes an index of them. Then eb_add_line and eb_add_text add documents, and eb_ask_line and
@@ -131,7 +132,7 @@ void eb_last_segment(const struct eb_index *index, struct eb_segment *last);
 /* A handle. It is closed where it is all zero. */
 struct eb_handle {
     void *at;
-    uint32_t kind; /* 0 closed, 1 a writer, 2 a reader, 3 a converter */
+    uint32_t kind; /* 0 closed, 1 a writer, 2 a reader, 3 a converter, 4 a leader, 5 a follower */
 };
 
 /* Opens an index of this setting, as eb_words has it, without a document. Both handles are closed before. EB_BAD_SETTING,
@@ -156,11 +157,64 @@ uint32_t eb_reader_ask_text(struct eb_handle *reader, uint32_t k, const unsigned
 uint32_t eb_reader_seen(struct eb_handle *reader, uint64_t *seen);
 
 /* Packs the next segment that is closed, if there is one, and tells how many are packed then. No answer changes by it, and asks
- * load less. */
+ * load less. The converter is that of an index, or of a generation of a feed. */
 uint32_t eb_converter_convert(struct eb_handle *converter, uint32_t *converted);
 
 /* Closes a handle. A closed one stays closed. It may be made anew. */
 void eb_close(struct eb_handle *handle);
+
+/* ---- the feed that threads share
+ *
+ * A feed never ends and is never full: it is a chain of generations, each an index of the same setting. Where the newest has no
+ * room for a document, its one leader begins another, and lets the oldest go of those that it keeps. eb_follower makes
+ * followers, as many as there is memory for; each searches the newest generations that it knows, at most as many as the feed
+ * keeps. The leader tells its followers of a generation that was begun, and a follower takes that in at its next ask. Handles
+ * are as above, calls on different handles may run at the same time, and none waits for another. An add that begins a
+ * generation takes the memory of an index, and is as slow as eb_open. The memory of a generation is given back when neither
+ * the leader nor a follower holds it: so a follower that doesn't ask keeps its own generations alive, and an add is never refused
+ * because of that. A feed goes on for its followers where the leader is closed.
+ *
+ * Proved of each call, whatever the others do meanwhile: what is stated beside it, where nothing else is said. Tested, and not
+ * proved: that a follower's next ask takes in what the leader told, and that it holds as many generations as the feed keeps, or all.
+ *
+ * What the caller owes is as above. */
+
+/* Opens a feed without a document, which keeps `keep` generations, 2 to 64, of an index of this setting, as eb_words has it. The
+ * handle is closed before. EB_BAD_SETTING, EB_NO_MEMORY. */
+uint32_t eb_stream_open(struct eb_handle *leader, uint32_t segments, uint32_t docs, uint32_t terms, uint32_t keep);
+
+/* Add a document after those that the leader added, to the newest generation where that has room for it, else to a new one, as
+ * eb_writer_add_line and eb_writer_add_text do; but EB_FULL never comes. EB_NO_MEMORY also where there is none for another
+ * generation. Where it isn't EB_OK, the leader's history is as before. */
+uint32_t eb_leader_add_line(struct eb_handle *leader, const unsigned char *line, size_t line_len);
+uint32_t eb_leader_add_text(struct eb_handle *leader, uint64_t id, const unsigned char *text, size_t text_len);
+
+/* Tells each follower of the generations that were begun, as an add does too: `told` is 1 where each has been told of them, and 0 where
+ * one couldn't be, since it was just taking in what it was told before, or since there was no memory. Not proved: that they
+ * are told. So a program that waits after an add calls this first, until `told` is 1. */
+uint32_t eb_leader_tell(struct eb_handle *leader, uint32_t *told);
+
+/* Makes the converter of the newest generation, for eb_converter_convert, where it wasn't made since that was begun; else the
+ * handle stays closed, and the call answers EB_OK too. It may be closed at any time, and goes on where the generation isn't the
+ * newest any more. A generation whose converter isn't made stays unpacked. EB_NO_MEMORY: so does this one. Tested, and not proved:
+ * that it is made where it wasn't before. */
+uint32_t eb_leader_converter(struct eb_handle *leader, struct eb_handle *converter);
+
+/* Makes a follower, which knows all that the leader added. EB_NO_MEMORY. */
+uint32_t eb_follower(struct eb_handle *leader, struct eb_handle *follower);
+
+/* Answer as eb_ask_line and eb_ask_text do, over the generations that the follower holds once it took in what it was told, up to
+ * the end of the first `answer->seen` documents of the leader. It knows them from then on, and they begin with all that it
+ * knew: so `seen` never falls; but where it wasn't asked while the feed began `keep` generations or more, that is proved only of the
+ * generations that were closed when it was asked last. Where it isn't EB_OK, the follower is as before. */
+uint32_t eb_follower_ask_line(struct eb_handle *follower, const unsigned char *line, size_t line_len, uint64_t *ids, size_t ids_len,
+                              struct eb_answer *answer);
+uint32_t eb_follower_ask_text(struct eb_handle *follower, uint32_t k, const unsigned char *text, size_t text_len, uint64_t *ids, size_t ids_len,
+                              struct eb_answer *answer);
+
+/* Tell how many documents of the leader a follower knows; and how many generations it holds. */
+uint32_t eb_follower_seen(struct eb_handle *follower, uint64_t *seen);
+uint32_t eb_follower_held(struct eb_handle *follower, uint64_t *held);
 
 /* The name of what a call answers. */
 static inline const char *eb_name(uint32_t number) {

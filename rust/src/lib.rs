@@ -11,7 +11,8 @@
 //! # Ok::<(), earlybird::Refusal>(())
 //! ```
 //!
-//! [`shared`] has an index that threads share: one thread adds while others search.
+//! [`shared`] has an index that threads share: one thread adds while others search. [`stream`] has a feed that they share and that
+//! never ends.
 //!
 //! Safe types over the calls of `include/earlybird.h`. What these ask of their caller is kept here: the words and the numbers are
 //! private, belong together, and only the calls write them. What the calls answer is proved (`crates/eb_c`); these types are
@@ -19,7 +20,9 @@
 
 use std::fmt;
 
+mod handle;
 pub mod shared;
+pub mod stream;
 
 /// The most ids of an answer.
 const MOST_IDS: usize = 1000;
@@ -120,7 +123,7 @@ pub enum Refusal {
     BadText,
     /// There was no memory for the index, or to read a line, a text or a query.
     NoMemory,
-    /// The three numbers are no setting that an index can have.
+    /// The numbers are no setting that an index or a feed can have.
     BadSetting,
     /// There are not as many words as the setting needs; no `Index` has this.
     BadSize,

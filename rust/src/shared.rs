@@ -1,16 +1,8 @@
 //! The index that threads share: one [`Writer`] adds while any number of [`Reader`]s search, each on a thread of its own, and a
 //! [`Converter`] packs the segments that are closed. No call waits for another.
 
-use crate::{Answer, Refusal, Told, MOST_IDS};
-use std::cell::UnsafeCell;
-use std::ffi::c_void;
-use std::ptr;
-
-#[repr(C)]
-struct Handle {
-    at: *mut c_void,
-    kind: u32,
-}
+use crate::handle::{Handle, Room, Side};
+use crate::{Answer, Refusal, Told};
 
 extern "C" {
     fn eb_open(writer: *mut Handle, converter: *mut Handle, segments: u32, docs: u32, terms: u32) -> u32;
@@ -23,36 +15,14 @@ extern "C" {
     ) -> u32;
     fn eb_reader_seen(reader: *mut Handle, seen: *mut u64) -> u32;
     fn eb_converter_convert(converter: *mut Handle, converted: *mut u32) -> u32;
-    fn eb_close(handle: *mut Handle);
 }
 
-/// A handle. One thread at a time can reach it, since it isn't `Sync`; and no call calls back, so one call at a time has it.
-struct Side(UnsafeCell<Handle>);
-
-// SAFETY: what a handle leads to may go to another thread, which the library proves.
-unsafe impl Send for Side {}
-
 impl Side {
-    fn closed() -> Side {
-        Side(UnsafeCell::new(Handle { at: ptr::null_mut(), kind: 0 }))
-    }
-
-    fn at(&self) -> *mut Handle {
-        self.0.get()
-    }
-
     fn reader(&self) -> Result<Reader, Refusal> {
         let made = Side::closed();
         // SAFETY: two handles that no other call has.
         Refusal::of(unsafe { eb_reader(self.at(), made.at()) }, 0)?;
-        Ok(Reader { side: made, ids: vec![0; MOST_IDS] })
-    }
-}
-
-impl Drop for Side {
-    fn drop(&mut self) {
-        // SAFETY: a handle that no other call has, and that is used no more.
-        unsafe { eb_close(self.at()) }
+        Ok(Reader { side: made, room: Room::new() })
     }
 }
 
@@ -116,32 +86,23 @@ impl Writer {
 /// ```
 pub struct Reader {
     side: Side,
-    ids: Vec<u64>,
+    room: Room,
 }
 
 impl Reader {
     /// Answers a query of which the newest `k` matches are wanted, 1 to 1,000, over the first `seen` documents of the writer: all
     /// that were accepted when the call counted them. They begin with all that this reader knew, and it knows them from then on.
     pub fn search(&mut self, k: u32, query: &str) -> Result<Answer, Refusal> {
-        let mut told = Told::default();
+        let at = self.side.at();
         // SAFETY: a handle that no other call has, the bytes of a query, and the room for the ids.
-        let done = unsafe {
-            eb_reader_ask_text(self.side.at(), k, query.as_ptr(), query.len(), self.ids.as_mut_ptr(), self.ids.len(), &mut told)
-        };
-        self.answer(done, told)
+        self.room.answer(|ids, len, told| unsafe { eb_reader_ask_text(at, k, query.as_ptr(), query.len(), ids, len, told) })
     }
 
     /// Answers a query line, without its end, as [`Reader::search`] does.
     pub fn search_line(&mut self, line: &[u8]) -> Result<Answer, Refusal> {
-        let mut told = Told::default();
+        let at = self.side.at();
         // SAFETY: a handle that no other call has, the bytes of a line, and the room for the ids.
-        let done = unsafe { eb_reader_ask_line(self.side.at(), line.as_ptr(), line.len(), self.ids.as_mut_ptr(), self.ids.len(), &mut told) };
-        self.answer(done, told)
-    }
-
-    fn answer(&self, done: u32, told: Told) -> Result<Answer, Refusal> {
-        Refusal::of(done, told.column)?;
-        Ok(Answer { seen: told.seen, ids: self.ids[..told.count as usize].to_vec() })
+        self.room.answer(|ids, len, told| unsafe { eb_reader_ask_line(at, line.as_ptr(), line.len(), ids, len, told) })
     }
 
     /// How many documents it knows.
@@ -165,7 +126,7 @@ impl Clone for Reader {
     }
 }
 
-/// The one converter of an index. It may go to another thread.
+/// The one converter of an index, or of a generation of a feed. It may go to another thread.
 ///
 /// ```
 /// let (_writer, mut converter) = earlybird::shared::open(12, 4096, 8192)?;
@@ -173,7 +134,7 @@ impl Clone for Reader {
 /// # Ok::<(), earlybird::Refusal>(())
 /// ```
 pub struct Converter {
-    side: Side,
+    pub(crate) side: Side,
 }
 
 impl Converter {

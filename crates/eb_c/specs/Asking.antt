@@ -68,11 +68,15 @@ written ids room = take (length room) ids ++ drop (length ids) room
 abbrev pub nothing_told : ℕ → Answer
 nothing_told column = record { seen = 0; count = 0; column = column }
 
--- what a call answers and tells, and the ids that it writes
+-- what a call answers and tells over these documents, and the ids that it writes; it tells that so many were accepted
+abbrev pub TellsOver : ℕ → List Doc → Asked → ℕ → Answer → List ℕ → List ℕ → Type 0
+TellsOver seen docs (asks k q) number a old new =
+    (number ≡ 0) × (a ≡ record { seen = seen; count = length (answer q k docs); column = 0 }) × (new ≡ written (answer q k docs) old)
+TellsOver seen docs (refused r column) number a old new = (number ≡ refusal_number r) × (a ≡ nothing_told column) × (new ≡ old)
+
+-- so over all documents that were accepted
 abbrev pub Tells : List Doc → Asked → ℕ → Answer → List ℕ → List ℕ → Type 0
-Tells docs (asks k q) number a old new =
-    (number ≡ 0) × (a ≡ record { seen = length docs; count = length (answer q k docs); column = 0 }) × (new ≡ written (answer q k docs) old)
-Tells docs (refused r column) number a old new = (number ≡ refusal_number r) × (a ≡ nothing_told column) × (new ≡ old)
+Tells docs = TellsOver (length docs) docs
 
 -- so for what is asked, or it is refused since there was no memory for it
 abbrev pub Answers : (Asked → Type 0) → List Doc → ℕ → Answer → List ℕ → List ℕ → Type 0

@@ -4,3 +4,4 @@ pub mod Adding
 pub mod Asking
 pub mod Sealing
 pub mod Sharing
+pub mod Streaming

@@ -1,4 +1,4 @@
-//! What a handle leads to: a writer, a reader or a converter, with its share of the index.
+//! What a handle leads to: a writer, a reader or a converter, with its share of the index; a leader or a follower of a feed.
 ghost use Rattle.std.specs.Prelude.{◌≡◌, ◌<◌, ◌++◌, ◌∷◌, [], false, length, IfSome};
 ghost use mathlib.Core.List.{IsPrefix};
 ghost use Rattle.eb_base.specs.Match.{answer as answer_of};
@@ -8,10 +8,12 @@ ghost use Rattle.eb_convert.specs.declared.conversion.Converted.{Converted};
 ghost use Rattle.eb_engine.specs.Tokens.{Converts};
 ghost use Rattle.std.specs.Arc.{arc_value};
 
+use crate::leading::{HeldFollower, HeldLeader};
 use eb_base::{Document, OpenGate};
 use eb_cursor::Frame;
 use eb_engine::{Converter, Index as Shared, Reader, Writer};
 use eb_place::Steps;
+use eb_stream::FeedConverter;
 use eb_writer::Full;
 use std::alloc::Global;
 use std::marker::{Brand, Model};
@@ -82,8 +84,14 @@ pub enum Held {
     Writer(HeldWriter),
     /// A reader.
     Reader(HeldReader),
-    /// A converter.
+    /// A converter of an index.
     Converter(HeldConverter),
+    /// The leader of a feed.
+    Leader(HeldLeader),
+    /// A follower of a feed.
+    Follower(HeldFollower),
+    /// The converter of a generation of a feed.
+    FeedConverter(FeedConverter),
 }
 
 impl HeldConverter {

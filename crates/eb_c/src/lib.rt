@@ -1,5 +1,5 @@
-//! The index for programs in C, and in each language that calls C: one in memory that the caller lends, and one that
-//! threads share, behind handles (`sharing`). `include/earlybird.h` declares the calls, and says of each what its caller
+//! The index for programs in C, and in each language that calls C: one in memory that the caller lends, one that threads
+//! share, behind handles (`sharing`), and a feed that they share and that never ends (`streaming`). `include/earlybird.h` declares the calls, and says of each what its caller
 //! owes.
 //!
 //! Of an index that is lent the caller keeps all memory: its words, and a struct of numbers. A call tests what it can:
@@ -12,25 +12,34 @@
 mod adding;
 mod asking;
 mod exports;
+mod handle;
 mod held;
 mod index;
+mod leading;
 mod parts;
 mod reading;
 mod refusal;
 mod sealed;
 mod sharing;
+mod streaming;
 
 pub use exports::{
     eb_add_line, eb_add_text, eb_ask_line, eb_ask_text, eb_begin, eb_documents, eb_last_segment,
     eb_segments, eb_words,
 };
+pub use handle::Handle;
 pub use held::{Held, HeldConverter, HeldReader, HeldWriter};
 pub use index::{Answer, Index, Segment};
+pub use leading::{HeldFollower, HeldLeader};
 pub use refusal::Refusal;
 pub use sealed::Sealed;
 pub use sharing::{
-    Handle, eb_close, eb_converter_convert, eb_open, eb_reader, eb_reader_ask_line,
-    eb_reader_ask_text, eb_reader_seen, eb_writer_add_line, eb_writer_add_text,
+    eb_close, eb_converter_convert, eb_open, eb_reader, eb_reader_ask_line, eb_reader_ask_text,
+    eb_reader_seen, eb_writer_add_line, eb_writer_add_text,
+};
+pub use streaming::{
+    eb_follower, eb_follower_ask_line, eb_follower_ask_text, eb_follower_held, eb_follower_seen,
+    eb_leader_add_line, eb_leader_add_text, eb_leader_converter, eb_leader_tell, eb_stream_open,
 };
 
 #[cfg(test)]

@@ -4,7 +4,7 @@
 //!
 //! A call tests what its handles lead to, and answers 16 where one is closed, of another kind, or, where one is to be
 //! made, not closed. Calls on different handles may run beside one another, on any threads.
-ghost use Rattle.std.specs.Prelude.{◌≡◌, ◌≢◌, ◌⊎◌, Some, None, Err, Result, List, [], length, IfOk, IfSome, MatchOption};
+ghost use Rattle.std.specs.Prelude.{◌≡◌, ◌≢◌, ◌⊎◌, Some, None, Err, Result, List, [], length, IfOk, IfSome};
 ghost use mathlib.Core.List.{IsPrefix};
 ghost use Rattle.eb_base.specs.Document.{Doc};
 ghost use Rattle.eb_base.specs.Setting.{Setting, IsSetting};
@@ -13,90 +13,20 @@ ghost use Rattle.eb_convert.specs.declared.conversion.Converted.{Converted};
 ghost use Rattle.eb_table.specs.Known.{Words};
 ghost use Rattle.eb_c.specs.Adding.{document_in, document_with, number_after, docs_after};
 ghost use Rattle.eb_c.specs.Asking.{asked_of, nothing_told, LineAsks, TextAsks, Answers, Tells};
-ghost use Rattle.eb_c.specs.Sharing.{kind_of, LeadsNowhere, LeadsToWriter, LeadsToReader, LeadsToConverter};
+ghost use Rattle.eb_c.specs.Sharing.{kind_of, LeadsNowhere, LeadsToWriter, LeadsToReader, IsConverter, LeadsToConverter};
 
 use crate::asking::{refused, write_ids};
+use crate::handle::{BAD_HANDLE, Handle, crosses, handle_of};
 use crate::held::{Held, HeldConverter, HeldReader, HeldWriter};
 use crate::index::{Answer, setting};
-use crate::parts::Parts;
 use crate::reading::{
     Question, document_in_line, document_with, question_in_line, question_in_text,
 };
 use crate::refusal::Refusal;
-use crate::sealed::Sealed;
 use eb_base::{Config, Document, NoMemory};
 use eb_engine::Index as Shared;
 use std::alloc::Global;
-use std::mem;
 use std::sync::Arc;
-
-// What a call answers where a handle isn't of the kind that it takes.
-const BAD_HANDLE: u32 = 16;
-
-/// A handle: it leads to a writer (1), to a reader (2), to a converter (3), or to nothing (0, and it is closed).
-#[repr(C)]
-#[derive(Drop)]
-pub struct Handle {
-    seal: Sealed,
-    kind: u32,
-    ghost kind_is: { kind ≡ kind_of seal.held },
-}
-
-fn kind(held: &Held) -> u32
-    ensures { result ≡ kind_of (Some held.now) }
-{
-    match held {
-        Held::Writer(_) => 1,
-        Held::Reader(_) => 2,
-        Held::Converter(_) => 3,
-    }
-}
-
-impl Handle {
-    pub(crate) fn closed(alloc: Global) -> Handle
-        ensures { result.seal.held ≡ None }
-    {
-        Handle {
-            seal: Sealed::empty(alloc),
-            kind: 0,
-        }
-    }
-
-    fn of(held: Box<Held, Global>) -> Handle
-        ensures { result.seal.held ≡ Some held.value }
-    {
-        let kind = kind(&held);
-        Handle {
-            seal: Sealed::of_parts(Parts::of(held)),
-            kind,
-        }
-    }
-
-    fn into_box(self) -> Option<Box<Held, Global>>
-        ensures { MatchOption result (self.seal.held ≡ None) (λ b. self.seal.held ≡ Some b.value) }
-    {
-        let Handle { seal, kind } = self;
-        if kind == 0 {
-            return None;
-        }
-        Some(seal.into_parts().into_box())
-    }
-
-    // What it leads to; it is then closed.
-    fn take(&mut self, alloc: Global) -> Option<Box<Held, Global>>
-        ensures closed { self.new.seal.held ≡ None }
-        ensures held { MatchOption result (self.old.seal.held ≡ None) (λ b. self.old.seal.held ≡ Some b.value) }
-    {
-        mem::replace(self, Handle::closed(alloc)).into_box()
-    }
-}
-
-// A handle may go to another thread: this call is let through only since what it leads to may.
-fn crosses<T: Send>(handle: &mut T)
-    ensures { handle.new ≡ handle.old }
-{
-    let _ = handle;
-}
 
 /// Opens an index of this setting without a document, with its writer and its converter, whose handles are closed before:
 /// 0; else `BadSetting` (13), `NoMemory` (12), or 16 where one of the handles isn't closed, and both are as before. Takes all
@@ -161,15 +91,6 @@ fn open(alloc: Global, config: Config) -> Result<(Handle, Handle), NoMemory>
         return Err(NoMemory);
     };
     Ok((Handle::of(writes), Handle::of(converts)))
-}
-
-fn handle_of(alloc: Global, held: Held) -> Result<Handle, NoMemory>
-    ensures { IfOk result (λ h. h.seal.held ≡ Some held) }
-{
-    let Ok(held) = Box::new(alloc, held) else {
-        return Err(NoMemory);
-    };
-    Ok(Handle::of(held))
 }
 
 /// Adds the document of an id and a text, which is UTF-8, after those that this writer added: 0 where there is room for it,
@@ -275,7 +196,7 @@ fn reader_of(held: &mut Held) -> Option<HeldReader>
     match held {
         Held::Writer(writer) => writer.reader(),
         Held::Reader(reader) => reader.again(),
-        Held::Converter(_) => None,
+        _ => None,
     }
 }
 
@@ -426,14 +347,18 @@ pub extern "C" fn eb_converter_convert(
 }
 
 fn convert_held(held: &mut Held, converted: &mut u32) -> u32
-    ensures converts { (c : ConverterToken) → held.old ≡ Held.Converter c
-        → (d : ConverterToken) × (held.new ≡ Held.Converter d) × (d.index ≡ c.index) × IsPrefix c.docs d.docs
+    ensures converts { (c : ConverterToken) → IsConverter held.old c
+        → (d : ConverterToken) × IsConverter held.new d × (d.index ≡ c.index) × IsPrefix c.docs d.docs
         × ((x : Converted) × Converts c.index.setting c d x) × (result ≡ 0) × (converted.new ≡ d.converted) }
     ensures bad { kind_of (Some held.old) ≢ 3 → (result ≡ 16) × (converted.new ≡ converted.old) × (held.new ≡ held.old) }
 {
-    let Held::Converter(converter) = held else {
-        return BAD_HANDLE;
-    };
-    *converted = converter.convert();
+    match held {
+        Held::Converter(converter) => *converted = converter.convert(),
+        Held::FeedConverter(converter) => {
+            let _done = converter.convert();
+            *converted = converter.converted();
+        }
+        _ => return BAD_HANDLE,
+    }
     0
 }

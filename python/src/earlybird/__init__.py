@@ -7,7 +7,7 @@
     >>> index.search("train -late", 10)
     Answer([101], seen=2)
 
-Where one thread adds while others search, `Writer` opens an index that they share.
+Where one thread adds while others search, `Writer` opens an index that they share, and `Leader` a feed that never ends.
 
 A message can be found as soon as `add` returns, and the newest matches come first. Queries are those of the program `earlybird`
 (docs/QUERIES.md), and so are the refusals, each an exception of its name.
@@ -31,8 +31,9 @@ from earlybird._refusals import (
     TooLong,
 )
 from earlybird._shared import Converter, Reader, Writer
+from earlybird._stream import Follower, Leader
 
 __all__ = [
-    "Answer", "BadDocument", "BadHandle", "BadJson", "BadLine", "BadNumber", "BadQuery", "BadSetting", "BadText", "Converter", "Full",
-    "Index", "LongLine", "NoMemory", "QueryTooDeep", "QueryTooLarge", "Reader", "Refused", "Segment", "TooLong", "Writer",
+    "Answer", "BadDocument", "BadHandle", "BadJson", "BadLine", "BadNumber", "BadQuery", "BadSetting", "BadText", "Converter", "Follower",
+    "Full", "Index", "Leader", "LongLine", "NoMemory", "QueryTooDeep", "QueryTooLarge", "Reader", "Refused", "Segment", "TooLong", "Writer",
 ]

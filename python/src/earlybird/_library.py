@@ -49,6 +49,16 @@ def load() -> ctypes.CDLL:
         ("eb_reader_seen", u32, [pointer, pointer]),
         ("eb_converter_convert", u32, [pointer, pointer]),
         ("eb_close", None, [pointer]),
+        ("eb_stream_open", u32, [pointer, u32, u32, u32, u32]),
+        ("eb_leader_add_line", u32, [pointer, *text]),
+        ("eb_leader_add_text", u32, [pointer, u64, *text]),
+        ("eb_leader_tell", u32, [pointer, pointer]),
+        ("eb_leader_converter", u32, [pointer, pointer]),
+        ("eb_follower", u32, [pointer, pointer]),
+        ("eb_follower_ask_line", u32, [pointer, *text, *ids]),
+        ("eb_follower_ask_text", u32, [pointer, u32, *text, *ids]),
+        ("eb_follower_seen", u32, [pointer, pointer]),
+        ("eb_follower_held", u32, [pointer, pointer]),
     ]:
         call = getattr(library, name)
         call.restype, call.argtypes = result, arguments

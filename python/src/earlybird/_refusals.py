@@ -93,13 +93,13 @@ class NoMemory(Refused, MemoryError):
 
 
 class BadSetting(Refused, ValueError):
-    """The three numbers are no setting that an index can have."""
+    """The numbers are no setting that an index or a feed can have."""
 
     number, name = 13, "bad setting"
 
 
 class BadHandle(Refused, ValueError):
-    """The writer, reader or converter is closed."""
+    """The object is closed."""
 
     number, name = 16, "bad handle"
 

@@ -1,0 +1,67 @@
+-- What a handle of a feed leads to, and what comes of its calls.
+use Rattle.std.specs.Prelude.{◌≡◌, ◌⊎◌, ℕ, false, List, [], ◌∷◌, ◌++◌, Option, Some, Result, Ok, Err}
+use mathlib.Core.List.{IsPrefix}
+use Rattle.eb_base.specs.Document.{Doc}
+use Rattle.eb_place.specs.Room.{has_room}
+use Rattle.eb_feed.specs.Generations.{with_generation}
+use Rattle.eb_stream.specs.Turns.{FeedToken, WriterToken, generations_of, history_of, stretch_of, counted, HasLapsed, HasTaken}
+use Rattle.eb_c.specs.declared.held.Held.{Held}
+use Rattle.eb_c.specs.declared.held.Held.TheVariants.{Leader, Follower}
+use Rattle.eb_c.specs.declared.index.Answer.{Answer}
+use Rattle.eb_c.specs.declared.refusal.Refusal.{Refusal}
+use Rattle.eb_c.specs.declared.refusal.Refusal.TheVariants as refusal
+use Rattle.eb_c.specs.Numbers.{refusal_number}
+use Rattle.eb_c.specs.Asking.{Asked, asks, refused, TellsOver}
+
+-- it leads to the leader of a feed, which has this
+abbrev pub LeadsToLeader : Option Held → WriterToken → Type 0
+LeadsToLeader h w = h ≡ Some (Leader w)
+
+-- it leads to a follower of a feed, which knows this
+abbrev pub LeadsToFollower : Option Held → FeedToken → Type 0
+LeadsToFollower h f = h ≡ Some (Follower f)
+
+-- the document was added, to the newest generation where that has room for it, else to a new one
+pub record Takes (old new : WriterToken) (d : Doc) : Type 0 where
+  pub setting : new.setting ≡ old.setting
+  pub keep : new.keep ≡ old.keep
+  pub book : new.feed.book ≡ old.feed.book
+  pub turns : IsPrefix old.feed.log new.feed.log
+  pub generations : generations_of new.feed.log new.feed.docs ≡ with_generation old.setting (generations_of old.feed.log old.feed.docs) d
+  pub history : (history : List Doc) → HasTaken old history → HasTaken new (history ++ d ∷ [])
+
+-- what an add answers that read this, and what the leader has then: a document is refused only for want of memory for another
+-- generation, where the newest has no room for it
+abbrev pub LeaderAdds : Result Doc Refusal → WriterToken → ℕ → WriterToken → Type 0
+LeaderAdds (Ok d) old number new =
+    ((number ≡ 0) × Takes old new d) ⊎ ((number ≡ refusal_number refusal.NoMemory) × (has_room old.setting old.feed.docs d ≡ false) × (new ≡ old))
+LeaderAdds (Err r) old number new = (number ≡ refusal_number r) × (new ≡ old)
+
+-- what a follower knows that took in what it was told: of the same feed the turns that it knew, if not more, and all that it knew of
+-- the history, unless it had fallen too far behind; the closed generations that it knew at any rate
+pub record Hears (old new : FeedToken) : Type 0 where
+  pub book : new.book ≡ old.book
+  pub turns : IsPrefix old.log new.log
+  pub known : IsPrefix (history_of old.log old.docs) (history_of new.log new.docs) ⊎ HasLapsed old new
+  pub closed : IsPrefix (history_of old.log []) (history_of new.log new.docs)
+
+-- what a follower knows that searched: of its newest generation the documents that it knew, if not more
+pub record Learns (old new : FeedToken) : Type 0 where
+  pub book : new.book ≡ old.book
+  pub log : new.log ≡ old.log
+  pub held : new.held ≡ old.held
+  pub docs : IsPrefix old.docs new.docs
+
+-- what a follower knows after this was asked
+abbrev pub Follows : Asked → FeedToken → FeedToken → Type 0
+Follows (asks k q) old new = (heard : FeedToken) × Hears old heard × Learns heard new
+Follows (refused r column) old new = new ≡ old
+
+-- what an ask of a follower tells that knows this then: over the generations that it holds, and how many documents it knows
+abbrev pub FollowerTells : FeedToken → Asked → ℕ → Answer → List ℕ → List ℕ → Type 0
+FollowerTells f asked number a old new = TellsOver (counted (history_of f.log f.docs)) (stretch_of f.held f.log f.docs) asked number a old new
+
+-- so for what is asked, or it is refused since there was no memory for it
+abbrev pub FollowerAnswers : (Asked → Type 0) → FeedToken → FeedToken → ℕ → Answer → List ℕ → List ℕ → Type 0
+FollowerAnswers IsAsked before after number a old new =
+    (x : Asked) × ((x ≡ refused refusal.NoMemory 0) ⊎ IsAsked x) × Follows x before after × FollowerTells after x number a old new

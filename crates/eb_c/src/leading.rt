@@ -1,0 +1,140 @@
+//! What a handle of a feed leads to: its leader, or a follower.
+ghost use Rattle.std.specs.Prelude.{◌≡◌, ◌<◌, ◌≤◌, [], true, false, IfOk, IfSome};
+ghost use Rattle.eb_base.specs.Match.{answer as answer_of};
+ghost use Rattle.eb_cursor.specs.Frames.{query_of, k_of, ids_of};
+ghost use Rattle.eb_place.specs.Room.{has_room};
+ghost use Rattle.eb_stream.specs.Turns.{FeedToken, history_of, stretch_of, counted, HasTaken, IsOfNewest};
+ghost use Rattle.eb_c.specs.Streaming.{Takes, Hears, Learns};
+
+use eb_base::{Config, Document, NoMemory, OpenGate};
+use eb_cursor::Frame;
+use eb_place::Steps;
+use eb_stream::{FeedConverter, FeedWriter, Follower, Leader};
+use std::alloc::Global;
+use std::marker::{Brand, Model};
+use std::sync::ledger::{Blank, Ledger};
+
+/// The leader of a feed. It lies apart, so that what a handle leads to is small.
+#[derive(Drop)]
+pub struct HeldLeader {
+    leader: Box<Leader, Global>,
+}
+
+impl Model for HeldLeader {
+    ghost use Rattle.eb_stream.specs.Turns.{WriterToken};
+
+    ghost Value = { WriterToken };
+
+    ghost view = { λ h. h.leader.value };
+}
+
+/// A follower of a feed, with how many documents it knows.
+#[derive(Drop)]
+pub struct HeldFollower {
+    follower: Follower,
+    seen: u64,
+}
+
+impl Model for HeldFollower {
+    ghost use Rattle.std.specs.Prelude.{◌≡◌};
+    ghost use Rattle.eb_stream.specs.Turns.{FeedToken, history_of, counted};
+
+    ghost Value = { FeedToken };
+
+    ghost view = { λ h. h.follower };
+
+    ghost invariant = { λ h. h.seen ≡ counted (history_of h.follower.log h.follower.docs) };
+}
+
+impl HeldLeader {
+    // The leader of a feed without a document.
+    pub(crate) fn open(alloc: Global, config: Config, keep: u32) -> Result<HeldLeader, NoMemory>
+        requires { (2 ≤ keep) × (keep ≤ 64) }
+        ensures setting { IfOk result (λ w. (w.setting ≡ config) × (w.keep ≡ keep)) }
+        ensures empty { IfOk result (λ w. HasTaken w []) }
+    {
+        let Ok(writer) = FeedWriter::open(alloc, config, keep) else {
+            return Err(NoMemory);
+        };
+        let Ok(leader) = Box::new(alloc, Leader::new(alloc, writer)) else {
+            return Err(NoMemory);
+        };
+        Ok(HeldLeader { leader })
+    }
+
+    // Adds a document. False only where another generation has to be begun and there is no memory for it; all is then as
+    // before.
+    pub(crate) fn add(&mut self, document: &Document) -> bool
+        ensures taken { result ≡ true → Takes self.old self.new document.now }
+        ensures no_memory { result ≡ false → (has_room self.old.setting self.old.feed.docs document.now ≡ false) × (self.new ≡ self.old) }
+    {
+        match self.leader.add(document, &OpenGate) {
+            Ok(_) => true,
+            Err(NoMemory) => false,
+        }
+    }
+
+    // A follower that knows the whole history. `None` where there is no memory for it.
+    pub(crate) fn follower(&mut self) -> Option<HeldFollower>
+        ensures this { self.new ≡ self.old }
+        ensures follower { IfSome result (λ f. f ≡ self.old.feed) }
+    {
+        let seen = self.leader.accepted();
+        match self.leader.follower() {
+            Ok(follower) => Some(HeldFollower { follower, seen }),
+            Err(NoMemory) => None,
+        }
+    }
+
+    // The converter of the newest generation, where it wasn't given out.
+    pub(crate) fn converter(&mut self) -> Option<FeedConverter>
+        ensures this { self.new ≡ self.old }
+        ensures converter { IfSome result (λ c. IsOfNewest c.index self.old.feed.log) }
+    {
+        self.leader.converter()
+    }
+
+    // Tells each follower of the newest turns. False where one couldn't be told.
+    pub(crate) fn tell(&mut self) -> bool
+        ensures { self.new ≡ self.old }
+    {
+        self.leader.tell()
+    }
+}
+
+impl HeldFollower {
+    // How many documents it knows.
+    pub(crate) fn seen(&self) -> u64
+        ensures { result ≡ counted (history_of self.now.log self.now.docs) }
+    {
+        self.seen
+    }
+
+    // How many generations it holds.
+    pub(crate) fn held(&self) -> u64
+        ensures { result ≡ self.now.held }
+    {
+        self.follower.held() as u64
+    }
+
+    // Takes in what it was told, searches the generations that it then holds, and gives how many documents it knows.
+    pub(crate) fn search(&mut self, frame: &mut Frame) -> u64
+        ensures learned { (g : FeedToken) × Hears self.old g × Learns g self.new }
+        ensures count { result ≡ counted (history_of self.new.log self.new.docs) }
+        ensures ids { ids_of frame.new ≡ answer_of (query_of frame.old) (k_of frame.old) (stretch_of self.new.held self.new.log self.new.docs) }
+    {
+        self.search_in::<Brand>(frame, Blank::new(1))
+    }
+
+    fn search_in<L: Ledger>(&mut self, frame: &mut Frame, blank: Blank) -> u64
+        requires blank { (blank.name ≡ L.name) × (blank.parts ≡ L.parts) × (0 < blank.parts) }
+        ensures learned { (g : FeedToken) × Hears self.old g × Learns g self.new }
+        ensures count { result ≡ counted (history_of self.new.log self.new.docs) }
+        ensures ids { ids_of frame.new ≡ answer_of (query_of frame.old) (k_of frame.old) (stretch_of self.new.held self.new.log self.new.docs) }
+    {
+        let mut steps = Steps::<L>::new(blank);
+        let _met = self.follower.hear();
+        self.seen = self.follower.search(frame, &OpenGate, &mut steps);
+        self.seen
+    }
+}

@@ -1,0 +1,95 @@
+"""What is common to the objects that threads share, each of which has a handle."""
+import ctypes
+import threading
+from typing import Any, Tuple
+
+from earlybird import _library
+from earlybird._index import MOST_IDS, Answer, bytes_of
+from earlybird._refusals import BadDocument, BadNumber, BadSetting, refusal
+
+
+class Side:
+    """A handle, which one call at a time has for itself: so any thread may call any of them."""
+
+    def __init__(self) -> None:
+        self._calls, self._handle, self._alone = _library.load(), _library.Handle(), threading.Lock()
+        self._at = ctypes.addressof(self._handle)
+
+    def _done(self, number: int, column: int = 0) -> None:
+        if number:
+            raise refusal(number, column)
+
+    def close(self) -> None:
+        """Closes it; calls then raise `BadHandle`. The memory of an index is given back with the last of its objects."""
+        with self._alone:
+            self._calls.eb_close(self._at)
+
+    def __enter__(self) -> Any:
+        return self
+
+    def __exit__(self, *_: Any) -> None:
+        self.close()
+
+    def __del__(self) -> None:
+        self._calls.eb_close(self._at)
+
+
+class Adding(Side):
+    """A side that adds, by the calls whose names begin so."""
+
+    _name: str
+
+    def __init__(self) -> None:
+        super().__init__()
+        self._by_text, self._by_line = (getattr(self._calls, self._name + word) for word in ("_add_text", "_add_line"))
+
+    def _add(self, id: int, text: str) -> None:
+        if not (isinstance(id, int) and 0 <= id < 2**64):
+            raise BadDocument()
+        data = bytes_of(text)
+        with self._alone:
+            self._done(self._by_text(self._at, id, data, len(data)))
+
+    def _add_line(self, line: bytes) -> None:
+        with self._alone:
+            self._done(self._by_line(self._at, line, len(line)))
+
+
+class Asking(Side):
+    """A side that is asked, by the calls whose names begin so, with room for ids."""
+
+    _name: str
+
+    def __init__(self) -> None:
+        super().__init__()
+        self._by_text, self._by_line = (getattr(self._calls, self._name + word) for word in ("_ask_text", "_ask_line"))
+        self._ids, self._told = (ctypes.c_uint64 * MOST_IDS)(), _library.Told()
+        self._room = (ctypes.addressof(self._ids), MOST_IDS, ctypes.addressof(self._told))
+
+    def _answer(self, number: int) -> Answer:
+        self._done(number, self._told.column)
+        return Answer(self._ids[: self._told.count], self._told.seen)
+
+    def _ask(self, query: str, k: int) -> Answer:
+        if not (isinstance(k, int) and 0 <= k < 2**32):
+            raise BadNumber()
+        data = bytes_of(query)
+        with self._alone:
+            return self._answer(self._by_text(self._at, k, data, len(data), *self._room))
+
+    def _ask_line(self, line: bytes) -> Answer:
+        with self._alone:
+            return self._answer(self._by_line(self._at, line, len(line), *self._room))
+
+    def _count(self, word: str) -> int:
+        count, call = ctypes.c_uint64(), getattr(self._calls, self._name + word)
+        with self._alone:
+            self._done(call(self._at, ctypes.addressof(count)))
+        return count.value
+
+
+def numbers_of(*numbers: int) -> Tuple[int, ...]:
+    """Numbers of 32 bits, or `BadSetting`."""
+    if not all(isinstance(it, int) and 0 <= it < 2**32 for it in numbers):
+        raise BadSetting()
+    return numbers

@@ -1,0 +1,115 @@
+"""The feed that threads share, which never ends: one leader adds, and any number of followers search the newest generations."""
+import ctypes
+from typing import Optional
+
+from earlybird._handles import Adding, Asking, numbers_of
+from earlybird._index import Answer
+from earlybird._shared import Converter
+
+
+class Leader(Adding):
+    """The one leader of a new feed, which keeps so many generations, 2 to 64, of an index with the numbers of `Index`; `follower()`
+    makes its followers. It is never full: where the newest generation has no room for a message, another is begun, and the oldest
+    is let go. Other threads may search while it adds.
+
+    Raises `BadSetting` where no feed can have these numbers, and `NoMemory` where there is no room for it.
+
+        >>> leader = Leader(segments=1, docs=2, terms=1024, keep=2)
+        >>> follower = leader.follower()
+        >>> for id in range(1, 8):
+        ...     leader.add(id, "hello world")
+        >>> follower.search("hello")
+        Answer([7, 6, 5], seen=7)
+    """
+
+    _name = "eb_leader"
+
+    def __init__(self, segments: int = 12, docs: int = 4096, terms: int = 8192, keep: int = 4) -> None:
+        super().__init__()
+        self._done(self._calls.eb_stream_open(self._at, *numbers_of(segments, docs, terms, keep)))
+
+    def add(self, id: int, text: str) -> None:
+        """Adds the message of an id (0 to 2**64 - 1) and a text, and tells the followers where a generation was begun for it.
+
+        Raises what `Index.add` raises but `Full`, or `BadHandle`; then nothing is changed.
+        """
+        self._add(id, text)
+
+    def add_line(self, line: bytes) -> None:
+        """Adds the message of a line of `earlybird run`, without its end, as `add` does.
+
+        Raises what `Index.add_line` raises but `Full`, or `BadHandle`; then nothing is changed.
+        """
+        self._add_line(line)
+
+    def tell(self) -> bool:
+        """Tells each follower of the generations that were begun, as `add` does too. False where one couldn't be told, since it
+        was just taking in what it was told before, or since there was no memory. So a program that waits after an `add` calls
+        this first, until it answers True.
+
+        Raises `BadHandle`.
+        """
+        told = ctypes.c_uint32()
+        with self._alone:
+            self._done(self._calls.eb_leader_tell(self._at, ctypes.addressof(told)))
+        return told.value == 1
+
+    def converter(self) -> Optional[Converter]:
+        """The converter of the newest generation, or None where it was asked for since that was begun.
+
+        Raises `BadHandle` or `NoMemory`.
+        """
+        made = Converter()
+        with self._alone:
+            self._done(self._calls.eb_leader_converter(self._at, made._at))
+        return made if made._handle.kind else None
+
+    def follower(self) -> "Follower":
+        """A follower that knows all that was added.
+
+        Raises `BadHandle` or `NoMemory`.
+        """
+        made = Follower()
+        with self._alone:
+            self._done(self._calls.eb_follower(self._at, made._at))
+        return made
+
+
+class Follower(Asking):
+    """A follower of a feed, which `follower()` of its leader makes: one for each thread serves best. It keeps the generations alive
+    that it holds, until it is asked again, or closed.
+
+        >>> leader = Leader(segments=1, docs=2, terms=1024, keep=2)
+        >>> leader.add(7, "hello world")
+        >>> follower = leader.follower()
+        >>> follower.search("hello"), follower.held
+        (Answer([7], seen=1), 1)
+    """
+
+    _name = "eb_follower"
+
+    def search(self, query: str, k: int = 10) -> Answer:
+        """Answers a query with the ids of the newest `k` matches, 1 to 1,000, among the newest generations that the feed keeps, up
+        to the end of the first `seen` messages of the leader: at least all of which it was told before the call, and all that
+        this follower saw before.
+
+        Raises what `Index.search` raises, or `BadHandle`.
+        """
+        return self._ask(query, k)
+
+    def search_line(self, line: bytes) -> Answer:
+        """Answers a query line of `earlybird run`, without its end; a column counts from the `?`.
+
+        Raises what `Index.search_line` raises, or `BadHandle`.
+        """
+        return self._ask_line(line)
+
+    @property
+    def seen(self) -> int:
+        """How many messages of the leader it knows."""
+        return self._count("_seen")
+
+    @property
+    def held(self) -> int:
+        """How many generations it holds."""
+        return self._count("_held")

@@ -1,0 +1,146 @@
+//! The feed that threads share, which never ends: one [`Leader`] adds, and any number of [`Follower`]s search the newest
+//! generations, each on a thread of its own. No call waits for another.
+
+use crate::handle::{Handle, Room, Side};
+use crate::shared::Converter;
+use crate::{Answer, Refusal, Told};
+
+extern "C" {
+    fn eb_stream_open(leader: *mut Handle, segments: u32, docs: u32, terms: u32, keep: u32) -> u32;
+    fn eb_leader_add_line(leader: *mut Handle, line: *const u8, line_len: usize) -> u32;
+    fn eb_leader_add_text(leader: *mut Handle, id: u64, text: *const u8, text_len: usize) -> u32;
+    fn eb_leader_tell(leader: *mut Handle, told: *mut u32) -> u32;
+    fn eb_leader_converter(leader: *mut Handle, converter: *mut Handle) -> u32;
+    fn eb_follower(leader: *mut Handle, follower: *mut Handle) -> u32;
+    fn eb_follower_ask_line(follower: *mut Handle, line: *const u8, line_len: usize, ids: *mut u64, ids_len: usize, answer: *mut Told) -> u32;
+    fn eb_follower_ask_text(
+        follower: *mut Handle, k: u32, text: *const u8, text_len: usize, ids: *mut u64, ids_len: usize, answer: *mut Told,
+    ) -> u32;
+    fn eb_follower_seen(follower: *mut Handle, seen: *mut u64) -> u32;
+    fn eb_follower_held(follower: *mut Handle, held: *mut u64) -> u32;
+}
+
+/// Opens a feed that keeps so many generations, 2 to 64, each an index of so many segments with room for so many documents and
+/// distinct terms, with its one leader. Takes memory for one generation.
+///
+/// ```
+/// let mut leader = earlybird::stream::open(1, 2, 1024, 2)?;
+/// let mut follower = leader.follower()?;
+/// for id in 1..8 {
+///     leader.add(id, "Night train to Berlin")?;
+/// }
+/// assert_eq!(follower.search(10, "train")?.ids, [7, 6, 5]);
+/// # Ok::<(), earlybird::Refusal>(())
+/// ```
+pub fn open(segments: u32, docs: u32, terms: u32, keep: u32) -> Result<Leader, Refusal> {
+    let side = Side::closed();
+    // SAFETY: a handle that no other call has.
+    Refusal::of(unsafe { eb_stream_open(side.at(), segments, docs, terms, keep) }, 0)?;
+    Ok(Leader { side })
+}
+
+/// The one leader of a feed. It may go to another thread, and can't be cloned. Its followers go on where it is dropped.
+///
+/// ```
+/// let mut leader = earlybird::stream::open(12, 4096, 8192, 4)?;
+/// let mut follower = leader.follower()?;
+/// std::thread::spawn(move || leader.add(7, "Night train")).join().unwrap()?;
+/// assert_eq!(follower.search(10, "train")?.seen, 1);
+/// # Ok::<(), earlybird::Refusal>(())
+/// ```
+pub struct Leader {
+    side: Side,
+}
+
+impl Leader {
+    /// Adds the message of an id and a text, after those before it. Where the newest generation has no room for it, another is
+    /// begun, the followers are told of it, and the oldest that the feed keeps is let go: so it is never full.
+    ///
+    /// [`Refusal::TooLong`] or `NoMemory`; then nothing is changed.
+    pub fn add(&mut self, id: u64, text: &str) -> Result<(), Refusal> {
+        // SAFETY: a handle that no other call has, and the bytes of a text.
+        Refusal::of(unsafe { eb_leader_add_text(self.side.at(), id, text.as_ptr(), text.len()) }, 0)
+    }
+
+    /// Adds the message of a line of JSON, without its end, as [`Leader::add`] does.
+    pub fn add_line(&mut self, line: &[u8]) -> Result<(), Refusal> {
+        // SAFETY: a handle that no other call has, and the bytes of a line.
+        Refusal::of(unsafe { eb_leader_add_line(self.side.at(), line.as_ptr(), line.len()) }, 0)
+    }
+
+    /// Tells each follower of the generations that were begun, as [`Leader::add`] does too. False where one couldn't be told, since
+    /// it was just taking in what it was told before, or since there was no memory. So a program that waits after an add calls
+    /// this first, until it is true.
+    pub fn tell(&mut self) -> bool {
+        let mut told = 0;
+        // SAFETY: a handle that no other call has, and a number. It is a leader's, so the call isn't refused.
+        unsafe { eb_leader_tell(self.side.at(), &mut told) };
+        told == 1
+    }
+
+    /// The converter of the newest generation; nothing where it was asked for since that was begun.
+    pub fn converter(&mut self) -> Result<Option<Converter>, Refusal> {
+        let mut made = Side::closed();
+        // SAFETY: two handles that no other call has.
+        Refusal::of(unsafe { eb_leader_converter(self.side.at(), made.at()) }, 0)?;
+        Ok(if made.is_closed() { None } else { Some(Converter { side: made }) })
+    }
+
+    /// A follower that knows all that was added.
+    pub fn follower(&mut self) -> Result<Follower, Refusal> {
+        let made = Side::closed();
+        // SAFETY: two handles that no other call has.
+        Refusal::of(unsafe { eb_follower(self.side.at(), made.at()) }, 0)?;
+        Ok(Follower { side: made, room: Room::new() })
+    }
+}
+
+/// A follower of a feed. It may go to another thread; each further thread has one of its own, from the leader. It keeps the
+/// generations alive that it holds, until it is asked again, or dropped.
+///
+/// ```
+/// let mut leader = earlybird::stream::open(12, 4096, 8192, 4)?;
+/// for _ in 0..3 {
+///     let mut follower = leader.follower()?;
+///     std::thread::spawn(move || follower.search(10, "train"));
+/// }
+/// # Ok::<(), earlybird::Refusal>(())
+/// ```
+pub struct Follower {
+    side: Side,
+    room: Room,
+}
+
+impl Follower {
+    /// Answers a query of which the newest `k` matches are wanted, 1 to 1,000, over the newest generations that the feed keeps, up to
+    /// the end of the first `seen` documents of the leader, once it took in what it was told. They begin with all that this
+    /// follower knew, and it knows them from then on.
+    pub fn search(&mut self, k: u32, query: &str) -> Result<Answer, Refusal> {
+        let at = self.side.at();
+        // SAFETY: a handle that no other call has, the bytes of a query, and the room for the ids.
+        self.room.answer(|ids, len, told| unsafe { eb_follower_ask_text(at, k, query.as_ptr(), query.len(), ids, len, told) })
+    }
+
+    /// Answers a query line, without its end, as [`Follower::search`] does.
+    pub fn search_line(&mut self, line: &[u8]) -> Result<Answer, Refusal> {
+        let at = self.side.at();
+        // SAFETY: a handle that no other call has, the bytes of a line, and the room for the ids.
+        self.room.answer(|ids, len, told| unsafe { eb_follower_ask_line(at, line.as_ptr(), line.len(), ids, len, told) })
+    }
+
+    /// How many documents of the leader it knows.
+    pub fn seen(&self) -> u64 {
+        let mut seen = 0;
+        // SAFETY: a handle that no other call has, and a number. It is a follower's, so the call isn't refused.
+        unsafe { eb_follower_seen(self.side.at(), &mut seen) };
+        seen
+    }
+
+    /// How many generations it holds.
+    pub fn held(&self) -> u64 {
+        let mut held = 0;
+        // SAFETY: a handle that no other call has, and a number. It is a follower's, so the call isn't refused.
+        unsafe { eb_follower_held(self.side.at(), &mut held) };
+        held
+    }
+}

@@ -1,0 +1,62 @@
+//! The feed that threads share: what its types answer and refuse.
+
+use earlybird::stream::{open, Follower, Leader};
+use earlybird::Refusal;
+use std::thread;
+
+#[test]
+fn answers_over_the_generations_that_are_kept() -> Result<(), Refusal> {
+    let mut leader = open(1, 2, 1024, 2)?;
+    let (mut follower, mut asleep) = (leader.follower()?, leader.follower()?);
+    assert_eq!((follower.seen(), follower.held()), (0, 1));
+    for id in 1..=9 {
+        leader.add(id, "night train")?;
+        assert_eq!(follower.search(10, "train")?.seen, id);
+    }
+    let answer = follower.search(2, "train")?;
+    assert_eq!((answer.seen, answer.ids, follower.seen(), follower.held()), (9, vec![9, 8], 9, 2));
+    assert_eq!(follower.search_line(b"?5 night -day")?.ids, [9, 8, 7]);
+    assert_eq!((asleep.seen(), asleep.search(10, "train")?.ids), (0, vec![9, 8, 7]));
+    assert!(leader.tell());
+    Ok(())
+}
+
+#[test]
+fn a_converter_changes_no_answer() -> Result<(), Refusal> {
+    let mut leader = open(3, 1, 1024, 2)?;
+    let mut first = leader.converter()?.expect("the first generation's");
+    let mut follower = leader.follower()?;
+    assert!(leader.converter()?.is_none());
+    for id in 1..=5 {
+        leader.add(id, "a b")?;
+    }
+    let mut second = leader.converter()?.expect("the second generation's");
+    drop(leader);
+    assert_eq!((first.convert()?, first.convert()?, first.convert()?, second.convert()?), (1, 2, 2, 1));
+    assert_eq!(follower.search(10, "\"a b\"")?.ids, [5, 4, 3, 2, 1]);
+    Ok(())
+}
+
+#[test]
+fn refusals_change_nothing() -> Result<(), Refusal> {
+    let mut leader = open(1, 1, 1024, 2)?;
+    leader.add_line(br#"{"id":1,"text":"a"}"#)?;
+    let mut follower = leader.follower()?;
+    assert_eq!(leader.add_line(b"{"), Err(Refusal::BadJson));
+    assert_eq!(follower.search(0, "a"), Err(Refusal::BadNumber));
+    assert_eq!(follower.search(1, "(a"), Err(Refusal::BadQuery(3)));
+    assert_eq!(open(0, 1, 1024, 2).err(), Some(Refusal::BadSetting));
+    assert_eq!(open(1, 1, 1024, 1).err(), Some(Refusal::BadSetting));
+    assert_eq!(open(1, 1, 1024, 65).err(), Some(Refusal::BadSetting));
+    assert_eq!(follower.search(1, "a")?.ids, [1]);
+    Ok(())
+}
+
+#[test]
+fn each_goes_to_a_thread_of_its_own() -> Result<(), Refusal> {
+    let mut leader: Leader = open(1, 10, 1024, 2)?;
+    let mut follower: Follower = leader.follower()?;
+    thread::spawn(move || leader.add(7, "hello")).join().expect("the thread ends")?;
+    assert_eq!(thread::spawn(move || follower.search(1, "hello")).join().expect("the thread ends")?.ids, [7]);
+    Ok(())
+}
