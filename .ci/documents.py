@@ -41,15 +41,16 @@ def commands_print(check, program):
 
 
 def queries_find(check, program):
-    """Each query of the first table of docs/QUERIES.md finds in its messages what the table says."""
-    text = read("docs/QUERIES.md")
-    messages = re.search(r"^```\n(\{.*?)^```$", text, re.M | re.S).group(1)
-    rows = re.findall(r"^\| `(\?\d+ .*?)` \| ([\d ]+|nothing) \|", text, re.M)
-    asked = messages + "".join(query.replace("\\|", "|") + "\n" for query, _ in rows)
-    done = subprocess.run([program, "run"], input=asked.encode(), stdout=subprocess.PIPE).stdout.decode()
-    found = [line.partition(":")[2].strip() or "nothing" for line in done.splitlines()[:-1]]
-    check("docs/QUERIES.md: what its queries find", rows, [(query, ids) for (query, _), ids in zip(rows, found)])
-    check("docs/QUERIES.md has queries", True, len(rows) > 15)
+    """Each query of the tables of docs/QUERIES.md finds in the messages before it what the table says, without fields and with them."""
+    for section, words, least in (("By examples", ["run"], 15), ("Fields", ["run", "--fields", "from,room,level"], 8)):
+        text = read("docs/QUERIES.md").partition("\n## %s\n" % section)[2].partition("\n## ")[0]
+        messages = re.search(r"^```\n(\{.*?)^```$", text, re.M | re.S).group(1)
+        rows = re.findall(r"^\| `(\?\d+ .*?)` \| ([\d ]+|nothing) \|", text, re.M)
+        asked = messages + "".join(query.replace("\\|", "|") + "\n" for query, _ in rows)
+        done = subprocess.run([program, *words], input=asked.encode(), stdout=subprocess.PIPE).stdout.decode()
+        found = [line.partition(":")[2].strip() or "nothing" for line in done.splitlines()[:-1]]
+        check("docs/QUERIES.md, %s: what its queries find" % section, rows, [(query, ids) for (query, _), ids in zip(rows, found)])
+        check("docs/QUERIES.md, %s has queries" % section, True, len(rows) > least)
 
 
 def names_in(text):

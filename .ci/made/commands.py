@@ -19,6 +19,7 @@ OPTIONS = {
     "workers": Option("N", 1, 16, None, range(1, 17), "let N workers answer queries beside the messages that come in: a query may see later ones"),
     "parts": Option("N", 1, 16, None, range(1, 17), "spread the messages over N indexes by their ids, which have to rise"),
     "watch": Option(text="take lines !N QUERY and !N, which set and remove a watch: each message prints the watches that it matches"),
+    "fields": Option("LIST", None, None, None, (), "find messages by their members of these names, as by from:mara; LIST is 1 to 8 names with commas between"),
     "stats": Option(text="print the number of segments, and how many are converted, after the summary"),
     "json": Option(text="print each line of the output as one JSON object"),
     "segments": Option("N", 1, 64, 12, (1, 2, 3, 6, 9, 12, 15, 20, 32, 64), "segments of the index"),
@@ -34,10 +35,10 @@ Command = namedtuple("Command", "words ways options text launcher", defaults=(()
 
 SETTING = ("segments", "docs", "terms")
 COMMANDS = {
-    "run": Command((), ("overlap", "workers", "parts", "watch"), ("stats", "json", *SETTING), "read messages and queries, and print answers"),
-    "feed": Command((), (), ("keep", "json", *SETTING), "the same, without end: the oldest messages go where there is no room"),
-    "save": Command((), (), SETTING, "read messages, and write an image of the index"),
-    "load": Command((), (), ("stats", "json"), "read an image, and then go on as run does"),
+    "run": Command((), ("overlap", "workers", "parts", "watch"), ("fields", "stats", "json", *SETTING), "read messages and queries, and print answers"),
+    "feed": Command((), (), ("keep", "fields", "json", *SETTING), "the same, without end: the oldest messages go where there is no room"),
+    "save": Command((), (), ("fields", *SETTING), "read messages, and write an image of the index"),
+    "load": Command((), (), ("fields", "stats", "json"), "read an image, and then go on as run does"),
     "bench": Command(("START", "DOCS"), (), (), "process DOCS messages (1 to 40000) that the number START makes, and print one line of figures"),
     "install": Command((), (), ("prefix",), "install the program, its manual, completions, and the library for C", True),
     "uninstall": Command((), (), ("prefix",), "take away exactly what install brought", True),

@@ -13,6 +13,7 @@ def bash():
                         for name, command in COMMANDS.items() if command.ways or command.options)
     numbers = "\n".join("        --%s) echo '%s' ;;" % (name, offered(name)) for name, it in OPTIONS.items() if it.offers)
     folders = " | ".join("--" + name for name, it in OPTIONS.items() if it.value == "DIR")
+    lists = " | ".join("--" + name for name, it in OPTIONS.items() if it.value == "LIST")
     ways = " ".join("--" + it for it in COMMANDS["run"].ways)
     return MADE % "bash" + """
 _earlybird_options() {
@@ -38,6 +39,8 @@ _earlybird() {
         compopt -o filenames 2>/dev/null
         mapfile -t COMPREPLY < <(compgen -d -- "$word")
         return
+    elif [ "$before" = '%s' ]; then
+        return
     elif [ -n "$(_earlybird_numbers "$before")" ]; then
         words=$(_earlybird_numbers "$before")
     else
@@ -55,7 +58,7 @@ _earlybird() {
 }
 
 complete -F _earlybird earlybird
-""" % (options, numbers, ways, " ".join([*COMMANDS, *ALONE]), folders,
+""" % (options, numbers, ways, " ".join([*COMMANDS, *ALONE]), folders, lists,
        " | ".join('*" %s "*' % it for it in ways.split()))
 
 
@@ -72,6 +75,8 @@ def zsh():
             value = ":%s:(%s)" % (range_of(name), offered(name))
         elif it.value == "DIR":
             value = ":folder:_files -/"
+        elif it.value == "LIST":
+            value = ":names:"
         shown = "--%s=" % name if it.value else "--" + name
         return "                " + quoted("(%s)%s[%s]%s" % (others, shown, it.text.replace(":", "\\:"), value))
 
@@ -113,6 +118,7 @@ def fish():
         condition = "__fish_seen_subcommand_from %s" % seen
         others = [other for other in COMMANDS["run"].ways if other != name] if name in COMMANDS["run"].ways else []
         condition += "".join("; and not __fish_contains_opt %s" % other for other in others)
-        value = " -x -a %s" % quoted(offered(name)) if it.offers else " -x -a '(__fish_complete_directories)'" if it.value else ""
+        folders = " -a '(__fish_complete_directories)'" if it.value == "DIR" else ""
+        value = " -x -a %s" % quoted(offered(name)) if it.offers else " -x" + folders if it.value else ""
         lines.append("complete -c earlybird -n %s -l %s%s -d %s" % (quoted(condition), name, value, quoted(said(name))))
     return MADE % "fish" + "\n" + "\n".join(lines) + "\n"

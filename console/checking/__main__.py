@@ -12,7 +12,7 @@ from .machine import Machine, complaints
 from .measure import measure
 from .page import check_page
 from .plain import check_plain
-from .serving import Served, check_feed, check_run, check_token
+from .serving import Served, check_feed, check_fields, check_run, check_token
 
 
 def main():
@@ -26,6 +26,7 @@ def main():
     begun, folder = time.monotonic(), tempfile.mkdtemp(prefix="earlybird-console-")
     try:
         check_plain()
+        check_fields(folder)
         check_token(folder)
         check_run(folder)
         check_feed(folder, random.Random(9))

@@ -1,4 +1,5 @@
 """Checks without a process: words, marks, lines, figures."""
+from earlybird_console.fields import names_of, values_of
 from earlybird_console.figures import Seconds, nearest
 from earlybird_console.lines import LONG, LONGEST, Splitter, read_printed, refusal_here, refused_query
 from earlybird_console.query import marks, read
@@ -45,11 +46,34 @@ def check_words():
         check("words of %r" % text, want, [word for _, _, word in found])
         check("where they stand in %r" % text, want, [text[begin:end].casefold() for begin, end, _ in found])
     for query, want in FOUND:
-        met = [number for number, text in enumerate(MESSAGES, 1) if marks(read(query), text, number) is not None]
+        met = [number for number, text in enumerate(MESSAGES, 1) if marks(read(query), text, number, {}) is not None]
         check("what meets %r" % query, want, met[::-1])
     for query, number, want in MARKED:
         text = MESSAGES[number - 1]
-        check("what is marked for %r" % query, want, [text[begin:end] for begin, end in marks(read(query), text, number)])
+        check("what is marked for %r" % query, want, [text[begin:end] for begin, end in marks(read(query), text, number, {})])
+
+
+# what a message with some members meets, where `from` and `room` are fields
+MEMBERS = {"from": "Mara", "room": ["North Gate", 7, True], "to": "jon"}
+BY_FIELDS = [
+    ("from:mara", []), ("from:MARA late", ["late"]), ("from:jon", None), ("-from:jon", []), ('room:"north gate"', []), ("room:north", None),
+    ("room:7 room:true", []), ("from:", None), ('from:""', None), ("from:jon OR late", ["late"]), ("to:jon", None), ('late room:"north gate"~2', None),
+    ("(from:mara -late)", None),
+]
+VALUES = [("Straße", ["strasse"]), (7, ["7"]), (-7, ["-7"]), (2 ** 64, []), (1.0, []), (False, ["false"]), (None, []), ([], []), (["a", None], []),
+          (["a"] * 16, ["a"] * 16), (["a"] * 17, []), ({}, [])]
+
+
+def check_fields():
+    """What is asked of members."""
+    for words_of, want in [([], ()), (["feed", "--fields", "a,b"], ("a", "b")), (["run", "--docs", "5", "--fields=a"], ("a",)), (["feed", "--fields"], ("",))]:
+        check("the names in %r" % words_of, want, names_of(words_of))
+    for value, want in VALUES:
+        check("the values of %r" % (value,), want, values_of(value))
+    text = "too late"
+    for query, want in BY_FIELDS:
+        found = marks(read(query, ("from", "room")), text, 1, MEMBERS)
+        check("what meets %r" % query, want, None if found is None else [text[begin:end] for begin, end in found])
 
 
 def check_lines():
@@ -108,6 +132,7 @@ def check_texts():
 def check_plain():
     """All of them."""
     check_words()
+    check_fields()
     check_lines()
     check_figures()
     check_texts()

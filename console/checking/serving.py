@@ -250,6 +250,19 @@ def check_feed(folder, rng):
     check("a feed ends", (0, []), machine.end(signal.SIGINT))
 
 
+def check_fields(folder):
+    """Members are asked for where the index's words list them."""
+    machine = Machine(folder, "--", *SMALL, "--fields", "level,unit", name="fields")
+    machine.post([b'{"id":1,"text":"late","level":"Error","unit":"north gate"}', b'{"id":2,"text":"error","level":"info"}'])
+    check("a member is found", [1], machine.ids("level:error"))
+    check("a value with blanks", [1], machine.ids('unit:"north gate" late'))
+    check("a name that isn't listed", [], machine.ids("from:late"))
+    check("a field without a value", ("bad query", 1), (lambda told: (told["error"], told["column"]))(machine.search("level:")))
+    shown = machine.value("GET", "/search?q=level:error+late&for=page")[1]["matches"]
+    check("what is marked beside a field", [[[0, 4]]], [each["marks"] for each in shown])
+    check("it ends", (0, []), machine.end())
+
+
 def check_token(folder):
     """With a token, each request has to know it."""
     path = os.path.join(folder, "token")

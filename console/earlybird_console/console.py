@@ -6,6 +6,7 @@ import json
 import sys
 import time
 
+from .fields import names_of
 from .figures import Figures, Seconds
 from .index import Index, Message
 from .lines import refusal_here, refused_query, without_end
@@ -68,6 +69,7 @@ class Console:
         self.watches = {}
         self.state = {"index": "starting", "starts": 0, "fed": 0, "of": texts.count, "at": None}
         self._program = program
+        self._names = names_of(program)
         self._most = most
         self._way = ByWatches
         self._index = None
@@ -248,8 +250,12 @@ class Console:
         before = b"?%d " % most
         seen, ids = await self._order(before + query.encode(), len(before), query)
         self.figures.answer(time.monotonic() - begun)
-        found, left = self._of_ids(ids, read(query))
+        found, left = self._of_ids(ids, self.tree(query))
         return seen, found, left
+
+    def tree(self, query):
+        """The query as the console reads it."""
+        return read(query, self._names)
 
     def _of_ids(self, ids, tree):
         """The messages of an answer. Of several with one id those that meet the query come first, and then the newest."""

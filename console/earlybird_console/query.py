@@ -2,16 +2,18 @@
 don't come here, so what can't be read here is passed over."""
 import re
 
+from .fields import begun_name, value_asked, values_of
 from .words import words
 
 LEXEME = re.compile(r'[ \t]*(?:([()-])|"([^"]*)"(?:~([0-9]+))?|([^ \t()"]+))')
 
 
 class Reader:
-    """The grammar of docs/FORMATS.md over the lexemes of a query."""
+    """The grammar of docs/FORMATS.md over the lexemes of a query, in which these names are those of fields."""
 
-    def __init__(self, query):
+    def __init__(self, query, names):
         self._query = query
+        self._names = names
         self._place = 0
         self._next = self._lexeme()
 
@@ -29,6 +31,10 @@ class Reader:
             return ("OR", None)
         if bare.startswith("since:") and bare[6:].isdigit():
             return ("since", int(bare[6:]))
+        name = begun_name(bare, self._names)
+        if name is not None:
+            value, self._place = value_asked(self._query, self._place, bare[len(name) + 1:])
+            return ("field", (name, value))
         return ("text", (bare, None))
 
     def _step(self):
@@ -46,12 +52,12 @@ class Reader:
     def all(self):
         """One or several parts side by side."""
         parts = []
-        while self._next[0] in ("-", "(", "text", "since"):
+        while self._next[0] in ("-", "(", "text", "since", "field"):
             parts.append(self.one())
         return parts[0] if len(parts) == 1 else ("and", parts)
 
     def one(self):
-        """A part: negated, in parentheses, a bound or a text."""
+        """A part: negated, in parentheses, a bound, a field or a text."""
         kind, value = self._step()
         if kind == "-":
             return ("not", self.one())
@@ -65,9 +71,9 @@ class Reader:
         return ("text", ([word for _, _, word in words(value[0])], value[1]))
 
 
-def read(query):
-    """The query as a tree."""
-    return Reader(query).either()
+def read(query, names=()):
+    """The query as a tree, where these names are those of fields."""
+    return Reader(query, names).either()
 
 
 def runs(asked, window, there):
@@ -87,26 +93,29 @@ def runs(asked, window, there):
     return found
 
 
-def met(tree, there, number):
-    """The places of the words by which a message with these words and this id meets a query, or None where it doesn't."""
+def met(tree, there, number, members):
+    """The places of the words by which a message with these words, this id and these members meets a query, or None where it doesn't."""
     kind, value = tree
     if kind == "text":
         return runs(value[0], value[1], there) or None
     if kind == "since":
         return set() if number > value else None
+    if kind == "field":
+        return set() if value[1] in values_of(members.get(value[0])) else None
     if kind == "not":
         if value[0] == "not":
-            return met(value[1], there, number)
-        return set() if met(value, there, number) is None else None
-    parts = [met(part, there, number) for part in value]
+            return met(value[1], there, number, members)
+        return set() if met(value, there, number, members) is None else None
+    parts = [met(part, there, number, members) for part in value]
     if kind == "and" and None in parts:
         return None
     parts = [part for part in parts if part is not None]
     return set().union(*parts) if parts else None
 
 
-def marks(tree, text, number):
-    """Where the words stand by which a message meets a query: [from, to] in characters, in order; None where it doesn't meet it."""
+def marks(tree, text, number, members):
+    """Where the words stand by which a message meets a query: [from, to] in characters, in order; None where it doesn't meet it. A field
+    that it meets marks nothing."""
     there = words(text)
-    places = met(tree, [word for _, _, word in there], number)
+    places = met(tree, [word for _, _, word in there], number, members)
     return None if places is None else [[there[place][0], there[place][1]] for place in sorted(places)]

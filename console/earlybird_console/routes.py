@@ -10,7 +10,6 @@ import urllib.parse
 from .console import ALL, Refused
 from .events import PageReader, Reader, event
 from .lines import Splitter
-from .query import read
 from .server import Fault
 from .shown import for_page, for_programs
 
@@ -114,7 +113,7 @@ class Routes:
             raise Fault(400, "k is a number from 1 to 1000")
         seen, found, left = await self._console.ask(query, int(most))
         if request.query.get("for") == "page":
-            tree = read(query)
+            tree = self._console.tree(query)
             shown = [for_page(tree, *each) for each in found]
         else:
             shown = [for_programs(seq, line) for seq, _, _, line in found]
@@ -124,7 +123,7 @@ class Routes:
         if len(self._readers) >= READERS:
             raise Fault(503, "too many readers of events")
         query = request.query.get("q", "").strip() or ALL
-        page, tree = request.query.get("for") == "page", read(query)
+        page, tree = request.query.get("for") == "page", self._console.tree(query)
         reader = await self._console.begin_reading(
             query, lambda number: PageReader(request.writer, number, tree) if page else Reader(request.writer, number))
         self._readers.add(reader)

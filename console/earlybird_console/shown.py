@@ -25,10 +25,11 @@ def for_page(tree, seq, number, at, line):
     members = json.loads(line)
     text = members.pop("text")
     members.pop("id")
-    return json.dumps({"seq": seq, "id": str(number), "at": at, "text": text, "marks": marks(tree, text, number) or [],
+    return json.dumps({"seq": seq, "id": str(number), "at": at, "text": text, "marks": marks(tree, text, number, members) or [],
                        "others": {name: as_text(value) for name, value in members.items()}}, ensure_ascii=False)
 
 
 def meets(tree, number, line):
     """Whether a message meets a query, by the console's own reading."""
-    return marks(tree, json.loads(line)["text"], number) is not None
+    members = json.loads(line)
+    return marks(tree, members["text"], number, members) is not None

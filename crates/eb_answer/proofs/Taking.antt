@@ -5,6 +5,7 @@ use Rattle.std.proofs.lemmas.List.Sums.{count_by-le-length}
 use Rattle.eb_base.specs.Document.{Doc}
 use Rattle.eb_base.specs.Match.{answer}
 use Rattle.eb_base.specs.Query.{Tree}
+use Rattle.eb_fields.specs.Fields.{names}
 use Rattle.eb_io.specs.Lines.{Line}
 use Rattle.eb_lines.specs.declared.form.Form.{Form}
 use Rattle.eb_lines.specs.declared.form.Tail.{Tail}
@@ -34,7 +35,7 @@ refusals_few rs = count_by-le-length is_refused rs
 holds_more : {S W : Type 0} (holds : S → Rules W → List Doc → W → Type 0) (s : S) (rules : Rules W) (docs : List Doc) (ws : W) → holds s rules docs ws → holds s rules (docs ++ []) ws
 holds_more holds s rules docs ws h = subst (λ ds. holds s rules ds ws) (sym (append-nil docs)) h
 
-module _ {G S W : Type 0} (other : List ℕ → Reading → Type 0) (holds : S → Rules W → List Doc → W → Type 0) where
+module _ {G S W : Type 0} (other : List (List ℕ) → List ℕ → Reading → Type 0) (holds : S → Rules W → List Doc → W → Type 0) where
   -- ---- few lines
 
   module _ (s : Answering G S) (rules : Rules W) (given : List Line) (so_far : List ℕ) (h : HasAnswered other holds s rules given so_far) where
@@ -58,10 +59,11 @@ module _ {G S W : Type 0} (other : List ℕ → Reading → Type 0) (holds : S �
 
   -- ---- before the first line
 
-  pub answered_none : (s : Answering G S) (rules : Rules W) → holds s.store rules rules.start rules.watches → s.number ≡ 0 → s.queries ≡ 0 → s.refused ≡ 0 → HasAnswered other holds s rules [] []
+  pub answered_none : (s : Answering G S) (rules : Rules W) → names s.fields ≡ rules.fields → holds s.store rules rules.start rules.watches → s.number ≡ 0 → s.queries ≡ 0 → s.refused ≡ 0 → HasAnswered other holds s rules [] []
   unfolding accepted queries refusals
-  answered_none s rules store number asked failed = record {
+  answered_none s rules fields store number asked failed = record {
     readings = [];
+    fields = fields;
     read = read_none rules other;
     store = subst (λ ws. holds s.store rules (rules.start ++ []) ws) (sym (watches-nil rules rules.watches)) (subst (λ ds. holds s.store rules ds rules.watches) (sym (append-nil rules.start)) store);
     number = number;
@@ -74,7 +76,7 @@ module _ {G S W : Type 0} (other : List ℕ → Reading → Type 0) (holds : S �
   -- ---- a line that came to this was taken
 
   module _ (old new : Answering G S) (rules : Rules W) (given : List Line) (so_far : List ℕ) (l : Line) (raw : Reading)
-      (h : HasAnswered other holds old rules given so_far) (reads : ReadsWith other l raw) where
+      (h : HasAnswered other holds old rules given so_far) (reads : ReadsWith other (names old.fields) l raw) (same : names new.fields ≡ names old.fields) where
     pub one_more : (r : Reading) → r ≡ comes rules (held_behind rules h.readings) (watches_behind rules h.readings) raw
         → holds new.store rules (held_behind rules h.readings ++ documents_in r) (watches_after rules (watches_behind rules h.readings) r)
         → new.number ≡ old.number + 1 → old.number ≤ 2 ^ 40 → new.queries ≡ old.queries + one_if (is_query r) → new.refused ≡ old.refused + one_if (is_refused r)
@@ -88,7 +90,8 @@ module _ {G S W : Type 0} (other : List ℕ → Reading → Type 0) (holds : S �
         append_assoc rules.start (accepted rs) (documents_in r) ∙ ap (λ ds. rules.start ++ ds) (sym (accepted-push rs r)) in
         record {
           readings = rs ++ r ∷ [];
-          read = subst (λ (x : Reading). AreRead other rules (given ++ l ∷ []) (rs ++ x ∷ [])) (sym is) (read_push rules other given rs l raw h.read reads);
+          fields = same ∙ h.fields;
+          read = subst (λ (x : Reading). AreRead other rules (given ++ l ∷ []) (rs ++ x ∷ [])) (sym is) (read_push rules other given rs l raw h.read (subst (λ ns. ReadsWith other ns l raw) h.fields reads));
           store = subst (λ w. holds new.store rules (held_behind rules (rs ++ r ∷ [])) w) (sym (watches-push rules rules.watches rs r))
               (subst (λ ds. holds new.store rules ds (watches_after rules ws r)) all store);
           number = number ∙ ap (λ n. n + 1) h.number ∙ sym (length-append given (l ∷ []));
@@ -100,72 +103,72 @@ module _ {G S W : Type 0} (other : List ℕ → Reading → Type 0) (holds : S �
 
   -- ---- the kinds of lines
 
-  pub takes_blank : (old new : Answering G S) → new.store ≡ old.store → new.number ≡ old.number + 1 → old.number ≤ 2 ^ 40 → new.queries ≡ old.queries → new.refused ≡ old.refused
+  pub takes_blank : (old new : Answering G S) → names new.fields ≡ names old.fields → new.store ≡ old.store → new.number ≡ old.number + 1 → old.number ≤ 2 ^ 40 → new.queries ≡ old.queries → new.refused ≡ old.refused
       → (text : List ℕ) → TakesLine other holds old new text text blank
-  takes_blank old new store number few asked failed text = λ l reads rules given so_far h.
+  takes_blank old new same store number few asked failed text = λ l reads rules given so_far h.
       let docs = held_behind rules h.readings in
       let ws = watches_behind rules h.readings in (
         [],
-        one_more old new rules given so_far l blank h reads blank refl (subst (λ (s : S). holds s rules (docs ++ []) ws) (sym store) (holds_more holds old.store rules docs ws h.store))
+        one_more old new rules given so_far l blank h reads same blank refl (subst (λ (s : S). holds s rules (docs ++ []) ws) (sym store) (holds_more holds old.store rules docs ws h.store))
             number few (asked ∙ omega arith) (failed ∙ omega arith),
         sym (append-nil text),
       )
 
-  pub takes_refused : (old new : Answering G S) (form : Form) → HasForm holds old.store form → (x : Refusal) (t0 t1 : List ℕ) → new.store ≡ old.store → new.number ≡ old.number + 1
+  pub takes_refused : (old new : Answering G S) → names new.fields ≡ names old.fields → (form : Form) → HasForm holds old.store form → (x : Refusal) (t0 t1 : List ℕ) → new.store ≡ old.store → new.number ≡ old.number + 1
       → old.number ≤ 2 ^ 40
       → new.queries ≡ old.queries → new.refused ≡ old.refused + 1 → t1 ≡ t0 ++ refusal_line form (old.number + 1) x → TakesLine other holds old new t0 t1 (refused x)
-  takes_refused old new form written x t0 t1 store number few asked failed text = λ l reads rules given so_far h.
+  takes_refused old new same form written x t0 t1 store number few asked failed text = λ l reads rules given so_far h.
       let docs = held_behind rules h.readings in
       let ws = watches_behind rules h.readings in (
         refusal_line rules.form (old.number + 1) x,
-        one_more old new rules given so_far l (refused x) h reads (refused x) refl (subst (λ (s : S). holds s rules (docs ++ []) ws) (sym store) (holds_more holds old.store rules docs ws h.store))
+        one_more old new rules given so_far l (refused x) h reads same (refused x) refl (subst (λ (s : S). holds s rules (docs ++ []) ws) (sym store) (holds_more holds old.store rules docs ws h.store))
             number few (asked ∙ omega arith) failed,
         text ∙ ap (λ (f : Form). t0 ++ refusal_line f (old.number + 1) x) (written rules docs ws h.store),
       )
 
-  pub takes_query : (old new : Answering G S) (k : ℕ) (q : Tree) (t0 t1 : List ℕ) → PutsAnswer holds old.store new.store (old.number + 1) k q t0 t1
+  pub takes_query : (old new : Answering G S) → names new.fields ≡ names old.fields → (k : ℕ) (q : Tree) (t0 t1 : List ℕ) → PutsAnswer holds old.store new.store (old.number + 1) k q t0 t1
       → new.number ≡ old.number + 1 → old.number ≤ 2 ^ 40 → new.queries ≡ old.queries + 1 → new.refused ≡ old.refused → TakesLine other holds old new t0 t1 (query k q)
-  takes_query old new k q t0 t1 puts number few asked failed = λ l reads rules given so_far h.
+  takes_query old new same k q t0 t1 puts number few asked failed = λ l reads rules given so_far h.
       let docs = held_behind rules h.readings in
       let ws = watches_behind rules h.readings in
       let put = puts rules docs ws h.store (few_held old rules given so_far h) in (
         answer_line rules.form (old.number + 1) (length docs) (answer q k (rules.sees docs)),
-        one_more old new rules given so_far l (query k q) h reads (query k q) refl (holds_more holds new.store rules docs ws put.0) number few asked (failed ∙ omega arith),
+        one_more old new rules given so_far l (query k q) h reads same (query k q) refl (holds_more holds new.store rules docs ws put.0) number few asked (failed ∙ omega arith),
         put.1,
       )
 
-  pub takes_document : (old new : Answering G S) (form : Form) → HasForm holds old.store form → (d : Doc) (ns t0 t1 : List ℕ) → Places holds old.store new.store d None → Tells holds old.store d ns
+  pub takes_document : (old new : Answering G S) → names new.fields ≡ names old.fields → (form : Form) → HasForm holds old.store form → (d : Doc) (ns t0 t1 : List ℕ) → Places holds old.store new.store d None → Tells holds old.store d ns
       → new.number ≡ old.number + 1 → old.number ≤ 2 ^ 40 → new.queries ≡ old.queries → new.refused ≡ old.refused
       → t1 ≡ t0 ++ watch_line form (old.number + 1) ns → TakesLine other holds old new t0 t1 (document d)
-  takes_document old new form written d ns t0 t1 places tells number few asked failed text = λ l reads rules given so_far h.
+  takes_document old new same form written d ns t0 t1 places tells number few asked failed text = λ l reads rules given so_far h.
       let docs = held_behind rules h.readings in
       let ws = watches_behind rules h.readings in
       let placed = places rules docs ws h.store in (
         watch_line rules.form (old.number + 1) (rules.tells ws d),
-        one_more old new rules given so_far l (document d) h reads (document d) (ap (document_outcome d) placed.0) placed.1 number few (asked ∙ omega arith) (failed ∙ omega arith),
+        one_more old new rules given so_far l (document d) h reads same (document d) (ap (document_outcome d) placed.0) placed.1 number few (asked ∙ omega arith) (failed ∙ omega arith),
         text ∙ ap₂ (λ (f : Form) xs. t0 ++ watch_line f (old.number + 1) xs) (written rules docs ws h.store) (tells rules docs ws h.store),
       )
 
-  pub takes_unplaced : (old new : Answering G S) (form : Form) → HasForm holds old.store form → (d : Doc) (x : Refusal) (t0 t1 : List ℕ) → Places holds old.store new.store d (Some x)
+  pub takes_unplaced : (old new : Answering G S) → names new.fields ≡ names old.fields → (form : Form) → HasForm holds old.store form → (d : Doc) (x : Refusal) (t0 t1 : List ℕ) → Places holds old.store new.store d (Some x)
       → new.number ≡ old.number + 1 → old.number ≤ 2 ^ 40 → new.queries ≡ old.queries → new.refused ≡ old.refused + 1
       → t1 ≡ t0 ++ refusal_line form (old.number + 1) x → TakesLine other holds old new t0 t1 (document d)
-  takes_unplaced old new form written d x t0 t1 places number few asked failed text = λ l reads rules given so_far h.
+  takes_unplaced old new same form written d x t0 t1 places number few asked failed text = λ l reads rules given so_far h.
       let placed = places rules (held_behind rules h.readings) (watches_behind rules h.readings) h.store in (
         refusal_line rules.form (old.number + 1) x,
-        one_more old new rules given so_far l (document d) h reads (refused x) (ap (document_outcome d) placed.0) placed.1 number few (asked ∙ omega arith) failed,
+        one_more old new rules given so_far l (document d) h reads same (refused x) (ap (document_outcome d) placed.0) placed.1 number few (asked ∙ omega arith) failed,
         text ∙ ap (λ (f : Form). t0 ++ refusal_line f (old.number + 1) x) (written rules _ _ h.store),
       )
 
   -- a line that is neither blank, nor a document or query line, that comes to this
   module _ (old new : Answering G S) (rules : Rules W) (given : List Line) (so_far : List ℕ) (l : Line) (raw : Reading)
-      (h : HasAnswered other holds old rules given so_far) (reads : ReadsWith other l raw)
+      (h : HasAnswered other holds old rules given so_far) (reads : ReadsWith other (names old.fields) l raw) (same : names new.fields ≡ names old.fields)
       (number : new.number ≡ old.number + 1) (few : old.number ≤ 2 ^ 40) (asked : new.queries ≡ old.queries) (t0 t1 : List ℕ) where
     taken_other : (r : Reading) → r ≡ comes rules (held_behind rules h.readings) (watches_behind rules h.readings) raw → IsOutcome r None
         → holds new.store rules (held_behind rules h.readings) (watches_after rules (watches_behind rules h.readings) r) → new.refused ≡ old.refused → t1 ≡ t0
         → (printed : List ℕ) × HasAnswered other holds new rules (given ++ l ∷ []) (so_far ++ printed) × (t1 ≡ t0 ++ printed)
     taken_other (watch n q) is o store failed text = (
       [],
-      one_more old new rules given so_far l raw h reads (watch n q) is (holds_more holds new.store rules _ _ store) number few (asked ∙ omega arith) (failed ∙ omega arith),
+      one_more old new rules given so_far l raw h reads same (watch n q) is (holds_more holds new.store rules _ _ store) number few (asked ∙ omega arith) (failed ∙ omega arith),
       text ∙ sym (append-nil t0),
     )
     taken_other (refused x) is o store failed text = absurd o
@@ -179,7 +182,7 @@ module _ {G S W : Type 0} (other : List ℕ → Reading → Type 0) (holds : S �
         → (printed : List ℕ) × HasAnswered other holds new rules (given ++ l ∷ []) (so_far ++ printed) × (t1 ≡ t0 ++ printed)
     refused_other (refused y) x is o store failed text = (
       refusal_line rules.form (old.number + 1) y,
-      one_more old new rules given so_far l raw h reads (refused y) is (holds_more holds new.store rules _ _ store) number few (asked ∙ omega arith) failed,
+      one_more old new rules given so_far l raw h reads same (refused y) is (holds_more holds new.store rules _ _ store) number few (asked ∙ omega arith) failed,
       text ∙ ap (λ z. t0 ++ refusal_line rules.form (old.number + 1) z) (sym o),
     )
     refused_other (watch n q) x is o store failed text = absurd o
@@ -187,25 +190,26 @@ module _ {G S W : Type 0} (other : List ℕ → Reading → Type 0) (holds : S �
     refused_other (document d) x is o store failed text = absurd o
     refused_other (query k q) x is o store failed text = absurd o
 
-  pub takes_other : (old new : Answering G S) (raw : Reading) (t0 t1 : List ℕ) → TakesOther holds old.store new.store raw None
+  pub takes_other : (old new : Answering G S) → names new.fields ≡ names old.fields → (raw : Reading) (t0 t1 : List ℕ) → TakesOther holds old.store new.store raw None
       → new.number ≡ old.number + 1 → old.number ≤ 2 ^ 40 → new.queries ≡ old.queries → new.refused ≡ old.refused → t1 ≡ t0 → TakesLine other holds old new t0 t1 raw
-  takes_other old new raw t0 t1 takes number few asked failed text = λ l reads rules given so_far h.
+  takes_other old new same raw t0 t1 takes number few asked failed text = λ l reads rules given so_far h.
       let taken = takes rules (held_behind rules h.readings) (watches_behind rules h.readings) h.store in
-      taken_other old new rules given so_far l raw h reads number few asked t0 t1 _ refl taken.0 taken.1 failed text
+      taken_other old new rules given so_far l raw h reads same number few asked t0 t1 _ refl taken.0 taken.1 failed text
 
-  pub refuses_other : (old new : Answering G S) (form : Form) → HasForm holds old.store form → (raw : Reading) (x : Refusal) (t0 t1 : List ℕ) → TakesOther holds old.store new.store raw (Some x)
+  pub refuses_other : (old new : Answering G S) → names new.fields ≡ names old.fields → (form : Form) → HasForm holds old.store form → (raw : Reading) (x : Refusal) (t0 t1 : List ℕ) → TakesOther holds old.store new.store raw (Some x)
       → new.number ≡ old.number + 1 → old.number ≤ 2 ^ 40 → new.queries ≡ old.queries → new.refused ≡ old.refused + 1
       → t1 ≡ t0 ++ refusal_line form (old.number + 1) x → TakesLine other holds old new t0 t1 raw
-  refuses_other old new form written raw x t0 t1 takes number few asked failed text = λ l reads rules given so_far h.
+  refuses_other old new same form written raw x t0 t1 takes number few asked failed text = λ l reads rules given so_far h.
       let taken = takes rules (held_behind rules h.readings) (watches_behind rules h.readings) h.store in
-      refused_other old new rules given so_far l raw h reads number few asked t0 t1 _ x refl taken.0 taken.1 failed
+      refused_other old new rules given so_far l raw h reads same number few asked t0 t1 _ x refl taken.0 taken.1 failed
       (text ∙ ap (λ (f : Form). t0 ++ refusal_line f (old.number + 1) x) (written rules _ _ h.store))
 
   -- nothing was done but that the store holds what it held
-  pub kept : (old new : Answering G S) → Keeps holds old.store new.store → new.number ≡ old.number → new.queries ≡ old.queries → new.refused ≡ old.refused
+  pub kept : (old new : Answering G S) → names new.fields ≡ names old.fields → Keeps holds old.store new.store → new.number ≡ old.number → new.queries ≡ old.queries → new.refused ≡ old.refused
       → (rules : Rules W) (given : List Line) (so_far : List ℕ) → HasAnswered other holds old rules given so_far → HasAnswered other holds new rules given so_far
-  kept old new keeps number asked failed rules given so_far h = record {
+  kept old new same keeps number asked failed rules given so_far h = record {
     readings = h.readings;
+    fields = same ∙ h.fields;
     read = h.read;
     store = keeps rules (held_behind rules h.readings) (watches_behind rules h.readings) h.store;
     number = number ∙ h.number;
@@ -215,10 +219,10 @@ module _ {G S W : Type 0} (other : List ℕ → Reading → Type 0) (holds : S �
     printed = h.printed;
   }
 
-  pub keeps_on : (old new : Answering G S) (t0 t1 : List ℕ) → Keeps holds old.store new.store → new.number ≡ old.number → new.queries ≡ old.queries → new.refused ≡ old.refused → t1 ≡ t0
+  pub keeps_on : (old new : Answering G S) (t0 t1 : List ℕ) → names new.fields ≡ names old.fields → Keeps holds old.store new.store → new.number ≡ old.number → new.queries ≡ old.queries → new.refused ≡ old.refused → t1 ≡ t0
       → WorksOn (HasAnswered other holds) old new t0 t1
-  keeps_on old new t0 t1 keeps number asked failed text = λ rules given so_far h.
-      ([], subst (HasAnswered other holds new rules given) (sym (append-nil so_far)) (kept old new keeps number asked failed rules given so_far h), text ∙ sym (append-nil t0))
+  keeps_on old new t0 t1 same keeps number asked failed text = λ rules given so_far h.
+      ([], subst (HasAnswered other holds new rules given) (sym (append-nil so_far)) (kept old new same keeps number asked failed rules given so_far h), text ∙ sym (append-nil t0))
 
   -- ---- the end
 
@@ -240,7 +244,7 @@ module _ {G S W : Type 0} (other : List ℕ → Reading → Type 0) (holds : S �
 
 -- ---- where nothing was read
 
-pub ends_none : {W : Type 0} (other : List ℕ → Reading → Type 0) (rules : Rules W) (left printed : Option (List ℕ))
+pub ends_none : {W : Type 0} (other : List (List ℕ) → List ℕ → Reading → Type 0) (rules : Rules W) (left printed : Option (List ℕ))
     → Ends (IsBody other rules) (IsText other rules) (HasRefusal other rules) (HasNoRefusal other rules) NoMemory left left printed printed
 ends_none other rules left printed =
     ends_at_once (IsBody other rules) (IsText other rules) (HasRefusal other rules) (HasNoRefusal other rules) (body_first other rules) left printed []

@@ -13,7 +13,7 @@ pub record MayAsk (k : ℕ) (q : Query) : Type 0 where
   pub some : 1 ≤ k
   pub most : k ≤ 1000
 
--- the line is read as this query, or it is refused
-abbrev pub IsQuestion : List ℕ → Result (ℕ × Query) Refusal → Type 0
-IsQuestion bytes (Ok x) = MayAsk x.0 x.1 × ReadsByKind query_line bytes (query x.0 (tree x.1))
-IsQuestion bytes (Err r) = ReadsByKind query_line bytes (refused r)
+-- the line is read as this query, by the names of the fields, or it is refused
+abbrev pub IsQuestion : List (List ℕ) → List ℕ → Result (ℕ × Query) Refusal → Type 0
+IsQuestion names bytes (Ok x) = MayAsk x.0 x.1 × ReadsByKind names query_line bytes (query x.0 (tree x.1))
+IsQuestion names bytes (Err r) = ReadsByKind names query_line bytes (refused r)

@@ -3,6 +3,7 @@ ghost use Rattle.eb_answer.specs.Answering.{HasAnswered, TakesLine};
 ghost use Rattle.eb_answer.specs.Questions.{MayAsk};
 ghost use Rattle.eb_answer.specs.Rules.{Rules};
 ghost use Rattle.eb_base.specs.Query.{tree};
+ghost use Rattle.eb_fields.specs.Fields.{names};
 ghost use Rattle.eb_io.specs.Lines.{line};
 ghost use Rattle.eb_lines.specs.Kinds.{document_line, query_line, bad_line, kind_of};
 ghost use Rattle.eb_lines.specs.Programs.{IsRunning, WorksOn, WorksOnGiven};
@@ -13,6 +14,7 @@ use crate::question::read_question;
 use crate::store::Store;
 use eb_base::{Document, Gate, NoMemory, Query};
 use eb_doc::DocumentReader;
+use eb_fields::Fields;
 use eb_lines::{
     LineKind, LineProgram, Refusal, line_kind, line_room, put_refusal, put_summary, put_watches,
     read_document_line_by,
@@ -26,6 +28,8 @@ pub(crate) struct Answering<'a, G, S> {
     // It is told what the store does.
     gate: &'a G,
     store: S,
+    // The fields by which lines are read.
+    fields: Fields<'a>,
     // What reads document lines, with its room.
     documents: DocumentReader,
     // The number of the last line, and how many queries were answered and lines refused.
@@ -36,13 +40,19 @@ pub(crate) struct Answering<'a, G, S> {
 
 impl<'a, G: Gate, S: Store> Answering<'a, G, S> {
     // Before the first line.
-    pub(crate) fn new(alloc: Global, gate: &'a G, store: S) -> Answering<'a, G, S>
-        ensures { (rules : Rules S.Watches) → S.holds store rules rules.start rules.watches → HasAnswered S.other S.holds result rules [] [] }
+    pub(crate) fn new(
+        alloc: Global,
+        gate: &'a G,
+        store: S,
+        fields: Fields<'a>,
+    ) -> Answering<'a, G, S>
+        ensures { (rules : Rules S.Watches) → names fields.entry ≡ rules.fields → S.holds store rules rules.start rules.watches → HasAnswered S.other S.holds result rules [] [] }
     {
         Answering {
             alloc,
             gate,
             store,
+            fields,
             documents: DocumentReader::new(alloc),
             number: 0,
             queries: 0,
@@ -120,7 +130,7 @@ impl<'a, G: Gate, S: Store> Answering<'a, G, S> {
     {
         let form = self.store.form();
         text.reserve(line_room(0))?;
-        match self.store.take_other(self.alloc, bytes)? {
+        match self.store.take_other(self.alloc, self.fields, bytes)? {
             None => self.number += 1,
             Some(refusal) => {
                 self.number += 1;
@@ -139,7 +149,7 @@ impl<'a, G: Gate, S: Store> Answering<'a, G, S> {
         ensures ok { OnOk result (WorksOnGiven (HasAnswered S.other S.holds) self.old self.new text.old.items text.new.items (line bytes.now)) }
         ensures err { OnErr result (WorksOn (HasAnswered S.other S.holds) self.old self.new text.old.items text.new.items) }
     {
-        match read_document_line_by(&mut self.documents, bytes)? {
+        match read_document_line_by(&mut self.documents, self.fields, bytes)? {
             Ok(document) => self.add(&document, text),
             Err(refusal) => self.refuse(refusal, text),
         }
@@ -150,11 +160,11 @@ impl<'a, G: Gate, S: Store> Answering<'a, G, S> {
         requires state { IsRunning (HasAnswered S.other S.holds) self.old }
         requires number { self.old.number ≤ 2 ^ 40 }
         requires mark { slice_get query.now 0 ≡ Some 63 }
-        ensures ok { OnOk result ((r : Reading) × ReadsByKind query_line query.now r
+        ensures ok { OnOk result ((r : Reading) × ReadsByKind (names self.old.fields) query_line query.now r
             × TakesLine S.other S.holds self.old self.new text.old.items text.new.items r) }
         ensures err { OnErr result ((self.new ≡ self.old) × (text.new.items ≡ text.old.items)) }
     {
-        match read_question(self.alloc, query)? {
+        match read_question(self.alloc, self.fields, query)? {
             Ok((k, query)) => self.answer(k, query, text),
             Err(refusal) => self.refuse(refusal, text),
         }

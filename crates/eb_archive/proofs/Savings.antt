@@ -6,6 +6,7 @@ use Rattle.std.specs.List.{flat_map}
 use Rattle.std.proofs.lemmas.Grind.{flat_map-append}
 use Rattle.eb_base.specs.Document.{Doc}
 use Rattle.eb_base.specs.Setting.{Setting}
+use Rattle.eb_fields.specs.Fields.{names}
 use Rattle.eb_image.specs.Image.{head_of, document_part, image_of, last_byte}
 use Rattle.eb_io.specs.Lines.{Line, line}
 use Rattle.eb_place.specs.Room.{has_room, HasRoom}
@@ -21,106 +22,109 @@ use Rattle.eb_lines.proofs.Advancing.{accepted-push, refusals-push}
 use Rattle.eb_indexed.specs.Admitted.{admit}
 use Rattle.eb_indexed.proofs.LinesRead.{read_none, read_push}
 use Rattle.eb_archive.specs.declared.saving.Saving.{Saving}
-use Rattle.eb_archive.specs.Saved.{kind_to_save, ReadsToSave, AreReadToSave, AreParts, IsSaved, HasUnsaved, HasNoUnsaved}
+use Rattle.eb_archive.specs.Saved.{Asked, kind_to_save, ReadsToSave, AreReadToSave, AreParts, IsSaved, HasUnsaved, HasNoUnsaved}
 use Rattle.eb_archive.specs.Saving.{HasSaved, TakesLine}
 
 -- a line of this reading is taken: what it comes to, a, is that of the documents before it
-module _ {G : Type 0} (old new : Saving G) (σ : Setting) (given : List Line) (so_far : List ℕ) (l : Line) (r a : Reading) (h : HasSaved old σ given so_far)
-    (reads : ReadsToSave l r) (is : a ≡ admit σ old.writer.docs r) (index : new.index ≡ old.index) (writer : new.writer.index ≡ old.writer.index)
+module _ {G : Type 0} (old new : Saving G) (q : Asked) (given : List Line) (so_far : List ℕ) (l : Line) (r a : Reading) (h : HasSaved old q given so_far)
+    (reads : ReadsToSave (names old.fields) l r) (fields : names new.fields ≡ names old.fields) (is : a ≡ admit q.setting old.writer.docs r) (index : new.index ≡ old.index) (writer : new.writer.index ≡ old.writer.index)
     (docs : new.writer.docs ≡ old.writer.docs ++ documents_in a)
     (number : new.number ≡ old.number + 1) (refused_more : new.refused ≡ old.refused + one_if (is_refused a)) (low : one_if (is_refused a) ≤ 1) where
-  a_is : admit σ (accepted h.readings) r ≡ a
-  a_is = ap (λ ds. admit σ ds r) (sym h.documents) ∙ sym is
+  a_is : admit q.setting (accepted h.readings) r ≡ a
+  a_is = ap (λ ds. admit q.setting ds r) (sym h.documents) ∙ sym is
 
-  pub one_more : HasSaved new σ (given ++ l ∷ []) (so_far ++ flat_map document_part (documents_in a))
+  pub one_more : HasSaved new q (given ++ l ∷ []) (so_far ++ flat_map document_part (documents_in a))
   one_more = record {
+    fields = fields ∙ h.fields;
     words = h.words;
     index = index ∙ h.index;
     setting = h.setting;
     writer = writer ∙ h.writer;
     readings = h.readings ++ a ∷ [];
-    read = subst (λ (x : Reading). AreReadToSave σ (given ++ l ∷ []) (h.readings ++ x ∷ [])) a_is (read_push ReadsToSave σ [] given h.readings l r h.read reads);
+    read = subst (λ (x : Reading). AreReadToSave q (given ++ l ∷ []) (h.readings ++ x ∷ [])) a_is (read_push (ReadsToSave q.fields) q.setting [] given h.readings l r h.read
+        (subst (λ ns. ReadsToSave ns l r) h.fields reads));
     documents = docs ∙ ap (λ ds. ds ++ documents_in a) h.documents ∙ sym (accepted-push h.readings a);
     number = number ∙ omega (arith, h.number, length-append given (l ∷ []));
     refused = refused_more ∙ ap (λ n. n + one_if (is_refused a)) h.refused ∙ sym (refusals-push h.readings a);
     few = omega (arith, number, refused_more, low, h.few);
-    written = ap (λ b. b ++ flat_map document_part (documents_in a)) h.written ∙ append_assoc (head_of σ) (flat_map document_part (accepted h.readings)) (flat_map document_part (documents_in a))
-        ∙ ap (λ b. head_of σ ++ b) (sym (flat_map-append document_part (accepted h.readings) (documents_in a)) ∙ ap (flat_map document_part) (sym (accepted-push h.readings a)));
+    written = ap (λ b. b ++ flat_map document_part (documents_in a)) h.written ∙ append_assoc (head_of q.setting) (flat_map document_part (accepted h.readings)) (flat_map document_part (documents_in a))
+        ∙ ap (λ b. head_of q.setting ++ b) (sym (flat_map-append document_part (accepted h.readings) (documents_in a)) ∙ ap (flat_map document_part) (sym (accepted-push h.readings a)));
   }
 
 -- a line that adds nothing
 pub takes_quiet : {G : Type 0} (old new : Saving G) (r a : Reading) → ((σ : Setting) → old.index.setting ≡ σ → admit σ old.writer.docs r ≡ a) → documents_in a ≡ []
-    → new.index ≡ old.index → new.writer ≡ old.writer → new.number ≡ old.number + 1 → new.refused ≡ old.refused + one_if (is_refused a)
+    → names new.fields ≡ names old.fields → new.index ≡ old.index → new.writer ≡ old.writer → new.number ≡ old.number + 1 → new.refused ≡ old.refused + one_if (is_refused a)
     → one_if (is_refused a) ≤ 1 → (text : List ℕ) → TakesLine old new text text r
-takes_quiet old new r a is none index writer number more low text = λ l reads σ given so_far h.
-    let setting : old.index.setting ≡ σ = ap (λ (w : Words). w.setting) h.index ∙ h.setting in
+takes_quiet old new r a is none fields index writer number more low text = λ l reads q given so_far h.
+    let setting : old.index.setting ≡ q.setting = ap (λ (w : Words). w.setting) h.index ∙ h.setting in
     let docs : new.writer.docs ≡ old.writer.docs ++ documents_in a =
     ap (λ (t : HistoryToken). t.docs) writer ∙ sym (append-nil old.writer.docs) ∙ ap (λ ds. old.writer.docs ++ ds) (sym none) in (
       flat_map document_part (documents_in a),
-      one_more old new σ given so_far l r a h reads (sym (is σ setting)) index (ap (λ (t : HistoryToken). t.index) writer) docs number more low,
+      one_more old new q given so_far l r a h reads fields (sym (is q.setting setting)) index (ap (λ (t : HistoryToken). t.index) writer) docs number more low,
       sym (append-nil text) ∙ ap (λ ds. text ++ flat_map document_part ds) (sym none),
     )
 
 -- a document line whose document is added
-pub takes_document : {G : Type 0} (old new : Saving G) (d : Doc) (text part text_new : List ℕ) → HasRoom old.index.setting old.writer.docs d → new.index ≡ old.index
+pub takes_document : {G : Type 0} (old new : Saving G) (d : Doc) (text part text_new : List ℕ) → HasRoom old.index.setting old.writer.docs d → names new.fields ≡ names old.fields → new.index ≡ old.index
     → new.writer ≡ (let t : HistoryToken = record { index = old.writer.index; docs = old.writer.docs ++ d ∷ []; converted = old.writer.converted } in t)
     → new.number ≡ old.number + 1 → new.refused ≡ old.refused → part ≡ document_part d → text_new ≡ text ++ part → TakesLine old new text text_new (document d)
-takes_document old new d text part text_new room index writer number refused_same is put = λ l reads σ given so_far h.
-    let setting : old.index.setting ≡ σ = ap (λ (w : Words). w.setting) h.index ∙ h.setting in
-    let fits : has_room σ old.writer.docs d ≡ true = subst (λ (s : Setting). HasRoom s old.writer.docs d) setting room in
-    let admitted : document d ≡ admit σ old.writer.docs (document d) = sym (ap (λ b. if b then document d else refused Full) fits) in (
+takes_document old new d text part text_new room fields index writer number refused_same is put = λ l reads q given so_far h.
+    let setting : old.index.setting ≡ q.setting = ap (λ (w : Words). w.setting) h.index ∙ h.setting in
+    let fits : has_room q.setting old.writer.docs d ≡ true = subst (λ (s : Setting). HasRoom s old.writer.docs d) setting room in
+    let admitted : document d ≡ admit q.setting old.writer.docs (document d) = sym (ap (λ b. if b then document d else refused Full) fits) in (
       flat_map document_part (d ∷ []),
-      one_more old new σ given so_far l (document d) (document d) h reads admitted index (ap (λ (t : HistoryToken). t.index) writer)
+      one_more old new q given so_far l (document d) (document d) h reads fields admitted index (ap (λ (t : HistoryToken). t.index) writer)
           (ap (λ (t : HistoryToken). t.docs) writer) number (omega (arith, refused_same)) (omega arith),
       put ∙ ap (λ b. text ++ b) (is ∙ sym (append-nil (document_part d))),
     )
 
 -- a document line whose document has no room
-pub takes_full : {G : Type 0} (old new : Saving G) (d : Doc) (text : List ℕ) → has_room old.index.setting old.writer.docs d ≡ false → new.index ≡ old.index → new.writer ≡ old.writer
+pub takes_full : {G : Type 0} (old new : Saving G) (d : Doc) (text : List ℕ) → has_room old.index.setting old.writer.docs d ≡ false → names new.fields ≡ names old.fields → new.index ≡ old.index → new.writer ≡ old.writer
     → new.number ≡ old.number + 1 → new.refused ≡ old.refused + 1 → TakesLine old new text text (document d)
-takes_full old new d text room index writer number refused_more =
+takes_full old new d text room fields index writer number refused_more =
     takes_quiet old new (document d) (refused Full)
     (λ σ setting. ap (λ b. if b then document d else refused Full) (subst (λ (s : Setting). has_room s old.writer.docs d ≡ false) setting room))
-    refl index writer number refused_more (omega arith) text
+    refl fields index writer number refused_more (omega arith) text
 
 -- before the first line
-pub saved_none : {G : Type 0} (s : Saving G) (w : Words) (σ : Setting) → s.index ≡ w → w.setting ≡ σ
+pub saved_none : {G : Type 0} (s : Saving G) (w : Words) (q : Asked) → names s.fields ≡ q.fields → s.index ≡ w → w.setting ≡ q.setting
     → s.writer ≡ (let t : HistoryToken = record { index = w; docs = []; converted = 0 } in t) → s.number ≡ 0
-    → s.refused ≡ 0 → HasSaved s σ [] (head_of σ)
+    → s.refused ≡ 0 → HasSaved s q [] (head_of q.setting)
 unfolding accepted refusals
-saved_none s w σ index setting writer number refused_none = record {
+saved_none s w q fields index setting writer number refused_none = record {
+  fields = fields;
   words = w;
   index = index;
   setting = setting;
   writer = ap (λ (t : HistoryToken). t.index) writer;
   readings = [];
-  read = read_none ReadsToSave σ [];
+  read = read_none (ReadsToSave q.fields) q.setting [];
   documents = ap (λ (t : HistoryToken). t.docs) writer;
   number = number;
   refused = refused_none;
   few = omega (arith, number, refused_none);
-  written = sym (append-nil (head_of σ));
+  written = sym (append-nil (head_of q.setting));
 }
 
 -- a line is read by its kind
-pub reads_to_save : (bytes : List ℕ) (k : Kind) (r : Reading) → kind_of bytes ≡ k → ReadsByKind (kind_to_save k) bytes r → ReadsToSave (line bytes) r
-reads_to_save bytes k r is h = subst (λ (x : Kind). ReadsByKind (kind_to_save x) bytes r) (sym is) h
+pub reads_to_save : (names : List (List ℕ)) (bytes : List ℕ) (k : Kind) (r : Reading) → kind_of bytes ≡ k → ReadsByKind names (kind_to_save k) bytes r → ReadsToSave names (line bytes) r
+reads_to_save names bytes k r is h = subst (λ (x : Kind). ReadsByKind names (kind_to_save x) bytes r) (sym is) h
 
 -- ---- the end
 
-pub parts_none : (σ : Setting) → AreParts σ [] (head_of σ)
+pub parts_none : (q : Asked) → AreParts q [] (head_of q.setting)
 unfolding accepted
-parts_none σ = record { readings = []; read = read_none ReadsToSave σ []; bytes = sym (append-nil (head_of σ)) }
+parts_none q = record { readings = []; read = read_none (ReadsToSave q.fields) q.setting []; bytes = sym (append-nil (head_of q.setting)) }
 
-pub saving_ends : {G : Type 0} (s : Saving G) (t0 t1 : List ℕ) (σ : Setting) (given : List Line) (so_far : List ℕ) → t1 ≡ t0 ++ 0 ∷ [] → HasSaved s σ given so_far
-    → Finishes HasSaved IsSaved HasUnsaved HasNoUnsaved s t0 t1 s.refused σ given so_far
+pub saving_ends : {G : Type 0} (s : Saving G) (t0 t1 : List ℕ) (q : Asked) (given : List Line) (so_far : List ℕ) → t1 ≡ t0 ++ 0 ∷ [] → HasSaved s q given so_far
+    → Finishes HasSaved IsSaved HasUnsaved HasNoUnsaved s t0 t1 s.refused q given so_far
 unfolding image_of
-saving_ends s t0 t1 σ given so_far put h = record {
+saving_ends s t0 t1 q given so_far put h = record {
   printed = last_byte;
   whole = record {
     readings = h.readings;
     read = h.read;
-    bytes = ap (λ b. b ++ last_byte) h.written ∙ append_assoc (head_of σ) (flat_map document_part (accepted h.readings)) last_byte;
+    bytes = ap (λ b. b ++ last_byte) h.written ∙ append_assoc (head_of q.setting) (flat_map document_part (accepted h.readings)) last_byte;
   };
   text = put;
   some = λ n e. (h.readings, h.read, omega (arith, e, h.refused));

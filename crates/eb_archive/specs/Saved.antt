@@ -13,6 +13,14 @@ use Rattle.eb_lines.specs.Reading.{Reading, refused}
 use Rattle.eb_lines.specs.Reads.{ReadsByKind}
 use Rattle.eb_indexed.specs.LinesRead.{AreReadBehind, SomeRefused, NoneRefused}
 
+-- what is asked of `save`: the names of the fields by which lines are read, and the setting of the index
+pub record Asked : Type 0 where
+  pub fields : List (List ℕ)
+  pub setting : Setting
+
+abbrev pub asked : List (List ℕ) → Setting → Asked
+asked names σ = record { fields = names; setting = σ }
+
 -- a query line is a bad line to `save`
 abbrev pub kind_to_save : Kind → Kind
 kind_to_save blank_line = blank_line
@@ -21,37 +29,37 @@ kind_to_save query_line = bad_line
 kind_to_save bad_line = bad_line
 
 -- the line is read as this, to be saved
-abbrev pub ReadsToSave : Line → Reading → Type 0
-ReadsToSave (line bytes) r = ReadsByKind (kind_to_save (kind_of bytes)) bytes r
-ReadsToSave long_line r = r ≡ refused LongLine
+abbrev pub ReadsToSave : List (List ℕ) → Line → Reading → Type 0
+ReadsToSave names (line bytes) r = ReadsByKind names (kind_to_save (kind_of bytes)) bytes r
+ReadsToSave names long_line r = r ≡ refused LongLine
 
 -- the lines come to these in an index of this setting
-abbrev pub AreReadToSave : Setting → List Line → List Reading → Type 0
-AreReadToSave σ = AreReadBehind ReadsToSave σ []
+abbrev pub AreReadToSave : Asked → List Line → List Reading → Type 0
+AreReadToSave a = AreReadBehind (ReadsToSave a.fields) a.setting []
 
 -- the head, and the parts of the documents that these lines add
-pub record AreParts (σ : Setting) (lines : List Line) (printed : List ℕ) : Type 0 where
+pub record AreParts (a : Asked) (lines : List Line) (printed : List ℕ) : Type 0 where
   pub readings : List Reading
-  pub read : AreReadToSave σ lines readings
-  pub bytes : printed ≡ head_of σ ++ flat_map document_part (accepted readings)
+  pub read : AreReadToSave a lines readings
+  pub bytes : printed ≡ head_of a.setting ++ flat_map document_part (accepted readings)
 
 -- the image of the documents that these lines add
-pub record IsSaved (σ : Setting) (lines : List Line) (printed : List ℕ) : Type 0 where
+pub record IsSaved (a : Asked) (lines : List Line) (printed : List ℕ) : Type 0 where
   pub readings : List Reading
-  pub read : AreReadToSave σ lines readings
-  pub bytes : printed ≡ image_of σ (accepted readings)
+  pub read : AreReadToSave a lines readings
+  pub bytes : printed ≡ image_of a.setting (accepted readings)
 
 -- some line is refused; none is
-abbrev pub HasUnsaved : Setting → List Line → Type 0
-HasUnsaved σ = SomeRefused (AreReadToSave σ)
+abbrev pub HasUnsaved : Asked → List Line → Type 0
+HasUnsaved a = SomeRefused (AreReadToSave a)
 
-abbrev pub HasNoUnsaved : Setting → List Line → Type 0
-HasNoUnsaved σ = NoneRefused (AreReadToSave σ)
+abbrev pub HasNoUnsaved : Asked → List Line → Type 0
+HasNoUnsaved a = NoneRefused (AreReadToSave a)
 
 -- what a `save` that ends so has written, of an input of these bytes of which this is left
-abbrev pub WroteSaved : Setting → Status → List ℕ → Option (List ℕ) → List ℕ → Type 0
-WroteSaved σ = Wrote (AreParts σ) (IsSaved σ) (HasUnsaved σ) (HasNoUnsaved σ)
+abbrev pub WroteSaved : Asked → Status → List ℕ → Option (List ℕ) → List ℕ → Type 0
+WroteSaved a = Wrote (AreParts a) (IsSaved a) (HasUnsaved a) (HasNoUnsaved a)
 
 -- what its status says of that input, whatever became of the output
-abbrev pub MeansSaved : Setting → Status → List ℕ → Option (List ℕ) → Type 0
-MeansSaved σ = Means (HasUnsaved σ) (HasNoUnsaved σ)
+abbrev pub MeansSaved : Asked → Status → List ℕ → Option (List ℕ) → Type 0
+MeansSaved a = Means (HasUnsaved a) (HasNoUnsaved a)

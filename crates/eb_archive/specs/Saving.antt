@@ -1,7 +1,7 @@
 -- How far `save` has come between two lines.
 use Rattle.std.specs.Prelude.{◌≡◌, ℕ, ◌≤◌, List, ◌++◌, length}
 use Rattle.std.specs.List.{flat_map}
-use Rattle.eb_base.specs.Setting.{Setting}
+use Rattle.eb_fields.specs.Fields.{names}
 use Rattle.eb_image.specs.Image.{head_of, document_part}
 use Rattle.eb_io.specs.Lines.{Line}
 use Rattle.eb_lines.specs.Programs.{WorksOnGiven}
@@ -9,23 +9,24 @@ use Rattle.eb_lines.specs.Progress.{accepted, refusals}
 use Rattle.eb_lines.specs.Reading.{Reading}
 use Rattle.eb_table.specs.Known.{Words}
 use Rattle.eb_archive.specs.declared.saving.Saving.{Saving}
-use Rattle.eb_archive.specs.Saved.{ReadsToSave, AreReadToSave}
+use Rattle.eb_archive.specs.Saved.{Asked, ReadsToSave, AreReadToSave}
 
--- these lines were taken, in an index of this setting, and the head and the parts of their documents were written: the
+-- these lines were taken as it was asked, and the head and the parts of their documents were written: the
 -- history of the index's writer is these documents
-pub record HasSaved {G : Type 0} (s : Saving G) (σ : Setting) (given : List Line) (so_far : List ℕ) : Type 0 where
+pub record HasSaved {G : Type 0} (s : Saving G) (a : Asked) (given : List Line) (so_far : List ℕ) : Type 0 where
+  pub fields : names s.fields ≡ a.fields
   pub words : Words
   pub index : s.index ≡ words
-  pub setting : words.setting ≡ σ
+  pub setting : words.setting ≡ a.setting
   pub writer : s.writer.index ≡ words
   pub readings : List Reading
-  pub read : AreReadToSave σ given readings
+  pub read : AreReadToSave a given readings
   pub documents : s.writer.docs ≡ accepted readings
   pub number : s.number ≡ length given
   pub refused : s.refused ≡ refusals readings
   pub few : s.refused ≤ s.number
-  pub written : so_far ≡ head_of σ ++ flat_map document_part (accepted readings)
+  pub written : so_far ≡ head_of a.setting ++ flat_map document_part (accepted readings)
 
 -- a line of this reading was taken, and its part was put after the text
 abbrev pub TakesLine : {G : Type 0} → Saving G → Saving G → List ℕ → List ℕ → Reading → Type 0
-TakesLine old new text_old text_new r = (l : Line) → ReadsToSave l r → WorksOnGiven HasSaved old new text_old text_new l
+TakesLine old new text_old text_new r = (l : Line) → ReadsToSave (names old.fields) l r → WorksOnGiven HasSaved old new text_old text_new l

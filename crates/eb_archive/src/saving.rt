@@ -1,14 +1,17 @@
 //! What `save` does with each line, and at the end.
 ghost use Rattle.std.specs.Prelude.{◌≡◌, ◌+◌, ◌≤◌, ◌^◌, ◌++◌, ℕ, List, [], length, vec_len, vec_capacity, IfOk, OnErr, OnOk};
+ghost use Rattle.eb_fields.specs.Fields.{names};
 ghost use Rattle.eb_image.specs.Image.{head_of};
 ghost use Rattle.eb_io.specs.Lines.{line};
 ghost use Rattle.eb_lines.specs.Kinds.{document_line, kind_of};
 ghost use Rattle.eb_lines.specs.Programs.{IsRunning, WorksOnGiven};
 ghost use Rattle.eb_lines.specs.Reading.{blank, document as reads_document, refused as is_refused};
+ghost use Rattle.eb_archive.specs.Saved.{asked};
 ghost use Rattle.eb_archive.specs.Saving.{HasSaved, TakesLine};
 
 use eb_base::{Config, Document, Gate, NoMemory};
 use eb_engine::{Index, Writer};
+use eb_fields::Fields;
 use eb_image::write_part;
 use eb_lines::{LineKind, LineProgram, Refusal, line_kind, read_document_line};
 use eb_writer::Full;
@@ -20,6 +23,8 @@ pub(crate) struct Saving<'a, G> {
     alloc: Global,
     // It is told what the writer does.
     gate: &'a G,
+    // The fields by which lines are read.
+    fields: Fields<'a>,
     index: Index,
     writer: Writer,
     number: u64,
@@ -36,13 +41,19 @@ fn put(text: &mut Vec<u8>, bytes: &[u8])
 
 impl<'a, G: Gate> Saving<'a, G> {
     // Before the first line. Takes all the memory of the index.
-    pub(crate) fn new(alloc: Global, gate: &'a G, config: Config) -> Result<Saving<'a, G>, NoMemory>
-        ensures { IfOk result (λ saving. HasSaved saving config [] (head_of config)) }
+    pub(crate) fn new(
+        alloc: Global,
+        gate: &'a G,
+        fields: Fields<'a>,
+        config: Config,
+    ) -> Result<Saving<'a, G>, NoMemory>
+        ensures { IfOk result (λ saving. HasSaved saving (asked (names fields.entry) config) [] (head_of config)) }
     {
         let (index, writer, _converter) = Index::open(alloc, config)?;
         Ok(Saving {
             alloc,
             gate,
+            fields,
             index,
             writer,
             number: 0,
@@ -100,7 +111,7 @@ impl<'a, G: Gate> Saving<'a, G> {
         ensures ok { OnOk result (WorksOnGiven HasSaved self.old self.new text.old.items text.new.items (line bytes.now)) }
         ensures err { OnErr result ((self.new ≡ self.old) × (text.new.items ≡ text.old.items)) }
     {
-        match read_document_line(self.alloc, bytes)? {
+        match read_document_line(self.alloc, self.fields, bytes)? {
             Ok(document) => self.save(&document, text),
             Err(refusal) => {
                 self.refuse(refusal);
@@ -112,12 +123,11 @@ impl<'a, G: Gate> Saving<'a, G> {
 
 impl<G: Gate> LineProgram for Saving<'_, G> {
     ghost use Rattle.std.specs.Prelude.{◌≡◌, []};
-    ghost use Rattle.eb_base.specs.Setting.{Setting};
-    ghost use Rattle.eb_archive.specs.Saved.{AreParts, IsSaved, HasUnsaved, HasNoUnsaved};
+    ghost use Rattle.eb_archive.specs.Saved.{Asked as ToSave, AreParts, IsSaved, HasUnsaved, HasNoUnsaved};
     ghost use Rattle.eb_archive.specs.Saving.{HasSaved};
     ghost use Rattle.eb_archive.specs.SavingLaws.{saved_first, parts_first};
 
-    ghost Asked = { Setting };
+    ghost Asked = { ToSave };
 
     ghost has_run = { HasSaved };
 

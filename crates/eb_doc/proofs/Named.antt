@@ -1,5 +1,5 @@
 -- What an object tells with one more member.
-use Rattle.std.proofs.Common.{◌≡◌, ℕ, List, Option, Some, option_map, option_and_then, codes, refl, sym, ap, ◌∙◌}
+use Rattle.std.proofs.Common.{◌≡◌, ℕ, List, option_and_then, codes, sym, ap, ◌∙◌}
 use Rattle.serde_json.specs.Data.{Data, Members, object, put}
 use Rattle.serde_json.specs.Find.{as_number, as_u64, as_str, get_member}
 use Rattle.serde_json.proofs.Views.{get_member-put, get_member-put_other}

@@ -27,7 +27,7 @@ unfolding document_of
 document_by_value line value e = ap with_value e
 
 -- no line is read as want of memory
-no_memory_message : (id : ℕ) (terms : List (List ℕ)) → message id terms ≡ Err NoMemory → ⊥
+pub no_memory_message : (id : ℕ) (terms : List (List ℕ)) → message id terms ≡ Err NoMemory → ⊥
 no_memory_message id terms = by_test (nat_lt most_tokens (length terms) || nat_lt most_bytes (bytes_of terms)) refl
   where
     by_test : (b : Bool) → nat_lt most_tokens (length terms) || nat_lt most_bytes (bytes_of terms) ≡ b → message id terms ≡ Err NoMemory → ⊥

@@ -1,4 +1,7 @@
 pub mod DocumentLine
+pub mod FieldTerms
+pub mod WithFields
+pub mod Laws
 pub mod Faults
 pub mod Seen
 pub mod Looked

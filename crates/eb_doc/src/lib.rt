@@ -1,5 +1,6 @@
 //! Document lines: one JSON object a line (RFC 8259, read by `serde_json`), with a number as its `id`
-//! and a string as its `text`.
+//! and a string as its `text`. With fields, the members of their names give terms too, so that a query finds a message
+//! by who wrote it, or in which room.
 #![tactic(auto)]
 
 ghost use Rattle.std.specs.Prelude.{◌≡◌, ◌⊎◌, Ok, Err, IfOk, IfErr, Some, None, option_map};
@@ -8,18 +9,27 @@ ghost use Rattle.serde_json.specs.View.{view};
 ghost use Rattle.eb_text.specs.Tokens.{tokens_of};
 ghost use Rattle.eb_doc.specs.DocumentLine.{document_of, value_of, message, with_value};
 ghost use Rattle.eb_doc.specs.DocumentLine as spec;
+ghost use Rattle.eb_doc.specs.WithFields.{document_with};
+ghost use Rattle.eb_fields.specs.Fields.{names};
 ghost use Rattle.eb_doc.specs.Seen.{Tells};
 ghost use Rattle.eb_doc.specs.declared.LineFault.TheVariants.{NoMemory as out_of_memory};
 
+mod fielded;
+mod fields;
+mod laws;
 mod look;
 mod members;
 mod numbers;
 mod passing;
 mod seen;
 
+use crate::fielded::read_with_fields;
+pub use crate::fields::MAX_ITEMS;
+pub use crate::laws::without_fields;
 use crate::look::{Look, look_at};
 use crate::seen::Members;
-use eb_base::{Document, NoMemory};
+use eb_base::{Document, NoMemory, Terms};
+use eb_fields::Fields;
 use eb_text::tokens;
 use json::Scratch;
 use serde_json::Value;
@@ -35,7 +45,8 @@ pub enum LineFault {
     /// The value is no object, its `id` isn't a whole number below 2^64, or its `text` isn't a
     /// string; a member that is missing counts as of another kind.
     BadDocument,
-    /// The text has 1,025 or more tokens, or 16,385 or more bytes of folded tokens.
+    /// The text and the fields have 1,025 or more terms, or 16,385 or more bytes of folded terms, or a field has a value of
+    /// 129 or more folded bytes.
     TooLong,
     /// Memory ran out. It can come for any line.
     NoMemory,
@@ -94,6 +105,22 @@ impl DocumentReader {
             Ok(Look::Other) => read_by_value(self.alloc, line),
             Err(NoMemory) => Err(LineFault::NoMemory),
         }
+    }
+
+    /// The document that a line is with the terms of these fields behind those of its text, name by name: of a
+    /// member of such a name that is a string, a whole number or a boolean, the term of the name and the value; of an
+    /// array of at most [`MAX_ITEMS`] of these, the terms of all. A number stands in decimal, and a boolean as `true` or
+    /// `false`. A member that is missing or anything else gives no term. Else as [`read_document`] says; a value of
+    /// more than 128 folded bytes is `TooLong`.
+    pub fn read_with(&mut self, fields: Fields<'_>, line: &[u8]) -> Result<Document, LineFault>
+        ensures document { IfOk result (λ document. document_with (names fields.entry) line.now ≡ Ok document) }
+        ensures refused { IfErr result (λ fault.
+            (fault ≡ LineFault.NoMemory) ⊎ (document_with (names fields.entry) line.now ≡ Err fault)) }
+    {
+        if fields.is_none() {
+            return self.read(line);
+        }
+        read_with_fields(self.alloc, fields, line)
     }
 }
 
@@ -181,6 +208,14 @@ fn make_document(alloc: Global, id: u64, text: &str) -> Result<Document, LineFau
     ensures refused { IfErr result (λ fault. (fault ≡ LineFault.NoMemory) ⊎ (message id (tokens_of text.now) ≡ Err fault)) }
 {
     let terms = tokens(alloc, text)?;
+    message_of(id, terms)
+}
+
+// The document with this id and these terms.
+fn message_of(id: u64, terms: Terms) -> Result<Document, LineFault>
+    ensures document { IfOk result (λ document. message id terms ≡ Ok document) }
+    ensures refused { IfErr result (λ fault. message id terms ≡ Err fault) }
+{
     match Document::new(id, terms) {
         Ok(document) => Ok(document),
         Err(_) => Err(LineFault::TooLong),

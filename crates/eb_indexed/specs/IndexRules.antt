@@ -19,10 +19,10 @@ refusal_in σ docs d = if has_room σ docs d then None else Some Full
 abbrev pub segments_tail : Form → ℕ → ℕ → Tail
 segments_tail form begun converted = if form.stats then Segments begun converted else Nothing
 
--- an index of this setting that holds these documents at first: a query sees all documents, and all segments but the last one
+-- an index of this setting that holds these documents at first, and reads lines by these names of fields: a query sees all documents, and all segments but the last one
 -- are converted at the end
 abbrev pub index_tail : Setting → Form → List Doc → Tail
 index_tail σ form docs = segments_tail form (length (cut σ docs)) (most_converted (length (cut σ docs)))
 
-abbrev pub index_rules : Setting → Form → List Doc → Rules (Unit {0})
-index_rules σ form start = plain_rules start (refusal_in σ) (λ docs. docs) form (index_tail σ form)
+abbrev pub index_rules : List (List ℕ) → Setting → Form → List Doc → Rules (Unit {0})
+index_rules names σ form start = plain_rules names start (refusal_in σ) (λ docs. docs) form (index_tail σ form)

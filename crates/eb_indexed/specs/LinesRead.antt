@@ -1,5 +1,5 @@
 -- What the lines of an input come to in an index of a setting, and whether any of them is refused.
-use Rattle.std.specs.Prelude.{◌≡◌, ◌<◌, List, []}
+use Rattle.std.specs.Prelude.{◌≡◌, ℕ, ◌<◌, List, []}
 use Rattle.std.specs.List.{AllZip}
 use Rattle.eb_base.specs.Document.{Doc}
 use Rattle.eb_base.specs.Setting.{Setting}
@@ -17,9 +17,9 @@ ComeTo reads comes lines rs = (raw : List Reading) × AllZip reads lines raw × 
 abbrev pub AreReadBehind : (Line → Reading → Type 0) → Setting → List Doc → List Line → List Reading → Type 0
 AreReadBehind reads σ docs = ComeTo reads (admitted_from σ docs)
 
--- they come to these in an empty index
-abbrev pub AreRead : Setting → List Line → List Reading → Type 0
-AreRead σ = AreReadBehind Reads σ []
+-- they come to these in an empty index, where they are read by the names of the fields
+abbrev pub AreRead : List (List ℕ) → Setting → List Line → List Reading → Type 0
+AreRead names σ = AreReadBehind (Reads names) σ []
 
 -- of lines that come to readings in this way some is refused; none is
 abbrev pub SomeRefused : (List Line → List Reading → Type 0) → List Line → Type 0
@@ -28,8 +28,8 @@ SomeRefused come lines = (rs : List Reading) × come lines rs × (0 < refusals r
 abbrev pub NoneRefused : (List Line → List Reading → Type 0) → List Line → Type 0
 NoneRefused come lines = (rs : List Reading) × come lines rs × (refusals rs ≡ 0)
 
-abbrev pub HasRefusal : Setting → List Line → Type 0
-HasRefusal σ = SomeRefused (AreRead σ)
+abbrev pub HasRefusal : List (List ℕ) → Setting → List Line → Type 0
+HasRefusal names σ = SomeRefused (AreRead names σ)
 
-abbrev pub HasNoRefusal : Setting → List Line → Type 0
-HasNoRefusal σ = NoneRefused (AreRead σ)
+abbrev pub HasNoRefusal : List (List ℕ) → Setting → List Line → Type 0
+HasNoRefusal names σ = NoneRefused (AreRead names σ)

@@ -14,6 +14,7 @@ use eb_answer::Store;
 use eb_base::{Config, Document, Gate, NoMemory, Query};
 use eb_cursor::Frame;
 use eb_engine::{Converter, Index, Writer};
+use eb_fields::Fields;
 use eb_lines::{Form, Refusal, Tail, line_room, put_answer};
 use eb_writer::Full;
 use std::alloc::Global;
@@ -136,7 +137,12 @@ impl Store for Indexed {
         Ok(Vec::new(alloc))
     }
 
-    fn take_other(&mut self, _alloc: Global, _bytes: &[u8]) -> Result<Option<Refusal>, NoMemory> {
+    fn take_other(
+        &mut self,
+        _alloc: Global,
+        _fields: Fields<'_>,
+        _bytes: &[u8],
+    ) -> Result<Option<Refusal>, NoMemory> {
         Ok(Some(Refusal::BadLine))
     }
 

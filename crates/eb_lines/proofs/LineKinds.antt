@@ -25,5 +25,5 @@ kind_bad (b ∷ bs) e other =
     by_test b bs first ∙ ap (λ t. if t then query_line else bad_line) (false_from_ne_true _ (λ h. other (IsUtf8-from_is_utf8 (b ∷ bs) h)))
 
 -- a line is read by its kind
-pub reads_as : (bytes : List ℕ) (k : Kind) (r : Reading) → kind_of bytes ≡ k → ReadsByKind k bytes r → Reads (line bytes) r
-reads_as bytes k r is h = subst (λ (x : Kind). ReadsByKind x bytes r) (sym is) h
+pub reads_as : (names : List (List ℕ)) (bytes : List ℕ) (k : Kind) (r : Reading) → kind_of bytes ≡ k → ReadsByKind names k bytes r → Reads names (line bytes) r
+reads_as names bytes k r is h = subst (λ (x : Kind). ReadsByKind names x bytes r) (sym is) h

@@ -4,8 +4,8 @@ use Rattle.std.specs.Prelude.{Result, Ok, Err}
 use Rattle.std.specs.List.{AllZip}
 use Rattle.eb_base.specs.Document.{Doc}
 use Rattle.eb_io.specs.Lines.{Line, line, long_line}
-use Rattle.eb_doc.specs.DocumentLine.{document_of}
-use Rattle.eb_doc.proofs.Reading.{document_of-no_memory}
+use Rattle.eb_doc.specs.WithFields.{document_with}
+use Rattle.eb_doc.proofs.WithNames.{document_with-no_memory}
 use Rattle.eb_doc.specs.declared.LineFault.{LineFault}
 use Rattle.eb_doc.specs.declared.LineFault.TheVariants as fault
 use Rattle.eb_query.proofs.OneOutcome.{one_outcome}
@@ -24,23 +24,24 @@ one_document (Err fault.BadDocument) a b e f = e ∙ sym f
 one_document (Err fault.TooLong) a b e f = e ∙ sym f
 one_document (Err fault.NoMemory) a b e f = absurd e
 
-pub one_by_kind : (k : Kind) (bytes : List ℕ) (a b : Reading) → ReadsByKind k bytes a → ReadsByKind k bytes b → a ≡ b
-one_by_kind blank_line bytes a b e f = e ∙ sym f
-one_by_kind document_line bytes a b e f = one_document (document_of bytes) a b e f
-one_by_kind query_line bytes a b e f = e.2 ∙ ap of_query (one_outcome bytes e.0 f.0 e.1 f.1) ∙ sym f.2
-one_by_kind bad_line bytes a b e f = e ∙ sym f
+module _ (names : List (List ℕ)) where
+  pub one_by_kind : (k : Kind) (bytes : List ℕ) (a b : Reading) → ReadsByKind names k bytes a → ReadsByKind names k bytes b → a ≡ b
+  one_by_kind blank_line bytes a b e f = e ∙ sym f
+  one_by_kind document_line bytes a b e f = one_document (document_with names bytes) a b e f
+  one_by_kind query_line bytes a b e f = e.2 ∙ ap of_query (one_outcome names bytes e.0 f.0 e.1 f.1) ∙ sym f.2
+  one_by_kind bad_line bytes a b e f = e ∙ sym f
 
-pub one_reading : (l : Line) (a b : Reading) → Reads l a → Reads l b → a ≡ b
-one_reading (line bytes) a b e f = one_by_kind (kind_of bytes) bytes a b e f
-one_reading long_line a b e f = e ∙ sym f
+  pub one_reading : (l : Line) (a b : Reading) → Reads names l a → Reads names l b → a ≡ b
+  one_reading (line bytes) a b e f = one_by_kind (kind_of bytes) bytes a b e f
+  one_reading long_line a b e f = e ∙ sym f
 
-pub raw_same : (ls : List Line) (rs ss : List Reading) → AllZip Reads ls rs → AllZip Reads ls ss → rs ≡ ss
-raw_same [] [] [] e f = refl
-raw_same [] [] (s ∷ ss) e f = absurd f
-raw_same [] (r ∷ rs) ss e f = absurd e
-raw_same (l ∷ ls) [] ss e f = absurd e
-raw_same (l ∷ ls) (r ∷ rs) [] e f = absurd f
-raw_same (l ∷ ls) (r ∷ rs) (s ∷ ss) e f = ap₂ (λ x xs. x ∷ xs) (one_reading l r s e.0 f.0) (raw_same ls rs ss e.1 f.1)
+  pub raw_same : (ls : List Line) (rs ss : List Reading) → AllZip (Reads names) ls rs → AllZip (Reads names) ls ss → rs ≡ ss
+  raw_same [] [] [] e f = refl
+  raw_same [] [] (s ∷ ss) e f = absurd f
+  raw_same [] (r ∷ rs) ss e f = absurd e
+  raw_same (l ∷ ls) [] ss e f = absurd e
+  raw_same (l ∷ ls) (r ∷ rs) [] e f = absurd f
+  raw_same (l ∷ ls) (r ∷ rs) (s ∷ ss) e f = ap₂ (λ x xs. x ∷ xs) (one_reading l r s e.0 f.0) (raw_same ls rs ss e.1 f.1)
 
 -- ---- a line has a reading
 
@@ -51,19 +52,20 @@ some_document (Err fault.BadDocument) h = (refused BadDocument, refl)
 some_document (Err fault.TooLong) h = (refused TooLong, refl)
 some_document (Err fault.NoMemory) h = absurd (h refl)
 
-pub some_by_kind : (k : Kind) (bytes : List ℕ) → (r : Reading) × ReadsByKind k bytes r
-some_by_kind blank_line bytes = (blank, refl)
-some_by_kind document_line bytes = some_document (document_of bytes) (document_of-no_memory bytes)
-some_by_kind query_line bytes = let o = some_outcome bytes in (of_query o.0, (o.0, o.1, refl))
-some_by_kind bad_line bytes = (refused BadLine, refl)
+module _ (names : List (List ℕ)) where
+  pub some_by_kind : (k : Kind) (bytes : List ℕ) → (r : Reading) × ReadsByKind names k bytes r
+  some_by_kind blank_line bytes = (blank, refl)
+  some_by_kind document_line bytes = some_document (document_with names bytes) (document_with-no_memory names bytes)
+  some_by_kind query_line bytes = let o = some_outcome names bytes in (of_query o.0, (o.0, o.1, refl))
+  some_by_kind bad_line bytes = (refused BadLine, refl)
 
-pub some_reading : (l : Line) → (r : Reading) × Reads l r
-some_reading (line bytes) = some_by_kind (kind_of bytes) bytes
-some_reading long_line = (refused LongLine, refl)
+  pub some_reading : (l : Line) → (r : Reading) × Reads names l r
+  some_reading (line bytes) = some_by_kind (kind_of bytes) bytes
+  some_reading long_line = (refused LongLine, refl)
 
-pub some_read : (ls : List Line) → (rs : List Reading) × AllZip Reads ls rs
-some_read [] = ([], tt)
-some_read (l ∷ ls) = let r = some_reading l in let rs = some_read ls in (r.0 ∷ rs.0, (r.1, rs.1))
+  pub some_read : (ls : List Line) → (rs : List Reading) × AllZip (Reads names) ls rs
+  some_read [] = ([], tt)
+  some_read (l ∷ ls) = let r = some_reading l in let rs = some_read ls in (r.0 ∷ rs.0, (r.1, rs.1))
 
 -- ---- lines that are read, with one more
 

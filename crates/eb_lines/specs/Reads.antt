@@ -2,10 +2,10 @@
 use Rattle.std.specs.Prelude.{◌≡◌, ℕ, List, Result, Ok, Err}
 use Rattle.eb_base.specs.Document.{Doc}
 use Rattle.eb_io.specs.Lines.{Line, line, long_line}
-use Rattle.eb_doc.specs.DocumentLine.{document_of}
+use Rattle.eb_doc.specs.WithFields.{document_with}
 use Rattle.eb_doc.specs.declared.LineFault.{LineFault}
 use Rattle.eb_doc.specs.declared.LineFault.TheVariants as fault
-use Rattle.eb_query.specs.Reading.{Outcome, asks, bad_number, bad_query, too_deep, too_many_nodes, ReadsAs}
+use Rattle.eb_query.specs.Reading.{Outcome, asks, bad_number, bad_query, too_deep, too_many_nodes, ReadsWith}
 use Rattle.eb_lines.specs.declared.refusal.Refusal.TheVariants.{BadLine, LongLine, BadJson, BadDocument, TooLong, BadNumber, BadQuery, QueryTooLarge, QueryTooDeep}
 use Rattle.eb_lines.specs.Reading.{Reading, blank, document, query, refused}
 use Rattle.eb_lines.specs.Kinds.{Kind, blank_line, document_line, query_line, bad_line, kind_of}
@@ -26,13 +26,14 @@ of_query (bad_query column) = refused (BadQuery column)
 of_query too_deep = refused QueryTooDeep
 of_query too_many_nodes = refused QueryTooLarge
 
-abbrev pub ReadsByKind : Kind → List ℕ → Reading → Type 0
-ReadsByKind blank_line bytes r = r ≡ blank
-ReadsByKind document_line bytes r = IsOfDocument (document_of bytes) r
-ReadsByKind query_line bytes r = (o : Outcome) × ReadsAs bytes o × (r ≡ of_query o)
-ReadsByKind bad_line bytes r = r ≡ refused BadLine
+-- by the names of the fields
+abbrev pub ReadsByKind : List (List ℕ) → Kind → List ℕ → Reading → Type 0
+ReadsByKind names blank_line bytes r = r ≡ blank
+ReadsByKind names document_line bytes r = IsOfDocument (document_with names bytes) r
+ReadsByKind names query_line bytes r = (o : Outcome) × ReadsWith names bytes o × (r ≡ of_query o)
+ReadsByKind names bad_line bytes r = r ≡ refused BadLine
 
--- the line is read as this
-abbrev pub Reads : Line → Reading → Type 0
-Reads (line bytes) r = ReadsByKind (kind_of bytes) bytes r
-Reads long_line r = r ≡ refused LongLine
+-- the line is read as this, where fields have these names
+abbrev pub Reads : List (List ℕ) → Line → Reading → Type 0
+Reads names (line bytes) r = ReadsByKind names (kind_of bytes) bytes r
+Reads names long_line r = r ≡ refused LongLine

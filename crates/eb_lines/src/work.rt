@@ -1,5 +1,6 @@
 ghost use Rattle.std.specs.Prelude.{◌≡◌, Some, None, IfOk, OnErr, slice_get};
-ghost use Rattle.eb_doc.specs.DocumentLine.{document_of};
+ghost use Rattle.eb_doc.specs.WithFields.{document_with};
+ghost use Rattle.eb_fields.specs.Fields.{names};
 ghost use Rattle.eb_io.specs.Lines.{line};
 ghost use Rattle.eb_lines.specs.Kinds.{query_line};
 ghost use Rattle.eb_lines.specs.Reads.{IsOfDocument, Reads, ReadsByKind};
@@ -10,7 +11,8 @@ use crate::refusal::Refusal;
 use eb_base::{Document, NoMemory};
 use eb_cursor::Frame;
 use eb_doc::{DocumentReader, LineFault};
-use eb_query::{QueryFault, read_query};
+use eb_fields::Fields;
+use eb_query::{QueryFault, read_query_with};
 use std::alloc::Global;
 
 /// What is to be done for a line.
@@ -26,25 +28,27 @@ pub enum Work {
     Refuse(Refusal),
 }
 
-/// The document of a document line, or why the line is refused. Takes the memory of its terms.
+/// The document of a document line, with these fields, or why the line is refused. Takes the memory of its terms.
 pub fn read_document_line(
     alloc: Global,
+    fields: Fields<'_>,
     bytes: &[u8],
 ) -> Result<Result<Document, Refusal>, NoMemory>
-    ensures { IfOk result (λ read. IsOfDocument (document_of bytes.now) (document_reading read)) }
+    ensures { IfOk result (λ read. IsOfDocument (document_with (names fields.entry) bytes.now) (document_reading read)) }
 {
     let mut reader = DocumentReader::new(alloc);
-    read_document_line_by(&mut reader, bytes)
+    read_document_line_by(&mut reader, fields, bytes)
 }
 
 /// The same by a reader that is kept from line to line.
 pub fn read_document_line_by(
     reader: &mut DocumentReader,
+    fields: Fields<'_>,
     bytes: &[u8],
 ) -> Result<Result<Document, Refusal>, NoMemory>
-    ensures { IfOk result (λ read. IsOfDocument (document_of bytes.now) (document_reading read)) }
+    ensures { IfOk result (λ read. IsOfDocument (document_with (names fields.entry) bytes.now) (document_reading read)) }
 {
-    match reader.read(bytes) {
+    match reader.read_with(fields, bytes) {
         Ok(document) => Ok(Ok(document)),
         Err(LineFault::BadJson) => Ok(Err(Refusal::BadJson)),
         Err(LineFault::BadDocument) => Ok(Err(Refusal::BadDocument)),
@@ -67,47 +71,51 @@ pub fn query_refusal(fault: QueryFault) -> Result<Refusal, NoMemory>
     }
 }
 
-/// A frame for the query of a query line, which begins with `?`, or why the line is refused. Takes the memory of a
+/// A frame for the query of a query line, which begins with `?`, with these fields, or why the line is refused. Takes the memory of a
 /// search, so that the search takes none.
-pub fn read_query_text(alloc: Global, text: &str) -> Result<Result<Frame, Refusal>, NoMemory>
+pub fn read_query_text(
+    alloc: Global,
+    fields: Fields<'_>,
+    text: &str,
+) -> Result<Result<Frame, Refusal>, NoMemory>
     requires { slice_get text.now 0 ≡ Some 63 }
-    ensures { IfOk result (λ read. ReadsByKind query_line text.now (query_reading read)) }
+    ensures { IfOk result (λ read. ReadsByKind (names fields.entry) query_line text.now (query_reading read)) }
 {
-    match read_query(alloc, text) {
+    match read_query_with(alloc, fields, text) {
         Ok((k, query)) => Ok(Ok(Frame::new(alloc, query, k)?)),
         Err(fault) => Ok(Err(query_refusal(fault)?)),
     }
 }
 
 // The work of a document line.
-fn document_work(alloc: Global, bytes: &[u8]) -> Result<Work, NoMemory>
-    ensures { IfOk result (λ work. IsOfDocument (document_of bytes.now) (reading_of work)) }
+fn document_work(alloc: Global, fields: Fields<'_>, bytes: &[u8]) -> Result<Work, NoMemory>
+    ensures { IfOk result (λ work. IsOfDocument (document_with (names fields.entry) bytes.now) (reading_of work)) }
 {
-    match read_document_line(alloc, bytes)? {
+    match read_document_line(alloc, fields, bytes)? {
         Ok(document) => Ok(Work::Add(document)),
         Err(refusal) => Ok(Work::Refuse(refusal)),
     }
 }
 
 // The work of a query line that is UTF-8.
-fn text_work(alloc: Global, text: &str) -> Result<Work, NoMemory>
+fn text_work(alloc: Global, fields: Fields<'_>, text: &str) -> Result<Work, NoMemory>
     requires { slice_get text.now 0 ≡ Some 63 }
-    ensures { IfOk result (λ work. ReadsByKind query_line text.now (reading_of work)) }
+    ensures { IfOk result (λ work. ReadsByKind (names fields.entry) query_line text.now (reading_of work)) }
 {
-    match read_query_text(alloc, text)? {
+    match read_query_text(alloc, fields, text)? {
         Ok(frame) => Ok(Work::Answer(frame)),
         Err(refusal) => Ok(Work::Refuse(refusal)),
     }
 }
 
-/// The work of a line that isn't long. Takes the memory that the work needs.
-pub fn read_line(alloc: Global, bytes: &[u8]) -> Result<Work, NoMemory>
-    ensures { IfOk result (λ work. Reads (line bytes.now) (reading_of work)) }
+/// The work of a line that isn't long, with these fields. Takes the memory that the work needs.
+pub fn read_line(alloc: Global, fields: Fields<'_>, bytes: &[u8]) -> Result<Work, NoMemory>
+    ensures { IfOk result (λ work. Reads (names fields.entry) (line bytes.now) (reading_of work)) }
 {
     match line_kind(bytes) {
         LineKind::Blank => Ok(Work::Nothing),
-        LineKind::Document => document_work(alloc, bytes),
-        LineKind::Query(text) => text_work(alloc, text),
+        LineKind::Document => document_work(alloc, fields, bytes),
+        LineKind::Query(text) => text_work(alloc, fields, text),
         LineKind::Bad => Ok(Work::Refuse(Refusal::BadLine)),
     }
 }

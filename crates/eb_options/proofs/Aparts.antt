@@ -9,7 +9,7 @@ use Rattle.eb_options.proofs.Walking.{among, both, name_front}
 
 -- ---- a word that is an option has no `=`
 
-no_equals : (word : Text) → list_any is_equals word ≡ false → name_in word ≡ word
+pub no_equals : (word : Text) → list_any is_equals word ≡ false → name_in word ≡ word
 no_equals [] h = refl
 no_equals (b ∷ word) h = go (is_equals b) (list_any is_equals word) refl refl (λ e. no_equals word e)
   where

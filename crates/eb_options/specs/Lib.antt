@@ -5,3 +5,5 @@ pub mod Apart
 pub mod Matches
 pub mod Views
 pub mod Faults
+pub mod Texts
+pub mod TextViews

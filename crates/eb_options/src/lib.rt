@@ -8,7 +8,9 @@ mod matches;
 mod number;
 mod setting;
 mod split;
+mod text;
 
 pub use items::{Items, OptionFault, read_options};
 pub use number::{read_nine, read_number};
 pub use setting::{SETTING_OPTIONS, read_setting};
+pub use text::{TextApart, take_text};

@@ -28,7 +28,7 @@ pub(crate) fn is_dashed(word: &str, name: &str) -> bool
 }
 
 // Whether the word is `--` and one of the names.
-fn is_one_of(word: &str, names: &[&str]) -> bool
+pub(crate) fn is_one_of(word: &str, names: &[&str]) -> bool
     ensures { result ≡ is_one_of (texts names.now) word.now }
 {
     for name in names {
@@ -40,7 +40,7 @@ fn is_one_of(word: &str, names: &[&str]) -> bool
 }
 
 // The words with one more at the end.
-fn push(alloc: Global, words: &mut Vec<String>, word: &str) -> Result<(), NoMemory>
+pub(crate) fn push(alloc: Global, words: &mut Vec<String>, word: &str) -> Result<(), NoMemory>
     ensures { OnOk result (map string_bytes words.new.items ≡ map string_bytes words.old.items ++ word.now ∷ []) }
 {
     words.push(String::from_str(alloc, word)?)?;

@@ -1,5 +1,5 @@
 -- What parts hold that lines fill.
-use Rattle.std.specs.Prelude.{◌≡◌, List}
+use Rattle.std.specs.Prelude.{◌≡◌, ℕ, List}
 use Rattle.eb_answer.specs.Rules.{Rules}
 use Rattle.eb_base.specs.Document.{Doc}
 use Rattle.eb_base.specs.Setting.{Setting}
@@ -9,6 +9,7 @@ use Rattle.eb_parts.specs.Texts.{parts_rules}
 
 -- these documents, by the rules of so many parts of this setting
 pub record IsParted (s : Parted) (rules : Rules (Unit {0})) (docs : List Doc) (none : Unit {0}) : Type 0 where
+  pub fields : List (List ℕ)
   pub setting : Setting
-  pub by_rules : rules ≡ parts_rules s.number setting s.form
+  pub by_rules : rules ≡ parts_rules fields s.number setting s.form
   pub holds : Holds s.parts s.number setting docs

@@ -1,5 +1,5 @@
 //! The parts that lines fill and ask.
-ghost use Rattle.std.specs.Prelude.{◌≡◌, ◌≤◌, [], IfOk};
+ghost use Rattle.std.specs.Prelude.{◌≡◌, ◌≤◌, ℕ, List, [], IfOk};
 ghost use Rattle.eb_parts.specs.Parted.{IsParted};
 ghost use Rattle.eb_parts.specs.Texts.{parts_rules};
 
@@ -7,6 +7,7 @@ use crate::store::Store as Parts;
 use eb_answer::Store;
 use eb_base::{Config, Document, Gate, NoMemory, Query};
 use eb_blend::BlendFrame;
+use eb_fields::Fields;
 use eb_indexed::tell_segments;
 use eb_lines::{Form, Refusal, Tail, line_room, put_answer};
 use std::alloc::Global;
@@ -28,7 +29,7 @@ impl Parted {
         config: Config,
     ) -> Result<Parted, NoMemory>
         requires { (1 ≤ number) × (number ≤ 16) }
-        ensures { IfOk result (λ parted. IsParted parted (parts_rules number config form) [] tt) }
+        ensures { IfOk result (λ parted. (fields : List (List ℕ)) → IsParted parted (parts_rules fields number config form) [] tt) }
     {
         let parts = Parts::new(alloc, number, config)?;
         Ok(Parted {
@@ -57,7 +58,12 @@ impl Store for Parted {
         Ok(Vec::new(alloc))
     }
 
-    fn take_other(&mut self, _alloc: Global, _bytes: &[u8]) -> Result<Option<Refusal>, NoMemory> {
+    fn take_other(
+        &mut self,
+        _alloc: Global,
+        _fields: Fields<'_>,
+        _bytes: &[u8],
+    ) -> Result<Option<Refusal>, NoMemory> {
         Ok(Some(Refusal::BadLine))
     }
 

@@ -1,4 +1,5 @@
 ghost use Rattle.std.specs.Prelude.{◌≡◌, ◌<◌, ◌≤◌, ◌++◌, ℕ, List, Some, length};
+ghost use Rattle.eb_fields.specs.Fields.{names};
 ghost use Rattle.eb_io.specs.Faults.{HasRisen};
 ghost use Rattle.eb_io.specs.Lines.{longest_input};
 ghost use Rattle.eb_lines.specs.Outcomes.{IsWorkedOff};
@@ -9,6 +10,7 @@ ghost use Rattle.eb_parts.specs.Texts.{parts_rules, WroteInParts, MeansInParts};
 use crate::parted::Parted;
 use eb_answer::answer_lines;
 use eb_base::{Config, Gate};
+use eb_fields::Fields;
 use eb_io::{Sink, Source};
 use eb_lines::{Form, Status};
 use std::alloc::Global;
@@ -16,7 +18,7 @@ use std::alloc::Global;
 /// Processes the lines that the source gives, in order, over so many parts, from 1 to 16, each an index of this setting:
 /// a document goes to the part that is its id modulo their number; prints answers, refusals and the summary on
 /// `out`. Lines are numbered from 1. A query sees all documents that were accepted before its line, and its answer is that
-/// of one history of them. The form says how what is printed is written, and whether the segments of all parts are
+/// of one history of them. Lines are read with these fields. The form says how what is printed is written, and whether the segments of all parts are
 /// told after the summary.
 ///
 /// A document line whose id isn't above that of the last accepted document is refused as `not rising`, and then one whose
@@ -25,6 +27,7 @@ use std::alloc::Global;
 pub fn run_parts<S: Source, K: Sink, G: Gate>(
     alloc: Global,
     parts: u32,
+    fields: Fields<'_>,
     form: Form,
     config: Config,
     source: &mut S,
@@ -32,16 +35,16 @@ pub fn run_parts<S: Source, K: Sink, G: Gate>(
     gate: &G,
 ) -> Status
     requires { (1 ≤ parts) × (parts ≤ 16) }
-    ensures ends { let rules = parts_rules parts config form in
+    ensures ends { let rules = parts_rules (names fields.entry) parts config form in
         Ends (IsBody is_bad rules) (IsText is_bad rules) (HasRefusal is_bad rules) (HasNoRefusal is_bad rules) result
         (S.left source.old) (S.left source.new) (K.taken out.old) (K.taken out.new) }
     // Where source and `out` tell their bytes, `out` took what the status says of the input.
     ensures output { (bytes before : List ℕ) → S.left source.old ≡ Some bytes → K.taken out.old ≡ Some before
         → (printed : List ℕ) × (K.taken out.new ≡ Some (before ++ printed))
-        × WroteInParts (parts_rules parts config form) result bytes (S.left source.new) printed }
+        × WroteInParts (parts_rules (names fields.entry) parts config form) result bytes (S.left source.new) printed }
     // What the status says of the input holds whatever becomes of the output.
     ensures means { (bytes : List ℕ) → S.left source.old ≡ Some bytes
-        → MeansInParts (parts_rules parts config form) result bytes (S.left source.new) }
+        → MeansInParts (parts_rules (names fields.entry) parts config form) result bytes (S.left source.new) }
     // Faults come only from outside.
     ensures read_fault { result ≡ Status.ReadFault → HasRisen (S.faults source.old) (S.faults source.new) }
     ensures write_fault { result ≡ Status.WriteFault → HasRisen (K.faults out.old) (K.faults out.new) }
@@ -49,12 +52,13 @@ pub fn run_parts<S: Source, K: Sink, G: Gate>(
     ensures completes { (HasRisen (S.faults source.old) (S.faults source.new) → ⊥) → (HasRisen (K.faults out.old) (K.faults out.new) → ⊥)
         → (bytes : List ℕ) → S.left source.old ≡ Some bytes → length bytes < longest_input → IsWorkedOff result }
 {
-    pass_parts(alloc, parts, form, config, source, out, gate)
+    pass_parts(alloc, parts, fields, form, config, source, out, gate)
 }
 
 fn pass_parts<S: Source, K: Sink, G: Gate>(
     alloc: Global,
     parts: u32,
+    fields: Fields<'_>,
     form: Form,
     config: Config,
     source: &mut S,
@@ -62,7 +66,7 @@ fn pass_parts<S: Source, K: Sink, G: Gate>(
     gate: &G,
 ) -> Status
     requires { (1 ≤ parts) × (parts ≤ 16) }
-    ensures ends { let rules = parts_rules parts config form in
+    ensures ends { let rules = parts_rules (names fields.entry) parts config form in
         Ends (IsBody is_bad rules) (IsText is_bad rules) (HasRefusal is_bad rules) (HasNoRefusal is_bad rules) result
         (S.left source.old) (S.left source.new) (K.taken out.old) (K.taken out.new) }
     ensures read_fault { result ≡ Status.ReadFault → HasRisen (S.faults source.old) (S.faults source.new) }
@@ -71,5 +75,5 @@ fn pass_parts<S: Source, K: Sink, G: Gate>(
     let Ok(parted) = Parted::new(alloc, parts, form, config) else {
         return Status::NoMemory;
     };
-    answer_lines(alloc, parted, source, out, gate)
+    answer_lines(alloc, parted, fields, source, out, gate)
 }

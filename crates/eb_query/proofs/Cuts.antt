@@ -9,7 +9,8 @@ use Rattle.std.specs.List.{position_or_len}
 use Rattle.std.specs.Str.{IsUtf8, IsCharBoundary}
 use Rattle.eb_query.specs.Digits.{is_no_digit}
 use Rattle.eb_query.specs.Grammar.{Lexeme, opening, closing, minus, broken}
-use Rattle.eb_query.specs.Lexemes.{Placed, is_blank, ends_run, is_quote, run_lexeme, is_run_end, has_tilde, quoted_lexeme, tilde_len, text_lexeme, window_lexeme, quoted, bare, first, lexemes}
+use Rattle.eb_query.specs.Lexemes.{Placed, is_blank, ends_run, is_quote, run_lexeme, is_run_end, has_tilde, quoted_lexeme, tilde_len, text_lexeme, window_lexeme, quoted, bare}
+use Rattle.eb_query.specs.Lexemes.{first, first_with, lexemes}
 use Rattle.eb_query.specs.Reading.{bad_query, too_deep}
 use Rattle.eb_base.specs.Query.{Tree}
 use Rattle.eb_query.specs.Machine.{State, step, is_deep, finish, ending, outcome}
@@ -39,6 +40,10 @@ first_quoted b bs e = rw e refl
 pub first_bare : (b : ℕ) (bs : List ℕ) → (b ≡ 40 → ⊥) → (b ≡ 41 → ⊥) → (b ≡ 45 → ⊥) → (b ≡ 34 → ⊥) → first b bs ≡ bare b bs
 unfolding first
 first_bare b bs h i j k = rw (ne_eqb b 40 h, ne_eqb b 41 i, ne_eqb b 45 j, ne_eqb b 34 k) refl
+
+pub first_none : (b : ℕ) (bs : List ℕ) → first_with [] b bs ≡ first b bs
+unfolding first_with
+first_none b bs = refl
 
 pub quoted_none : (bs : List ℕ) (n : ℕ) → n ≡ position_or_len is_quote bs → n ≡ length bs → quoted bs ≡ (broken, length bs)
 unfolding quoted
@@ -131,58 +136,61 @@ quote_boundary line at n u h e k =
     let s2 : get_or line (at + 1 + n) 0 < 128 = rw get_or-drop at s in
     IsCharBoundary-after_ascii line (at + 1 + n) u (omega (arith, length-drop (at + 1) line)) s2
 
-pub skip : (k c : ℕ) (bs : List ℕ) → lexemes k c bs ≡ lexemes 0 (c + k) (drop k bs)
+pub skip : (names : List (List ℕ)) (k c : ℕ) (bs : List ℕ) → lexemes names k c bs ≡ lexemes names 0 (c + k) (drop k bs)
 unfolding lexemes
-skip zero c bs = let e : c ≡ c + 0 = omega arith in ap (λ (d : ℕ). lexemes 0 d bs) e
-skip (suc k) c [] = refl
-skip (suc k) c (b ∷ bs) = let e : suc c + k ≡ c + suc k = omega arith in skip k (suc c) bs ∙ ap (λ (d : ℕ). lexemes 0 d (drop k bs)) e
+skip names zero c bs = let e : c ≡ c + 0 = omega arith in ap (λ (d : ℕ). lexemes names 0 d bs) e
+skip names (suc k) c [] = refl
+skip names (suc k) c (b ∷ bs) = let e : suc c + k ≡ c + suc k = omega arith in skip names k (suc c) bs ∙ ap (λ (d : ℕ). lexemes names 0 d (drop k bs)) e
 
-pub at_blank : (c b : ℕ) (bs : List ℕ) → is_blank b ≡ true → lexemes 0 c (b ∷ bs) ≡ lexemes 0 (suc c) bs
+pub at_blank : (names : List (List ℕ)) (c b : ℕ) (bs : List ℕ) → is_blank b ≡ true → lexemes names 0 c (b ∷ bs) ≡ lexemes names 0 (suc c) bs
 unfolding lexemes
-at_blank c b bs e = rw e refl
+at_blank names c b bs e = rw e refl
 
-pub at_lexeme : (c b : ℕ) (bs : List ℕ) → is_blank b ≡ false → lexemes 0 c (b ∷ bs) ≡ record { column = c; lexeme = (first b bs).0 } ∷ lexemes (first b bs).1 (suc c) bs
+pub at_lexeme : (names : List (List ℕ)) (c b : ℕ) (bs : List ℕ) → is_blank b ≡ false
+    → lexemes names 0 c (b ∷ bs) ≡ record { column = c; lexeme = (first_with names b bs).0 } ∷ lexemes names (first_with names b bs).1 (suc c) bs
 unfolding lexemes
-at_lexeme c b bs e = rw e refl
+at_lexeme names c b bs e = rw e refl
 
 pub placed_at : (line : List ℕ) (at : ℕ) → at < length line → drop at line ≡ get_or line at 0 ∷ drop (at + 1) line
 placed_at line at h = let e : suc at ≡ at + 1 = omega arith in drop-cons line at 0 h ∙ ap (λ (k : ℕ). get_or line at 0 ∷ drop k line) e
 
-pub lexemes_blank : (line : List ℕ) (at : ℕ) → at < length line → is_blank (get_or line at 0) ≡ true → lexemes 0 (at + 1) (drop at line) ≡ lexemes 0 (at + 1 + 1) (drop (at + 1) line)
-lexemes_blank line at h b =
+pub lexemes_blank : (names : List (List ℕ)) (line : List ℕ) (at : ℕ) → at < length line → is_blank (get_or line at 0) ≡ true
+    → lexemes names 0 (at + 1) (drop at line) ≡ lexemes names 0 (at + 1 + 1) (drop (at + 1) line)
+lexemes_blank names line at h b =
     let e : suc (at + 1) ≡ at + 1 + 1 = omega arith in
-    ap (lexemes 0 (at + 1)) (placed_at line at h) ∙ at_blank (at + 1) (get_or line at 0) (drop (at + 1) line) b
-    ∙ ap (λ (c : ℕ). lexemes 0 c (drop (at + 1) line)) e
+    ap (lexemes names 0 (at + 1)) (placed_at line at h) ∙ at_blank names (at + 1) (get_or line at 0) (drop (at + 1) line) b
+    ∙ ap (λ (c : ℕ). lexemes names 0 c (drop (at + 1) line)) e
 
-pub lexemes_next : (line : List ℕ) (at end : ℕ) → at < length line → is_blank (get_or line at 0) ≡ false → end ≡ at + 1 + (first (get_or line at 0) (drop (at + 1) line)).1
-    → lexemes 0 (at + 1) (drop at line) ≡ record { column = at + 1; lexeme = (first (get_or line at 0) (drop (at + 1) line)).0 } ∷ lexemes 0 (end + 1) (drop end line)
-lexemes_next line at end h b e =
+pub lexemes_next : (names : List (List ℕ)) (line : List ℕ) (at end : ℕ) → at < length line → is_blank (get_or line at 0) ≡ false
+    → end ≡ at + 1 + (first_with names (get_or line at 0) (drop (at + 1) line)).1
+    → lexemes names 0 (at + 1) (drop at line) ≡ record { column = at + 1; lexeme = (first_with names (get_or line at 0) (drop (at + 1) line)).0 } ∷ lexemes names 0 (end + 1) (drop end line)
+lexemes_next names line at end h b e =
     let b0 = get_or line at 0 in
     let bs = drop (at + 1) line in
-    let k = (first b0 bs).1 in
+    let k = (first_with names b0 bs).1 in
     let f : suc (at + 1) + k ≡ end + 1 = omega (arith, e) in
-    ap (lexemes 0 (at + 1)) (placed_at line at h) ∙ at_lexeme (at + 1) b0 bs b
-    ∙ ap (λ (ps : List Placed). record { column = at + 1; lexeme = (first b0 bs).0 } ∷ ps)
-    (skip k (suc (at + 1)) bs ∙ ap (lexemes 0 (suc (at + 1) + k)) (drop-drop k (at + 1) line ∙ ap (λ (d : ℕ). drop d line) (sym e))
-    ∙ ap (λ (c : ℕ). lexemes 0 c (drop end line)) f)
+    ap (lexemes names 0 (at + 1)) (placed_at line at h) ∙ at_lexeme names (at + 1) b0 bs b
+    ∙ ap (λ (ps : List Placed). record { column = at + 1; lexeme = (first_with names b0 bs).0 } ∷ ps)
+    (skip names k (suc (at + 1)) bs ∙ ap (lexemes names 0 (suc (at + 1) + k)) (drop-drop k (at + 1) line ∙ ap (λ (d : ℕ). drop d line) (sym e))
+    ∙ ap (λ (c : ℕ). lexemes names 0 c (drop end line)) f)
 
-pub lexemes_end : (line : List ℕ) (at : ℕ) → length line ≤ at → lexemes 0 (at + 1) (drop at line) ≡ []
+pub lexemes_end : (names : List (List ℕ)) (line : List ℕ) (at : ℕ) → length line ≤ at → lexemes names 0 (at + 1) (drop at line) ≡ []
 unfolding lexemes
-lexemes_end line at h = ap (lexemes 0 (at + 1)) (drop_all at line h)
+lexemes_end names line at h = ap (lexemes names 0 (at + 1)) (drop_all at line h)
 
 -- what a step of the reader says of the outcome
-pub stood : (line : List ℕ) (at end : ℕ) (l : Lexeme) (s t : State) → at < length line → is_blank (get_or line at 0) ≡ false
-    → l ≡ (first (get_or line at 0) (drop (at + 1) line)).0 → end ≡ at + 1 + (first (get_or line at 0) (drop (at + 1) line)).1
-    → step l s ≡ Some t → is_deep l s ≡ false → outcome line (lexemes 0 (at + 1) (drop at line)) s ≡ outcome line (lexemes 0 (end + 1) (drop end line)) t
-stood line at end l s t h b i e p q = rw (lexemes_next line at end h b e, ← i, p, q) refl
+pub stood : (names : List (List ℕ)) (line : List ℕ) (at end : ℕ) (l : Lexeme) (s t : State) → at < length line → is_blank (get_or line at 0) ≡ false
+    → l ≡ (first_with names (get_or line at 0) (drop (at + 1) line)).0 → end ≡ at + 1 + (first_with names (get_or line at 0) (drop (at + 1) line)).1
+    → step l s ≡ Some t → is_deep l s ≡ false → outcome line (lexemes names 0 (at + 1) (drop at line)) s ≡ outcome line (lexemes names 0 (end + 1) (drop end line)) t
+stood names line at end l s t h b i e p q = rw (lexemes_next names line at end h b e, ← i, p, q) refl
 
-pub misplaced : (line : List ℕ) (at : ℕ) (l : Lexeme) (s : State) → at < length line → is_blank (get_or line at 0) ≡ false
-    → l ≡ (first (get_or line at 0) (drop (at + 1) line)).0 → step l s ≡ None → outcome line (lexemes 0 (at + 1) (drop at line)) s ≡ bad_query (at + 1)
-misplaced line at l s h b i p = rw (lexemes_next line at _ h b refl, ← i, p) refl
+pub misplaced : (names : List (List ℕ)) (line : List ℕ) (at : ℕ) (l : Lexeme) (s : State) → at < length line → is_blank (get_or line at 0) ≡ false
+    → l ≡ (first_with names (get_or line at 0) (drop (at + 1) line)).0 → step l s ≡ None → outcome line (lexemes names 0 (at + 1) (drop at line)) s ≡ bad_query (at + 1)
+misplaced names line at l s h b i p = rw (lexemes_next names line at _ h b refl, ← i, p) refl
 
-pub deep : (line : List ℕ) (at : ℕ) (l : Lexeme) (s t : State) → at < length line → is_blank (get_or line at 0) ≡ false
-    → l ≡ (first (get_or line at 0) (drop (at + 1) line)).0 → step l s ≡ Some t → is_deep l s ≡ true → outcome line (lexemes 0 (at + 1) (drop at line)) s ≡ too_deep
-deep line at l s t h b i p q = rw (lexemes_next line at _ h b refl, ← i, p, q) refl
+pub deep : (names : List (List ℕ)) (line : List ℕ) (at : ℕ) (l : Lexeme) (s t : State) → at < length line → is_blank (get_or line at 0) ≡ false
+    → l ≡ (first_with names (get_or line at 0) (drop (at + 1) line)).0 → step l s ≡ Some t → is_deep l s ≡ true → outcome line (lexemes names 0 (at + 1) (drop at line)) s ≡ too_deep
+deep names line at l s t h b i p q = rw (lexemes_next names line at _ h b refl, ← i, p, q) refl
 
 -- what a range of the line reads
 pub rest_is : (line : List ℕ) (k : ℕ) → take (length line - k) (drop k line) ≡ drop k line
@@ -200,9 +208,9 @@ bare_part line part at n l h =
     let e : at + 1 + n - at ≡ suc n = omega arith in
     h ∙ ap (λ (k : ℕ). take k (drop at line)) e ∙ ap (take (suc n)) (placed_at line at l)
 
-pub at_end : (line : List ℕ) (at : ℕ) (s : State) (o : Option Tree) → length line ≤ at → finish s ≡ o → outcome line (lexemes 0 (at + 1) (drop at line)) s ≡ ending line o
-at_end line at s o h e = ap (λ (ps : List Placed). outcome line ps s) (lexemes_end line at h) ∙ ap (ending line) e
+pub at_end : (names : List (List ℕ)) (line : List ℕ) (at : ℕ) (s : State) (o : Option Tree) → length line ≤ at → finish s ≡ o → outcome line (lexemes names 0 (at + 1) (drop at line)) s ≡ ending line o
+at_end names line at s o h e = ap (λ (ps : List Placed). outcome line ps s) (lexemes_end names line at h) ∙ ap (ending line) e
 
-pub nothing_left : (d : ℕ) → lexemes 0 d [] ≡ []
+pub nothing_left : (names : List (List ℕ)) (d : ℕ) → lexemes names 0 d [] ≡ []
 unfolding lexemes
-nothing_left d = refl
+nothing_left names d = refl

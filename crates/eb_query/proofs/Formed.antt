@@ -4,9 +4,11 @@ use Rattle.std.proofs.lemmas.Bool.{ltb-true, and_parts}
 use Rattle.eb_base.specs.Query.{Tree, trees_of, and_of, or_of, size, IsFormed, AreFormed, IsWellFormed, leaf_of, window_of, most_size, most_reach, since}
 use Rattle.eb_text.specs.Tokens.{tokens_of}
 use Rattle.eb_query.specs.Digits.{is_no_digit, decimal_after}
+use Rattle.eb_fields.specs.Fields.{begun_name}
 use Rattle.eb_query.specs.Grammar.{Lexeme, opening, closing, minus, or_word, leaf, broken, IsUnary, a_leaf, a_minus, a_group, IsAnd, last, beside, IsOr, final, either, GivesTree}
 use Rattle.eb_query.specs.Lexemes.{Placed, is_blank, ends_run, text_lexeme, is_reach, reach_by, reach_of, window_lexeme, has_tilde, quoted_lexeme}
-use Rattle.eb_query.specs.Lexemes.{tilde_len, id_of, run_lexeme, of_leaf, quoted, bare, first, lexemes, is_quote}
+use Rattle.eb_query.specs.Lexemes.{tilde_len, id_of, run_lexeme, of_leaf, quoted, bare, first, bare_value, quoted_value, has_quote, value_lexeme, named_lexeme}
+use Rattle.eb_query.specs.Lexemes.{first_with, lexemes, is_quote}
 use Rattle.eb_query.specs.Number.{number_in_line}
 use Rattle.eb_query.specs.Reading.{Outcome, asks, too_many_nodes, IsOutcome, stands, cannot_stand, stands_too_deep, incomplete, large, complete}
 use Rattle.eb_query.specs.Machine.{start, sized, outcome}
@@ -159,20 +161,44 @@ first_sound b bs = go (eqb b 40) (eqb b 41) (eqb b 45) (eqb b 34)
     go false false false true = quoted_sound bs
     go false false false false = bare_sound b bs
 
-lexemes_sound : (k c : ℕ) (bs : List ℕ) → ArePlacedSound (lexemes k c bs)
+either_sound : (l m : Lexeme × ℕ) → IsSound l.0 → IsSound m.0 → (b : Bool) → IsSound (cond {A = Lexeme × ℕ} b l m).0
+either_sound l m h k true = h
+either_sound l m h k false = k
+
+bare_value_sound : (name bs : List ℕ) → IsSound (bare_value name bs).0
+unfolding bare_value
+bare_value_sound name bs = either_sound _ _ tt tt (eqb (position_or_len ends_run bs) 0)
+
+quoted_value_sound : (name bs : List ℕ) → IsSound (quoted_value name bs).0
+unfolding quoted_value
+quoted_value_sound name bs = either_sound _ _ tt tt (nat_lt (position_or_len is_quote bs) (length bs))
+
+value_sound : (name bs : List ℕ) → IsSound (value_lexeme name bs).0
+unfolding value_lexeme
+value_sound name bs = either_sound _ _ (quoted_value_sound name (drop 1 bs)) (bare_value_sound name bs) (has_quote bs)
+
+named_sound : (name : Option (List ℕ)) (b : ℕ) (bs : List ℕ) → IsSound (named_lexeme name b bs).0
+named_sound None b bs = first_sound b bs
+named_sound (Some name) b bs = value_sound name (drop (length name) bs)
+
+first_with_sound : (names : List (List ℕ)) (b : ℕ) (bs : List ℕ) → IsSound (first_with names b bs).0
+unfolding first_with
+first_with_sound names b bs = named_sound (begun_name names (b ∷ bs)) b bs
+
+lexemes_sound : (names : List (List ℕ)) (k c : ℕ) (bs : List ℕ) → ArePlacedSound (lexemes names k c bs)
 unfolding lexemes
-lexemes_sound k c [] = tt
-lexemes_sound (suc k) c (b ∷ bs) = lexemes_sound k (suc c) bs
-lexemes_sound zero c (b ∷ bs) = go (is_blank b) (lexemes_sound zero (suc c) bs) (lexemes_sound (first b bs).1 (suc c) bs)
+lexemes_sound names k c [] = tt
+lexemes_sound names (suc k) c (b ∷ bs) = lexemes_sound names k (suc c) bs
+lexemes_sound names zero c (b ∷ bs) = go (is_blank b) (lexemes_sound names zero (suc c) bs) (lexemes_sound names (first_with names b bs).1 (suc c) bs)
   where
-    go : (x : Bool) → ArePlacedSound (lexemes zero (suc c) bs) → ArePlacedSound (lexemes (first b bs).1 (suc c) bs)
-        → ArePlacedSound (cond x (lexemes zero (suc c) bs) (record { column = c; lexeme = (first b bs).0 } ∷ lexemes (first b bs).1 (suc c) bs))
+    go : (x : Bool) → ArePlacedSound (lexemes names zero (suc c) bs) → ArePlacedSound (lexemes names (first_with names b bs).1 (suc c) bs)
+        → ArePlacedSound (cond x (lexemes names zero (suc c) bs) (record { column = c; lexeme = (first_with names b bs).0 } ∷ lexemes names (first_with names b bs).1 (suc c) bs))
     go true h i = h
-    go false h i = (first_sound b bs, i)
+    go false h i = (first_with_sound names b bs, i)
 
 -- what the reader gives is formed well
-pub given_formed : (line : List ℕ) (c : ℕ) (bs : List ℕ) (t : Tree) → outcome line (lexemes 0 c bs) start ≡ asks (number_in_line line) t → IsWellFormed t
-given_formed line c bs t e = outcome_formed (found line [] (lexemes 0 c bs) start refl) t e tt (lexemes_sound 0 c bs)
+pub given_formed : (names : List (List ℕ)) (line : List ℕ) (c : ℕ) (bs : List ℕ) (t : Tree) → outcome line (lexemes names 0 c bs) start ≡ asks (number_in_line line) t → IsWellFormed t
+given_formed names line c bs t e = outcome_formed (found line [] (lexemes names 0 c bs) start refl) t e tt (lexemes_sound names 0 c bs)
 
 pub sized_fits : (line : List ℕ) (t : Tree) → IsWellFormed t → sized line t ≡ asks (number_in_line line) t
 sized_fits line t w = go (nat_lt most_size (size t)) refl
@@ -181,9 +207,10 @@ sized_fits line t w = go (nat_lt most_size (size t)) refl
     go true h = let k = ltb-true _ _ h in let l = w.within in absurd (omega arith)
     go false h = refl
 
-pub sized_large : (line : List ℕ) (c : ℕ) (bs : List ℕ) (t : Tree) → outcome line (lexemes 0 c bs) start ≡ sized line t → (IsWellFormed t → ⊥) → outcome line (lexemes 0 c bs) start ≡ too_many_nodes
-sized_large line c bs t e n = go (nat_lt most_size (size t)) refl
+pub sized_large : (names : List (List ℕ)) (line : List ℕ) (c : ℕ) (bs : List ℕ) (t : Tree) → outcome line (lexemes names 0 c bs) start ≡ sized line t
+    → (IsWellFormed t → ⊥) → outcome line (lexemes names 0 c bs) start ≡ too_many_nodes
+sized_large names line c bs t e n = go (nat_lt most_size (size t)) refl
   where
-    go : (b : Bool) → nat_lt most_size (size t) ≡ b → outcome line (lexemes 0 c bs) start ≡ too_many_nodes
+    go : (b : Bool) → nat_lt most_size (size t) ≡ b → outcome line (lexemes names 0 c bs) start ≡ too_many_nodes
     go true h = e ∙ ap (λ (b : Bool). cond b too_many_nodes (asks (number_in_line line) t)) h
-    go false h = absurd (n (given_formed line c bs t (e ∙ ap (λ (b : Bool). cond b too_many_nodes (asks (number_in_line line) t)) h)))
+    go false h = absurd (n (given_formed names line c bs t (e ∙ ap (λ (b : Bool). cond b too_many_nodes (asks (number_in_line line) t)) h)))

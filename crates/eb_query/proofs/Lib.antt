@@ -15,3 +15,5 @@ pub mod OneOutcome
 pub mod SomeOutcome
 pub mod ReadBack
 pub mod Joins
+pub mod FieldValues
+pub mod Apartness

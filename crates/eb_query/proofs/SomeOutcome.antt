@@ -4,9 +4,9 @@ use Rattle.std.proofs.lemmas.Bool.{ltb-true}
 use Rattle.eb_base.specs.Match.{most_matches}
 use Rattle.eb_query.specs.Lexemes.{Placed}
 use Rattle.eb_query.specs.Number.{digits_len, number_in_line, is_blank_or_end, HasNumberUpTo, HasQueryNumber, HasWatchNumber, lexemes_of_line}
-use Rattle.eb_query.specs.Reading.{Outcome, bad_number, ReadsAs, without_number, with_number}
+use Rattle.eb_query.specs.Reading.{Outcome, bad_number, ReadsWith, without_number, with_number}
 use Rattle.eb_query.specs.WatchLine as watch
-use Rattle.eb_query.specs.WatchLine.{WatchOutcome, ReadsWatchAs, removes, reads, alone, with_text}
+use Rattle.eb_query.specs.WatchLine.{WatchOutcome, ReadsWatchWith, removes, reads, alone, with_text}
 use Rattle.eb_query.specs.Machine.{outcome, start}
 use Rattle.eb_query.proofs.Outcomes.{found}
 
@@ -30,19 +30,19 @@ has_number line = go (has_number_up_to 4 most_matches line) (nat_lt 0 (number_in
     go (inl u) true e = inl (record { up_to = u; positive = ltb-true _ _ e })
     go (inl u) false e = inr (λ h. let i = ltb-false _ _ e in let j = h.positive in omega arith)
 
-pub some_outcome : (line : List ℕ) → (o : Outcome) × ReadsAs line o
-some_outcome line =
+pub some_outcome : (names : List (List ℕ)) (line : List ℕ) → (o : Outcome) × ReadsWith names line o
+some_outcome names line =
     elim (has_number line) [
-      | inl h ↦ (outcome line (lexemes_of_line line) start, with_number h (found line [] (lexemes_of_line line) start refl))
+      | inl h ↦ (outcome line (lexemes_of_line names line) start, with_number h (found line [] (lexemes_of_line names line) start refl))
       | inr n ↦ (bad_number, without_number n)
     ]
 
-pub some_watch_outcome : (line : List ℕ) → (o : WatchOutcome) × ReadsWatchAs line o
-some_watch_outcome line = go (has_number_up_to 10 4294967295 line) (lexemes_of_line line) refl
+pub some_watch_outcome : (names : List (List ℕ)) (line : List ℕ) → (o : WatchOutcome) × ReadsWatchWith names line o
+some_watch_outcome names line = go (has_number_up_to 10 4294967295 line) (lexemes_of_line names line) refl
   where
-    go : HasWatchNumber line ⊎ (HasWatchNumber line → ⊥) → (ps : List Placed) → lexemes_of_line line ≡ ps → (o : WatchOutcome) × ReadsWatchAs line o
+    go : HasWatchNumber line ⊎ (HasWatchNumber line → ⊥) → (ps : List Placed) → lexemes_of_line names line ≡ ps → (o : WatchOutcome) × ReadsWatchWith names line o
     go (inr n) ps e = (reads bad_number, watch.without_number n)
     go (inl h) [] e = (removes (number_in_line line), alone h e)
     go (inl h) (p ∷ ps) e =
-        let some : lexemes_of_line line ≡ [] → ⊥ = λ none. cc in
-        (reads (outcome line (lexemes_of_line line) start), with_text h some (found line [] (lexemes_of_line line) start refl))
+        let some : lexemes_of_line names line ≡ [] → ⊥ = λ none. cc in
+        (reads (outcome line (lexemes_of_line names line) start), with_text h some (found line [] (lexemes_of_line names line) start refl))

@@ -12,7 +12,7 @@ use Rattle.eb_query.specs.Writing.{and_more_text, or_text, or_more_text, query_t
 use Rattle.eb_query.proofs.WrittenLexemes.{unary_lexemes, part_lexemes, and_lexemes, or_lexemes, or_more_lexemes, query_lexemes}
 use Rattle.eb_query.proofs.Decimals.{IsDecimal, decimal_is, digits_first, front_taken, front_dropped}
 use Rattle.eb_query.proofs.WrittenLeaves.{end_no_digit, reach_written, since_first}
-use Rattle.eb_query.proofs.Cuts.{end_no_tilde, quoted_text, quoted_window, no_tilde_len, tilde_digits, nothing_left, first_opening}
+use Rattle.eb_query.proofs.Cuts.{end_no_tilde, quoted_text, quoted_window, no_tilde_len, tilde_digits, nothing_left, first_none, first_opening}
 use Rattle.eb_query.proofs.Cuts.{first_closing, first_minus, first_quoted, quoted_some, skip, at_blank, at_lexeme}
 
 abbrev pub kinds : List Placed → List Lexeme
@@ -20,7 +20,7 @@ kinds ps = map (λ (p : Placed). p.lexeme) ps
 
 -- the text begins with these lexemes, and rest follows
 Cuts : List ℕ → List Lexeme → List ℕ → Type 0
-Cuts bs ls rest = (c : ℕ) → (d : ℕ) × (kinds (lexemes 0 c bs) ≡ ls ++ kinds (lexemes 0 d rest))
+Cuts bs ls rest = (c : ℕ) → (d : ℕ) × (kinds (lexemes [] 0 c bs) ≡ ls ++ kinds (lexemes [] 0 d rest))
 
 nothing_cut : (bs : List ℕ) → Cuts bs [] bs
 unfolding Cuts
@@ -28,18 +28,18 @@ nothing_cut bs c = (c, refl)
 
 then_cut : (xs bs cs : List ℕ) (ls ms : List Lexeme) → Cuts xs ls bs → Cuts bs ms cs → Cuts xs (ls ++ ms) cs
 unfolding Cuts
-then_cut xs bs cs ls ms h k c = let p = h c in let q = k p.0 in (q.0, p.1 ∙ ap (λ (ks : List Lexeme). ls ++ ks) q.1 ∙ sym (append_assoc ls ms (kinds (lexemes 0 q.0 cs))))
+then_cut xs bs cs ls ms h k c = let p = h c in let q = k p.0 in (q.0, p.1 ∙ ap (λ (ks : List Lexeme). ls ++ ks) q.1 ∙ sym (append_assoc ls ms (kinds (lexemes [] 0 q.0 cs))))
 
 blank_cut : (bs : List ℕ) → Cuts (32 ∷ bs) [] bs
 unfolding Cuts
-blank_cut bs c = (suc c, ap kinds (at_blank c 32 bs refl))
+blank_cut bs c = (suc c, ap kinds (at_blank [] c 32 bs refl))
 
 one_cut : (b : ℕ) (bs rest : List ℕ) (l : Lexeme) (k : ℕ) → is_blank b ≡ false → first b bs ≡ (l, k) → drop k bs ≡ rest → Cuts (b ∷ bs) (l ∷ []) rest
 unfolding Cuts
 one_cut b bs rest l k n f r c = (
   suc c + k,
-  ap kinds (at_lexeme c b bs n ∙ ap (λ (p : Lexeme × ℕ). record { column = c; lexeme = p.0 } ∷ lexemes p.1 (suc c) bs) f)
-      ∙ ap (λ (ps : List Placed). l ∷ kinds ps) (skip k (suc c) bs ∙ ap (lexemes 0 (suc c + k)) r),
+  ap kinds (at_lexeme [] c b bs n ∙ ap (λ (p : Lexeme × ℕ). record { column = c; lexeme = p.0 } ∷ lexemes [] p.1 (suc c) bs) (first_none b bs ∙ f))
+      ∙ ap (λ (ps : List Placed). l ∷ kinds ps) (skip [] k (suc c) bs ∙ ap (lexemes [] 0 (suc c + k)) r),
 )
 
 open_cut : (bs : List ℕ) → Cuts (40 ∷ bs) (opening ∷ []) bs
@@ -212,11 +212,11 @@ query_cut (negation t) rest f h end = unary_cut (negation t) rest f h end
 query_cut (conjunction ts) rest f h end = and_cut ts rest f.1 h end
 query_cut (disjunction ts) rest f h end = or_text_cut ts rest f.1 h end
 
-pub written_lexemes : (t : Tree) (c : ℕ) → IsFormed t → AreNamed t → kinds (lexemes 0 c (query_text t)) ≡ query_lexemes t
+pub written_lexemes : (t : Tree) (c : ℕ) → IsFormed t → AreNamed t → kinds (lexemes [] 0 c (query_text t)) ≡ query_lexemes t
 unfolding Cuts
 written_lexemes t c f h =
     let p = query_cut t [] f h refl c in
-    ap (λ (zs : List ℕ). kinds (lexemes 0 c zs)) (sym (append-nil (query_text t))) ∙ p.1 ∙ ap (λ (ks : List Lexeme). query_lexemes t ++ ks) (no_lexemes p.0) ∙ append-nil (query_lexemes t)
+    ap (λ (zs : List ℕ). kinds (lexemes [] 0 c zs)) (sym (append-nil (query_text t))) ∙ p.1 ∙ ap (λ (ks : List Lexeme). query_lexemes t ++ ks) (no_lexemes p.0) ∙ append-nil (query_lexemes t)
   where
-    no_lexemes : (d : ℕ) → kinds (lexemes 0 d []) ≡ []
-    no_lexemes d = ap kinds (nothing_left d)
+    no_lexemes : (d : ℕ) → kinds (lexemes [] 0 d []) ≡ []
+    no_lexemes d = ap kinds (nothing_left [] d)

@@ -1,37 +1,49 @@
 -- What holds of reading and writing, over the definitions alone.
-use Rattle.std.specs.Prelude.{◌≡◌, ℕ, ◌≤◌, List, map}
+use Rattle.std.specs.Prelude.{◌≡◌, ◌⊎◌, ℕ, ◌≤◌, List, [], map}
+use Rattle.std.specs.Str.{IsUtf8}
 use Rattle.eb_base.specs.Query.{Tree, IsWellFormed}
 use Rattle.eb_query.specs.Grammar.{Lexeme}
 use Rattle.eb_query.specs.Nesting.{NestsWithin}
-use Rattle.eb_query.specs.Lexemes.{Placed}
+use Rattle.eb_query.specs.Lexemes.{Placed, first, first_with}
 use Rattle.eb_query.specs.Number.{lexemes_of_line}
-use Rattle.eb_query.specs.Reading.{Outcome, asks, ReadsAs}
-use Rattle.eb_query.specs.WatchLine.{WatchOutcome, ReadsWatchAs}
+use Rattle.eb_query.specs.Reading.{Outcome, asks, ReadsWith, ReadsAs}
+use Rattle.eb_query.specs.WatchLine.{WatchOutcome, reads, ReadsWatchWith}
+use Rattle.eb_query.specs.Apart.{IsApart}
 use Rattle.eb_query.specs.Writing.{AreNamed, line_text}
 use Rattle.eb_base.specs.Match.{most_matches}
 
--- the rules leave no line out: each asks something or is refused
+-- the rules leave no line out, whatever fields are read: each asks something or is refused
 abbrev pub SomeReading : Type 0
-SomeReading = (line : List ℕ) → (o : Outcome) × ReadsAs line o
+SomeReading = (names : List (List ℕ)) (line : List ℕ) → (o : Outcome) × ReadsWith names line o
 
 -- a line has one reading: what it asks, and where and why it is refused, is settled by the rules
 abbrev pub OneReading : Type 0
-OneReading = (line : List ℕ) (a b : Outcome) → ReadsAs line a → ReadsAs line b → a ≡ b
+OneReading = (names : List (List ℕ)) (line : List ℕ) (a b : Outcome) → ReadsWith names line a → ReadsWith names line b → a ≡ b
 
 -- and so of watch lines: none is left out
 abbrev pub SomeWatchReading : Type 0
-SomeWatchReading = (line : List ℕ) → (o : WatchOutcome) × ReadsWatchAs line o
+SomeWatchReading = (names : List (List ℕ)) (line : List ℕ) → (o : WatchOutcome) × ReadsWatchWith names line o
 
 -- and each has one reading
 abbrev pub OneWatchReading : Type 0
-OneWatchReading = (line : List ℕ) (a b : WatchOutcome) → ReadsWatchAs line a → ReadsWatchAs line b → a ≡ b
+OneWatchReading =
+    (names : List (List ℕ)) (line : List ℕ) (a b : WatchOutcome) → ReadsWatchWith names line a → ReadsWatchWith names line b → a ≡ b
 
--- the lexemes of a line's query text, in order
+-- the lexemes of a line's query text, in order, without fields
 abbrev pub kinds_of_line : List ℕ → List Lexeme
-kinds_of_line line = map (λ (p : Placed). p.lexeme) (lexemes_of_line line)
+kinds_of_line line = map (λ (p : Placed). p.lexeme) (lexemes_of_line [] line)
 
 -- what is written for a number and a query asks for that number of matches of that query, where
 -- the texts of its leaves can be named and the written text doesn't nest too deep
 abbrev pub ReadsBack : Type 0
 ReadsBack = (k : ℕ) (t : Tree) → 1 ≤ k → k ≤ most_matches → IsWellFormed t → AreNamed t
     → NestsWithin (kinds_of_line (line_text k t)) → ReadsAs (line_text k t) (asks k t)
+
+-- without fields a lexeme is what it is where nothing of fields is known
+abbrev pub WithoutFields : Type 0
+WithoutFields = (b : ℕ) (bs : List ℕ) → first_with [] b bs ≡ first b bs
+
+-- whatever fields are read, a query's phrases and windows are of texts, so that no field's term stands in them
+abbrev pub FieldsApart : Type 0
+FieldsApart = (names : List (List ℕ)) (line : List ℕ) (k : ℕ) (t : Tree) → IsUtf8 line
+    → ReadsWith names line (asks k t) ⊎ ReadsWatchWith names line (reads (asks k t)) → IsApart t

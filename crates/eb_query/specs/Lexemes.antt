@@ -4,8 +4,9 @@ use Rattle.std.specs.Prelude.{ℕ, zero, suc, ◌+◌, nat_lt, nat_le, eqb, ◌&
 use Rattle.std.specs.Prelude.{List, [], ◌∷◌, length, take, drop, codes, Option, Some, None, option_map, option_and_then}
 use Rattle.std.specs.List.{position_or_len, starts_with}
 use Rattle.std.specs.Str.{bytes_eq}
-use Rattle.eb_base.specs.Query.{Tree, since, leaf_of, window_of, most_reach}
+use Rattle.eb_base.specs.Query.{Tree, word, since, leaf_of, window_of, most_reach}
 use Rattle.eb_text.specs.Tokens.{tokens_of}
+use Rattle.eb_fields.specs.Fields.{begun_name, field_term}
 use Rattle.eb_query.specs.Digits.{is_no_digit, decimal_after}
 use Rattle.eb_query.specs.Grammar.{Lexeme, opening, closing, minus, or_word, leaf, broken}
 
@@ -106,7 +107,7 @@ run_lexeme run =
 unfoldable pub bare : ℕ → List ℕ → Lexeme × ℕ
 bare b bs = (run_lexeme (b ∷ take (position_or_len ends_run bs) bs), position_or_len ends_run bs)
 
--- the lexeme that begins with b, and how many of the bytes bs after it belong to it
+-- the lexeme that begins with b, and how many of the bytes bs after it belong to it, where there are no fields
 unfoldable pub first : ℕ → List ℕ → Lexeme × ℕ
 first b bs =
     if eqb b 40 then (opening, 0)
@@ -115,10 +116,46 @@ first b bs =
     else if eqb b 34 then quoted bs
     else bare b bs
 
+-- what asks for a field's value: its term, as a word
+abbrev pub field_leaf : List ℕ → List ℕ → Lexeme
+field_leaf name value = leaf (word (field_term name value))
+
+-- a field's value up to what ends a run, one byte at least, and how many bytes it has
+unfoldable pub bare_value : List ℕ → List ℕ → Lexeme × ℕ
+bare_value name bs =
+    if eqb (position_or_len ends_run bs) 0 then (broken, 0) else (field_leaf name (take (position_or_len ends_run bs) bs), position_or_len ends_run bs)
+
+-- after a quotation mark: a field's value up to the next one, and how many bytes belong to the lexeme
+unfoldable pub quoted_value : List ℕ → List ℕ → Lexeme × ℕ
+quoted_value name bs =
+    if nat_lt (position_or_len is_quote bs) (length bs) then (field_leaf name (take (position_or_len is_quote bs) bs), position_or_len is_quote bs + 1)
+    else (broken, length bs)
+
+-- a quotation mark comes first
+abbrev pub has_quote : List ℕ → Bool
+has_quote [] = false
+has_quote (b ∷ bs) = is_quote b
+
+-- after a field's name and colon: its value, between quotation marks or as a run, and how many bytes belong to the lexeme
+unfoldable pub value_lexeme : List ℕ → List ℕ → Lexeme × ℕ
+value_lexeme name bs =
+    if has_quote bs then ((quoted_value name (drop 1 bs)).0, 1 + (quoted_value name (drop 1 bs)).1) else bare_value name bs
+
+-- the lexeme that begins with b, where this field is named there
+abbrev pub named_lexeme : Option (List ℕ) → ℕ → List ℕ → Lexeme × ℕ
+named_lexeme None b bs = first b bs
+named_lexeme (Some name) b bs =
+    ((value_lexeme name (drop (length name) bs)).0, length name + (value_lexeme name (drop (length name) bs)).1)
+
+-- the lexeme that begins with b, and how many of the bytes bs after it belong to it: a field's, where one of these names and a
+-- colon come first, else as without fields
+unfoldable pub first_with : List (List ℕ) → ℕ → List ℕ → Lexeme × ℕ
+first_with names b bs = named_lexeme (begun_name names (b ∷ bs)) b bs
+
 -- the lexemes from the column c on, where the first k bytes belong to an earlier one
-unfoldable pub lexemes : ℕ → ℕ → List ℕ → List Placed
-lexemes k c [] = []
-lexemes (suc k) c (b ∷ bs) = lexemes k (suc c) bs
-lexemes zero c (b ∷ bs) =
-    if is_blank b then lexemes zero (suc c) bs
-    else record { column = c; lexeme = (first b bs).0 } ∷ lexemes (first b bs).1 (suc c) bs
+unfoldable pub lexemes : List (List ℕ) → ℕ → ℕ → List ℕ → List Placed
+lexemes names k c [] = []
+lexemes names (suc k) c (b ∷ bs) = lexemes names k (suc c) bs
+lexemes names zero c (b ∷ bs) =
+    if is_blank b then lexemes names zero (suc c) bs
+    else record { column = c; lexeme = (first_with names b bs).0 } ∷ lexemes names (first_with names b bs).1 (suc c) bs

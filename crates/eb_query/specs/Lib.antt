@@ -9,6 +9,7 @@ pub mod WatchLine
 pub mod Refusal
 pub mod Writing
 pub mod Gaps
+pub mod Apart
 pub mod Laws
 -- What only proofs name: the reader as a machine, and what its values stand for.
 pub mod Machine

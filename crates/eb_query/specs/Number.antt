@@ -34,6 +34,6 @@ pub record HasQueryNumber (line : List ℕ) : Type 0 where
 abbrev pub HasWatchNumber : List ℕ → Type 0
 HasWatchNumber line = HasNumberUpTo 10 4294967295 line
 
--- the lexemes of the query text, which is all after the digits
-unfoldable pub lexemes_of_line : List ℕ → List Placed
-lexemes_of_line line = lexemes 0 (2 + digits_len line) (drop (1 + digits_len line) line)
+-- the lexemes of the query text, which is all after the digits, where the fields of these names are read
+unfoldable pub lexemes_of_line : List (List ℕ) → List ℕ → List Placed
+lexemes_of_line names line = lexemes names 0 (2 + digits_len line) (drop (1 + digits_len line) line)

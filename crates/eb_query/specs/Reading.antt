@@ -38,9 +38,13 @@ pub data IsOutcome (line : List ℕ) : List Lexeme → List Placed → Outcome �
   complete : {before : List Lexeme} {t : Tree}
       → GivesTree before t → size t ≤ most_size → IsOutcome line before [] (asks (number_in_line line) t)
 
--- The line, which begins with a question mark, reads as this outcome.
-pub data ReadsAs (line : List ℕ) : Outcome → Type 0 where
+-- The line, which begins with a question mark, reads as this outcome, where the fields of these names are read.
+pub data ReadsWith (names : List (List ℕ)) (line : List ℕ) : Outcome → Type 0 where
   -- it has no number
-  without_number : (HasQueryNumber line → ⊥) → ReadsAs line bad_number
+  without_number : (HasQueryNumber line → ⊥) → ReadsWith names line bad_number
   -- it has one, and its query text decides
-  with_number : {o : Outcome} → HasQueryNumber line → IsOutcome line [] (lexemes_of_line line) o → ReadsAs line o
+  with_number : {o : Outcome} → HasQueryNumber line → IsOutcome line [] (lexemes_of_line names line) o → ReadsWith names line o
+
+-- and so without fields
+abbrev pub ReadsAs : List ℕ → Outcome → Type 0
+ReadsAs = ReadsWith []

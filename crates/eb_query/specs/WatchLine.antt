@@ -10,15 +10,19 @@ pub data WatchOutcome : Type 0 where
   removes : (number : ℕ) → WatchOutcome
   reads : Outcome → WatchOutcome
 
--- The line, which begins with an exclamation mark, reads as this outcome.
-pub data ReadsWatchAs (line : List ℕ) : WatchOutcome → Type 0 where
+-- The line, which begins with an exclamation mark, reads as this outcome, where the fields of these names are read.
+pub data ReadsWatchWith (names : List (List ℕ)) (line : List ℕ) : WatchOutcome → Type 0 where
   -- it has no number
-  without_number : (HasWatchNumber line → ⊥) → ReadsWatchAs line (reads bad_number)
+  without_number : (HasWatchNumber line → ⊥) → ReadsWatchWith names line (reads bad_number)
   -- it has one, and nothing but blanks after it
-  alone : HasWatchNumber line → lexemes_of_line line ≡ [] → ReadsWatchAs line (removes (number_in_line line))
+  alone : HasWatchNumber line → lexemes_of_line names line ≡ [] → ReadsWatchWith names line (removes (number_in_line line))
   -- it has one, and the query text after it decides
-  with_text : {o : Outcome} → HasWatchNumber line → (lexemes_of_line line ≡ [] → ⊥)
-      → IsOutcome line [] (lexemes_of_line line) o → ReadsWatchAs line (reads o)
+  with_text : {o : Outcome} → HasWatchNumber line → (lexemes_of_line names line ≡ [] → ⊥)
+      → IsOutcome line [] (lexemes_of_line names line) o → ReadsWatchWith names line (reads o)
+
+-- and so without fields
+abbrev pub ReadsWatchAs : List ℕ → WatchOutcome → Type 0
+ReadsWatchAs = ReadsWatchWith []
 
 -- the outcome of a watch line by its number, and by its query if it has one
 abbrev pub watch_asked : ℕ → Option Tree → WatchOutcome

@@ -1,7 +1,7 @@
-ghost use Rattle.eb_query.specs.Laws.{SomeReading, OneReading, SomeWatchReading, OneWatchReading, ReadsBack};
+ghost use Rattle.eb_query.specs.Laws.{SomeReading, OneReading, SomeWatchReading, OneWatchReading, ReadsBack, WithoutFields, FieldsApart};
 
-/// The rules of reading leave no line out: each has an outcome, which asks something or is a
-/// refusal. The call does nothing.
+/// The rules of reading leave no line out, whatever fields are read: each has an outcome, which asks
+/// something or is a refusal. The call does nothing.
 pub fn some_reading()
     ensures { SomeReading }
 {}
@@ -37,4 +37,20 @@ pub fn one_watch_reading()
 /// [`write_query`]: crate::write_query
 pub fn reads_back()
     ensures { ReadsBack }
+{}
+
+/// A law: without fields a lexeme is read as the rules say that know nothing of fields. So
+/// [`read_query`] and [`read_watch`] read what they read before there were any. The call does nothing.
+///
+/// [`read_query`]: crate::read_query
+/// [`read_watch`]: crate::read_watch
+pub fn without_fields()
+    ensures { WithoutFields }
+{}
+
+/// A law: whatever fields are read, the terms of each phrase and each window that a line asks for are the
+/// tokens of a text. No field's term is such a token ([`is_no_token`](eb_fields::is_no_token)), so a field's term
+/// is only ever asked for as a word. The call does nothing.
+pub fn fields_apart()
+    ensures { FieldsApart }
 {}

@@ -1,12 +1,15 @@
 ghost use Rattle.std.specs.Prelude.{◌≡◌, ◌+◌, ◌<◌, length, drop, slice_index, IfOk};
 ghost use Rattle.std.specs.List.{position_or_len};
 ghost use Rattle.std.specs.Str.{IsCharBoundary};
-ghost use Rattle.eb_query.specs.Lexemes.{is_blank, ends_run, text_lexeme, run_lexeme, bare, first};
+ghost use Rattle.eb_fields.specs.Fields.{names};
+ghost use Rattle.eb_query.specs.Lexemes.{is_blank, ends_run, text_lexeme, run_lexeme, bare, first, first_with};
 ghost use Rattle.eb_query.specs.Views.{lexeme_of};
 
 use crate::bound::read_id;
 use crate::quoted::quoted_at;
+use crate::value::value_at;
 use eb_base::{NoMemory, Query};
+use eb_fields::Fields;
 use eb_text::tokens;
 use std::alloc::Global;
 
@@ -21,10 +24,10 @@ pub enum Lexeme {
     Minus,
     /// The run `OR`.
     OrWord,
-    /// A bare word, a quoted text, a window text or a bound, by what it asks.
+    /// A bare word, a quoted text, a window text, a bound or a field's value, by what it asks.
     Leaf(Query),
-    /// A quote that isn't closed, a text without a token, a window text without a reach, or a bound
-    /// without an id.
+    /// A quote that isn't closed, a text without a token, a window text without a reach, a bound
+    /// without an id, or a field without a value.
     Broken,
 }
 
@@ -51,8 +54,8 @@ pub fn ends_run_byte(byte: u8) -> bool
     is_blank_byte(byte) || byte == b'(' || byte == b')' || byte == b'"'
 }
 
-// How many bytes stand in front that belong to a bare word.
-fn run_len(bytes: &[u8]) -> usize
+/// How many bytes stand in front that belong to a bare word.
+pub fn run_len(bytes: &[u8]) -> usize
     ensures { result ≡ position_or_len ends_run bytes.now }
 {
     for (at, byte) in bytes.iter().enumerate() {
@@ -107,8 +110,8 @@ fn bare_at(alloc: Global, line: &str, at: usize) -> Result<Found, NoMemory>
     Ok(Found { lexeme, end })
 }
 
-/// The lexeme that begins at this place of the line, where no blank stands.
-pub fn lexeme_at(alloc: Global, line: &str, at: usize) -> Result<Found, NoMemory>
+// The lexeme that begins at this place of the line, where no blank stands and no field is named.
+fn first_at(alloc: Global, line: &str, at: usize) -> Result<Found, NoMemory>
     requires boundary { IsCharBoundary line.now at }
     requires within { at < length line.now }
     ensures lexeme { IfOk result (λ found.
@@ -140,4 +143,25 @@ pub fn lexeme_at(alloc: Global, line: &str, at: usize) -> Result<Found, NoMemory
         return quoted_at(alloc, line, at);
     }
     bare_at(alloc, line, at)
+}
+
+/// The lexeme that begins at this place of the line, where no blank stands.
+pub fn lexeme_at(
+    alloc: Global,
+    fields: Fields<'_>,
+    line: &str,
+    at: usize,
+) -> Result<Found, NoMemory>
+    requires boundary { IsCharBoundary line.now at }
+    requires within { at < length line.now }
+    ensures lexeme { IfOk result (λ found.
+        lexeme_of found.lexeme ≡ (first_with (names fields.entry) (slice_index line.now at) (drop (at + 1) line.now)).0) }
+    ensures end { IfOk result (λ found.
+        found.end ≡ at + 1 + (first_with (names fields.entry) (slice_index line.now at) (drop (at + 1) line.now)).1) }
+    ensures boundary { IfOk result (λ found. IsCharBoundary line.now found.end) }
+{
+    match fields.begun_by(&line[at..]) {
+        Some(name) => value_at(alloc, name, line, at + name.len() + 1),
+        None => first_at(alloc, line, at),
+    }
 }

@@ -2,9 +2,11 @@
 //! ids, `OR`, `-` and parentheses; and watch lines: `!`, the number of a watch, and the query that it is set
 //! to, or nothing where it is removed (this project's profile, docs/FORMATS.md). [`read_query`] reads a query
 //! line, [`write_query`] writes one, and [`read_watch`] reads a watch line. What a line asks, and where and why
-//! another is refused, is told by the rules in `specs/`. That they give each line a reading, and one alone, and
+//! another is refused, is told by the rules in `specs/`. With fields, [`read_query_with`] and [`read_watch_with`] read
+//! the same lines, where a field's name and value ask for the documents that have them. That they give each line a reading, and one alone, and
 //! that what is written reads back, are the laws [`some_reading`], [`one_reading`], [`some_watch_reading`],
-//! [`one_watch_reading`] and [`reads_back`].
+//! [`one_watch_reading`] and [`reads_back`]; that without fields nothing of
+//! them is read is [`without_fields`], and that a field's term stands in no phrase or window is [`fields_apart`].
 #![tactic(auto)]
 
 mod bound;
@@ -15,12 +17,16 @@ mod number;
 mod quoted;
 mod read;
 mod reader;
+mod value;
 mod watch;
 mod write;
 
-pub use laws::{one_reading, one_watch_reading, reads_back, some_reading, some_watch_reading};
+pub use laws::{
+    fields_apart, one_reading, one_watch_reading, reads_back, some_reading, some_watch_reading,
+    without_fields,
+};
 pub use number::MAX_NUMBER;
-pub use read::{QueryFault, read_query};
+pub use read::{QueryFault, read_query, read_query_with};
 pub use reader::MAX_NESTING;
-pub use watch::read_watch;
+pub use watch::{read_watch, read_watch_with};
 pub use write::write_query;

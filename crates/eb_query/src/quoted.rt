@@ -13,8 +13,8 @@ use eb_base::{MAX_REACH, NoMemory, Query};
 use eb_text::tokens;
 use std::alloc::Global;
 
-// How many bytes stand before the first quotation mark; all, if there is none.
-fn quote_at(bytes: &[u8]) -> usize
+/// How many bytes stand before the first quotation mark; all, if there is none.
+pub fn quote_at(bytes: &[u8]) -> usize
     ensures { result ≡ position_or_len is_quote bytes.now }
 {
     for (at, byte) in bytes.iter().enumerate() {

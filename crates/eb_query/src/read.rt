@@ -2,8 +2,9 @@ ghost use Rattle.std.specs.Prelude.{◌≡◌, ◌+◌, ◌≤◌, length, drop,
 ghost use Rattle.std.specs.Str.{IsCharBoundary};
 ghost use Rattle.eb_base.specs.Query.{tree, IsWellFormed};
 ghost use Rattle.eb_query.specs.Lexemes.{lexemes};
-ghost use Rattle.eb_query.specs.Reading.{asks, ReadsAs};
-ghost use Rattle.eb_query.specs.Refusal.{IsRefused};
+ghost use Rattle.eb_fields.specs.Fields.{names};
+ghost use Rattle.eb_query.specs.Reading.{asks, ReadsAs, ReadsWith};
+ghost use Rattle.eb_query.specs.Refusal.{IsRefused, IsRefusedWith};
 ghost use Rattle.eb_query.specs.Machine.{start, outcome};
 ghost use Rattle.eb_query.specs.Views.{Finds};
 ghost use Rattle.eb_base.specs.Match.{most_matches};
@@ -12,6 +13,7 @@ use crate::lexeme::{is_blank_byte, lexeme_at};
 use crate::number::number_at;
 use crate::reader::{Reader, Step};
 use eb_base::{NoMemory, Query};
+use eb_fields::Fields;
 use std::alloc::Global;
 use std::error::Error;
 use std::fmt;
@@ -24,7 +26,8 @@ pub enum QueryFault {
     /// one to ten of a value that 32 bits hold, with a blank or the end of the line after them.
     BadNumber,
     /// A lexeme can't stand at its place, is a quote that isn't closed, has no token, or is a window
-    /// text without a reach or a bound without an id; or the line ends before the query is complete.
+    /// text without a reach, a bound without an id or a field without a value; or the line ends before the query is
+    /// complete.
     BadQuery {
         /// The place of the lexeme's first byte in the line, counted from 1 with the mark in front
         /// as 1; at the end of the line its length plus 1.
@@ -70,11 +73,16 @@ impl From<NoMemory> for QueryFault {
 }
 
 // What the text that begins at this place asks.
-pub(crate) fn read_text(alloc: Global, line: &str, from: usize) -> Result<Query, QueryFault>
+pub(crate) fn read_text(
+    alloc: Global,
+    fields: Fields<'_>,
+    line: &str,
+    from: usize,
+) -> Result<Query, QueryFault>
     requires boundary { IsCharBoundary line.now from }
     requires within { from ≤ length line.now }
     ensures { Finds line.now
-        (outcome line.now (lexemes 0 (from + 1) (drop from line.now)) start) result }
+        (outcome line.now (lexemes (names fields.entry) 0 (from + 1) (drop from line.now)) start) result }
 {
     let mut reader = Reader::new(alloc);
     let mut at = from;
@@ -82,7 +90,7 @@ pub(crate) fn read_text(alloc: Global, line: &str, from: usize) -> Result<Query,
         if is_blank_byte(line.as_bytes()[at]) {
             at += 1;
         } else {
-            let found = lexeme_at(alloc, line, at)?;
+            let found = lexeme_at(alloc, fields, line, at)?;
             match reader.read(alloc, found.lexeme)? {
                 Step::Stood => {}
                 Step::Misplaced => {
@@ -135,9 +143,32 @@ pub fn read_query(alloc: Global, line: &str) -> Result<(u32, Query), QueryFault>
     ensures within { IfOk result (λ asked. asked.0 ≤ most_matches) }
     ensures well_formed { IfOk result (λ asked. IsWellFormed (tree asked.1)) }
 {
+    read_query_with(alloc, Fields::none(), line)
+}
+
+/// What a line that begins with `?` asks, where fields are read, as [`read_query`] says. Where a part
+/// may stand, the name of a field and a colon right after it, with no blank between, begin a field:
+///
+/// - with a value of one byte or more behind the colon, up to a blank, a parenthesis, a `"` or the end: the
+///   documents of which the field has this value, whole and folded;
+/// - with a `"` behind the colon: the same for all up to the next `"`, which may be nothing.
+///
+/// A field without a value, and one whose quote isn't closed, are a `BadQuery` at the name.
+pub fn read_query_with(
+    alloc: Global,
+    fields: Fields<'_>,
+    line: &str,
+) -> Result<(u32, Query), QueryFault>
+    requires question_mark { slice_get line.now 0 ≡ Some 63 }
+    ensures asks { IfOk result (λ asked. ReadsWith (names fields.entry) line.now (asks asked.0 (tree asked.1))) }
+    ensures refused { IfErr result (IsRefusedWith (names fields.entry) line.now) }
+    ensures some { IfOk result (λ asked. 1 ≤ asked.0) }
+    ensures within { IfOk result (λ asked. asked.0 ≤ most_matches) }
+    ensures well_formed { IfOk result (λ asked. IsWellFormed (tree asked.1)) }
+{
     let Some(number) = number_at(line.as_bytes()) else {
         return Err(QueryFault::BadNumber);
     };
-    let query = read_text(alloc, line, number.end)?;
+    let query = read_text(alloc, fields, line, number.end)?;
     Ok((number.value, query))
 }

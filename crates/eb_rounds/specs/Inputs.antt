@@ -2,8 +2,8 @@
 use Rattle.std.specs.Prelude.{◌≡◌, ℕ, ◌++◌, List, [], ◌∷◌, flat_map}
 use Rattle.eb_base.specs.Document.{Doc}
 use Rattle.eb_base.specs.Setting.{Setting}
-use Rattle.eb_doc.specs.DocumentLine.{document_of}
-use Rattle.eb_query.specs.Reading.{Outcome, ReadsAs}
+use Rattle.eb_doc.specs.WithFields.{document_with}
+use Rattle.eb_query.specs.Reading.{Outcome, ReadsWith}
 use Rattle.eb_lines.specs.Reads.{IsOfDocument, of_query}
 use Rattle.eb_lines.specs.declared.refusal.Refusal.{Refusal}
 use Rattle.eb_lines.specs.Reading.{Reading, refused}
@@ -26,15 +26,16 @@ pub record Entry : Type 0 where
   pub number : ℕ
   pub reading : Reading
 
-abbrev pub ReadsInput : HeldInput → Reading → Type 0
-ReadsInput (document_line bytes) r = IsOfDocument (document_of bytes) r
-ReadsInput (query_line bytes) r = (o : Outcome) × ReadsAs bytes o × (r ≡ of_query o)
-ReadsInput (refused_line x) r = r ≡ refused x
+-- how it is read, by the names of the fields
+abbrev pub ReadsInput : List (List ℕ) → HeldInput → Reading → Type 0
+ReadsInput names (document_line bytes) r = IsOfDocument (document_with names bytes) r
+ReadsInput names (query_line bytes) r = (o : Outcome) × ReadsWith names bytes o × (r ≡ of_query o)
+ReadsInput names (refused_line x) r = r ≡ refused x
 
 -- the line is read as this, under its number
-pub record ReadsLine (h : HeldLine) (e : Entry) : Type 0 where
+pub record ReadsLine (names : List (List ℕ)) (h : HeldLine) (e : Entry) : Type 0 where
   pub number : e.number ≡ h.number
-  pub reading : ReadsInput h.input e.reading
+  pub reading : ReadsInput names h.input e.reading
 
 -- what becomes of the lines in order, in an index of this setting that holds these documents
 unfoldable pub admitted_in : Setting → List Doc → List Entry → List Entry

@@ -84,9 +84,9 @@ HasRoomForRefusals t = (t.refusals.items ≡ []) × (vec_len t.refusals ≡ 0) �
 abbrev pub count_of_tasks : Tasks → ℕ
 count_of_tasks t = length t.asked.items + length t.given.items
 
--- the lines of the round are read as these, each under its number, and room was taken
-pub record IsReadAs (h : Held) (t : Tasks) : Type 0 where
-  pub read : AllZip ReadsLine (lines_of_round h) (entries_of t)
+-- the lines of the round are read as these by the names of the fields, each under its number, and room was taken
+pub record IsReadAs (names : List (List ℕ)) (h : Held) (t : Tasks) : Type 0 where
+  pub read : AllZip (ReadsLine names) (lines_of_round h) (entries_of t)
   pub refusals : HasRoomForRefusals t
   pub asked : length t.asked.items ≡ length h.first.items
   pub given : length t.given.items ≡ length h.last.items

@@ -11,7 +11,8 @@ use Rattle.eb_options.specs.Settings.{setting_of, setting_options}
 use Rattle.eb_run.specs.declared.command.Command.{Command}
 use Rattle.eb_run.specs.declared.command.Command.TheVariants.{Run, RunWorkers, RunParts, RunWatches, Bench, Save, Load}
 use Rattle.eb_run.specs.Command.{form_of, run_flags, run_options}
-use Rattle.eb_run.specs.Command.{is_few, with_workers, over_parts, run_by, run_with, run_of, bench_docs, bench_of, save_with, save_of, load_flags, load_with, load_of, command_of}
+use Rattle.eb_run.specs.Command.{is_few, with_workers, over_parts, run_by, run_with, run_of, bench_docs, bench_of, save_with, save_of, load_flags}
+use Rattle.eb_run.specs.Command.{load_with, load_of, Asks, FieldsApart, asks, asked_of, fields_apart, with_fields}
 
 -- what is asked for is in range: a made input of at most 40,000 documents, 1 to 16 workers, 1 to 16 parts
 abbrev IsInRange : Option Command → Type 0
@@ -98,24 +99,44 @@ bench_in (start ∷ docs ∷ []) =
     then_in (λ first. option_map (λ count. Bench first count) (bench_docs docs)) (λ first. number_in first (number 9 docs)) (number 20 start)
 bench_in (start ∷ docs ∷ more ∷ words) = tt
 
-asked_in : (words : List (List ℕ)) → IsInRange (command_of words)
+-- the command of what is asked for
+abbrev command_in : Option Asks → Option Command
+command_in a = option_map (λ (a : Asks). a.command) a
+
+asks_in : (names : List (List ℕ)) (o : Option Command) → IsInRange o → IsInRange (command_in (option_map (asks names) o))
+asks_in names None h = tt
+asks_in names (Some c) h = h
+
+with_fields_in : (options : List (List ℕ)) (ask : List (List ℕ) → Option Command) (words : List (List ℕ)) → ((words : List (List ℕ)) → IsInRange (ask words))
+    → IsInRange (command_in (with_fields options ask words))
+with_fields_in options ask words h = go (fields_apart options words)
+  where
+    go : (o : Option FieldsApart) → IsInRange (command_in (option_and_then (λ (a : FieldsApart). option_map (asks a.fields) (ask a.others)) o))
+    go None = tt
+    go (Some a) = asks_in a.fields (ask a.others) (h a.others)
+
+either_asks : (b : Bool) (x y : Option Asks) → IsInRange (command_in x) → IsInRange (command_in y) → IsInRange (command_in (if b then x else y))
+either_asks true x y h k = h
+either_asks false x y h k = k
+
+asked_in : (words : List (List ℕ)) → IsInRange (command_in (asked_of words))
 asked_in [] = tt
 asked_in (name ∷ words) =
-    either_in (bytes_eq name (codes "run")) _ _ (run_in words)
-    (either_in (bytes_eq name (codes "bench")) _ _ (bench_in words)
-    (either_in (bytes_eq name (codes "save")) _ _ (save_in words)
-    (either_in (bytes_eq name (codes "load")) _ _ (load_in words) tt)))
+    either_asks (bytes_eq name (codes "run")) _ _ (with_fields_in run_options run_of words run_in)
+    (either_asks (bytes_eq name (codes "bench")) _ _ (asks_in [] (bench_of words) (bench_in words))
+    (either_asks (bytes_eq name (codes "save")) _ _ (with_fields_in setting_options save_of words save_in)
+    (either_asks (bytes_eq name (codes "load")) _ _ (with_fields_in [] load_of words load_in) tt)))
 
-in_range : (words : List (List ℕ)) (c : Command) → command_of words ≡ Some c → IsInRange (Some c)
-in_range words c e = subst IsInRange e (asked_in words)
+in_range : (words names : List (List ℕ)) (c : Command) → asked_of words ≡ Some (asks names c) → IsInRange (Some c)
+in_range words names c e = subst (λ (o : Option Asks). IsInRange (command_in o)) e (asked_in words)
 
 -- a made input that is asked for has at most 40,000 documents
-pub few_made : (words : List (List ℕ)) (start docs : ℕ) → command_of words ≡ Some (Bench start docs) → docs ≤ 40000
-few_made words start docs e = in_range words (Bench start docs) e
+pub few_made : (words names : List (List ℕ)) (start docs : ℕ) → asked_of words ≡ Some (asks names (Bench start docs)) → docs ≤ 40000
+few_made words names start docs e = in_range words names (Bench start docs) e
 
 -- workers and parts that are asked for are 1 to 16
-pub few_workers : (words : List (List ℕ)) (n : ℕ) (form : Form) (σ : Setting) → command_of words ≡ Some (RunWorkers n form σ) → (1 ≤ n) × (n ≤ 16)
-few_workers words n form σ e = in_range words (RunWorkers n form σ) e
+pub few_workers : (words names : List (List ℕ)) (n : ℕ) (form : Form) (σ : Setting) → asked_of words ≡ Some (asks names (RunWorkers n form σ)) → (1 ≤ n) × (n ≤ 16)
+few_workers words names n form σ e = in_range words names (RunWorkers n form σ) e
 
-pub few_parts : (words : List (List ℕ)) (n : ℕ) (form : Form) (σ : Setting) → command_of words ≡ Some (RunParts n form σ) → (1 ≤ n) × (n ≤ 16)
-few_parts words n form σ e = in_range words (RunParts n form σ) e
+pub few_parts : (words names : List (List ℕ)) (n : ℕ) (form : Form) (σ : Setting) → asked_of words ≡ Some (asks names (RunParts n form σ)) → (1 ≤ n) × (n ≤ 16)
+few_parts words names n form σ e = in_range words names (RunParts n form σ) e

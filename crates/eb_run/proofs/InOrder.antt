@@ -41,25 +41,25 @@ unfolding accepted
 accepted-cons r rs = refl
 
 -- a line is read in the same way
-kind_read : (k : Kind) (bytes : List ℕ) (r : Reading) → ReadsKind is_bad k bytes r → ReadsByKind k bytes r
-kind_read blank_line bytes r h = h
-kind_read document_line bytes r h = h
-kind_read query_line bytes r h = h
-kind_read bad_line bytes r h = h
+kind_read : (fields : List (List ℕ)) (k : Kind) (bytes : List ℕ) (r : Reading) → ReadsKind is_bad fields k bytes r → ReadsByKind fields k bytes r
+kind_read fields blank_line bytes r h = h
+kind_read fields document_line bytes r h = h
+kind_read fields query_line bytes r h = h
+kind_read fields bad_line bytes r h = h
 
-line_read : (l : Line) (r : Reading) → ReadsWith is_bad l r → Reads l r
-line_read (line bytes) r h = kind_read (kind_of bytes) bytes r h
-line_read long_line r h = h
+line_read : (fields : List (List ℕ)) (l : Line) (r : Reading) → ReadsWith is_bad fields l r → Reads fields l r
+line_read fields (line bytes) r h = kind_read fields (kind_of bytes) bytes r h
+line_read fields long_line r h = h
 
-raw_read : (ls : List Line) (rs : List Reading) → AllZip (ReadsWith is_bad) ls rs → AllZip Reads ls rs
-raw_read [] [] h = tt
-raw_read [] (r ∷ rs) h = absurd h
-raw_read (l ∷ ls) [] h = absurd h
-raw_read (l ∷ ls) (r ∷ rs) h = (line_read l r h.0, raw_read ls rs h.1)
+raw_read : (fields : List (List ℕ)) (ls : List Line) (rs : List Reading) → AllZip (ReadsWith is_bad fields) ls rs → AllZip (Reads fields) ls rs
+raw_read fields [] [] h = tt
+raw_read fields [] (r ∷ rs) h = absurd h
+raw_read fields (l ∷ ls) [] h = absurd h
+raw_read fields (l ∷ ls) (r ∷ rs) h = (line_read fields l r h.0, raw_read fields ls rs h.1)
 
-module _ (σ : Setting) (form : Form) (start : List Doc) where
+module _ (fields : List (List ℕ)) (σ : Setting) (form : Form) (start : List Doc) where
   abbrev rules : Rules (Unit {0})
-  rules = index_rules σ form start
+  rules = index_rules fields σ form start
 
   by_room : (b : Bool) (d : Doc) → document_outcome d (if b then None else Some Full) ≡ (if b then document d else refused Full)
   by_room true d = refl
@@ -78,8 +78,8 @@ module _ (σ : Setting) (form : Form) (start : List Doc) where
   come_same docs (r ∷ rs) =
       ap (λ x. x ∷ come_behind rules (docs ++ documents_in x) tt rs) (comes_same docs r) ∙ ap (λ xs. admit σ docs r ∷ xs) (come_same (docs ++ documents_in (admit σ docs r)) rs)
 
-  pub read_same : (lines : List Line) (rs : List Reading) → answered.AreRead is_bad rules lines rs → AreReadBehind Reads σ start lines rs
-  read_same lines rs h = (h.0, raw_read lines h.0 h.1, h.2 ∙ come_same start h.0)
+  pub read_same : (lines : List Line) (rs : List Reading) → answered.AreRead is_bad rules lines rs → AreReadBehind (Reads fields) σ start lines rs
+  read_same lines rs h = (h.0, raw_read fields lines h.0 h.1, h.2 ∙ come_same start h.0)
 
   says_same : (number seen : ℕ) (all docs : List Doc) (r : Reading) → seen ≡ length docs → take seen all ≡ docs → says rules number docs tt r ≡ rounds.output_of form number seen all r
   says_same number seen all docs blank e f = refl
@@ -104,29 +104,29 @@ module _ (σ : Setting) (form : Form) (start : List Doc) where
 
 -- ---- an index that held nothing at first
 
-module _ (σ : Setting) (form : Form) where
+module _ (fields : List (List ℕ)) (σ : Setting) (form : Form) where
   abbrev empty : Rules (Unit {0})
-  empty = index_rules σ form []
+  empty = index_rules fields σ form []
 
   pub body_in_order : (rs : List Reading) → body empty rs ≡ rounds.body form (told rs) rs
-  body_in_order rs = from_same σ form [] (told rs) (accepted rs) [] 0 rs refl (λ i m low is. (let same : m ≡ i = omega (arith, is) in ap (told rs) same ∙ omega arith))
+  body_in_order rs = from_same fields σ form [] (told rs) (accepted rs) [] 0 rs refl (λ i m low is. (let same : m ≡ i = omega (arith, is) in ap (told rs) same ∙ omega arith))
 
-  pub is_body : (lines : List Line) (printed : List ℕ) → IsBody is_bad empty lines printed → IsBodyOf (asked σ false form) lines printed
+  pub is_body : (lines : List Line) (printed : List ℕ) → IsBody is_bad empty lines printed → IsBodyOf (asked fields σ false form) lines printed
   is_body lines printed b = record {
     readings = b.readings;
     numbers = told b.readings;
-    read = read_same σ form [] lines b.readings b.read;
+    read = read_same fields σ form [] lines b.readings b.read;
     sees = λ j. refl;
     bytes = b.bytes ∙ body_in_order b.readings;
   }
 
-  pub is_text : (lines : List Line) (printed : List ℕ) → IsText is_bad empty lines printed → IsTextOf (asked σ false form) lines printed
+  pub is_text : (lines : List Line) (printed : List ℕ) → IsText is_bad empty lines printed → IsTextOf (asked fields σ false form) lines printed
   is_text lines printed t =
       let rs = t.readings in
       record {
         readings = rs;
         numbers = told rs;
-        read = read_same σ form [] lines rs t.read;
+        read = read_same fields σ form [] lines rs t.read;
         sees = λ j. refl;
         bytes = t.bytes ∙ ap (λ x. x ++ rounds.end_of σ form rs) (body_in_order rs);
       }
@@ -154,9 +154,9 @@ module _ (prints prints' ends_with ends_with' : List Line → List ℕ → Type 
       → passing.Ends prints' ends_with' refuses' accepts' status l0 l1 p0 p1
   ends_as status l0 l1 p0 p1 h = record { taken = h.taken; printed = h.printed; left = h.left; put = h.put; ends = each_as status h.taken l1 h.printed h.ends }
 
-pub ends_in_order : (σ : Setting) (form : Form) (status : Status) (l0 l1 p0 p1 : Option (List ℕ))
-    → (let rules = index_rules σ form [] in passing.Ends (IsBody is_bad rules) (IsText is_bad rules) (answered.HasRefusal is_bad rules) (answered.HasNoRefusal is_bad rules) status l0 l1 p0 p1)
-    → Ends σ false form status l0 l1 p0 p1
-ends_in_order σ form status l0 l1 p0 p1 h =
-    ends_as _ (IsBodyOf (asked σ false form)) _ (IsTextOf (asked σ false form)) _ (HasRefusal σ) _ (HasNoRefusal σ) (is_body σ form) (is_text σ form)
-    (λ ls x. (x.0, read_same σ form [] ls x.0 x.1, x.2)) (λ ls x. (x.0, read_same σ form [] ls x.0 x.1, x.2)) status l0 l1 p0 p1 h
+pub ends_in_order : (fields : List (List ℕ)) (σ : Setting) (form : Form) (status : Status) (l0 l1 p0 p1 : Option (List ℕ))
+    → (let rules = index_rules fields σ form [] in passing.Ends (IsBody is_bad rules) (IsText is_bad rules) (answered.HasRefusal is_bad rules) (answered.HasNoRefusal is_bad rules) status l0 l1 p0 p1)
+    → Ends fields σ false form status l0 l1 p0 p1
+ends_in_order fields σ form status l0 l1 p0 p1 h =
+    ends_as _ (IsBodyOf (asked fields σ false form)) _ (IsTextOf (asked fields σ false form)) _ (HasRefusal fields σ) _ (HasNoRefusal fields σ) (is_body fields σ form) (is_text fields σ form)
+    (λ ls x. (x.0, read_same fields σ form [] ls x.0 x.1, x.2)) (λ ls x. (x.0, read_same fields σ form [] ls x.0 x.1, x.2)) status l0 l1 p0 p1 h

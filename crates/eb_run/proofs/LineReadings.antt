@@ -5,7 +5,7 @@ use Rattle.std.specs.List.{AllZip, AllByRecursion}
 use Rattle.std.proofs.lemmas.List.Sums.{sum_by-append}
 use Rattle.eb_base.specs.Document.{Doc}
 use Rattle.eb_io.specs.Lines.{Line, line, long_line}
-use Rattle.eb_doc.specs.DocumentLine.{document_of}
+use Rattle.eb_doc.specs.WithFields.{document_with}
 use Rattle.eb_doc.specs.declared.LineFault.{LineFault}
 use Rattle.eb_doc.specs.declared.LineFault.TheVariants as fault
 use Rattle.eb_query.specs.Reading.{Outcome, asks, bad_number, bad_query, too_deep, too_many_nodes}
@@ -42,26 +42,26 @@ of_query_free (bad_query column) = refl
 of_query_free too_deep = refl
 of_query_free too_many_nodes = refl
 
-quiet_by : (k : Kind) (bytes : List ℕ) (r : Reading) → asks_query (input_by k bytes) ≡ false → ReadsByKind k bytes r → is_query_line r ≡ false
-quiet_by blank_line bytes r e h = rw h refl
-quiet_by kind.document_line bytes r e h = of_document_quiet (document_of bytes) r h
-quiet_by kind.query_line bytes r e h = absurd (cc e)
-quiet_by bad_line bytes r e h = rw h refl
+quiet_by : (fields : List (List ℕ)) (k : Kind) (bytes : List ℕ) (r : Reading) → asks_query (input_by k bytes) ≡ false → ReadsByKind fields k bytes r → is_query_line r ≡ false
+quiet_by fields blank_line bytes r e h = rw h refl
+quiet_by fields kind.document_line bytes r e h = of_document_quiet (document_with fields bytes) r h
+quiet_by fields kind.query_line bytes r e h = absurd (cc e)
+quiet_by fields bad_line bytes r e h = rw h refl
 
-free_by : (k : Kind) (bytes : List ℕ) (r : Reading) → gives_document (input_by k bytes) ≡ false → ReadsByKind k bytes r → is_document_line r ≡ false
-free_by blank_line bytes r e h = rw h refl
-free_by kind.document_line bytes r e h = absurd (cc e)
-free_by kind.query_line bytes r e h = ap is_document_line h.2 ∙ of_query_free h.0
-free_by bad_line bytes r e h = rw h refl
+free_by : (fields : List (List ℕ)) (k : Kind) (bytes : List ℕ) (r : Reading) → gives_document (input_by k bytes) ≡ false → ReadsByKind fields k bytes r → is_document_line r ≡ false
+free_by fields blank_line bytes r e h = rw h refl
+free_by fields kind.document_line bytes r e h = absurd (cc e)
+free_by fields kind.query_line bytes r e h = ap is_document_line h.2 ∙ of_query_free h.0
+free_by fields bad_line bytes r e h = rw h refl
 
 -- a line that isn't held as a query line
-pub reads_quiet : (l : Line) (r : Reading) → asks_query (held_as l) ≡ false → Reads l r → is_query_line r ≡ false
-reads_quiet (line bytes) r e h = quiet_by (kind_of bytes) bytes r e h
-reads_quiet long_line r e h = rw h refl
+pub reads_quiet : (fields : List (List ℕ)) (l : Line) (r : Reading) → asks_query (held_as l) ≡ false → Reads fields l r → is_query_line r ≡ false
+reads_quiet fields (line bytes) r e h = quiet_by fields (kind_of bytes) bytes r e h
+reads_quiet fields long_line r e h = rw h refl
 
-reads_free : (l : Line) (r : Reading) → gives_document (held_as l) ≡ false → Reads l r → is_document_line r ≡ false
-reads_free (line bytes) r e h = free_by (kind_of bytes) bytes r e h
-reads_free long_line r e h = rw h refl
+reads_free : (fields : List (List ℕ)) (l : Line) (r : Reading) → gives_document (held_as l) ≡ false → Reads fields l r → is_document_line r ≡ false
+reads_free fields (line bytes) r e h = free_by fields (kind_of bytes) bytes r e h
+reads_free fields long_line r e h = rw h refl
 
 documents_cons : (number : ℕ) (o : Option HeldInput) (hs : List HeldLine) → documents_held (before_held number o hs) ≡ one_if (gives_document o) + documents_held hs
 unfolding documents_held
@@ -74,10 +74,11 @@ none_given true n e = absurd (omega (arith, e))
 none_given false n e = (refl, omega (arith, e))
 
 -- lines of which none is held as a document line
-pub free_of : (k : ℕ) (ls : List Line) → documents_held (held_from k ls) ≡ 0 → (rs : List Reading) → AllZip Reads ls rs → AllByRecursion (λ x. is_document_line x ≡ false) rs
-free_of k [] e [] h = tt
-free_of k [] e (r ∷ rs) h = absurd h
-free_of k (l ∷ ls) e [] h = absurd h
-free_of k (l ∷ ls) e (r ∷ rs) h =
+pub free_of : (fields : List (List ℕ)) (k : ℕ) (ls : List Line) → documents_held (held_from k ls) ≡ 0 → (rs : List Reading) → AllZip (Reads fields) ls rs
+    → AllByRecursion (λ x. is_document_line x ≡ false) rs
+free_of fields k [] e [] h = tt
+free_of fields k [] e (r ∷ rs) h = absurd h
+free_of fields k (l ∷ ls) e [] h = absurd h
+free_of fields k (l ∷ ls) e (r ∷ rs) h =
     let n = none_given (gives_document (held_as l)) (documents_held (held_from (k + 1) ls)) (sym (documents_cons (k + 1) (held_as l) (held_from (k + 1) ls)) ∙ e) in
-    (reads_free l r n.0 h.0, free_of (k + 1) ls n.1 rs h.1)
+    (reads_free fields l r n.0 h.0, free_of fields (k + 1) ls n.1 rs h.1)

@@ -7,7 +7,7 @@ use Rattle.eb_base.specs.Document.{Doc}
 use Rattle.eb_base.specs.Setting.{Setting}
 use Rattle.eb_place.specs.Room.{has_room}
 use Rattle.eb_io.specs.Lines.{Line, line, long_line}
-use Rattle.eb_doc.specs.DocumentLine.{document_of}
+use Rattle.eb_doc.specs.WithFields.{document_with}
 use Rattle.eb_doc.specs.declared.LineFault.{LineFault}
 use Rattle.eb_doc.specs.declared.LineFault.TheVariants as fault
 use Rattle.eb_query.specs.Reading.{Outcome, asks, bad_number, bad_query, too_deep, too_many_nodes}
@@ -43,50 +43,51 @@ query_not_blank (bad_query column) number es = refl
 query_not_blank too_deep number es = refl
 query_not_blank too_many_nodes number es = refl
 
-not_blank : (i : HeldInput) (r : Reading) (number : ℕ) (es : List Entry) → ReadsInput i r → before_entries number r es ≡ record { number = number; reading = r } ∷ es
-not_blank (document_line bytes) r number es h = document_not_blank (document_of bytes) r number es h
-not_blank (query_line bytes) r number es h = subst (λ (x : Reading). before_entries number x es ≡ record { number = number; reading = x } ∷ es) (sym h.2) (query_not_blank h.0 number es)
-not_blank (refused_line x) r number es h = rw h refl
+not_blank : (fields : List (List ℕ)) (i : HeldInput) (r : Reading) (number : ℕ) (es : List Entry) → ReadsInput fields i r → before_entries number r es ≡ record { number = number; reading = r } ∷ es
+not_blank fields (document_line bytes) r number es h = document_not_blank (document_with fields bytes) r number es h
+not_blank fields (query_line bytes) r number es h = subst (λ (x : Reading). before_entries number x es ≡ record { number = number; reading = x } ∷ es) (sym h.2) (query_not_blank h.0 number es)
+not_blank fields (refused_line x) r number es h = rw h refl
 
 -- a line that isn't held is blank, and one that is held is read as its input
-blank_reads : (l : Line) → held_as l ≡ None → Reads l blank
-blank_reads (line bytes) e = by_kind (kind_of bytes) e where
-  by_kind : (k : Kind) → input_by k bytes ≡ None → ReadsByKind k bytes blank
+blank_reads : (fields : List (List ℕ)) (l : Line) → held_as l ≡ None → Reads fields l blank
+blank_reads fields (line bytes) e = by_kind (kind_of bytes) e where
+  by_kind : (k : Kind) → input_by k bytes ≡ None → ReadsByKind fields k bytes blank
   by_kind blank_line e = refl
   by_kind kind.document_line e = absurd (cc e)
   by_kind kind.query_line e = absurd (cc e)
   by_kind bad_line e = absurd (cc e)
-blank_reads long_line e = absurd (cc e)
+blank_reads fields long_line e = absurd (cc e)
 
-held_reads : (l : Line) (i : HeldInput) (r : Reading) → held_as l ≡ Some i → ReadsInput i r → Reads l r
-held_reads (line bytes) i r e h = by_kind (kind_of bytes) e where
-  by_kind : (k : Kind) → input_by k bytes ≡ Some i → ReadsByKind k bytes r
+held_reads : (fields : List (List ℕ)) (l : Line) (i : HeldInput) (r : Reading) → held_as l ≡ Some i → ReadsInput fields i r → Reads fields l r
+held_reads fields (line bytes) i r e h = by_kind (kind_of bytes) e where
+  by_kind : (k : Kind) → input_by k bytes ≡ Some i → ReadsByKind fields k bytes r
   by_kind blank_line e = absurd (cc e)
-  by_kind kind.document_line e = (let same : i ≡ document_line bytes = cc e in subst (λ x. ReadsInput x r) same h)
-  by_kind kind.query_line e = (let same : i ≡ query_line bytes = cc e in subst (λ x. ReadsInput x r) same h)
-  by_kind bad_line e = (let same : i ≡ refused_line _ = cc e in subst (λ x. ReadsInput x r) same h)
-held_reads long_line i r e h = (let same : i ≡ refused_line _ = cc e in subst (λ x. ReadsInput x r) same h)
+  by_kind kind.document_line e = (let same : i ≡ document_line bytes = cc e in subst (λ x. ReadsInput fields x r) same h)
+  by_kind kind.query_line e = (let same : i ≡ query_line bytes = cc e in subst (λ x. ReadsInput fields x r) same h)
+  by_kind bad_line e = (let same : i ≡ refused_line _ = cc e in subst (λ x. ReadsInput fields x r) same h)
+held_reads fields long_line i r e h = (let same : i ≡ refused_line _ = cc e in subst (λ x. ReadsInput fields x r) same h)
 
 -- the readings of lines, from those of the held ones among them
-abbrev pub Back : ℕ → List Line → List Entry → Type 0
-Back k ls raw = (rs : List Reading) × AllZip Reads ls rs × (raw ≡ entries_from k rs)
+abbrev pub Back : List (List ℕ) → ℕ → List Line → List Entry → Type 0
+Back fields k ls raw = (rs : List Reading) × AllZip (Reads fields) ls rs × (raw ≡ entries_from k rs)
 
-back_one : (k : ℕ) (l : Line) (ls : List Line) (o : Option HeldInput) → held_as l ≡ o → ((raw : List Entry) → AllZip ReadsLine (held_from (k + 1) ls) raw → Back (k + 1) ls raw)
-    → (raw : List Entry) → AllZip ReadsLine (before_held (k + 1) o (held_from (k + 1) ls)) raw → Back k (l ∷ ls) raw
-back_one k l ls None is more raw h = let rest = more raw h in (blank ∷ rest.0, (blank_reads l is, rest.1), rest.2)
-back_one k l ls (Some i) is more [] h = absurd h
-back_one k l ls (Some i) is more (e ∷ raw) h =
+back_one : (fields : List (List ℕ)) (k : ℕ) (l : Line) (ls : List Line) (o : Option HeldInput) → held_as l ≡ o
+    → ((raw : List Entry) → AllZip (ReadsLine fields) (held_from (k + 1) ls) raw → Back fields (k + 1) ls raw)
+    → (raw : List Entry) → AllZip (ReadsLine fields) (before_held (k + 1) o (held_from (k + 1) ls)) raw → Back fields k (l ∷ ls) raw
+back_one fields k l ls None is more raw h = let rest = more raw h in (blank ∷ rest.0, (blank_reads fields l is, rest.1), rest.2)
+back_one fields k l ls (Some i) is more [] h = absurd h
+back_one fields k l ls (Some i) is more (e ∷ raw) h =
     let rest = more raw h.1 in
     let own : e ≡ record { number = k + 1; reading = e.reading } = ap (λ (n : ℕ). record { number = n; reading = e.reading }) h.0.number in (
       e.reading ∷ rest.0,
-      (held_reads l i e.reading is h.0.reading, rest.1),
-      ap₂ (λ x xs. x ∷ xs) own rest.2 ∙ sym (not_blank i e.reading (k + 1) (entries_from (k + 1) rest.0) h.0.reading),
+      (held_reads fields l i e.reading is h.0.reading, rest.1),
+      ap₂ (λ x xs. x ∷ xs) own rest.2 ∙ sym (not_blank fields i e.reading (k + 1) (entries_from (k + 1) rest.0) h.0.reading),
     )
 
-pub read_back : (k : ℕ) (ls : List Line) (raw : List Entry) → AllZip ReadsLine (held_from k ls) raw → Back k ls raw
-read_back k [] [] h = ([], tt, refl)
-read_back k [] (e ∷ raw) h = absurd h
-read_back k (l ∷ ls) raw h = back_one k l ls (held_as l) refl (λ rest t. read_back (k + 1) ls rest t) raw h
+pub read_back : (fields : List (List ℕ)) (k : ℕ) (ls : List Line) (raw : List Entry) → AllZip (ReadsLine fields) (held_from k ls) raw → Back fields k ls raw
+read_back fields k [] [] h = ([], tt, refl)
+read_back fields k [] (e ∷ raw) h = absurd h
+read_back fields k (l ∷ ls) raw h = back_one fields k l ls (held_as l) refl (λ rest t. read_back fields (k + 1) ls rest t) raw h
 
 -- ---- entries and readings
 

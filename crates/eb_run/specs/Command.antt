@@ -6,6 +6,8 @@ use Rattle.eb_lines.specs.declared.form.Form.{Form}
 use Rattle.eb_options.specs.Numbers.{number}
 use Rattle.eb_options.specs.Items.{Items, has, items_of, option_number}
 use Rattle.eb_options.specs.Settings.{setting_of, setting_options}
+use Rattle.eb_options.specs.Texts.{Apart, text_apart}
+use Rattle.eb_fields.specs.Fields.{is_field_list, names_in}
 use Rattle.eb_run.specs.declared.command.Command.{Command}
 use Rattle.eb_run.specs.declared.command.Command.TheVariants.{Run, RunWorkers, RunParts, RunWatches, Bench, Save, Load}
 
@@ -83,40 +85,70 @@ load_with items = Load (form_of items)
 abbrev pub load_of : List (List ℕ) → Option Command
 load_of words = option_map load_with (items_of load_flags [] words)
 
+-- ---- the fields
+
+-- the names of the fields by which lines are read, and the words that ask for the rest
+pub record FieldsApart : Type 0 where
+  pub fields : List (List ℕ)
+  pub others : List (List ℕ)
+
+-- the names that a list of fields gives, if it is in the grammar; none where there is no list
+abbrev pub fields_in : Option (List ℕ) → Option (List (List ℕ))
+fields_in None = Some []
+fields_in (Some text) = if is_field_list text then Some (names_in text) else None
+
+-- the words after the name of a command that has these options with numbers, with `--fields` apart
+abbrev pub fields_apart : List (List ℕ) → List (List ℕ) → Option FieldsApart
+fields_apart options words =
+    option_and_then (λ (a : Apart). option_map (λ fields. record { fields = fields; others = a.others }) (fields_in a.text)) (text_apart (codes "fields") options words)
+
 -- ---- the command
 
--- the command that the words ask for, if they are in the grammar
-abbrev pub command_of : List (List ℕ) → Option Command
-command_of [] = None
-command_of (name ∷ words) =
-    if bytes_eq name (codes "run") then run_of words
-    else (if bytes_eq name (codes "bench") then bench_of words
-    else (if bytes_eq name (codes "save") then save_of words
-    else (if bytes_eq name (codes "load") then load_of words else None)))
+-- what words ask for: the names of the fields, and a command
+pub record Asks : Type 0 where
+  pub fields : List (List ℕ)
+  pub command : Command
 
--- the words ask to run with an index of this setting, with or without overlap, and what is printed in this form
-abbrev pub AsksRun : List (List ℕ) → Bool → Form → Setting → Type 0
-AsksRun words overlap form σ = command_of words ≡ Some (Run overlap form σ)
+abbrev pub asks : List (List ℕ) → Command → Asks
+asks names command = record { fields = names; command = command }
+
+-- the words after a command's name, which say the fields beside what they ask else
+abbrev pub with_fields : List (List ℕ) → (List (List ℕ) → Option Command) → List (List ℕ) → Option Asks
+with_fields options ask words = option_and_then (λ (a : FieldsApart). option_map (asks a.fields) (ask a.others)) (fields_apart options words)
+
+-- what the words ask for, if they are in the grammar
+abbrev pub asked_of : List (List ℕ) → Option Asks
+asked_of [] = None
+asked_of (name ∷ words) =
+    if bytes_eq name (codes "run") then with_fields run_options run_of words
+    else (if bytes_eq name (codes "bench") then option_map (asks []) (bench_of words)
+    else (if bytes_eq name (codes "save") then with_fields setting_options save_of words
+    else (if bytes_eq name (codes "load") then with_fields [] load_of words else None)))
+
+-- the words ask to run with an index of this setting, with or without overlap; lines are read by these names of fields, and what is
+-- printed is written in this form
+abbrev pub AsksRun : List (List ℕ) → List (List ℕ) → Bool → Form → Setting → Type 0
+AsksRun words names overlap form σ = asked_of words ≡ Some (asks names (Run overlap form σ))
 
 -- to run with so many workers, or over so many parts with an index of this setting each
-abbrev pub AsksWorkers : List (List ℕ) → ℕ → Form → Setting → Type 0
-AsksWorkers words n form σ = command_of words ≡ Some (RunWorkers n form σ)
+abbrev pub AsksWorkers : List (List ℕ) → List (List ℕ) → ℕ → Form → Setting → Type 0
+AsksWorkers words names n form σ = asked_of words ≡ Some (asks names (RunWorkers n form σ))
 
-abbrev pub AsksParts : List (List ℕ) → ℕ → Form → Setting → Type 0
-AsksParts words n form σ = command_of words ≡ Some (RunParts n form σ)
+abbrev pub AsksParts : List (List ℕ) → List (List ℕ) → ℕ → Form → Setting → Type 0
+AsksParts words names n form σ = asked_of words ≡ Some (asks names (RunParts n form σ))
 
 -- to run with watches
-abbrev pub AsksWatches : List (List ℕ) → Form → Setting → Type 0
-AsksWatches words form σ = command_of words ≡ Some (RunWatches form σ)
+abbrev pub AsksWatches : List (List ℕ) → List (List ℕ) → Form → Setting → Type 0
+AsksWatches words names form σ = asked_of words ≡ Some (asks names (RunWatches form σ))
 
 -- the words ask to process a made input
 abbrev pub AsksBench : List (List ℕ) → ℕ → ℕ → Type 0
-AsksBench words start count = command_of words ≡ Some (Bench start count)
+AsksBench words start count = asked_of words ≡ Some (asks [] (Bench start count))
 
 -- the words ask to save the documents of lines, for an index of this setting
-abbrev pub AsksSave : List (List ℕ) → Setting → Type 0
-AsksSave words σ = command_of words ≡ Some (Save σ)
+abbrev pub AsksSave : List (List ℕ) → List (List ℕ) → Setting → Type 0
+AsksSave words names σ = asked_of words ≡ Some (asks names (Save σ))
 
 -- the words ask to load an image and go on with lines
-abbrev pub AsksLoad : List (List ℕ) → Form → Type 0
-AsksLoad words form = command_of words ≡ Some (Load form)
+abbrev pub AsksLoad : List (List ℕ) → List (List ℕ) → Form → Type 0
+AsksLoad words names form = asked_of words ≡ Some (asks names (Load form))

@@ -9,7 +9,8 @@ use Rattle.eb_run.specs.FeedOutput.{feed_rules}
 
 -- it has taken these documents, and goes by the rules of a feed
 pub record IsFed (s : Fed) (rules : Rules (Unit {0})) (docs : List Doc) (none : Unit {0}) : Type 0 where
+  pub fields : List (List ℕ)
   pub setting : Setting
   pub keep : ℕ
-  pub by_rules : rules ≡ feed_rules setting keep s.form
+  pub by_rules : rules ≡ feed_rules fields setting keep s.form
   pub fed : IsFedWith s.feed setting keep docs

@@ -1,10 +1,11 @@
 -- What the words of a command line ask of a feed; they are without the program's name and the word `feed`.
-use Rattle.std.specs.Prelude.{◌≡◌, ℕ, ◌+◌, ◌*◌, ◌^◌, ◌&&◌, Bool, false, List, [], ◌∷◌, codes, nat_le, Option, Some, None, unwrap_or, if◌then◌else◌, option_and_then}
+use Rattle.std.specs.Prelude.{◌≡◌, ℕ, ◌+◌, ◌*◌, ◌^◌, ◌&&◌, Bool, false, List, [], ◌∷◌, codes, nat_le, Option, Some, None, unwrap_or, if◌then◌else◌, option_and_then, option_map}
 use Rattle.eb_base.specs.Setting.{Setting, words_of}
 use Rattle.eb_lines.specs.declared.form.Form.{Form}
 use Rattle.eb_options.specs.Items.{Items, has, items_of, option_number}
 use Rattle.eb_options.specs.Settings.{setting_of, setting_options}
 use Rattle.eb_run.specs.declared.feed.command.FeedCommand.{FeedCommand}
+use Rattle.eb_run.specs.Command.{FieldsApart, fields_apart}
 
 -- the flag of a feed, and its options: how many generations it keeps, and those of their setting
 abbrev pub feed_flags : List (List ℕ)
@@ -25,10 +26,20 @@ feed_of keep json σ = if is_feed keep σ then Some (record { keep = keep; form 
 abbrev pub feed_with : Items → Option FeedCommand
 feed_with items = option_and_then (feed_of (unwrap_or (option_number (codes "keep") items) 4) (has (codes "json") items)) (setting_of items)
 
--- the feed that the words ask for: its flag and options in any order, each at most once
+-- the feed that the words ask for beside the fields: its flag and options in any order, each at most once
 abbrev pub feed_command_of : List (List ℕ) → Option FeedCommand
 feed_command_of words = option_and_then feed_with (items_of feed_flags feed_options words)
 
--- the words ask for a feed that keeps so many generations of an index of this setting, and what is printed in this form
-abbrev pub AsksFeed : List (List ℕ) → ℕ → Form → Setting → Type 0
-AsksFeed words keep form σ = feed_command_of words ≡ Some (record { keep = keep; form = form; config = σ })
+-- what words ask for: the names of the fields by which lines are read, and a feed
+pub record FeedAsks : Type 0 where
+  pub fields : List (List ℕ)
+  pub command : FeedCommand
+
+abbrev pub feed_asked_of : List (List ℕ) → Option FeedAsks
+feed_asked_of words =
+    option_and_then (λ (a : FieldsApart). option_map (λ command. record { fields = a.fields; command = command }) (feed_command_of a.others)) (fields_apart feed_options words)
+
+-- the words ask for a feed that keeps so many generations of an index of this setting; lines are read by these names of fields, and
+-- what is printed is written in this form
+abbrev pub AsksFeed : List (List ℕ) → List (List ℕ) → ℕ → Form → Setting → Type 0
+AsksFeed words names keep form σ = feed_asked_of words ≡ Some (record { fields = names; command = record { keep = keep; form = form; config = σ } })

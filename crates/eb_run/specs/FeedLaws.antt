@@ -8,14 +8,14 @@ use Rattle.eb_lines.specs.Reading.{refused}
 use Rattle.eb_lines.specs.Reads.{Reads}
 use Rattle.eb_run.specs.FeedOutput.{IsFeedOutput}
 
--- each input has a text, whatever a feed keeps, in each form
+-- each input has a text, whatever the fields are and a feed keeps, in each form
 abbrev pub SomeFeedText : Type 0
-SomeFeedText = (σ : Setting) (keep : ℕ) (form : Form) (bytes : List ℕ) → (printed : List ℕ) × IsFeedOutput σ keep form bytes printed
+SomeFeedText = (names : List (List ℕ)) (σ : Setting) (keep : ℕ) (form : Form) (bytes : List ℕ) → (printed : List ℕ) × IsFeedOutput names σ keep form bytes printed
 
 -- and no other
 abbrev pub OneFeedText : Type 0
-OneFeedText = (σ : Setting) (keep : ℕ) (form : Form) (bytes a b : List ℕ) → IsFeedOutput σ keep form bytes a → IsFeedOutput σ keep form bytes b → a ≡ b
+OneFeedText = (names : List (List ℕ)) (σ : Setting) (keep : ℕ) (form : Form) (bytes a b : List ℕ) → IsFeedOutput names σ keep form bytes a → IsFeedOutput names σ keep form bytes b → a ≡ b
 
 -- no line is read as one that is refused as full
 abbrev pub NeverFull : Type 0
-NeverFull = (l : Line) → Reads l (refused Full) → ⊥
+NeverFull = (names : List (List ℕ)) (l : Line) → Reads names l (refused Full) → ⊥

@@ -4,14 +4,14 @@ use Rattle.eb_base.specs.Setting.{Setting}
 use Rattle.eb_lines.specs.declared.form.Form.{Form}
 use Rattle.eb_run.specs.Output.{IsOutput}
 
--- each input has a text in each setting, with and without overlap and statistics
+-- each input has a text, whatever the fields are, in each setting, with and without overlap and statistics
 abbrev pub SomeText : Type 0
-SomeText = (σ : Setting) (overlap : Bool) (form : Form) (bytes : List ℕ) → (printed : List ℕ) × IsOutput σ overlap form bytes printed
+SomeText = (names : List (List ℕ)) (σ : Setting) (overlap : Bool) (form : Form) (bytes : List ℕ) → (printed : List ℕ) × IsOutput names σ overlap form bytes printed
 
 -- and no other without overlap
 abbrev pub OneText : Type 0
-OneText = (σ : Setting) (form : Form) (bytes a b : List ℕ) → IsOutput σ false form bytes a → IsOutput σ false form bytes b → a ≡ b
+OneText = (names : List (List ℕ)) (σ : Setting) (form : Form) (bytes a b : List ℕ) → IsOutput names σ false form bytes a → IsOutput names σ false form bytes b → a ≡ b
 
 -- which is one of those with overlap
 abbrev pub OrderText : Type 0
-OrderText = (σ : Setting) (form : Form) (bytes printed : List ℕ) → IsOutput σ false form bytes printed → IsOutput σ true form bytes printed
+OrderText = (names : List (List ℕ)) (σ : Setting) (form : Form) (bytes printed : List ℕ) → IsOutput names σ false form bytes printed → IsOutput names σ true form bytes printed

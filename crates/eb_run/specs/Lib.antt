@@ -11,3 +11,7 @@ pub mod FeedOutput
 pub mod Fed
 pub mod FeedLaws
 pub mod StatusLine
+pub mod Requests
+pub mod FeedRequests
+pub mod Splits
+pub mod FieldWords

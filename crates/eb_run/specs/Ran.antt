@@ -1,4 +1,4 @@
--- What the program leaves, by the command that the words ask for: `l0` and `l1` are what the source has left before and
+-- What the program leaves, by the command that the words ask for and by the names of the fields by which lines are read: `l0` and `l1` are what the source has left before and
 -- after it, and `p0` and `p1` what `out` has taken, each where that is told.
 use Rattle.std.specs.Prelude.{◌≡◌, ◌⊎◌, ℕ, ◌<◌, Bool, true, false, List, [], ◌++◌, length, Option, Some, None}
 use Rattle.eb_answer.specs.Rules.{is_bad, IsBody, IsText}
@@ -31,18 +31,19 @@ use Rattle.eb_run.specs.Output as output
 
 -- ---- how a command ends, also where source and `out` tell no bytes
 
-abbrev pub EndsBy : Command → Status → (l0 l1 p0 p1 : Option (List ℕ)) → Type 0
-EndsBy (Run overlap form σ) status l0 l1 p0 p1 = Ends σ overlap form status l0 l1 p0 p1
-EndsBy (RunWorkers n form σ) status l0 l1 p0 p1 =
-    let a = workers.asked σ form in passing.Ends (workers.IsWorkersBody a) (workers.IsWorkersText a) (HasRefusal σ) (HasNoRefusal σ) status l0 l1 p0 p1
-EndsBy (RunParts n form σ) status l0 l1 p0 p1 =
-    let rules = parts_rules n σ form in passing.Ends (IsBody is_bad rules) (IsText is_bad rules) (answered.HasRefusal is_bad rules) (answered.HasNoRefusal is_bad rules) status l0 l1 p0 p1
-EndsBy (RunWatches form σ) status l0 l1 p0 p1 =
-    let rules = watch_rules σ form in
+abbrev pub EndsBy : List (List ℕ) → Command → Status → (l0 l1 p0 p1 : Option (List ℕ)) → Type 0
+EndsBy names (Run overlap form σ) status l0 l1 p0 p1 = Ends names σ overlap form status l0 l1 p0 p1
+EndsBy names (RunWorkers n form σ) status l0 l1 p0 p1 =
+    let a = workers.asked names σ form in passing.Ends (workers.IsWorkersBody a) (workers.IsWorkersText a) (HasRefusal names σ) (HasNoRefusal names σ) status l0 l1 p0 p1
+EndsBy names (RunParts n form σ) status l0 l1 p0 p1 =
+    let rules = parts_rules names n σ form in passing.Ends (IsBody is_bad rules) (IsText is_bad rules) (answered.HasRefusal is_bad rules) (answered.HasNoRefusal is_bad rules) status l0 l1 p0 p1
+EndsBy names (RunWatches form σ) status l0 l1 p0 p1 =
+    let rules = watch_rules names σ form in
     passing.Ends (IsBody ReadsOther rules) (IsText ReadsOther rules) (answered.HasRefusal ReadsOther rules) (answered.HasNoRefusal ReadsOther rules) status l0 l1 p0 p1
-EndsBy (Bench start count) status l0 l1 p0 p1 = PrintsFigures status (lines_of (made start count)) p0 p1
-EndsBy (Save σ) status l0 l1 p0 p1 = passing.Ends (saved.AreParts σ) (saved.IsSaved σ) (saved.HasUnsaved σ) (saved.HasNoUnsaved σ) status l0 l1 p0 p1
-EndsBy (Load form) status l0 l1 p0 p1 = EndsLoad form status l0 l1 p0 p1
+EndsBy names (Bench start count) status l0 l1 p0 p1 = PrintsFigures status (lines_of (made start count)) p0 p1
+EndsBy names (Save σ) status l0 l1 p0 p1 =
+    let a = saved.asked names σ in passing.Ends (saved.AreParts a) (saved.IsSaved a) (saved.HasUnsaved a) (saved.HasNoUnsaved a) status l0 l1 p0 p1
+EndsBy names (Load form) status l0 l1 p0 p1 = EndsLoad names form status l0 l1 p0 p1
 
 -- ---- what is printed
 
@@ -60,47 +61,47 @@ pub record HasImage (bytes : List ℕ) : Type 0 where
   pub is : bytes ≡ image_of setting documents ++ rest
 
 -- what a load that ends so has printed, of any bytes: nothing where no image was read to its end, and else what it says of the lines after it
-abbrev pub WroteLoad : Form → Status → List ℕ → Option (List ℕ) → List ℕ → Type 0
-WroteLoad form status bytes left printed = ((printed ≡ []) × ((taken : List ℕ) × outcomes.AreTaken bytes left taken × WhyUnread status taken left))
-    ⊎ ((i : HasImage bytes) × (let a : Loaded = record { setting = i.setting; documents = i.documents; form = form } in
+abbrev pub WroteLoad : List (List ℕ) → Form → Status → List ℕ → Option (List ℕ) → List ℕ → Type 0
+WroteLoad names form status bytes left printed = ((printed ≡ []) × ((taken : List ℕ) × outcomes.AreTaken bytes left taken × WhyUnread status taken left))
+    ⊎ ((i : HasImage bytes) × (let a : Loaded = record { fields = names; setting = i.setting; documents = i.documents; form = form } in
     outcomes.Wrote (IsBodyBehind a) (IsTextBehind a) (HasRefusalBehind a) (HasNoRefusalBehind a) status i.rest left printed))
 
 -- of bytes that are an image and a rest, it is what it says of the rest; at BadImage `out` took nothing, also where it tells no bytes
-pub record RanLoad (form : Form) (status : Status) (l0 l1 p0 p1 : Option (List ℕ)) : Type 0 where
-  pub all : Prints (WroteLoad form status) l0 l1 p0 p1
+pub record RanLoad (names : List (List ℕ)) (form : Form) (status : Status) (l0 l1 p0 p1 : Option (List ℕ)) : Type 0 where
+  pub all : Prints (WroteLoad names form status) l0 l1 p0 p1
   pub lines : (σ : Setting) (docs : List Doc) (rest before : List ℕ) → IsSetting σ → IsLawful σ docs → l0 ≡ Some (image_of σ docs ++ rest) → p0 ≡ Some before
-      → (printed : List ℕ) × (p1 ≡ Some (before ++ printed)) × WroteLoaded (record { setting = σ; documents = docs; form = form }) status rest l1 printed
+      → (printed : List ℕ) × (p1 ≡ Some (before ++ printed)) × WroteLoaded (record { fields = names; setting = σ; documents = docs; form = form }) status rest l1 printed
   pub bad_image : status ≡ BadImage → p1 ≡ p0
 
-abbrev pub Ran : Command → Status → (l0 l1 p0 p1 : Option (List ℕ)) → Type 0
-Ran (Run overlap form σ) status l0 l1 p0 p1 = Prints (Wrote σ overlap form status) l0 l1 p0 p1
-Ran (RunWorkers n form σ) status l0 l1 p0 p1 = Prints (workers.WroteWorkers (workers.asked σ form) status) l0 l1 p0 p1
-Ran (RunParts n form σ) status l0 l1 p0 p1 = Prints (WroteInParts (parts_rules n σ form) status) l0 l1 p0 p1
-Ran (RunWatches form σ) status l0 l1 p0 p1 = Prints (WroteWatches (watch_rules σ form) status) l0 l1 p0 p1
-Ran (Bench start count) status l0 l1 p0 p1 = (before : List ℕ) → p0 ≡ Some before → (printed : List ℕ) × (p1 ≡ Some (before ++ printed)) × WroteBench status start count printed
-Ran (Save σ) status l0 l1 p0 p1 = Prints (saved.WroteSaved σ status) l0 l1 p0 p1
-Ran (Load form) status l0 l1 p0 p1 = RanLoad form status l0 l1 p0 p1
+abbrev pub Ran : List (List ℕ) → Command → Status → (l0 l1 p0 p1 : Option (List ℕ)) → Type 0
+Ran names (Run overlap form σ) status l0 l1 p0 p1 = Prints (Wrote names σ overlap form status) l0 l1 p0 p1
+Ran names (RunWorkers n form σ) status l0 l1 p0 p1 = Prints (workers.WroteWorkers (workers.asked names σ form) status) l0 l1 p0 p1
+Ran names (RunParts n form σ) status l0 l1 p0 p1 = Prints (WroteInParts (parts_rules names n σ form) status) l0 l1 p0 p1
+Ran names (RunWatches form σ) status l0 l1 p0 p1 = Prints (WroteWatches (watch_rules names σ form) status) l0 l1 p0 p1
+Ran names (Bench start count) status l0 l1 p0 p1 = (before : List ℕ) → p0 ≡ Some before → (printed : List ℕ) × (p1 ≡ Some (before ++ printed)) × WroteBench status start count printed
+Ran names (Save σ) status l0 l1 p0 p1 = Prints (saved.WroteSaved (saved.asked names σ) status) l0 l1 p0 p1
+Ran names (Load form) status l0 l1 p0 p1 = RanLoad names form status l0 l1 p0 p1
 
 -- ---- what the status means, whatever became of the output
 
 abbrev pub Told : (List ℕ → Option (List ℕ) → Type 0) → (l0 l1 : Option (List ℕ)) → Type 0
 Told means l0 l1 = (bytes : List ℕ) → l0 ≡ Some bytes → means bytes l1
 
-pub record LoadMeans (form : Form) (status : Status) (l0 l1 : Option (List ℕ)) : Type 0 where
+pub record LoadMeans (names : List (List ℕ)) (form : Form) (status : Status) (l0 l1 : Option (List ℕ)) : Type 0 where
   -- at Done and Refused the input was an image and lines
   pub image : (status ≡ Done) ⊎ (status ≡ Refused) → (bytes : List ℕ) → l0 ≡ Some bytes → HasImage bytes
   pub lines : (σ : Setting) (docs : List Doc) (rest : List ℕ) → IsSetting σ → IsLawful σ docs → l0 ≡ Some (image_of σ docs ++ rest)
-      → MeansLoaded (record { setting = σ; documents = docs; form = form }) status rest l1
+      → MeansLoaded (record { fields = names; setting = σ; documents = docs; form = form }) status rest l1
   pub bad_image : status ≡ BadImage → (taken : List ℕ) × (l0 ≡ after taken l1) × IsBad IsImage taken l1
 
-abbrev pub Means : Command → Status → (l0 l1 : Option (List ℕ)) → Type 0
-Means (Run overlap form σ) status l0 l1 = Told (output.Means σ status) l0 l1
-Means (RunWorkers n form σ) status l0 l1 = Told (workers.MeansWorkers (workers.asked σ form) status) l0 l1
-Means (RunParts n form σ) status l0 l1 = Told (MeansInParts (parts_rules n σ form) status) l0 l1
-Means (RunWatches form σ) status l0 l1 = Told (MeansWatches (watch_rules σ form) status) l0 l1
-Means (Bench start count) status l0 l1 = MeansBench status start count
-Means (Save σ) status l0 l1 = Told (saved.MeansSaved σ status) l0 l1
-Means (Load form) status l0 l1 = LoadMeans form status l0 l1
+abbrev pub Means : List (List ℕ) → Command → Status → (l0 l1 : Option (List ℕ)) → Type 0
+Means names (Run overlap form σ) status l0 l1 = Told (output.Means names σ status) l0 l1
+Means names (RunWorkers n form σ) status l0 l1 = Told (workers.MeansWorkers (workers.asked names σ form) status) l0 l1
+Means names (RunParts n form σ) status l0 l1 = Told (MeansInParts (parts_rules names n σ form) status) l0 l1
+Means names (RunWatches form σ) status l0 l1 = Told (MeansWatches (watch_rules names σ form) status) l0 l1
+Means names (Bench start count) status l0 l1 = MeansBench status start count
+Means names (Save σ) status l0 l1 = Told (saved.MeansSaved (saved.asked names σ) status) l0 l1
+Means names (Load form) status l0 l1 = LoadMeans names form status l0 l1
 
 -- ---- when the input is processed
 

@@ -5,8 +5,9 @@ use Rattle.eb_lines.specs.StatusLine.{line_of}
 
 -- how the program is called
 abbrev pub usage : List ℕ
-usage = codes "earlybird: usage: run [--overlap | --workers N | --parts N | --watch] [--stats] [--json] [--segments N] [--docs N] [--terms N] "
-    ++ codes "| bench START DOCS | save [--segments N] [--docs N] [--terms N] | load [--stats] [--json]\n"
+usage = codes "earlybird: usage: run [--overlap | --workers N | --parts N | --watch] [--fields LIST] [--stats] [--json] [--segments N] "
+    ++ codes "[--docs N] [--terms N] | bench START DOCS | save [--fields LIST] [--segments N] [--docs N] [--terms N] | "
+    ++ codes "load [--fields LIST] [--stats] [--json]\n"
 
 -- the line of a status, with its LF; Done and Refused say nothing
 abbrev pub status_line : Status → List ℕ
@@ -14,7 +15,7 @@ status_line status = line_of usage status
 
 -- how the program is called for a feed, and the line of its status
 abbrev pub feed_usage : List ℕ
-feed_usage = codes "earlybird: usage: feed [--keep N] [--json] [--segments N] [--docs N] [--terms N]\n"
+feed_usage = codes "earlybird: usage: feed [--keep N] [--fields LIST] [--json] [--segments N] [--docs N] [--terms N]\n"
 
 abbrev pub feed_status_line : Status → List ℕ
 feed_status_line status = line_of feed_usage status

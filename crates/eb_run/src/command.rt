@@ -1,16 +1,22 @@
-ghost use Rattle.std.specs.Prelude.{◌≡◌, Some, None, IfOk, IsErrOf, map, string_bytes};
-ghost use Rattle.eb_run.specs.Command.{command_of};
+ghost use Rattle.std.specs.Prelude.{◌≡◌, [], Some, None, IfOk, IsErrOf, map, string_bytes};
+ghost use Rattle.eb_options.specs.Items.{texts};
+ghost use Rattle.eb_run.specs.Command.{asked_of, with_fields, run_of, run_options, save_of, load_of};
+ghost use Rattle.eb_options.specs.Settings.{setting_options};
+ghost use Rattle.eb_run.specs.Requests.{request_view};
 
 mod bench;
 mod form;
 mod images;
 mod lines;
 
+use crate::fields::take_fields;
 use bench::read_bench;
 use eb_base::Config;
+use eb_fields::Fields;
 use eb_lines::Form;
-use images::{read_load, read_save};
-use lines::read_run;
+use eb_options::SETTING_OPTIONS;
+use images::{LOAD_OPTIONS, read_load, read_save};
+use lines::{RUN_OPTIONS, read_run};
 use std::alloc::Global;
 
 /// What the words of a command line ask for.
@@ -70,6 +76,15 @@ pub enum Command {
     },
 }
 
+/// What the words of a command line ask for, and the fields that they say.
+#[derive(Clone, Copy, Debug)]
+pub struct Request<'a> {
+    /// The command.
+    pub command: Command,
+    /// The fields by which its lines are read (`--fields`); none for `bench`.
+    pub fields: Fields<'a>,
+}
+
 /// Why no command is read from the words.
 #[derive(Clone, Copy, Debug, PartialEq, Eq)]
 pub enum CommandFault {
@@ -79,7 +94,58 @@ pub enum CommandFault {
     NoMemory,
 }
 
-/// The command that the words ask for; they are without the program's name.
+// What the words after `run` ask for.
+fn ask_run<'a>(alloc: Global, words: &'a [String]) -> Result<Request<'a>, CommandFault>
+    ensures request { IfOk result (λ request. with_fields run_options run_of (map string_bytes words.entry.now) ≡ Some (request_view request)) }
+    ensures usage { IsErrOf result CommandFault.Usage → with_fields run_options run_of (map string_bytes words.entry.now) ≡ None }
+{
+    match take_fields(alloc, words, &RUN_OPTIONS) {
+        Ok(apart) => match read_run(alloc, apart.others.as_slice()) {
+            Ok(command) => Ok(Request {
+                command,
+                fields: apart.fields,
+            }),
+            Err(fault) => Err(fault),
+        },
+        Err(fault) => Err(fault),
+    }
+}
+
+// What the words after `save` ask for.
+fn ask_save<'a>(alloc: Global, words: &'a [String]) -> Result<Request<'a>, CommandFault>
+    ensures request { IfOk result (λ request. with_fields setting_options save_of (map string_bytes words.entry.now) ≡ Some (request_view request)) }
+    ensures usage { IsErrOf result CommandFault.Usage → with_fields setting_options save_of (map string_bytes words.entry.now) ≡ None }
+{
+    match take_fields(alloc, words, &SETTING_OPTIONS) {
+        Ok(apart) => match read_save(alloc, apart.others.as_slice()) {
+            Ok(command) => Ok(Request {
+                command,
+                fields: apart.fields,
+            }),
+            Err(fault) => Err(fault),
+        },
+        Err(fault) => Err(fault),
+    }
+}
+
+// What the words after `load` ask for.
+fn ask_load<'a>(alloc: Global, words: &'a [String]) -> Result<Request<'a>, CommandFault>
+    ensures request { IfOk result (λ request. with_fields [] load_of (map string_bytes words.entry.now) ≡ Some (request_view request)) }
+    ensures usage { IsErrOf result CommandFault.Usage → with_fields [] load_of (map string_bytes words.entry.now) ≡ None }
+{
+    match take_fields(alloc, words, &LOAD_OPTIONS) {
+        Ok(apart) => match read_load(alloc, apart.others.as_slice()) {
+            Ok(command) => Ok(Request {
+                command,
+                fields: apart.fields,
+            }),
+            Err(fault) => Err(fault),
+        },
+        Err(fault) => Err(fault),
+    }
+}
+
+/// What the words ask for; they are without the program's name.
 ///
 /// - `run`, and then items in any order, each option at most once: `--overlap`, `--watch`, `--json`, `--stats`, and for x of
 ///   `workers`, `parts`, `segments`, `docs` and `terms` the two words `--x V` or the one word `--x=V`. V is one to nine digits, leading
@@ -91,25 +157,34 @@ pub enum CommandFault {
 /// - `save`, and then the options of a setting as after `run`.
 /// - `load`, and then `--json` and `--stats`, each at most once.
 ///
+/// After `run`, `save` and `load` the two words `--fields LIST` or the one word `--fields=LIST` may stand among these items, once;
+/// LIST is as `Fields::read` takes it.
+///
 /// Usage comes exactly where the words are none of these; NoMemory is free.
-pub fn read_command(alloc: Global, words: &Vec<String>) -> Result<Command, CommandFault>
-    ensures command { IfOk result (λ command. command_of (map string_bytes words.now.items) ≡ Some command) }
-    ensures usage { IsErrOf result CommandFault.Usage → command_of (map string_bytes words.now.items) ≡ None }
+pub fn read_command<'a>(alloc: Global, words: &'a Vec<String>) -> Result<Request<'a>, CommandFault>
+    ensures request { IfOk result (λ request. asked_of (map string_bytes words.entry.now.items) ≡ Some (request_view request)) }
+    ensures usage { IsErrOf result CommandFault.Usage → asked_of (map string_bytes words.entry.now.items) ≡ None }
 {
     let Some((name, rest)) = words.split_first() else {
         return Err(CommandFault::Usage);
     };
     if name.as_str() == "run" {
-        return read_run(alloc, rest);
+        return ask_run(alloc, rest);
     }
     if name.as_str() == "bench" {
-        return read_bench(rest).ok_or(CommandFault::Usage);
+        return match read_bench(rest) {
+            Some(command) => Ok(Request {
+                command,
+                fields: Fields::none(),
+            }),
+            None => Err(CommandFault::Usage),
+        };
     }
     if name.as_str() == "save" {
-        return read_save(alloc, rest);
+        return ask_save(alloc, rest);
     }
     if name.as_str() == "load" {
-        return read_load(alloc, rest);
+        return ask_load(alloc, rest);
     }
     Err(CommandFault::Usage)
 }

@@ -1,20 +1,22 @@
-ghost use Rattle.std.specs.Prelude.{◌≡◌, ◌⊎◌, ◌++◌, true, false, List, [], ℕ, None, Some, OnOk, map, string_bytes};
+ghost use Rattle.std.specs.Prelude.{◌≡◌, ◌⊎◌, ◌++◌, true, false, List, [], ℕ, None, Some, OnOk, map, option_map, string_bytes};
+ghost use Rattle.eb_fields.specs.Fields.{names};
 ghost use Rattle.eb_io.specs.Faults.{HasRisen};
 ghost use Rattle.eb_lines.specs.Programs.{IsRunning, WorksOn};
-ghost use Rattle.eb_run.specs.Command.{command_of};
+ghost use Rattle.eb_run.specs.Command.{asked_of, asks};
 ghost use Rattle.eb_run.specs.Output.{Ends};
 ghost use Rattle.eb_run.specs.Ran.{EndsBy, Ran, Means, Completes, reads_source};
 ghost use Rattle.eb_run.specs.Running.{HasRun, HoldsNone};
 ghost use Rattle.eb_run.specs.StatusLine.{status_line};
 
 use crate::bench::run_bench;
-use crate::command::{Command, CommandFault, read_command};
+use crate::command::{Command, CommandFault, Request, read_command};
 use crate::program::RunProgram;
 use crate::running::Running;
 use crate::usage::USAGE;
 use eb_answer::answer_lines;
 use eb_archive::{load_lines, save_lines};
 use eb_base::{Config, Gate, NoMemory};
+use eb_fields::Fields;
 use eb_indexed::Indexed;
 use eb_io::{Sink, Source, write_all};
 use eb_lines::{Form, Status, pass_lines};
@@ -48,18 +50,19 @@ where
     E: Sink,
     G: Gate + Sync,
     // Usage comes only where the words ask for no command; then nothing is read and nothing printed.
-    ensures usage { result ≡ Status.Usage → command_of (map string_bytes words.now.items) ≡ None }
-    ensures no_command { command_of (map string_bytes words.now.items) ≡ None → (result ≡ Status.Usage) ⊎ (result ≡ Status.NoMemory) }
-    ensures unprinted { command_of (map string_bytes words.now.items) ≡ None → out.new ≡ out.old }
+    ensures usage { result ≡ Status.Usage → asked_of (map string_bytes words.now.items) ≡ None }
+    ensures no_command { asked_of (map string_bytes words.now.items) ≡ None → (result ≡ Status.Usage) ⊎ (result ≡ Status.NoMemory) }
+    ensures unprinted { asked_of (map string_bytes words.now.items) ≡ None → out.new ≡ out.old }
     // The source isn't read where they ask for no command, or to process a made input.
-    ensures unread { reads_source (command_of (map string_bytes words.now.items)) ≡ false → source.new ≡ source.old }
+    ensures unread { reads_source (option_map (λ a. a.command) (asked_of (map string_bytes words.now.items))) ≡ false → source.new ≡ source.old }
     // What was printed, by the command: where source and `out` tell their bytes, a text of the input as the status says.
-    ensures ran { (c : Command) → command_of (map string_bytes words.now.items) ≡ Some c
-        → Ran c result (S.left source.old) (S.left source.new) (K.taken out.old) (K.taken out.new) }
+    ensures ran { (fields : List (List ℕ)) (c : Command) → asked_of (map string_bytes words.now.items) ≡ Some (asks fields c)
+        → Ran fields c result (S.left source.old) (S.left source.new) (K.taken out.old) (K.taken out.new) }
     // What the status says of the input holds whatever becomes of the output.
-    ensures means { (c : Command) → command_of (map string_bytes words.now.items) ≡ Some c → Means c result (S.left source.old) (S.left source.new) }
+    ensures means { (fields : List (List ℕ)) (c : Command) → asked_of (map string_bytes words.now.items) ≡ Some (asks fields c)
+        → Means fields c result (S.left source.old) (S.left source.new) }
     // Without a fault and with an end in time, the input is processed.
-    ensures completes { (c : Command) → command_of (map string_bytes words.now.items) ≡ Some c
+    ensures completes { (fields : List (List ℕ)) (c : Command) → asked_of (map string_bytes words.now.items) ≡ Some (asks fields c)
         → Completes c (HasRisen (S.faults source.old) (S.faults source.new)) (HasRisen (K.faults out.old) (K.faults out.new)) result (S.left source.old) }
     // Faults come only from outside.
     ensures read_fault { result ≡ Status.ReadFault → HasRisen (S.faults source.old) (S.faults source.new) }
@@ -81,17 +84,17 @@ fn run_words<R: Threads + Wait + Sync, S: Source, K: Sink, G: Gate + Sync>(
     out: &mut K,
     gate: &G,
 ) -> Status
-    ensures usage { result ≡ Status.Usage → command_of (map string_bytes words.now.items) ≡ None }
-    ensures no_command { command_of (map string_bytes words.now.items) ≡ None → (result ≡ Status.Usage) ⊎ (result ≡ Status.NoMemory) }
-    ensures unprinted { command_of (map string_bytes words.now.items) ≡ None → out.new ≡ out.old }
-    ensures unread { reads_source (command_of (map string_bytes words.now.items)) ≡ false → source.new ≡ source.old }
-    ensures ends { (c : Command) → command_of (map string_bytes words.now.items) ≡ Some c
-        → EndsBy c result (S.left source.old) (S.left source.new) (K.taken out.old) (K.taken out.new) }
+    ensures usage { result ≡ Status.Usage → asked_of (map string_bytes words.now.items) ≡ None }
+    ensures no_command { asked_of (map string_bytes words.now.items) ≡ None → (result ≡ Status.Usage) ⊎ (result ≡ Status.NoMemory) }
+    ensures unprinted { asked_of (map string_bytes words.now.items) ≡ None → out.new ≡ out.old }
+    ensures unread { reads_source (option_map (λ a. a.command) (asked_of (map string_bytes words.now.items))) ≡ false → source.new ≡ source.old }
+    ensures ends { (fields : List (List ℕ)) (c : Command) → asked_of (map string_bytes words.now.items) ≡ Some (asks fields c)
+        → EndsBy fields c result (S.left source.old) (S.left source.new) (K.taken out.old) (K.taken out.new) }
     ensures read_fault { result ≡ Status.ReadFault → HasRisen (S.faults source.old) (S.faults source.new) }
     ensures write_fault { result ≡ Status.WriteFault → HasRisen (K.faults out.old) (K.faults out.new) }
 {
-    let command = match read_command(alloc, words) {
-        Ok(command) => command,
+    let Request { command, fields } = match read_command(alloc, words) {
+        Ok(request) => request,
         Err(CommandFault::Usage) => return Status::Usage,
         Err(CommandFault::NoMemory) => return Status::NoMemory,
     };
@@ -100,23 +103,23 @@ fn run_words<R: Threads + Wait + Sync, S: Source, K: Sink, G: Gate + Sync>(
             overlap,
             form,
             config,
-        } => run_lines(rt, alloc, overlap, form, config, source, out, gate),
+        } => run_lines(rt, alloc, overlap, fields, form, config, source, out, gate),
         Command::RunWorkers {
             workers,
             form,
             config,
-        } => run_workers(rt, alloc, workers, form, config, source, out, gate),
+        } => run_workers(rt, alloc, workers, fields, form, config, source, out, gate),
         Command::RunParts {
             parts,
             form,
             config,
-        } => run_parts(alloc, parts, form, config, source, out, gate),
+        } => run_parts(alloc, parts, fields, form, config, source, out, gate),
         Command::RunWatches { form, config } => {
-            run_watches(alloc, form, config, source, out, gate)
+            run_watches(alloc, fields, form, config, source, out, gate)
         }
         Command::Bench { start, docs } => run_bench(alloc, start, docs, out, gate),
-        Command::Save { config } => save_lines(alloc, config, source, out, gate),
-        Command::Load { form } => load_lines(alloc, form, source, out, gate),
+        Command::Save { config } => save_lines(alloc, fields, config, source, out, gate),
+        Command::Load { form } => load_lines(alloc, fields, form, source, out, gate),
     }
 }
 
@@ -125,62 +128,65 @@ fn run_lines<R: Threads + Sync, S: Source, K: Sink, G: Gate + Sync>(
     rt: &R,
     alloc: Global,
     overlap: bool,
+    fields: Fields<'_>,
     form: Form,
     config: Config,
     source: &mut S,
     out: &mut K,
     gate: &G,
 ) -> Status
-    ensures ends { Ends config overlap form result (S.left source.old) (S.left source.new) (K.taken out.old) (K.taken out.new) }
+    ensures ends { Ends (names fields.entry) config overlap form result (S.left source.old) (S.left source.new) (K.taken out.old) (K.taken out.new) }
     ensures read_fault { result ≡ Status.ReadFault → HasRisen (S.faults source.old) (S.faults source.new) }
     ensures write_fault { result ≡ Status.WriteFault → HasRisen (K.faults out.old) (K.faults out.new) }
 {
     if overlap {
-        run_beside(rt, alloc, form, config, source, out, gate)
+        run_beside(rt, alloc, fields, form, config, source, out, gate)
     } else {
-        run_in_order(alloc, form, config, source, out, gate)
+        run_in_order(alloc, fields, form, config, source, out, gate)
     }
 }
 
 // Processes the lines one after the other.
 fn run_in_order<S: Source, K: Sink, G: Gate>(
     alloc: Global,
+    fields: Fields<'_>,
     form: Form,
     config: Config,
     source: &mut S,
     out: &mut K,
     gate: &G,
 ) -> Status
-    ensures ends { Ends config false form result (S.left source.old) (S.left source.new) (K.taken out.old) (K.taken out.new) }
+    ensures ends { Ends (names fields.entry) config false form result (S.left source.old) (S.left source.new) (K.taken out.old) (K.taken out.new) }
     ensures read_fault { result ≡ Status.ReadFault → HasRisen (S.faults source.old) (S.faults source.new) }
     ensures write_fault { result ≡ Status.WriteFault → HasRisen (K.faults out.old) (K.faults out.new) }
 {
     let Ok(indexed) = Indexed::new(alloc, form, config) else {
         return Status::NoMemory;
     };
-    answer_lines(alloc, indexed, source, out, gate)
+    answer_lines(alloc, indexed, fields, source, out, gate)
 }
 
 // Adds documents while queries are answered.
 fn run_beside<R: Threads + Sync, S: Source, K: Sink, G: Gate + Sync>(
     rt: &R,
     alloc: Global,
+    fields: Fields<'_>,
     form: Form,
     config: Config,
     source: &mut S,
     out: &mut K,
     gate: &G,
 ) -> Status
-    ensures ends { Ends config true form result (S.left source.old) (S.left source.new) (K.taken out.old) (K.taken out.new) }
+    ensures ends { Ends (names fields.entry) config true form result (S.left source.old) (S.left source.new) (K.taken out.old) (K.taken out.new) }
     ensures read_fault { result ≡ Status.ReadFault → HasRisen (S.faults source.old) (S.faults source.new) }
     ensures write_fault { result ≡ Status.WriteFault → HasRisen (K.faults out.old) (K.faults out.new) }
 {
-    let Ok(running) = Running::new(alloc, form, config) else {
+    let Ok(running) = Running::new(alloc, fields, form, config) else {
         return Status::NoMemory;
     };
     let mut program = RunProgram {
         alloc,
-        worker: |running: &mut Running, text: &mut Vec<u8>| -> Result<(), NoMemory>
+        worker: |running: &mut Running<'_>, text: &mut Vec<u8>| -> Result<(), NoMemory>
             requires { IsRunning HasRun running.old }
             ensures on { WorksOn HasRun running.old running.new text.old.items text.new.items }
             ensures none { OnOk result (HoldsNone running.new) }

@@ -1,10 +1,11 @@
 ghost use Rattle.std.specs.Prelude.{◌≡◌, ◌⊎◌, ◌<◌, ◌≤◌, ◌++◌, List, ℕ, None, Some, length, map, string_bytes};
+ghost use Rattle.eb_fields.specs.Fields.{names};
 ghost use Rattle.eb_io.specs.Faults.{HasRisen};
 ghost use Rattle.eb_io.specs.Lines.{longest_input};
 ghost use Rattle.eb_base.specs.Setting.{Setting};
 ghost use Rattle.eb_lines.specs.Outcomes.{IsWorkedOff};
 ghost use Rattle.eb_lines.specs.Passing.{Ends};
-ghost use Rattle.eb_run.specs.FeedCommand.{feed_command_of, AsksFeed};
+ghost use Rattle.eb_run.specs.FeedCommand.{feed_asked_of, AsksFeed};
 ghost use Rattle.eb_run.specs.StatusLine.{feed_status_line};
 ghost use Rattle.eb_answer.specs.Rules.{Rules, is_bad, IsBody, IsText, HasRefusal, HasNoRefusal};
 ghost use Rattle.eb_run.specs.FeedOutput.{feed_rules, WroteFeed, FeedMeans};
@@ -14,9 +15,10 @@ mod fed;
 
 use crate::command::CommandFault;
 use crate::usage::FEED_USAGE;
-pub use command::{FeedCommand, read_feed_command};
+pub use command::{FeedCommand, FeedRequest, read_feed_command};
 use eb_answer::answer_lines;
 use eb_base::{Config, Gate};
+use eb_fields::Fields;
 use eb_io::{Sink, Source, write_all};
 use eb_lines::{Form, Status};
 use fed::Fed;
@@ -40,22 +42,22 @@ where
     E: Sink,
     G: Gate,
     // Usage comes only where the words ask for no feed; then nothing is read and nothing printed.
-    ensures usage { result ≡ Status.Usage → feed_command_of (map string_bytes words.now) ≡ None }
-    ensures no_command { feed_command_of (map string_bytes words.now) ≡ None → (result ≡ Status.Usage) ⊎ (result ≡ Status.NoMemory) }
-    ensures unread { feed_command_of (map string_bytes words.now) ≡ None → (source.new ≡ source.old) × (out.new ≡ out.old) }
+    ensures usage { result ≡ Status.Usage → feed_asked_of (map string_bytes words.now) ≡ None }
+    ensures no_command { feed_asked_of (map string_bytes words.now) ≡ None → (result ≡ Status.Usage) ⊎ (result ≡ Status.NoMemory) }
+    ensures unread { feed_asked_of (map string_bytes words.now) ≡ None → (source.new ≡ source.old) × (out.new ≡ out.old) }
     // Where the words ask for a feed, and source and `out` tell their bytes, the run printed the text of the input as the
     // status says.
-    ensures output { (keep : ℕ) (form : Form) (σ : Setting) → AsksFeed (map string_bytes words.now) keep form σ
+    ensures output { (fields : List (List ℕ)) (keep : ℕ) (form : Form) (σ : Setting) → AsksFeed (map string_bytes words.now) fields keep form σ
         → (bytes before : List ℕ) → S.left source.old ≡ Some bytes → K.taken out.old ≡ Some before
-        → (printed : List ℕ) × (K.taken out.new ≡ Some (before ++ printed)) × WroteFeed σ keep form result bytes (S.left source.new) printed }
+        → (printed : List ℕ) × (K.taken out.new ≡ Some (before ++ printed)) × WroteFeed fields σ keep form result bytes (S.left source.new) printed }
     // What the status says of the input holds whatever becomes of the output.
-    ensures means { (keep : ℕ) (form : Form) (σ : Setting) → AsksFeed (map string_bytes words.now) keep form σ
-        → (bytes : List ℕ) → S.left source.old ≡ Some bytes → FeedMeans σ keep form result bytes (S.left source.new) }
+    ensures means { (fields : List (List ℕ)) (keep : ℕ) (form : Form) (σ : Setting) → AsksFeed (map string_bytes words.now) fields keep form σ
+        → (bytes : List ℕ) → S.left source.old ≡ Some bytes → FeedMeans fields σ keep form result bytes (S.left source.new) }
     // Faults come only from outside.
     ensures read_fault { result ≡ Status.ReadFault → HasRisen (S.faults source.old) (S.faults source.new) }
     ensures write_fault { result ≡ Status.WriteFault → HasRisen (K.faults out.old) (K.faults out.new) }
     // Without a fault and with an end in time, the input is processed.
-    ensures completes { (keep : ℕ) (form : Form) (σ : Setting) → AsksFeed (map string_bytes words.now) keep form σ
+    ensures completes { (fields : List (List ℕ)) (keep : ℕ) (form : Form) (σ : Setting) → AsksFeed (map string_bytes words.now) fields keep form σ
         → (HasRisen (S.faults source.old) (S.faults source.new) → ⊥) → (HasRisen (K.faults out.old) (K.faults out.new) → ⊥)
         → (bytes : List ℕ) → S.left source.old ≡ Some bytes → length bytes < longest_input → IsWorkedOff result }
     // `err` took the line of the status, unless it failed.
@@ -74,29 +76,30 @@ fn run_words<S: Source, K: Sink, G: Gate>(
     out: &mut K,
     gate: &G,
 ) -> Status
-    ensures usage { result ≡ Status.Usage → feed_command_of (map string_bytes words.now) ≡ None }
-    ensures no_command { feed_command_of (map string_bytes words.now) ≡ None → (result ≡ Status.Usage) ⊎ (result ≡ Status.NoMemory) }
-    ensures unread { feed_command_of (map string_bytes words.now) ≡ None → (source.new ≡ source.old) × (out.new ≡ out.old) }
-    ensures ends { (keep : ℕ) (form : Form) (σ : Setting) → AsksFeed (map string_bytes words.now) keep form σ
-        → let rules = feed_rules σ keep form in
+    ensures usage { result ≡ Status.Usage → feed_asked_of (map string_bytes words.now) ≡ None }
+    ensures no_command { feed_asked_of (map string_bytes words.now) ≡ None → (result ≡ Status.Usage) ⊎ (result ≡ Status.NoMemory) }
+    ensures unread { feed_asked_of (map string_bytes words.now) ≡ None → (source.new ≡ source.old) × (out.new ≡ out.old) }
+    ensures ends { (fields : List (List ℕ)) (keep : ℕ) (form : Form) (σ : Setting) → AsksFeed (map string_bytes words.now) fields keep form σ
+        → let rules = feed_rules fields σ keep form in
         Ends (IsBody is_bad rules) (IsText is_bad rules) (HasRefusal is_bad rules) (HasNoRefusal is_bad rules)
         result (S.left source.old) (S.left source.new) (K.taken out.old) (K.taken out.new) }
     ensures read_fault { result ≡ Status.ReadFault → HasRisen (S.faults source.old) (S.faults source.new) }
     ensures write_fault { result ≡ Status.WriteFault → HasRisen (K.faults out.old) (K.faults out.new) }
 {
-    let command = match read_feed_command(alloc, words) {
-        Ok(command) => command,
+    let request = match read_feed_command(alloc, words) {
+        Ok(request) => request,
         Err(CommandFault::Usage) => return Status::Usage,
         Err(CommandFault::NoMemory) => return Status::NoMemory,
     };
-    let FeedCommand { keep, form, config } = command;
-    run_lines(alloc, keep, form, config, source, out, gate)
+    let FeedCommand { keep, form, config } = request.command;
+    run_lines(alloc, keep, request.fields, form, config, source, out, gate)
 }
 
 // Processes an input over a feed.
 fn run_lines<S: Source, K: Sink, G: Gate>(
     alloc: Global,
     keep: u32,
+    fields: Fields<'_>,
     form: Form,
     config: Config,
     source: &mut S,
@@ -104,7 +107,7 @@ fn run_lines<S: Source, K: Sink, G: Gate>(
     gate: &G,
 ) -> Status
     requires { (2 ≤ keep) × (keep ≤ 64) }
-    ensures ends { let rules = feed_rules config keep form in
+    ensures ends { let rules = feed_rules (names fields.entry) config keep form in
         Ends (IsBody is_bad rules) (IsText is_bad rules) (HasRefusal is_bad rules) (HasNoRefusal is_bad rules) result
         (S.left source.old) (S.left source.new) (K.taken out.old) (K.taken out.new) }
     ensures read_fault { result ≡ Status.ReadFault → HasRisen (S.faults source.old) (S.faults source.new) }
@@ -113,5 +116,5 @@ fn run_lines<S: Source, K: Sink, G: Gate>(
     let Ok(fed) = Fed::new(alloc, keep, form, config) else {
         return Status::NoMemory;
     };
-    answer_lines(alloc, fed, source, out, gate)
+    answer_lines(alloc, fed, fields, source, out, gate)
 }

@@ -8,6 +8,7 @@ mod bench;
 mod command;
 mod dispatch;
 mod feed;
+mod fields;
 mod figures;
 mod last_line;
 mod laws;
@@ -15,8 +16,8 @@ mod program;
 mod running;
 mod usage;
 
-pub use command::{Command, CommandFault, read_command};
+pub use command::{Command, CommandFault, Request, read_command};
 pub use dispatch::run;
-pub use feed::{FeedCommand, read_feed_command, run_feed};
+pub use feed::{FeedCommand, FeedRequest, read_feed_command, run_feed};
 pub use laws::{feed_never_full, feed_one_text, feed_some_text, one_text, order_text, some_text};
 pub use usage::{FEED_USAGE, USAGE};

@@ -9,13 +9,14 @@ use std::alloc::Global;
 // A run, with its allocator, and with what processes the lines that it holds: a closure, since what is sent to other threads
 // needs the bounds of a function.
 #[derive(Drop)]
-pub(crate) struct RunProgram<W: Fn(&mut Running, &mut Vec<u8>) -> Result<(), NoMemory>> {
+pub(crate) struct RunProgram<'a, W: Fn(&mut Running<'a>, &mut Vec<u8>) -> Result<(), NoMemory>> {
     pub(crate) alloc: Global,
     pub(crate) worker: W,
-    pub(crate) running: Running,
+    pub(crate) running: Running<'a>,
 }
 
-impl<W: Fn(&mut Running, &mut Vec<u8>) -> Result<(), NoMemory>> LineProgram for RunProgram<W> {
+impl<'a, W: Fn(&mut Running<'a>, &mut Vec<u8>) -> Result<(), NoMemory>> LineProgram
+    for RunProgram<'a, W> {
     ghost use Rattle.eb_indexed.specs.LinesRead.{HasRefusal, HasNoRefusal};
     ghost use Rattle.eb_run.specs.Output.{Asked as AskedRun, IsBodyOf, IsTextOf};
     ghost use Rattle.eb_run.specs.Running.{HasRunBy, HoldsNone, run_first, body_first};
@@ -28,9 +29,9 @@ impl<W: Fn(&mut Running, &mut Vec<u8>) -> Result<(), NoMemory>> LineProgram for 
 
     ghost ends_with = { IsTextOf };
 
-    ghost refuses = { λ a. HasRefusal a.setting };
+    ghost refuses = { λ a. HasRefusal a.fields a.setting };
 
-    ghost accepts = { λ a. HasNoRefusal a.setting };
+    ghost accepts = { λ a. HasNoRefusal a.fields a.setting };
 
     ghost settled = { λ p. HoldsNone p.running };
 

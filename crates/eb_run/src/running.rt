@@ -1,4 +1,5 @@
 ghost use Rattle.std.specs.Prelude.{◌≡◌, ◌+◌, ◌<◌, ◌^◌, true, Some, None, ℕ, List, [], length, IfOk, OnErr, OnOk, IsTrue};
+ghost use Rattle.eb_fields.specs.Fields.{names};
 ghost use Rattle.eb_io.specs.Lines.{Line, line, long_line};
 ghost use Rattle.eb_rounds.specs.Passed.{HasMark, input_of, input_kind};
 ghost use Rattle.eb_rounds.specs.Standing.{queries_held};
@@ -12,16 +13,18 @@ ghost use Rattle.eb_run.specs.Running.{HasRun, HoldsNone, WorksOffHeld};
 
 use eb_base::{Config, Gate, NoMemory};
 use eb_engine::{Converter, Index, Writer};
+use eb_fields::Fields;
 use eb_indexed::{Counts, SegmentCounts, close};
 use eb_lines::{Form, LineKind, Refusal, line_kind};
 use eb_rounds::{Input, Kind, Rounds};
 use std::alloc::Global;
 use std::thread::Threads;
 
-// A run with overlap between two lines: how what is printed is written, the index of the accepted documents, the lines that are
-// held, and the number of the last line given.
+// A run with overlap between two lines: the fields by which lines are read, how what is printed is written, the index of the
+// accepted documents, the lines that are held, and the number of the last line given.
 #[derive(Drop)]
-pub(crate) struct Running {
+pub(crate) struct Running<'a> {
+    fields: Fields<'a>,
     pub(crate) form: Form,
     index: Index,
     writer: Writer,
@@ -30,13 +33,19 @@ pub(crate) struct Running {
     number: u64,
 }
 
-impl Running {
+impl<'a> Running<'a> {
     // A run with an empty index. Takes all the memory of the index.
-    pub(crate) fn new(alloc: Global, form: Form, config: Config) -> Result<Running, NoMemory>
-        ensures { IfOk result (λ running. HasRun running (asked config true form) [] []) }
+    pub(crate) fn new(
+        alloc: Global,
+        fields: Fields<'a>,
+        form: Form,
+        config: Config,
+    ) -> Result<Running<'a>, NoMemory>
+        ensures { IfOk result (λ running. HasRun running (asked (names fields.entry) config true form) [] []) }
     {
         let (index, writer, converter) = Index::open(alloc, config)?;
         Ok(Running {
+            fields,
             form,
             index,
             writer,
@@ -83,13 +92,14 @@ impl Running {
             &mut self.writer,
             &mut self.converter,
             gate,
+            self.fields,
             self.form,
             text,
         )
     }
 
     // Processes the held lines where a query waits among them.
-    pub(crate) fn answer_held<W: Fn(&mut Running, &mut Vec<u8>) -> Result<(), NoMemory>>(
+    pub(crate) fn answer_held<W: Fn(&mut Running<'a>, &mut Vec<u8>) -> Result<(), NoMemory>>(
         &mut self,
         worker: &W,
         text: &mut Vec<u8>,
@@ -116,7 +126,7 @@ impl Running {
     }
 
     // Where no line of this kind goes after the held lines, opens a round for it, or processes them.
-    fn make_way<W: Fn(&mut Running, &mut Vec<u8>) -> Result<(), NoMemory>>(
+    fn make_way<W: Fn(&mut Running<'a>, &mut Vec<u8>) -> Result<(), NoMemory>>(
         &mut self,
         kind: Kind,
         worker: &W,
@@ -154,7 +164,7 @@ impl Running {
     }
 
     // Holds the next line, and processes the held lines before where it doesn't go after them.
-    fn hold<W: Fn(&mut Running, &mut Vec<u8>) -> Result<(), NoMemory>>(
+    fn hold<W: Fn(&mut Running<'a>, &mut Vec<u8>) -> Result<(), NoMemory>>(
         &mut self,
         input: Input<'_>,
         worker: &W,
@@ -182,7 +192,7 @@ impl Running {
     }
 
     // Takes the next line, which is a long one.
-    pub(crate) fn take_long<W: Fn(&mut Running, &mut Vec<u8>) -> Result<(), NoMemory>>(
+    pub(crate) fn take_long<W: Fn(&mut Running<'a>, &mut Vec<u8>) -> Result<(), NoMemory>>(
         &mut self,
         worker: &W,
         text: &mut Vec<u8>,
@@ -197,7 +207,7 @@ impl Running {
     }
 
     // Takes the next line, which isn't a long one.
-    pub(crate) fn take_line<W: Fn(&mut Running, &mut Vec<u8>) -> Result<(), NoMemory>>(
+    pub(crate) fn take_line<W: Fn(&mut Running<'a>, &mut Vec<u8>) -> Result<(), NoMemory>>(
         &mut self,
         bytes: &[u8],
         worker: &W,

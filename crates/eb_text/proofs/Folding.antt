@@ -1,5 +1,5 @@
 -- Words that are their own folding.
-use Rattle.std.proofs.Common.{◌≡◌, ℕ, zero, suc, ◌<◌, ◌≤◌, List, [], ◌∷◌, ◌++◌, map, All, chars, IsAscii, encode_utf8_all, refl, sym, ap, ap₂, subst, ◌∙◌, arith, suc-le-suc, zero-le}
+use Rattle.std.proofs.Common.{◌≡◌, ℕ, zero, suc, ◌<◌, List, [], ◌∷◌, ◌++◌, map, All, chars, encode_utf8_all, refl, ap, ap₂, ◌∙◌, arith, suc-le-suc, zero-le}
 use Rattle.std.specs.Char.{to_ascii_lowercase}
 use Rattle.std.proofs.lemmas.Bool.Decides.{nat_tests}
 use Rattle.std.proofs.lemmas.Str.{chars-IsAscii, encode_ascii}

@@ -1,5 +1,5 @@
 //! The tokens of a text: its words, with their case folded. Documents and queries are cut by this
-//! one call, so what a query names is found however it was written.
+//! one call, so what a query names is found however it was written. [`folded_term`] folds a whole text.
 #![tactic(auto)]
 
 ghost use Rattle.std.specs.Prelude.{◌≡◌, IfOk, IsTrue};
@@ -26,24 +26,24 @@ pub fn tokens(alloc: Global, text: &str) -> Result<Terms, NoMemory>
     Ok(terms)
 }
 
-// A word under the default case folding of Unicode, as a term. One of ASCII without a capital letter is its own folding, and
-// takes no memory of its own but a long term's.
+/// A text under the default case folding of Unicode, as one term: it isn't cut into words. One of ASCII
+/// without a capital letter is its own folding, and takes no memory but a long term's.
 #[tactic(auto, using(crate::proofs::Folding::folded_same))]
-fn folded_term(alloc: Global, word: &str) -> Result<Term, NoMemory>
-    ensures { IfOk result (λ term. term ≡ folded word.now) }
+pub fn folded_term(alloc: Global, text: &str) -> Result<Term, NoMemory>
+    ensures { IfOk result (λ term. term ≡ folded text.now) }
 {
-    if is_folded_ascii(word) {
-        return Term::new(alloc, word.as_bytes());
+    if is_folded_ascii(text) {
+        return Term::new(alloc, text.as_bytes());
     }
-    let folded = default_case_fold_str(alloc, word)?;
+    let folded = default_case_fold_str(alloc, text)?;
     Term::new(alloc, folded.as_bytes())
 }
 
-// Whether all bytes of a word are ASCII and no capital letters.
-fn is_folded_ascii(word: &str) -> bool
-    ensures { IsTrue result → All IsFoldedByte word.now }
+// Whether all bytes of a text are ASCII and no capital letters.
+fn is_folded_ascii(text: &str) -> bool
+    ensures { IsTrue result → All IsFoldedByte text.now }
 {
-    for byte in word.as_bytes() {
+    for byte in text.as_bytes() {
         if !is_folded_byte(*byte) {
             return false;
         }

@@ -12,8 +12,8 @@ use Rattle.eb_lines.specs.Reads.{of_query}
 use Rattle.eb_lines.specs.Works.{refusal_of}
 use Rattle.eb_lines.proofs.Refused.{refused_as}
 use Rattle.eb_query.specs.Reading.{Outcome, asks, bad_number, bad_query, too_deep, too_many_nodes}
-use Rattle.eb_query.specs.Refusal.{IsWatchRefused}
-use Rattle.eb_query.specs.WatchLine.{WatchOutcome, ReadsWatchAs, watch_asked}
+use Rattle.eb_query.specs.Refusal.{IsWatchRefusedWith}
+use Rattle.eb_query.specs.WatchLine.{WatchOutcome, ReadsWatchWith, watch_asked}
 use Rattle.eb_query.specs.WatchLine as outcome
 use Rattle.eb_query.specs.declared.read.QueryFault.{QueryFault}
 use Rattle.eb_watching.specs.Others.{is_watch_line, of_watch_text, of_watch_line, ReadsOtherBy, ReadsOther}
@@ -21,18 +21,18 @@ use Rattle.eb_watching.specs.Others.{is_watch_line, of_watch_text, of_watch_line
 by_mark : (b : ℕ) (bs : List ℕ) → b ≡ 33 → is_watch_line (b ∷ bs) ≡ is_utf8 (b ∷ bs)
 by_mark b bs e = rw e refl
 
-pub reads_text : (bytes : List ℕ) (o : WatchOutcome) → slice_get bytes 0 ≡ Some 33 → IsUtf8 bytes → ReadsWatchAs bytes o → ReadsOther bytes (of_watch_line o)
-reads_text [] o e utf8 reads = absurd (cc e)
-reads_text (b ∷ bs) o e utf8 reads =
+pub reads_text : (names : List (List ℕ)) (bytes : List ℕ) (o : WatchOutcome) → slice_get bytes 0 ≡ Some 33 → IsUtf8 bytes → ReadsWatchWith names bytes o → ReadsOther names bytes (of_watch_line o)
+reads_text names [] o e utf8 reads = absurd (cc e)
+reads_text names (b ∷ bs) o e utf8 reads =
     let first : b ≡ 33 = cc in
-    subst (λ (t : Bool). ReadsOtherBy t (b ∷ bs) (of_watch_line o)) (sym (by_mark b bs first ∙ is_utf8-from_IsUtf8 (b ∷ bs) utf8)) (o, reads, refl)
+    subst (λ (t : Bool). ReadsOtherBy names t (b ∷ bs) (of_watch_line o)) (sym (by_mark b bs first ∙ is_utf8-from_IsUtf8 (b ∷ bs) utf8)) (o, reads, refl)
 
 asked_is : (n : ℕ) (q : Option Tree) → of_watch_line (watch_asked n q) ≡ watch n q
 asked_is n None = refl
 asked_is n (Some t) = refl
 
-pub reads_asked : (bytes : List ℕ) (n : ℕ) (q : Option Tree) → slice_get bytes 0 ≡ Some 33 → IsUtf8 bytes → ReadsWatchAs bytes (watch_asked n q) → ReadsOther bytes (watch n q)
-reads_asked bytes n q e utf8 reads = subst (ReadsOther bytes) (asked_is n q) (reads_text bytes (watch_asked n q) e utf8 reads)
+pub reads_asked : (names : List (List ℕ)) (bytes : List ℕ) (n : ℕ) (q : Option Tree) → slice_get bytes 0 ≡ Some 33 → IsUtf8 bytes → ReadsWatchWith names bytes (watch_asked n q) → ReadsOther names bytes (watch n q)
+reads_asked names bytes n q e utf8 reads = subst (ReadsOther names bytes) (asked_is n q) (reads_text names bytes (watch_asked n q) e utf8 reads)
 
 -- a refused query text refuses its watch line
 watch_refused : (o : Outcome) (r : Refusal) → refused r ≡ of_query o → of_watch_text o ≡ refused r
@@ -42,22 +42,22 @@ watch_refused (bad_query column) r e = sym e
 watch_refused too_deep r e = sym e
 watch_refused too_many_nodes r e = sym e
 
-pub reads_refused : (bytes : List ℕ) (fault : QueryFault) (r : Refusal) → slice_get bytes 0 ≡ Some 33 → IsUtf8 bytes → IsWatchRefused bytes fault
-    → refusal_of fault ≡ Some r → ReadsOther bytes (refused r)
-reads_refused bytes fault r e utf8 is same =
-    let x = refused_as (λ (o : Outcome). ReadsWatchAs bytes (outcome.reads o)) fault r is same in
-    subst (ReadsOther bytes) (watch_refused x.0 r x.2) (reads_text bytes (outcome.reads x.0) e utf8 x.1)
+pub reads_refused : (names : List (List ℕ)) (bytes : List ℕ) (fault : QueryFault) (r : Refusal) → slice_get bytes 0 ≡ Some 33 → IsUtf8 bytes → IsWatchRefusedWith names bytes fault
+    → refusal_of fault ≡ Some r → ReadsOther names bytes (refused r)
+reads_refused names bytes fault r e utf8 is same =
+    let x = refused_as (λ (o : Outcome). ReadsWatchWith names bytes (outcome.reads o)) fault r is same in
+    subst (ReadsOther names bytes) (watch_refused x.0 r x.2) (reads_text names bytes (outcome.reads x.0) e utf8 x.1)
 
-pub reads_not_utf8 : (bytes : List ℕ) → slice_get bytes 0 ≡ Some 33 → (IsUtf8 bytes → ⊥) → ReadsOther bytes (refused BadLine)
-reads_not_utf8 [] e other = absurd (cc e)
-reads_not_utf8 (b ∷ bs) e other =
+pub reads_not_utf8 : (names : List (List ℕ)) (bytes : List ℕ) → slice_get bytes 0 ≡ Some 33 → (IsUtf8 bytes → ⊥) → ReadsOther names bytes (refused BadLine)
+reads_not_utf8 names [] e other = absurd (cc e)
+reads_not_utf8 names (b ∷ bs) e other =
     let first : b ≡ 33 = cc in
     let none : is_watch_line (b ∷ bs) ≡ false = by_mark b bs first ∙ false_from_ne_true _ (λ h. other (IsUtf8-from_is_utf8 (b ∷ bs) h)) in
-    subst (λ (t : Bool). ReadsOtherBy t (b ∷ bs) (refused BadLine)) (sym none) refl
+    subst (λ (t : Bool). ReadsOtherBy names t (b ∷ bs) (refused BadLine)) (sym none) refl
 
-pub reads_unmarked : (bytes : List ℕ) → (slice_get bytes 0 ≡ Some 33 → ⊥) → ReadsOther bytes (refused BadLine)
-reads_unmarked [] unmarked = refl
-reads_unmarked (b ∷ bs) unmarked =
+pub reads_unmarked : (names : List (List ℕ)) (bytes : List ℕ) → (slice_get bytes 0 ≡ Some 33 → ⊥) → ReadsOther names bytes (refused BadLine)
+reads_unmarked names [] unmarked = refl
+reads_unmarked names (b ∷ bs) unmarked =
     let other : (b == 33) ≡ false = false_from_ne_true _ (λ h. unmarked (ap Some (eqb→eq b 33 (subst T (sym h) tt)))) in
     let none : is_watch_line (b ∷ bs) ≡ false = rw other refl in
-    subst (λ (t : Bool). ReadsOtherBy t (b ∷ bs) (refused BadLine)) (sym none) refl
+    subst (λ (t : Bool). ReadsOtherBy names t (b ∷ bs) (refused BadLine)) (sym none) refl

@@ -25,8 +25,9 @@ behind ws n q (Some r) = ws
 module _ (old new : WatchedIndex) (same : new.indexed ≡ old.indexed) where
   pub on : (rules : Rules (List Watched)) (docs : List Doc) (ws vs : List Watched) → IsWatched old rules docs ws → watches_of new.watches ≡ vs → IsWatched new rules docs vs
   on rules docs ws vs h set = record {
+    fields = h.fields;
     setting = h.setting;
-    by_rules = h.by_rules ∙ ap (λ (i : Indexed). watch_rules h.setting i.form) (sym same);
+    by_rules = h.by_rules ∙ ap (λ (i : Indexed). watch_rules h.fields h.setting i.form) (sym same);
     holds = subst (λ (i : Indexed). Holds i h.setting docs) (sym same) h.holds;
     set = set;
   }
@@ -57,7 +58,7 @@ module _ (old new : WatchedIndex) (rules : Rules (List Watched)) (docs : List Do
       → (None ≡ rules.refusal docs d) × IsWatched new rules (docs ++ d ∷ []) ws
   places_one placed form set = (
     sym (ap (λ (r : Rules (List Watched)). r.refusal docs d) h.by_rules ∙ ap (λ b. if b then None else Some Full) placed.0),
-    record { setting = h.setting; by_rules = h.by_rules ∙ ap (watch_rules h.setting) (sym form); holds = placed.1; set = set },
+    record { fields = h.fields; setting = h.setting; by_rules = h.by_rules ∙ ap (watch_rules h.fields h.setting) (sym form); holds = placed.1; set = set },
   )
 
   pub places_none : WithPlaced new.indexed h.setting docs d false → new.indexed.form ≡ old.indexed.form → watches_of new.watches ≡ ws
@@ -65,8 +66,9 @@ module _ (old new : WatchedIndex) (rules : Rules (List Watched)) (docs : List Do
   places_none placed form set = (
     sym (ap (λ (r : Rules (List Watched)). r.refusal docs d) h.by_rules ∙ ap (λ b. if b then None else Some Full) placed.0),
     record {
+      fields = h.fields;
       setting = h.setting;
-      by_rules = h.by_rules ∙ ap (watch_rules h.setting) (sym form);
+      by_rules = h.by_rules ∙ ap (watch_rules h.fields h.setting) (sym form);
       holds = subst (Holds new.indexed h.setting) (sym (append-nil docs)) placed.1;
       set = set;
     },

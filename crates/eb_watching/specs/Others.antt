@@ -7,7 +7,7 @@ use Rattle.eb_lines.specs.Reading.{Reading, refused, watch}
 use Rattle.eb_lines.specs.declared.refusal.Refusal.{Refusal}
 use Rattle.eb_lines.specs.declared.refusal.Refusal.TheVariants.{BadLine, BadNumber, BadQuery, QueryTooLarge, QueryTooDeep}
 use Rattle.eb_query.specs.Reading.{Outcome, asks, bad_number, bad_query, too_deep, too_many_nodes}
-use Rattle.eb_query.specs.WatchLine.{WatchOutcome, removes, reads, ReadsWatchAs}
+use Rattle.eb_query.specs.WatchLine.{WatchOutcome, removes, reads, ReadsWatchWith}
 
 -- a watch line begins with `!` (33), and is UTF-8
 abbrev pub is_watch_line : List ℕ → Bool
@@ -27,12 +27,13 @@ of_watch_line (removes n) = watch n None
 of_watch_line (reads o) = of_watch_text o
 
 -- any other line is a bad line
-abbrev pub ReadsOtherBy : Bool → List ℕ → Reading → Type 0
-ReadsOtherBy true bytes r = (o : WatchOutcome) × ReadsWatchAs bytes o × (r ≡ of_watch_line o)
-ReadsOtherBy false bytes r = r ≡ refused BadLine
+abbrev pub ReadsOtherBy : List (List ℕ) → Bool → List ℕ → Reading → Type 0
+ReadsOtherBy names true bytes r = (o : WatchOutcome) × ReadsWatchWith names bytes o × (r ≡ of_watch_line o)
+ReadsOtherBy names false bytes r = r ≡ refused BadLine
 
-abbrev pub ReadsOther : List ℕ → Reading → Type 0
-ReadsOther bytes r = ReadsOtherBy (is_watch_line bytes) bytes r
+-- by the names of the fields
+abbrev pub ReadsOther : List (List ℕ) → List ℕ → Reading → Type 0
+ReadsOther names bytes r = ReadsOtherBy names (is_watch_line bytes) bytes r
 
 -- a query may be watched for
 abbrev pub IsFormed : Option Query → Type 0
@@ -40,6 +41,6 @@ IsFormed None = Unit {0}
 IsFormed (Some q) = IsWellFormed (tree q)
 
 -- the line is read as this, or it is refused
-abbrev pub IsOther : List ℕ → Result (ℕ × Option Query) Refusal → Type 0
-IsOther bytes (Ok x) = IsFormed x.1 × ReadsOther bytes (watch x.0 (option_map tree x.1))
-IsOther bytes (Err r) = ReadsOther bytes (refused r)
+abbrev pub IsOther : List (List ℕ) → List ℕ → Result (ℕ × Option Query) Refusal → Type 0
+IsOther names bytes (Ok x) = IsFormed x.1 × ReadsOther names bytes (watch x.0 (option_map tree x.1))
+IsOther names bytes (Err r) = ReadsOther names bytes (refused r)

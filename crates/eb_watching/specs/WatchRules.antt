@@ -21,10 +21,11 @@ abbrev pub watches_then : List Watched → ℕ → Option Tree → List Watched
 watches_then ws n (Some q) = with_watch ws n q
 watches_then ws n None = without_watch ws n
 
--- an index of this setting, without documents or watches at first: a document tells the watches that it matches, and a query sees
+-- an index of this setting, where lines are read by the names of the fields, without documents or watches at first: a document tells the watches that it matches, and a query sees
 -- all documents
-abbrev pub watch_rules : Setting → Form → Rules (List Watched)
-watch_rules σ form = record {
+abbrev pub watch_rules : List (List ℕ) → Setting → Form → Rules (List Watched)
+watch_rules names σ form = record {
+  fields = names;
   start = [];
   watches = [];
   refusal = refusal_in σ;

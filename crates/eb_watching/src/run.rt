@@ -1,4 +1,5 @@
 ghost use Rattle.std.specs.Prelude.{◌≡◌, ◌<◌, ◌++◌, ℕ, List, Some, length};
+ghost use Rattle.eb_fields.specs.Fields.{names};
 ghost use Rattle.eb_io.specs.Faults.{HasRisen};
 ghost use Rattle.eb_io.specs.Lines.{longest_input};
 ghost use Rattle.eb_lines.specs.Outcomes.{IsWorkedOff};
@@ -10,6 +11,7 @@ ghost use Rattle.eb_watching.specs.WatchRules.{watch_rules, WroteWatches, MeansW
 use crate::watched::WatchedIndex;
 use eb_answer::answer_lines;
 use eb_base::{Config, Gate};
+use eb_fields::Fields;
 use eb_io::{Sink, Source};
 use eb_lines::{Form, Status};
 use std::alloc::Global;
@@ -17,27 +19,28 @@ use std::alloc::Global;
 /// Processes the lines that the source gives, in order, with an index of this setting; prints answers, what watches are
 /// told, refusals and the summary on `out`. Lines are numbered from 1. A line `!N QUERY` sets the watch N, and `!N` takes it
 /// away (this project's profile, docs/FORMATS.md); a document that is accepted tells the numbers of the set watches whose
-/// query it matches, where there are any. A query sees all documents that were accepted before its line. The form says
+/// query it matches, where there are any. A query sees all documents that were accepted before its line. Lines are read with these fields. The form says
 /// how what is printed is written, and whether the segments are told after the summary.
 ///
 /// What lines print is written before the source is asked for a line that it hasn't given yet. The gate is told of each add
 /// and each search. Takes the memory of the index at once, and that of each watch while it is set.
 pub fn run_watches<S: Source, K: Sink, G: Gate>(
     alloc: Global,
+    fields: Fields<'_>,
     form: Form,
     config: Config,
     source: &mut S,
     out: &mut K,
     gate: &G,
 ) -> Status
-    ensures ends { let rules = watch_rules config form in
+    ensures ends { let rules = watch_rules (names fields.entry) config form in
         Ends (IsBody ReadsOther rules) (IsText ReadsOther rules) (HasRefusal ReadsOther rules) (HasNoRefusal ReadsOther rules) result
         (S.left source.old) (S.left source.new) (K.taken out.old) (K.taken out.new) }
     // Where source and `out` tell their bytes, `out` took what the status says of the input.
     ensures output { (bytes before : List ℕ) → S.left source.old ≡ Some bytes → K.taken out.old ≡ Some before
-        → (printed : List ℕ) × (K.taken out.new ≡ Some (before ++ printed)) × WroteWatches (watch_rules config form) result bytes (S.left source.new) printed }
+        → (printed : List ℕ) × (K.taken out.new ≡ Some (before ++ printed)) × WroteWatches (watch_rules (names fields.entry) config form) result bytes (S.left source.new) printed }
     // What the status says of the input holds whatever becomes of the output.
-    ensures means { (bytes : List ℕ) → S.left source.old ≡ Some bytes → MeansWatches (watch_rules config form) result bytes (S.left source.new) }
+    ensures means { (bytes : List ℕ) → S.left source.old ≡ Some bytes → MeansWatches (watch_rules (names fields.entry) config form) result bytes (S.left source.new) }
     // Faults come only from outside.
     ensures read_fault { result ≡ Status.ReadFault → HasRisen (S.faults source.old) (S.faults source.new) }
     ensures write_fault { result ≡ Status.WriteFault → HasRisen (K.faults out.old) (K.faults out.new) }
@@ -45,18 +48,19 @@ pub fn run_watches<S: Source, K: Sink, G: Gate>(
     ensures completes { (HasRisen (S.faults source.old) (S.faults source.new) → ⊥) → (HasRisen (K.faults out.old) (K.faults out.new) → ⊥)
         → (bytes : List ℕ) → S.left source.old ≡ Some bytes → length bytes < longest_input → IsWorkedOff result }
 {
-    pass_watched(alloc, form, config, source, out, gate)
+    pass_watched(alloc, fields, form, config, source, out, gate)
 }
 
 fn pass_watched<S: Source, K: Sink, G: Gate>(
     alloc: Global,
+    fields: Fields<'_>,
     form: Form,
     config: Config,
     source: &mut S,
     out: &mut K,
     gate: &G,
 ) -> Status
-    ensures ends { let rules = watch_rules config form in
+    ensures ends { let rules = watch_rules (names fields.entry) config form in
         Ends (IsBody ReadsOther rules) (IsText ReadsOther rules) (HasRefusal ReadsOther rules) (HasNoRefusal ReadsOther rules) result
         (S.left source.old) (S.left source.new) (K.taken out.old) (K.taken out.new) }
     ensures read_fault { result ≡ Status.ReadFault → HasRisen (S.faults source.old) (S.faults source.new) }
@@ -65,5 +69,5 @@ fn pass_watched<S: Source, K: Sink, G: Gate>(
     let Ok(watched) = WatchedIndex::new(alloc, form, config) else {
         return Status::NoMemory;
     };
-    answer_lines(alloc, watched, source, out, gate)
+    answer_lines(alloc, watched, fields, source, out, gate)
 }

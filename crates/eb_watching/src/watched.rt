@@ -2,7 +2,7 @@
 //!
 //! The room for all that a document may tell is taken before it is added, so that nothing can fail after the add: 21
 //! bytes for each watch that is set. The room stays with the text, so it is taken once.
-ghost use Rattle.std.specs.Prelude.{◌≡◌, ◌<◌, ◌≤◌, ◌^◌, [], Some, None, length, IfOk, OnErr};
+ghost use Rattle.std.specs.Prelude.{◌≡◌, ◌<◌, ◌≤◌, ◌^◌, ℕ, List, [], Some, None, length, IfOk, OnErr};
 ghost use Rattle.eb_answer.specs.Stores.{IsHolding, TakesOther, Keeps};
 ghost use Rattle.eb_base.specs.Query.{tree, IsWellFormed};
 ghost use Rattle.eb_lines.specs.Reading.{watch};
@@ -15,6 +15,7 @@ use crate::other::read_other;
 use eb_answer::Store;
 use eb_base::{Config, Document, Gate, NoMemory, Query};
 use eb_cursor::Frame;
+use eb_fields::Fields;
 use eb_indexed::Indexed;
 use eb_lines::{Form, Refusal, Tail, line_room, put_answer};
 use eb_place::Steps;
@@ -49,7 +50,7 @@ fn told_of<L: Ledger>(
 impl WatchedIndex {
     // An empty index, and no watches. Takes all the memory of the index.
     pub(crate) fn new(alloc: Global, form: Form, config: Config) -> Result<WatchedIndex, NoMemory>
-        ensures { IfOk result (λ s. IsWatched s (watch_rules config form) [] []) }
+        ensures { IfOk result (λ s. (fields : List (List ℕ)) → IsWatched s (watch_rules fields config form) [] []) }
     {
         let indexed = Indexed::new(alloc, form, config)?;
         Ok(WatchedIndex {
@@ -107,8 +108,13 @@ impl Store for WatchedIndex {
         told_of::<Brand>(alloc, &self.watches, document, Blank::new(1))
     }
 
-    fn take_other(&mut self, alloc: Global, bytes: &[u8]) -> Result<Option<Refusal>, NoMemory> {
-        match read_other(alloc, bytes)? {
+    fn take_other(
+        &mut self,
+        alloc: Global,
+        fields: Fields<'_>,
+        bytes: &[u8],
+    ) -> Result<Option<Refusal>, NoMemory> {
+        match read_other(alloc, fields, bytes)? {
             Ok((number, Some(query))) => self.set(number, query),
             Ok((number, None)) => Ok(self.remove(number)),
             Err(refusal) => Ok(Some(refusal)),

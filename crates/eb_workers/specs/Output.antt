@@ -11,13 +11,14 @@ use Rattle.eb_indexed.specs.LinesRead.{AreRead, HasRefusal, HasNoRefusal}
 use Rattle.eb_indexed.specs.Sees.{IsAsked}
 use Rattle.eb_indexed.specs.Text.{body, end_of}
 
--- the setting of the index, and how what is printed is written
+-- the names of the fields by which lines are read, the setting of the index, and how what is printed is written
 pub record Asked : Type 0 where
+  pub fields : List (List ℕ)
   pub setting : Setting
   pub form : Form
 
-abbrev pub asked : Setting → Form → Asked
-asked σ form = record { setting = σ; form = form }
+abbrev pub asked : List (List ℕ) → Setting → Form → Asked
+asked names σ form = record { fields = names; setting = σ; form = form }
 
 -- each query sees at least the documents accepted before its line, and no more than all
 pub record SeesTold (rs : List Reading) (n : ℕ → ℕ) : Type 0 where
@@ -28,7 +29,7 @@ pub record SeesTold (rs : List Reading) (n : ℕ → ℕ) : Type 0 where
 pub record IsWorkersBody (a : Asked) (lines : List Line) (printed : List ℕ) : Type 0 where
   pub readings : List Reading
   pub numbers : ℕ → ℕ
-  pub read : AreRead a.setting lines readings
+  pub read : AreRead a.fields a.setting lines readings
   pub sees : SeesTold readings numbers
   pub bytes : printed ≡ body a.form numbers readings
 
@@ -36,18 +37,18 @@ pub record IsWorkersBody (a : Asked) (lines : List Line) (printed : List ℕ) : 
 pub record IsWorkersText (a : Asked) (lines : List Line) (printed : List ℕ) : Type 0 where
   pub readings : List Reading
   pub numbers : ℕ → ℕ
-  pub read : AreRead a.setting lines readings
+  pub read : AreRead a.fields a.setting lines readings
   pub sees : SeesTold readings numbers
   pub bytes : printed ≡ body a.form numbers readings ++ end_of a.setting a.form readings
 
 -- the text of an input of these bytes
-abbrev pub IsWorkersOutput : Setting → Form → List ℕ → List ℕ → Type 0
-IsWorkersOutput σ form bytes printed = IsWorkersText (asked σ form) (lines_of bytes) printed
+abbrev pub IsWorkersOutput : List (List ℕ) → Setting → Form → List ℕ → List ℕ → Type 0
+IsWorkersOutput names σ form bytes printed = IsWorkersText (asked names σ form) (lines_of bytes) printed
 
 -- what a run with workers that ends so has printed, of an input of these bytes of which this is left
 abbrev pub WroteWorkers : Asked → Status → List ℕ → Option (List ℕ) → List ℕ → Type 0
-WroteWorkers a = Wrote (IsWorkersBody a) (IsWorkersText a) (HasRefusal a.setting) (HasNoRefusal a.setting)
+WroteWorkers a = Wrote (IsWorkersBody a) (IsWorkersText a) (HasRefusal a.fields a.setting) (HasNoRefusal a.fields a.setting)
 
 -- what its status says of the input
 abbrev pub MeansWorkers : Asked → Status → List ℕ → Option (List ℕ) → Type 0
-MeansWorkers a = Means (HasRefusal a.setting) (HasNoRefusal a.setting)
+MeansWorkers a = Means (HasRefusal a.fields a.setting) (HasNoRefusal a.fields a.setting)

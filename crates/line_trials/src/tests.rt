@@ -2,6 +2,7 @@
 mod base;
 mod copies;
 mod documents;
+mod fields;
 mod images;
 mod lines;
 mod made;

@@ -12,7 +12,7 @@ const SAVE_FLAGS: [&str; 0] = [];
 const LOAD_FLAGS: [&str; 2] = ["json", "stats"];
 
 // The options of `load`: none.
-const LOAD_OPTIONS: [&str; 0] = [];
+pub(super) const LOAD_OPTIONS: [&str; 0] = [];
 
 // What the words after `save` ask for.
 pub(super) fn read_save(alloc: Global, words: &[String]) -> Result<Command, CommandFault>

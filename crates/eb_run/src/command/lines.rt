@@ -12,7 +12,7 @@ use std::alloc::Global;
 // The flags and the options of `run`.
 const RUN_FLAGS: [&str; 4] = ["overlap", "watch", "json", "stats"];
 
-const RUN_OPTIONS: [&str; 5] = ["workers", "parts", "segments", "docs", "terms"];
+pub(super) const RUN_OPTIONS: [&str; 5] = ["workers", "parts", "segments", "docs", "terms"];
 
 // The most workers and the most parts of a run.
 const MOST: u32 = 16;

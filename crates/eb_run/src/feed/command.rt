@@ -1,8 +1,11 @@
 ghost use Rattle.std.specs.Prelude.{◌≡◌, ◌≤◌, Some, None, IfSome, IfOk, IsErrOf, map, string_bytes};
-ghost use Rattle.eb_run.specs.FeedCommand.{feed_command_of, feed_of, feed_with};
+ghost use Rattle.eb_run.specs.FeedCommand.{feed_asked_of, feed_command_of, feed_of, feed_with};
+ghost use Rattle.eb_run.specs.FeedRequests.{feed_request_view};
 
 use crate::command::CommandFault;
+use crate::fields::take_fields;
 use eb_base::{Config, MAX_WORDS};
+use eb_fields::Fields;
 use eb_lines::Form;
 use eb_options::{Items, OptionFault, read_options, read_setting};
 use std::alloc::Global;
@@ -23,15 +26,45 @@ pub struct FeedCommand {
     pub config: Config,
 }
 
+/// What the words after `feed` ask for, and the fields that they say.
+#[derive(Clone, Copy, Debug)]
+pub struct FeedRequest<'a> {
+    /// The feed.
+    pub command: FeedCommand,
+    /// The fields by which its lines are read (`--fields`).
+    pub fields: Fields<'a>,
+}
+
 /// The feed that the words ask for; they are without the program's name and the word `feed`.
 ///
-/// They are items in any order, each option at most once: `--json`, and for x of `keep`, `segments`, `docs` and `terms` the
-/// two words `--x V` or the one word `--x=V`. V is one to nine digits, leading zeros allowed; what isn't named is 4 generations, and
-/// else as in `Config::usual`. `Config::new` has to allow the setting, and keep is 2 to 64; keep + 1 indexes have at most
-/// 134,217,728 words together.
+/// They are items in any order, each option at most once: `--json`, for x of `keep`, `segments`, `docs` and `terms` the
+/// two words `--x V` or the one word `--x=V`, and the two words `--fields LIST` or the one word `--fields=LIST`. V is one to nine
+/// digits, leading zeros allowed; what isn't named is 4 generations, and else as in `Config::usual`; LIST is as `Fields::read` takes
+/// it. `Config::new` has to allow the setting, and keep is 2 to 64; keep + 1 indexes have at most 134,217,728 words together.
 ///
 /// Usage comes exactly where the words are none of these; NoMemory is free.
-pub fn read_feed_command(alloc: Global, words: &[String]) -> Result<FeedCommand, CommandFault>
+pub fn read_feed_command<'a>(
+    alloc: Global,
+    words: &'a [String],
+) -> Result<FeedRequest<'a>, CommandFault>
+    ensures request { IfOk result (λ request. feed_asked_of (map string_bytes words.entry.now) ≡ Some (feed_request_view request)) }
+    ensures keep { IfOk result (λ request. (2 ≤ request.command.keep) × (request.command.keep ≤ 64)) }
+    ensures usage { IsErrOf result CommandFault.Usage → feed_asked_of (map string_bytes words.entry.now) ≡ None }
+{
+    match take_fields(alloc, words, &FEED_OPTIONS) {
+        Ok(apart) => match read_items(alloc, apart.others.as_slice()) {
+            Ok(command) => Ok(FeedRequest {
+                command,
+                fields: apart.fields,
+            }),
+            Err(fault) => Err(fault),
+        },
+        Err(fault) => Err(fault),
+    }
+}
+
+// The feed that the words ask for beside the fields.
+fn read_items(alloc: Global, words: &[String]) -> Result<FeedCommand, CommandFault>
     ensures command { IfOk result (λ command. feed_command_of (map string_bytes words.now) ≡ Some command) }
     ensures keep { IfOk result (λ command. (2 ≤ command.keep) × (command.keep ≤ 64)) }
     ensures usage { IsErrOf result CommandFault.Usage → feed_command_of (map string_bytes words.now) ≡ None }

@@ -14,6 +14,7 @@ use eb_answer::Store;
 use eb_base::{Config, Document, Gate, NoMemory, Query};
 use eb_cursor::Frame;
 use eb_feed::Feed;
+use eb_fields::Fields;
 use eb_lines::{Form, Refusal, Tail, line_room, put_answer};
 use eb_place::Steps;
 use std::alloc::Global;
@@ -50,7 +51,7 @@ impl Fed {
     // An empty feed. Takes all its memory.
     pub(crate) fn new(alloc: Global, keep: u32, form: Form, config: Config) -> Result<Fed, NoMemory>
         requires { (2 ≤ keep) × (keep ≤ 64) }
-        ensures { IfOk result (λ fed. IsFed fed (feed_rules config keep form) [] tt) }
+        ensures { IfOk result (λ fed. (fields : List (List ℕ)) → IsFed fed (feed_rules fields config keep form) [] tt) }
     {
         let feed = Feed::open(alloc, config, keep)?;
         Ok(Fed { feed, form })
@@ -76,7 +77,12 @@ impl Store for Fed {
         Ok(Vec::new(alloc))
     }
 
-    fn take_other(&mut self, _alloc: Global, _bytes: &[u8]) -> Result<Option<Refusal>, NoMemory> {
+    fn take_other(
+        &mut self,
+        _alloc: Global,
+        _fields: Fields<'_>,
+        _bytes: &[u8],
+    ) -> Result<Option<Refusal>, NoMemory> {
         Ok(Some(Refusal::BadLine))
     }
 

@@ -83,34 +83,51 @@ fn with_many(alloc: Global, text: &str, other: &str, times: u64) -> Result<Strin
 
 const DOCUMENT: &str = "{\"id\":1,\"text\":\"a\"}\n";
 
+// How many workers there are, and how many queries are held at once.
+const WORKERS: [(&str, u64); 3] = [
+    ("run --workers 1 --terms 1024", 2),
+    ("run --workers 2 --terms 1024", 3),
+    ("run --workers 16 --terms 1024", 17),
+];
+
 // Each worker holds one query and the clerk one more, though all workers slept when the queries came.
 #[test]
 fn each_worker_is_a_thread_of_its_own(rt: HostRuntime) -> Result<(), Fail> {
-    let alloc = rt.alloc();
-    for (line, queries) in [
-        ("run --workers 1 --terms 1024", 2),
-        ("run --workers 2 --terms 1024", 3),
-        ("run --workers 16 --terms 1024", 17),
-    ] {
-        let input = with_many(alloc, DOCUMENT, "?5 a\n", queries)?;
-        let met = meet(&rt, alloc, line, input.as_str(), queries)?;
+    for (line, queries) in WORKERS {
+        let input = with_many(rt.alloc(), DOCUMENT, "?5 a\n", queries)?;
+        let met = meet(&rt, rt.alloc(), line, input.as_str(), queries)?;
         assert_eq!(rt; met, Some(1), "{line}");
     }
     Ok(())
 }
 
+const ONE_WORKER: &str = "run --workers 1 --segments 2 --terms 1024";
+
 // The one worker holds the first query, until the clerk, who has no room for a further line, begins to answer the next one. So
-// far 512 queries came with 511 documents between them; and two queries, 4,093 blank lines and the first of two documents.
+// far 512 queries came with 511 documents between them.
 #[test]
-fn only_so_much_may_wait(rt: HostRuntime) -> Result<(), Fail> {
-    let alloc = rt.alloc();
-    let line = "run --workers 1 --segments 2 --terms 1024";
-    let pairs = with_many(alloc, "", "?5 a\n{\"id\":1,\"text\":\"a\"}\n", 600)?;
-    assert_eq!(rt; meet(&rt, alloc, line, pairs.as_str(), 2)?, Some(511));
+fn only_so_many_pairs_may_wait(rt: HostRuntime) -> Result<(), Fail> {
+    let pair = "?5 a\n{\"id\":1,\"text\":\"a\"}\n";
+    let pairs = with_many(rt.alloc(), "", pair, 600)?;
+    let met = meet(&rt, rt.alloc(), ONE_WORKER, pairs.as_str(), 2)?;
+    assert_eq!(rt; met, Some(511));
+    Ok(())
+}
+
+// Two queries, blank lines and two documents.
+fn with_blanks(alloc: Global) -> Result<String, AllocError> {
     let mut lines = with_many(alloc, "?5 a\n?5 a\n", "\n", 4093)?;
     lines.push_str(DOCUMENT)?;
     lines.push_str(DOCUMENT)?;
-    assert_eq!(rt; meet(&rt, alloc, line, lines.as_str(), 2)?, Some(1));
+    Ok(lines)
+}
+
+// Here two queries came so far, 4,093 blank lines and the first of two documents.
+#[test]
+fn only_so_many_lines_may_wait(rt: HostRuntime) -> Result<(), Fail> {
+    let lines = with_blanks(rt.alloc())?;
+    let met = meet(&rt, rt.alloc(), ONE_WORKER, lines.as_str(), 2)?;
+    assert_eq!(rt; met, Some(1));
     Ok(())
 }
 

@@ -70,8 +70,7 @@ impl<'a> io::Write for Taker<'a> {
     }
 }
 
-// Runs between the two by this command line, or as a feed where it is empty, and gives how it ended and how many bytes were
-// taken.
+// Runs between the two by this command line, and gives how it ended and how many bytes were taken.
 fn run_in_turns<R: Threads + Wait + Sync>(
     rt: &R,
     alloc: Global,
@@ -85,35 +84,51 @@ fn run_in_turns<R: Threads + Wait + Sync>(
     });
     let mut out = StdSink::new(Taker { taken: &taken });
     let mut err = CountSink::new();
-    let status = if line.is_empty() {
-        run_feed(alloc, &[], &mut source, &mut out, &mut err, &OpenGate)
-    } else {
-        run(
-            rt,
-            alloc,
-            &words,
-            &mut source,
-            &mut out,
-            &mut err,
-            &OpenGate,
-        )
-    };
+    let status = run(
+        rt,
+        alloc,
+        &words,
+        &mut source,
+        &mut out,
+        &mut err,
+        &OpenGate,
+    );
     Ok((status, taken.load(Ordering::SeqCst)))
 }
 
+// The same of a feed.
+fn feed_in_turns(alloc: Global) -> (Status, u64) {
+    let taken = AtomicU64::new(0);
+    let mut source = StdSource::new(Asker {
+        taken: &taken,
+        calls: 0,
+    });
+    let mut out = StdSink::new(Taker { taken: &taken });
+    let mut err = CountSink::new();
+    let status = run_feed(alloc, &[], &mut source, &mut out, &mut err, &OpenGate);
+    (status, taken.load(Ordering::SeqCst))
+}
+
+// The lines by which it is run.
+const LINES: [&str; 5] = [
+    "run --terms=1024",
+    "run --terms=1024 --overlap",
+    "run --terms=1024 --workers=2",
+    "run --terms=1024 --parts=2",
+    "run --terms=1024 --watch",
+];
+
 #[test]
 fn each_answer_is_out_before_the_next_line_is_read(rt: HostRuntime) -> Result<(), Fail> {
-    for line in [
-        "run --terms=1024",
-        "run --terms=1024 --overlap",
-        "run --terms=1024 --workers=2",
-        "run --terms=1024 --parts=2",
-        "run --terms=1024 --watch",
-    ] {
+    for line in LINES {
         let left = run_in_turns(&rt, rt.alloc(), line)?;
         assert_eq!(rt; left, (Status::Done, WHOLE.len() as u64), "{line}");
     }
-    let fed = run_in_turns(&rt, rt.alloc(), "")?;
-    assert_eq!(rt; fed, (Status::Done, WHOLE.len() as u64 + 8));
     Ok(())
+}
+
+#[test]
+fn each_answer_of_a_feed_is_out_before_the_next_line_is_read(rt: HostRuntime) {
+    let left = feed_in_turns(rt.alloc());
+    assert_eq!(rt; left, (Status::Done, WHOLE.len() as u64 + 8));
 }

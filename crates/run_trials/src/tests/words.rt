@@ -1,6 +1,9 @@
 //! What commands and feeds words ask for.
 use super::words_of;
+use eb_fields::{Fields, MAX_NAMES};
 use eb_run::{read_command, read_feed_command};
+use std::alloc::Global;
+use std::fmt::Write;
 use std::test::Fail;
 
 const COMMANDS: [(&str, &str); 25] = [
@@ -131,9 +134,11 @@ const USUAL_FEED: &str =
 fn words_ask_for_a_command(rt: HostRuntime) -> Result<(), Fail> {
     let alloc = rt.alloc();
     for (line, want) in COMMANDS {
-        let command = read_command(alloc, &words_of(alloc, line)?)?;
-        let text = format!(in alloc; "{command:?}")?;
+        let words = words_of(alloc, line)?;
+        let request = read_command(alloc, &words)?;
+        let text = format!(in alloc; "{:?}", request.command)?;
         assert_eq!(rt; text.as_str(), want, "{line}");
+        assert!(rt; request.fields.is_none());
     }
     Ok(())
 }
@@ -142,11 +147,76 @@ fn words_ask_for_a_command(rt: HostRuntime) -> Result<(), Fail> {
 fn words_ask_for_a_feed(rt: HostRuntime) -> Result<(), Fail> {
     let alloc = rt.alloc();
     for (line, want) in FEEDS {
-        let command = read_feed_command(alloc, words_of(alloc, line)?.as_slice())?;
-        let text = format!(in alloc; "{command:?}")?;
+        let words = words_of(alloc, line)?;
+        let request = read_feed_command(alloc, words.as_slice())?;
+        let text = format!(in alloc; "{:?}", request.command)?;
         assert_eq!(rt; text.as_str(), want, "{line}");
+        assert!(rt; request.fields.is_none());
     }
-    let command = read_feed_command(alloc, &[])?;
-    assert_eq!(rt; format!(in alloc; "{command:?}")?.as_str(), USUAL_FEED);
+    let request = read_feed_command(alloc, &[])?;
+    assert_eq!(rt;
+        format!(in alloc; "{:?}", request.command)?.as_str(),
+        USUAL_FEED
+    );
+    Ok(())
+}
+
+// Words that say fields, beside the words of the same command without them, and the names.
+const FIELDS: [(&str, &str, &str); 8] = [
+    ("run --fields from", "run", "from "),
+    ("run --fields=from,room", "run", "from room "),
+    ("run --fields from --overlap", "run --overlap", "from "),
+    (
+        "run --docs 5 --fields a,b_1,9 --json",
+        "run --docs 5 --json",
+        "a b_1 9 ",
+    ),
+    (
+        "run --workers=2 --fields=from --stats",
+        "run --workers=2 --stats",
+        "from ",
+    ),
+    ("run --fields a,b,c,d,e,f,g,h", "run", "a b c d e f g h "),
+    (
+        "save --terms 1024 --fields from",
+        "save --terms 1024",
+        "from ",
+    ),
+    (
+        "load --json --fields=from,room",
+        "load --json",
+        "from room ",
+    ),
+];
+
+// The names of fields, each with a blank after it.
+fn names_of(alloc: Global, fields: Fields<'_>) -> Result<String, Fail> {
+    let mut text = String::new(alloc);
+    let mut rest = fields;
+    for _at in 0..MAX_NAMES {
+        let Some((name, more)) = rest.split_first() else {
+            break;
+        };
+        write!(text, "{name} ")?;
+        rest = more;
+    }
+    Ok(text)
+}
+
+#[test]
+fn words_say_fields(rt: HostRuntime) -> Result<(), Fail> {
+    let alloc = rt.alloc();
+    for (line, bare, want) in FIELDS {
+        let words = words_of(alloc, line)?;
+        let request = read_command(alloc, &words)?;
+        assert_eq!(rt; names_of(alloc, request.fields)?.as_str(), want, "{line}");
+        let others = words_of(alloc, bare)?;
+        let other = read_command(alloc, &others)?;
+        assert!(rt; request.command == other.command, "{line}");
+    }
+    let words = words_of(alloc, "--keep 2 --fields from,room --json")?;
+    let request = read_feed_command(alloc, words.as_slice())?;
+    assert_eq!(rt; names_of(alloc, request.fields)?.as_str(), "from room ");
+    assert!(rt; request.command.keep == 2 && request.command.form.json);
     Ok(())
 }

@@ -1,4 +1,4 @@
-use Rattle.std.proofs.Common.{◌≡◌, ◌⊎◌, inl, inr, subst, ◌∙◌, Some, None}
+use Rattle.std.proofs.Common.{inl, inr, subst, ◌∙◌, Some, None}
 use Rattle.std.proofs.lemmas.Result.{IfOk-weaker, IfErr-weaker}
 use Rattle.eb_doc.specs.declared.look.Look.{Look}
 use Rattle.eb_doc.specs.DocumentLine.{value_of}

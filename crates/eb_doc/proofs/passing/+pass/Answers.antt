@@ -1,12 +1,11 @@
-use Rattle.std.proofs.Common.{◌≡◌, ◌-◌, ◌<◌, [], ◌∷◌, length, Option, Some, None, option_map, sym, ap, ap₂, ◌∙◌, arith, refl}
+use Rattle.std.proofs.Common.{◌≡◌, ◌-◌, ◌<◌, [], ◌∷◌, length, Some, None, option_map, ap, ap₂, ◌∙◌, arith, refl}
 use Rattle.json.specs.Token.{Token}
 use Rattle.json.specs.Json as json
 use Rattle.json.specs.Json.{parse_map, after_end_array, read_key, items, members, value}
 use Rattle.json.specs.Reads.{token_of}
 use Rattle.json.proofs.Grammar.{value_is, value-begin_array, value-begin_object, read_key-shorter}
-use Rattle.serde_json.specs.Data.{Num, null, boolean, number, string, array, object, Items, no_items, item, Members, no_members, put}
-use Rattle.serde_json.specs.Find.{as_u64}
-use Rattle.serde_json.specs.Read.{number_of, of_json, of_items, of_members, converted}
+use Rattle.serde_json.specs.Data.{null, boolean, number, string, array, object, no_items, item, no_members, put}
+use Rattle.serde_json.specs.Read.{number_of, of_json, of_items, converted}
 use Rattle.eb_doc.proofs.Values.{converted-array, converted-object, item_read, item_refused, items_over, member_read, member_refused, key_refused, members_over}
 use Rattle.eb_doc.proofs.Values.{items_then, none_before, some_number, none_number}
 use Rattle.eb_doc.proofs.passing.+pass.Goals as goal

@@ -5,4 +5,4 @@ use Rattle.eb_run.specs.FeedOutput.{feed_rules}
 use Rattle.eb_run.proofs.laws.feed_some_text.Goals as goal
 
 pub returns : goal.returns
-returns c = λ σ keep form bytes. some_text_of is_bad some_bad (feed_rules σ keep form) (lines_of bytes)
+returns c = λ names σ keep form bytes. some_text_of is_bad some_bad (feed_rules names σ keep form) (lines_of bytes)

@@ -3,4 +3,4 @@ use Rattle.eb_answer.proofs.Taking.{takes_blank}
 use Rattle.eb_answer.proofs.answering.Answering.pass.Goals as goal
 
 pub returns : goal.returns
-returns g c = takes_blank g.S.Store.other g.S.Store.holds c.args.self.now _ refl refl c.requires.number refl refl
+returns g c = takes_blank g.S.Store.other g.S.Store.holds c.args.self.now _ refl refl refl c.requires.number refl refl

@@ -15,7 +15,7 @@ returns-then-opens_round-clause-on g c =
     let old = c.args.self.now in
     let new = with_parts old old.writer old.converter c.open_round.new.self old.number in
     let text = c.args.text.now.items in
-    opened_on old new text text refl refl refl refl refl c.open_round.ensures (c.opens_round.ensures c.if-opens_round.true) refl refl
+    opened_on old new text text refl refl refl refl refl refl c.open_round.ensures (c.opens_round.ensures c.if-opens_round.true) refl refl
 
 pub returns-then-opens_round-clause-takes : goal.returns-then-opens_round-clause-takes
 returns-then-opens_round-clause-takes g c = ap (λ hs. takes_kind hs c.args.kind) (ap (λ (s : Standing). s.held) c.open_round.ensures) ∙ takes_none c.args.kind

@@ -9,6 +9,6 @@ returns-clause-on g c =
     let old = c.args.self.now in
     let new = with_parts old c.step_behind.new.writer c.step_behind.new.converter c.step_behind.new.self old.number in
     let e = c.step_behind.ensures in
-    held_on old new c.args.text.now.items c.step_behind.new.text.items refl refl e.writer e.converter refl c.step_behind.result e.ok e.held
+    held_on old new c.args.text.now.items c.step_behind.new.text.items refl refl refl e.writer e.converter refl c.step_behind.result e.ok e.held
     (err_on c.step_behind.result e.err
-    (λ x. unchanged_on old new c.args.text.now.items c.step_behind.new.text.items refl refl e.writer e.converter refl x.0 (ap (λ (t : HistoryToken). t.docs) x.1) x.3))
+    (λ x. unchanged_on old new c.args.text.now.items c.step_behind.new.text.items refl refl refl e.writer e.converter refl x.0 (ap (λ (t : HistoryToken). t.docs) x.1) x.3))

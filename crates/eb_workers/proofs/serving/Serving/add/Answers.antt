@@ -15,7 +15,7 @@ returns-then-add g c =
     let d = c.args.document.now in
     let p = subst (WithPlaced c.args.self.now.office c.add.new.self d) c.if-add.true c.add.ensures.placed in
     served_line c.args.self.now _ (document d) waits.Nothing (document d)
-    (ap (λ b. if b then document d else refused Full) p.0) c.add.ensures.keeps p.1 refl refl (omega arith) (omega arith) (omega arith, omega arith)
+    (ap (λ b. if b then document d else refused Full) p.0) c.add.ensures.keeps p.1 refl refl refl (omega arith) (omega arith) (omega arith, omega arith)
     (above_more _ _ (subst (λ (k : ClerkBook). IsAboveEach (c.args.self.now.number + 1) k.put) (sym c.add.ensures.clerk) r.3.above)) c.push.ensures
     (record { asks = refl; nothing = λ form number seen docs. refl })
 
@@ -25,5 +25,5 @@ returns-else-add g c =
     let d = c.args.document.now in
     let p = subst (WithPlaced c.args.self.now.office c.add.new.self d) c.if-add.false c.add.ensures.placed in
     served_line c.args.self.now _ (document d) (waits.Refused Full) (refused Full) (ap (λ b. if b then document d else refused Full) p.0) c.add.ensures.keeps
-    (p.1 ∙ sym (append-nil _)) refl refl (omega arith) refl (omega arith, omega arith)
+    (p.1 ∙ sym (append-nil _)) refl refl refl (omega arith) refl (omega arith, omega arith)
     (above_more _ _ (subst (λ (k : ClerkBook). IsAboveEach (c.args.self.now.number + 1) k.put) (sym c.add.ensures.clerk) r.3.above)) c.push-else-add.ensures refl

@@ -13,10 +13,10 @@ pub returns-in_err-reserve-clause-on : goal.returns-in_err-reserve-clause-on
 returns-in_err-reserve-clause-on g c =
     let t = c.wait_down.new.text.items in
     let on = on_on c.args.self.now c.print_there.new.self c.wait_down.new.self c.args.text.now.items c.print_there.new.text.items t c.print_there.ensures c.wait_down.ensures.on in
-    room_on c.args.self.now c.wait_down.new.self _ c.args.text.now.items t c.requires.running on refl refl refl refl refl c.in_err-reserve.ensures.items
+    room_on c.args.self.now c.wait_down.new.self _ c.args.text.now.items t c.requires.running on refl refl refl refl refl refl c.in_err-reserve.ensures.items
 
 pub returns-clause-on : goal.returns-clause-on
 returns-clause-on g c =
     let t = c.wait_down.new.text.items in
     let on = on_on c.args.self.now c.print_there.new.self c.wait_down.new.self c.args.text.now.items c.print_there.new.text.items t c.print_there.ensures c.wait_down.ensures.on in
-    room_on c.args.self.now c.wait_down.new.self _ c.args.text.now.items t c.requires.running on refl refl refl refl refl c.in_ok-reserve.ensures.items
+    room_on c.args.self.now c.wait_down.new.self _ c.args.text.now.items t c.requires.running on refl refl refl refl refl refl c.in_ok-reserve.ensures.items

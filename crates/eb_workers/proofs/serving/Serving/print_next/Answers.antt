@@ -15,6 +15,6 @@ pub returns-clause-on : goal.returns-clause-on
 returns-clause-on c =
     let line = c.in-Some-pop_front.line in
     let next = next_is c.args.self.now.waiting.items c.in-Some.need line _ c.in-Some.ensures c.in-Some-pop_front.ensures.items in
-    printed_on c.args.self.now _ line _ c.args.text.now.items _ c.saturating_sub-number.result refl refl refl refl refl c.in-Some-pop_front.ensures.items refl next.0
+    printed_on c.args.self.now _ line _ c.args.text.now.items _ c.saturating_sub-number.result refl refl refl refl refl refl c.in-Some-pop_front.ensures.items refl next.0
     (c.saturating_sub-number.ensures ∙ ap (λ n. c.args.self.now.number - n) (c.len.ensures ∙ c.pop_front.new.self.ok.0)) (c.print.ensures
     ∙ ap (λ t. t ++ printed_by c.args.self.now.form c.saturating_sub-number.result line) c.in_ok-reserve.ensures.items)

@@ -1,0 +1,16 @@
+//! Fields of documents, by which a query asks for who wrote a message, or in which room: the list of
+//! their names, and the term that a name and a value make. [`Fields`] holds the names, which
+//! [`Fields::read`] tests against their grammar; [`field_term`] makes a term. That no token of a text
+//! is such a term, and that terms tell names and values apart, are the laws [`is_no_token`] and
+//! [`names_apart`].
+#![tactic(auto)]
+
+mod fields;
+mod laws;
+mod names;
+mod term;
+
+pub use fields::Fields;
+pub use laws::{is_no_token, names_apart};
+pub use names::{MAX_NAME_BYTES, MAX_NAMES};
+pub use term::{MAX_VALUE_BYTES, field_term};

@@ -1,0 +1,11 @@
+-- Fields, and the text of a list, as contracts see them.
+use Rattle.std.specs.Prelude.{ℕ, List, Option, option_map}
+use Rattle.std.specs.Borrow.{Bor}
+use Rattle.eb_fields.specs.Fields.{names}
+use Rattle.eb_fields.specs.declared.fields.Fields.{Fields}
+
+abbrev pub told_text : Option (Bor (List ℕ)) → Option (List ℕ)
+told_text text = option_map (λ (t : Bor (List ℕ)). t.now) text
+
+abbrev pub told_fields : Option Fields → Option (List (List ℕ))
+told_fields fields = option_map names fields
