@@ -135,7 +135,9 @@ fn words_ask_for_a_command(rt: HostRuntime) -> Result<(), Fail> {
     let alloc = rt.alloc();
     for (line, want) in COMMANDS {
         let words = words_of(alloc, line)?;
-        let request = read_command(alloc, &words)?;
+        let Ok(request) = read_command(alloc, &words) else {
+            return Err(Fail::new("the words ask for nothing"));
+        };
         let text = format!(in alloc; "{:?}", request.command)?;
         assert_eq!(rt; text.as_str(), want, "{line}");
         assert!(rt; request.fields.is_none());
@@ -148,12 +150,16 @@ fn words_ask_for_a_feed(rt: HostRuntime) -> Result<(), Fail> {
     let alloc = rt.alloc();
     for (line, want) in FEEDS {
         let words = words_of(alloc, line)?;
-        let request = read_feed_command(alloc, words.as_slice())?;
+        let Ok(request) = read_feed_command(alloc, words.as_slice()) else {
+            return Err(Fail::new("the words ask for nothing"));
+        };
         let text = format!(in alloc; "{:?}", request.command)?;
         assert_eq!(rt; text.as_str(), want, "{line}");
         assert!(rt; request.fields.is_none());
     }
-    let request = read_feed_command(alloc, &[])?;
+    let Ok(request) = read_feed_command(alloc, &[]) else {
+        return Err(Fail::new("the words ask for nothing"));
+    };
     assert_eq!(rt;
         format!(in alloc; "{:?}", request.command)?.as_str(),
         USUAL_FEED
@@ -208,14 +214,20 @@ fn words_say_fields(rt: HostRuntime) -> Result<(), Fail> {
     let alloc = rt.alloc();
     for (line, bare, want) in FIELDS {
         let words = words_of(alloc, line)?;
-        let request = read_command(alloc, &words)?;
+        let Ok(request) = read_command(alloc, &words) else {
+            return Err(Fail::new("the words ask for nothing"));
+        };
         assert_eq!(rt; names_of(alloc, request.fields)?.as_str(), want, "{line}");
         let others = words_of(alloc, bare)?;
-        let other = read_command(alloc, &others)?;
+        let Ok(other) = read_command(alloc, &others) else {
+            return Err(Fail::new("the words ask for nothing"));
+        };
         assert!(rt; request.command == other.command, "{line}");
     }
     let words = words_of(alloc, "--keep 2 --fields from,room --json")?;
-    let request = read_feed_command(alloc, words.as_slice())?;
+    let Ok(request) = read_feed_command(alloc, words.as_slice()) else {
+        return Err(Fail::new("the words ask for nothing"));
+    };
     assert_eq!(rt; names_of(alloc, request.fields)?.as_str(), "from room ");
     assert!(rt; request.command.keep == 2 && request.command.form.json);
     Ok(())
