@@ -7,3 +7,4 @@ pub mod Opening
 pub mod Reading
 pub mod Standing
 pub mod Loads
+pub mod Copies

@@ -86,8 +86,9 @@ impl PackedList {
     }
 
     /// The newest posting at or below `most` that wasn't given yet; those above it are passed for good, and `None`
-    /// comes exactly where none is left. As a `seek` and a `next`, in locals. The port's moment isn't before that of
+    /// comes exactly where none is left. As a `seek` and a `next`. The port's moment isn't before that of
     /// the opening. Takes no memory.
+    #[inline(always)]
     pub fn next_at_most<P: Port, L: Ledger>(
         &mut self,
         port: &mut P,
@@ -106,11 +107,8 @@ impl PackedList {
             → P.stands port.old m → ListStands m s t self.old rest budget
             → steps.new ≤ steps.old + (length rest - length (up_to most rest)) + 4 }
     {
-        let mut list = *self;
-        list.seek(port, most, steps);
-        let given = list.give(port, steps);
-        *self = list;
-        given
+        self.seek(port, most, steps);
+        self.give(port, steps)
     }
 
     /// How many postings the list has still to give. Loads nothing.
@@ -138,8 +136,65 @@ impl PackedList {
             → P.stands port.old m → ListStands m s t self.old rest budget
             → steps.new ≤ steps.old + (length rest - length (up_to most rest)) + 3 }
     {
-        self.seek_block(port, most, steps);
-        self.seek_posting(port, most, steps);
+        self.seek_near(port, most, steps);
+        self.seek_inside(port, most, steps);
+    }
+
+    // Passes over the blocks that are all above, in locals, where there may be one.
+    #[inline(always)]
+    fn seek_near<P: Port, L: Ledger>(&mut self, port: &mut P, most: Posting, steps: &mut Steps<L>)
+        requires { (m : Moment) × (s : ℕ) × (t : Term) × (rest : List ℕ) × (budget : ℕ)
+            × P.stands port.old m × ListStands m s t self.old rest budget }
+        ensures near { IsNear most self.new }
+        ensures loads { 128 * steps.new + remaining self.new ≤ 128 * steps.old + remaining self.old + 256 }
+        ensures fewer { remaining self.new ≤ remaining self.old }
+        ensures told { (s : ℕ) (t : Term) (rest : List ℕ) (budget : ℕ) → Told P.stands P.keeps port.old port.new
+            (λ m. ListStands m s t self.old rest budget)
+            (λ n. (after : List ℕ) × (b : ℕ) × ListStands n s t self.new after b × (steps.new + b ≤ steps.old + budget)
+            × (up_to most after ≡ up_to most rest)) }
+    {
+        if self.is_near(most) {
+            return;
+        }
+        let mut list = *self;
+        list.seek_block(port, most, steps);
+        *self = list;
+    }
+
+    // Whether it is known, without a load, that no block after this one is passed over.
+    #[inline(always)]
+    fn is_near(&self, most: Posting) -> bool
+        ensures { result ≡ true → IsNear most self.now }
+    {
+        if self.left == 0 {
+            return true;
+        }
+        if self.is_at(most) {
+            return true;
+        }
+        self.header > 0 && self.header >> 16 < most
+    }
+
+    // Passes over the postings of the block that are above, in locals for what this changes.
+    #[inline(always)]
+    fn seek_inside<P: Port, L: Ledger>(&mut self, port: &mut P, most: Posting, steps: &mut Steps<L>)
+        requires reads { (m : Moment) × (s : ℕ) × (t : Term) × (rest : List ℕ) × (budget : ℕ)
+            × P.stands port.old m × ListStands m s t self.old rest budget }
+        requires near { IsNear most self.old }
+        ensures next { self.new.next ≡ self.old.next }
+        ensures loads { steps.new + self.old.at ≡ steps.old + self.new.at }
+        ensures fewer { remaining self.new ≤ remaining self.old }
+        ensures few { steps.new + self.new.inside + self.new.left ≤ steps.old + self.old.inside + self.old.left }
+        ensures told { (s : ℕ) (t : Term) (rest : List ℕ) (budget : ℕ) → Told P.stands P.keeps port.old port.new
+            (λ m. ListStands m s t self.old rest budget) (λ n. (b : ℕ) × ListStands n s t self.new (up_to most rest) b × (steps.new + b ≤ steps.old + budget)) }
+    {
+        let mut list = *self;
+        list.seek_posting(port, most, steps);
+        self.at = list.at;
+        self.bits = list.bits;
+        self.inside = list.inside;
+        self.last = list.last;
+        self.held = list.held;
     }
 
     // The newest posting that wasn't given yet.
@@ -185,6 +240,8 @@ impl PackedList {
         requires reads { (m : Moment) × (s : ℕ) × (t : Term) × (rest : List ℕ) × (budget : ℕ)
             × P.stands port.old m × ListStands m s t self.old rest budget }
         requires near { IsNear most self.old }
+        ensures same { self.new ≡ record self.old
+            { at = self.new.at; bits = self.new.bits; inside = self.new.inside; last = self.new.last; held = self.new.held } }
         ensures next { self.new.next ≡ self.old.next }
         ensures loads { steps.new + self.old.at ≡ steps.old + self.new.at }
         ensures fewer { remaining self.new ≤ remaining self.old }
@@ -309,7 +366,9 @@ impl PackedList {
     ) -> bool
         requires { (m : Moment) × (s : ℕ) × (t : Term) × (rest : List ℕ) × (budget : ℕ)
             × P.stands port.old m × ListStands m s t self.old rest budget }
-        ensures near { result ≡ true → IsNear most self.old → IsNear most self.new }
+        ensures near { IsNear most self.old → IsNear most self.new }
+        ensures same { self.new ≡ record self.old
+            { at = self.new.at; bits = self.new.bits; inside = self.new.inside; last = self.new.last; held = self.new.held } }
         ensures next { self.new.next ≡ self.old.next }
         ensures loads { steps.new + self.old.at ≡ steps.old + self.new.at }
         ensures fewer { remaining self.new ≤ remaining self.old }
@@ -365,6 +424,8 @@ impl PackedList {
         requires inside { 1 ≤ self.old.inside }
         requires free { self.old.held ≡ false }
         ensures held { self.new.held ≡ true }
+        ensures same { self.new ≡ record self.old
+            { at = self.new.at; bits = self.new.bits; inside = self.new.inside; last = self.new.last; held = self.new.held } }
         ensures left { self.new.left ≡ self.old.left }
         ensures header { self.new.header ≡ self.old.header }
         ensures less { self.new.inside + 1 ≡ self.old.inside }

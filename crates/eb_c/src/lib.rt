@@ -1,6 +1,6 @@
 //! The index for programs in C, and in each language that calls C: one in memory that the caller lends, one that threads
-//! share, behind handles (`sharing`), and a feed that they share and that never ends (`streaming`). `include/earlybird.h` declares the calls, and says of each what its caller
-//! owes.
+//! share, behind handles (`sharing`), and a feed that they share and that never ends (`streaming`). `include/earlybird.h`
+//! declares the calls, and says of each what its caller owes.
 //!
 //! Of an index that is lent the caller keeps all memory: its words, and a struct of numbers. A call tests what it can:
 //! whether the numbers are those of an index that was begun, and whether there are as many words as its setting needs.
@@ -41,6 +41,3 @@ pub use streaming::{
     eb_follower, eb_follower_ask_line, eb_follower_ask_text, eb_follower_held, eb_follower_seen,
     eb_leader_add_line, eb_leader_add_text, eb_leader_converter, eb_leader_tell, eb_stream_open,
 };
-
-#[cfg(test)]
-mod tests;

@@ -16,7 +16,7 @@ ghost use Rattle.eb_cursor.specs.Finds.{FindsMatch, FindsWord, FindsNot, FindsAl
 use crate::bound::bound_below;
 use crate::cursor::{Cursor, leaf_below, walk_below};
 use crate::phrase::{phrase_below, to_document_end};
-use crate::size::size;
+use crate::size::{part_size, size};
 use crate::window::window_below;
 use eb_base::Query;
 use eb_place::{PLACES, Port, Steps};
@@ -109,6 +109,7 @@ pub fn below<P: Port, L: Ledger>(
 }
 
 // One more than the greatest document below `end` that has the term, or 0.
+#[inline(always)]
 fn word_below<P: Port, L: Ledger>(
     cursors: &mut [Cursor],
     port: &mut P,
@@ -124,6 +125,29 @@ fn word_below<P: Port, L: Ledger>(
 {
     let found = leaf_below(&mut cursors[0], port, steps, PLACES * end);
     to_document_end(found)
+}
+
+// The same for a part of an and, most of which are words.
+#[inline(always)]
+#[cycle(below)]
+fn part_below<P: Port, L: Ledger>(
+    query: &Query,
+    cursors: &mut [Cursor],
+    port: &mut P,
+    steps: &mut Steps<L>,
+    end: u64,
+) -> u64
+    requires small { (end ≤ 2 ^ 32) × (length cursors.old ≤ 64) }
+    requires ready { CanAsk P.stands port.old (tree query.now) cursors.old end }
+    ensures found { FindsMatch P.stands P.keeps port.old port.new (tree query.now) cursors.old cursors.new end result }
+    ensures loads { steps.new + loads_left cursors.new ≤ steps.old + loads_left cursors.old }
+    ensures spans { (t : List ℕ) → tree query.now ≡ word t
+        → PaysSpans P.stands P.keeps port.old port.new (t ∷ []) cursors.old cursors.new look_loads steps.old steps.new }
+{
+    match query {
+        Query::Word(_) => word_below(cursors, port, steps, end),
+        _ => below(query, cursors, port, steps, end),
+    }
 }
 
 // One more than the greatest document below `end` that doesn't match, or 0.
@@ -276,12 +300,12 @@ fn round_below<P: Port, L: Ledger>(
     let Some((part, others)) = parts.split_first() else {
         return end;
     };
-    let (own, rest) = cursors.split_at_mut(size(part));
+    let (own, rest) = cursors.split_at_mut(part_size(part));
     if is_bound(part) {
         let found = round_below(others, rest, port, steps, end);
         return below(part, own, port, steps, found);
     }
-    let found = below(part, own, port, steps, end);
+    let found = part_below(part, own, port, steps, end);
     round_below(others, rest, port, steps, found)
 }
 

@@ -71,6 +71,7 @@ pub fn walk_below<P: Port, L: Ledger>(
 }
 
 /// One more than the greatest number of the list below `end`, or 0, by a leap.
+#[inline(always)]
 pub fn leaf_below<P: Port, L: Ledger>(
     cursor: &mut Cursor,
     port: &mut P,
@@ -97,6 +98,7 @@ pub fn leaf_below<P: Port, L: Ledger>(
 }
 
 /// One more than a posting, 0 where there is none.
+#[inline(always)]
 pub fn place_after(posting: Option<Posting>) -> u64
     requires { ahead posting < 2 ^ 64 }
     ensures { result ≡ ahead posting }

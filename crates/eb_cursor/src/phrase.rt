@@ -13,6 +13,7 @@ use eb_place::{PLACES, Port, Steps};
 use std::sync::ledger::Ledger;
 
 /// One more than the document of the posting before this place, or 0.
+#[inline(always)]
 pub fn to_document_end(place: u64) -> u64
     ensures { result ≡ document_end place }
 {

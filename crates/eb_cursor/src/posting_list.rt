@@ -90,6 +90,7 @@ impl PostingList {
 
     /// The newest posting at or below `most`; those above it are passed for good. In live slices the next posting is
     /// looked at first; where it isn't the one, the list leaps. Takes no memory.
+    #[inline(always)]
     pub fn next_at_most<P: Port, L: Ledger>(
         &mut self,
         port: &mut P,
@@ -123,7 +124,6 @@ impl PostingList {
 
 // The newest posting of a chain at or below `most`. The next posting is looked at first; where it isn't the one, the
 // chain leaps.
-#[inline(always)]
 fn look_at_most<P: Port, L: Ledger>(
     chain: &mut Chain,
     port: &mut P,

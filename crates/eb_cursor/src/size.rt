@@ -32,3 +32,15 @@ fn sizes(parts: &[Query]) -> usize
     };
     size(part) + sizes(others)
 }
+
+/// The size of a part of an and, most of which are words.
+#[inline(always)]
+pub fn part_size(query: &Query) -> usize
+    requires { size (tree query.now) < 2 ^ 32 }
+    ensures { result ≡ size (tree query.now) }
+{
+    match query {
+        Query::Word(_) => 1,
+        _ => size(query),
+    }
+}

@@ -11,7 +11,6 @@ pub mod CutSegments
 pub mod EnoughPackedWords
 pub mod BlockFields
 pub mod Prefixes
-pub mod AddressParts
 pub mod LawfulHistories
 pub mod LaterMoments
 pub mod TermNumbersStay

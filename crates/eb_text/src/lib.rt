@@ -28,6 +28,7 @@ pub fn tokens(alloc: Global, text: &str) -> Result<Terms, NoMemory>
 
 /// A text under the default case folding of Unicode, as one term: it isn't cut into words. One of ASCII
 /// without a capital letter is its own folding, and takes no memory but a long term's.
+#[inline(always)]
 #[tactic(auto, using(crate::proofs::Folding::folded_same))]
 pub fn folded_term(alloc: Global, text: &str) -> Result<Term, NoMemory>
     ensures { IfOk result (λ term. term ≡ folded text.now) }

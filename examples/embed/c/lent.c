@@ -113,6 +113,36 @@ static void nothing_named(void) {
     REFUSED(eb_ask_line(words, SIZE, &numbers, NULL, 0, NULL, 0, &answer), EB_BAD_LINE);
 }
 
+/* The calls in turn over two documents of a full index: what each answers and tells. */
+static void in_turn(void) {
+    const size_t len = 78853; /* 1 segment of 2 documents and 1,024 terms */
+    struct eb_segment last;
+    EXPECT(eb_words(1, 2, 1024), len);
+    EXPECT(eb_begin(words, len, &numbers, 1, 2, 1024), EB_OK);
+    EXPECT(eb_add_line(words, len, &numbers, bytes("{\"id\":101,\"text\":\"Night train\"}"), 31), EB_OK);
+    REFUSED(eb_add_line(words, len, &numbers, bytes("{\"id\":\"102\",\"text\":\"\"}"), 22), EB_BAD_DOCUMENT);
+    EXPECT(add(len, 102, "The train is late"), EB_OK);
+    REFUSED(add(len, 103, "\xff"), EB_BAD_TEXT);
+    REFUSED(add(len, 103, "train"), EB_FULL);
+    ids[0] = ids[1] = ids[2] = 77;
+    UNASKED(eb_ask_line(words, len, &numbers, bytes("?5 (train"), 9, ids, 3, &answer), EB_BAD_QUERY, 10);
+    UNASKED(eb_ask_line(words, len, &numbers, bytes("train"), 5, ids, 3, &answer), EB_BAD_LINE, 0);
+    UNASKED(ask(len, 5, "(train", 3), EB_BAD_QUERY, 7);
+    UNASKED(ask(len, 1001, "train", 3), EB_BAD_NUMBER, 0);
+    EXPECT(eb_ask_line(words, len, &numbers, bytes("?5 train"), 8, ids, 3, &answer), EB_OK);
+    EXPECT(answer.seen * 10 + answer.count, 22);
+    EXPECT(ids[0] * 1000 + ids[1], 102101);
+    EXPECT(ids[2], 77);
+    EXPECT(ask(len, 1, "night OR late", 3), EB_OK);
+    EXPECT(answer.seen * 10 + answer.count, 21);
+    EXPECT(ids[0] * 1000 + ids[1], 102101);
+    eb_last_segment(&numbers, &last);
+    EXPECT(eb_documents(&numbers) * 10 + eb_segments(&numbers), 21);
+    EXPECT(last.documents * 10 + last.terms, 25);
+    EXPECT(last.text, 10);
+    EXPECT(last.pool0, 5);
+}
+
 static long without_memory(void) {
     long tried = 0;
     EXPECT(eb_begin(words, SIZE, &numbers, 1, 3, 1024), EB_OK);
@@ -134,6 +164,7 @@ int main(void) {
     not_begun();
     at_the_ends();
     nothing_named();
+    in_turn();
     EXPECT(without_memory() > 3, 1);
     free(words);
     free(words_then);

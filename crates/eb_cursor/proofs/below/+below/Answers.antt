@@ -88,6 +88,18 @@ below-returns-in-Some-split_first_mut-clause-found g t c = λ docs last h.
     (λ m n later r w. some_told (gives n) docs (tree c.args.query.now)
     (trees_in c.as_slice-in-Or.result.now) c.in-Some-split_first_mut._own.now c.some_below.new.cursors c.args.end c.some_below.result i w)
 
+-- ---- the same for a part of an and
+
+pub part_below-returns-in-Word-clause-found : goal.part_below-returns-in-Word-clause-found
+part_below-returns-in-Word-clause-found g t c = λ docs last h.
+    let i : tree c.args.query.now ≡ word c.in-Word.field-0 = ap tree c.in-Word.is ∙ tree_Word c.in-Word.field-0 in
+    told_as g.met.P.Port.lawful (c.word_below.ensures.found docs c.in-Word.field-0 last h)
+    (λ m r. subst (λ x. Ready (gives m) docs x c.args.cursors.now last) i r)
+    (λ m n later r w. (w.0 ∙ ap (λ (x : Tree). top (match_at docs x) c.args.end) (sym i), subst (λ x. Ready (gives n) docs x c.word_below.new.cursors c.args.end) (sym i) w.1))
+
+pub part_below-returns-in-Word-clause-spans : goal.part_below-returns-in-Word-clause-spans
+part_below-returns-in-Word-clause-spans g t c = λ u e. c.word_below.ensures.spans u
+
 -- ---- what does not match
 
 pub not_below-loop-place-init : goal.not_below-loop-place-init
@@ -305,27 +317,27 @@ pub round_below-returns-in_default-clause-found : goal.round_below-returns-in_de
 round_below-returns-in_default-clause-found g t c = λ docs last h. told_itself g.met.P.Port.keeps_itself
     (λ m r. round_end (gives m) docs (trees_in c.args.parts.now) c.args.cursors.now c.args.end last (ap trees_in (nil_of _ c.in_default.ensures.cases)) h r)
 
-pub round_below-size-requires : goal.round_below-size-requires
-round_below-size-requires g t c = let r = c.requires.ready in
+pub round_below-part_size-requires : goal.round_below-part_size-requires
+round_below-part_size-requires g t c = let r = c.requires.ready in
     let n = all_size (gives r.0) r.1 (trees_in c.args.parts.now) (tree c.in-Some.part.now) (trees_in c.in-Some.others.now) c.args.cursors.now r.2 (ap trees_in c.in-Some.ensures.cases.0) r.5 in
     omega (arith, n, c.requires.small.1)
 
 pub round_below-split_at_mut-own-requires : goal.round_below-split_at_mut-own-requires
 round_below-split_at_mut-own-requires g t c = let r = c.requires.ready in
     let n = all_size (gives r.0) r.1 (trees_in c.args.parts.now) (tree c.in-Some.part.now) (trees_in c.in-Some.others.now) c.args.cursors.now r.2 (ap trees_in c.in-Some.ensures.cases.0) r.5 in
-    omega (arith, n, c.size.ensures)
+    omega (arith, n, c.part_size.ensures)
 
 pub round_below-round_below-requires : goal.round_below-round_below-requires
 round_below-round_below-requires g t c = λ κs lv.
     let r = c.requires.ready in
     let e = front_of c.args.parts.now c.in-Some.part.now c.in-Some.others.now c.args.cursors.now c.split_at_mut-own.result.0.now c.split_at_mut-own.result.1.now
-    c.size.result c.in-Some.ensures.cases.0 c.size.ensures c.split_at_mut-own.ensures.front c.split_at_mut-own.ensures.back in
-    let x = (c.below-found.ensures.found r.1 r.2 r.4).told r.0 r.3 (front_asks (gives r.0) r.1 (trees_in c.args.parts.now) (tree c.in-Some.part.now)
+    c.part_size.result c.in-Some.ensures.cases.0 c.part_size.ensures c.split_at_mut-own.ensures.front c.split_at_mut-own.ensures.back in
+    let x = (c.part_below-found.ensures.found r.1 r.2 r.4).told r.0 r.3 (front_asks (gives r.0) r.1 (trees_in c.args.parts.now) (tree c.in-Some.part.now)
     (trees_in c.in-Some.others.now) c.args.cursors.now c.split_at_mut-own.result.0.now c.split_at_mut-own.result.1.now r.2 e r.5) in
     let w : IsLater r.0 x.0 = record { is = g.met.P.Port.lawful _ r.0 r.3; later = x.2 } in
     let more = others_ask (gives r.0) (gives x.0) r.1 (trees_in c.args.parts.now) (tree c.in-Some.part.now)
     (trees_in c.in-Some.others.now) c.args.cursors.now c.split_at_mut-own.result.0.now c.split_at_mut-own.result.1.now c.args.end r.2 e (gives_later r.0 x.0 w) r.4 r.5 in
-    let under : c.below-found.result ≤ c.args.end = omega (arith, x.4.0, top_le (match_at r.1 (tree c.in-Some.part.now)) c.args.end) in (
+    let under : c.part_below-found.result ≤ c.args.end = omega (arith, x.4.0, top_le (match_at r.1 (tree c.in-Some.part.now)) c.args.end) in (
       search rules,
       (
         search rules,
@@ -337,17 +349,17 @@ pub round_below-returns-clause-found : goal.round_below-returns-clause-found
 round_below-returns-clause-found g t c = λ docs last h.
     let r = c.requires.ready in
     let e = front_of c.args.parts.now c.in-Some.part.now c.in-Some.others.now c.args.cursors.now c.split_at_mut-own.result.0.now c.split_at_mut-own.result.1.now
-    c.size.result c.in-Some.ensures.cases.0 c.size.ensures c.split_at_mut-own.ensures.front c.split_at_mut-own.ensures.back in
-    let x = (c.below-found.ensures.found r.1 r.2 r.4).told r.0 r.3 (front_asks (gives r.0) r.1 (trees_in c.args.parts.now) (tree c.in-Some.part.now)
+    c.part_size.result c.in-Some.ensures.cases.0 c.part_size.ensures c.split_at_mut-own.ensures.front c.split_at_mut-own.ensures.back in
+    let x = (c.part_below-found.ensures.found r.1 r.2 r.4).told r.0 r.3 (front_asks (gives r.0) r.1 (trees_in c.args.parts.now) (tree c.in-Some.part.now)
     (trees_in c.in-Some.others.now) c.args.cursors.now c.split_at_mut-own.result.0.now c.split_at_mut-own.result.1.now r.2 e r.5) in
-    let under : c.below-found.result ≤ c.args.end = omega (arith, x.4.0, top_le (match_at r.1 (tree c.in-Some.part.now)) c.args.end) in
-    told_on g.met.P.Port.lawful g.met.P.Port.keeps_on (c.below-found.ensures.found docs last h) (c.round_below.ensures.found docs c.args.end under)
+    let under : c.part_below-found.result ≤ c.args.end = omega (arith, x.4.0, top_le (match_at r.1 (tree c.in-Some.part.now)) c.args.end) in
+    told_on g.met.P.Port.lawful g.met.P.Port.keeps_on (c.part_below-found.ensures.found docs last h) (c.round_below.ensures.found docs c.args.end under)
     (λ l k. front_asks (gives l) docs (trees_in c.args.parts.now) (tree c.in-Some.part.now)
     (trees_in c.in-Some.others.now) c.args.cursors.now c.split_at_mut-own.result.0.now c.split_at_mut-own.result.1.now last e k)
     (λ l m w k i. others_ask (gives l) (gives m) docs (trees_in c.args.parts.now) (tree c.in-Some.part.now)
     (trees_in c.in-Some.others.now) c.args.cursors.now c.split_at_mut-own.result.0.now c.split_at_mut-own.result.1.now c.args.end last e (gives_later l m w) h k)
     (λ l m n w1 w2 k i more. round_step (gives m) (gives n) docs (trees_in c.args.parts.now) (tree c.in-Some.part.now)
-    (trees_in c.in-Some.others.now) c.below-found.new.cursors c.round_below.new.cursors c.args.end c.below-found.result c.round_below.result
+    (trees_in c.in-Some.others.now) c.part_below-found.new.cursors c.round_below.new.cursors c.args.end c.part_below-found.result c.round_below.result
     e.parts (gives_later m n w2) i.0 i.1 more)
 
 -- ---- a bound on the id is asked after the parts that follow it
@@ -356,7 +368,7 @@ pub round_below-below-requires : goal.round_below-below-requires
 round_below-below-requires g t c = λ κs lv.
     let r = c.requires.ready in
     let e = front_of c.args.parts.now c.in-Some.part.now c.in-Some.others.now c.args.cursors.now c.split_at_mut-own.result.0.now c.split_at_mut-own.result.1.now
-    c.size.result c.in-Some.ensures.cases.0 c.size.ensures c.split_at_mut-own.ensures.front c.split_at_mut-own.ensures.back in
+    c.part_size.result c.in-Some.ensures.cases.0 c.part_size.ensures c.split_at_mut-own.ensures.front c.split_at_mut-own.ensures.back in
     let more = others_ask (gives r.0) (gives r.0) r.1 (trees_in c.args.parts.now) (tree c.in-Some.part.now)
     (trees_in c.in-Some.others.now) c.args.cursors.now c.split_at_mut-own.result.0.now c.split_at_mut-own.result.1.now r.2 r.2 e (later_same (gives r.0)) (omega arith) r.5 in
     let x = (c.round_below-found.ensures.found r.1 r.2 r.4).told r.0 r.3 more in
@@ -369,7 +381,7 @@ pub round_below-returns-then-is_bound-clause-found : goal.round_below-returns-th
 round_below-returns-then-is_bound-clause-found g t c = λ docs last h.
     let r = c.requires.ready in
     let e = front_of c.args.parts.now c.in-Some.part.now c.in-Some.others.now c.args.cursors.now c.split_at_mut-own.result.0.now c.split_at_mut-own.result.1.now
-    c.size.result c.in-Some.ensures.cases.0 c.size.ensures c.split_at_mut-own.ensures.front c.split_at_mut-own.ensures.back in
+    c.part_size.result c.in-Some.ensures.cases.0 c.part_size.ensures c.split_at_mut-own.ensures.front c.split_at_mut-own.ensures.back in
     let more = others_ask (gives r.0) (gives r.0) r.1 (trees_in c.args.parts.now) (tree c.in-Some.part.now)
     (trees_in c.in-Some.others.now) c.args.cursors.now c.split_at_mut-own.result.0.now c.split_at_mut-own.result.1.now r.2 r.2 e (later_same (gives r.0)) (omega arith) r.5 in
     let x = (c.round_below-found.ensures.found r.1 r.2 r.4).told r.0 r.3 more in
@@ -442,8 +454,8 @@ lead_below-returns-clause-loads g t c = loads_split c.args.cursors.now c.split_a
 
 pub round_below-returns-clause-loads : goal.round_below-returns-clause-loads
 round_below-returns-clause-loads g t c = loads_split c.args.cursors.now c.split_at_mut-own.result.0.now c.split_at_mut-own.result.1.now
-    c.below-found.new.cursors c.round_below.new.cursors c.args.steps.now c.below-found.new.steps c.round_below.new.steps
-    c.split_at_mut-own.ensures.value c.below-found.ensures.loads c.round_below.ensures.loads
+    c.part_below-found.new.cursors c.round_below.new.cursors c.args.steps.now c.part_below-found.new.steps c.round_below.new.steps
+    c.split_at_mut-own.ensures.value c.part_below-found.ensures.loads c.round_below.ensures.loads
 
 pub some_below-returns-clause-loads : goal.some_below-returns-clause-loads
 some_below-returns-clause-loads g t c = loads_split c.args.cursors.now c.split_at_mut-own.result.0.now c.split_at_mut-own.result.1.now
@@ -558,21 +570,21 @@ pub round_below-returns-clause-spans : goal.round_below-returns-clause-spans
 round_below-returns-clause-spans g t c = λ ts e s most. record {
   told = λ m at h.
       let f = front_of c.args.parts.now c.in-Some.part.now c.in-Some.others.now c.args.cursors.now c.split_at_mut-own.result.0.now c.split_at_mut-own.result.1.now
-      c.size.result c.in-Some.ensures.cases.0 c.size.ensures c.split_at_mut-own.ensures.front c.split_at_mut-own.ensures.back in
+      c.part_size.result c.in-Some.ensures.cases.0 c.part_size.ensures c.split_at_mut-own.ensures.front c.split_at_mut-own.ensures.back in
       let k = words_split ts (tree c.in-Some.part.now) (trees_in c.in-Some.others.now) (sym f.parts ∙ e) in
       let o = spans_front m s ts k.0 k.1 (trees_in c.args.parts.now) (tree c.in-Some.part.now) (trees_in c.in-Some.others.now)
       c.args.cursors.now c.split_at_mut-own.result.0.now c.split_at_mut-own.result.1.now most f k.2 k.3 h in
-      let x = (c.below-found.ensures.spans k.0 k.3 s o.0).told m at o.2 in
+      let x = (c.part_below-found.ensures.spans k.0 k.3 s o.0).told m at o.2 in
       let others = all_span_later m x.0 s k.1 c.split_at_mut-own.result.1.now o.1 (g.met.P.Port.lawful _ m at) x.2 o.3 in
       let y = (c.round_below.ensures.spans k.1 k.4 s o.1).told x.0 x.1 others in
-      let own = all_span_later x.0 y.0 s (k.0 ∷ []) c.below-found.new.cursors x.4.0 (g.met.P.Port.lawful _ x.0 x.1) y.2 x.4.1 in (
+      let own = all_span_later x.0 y.0 s (k.0 ∷ []) c.part_below-found.new.cursors x.4.0 (g.met.P.Port.lawful _ x.0 x.1) y.2 x.4.1 in (
         y.0,
         y.1,
         later_on m x.0 y.0 x.2 y.2,
         g.met.P.Port.keeps_on _ _ _ m x.0 y.0 x.3 y.3,
         (
           x.4.0 + y.4.0,
-          spans_join y.0 s ts k.0 k.1 c.below-found.new.cursors c.round_below.new.cursors x.4.0 y.4.0 k.2 own y.4.1,
+          spans_join y.0 s ts k.0 k.1 c.part_below-found.new.cursors c.round_below.new.cursors x.4.0 y.4.0 k.2 own y.4.1,
           omega (arith, x.4.2, y.4.2, o.4, ap length k.2),
         ),
       );
@@ -582,7 +594,7 @@ pub round_below-returns-then-is_bound-clause-spans : goal.round_below-returns-th
 round_below-returns-then-is_bound-clause-spans g t c = λ ts e s most. record {
   told = λ m at h.
       let f = front_of c.args.parts.now c.in-Some.part.now c.in-Some.others.now c.args.cursors.now c.split_at_mut-own.result.0.now c.split_at_mut-own.result.1.now
-      c.size.result c.in-Some.ensures.cases.0 c.size.ensures c.split_at_mut-own.ensures.front c.split_at_mut-own.ensures.back in
+      c.part_size.result c.in-Some.ensures.cases.0 c.part_size.ensures c.split_at_mut-own.ensures.front c.split_at_mut-own.ensures.back in
       let k = words_split ts (tree c.in-Some.part.now) (trees_in c.in-Some.others.now) (sym f.parts ∙ e) in
       let o = spans_front m s ts k.0 k.1 (trees_in c.args.parts.now) (tree c.in-Some.part.now) (trees_in c.in-Some.others.now)
       c.args.cursors.now c.split_at_mut-own.result.0.now c.split_at_mut-own.result.1.now most f k.2 k.3 h in

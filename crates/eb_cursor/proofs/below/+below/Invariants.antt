@@ -15,6 +15,9 @@ use Rattle.eb_cursor.proofs.below.+below.Given as goal
 abbrev pub decreases-below : goal.decreases-below
 decreases-below g l = 4 * weight (tree l.query.now)
 
+abbrev pub decreases-part_below : goal.decreases-part_below
+decreases-part_below g l = 4 * weight (tree l.query.now) + 1
+
 abbrev pub decreases-not_below : goal.decreases-not_below
 decreases-not_below g l = 4 * weight (tree l.query.now) + 1
 
