@@ -1,7 +1,7 @@
 -- Each of some names in turn.
-use Rattle.std.proofs.Common.{◌≡◌, ℕ, suc, ◌+◌, ◌<◌, ◌≤◌, ◌++◌, Bool, true, false, true≢false, List, [], ◌∷◌, map, take, drop, length, get_or, append_assoc, append-nil}
-use Rattle.std.proofs.Common.{Option, Some, None, is_some, refl, sym, ap, ◌∙◌, arith, String, Global}
-use Rattle.std.specs.Prelude.{option_map, option_and_then, string_bytes}
+use Rattle.std.proofs.Common.{◌≡◌, ℕ, suc, ◌+◌, ◌<◌, ◌≤◌, ◌++◌, Bool, true, false, true≢false, List, [], ◌∷◌, take, drop, length, get_or, append_assoc, append-nil}
+use Rattle.std.proofs.Common.{Option, Some, None, is_some, refl, sym, ap, ◌∙◌, arith}
+use Rattle.std.specs.Prelude.{option_map, option_and_then}
 use Rattle.std.specs.Borrow.{Bor}
 use Rattle.std.specs.Str.{bytes_eq}
 use Rattle.std.proofs.lemmas.Slice.Eq.{bytes_eq-Decides}
@@ -10,7 +10,6 @@ use Rattle.std.proofs.Math.Seq.{drop-cons}
 use Rattle.clap.specs.Walk.{Text}
 use Rattle.clap.specs.Simple.{with_rule}
 use Rattle.eb_options.specs.Items.{is_one_of, texts, with_each}
-use Rattle.eb_options.specs.Apart.{flags_alone, without_flags}
 use Rattle.eb_options.specs.Matches.{app, option}
 
 -- ---- the command's options
@@ -72,14 +71,3 @@ each_has {A = A} f (name ∷ names) all key h there = go (f name) (with_each f n
     go (Some this) None b x y z more = absurd (let none : None ≡ Some all = (let is : with_each f (name ∷ names) ≡ None = rw (x, y) refl in sym is ∙ h) in cc)
     go (Some this) (Some rest) true x y z more = ap (λ (k : Text). is_some (f k)) ((bytes_eq-Decides key name).0 z) ∙ ap is_some x
     go (Some this) (Some rest) false x y z more = more rest y (let same : is_one_of (name ∷ names) (45 ∷ 45 ∷ key) ≡ is_one_of names (45 ∷ 45 ∷ key) = rw z refl in sym same ∙ there)
-
--- ---- all words split
-
-module _ (flags options : List Text) (words : List (String Global)) (i : ℕ) (h : length words ≤ i) (done all : List Text) (waits : Bool) where
-  pub others_end : done ++ without_flags flags options waits (map string_bytes (drop i words)) ≡ all → done ≡ all
-  unfolding without_flags
-  others_end e = sym (append-nil done) ∙ ap (λ (ws : List (String Global)). done ++ without_flags flags options waits (map string_bytes ws)) (sym (drop_all i words h)) ∙ e
-
-  pub flags_end : done ++ flags_alone flags options waits (map string_bytes (drop i words)) ≡ all → done ≡ all
-  unfolding flags_alone
-  flags_end e = sym (append-nil done) ∙ ap (λ (ws : List (String Global)). done ++ flags_alone flags options waits (map string_bytes ws)) (sym (drop_all i words h)) ∙ e

@@ -1,5 +1,5 @@
 pub mod SettingNumbers
 pub mod Walking
-pub mod Aparts
+pub mod Splitting
 pub mod Eachs
 pub mod Texts

@@ -1,7 +1,8 @@
 -- The words of a command without an option that has a text.
-use Rattle.std.proofs.Common.{◌≡◌, ℕ, suc, ◌+◌, ◌-◌, ◌<◌, ◌≤◌, take, String, Global, get_or, map, drop, string_bytes, ◌++◌, ◌&&◌, Bool, true, false, true≢false, not, List, [], ◌∷◌, length, append_assoc, append-nil, Option, Some, None, refl, sym, ap, ap₂, ◌∙◌, arith}
+use Rattle.std.proofs.Common.{◌≡◌, ℕ, suc, ◌+◌, ◌-◌, ◌<◌, ◌≤◌, take, String, Global, get_or, map, drop, string_bytes, ◌++◌, ◌&&◌, Bool, true}
+use Rattle.std.proofs.Common.{false, not, List, [], ◌∷◌, length, append_assoc, append-nil, Option, Some, None, refl, sym, ap, ap₂, ◌∙◌, arith}
 use Rattle.std.specs.Prelude.{if◌then◌else◌}
-use Rattle.std.specs.List.{list_any, position_or_len}
+use Rattle.std.specs.List.{position_or_len}
 use Rattle.std.specs.Option.{option_map_or}
 use Rattle.std.specs.Str.{bytes_eq}
 use Rattle.std.proofs.lemmas.List.{drop_all, length-drop, take_all}
@@ -9,26 +10,11 @@ use Rattle.std.proofs.Math.Seq.{drop-cons}
 use Rattle.clap.specs.Walk.{Text}
 use Rattle.eb_options.specs.Items.{dashed, is_equals, is_one_of}
 use Rattle.eb_options.specs.Texts.{Apart, behind, taken_value, text_from, value_of}
-use Rattle.eb_options.proofs.Aparts.{no_equals}
-
-lacks : (word : Text) → position_or_len is_equals word ≡ length word → list_any is_equals word ≡ false
-lacks [] h = refl
-lacks (b ∷ word) h = go (is_equals b) refl (λ e. lacks word e)
-  where
-    go : (x : Bool) → is_equals b ≡ x → (position_or_len is_equals word ≡ length word → list_any is_equals word ≡ false) → list_any is_equals (b ∷ word) ≡ false
-    go true e more = absurd (let none : 0 ≡ suc (length word) = (let is : position_or_len is_equals (b ∷ word) ≡ 0 = rw e refl in sym is ∙ h) in omega arith)
-    go false e more =
-        let rest : position_or_len is_equals word ≡ length word = (let is : position_or_len is_equals (b ∷ word) ≡ 1 + position_or_len is_equals word = rw e refl in
-        let all : 1 + position_or_len is_equals word ≡ suc (length word) = sym is ∙ h in omega arith) in
-        rw (e, more rest) refl
+use Rattle.eb_options.proofs.Splitting.{lacks, no_equals}
 
 -- a word without `=` that is the option has no value in it
 pub bare_value : (name word : Text) → position_or_len is_equals word ≡ length word → bytes_eq word (dashed name) ≡ true → value_of name word ≡ Some None
 bare_value name word h e = let none = lacks word h in rw (no_equals word none, e, none) refl
-
-pub behind_none : (apart : Option Apart) → behind [] apart ≡ apart
-behind_none None = refl
-behind_none (Some a) = refl
 
 pub behind_behind : (xs ys : List Text) (apart : Option Apart) → behind xs (behind ys apart) ≡ behind (xs ++ ys) apart
 behind_behind xs ys None = refl
@@ -40,7 +26,8 @@ module _ (name : Text) (options : List Text) (all : Option Apart) (others : List
       → all ≡ behind others (text_from name options waits words) → all ≡ behind next (text_from name options w rest)
   unfolding text_from
   passes true next w none e f h =
-      h ∙ ap (λ ws. behind others (text_from name options true ws)) is ∙ behind_behind others (word ∷ []) (text_from name options false rest) ∙ ap₂ (λ ws b. behind ws (text_from name options b rest)) (sym e) (sym f)
+      h ∙ ap (λ ws. behind others (text_from name options true ws)) is ∙ behind_behind others (word ∷ []) (text_from name options false rest)
+      ∙ ap₂ (λ ws b. behind ws (text_from name options b rest)) (sym e) (sym f)
   passes false next w none e f h =
       h ∙ ap (λ ws. behind others (text_from name options false ws)) is
       ∙ ap (λ v. behind others (option_map_or (λ value. taken_value value rest) v (behind (word ∷ []) (text_from name options (is_one_of options word) rest)))) none

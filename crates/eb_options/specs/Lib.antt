@@ -1,7 +1,7 @@
 pub mod Numbers
 pub mod Items
 pub mod Settings
-pub mod Apart
+pub mod Parts
 pub mod Matches
 pub mod Views
 pub mod Faults

@@ -1,16 +1,16 @@
-ghost use Rattle.std.specs.Prelude.{◌≡◌, ◌≢◌, Some, None, IfOk, IsErrOf, OnOk, ◌++◌, ◌∷◌, [], map, string_bytes, codes, option_and_then};
+ghost use Rattle.std.specs.Prelude.{◌≡◌, ◌≢◌, Some, None, IfOk, IsErrOf, OnOk, ◌++◌, ◌∷◌, [], map, string_bytes, List};
 ghost use Rattle.std.specs.List.{list_any};
 ghost use Rattle.std.specs.Str.{bytes_eq};
 ghost use Rattle.clap.specs.Walk.{rows_of};
 ghost use Rattle.clap.specs.Words.{found_of, kind_of};
-ghost use Rattle.eb_options.specs.Items.{AreNames, flag_in, has, items_of, number_in, option_number, texts, with_each};
-ghost use Rattle.eb_options.specs.Apart.{values_in};
+ghost use Rattle.eb_options.specs.Items.{AreNames, Value, flag_in, has, items_of, number_in, option_number, texts, with_each};
+ghost use Rattle.eb_options.specs.Parts.{AreWordsOf};
 ghost use Rattle.eb_options.specs.Matches.{number_at};
 ghost use Rattle.eb_options.specs.Views.{flag_view, number_view};
 
 use crate::matches::find_matches;
 use crate::number::read_nine;
-use crate::split::{is_dashed, split_words};
+use crate::split::{is_dashed, split_words, words_of};
 use clap::error::ErrorKind;
 use clap::{ArgMatches, Error};
 use eb_base::NoMemory;
@@ -199,18 +199,6 @@ fn read_numbers(
     Ok(numbers)
 }
 
-// Whether one of the words is `--`. clap takes it as the end of the options, and passes over it.
-fn has_dashes(words: &[String]) -> bool
-    ensures { result ≡ list_any (λ word. bytes_eq word (codes "--")) (map string_bytes words.now) }
-{
-    for word in words {
-        if word.as_str() == "--" {
-            return true;
-        }
-    }
-    false
-}
-
 // What an error of clap's is for the caller.
 fn fault_of(error: &Error) -> OptionFault
     ensures { result ≡ OptionFault.Usage → kind_of error.now ≢ ErrorKind.OutOfMemory }
@@ -222,21 +210,18 @@ fn fault_of(error: &Error) -> OptionFault
     }
 }
 
-// The options of these names, as they stand in the words; none of these is a flag.
+// The options of these names, as they stand in words `--x=V`, each of one of them.
 fn read_values<'a>(
     alloc: Global,
     words: &'a Vec<String>,
     names: &'a [&'a str],
 ) -> Result<Vec<Number>, OptionFault>
     requires { AreNames (texts names.now) }
-    ensures numbers { IfOk result (λ numbers. option_and_then (λ values. with_each (number_in values) (texts names.now))
-        (values_in (texts names.now) None (map string_bytes words.entry.now.items)) ≡ Some (map number_view numbers.items)) }
-    ensures usage { IsErrOf result OptionFault.Usage → option_and_then (λ values. with_each (number_in values) (texts names.now))
-        (values_in (texts names.now) None (map string_bytes words.entry.now.items)) ≡ None }
+    ensures numbers { IfOk result (λ numbers. (values : List Value) → AreWordsOf (texts names.now) values (map string_bytes words.entry.now.items) →
+        with_each (number_in values) (texts names.now) ≡ Some (map number_view numbers.items)) }
+    ensures usage { IsErrOf result OptionFault.Usage → (values : List Value) → AreWordsOf (texts names.now) values (map string_bytes words.entry.now.items) →
+        with_each (number_in values) (texts names.now) ≡ None }
 {
-    if has_dashes(words.as_slice()) {
-        return Err(OptionFault::Usage);
-    }
     match find_matches(alloc, words.as_slice(), names) {
         Ok(matches) => read_numbers(alloc, &matches, names),
         Err(error) => Err(fault_of(&error)),
@@ -259,14 +244,18 @@ pub fn read_options<'n>(
     ensures items { IfOk result (λ items. items_of (texts flags.now) (texts options.now) (map string_bytes words.now) ≡ Some items) }
     ensures usage { IsErrOf result OptionFault.Usage → items_of (texts flags.now) (texts options.now) (map string_bytes words.now) ≡ None }
 {
-    let Ok(split) = split_words(alloc, words, flags, options) else {
-        return Err(OptionFault::NoMemory);
+    let split = match split_words(alloc, words, flags, options) {
+        Ok(split) => split,
+        Err(fault) => return Err(fault),
     };
     let flags = match read_flags(alloc, split.flags.as_slice(), flags) {
         Ok(flags) => flags,
         Err(fault) => return Err(fault),
     };
-    let numbers = match read_values(alloc, &split.others, options) {
+    let Ok(words) = words_of(alloc, split.values.as_slice()) else {
+        return Err(OptionFault::NoMemory);
+    };
+    let numbers = match read_values(alloc, &words, options) {
         Ok(numbers) => numbers,
         Err(fault) => return Err(fault),
     };

@@ -1,22 +1,53 @@
-//! The flags of a command, and its other words.
+//! The words after a command's name, split into flags and options with their values.
 //!
-//! Flags are taken out of the words before `clap` reads them, where each stands as an item of its own and not as a
-//! value of an option; `clap`'s flags have a default value, which each law of the options would have to speak of.
-ghost use Rattle.std.specs.Prelude.{◌≡◌, ◌++◌, ◌∷◌, false, [], List, ℕ, IfOk, OnOk, map, string_bytes};
+//! `clap` reads the options alone, each as the one word `--x=V`: so each of its words is an item of its own. Its flags have
+//! a default value, which each law of the options would have to speak of.
+ghost use Rattle.std.specs.Prelude.{◌≡◌, ◌++◌, ◌∷◌, [], None, Some, IfOk, IsErrOf, List, OnOk, false, if◌then◌else◌, map, option_map, string_bytes, true, ℕ};
 ghost use Rattle.std.specs.Str.{bytes_eq};
-ghost use Rattle.eb_options.specs.Items.{dashed, is_one_of, texts};
-ghost use Rattle.eb_options.specs.Apart.{without_flags, flags_alone};
+ghost use Rattle.eb_options.specs.Items.{dashed, flags_and_values, is_one_of, name_in, texts, value_in};
+ghost use Rattle.eb_options.specs.Parts.{in_front, with_flag_last, with_value_last, word_of};
+ghost use Rattle.eb_options.specs.Views.{item_view, parts_view, value_view, waiting};
 
+use crate::items::OptionFault;
 use eb_base::NoMemory;
 use std::alloc::Global;
 
-// The words read so far: those that are flags, the others, and whether the last of these is an option that waits for its
-// value.
+// An option, as a word, and the text of its value.
+#[derive(Drop)]
+pub(crate) struct Value {
+    name: String,
+    text: String,
+}
+
+// The words read so far: the flags, the options with their values, and the option that waits for its value.
 #[derive(Drop)]
 pub(crate) struct Split {
     pub(crate) flags: Vec<String>,
-    pub(crate) others: Vec<String>,
-    waits: bool,
+    pub(crate) values: Vec<Value>,
+    waits: Option<String>,
+}
+
+impl Value {
+    // The option with its value as one word, `--x=V`.
+    fn word(&self, alloc: Global) -> Result<String, NoMemory>
+        ensures { IfOk result (λ word. string_bytes word ≡ word_of (value_view self.now)) }
+    {
+        let mut word = String::from_str(alloc, self.name.as_str())?;
+        word.push_str("=")?;
+        word.push_str(self.text.as_str())?;
+        Ok(word)
+    }
+}
+
+// The options with their values, each as one word.
+pub(crate) fn words_of(alloc: Global, values: &[Value]) -> Result<Vec<String>, NoMemory>
+    ensures { IfOk result (λ words. map string_bytes words.items ≡ map word_of (map value_view values.now)) }
+{
+    let mut words = Vec::new(alloc);
+    for value in values {
+        words.push(value.word(alloc)?)?;
+    }
+    Ok(words)
 }
 
 // Whether the word is `--` and the name.
@@ -47,56 +78,126 @@ pub(crate) fn push(alloc: Global, words: &mut Vec<String>, word: &str) -> Result
     Ok(())
 }
 
+// What a word is as an item: the option in it, and its value, if there is one; nothing where it is none of the options.
+fn option_of<'a>(word: &'a str, options: &[&str]) -> Option<(&'a str, Option<&'a str>)>
+    ensures { option_map item_view result ≡ (if is_one_of (texts options.now) (name_in word.entry.now)
+        then Some (name_in word.entry.now, value_in word.entry.now) else None) }
+{
+    match word.split_once('=') {
+        Some((name, text)) if is_one_of(name, options) => Some((name, Some(text))),
+        None if is_one_of(word, options) => Some((word, None)),
+        _ => None,
+    }
+}
+
 impl Split {
-    // Reads one word more.
+    // One flag more.
+    fn put_flag(&mut self, alloc: Global, word: &str) -> Result<(), NoMemory>
+        ensures parts { OnOk result (parts_view self.new ≡ with_flag_last (parts_view self.old) word.now) }
+        ensures waits { OnOk result (waiting self.new ≡ waiting self.old) }
+    {
+        push(alloc, &mut self.flags, word)
+    }
+
+    // One option with its value more; none waits.
+    fn put_value(&mut self, alloc: Global, name: &str, text: &str) -> Result<(), NoMemory>
+        ensures parts { OnOk result (parts_view self.new ≡ with_value_last (parts_view self.old) (name.now, text.now)) }
+        ensures waits { OnOk result (waiting self.new ≡ None) }
+    {
+        let name = String::from_str(alloc, name)?;
+        let text = String::from_str(alloc, text)?;
+        self.values.push(Value { name, text })?;
+        self.waits = None;
+        Ok(())
+    }
+
+    // The option waits for its value.
+    fn wait_for(&mut self, alloc: Global, name: &str) -> Result<(), NoMemory>
+        ensures parts { OnOk result (parts_view self.new ≡ parts_view self.old) }
+        ensures waits { OnOk result (waiting self.new ≡ Some name.now) }
+    {
+        self.waits = Some(String::from_str(alloc, name)?);
+        Ok(())
+    }
+
+    // Reads one word more where no option waits for its value, and tells whether the word is a flag or an option.
+    fn read_item(
+        &mut self,
+        alloc: Global,
+        word: &str,
+        flags: &[&str],
+        options: &[&str],
+    ) -> Result<bool, NoMemory>
+        requires { waiting self.old ≡ None }
+        ensures item { IfOk result (λ is_item. is_item ≡ true → (rest : List (List ℕ)) →
+            in_front (parts_view self.old) (flags_and_values (texts flags.now) (texts options.now) None (word.now ∷ rest))
+            ≡ in_front (parts_view self.new) (flags_and_values (texts flags.now) (texts options.now) (waiting self.new) rest)) }
+        ensures none { IfOk result (λ is_item. is_item ≡ false → (rest : List (List ℕ)) →
+            flags_and_values (texts flags.now) (texts options.now) None (word.now ∷ rest) ≡ None) }
+    {
+        if is_one_of(word, flags) {
+            self.put_flag(alloc, word)?;
+            return Ok(true);
+        }
+        match option_of(word, options) {
+            Some((name, Some(text))) => {
+                self.put_value(alloc, name, text)?;
+                return Ok(true);
+            }
+            Some((name, None)) => {
+                self.wait_for(alloc, name)?;
+                return Ok(true);
+            }
+            None => return Ok(false),
+        }
+    }
+
+    // Reads one word more, and tells whether the word can stand there.
     fn read(
         &mut self,
         alloc: Global,
         word: &str,
         flags: &[&str],
         options: &[&str],
-    ) -> Result<(), NoMemory>
-        ensures others { OnOk result ((rest : List (List ℕ)) →
-            map string_bytes self.new.others.items ++ without_flags (texts flags.now) (texts options.now) self.new.waits rest
-            ≡ map string_bytes self.old.others.items ++ without_flags (texts flags.now) (texts options.now) self.old.waits (word.now ∷ rest)) }
-        ensures flags { OnOk result ((rest : List (List ℕ)) →
-            map string_bytes self.new.flags.items ++ flags_alone (texts flags.now) (texts options.now) self.new.waits rest
-            ≡ map string_bytes self.old.flags.items ++ flags_alone (texts flags.now) (texts options.now) self.old.waits (word.now ∷ rest)) }
+    ) -> Result<bool, NoMemory>
+        ensures item { IfOk result (λ is_item. is_item ≡ true → (rest : List (List ℕ)) →
+            in_front (parts_view self.old) (flags_and_values (texts flags.now) (texts options.now) (waiting self.old) (word.now ∷ rest))
+            ≡ in_front (parts_view self.new) (flags_and_values (texts flags.now) (texts options.now) (waiting self.new) rest)) }
+        ensures none { IfOk result (λ is_item. is_item ≡ false → (rest : List (List ℕ)) →
+            flags_and_values (texts flags.now) (texts options.now) (waiting self.old) (word.now ∷ rest) ≡ None) }
     {
-        if self.waits {
-            push(alloc, &mut self.others, word)?;
-            self.waits = false;
-            return Ok(());
+        if let Some(name) = self.waits.take() {
+            self.put_value(alloc, name.as_str(), word)?;
+            return Ok(true);
         }
-        if is_one_of(word, flags) {
-            push(alloc, &mut self.flags, word)?;
-            return Ok(());
-        }
-        push(alloc, &mut self.others, word)?;
-        self.waits = is_one_of(word, options);
-        Ok(())
+        self.read_item(alloc, word, flags, options)
     }
 }
 
-// The words with the flags apart.
+// The words as flags and options with their values.
 pub(crate) fn split_words(
     alloc: Global,
     words: &[String],
     flags: &[&str],
     options: &[&str],
-) -> Result<Split, NoMemory>
-    ensures others { IfOk result (λ split. map string_bytes split.others.items
-        ≡ without_flags (texts flags.now) (texts options.now) false (map string_bytes words.now)) }
-    ensures flags { IfOk result (λ split. map string_bytes split.flags.items
-        ≡ flags_alone (texts flags.now) (texts options.now) false (map string_bytes words.now)) }
+) -> Result<Split, OptionFault>
+    ensures parts { IfOk result (λ split. flags_and_values (texts flags.now) (texts options.now) None (map string_bytes words.now) ≡ Some (parts_view split)) }
+    ensures usage { IsErrOf result OptionFault.Usage → flags_and_values (texts flags.now) (texts options.now) None (map string_bytes words.now) ≡ None }
 {
     let mut split = Split {
         flags: Vec::new(alloc),
-        others: Vec::new(alloc),
-        waits: false,
+        values: Vec::new(alloc),
+        waits: None,
     };
     for word in words {
-        split.read(alloc, word.as_str(), flags, options)?;
+        match split.read(alloc, word.as_str(), flags, options) {
+            Ok(true) => {}
+            Ok(false) => return Err(OptionFault::Usage),
+            Err(NoMemory) => return Err(OptionFault::NoMemory),
+        }
+    }
+    if split.waits.is_some() {
+        return Err(OptionFault::Usage);
     }
     Ok(split)
 }

@@ -50,7 +50,8 @@ fn put_apart<'a>(
     rest: &[String],
     others: Vec<String>,
 ) -> Result<TextApart<'a>, NoMemory>
-    ensures { IfOk result (λ apart. Some (apart_view apart) ≡ behind (map string_bytes others.items) (taken_value (Some text.entry.now) (map string_bytes rest.now))) }
+    ensures { IfOk result (λ apart. Some (apart_view apart)
+        ≡ behind (map string_bytes others.items) (taken_value (Some text.entry.now) (map string_bytes rest.now))) }
 {
     let mut others = others;
     for word in rest {
@@ -69,7 +70,8 @@ fn take_value<'a>(
     rest: &'a [String],
     others: Vec<String>,
 ) -> Result<TextApart<'a>, OptionFault>
-    ensures apart { IfOk result (λ apart. behind (map string_bytes others.items) (taken_value (shown value.entry) (map string_bytes rest.entry.now)) ≡ Some (apart_view apart)) }
+    ensures apart { IfOk result (λ apart. behind (map string_bytes others.items) (taken_value (shown value.entry) (map string_bytes rest.entry.now))
+        ≡ Some (apart_view apart)) }
     ensures usage { IsErrOf result OptionFault.Usage → taken_value (shown value.entry) (map string_bytes rest.entry.now) ≡ None }
 {
     let apart = match (value, rest) {

@@ -1,4 +1,4 @@
-use Rattle.std.proofs.Common.{◌≡◌, ◌∙◌, ◌∷◌, ◌++◌, ◌&&◌, Bool, not, ℕ, List, [], Option, Some, None, ◌+◌, ◌-◌, sym, ap, map, drop, take, length, String, Global, string_bytes}
+use Rattle.std.proofs.Common.{◌≡◌, ◌∙◌, ◌∷◌, ◌++◌, ◌&&◌, not, ℕ, List, [], None, ◌+◌, ◌-◌, sym, ap, map, drop, take, length, String, Global, string_bytes}
 use Rattle.std.specs.Prelude.{if◌then◌else◌}
 use Rattle.std.proofs.lemmas.Result.{IfOk-weaker}
 use Rattle.eb_options.specs.Items.{is_one_of, texts}
@@ -8,7 +8,8 @@ use Rattle.eb_options.proofs.Texts.{after_word, at_end, none_behind, passes, res
 use Rattle.eb_options.proofs.text.take_text.Goals as goal
 
 taken : (c : goal.After-take_value) → text_apart c.args.name.now (texts c.args.options.now) (map string_bytes c.args.words.now)
-    ≡ behind (map string_bytes c.loop-at.others.items) (taken_value (shown c.in-Some.value) (map string_bytes (take (length c.args.words.now - (c.loop-at.at + 1)) (drop (c.loop-at.at + 1) c.args.words.now))))
+    ≡ behind (map string_bytes c.loop-at.others.items) (taken_value (shown c.in-Some.value)
+    (map string_bytes (take (length c.args.words.now - (c.loop-at.at + 1)) (drop (c.loop-at.at + 1) c.args.words.now))))
 taken c =
     let word = string_bytes c.index-words-at.result in
     takes c.args.name.now (texts c.args.options.now) _ (map string_bytes c.loop-at.others.items) word (map string_bytes (drop (c.loop-at.at + 1) c.args.words.now))
@@ -34,4 +35,5 @@ loop-at-preserved c =
     (c.waits_after-waits.ensures ∙ ap (λ (t : List ℕ). not c.loop-at.waits && is_one_of (texts c.args.options.now) t) c.as_str-in-loop-at-2.ensures.value) c.loop-at.invariant
 
 pub returns-clause-apart : goal.returns-clause-apart
-returns-clause-apart c = at_end c.args.name.now (texts c.args.options.now) _ (map string_bytes c.loop-at.others.items) c.args.words.now c.loop-at.at c.loop-at.waits c.loop-at-test.false c.loop-at.invariant
+returns-clause-apart c = at_end c.args.name.now (texts c.args.options.now) _ (map string_bytes c.loop-at.others.items) c.args.words.now c.loop-at.at c.loop-at.waits c.loop-at-test.false
+    c.loop-at.invariant
