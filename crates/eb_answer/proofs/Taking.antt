@@ -20,7 +20,7 @@ use Rattle.eb_lines.proofs.PassingLines.{ends_at_once}
 use Rattle.eb_lines.proofs.Advancing.{accepted-push, accepted_few, queries-push, refusals-push}
 use Rattle.eb_answer.specs.declared.answering.Answering.{Answering}
 use Rattle.eb_answer.specs.Answering.{HasAnswered, TakesLine, body_first}
-use Rattle.eb_answer.specs.Rules.{Rules, document_outcome, comes, watches_after, ReadsWith, AreRead, held_behind, watches_behind, says, body, end_of, IsBody, IsText, HasRefusal, HasNoRefusal}
+use Rattle.eb_answer.specs.Rules.{Rules, document_outcome, comes, watches_after, ReadsWith, AreRead, held_behind, watches_behind, says, end_of, IsBody, IsText, HasRefusal, HasNoRefusal}
 use Rattle.eb_answer.specs.Stores.{IsHolding, HasForm, Places, Tells, PutsAnswer, IsOutcome, TakesOther, Keeps}
 use Rattle.eb_answer.proofs.Coming.{read_none, read_push, read_long, watches-push, watches-nil, body-nil, body-push}
 
@@ -59,7 +59,8 @@ module _ {G S W : Type 0} (other : List (List ℕ) → List ℕ → Reading → 
 
   -- ---- before the first line
 
-  pub answered_none : (s : Answering G S) (rules : Rules W) → names s.fields ≡ rules.fields → holds s.store rules rules.start rules.watches → s.number ≡ 0 → s.queries ≡ 0 → s.refused ≡ 0 → HasAnswered other holds s rules [] []
+  pub answered_none : (s : Answering G S) (rules : Rules W) → names s.fields ≡ rules.fields → holds s.store rules rules.start rules.watches → s.number ≡ 0 → s.queries ≡ 0 → s.refused ≡ 0
+      → HasAnswered other holds s rules [] []
   unfolding accepted queries refusals
   answered_none s rules fields store number asked failed = record {
     readings = [];
@@ -91,7 +92,8 @@ module _ {G S W : Type 0} (other : List (List ℕ) → List ℕ → Reading → 
         record {
           readings = rs ++ r ∷ [];
           fields = same ∙ h.fields;
-          read = subst (λ (x : Reading). AreRead other rules (given ++ l ∷ []) (rs ++ x ∷ [])) (sym is) (read_push rules other given rs l raw h.read (subst (λ ns. ReadsWith other ns l raw) h.fields reads));
+          read = subst (λ (x : Reading). AreRead other rules (given ++ l ∷ []) (rs ++ x ∷ [])) (sym is)
+              (read_push rules other given rs l raw h.read (subst (λ ns. ReadsWith other ns l raw) h.fields reads));
           store = subst (λ w. holds new.store rules (held_behind rules (rs ++ r ∷ [])) w) (sym (watches-push rules rules.watches rs r))
               (subst (λ ds. holds new.store rules ds (watches_after rules ws r)) all store);
           number = number ∙ ap (λ n. n + 1) h.number ∙ sym (length-append given (l ∷ []));
@@ -103,7 +105,8 @@ module _ {G S W : Type 0} (other : List (List ℕ) → List ℕ → Reading → 
 
   -- ---- the kinds of lines
 
-  pub takes_blank : (old new : Answering G S) → names new.fields ≡ names old.fields → new.store ≡ old.store → new.number ≡ old.number + 1 → old.number ≤ 2 ^ 40 → new.queries ≡ old.queries → new.refused ≡ old.refused
+  pub takes_blank : (old new : Answering G S) → names new.fields ≡ names old.fields → new.store ≡ old.store → new.number ≡ old.number + 1 → old.number ≤ 2 ^ 40 → new.queries ≡ old.queries
+      → new.refused ≡ old.refused
       → (text : List ℕ) → TakesLine other holds old new text text blank
   takes_blank old new same store number few asked failed text = λ l reads rules given so_far h.
       let docs = held_behind rules h.readings in
@@ -114,14 +117,16 @@ module _ {G S W : Type 0} (other : List (List ℕ) → List ℕ → Reading → 
         sym (append-nil text),
       )
 
-  pub takes_refused : (old new : Answering G S) → names new.fields ≡ names old.fields → (form : Form) → HasForm holds old.store form → (x : Refusal) (t0 t1 : List ℕ) → new.store ≡ old.store → new.number ≡ old.number + 1
+  pub takes_refused : (old new : Answering G S) → names new.fields ≡ names old.fields → (form : Form) → HasForm holds old.store form → (x : Refusal) (t0 t1 : List ℕ) → new.store ≡ old.store
+      → new.number ≡ old.number + 1
       → old.number ≤ 2 ^ 40
       → new.queries ≡ old.queries → new.refused ≡ old.refused + 1 → t1 ≡ t0 ++ refusal_line form (old.number + 1) x → TakesLine other holds old new t0 t1 (refused x)
   takes_refused old new same form written x t0 t1 store number few asked failed text = λ l reads rules given so_far h.
       let docs = held_behind rules h.readings in
       let ws = watches_behind rules h.readings in (
         refusal_line rules.form (old.number + 1) x,
-        one_more old new rules given so_far l (refused x) h reads same (refused x) refl (subst (λ (s : S). holds s rules (docs ++ []) ws) (sym store) (holds_more holds old.store rules docs ws h.store))
+        one_more old new rules given so_far l (refused x) h reads same (refused x) refl
+            (subst (λ (s : S). holds s rules (docs ++ []) ws) (sym store) (holds_more holds old.store rules docs ws h.store))
             number few (asked ∙ omega arith) failed,
         text ∙ ap (λ (f : Form). t0 ++ refusal_line f (old.number + 1) x) (written rules docs ws h.store),
       )
@@ -137,7 +142,8 @@ module _ {G S W : Type 0} (other : List (List ℕ) → List ℕ → Reading → 
         put.1,
       )
 
-  pub takes_document : (old new : Answering G S) → names new.fields ≡ names old.fields → (form : Form) → HasForm holds old.store form → (d : Doc) (ns t0 t1 : List ℕ) → Places holds old.store new.store d None → Tells holds old.store d ns
+  pub takes_document : (old new : Answering G S) → names new.fields ≡ names old.fields → (form : Form) → HasForm holds old.store form → (d : Doc) (ns t0 t1 : List ℕ)
+      → Places holds old.store new.store d None → Tells holds old.store d ns
       → new.number ≡ old.number + 1 → old.number ≤ 2 ^ 40 → new.queries ≡ old.queries → new.refused ≡ old.refused
       → t1 ≡ t0 ++ watch_line form (old.number + 1) ns → TakesLine other holds old new t0 t1 (document d)
   takes_document old new same form written d ns t0 t1 places tells number few asked failed text = λ l reads rules given so_far h.
@@ -149,7 +155,8 @@ module _ {G S W : Type 0} (other : List (List ℕ) → List ℕ → Reading → 
         text ∙ ap₂ (λ (f : Form) xs. t0 ++ watch_line f (old.number + 1) xs) (written rules docs ws h.store) (tells rules docs ws h.store),
       )
 
-  pub takes_unplaced : (old new : Answering G S) → names new.fields ≡ names old.fields → (form : Form) → HasForm holds old.store form → (d : Doc) (x : Refusal) (t0 t1 : List ℕ) → Places holds old.store new.store d (Some x)
+  pub takes_unplaced : (old new : Answering G S) → names new.fields ≡ names old.fields → (form : Form) → HasForm holds old.store form → (d : Doc) (x : Refusal) (t0 t1 : List ℕ)
+      → Places holds old.store new.store d (Some x)
       → new.number ≡ old.number + 1 → old.number ≤ 2 ^ 40 → new.queries ≡ old.queries → new.refused ≡ old.refused + 1
       → t1 ≡ t0 ++ refusal_line form (old.number + 1) x → TakesLine other holds old new t0 t1 (document d)
   takes_unplaced old new same form written d x t0 t1 places number few asked failed text = λ l reads rules given so_far h.
@@ -196,7 +203,8 @@ module _ {G S W : Type 0} (other : List (List ℕ) → List ℕ → Reading → 
       let taken = takes rules (held_behind rules h.readings) (watches_behind rules h.readings) h.store in
       taken_other old new rules given so_far l raw h reads same number few asked t0 t1 _ refl taken.0 taken.1 failed text
 
-  pub refuses_other : (old new : Answering G S) → names new.fields ≡ names old.fields → (form : Form) → HasForm holds old.store form → (raw : Reading) (x : Refusal) (t0 t1 : List ℕ) → TakesOther holds old.store new.store raw (Some x)
+  pub refuses_other : (old new : Answering G S) → names new.fields ≡ names old.fields → (form : Form) → HasForm holds old.store form → (raw : Reading) (x : Refusal) (t0 t1 : List ℕ)
+      → TakesOther holds old.store new.store raw (Some x)
       → new.number ≡ old.number + 1 → old.number ≤ 2 ^ 40 → new.queries ≡ old.queries → new.refused ≡ old.refused + 1
       → t1 ≡ t0 ++ refusal_line form (old.number + 1) x → TakesLine other holds old new t0 t1 raw
   refuses_other old new same form written raw x t0 t1 takes number few asked failed text = λ l reads rules given so_far h.
@@ -219,7 +227,8 @@ module _ {G S W : Type 0} (other : List (List ℕ) → List ℕ → Reading → 
     printed = h.printed;
   }
 
-  pub keeps_on : (old new : Answering G S) (t0 t1 : List ℕ) → names new.fields ≡ names old.fields → Keeps holds old.store new.store → new.number ≡ old.number → new.queries ≡ old.queries → new.refused ≡ old.refused → t1 ≡ t0
+  pub keeps_on : (old new : Answering G S) (t0 t1 : List ℕ) → names new.fields ≡ names old.fields → Keeps holds old.store new.store → new.number ≡ old.number → new.queries ≡ old.queries
+      → new.refused ≡ old.refused → t1 ≡ t0
       → WorksOn (HasAnswered other holds) old new t0 t1
   keeps_on old new t0 t1 same keeps number asked failed text = λ rules given so_far h.
       ([], subst (HasAnswered other holds new rules given) (sym (append-nil so_far)) (kept old new same keeps number asked failed rules given so_far h), text ∙ sym (append-nil t0))

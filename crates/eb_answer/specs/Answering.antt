@@ -1,5 +1,5 @@
 -- How far a run over a store has come between two lines, and that what it printed is a front of a whole text.
-use Rattle.std.specs.Prelude.{◌≡◌, ℕ, ◌+◌, ◌^◌, ◌≤◌, List, [], ◌∷◌, ◌++◌, length}
+use Rattle.std.specs.Prelude.{◌≡◌, ℕ, ◌+◌, ◌^◌, ◌≤◌, List, ◌++◌, length}
 use Rattle.std.proofs.Common.{ap}
 use Rattle.eb_base.specs.Document.{Doc}
 use Rattle.eb_fields.specs.Fields.{names}
@@ -28,7 +28,8 @@ abbrev pub TakesLine : {G S W : Type 0} → (List (List ℕ) → List ℕ → Re
 TakesLine other holds old new text_old text_new r = (l : Line) → ReadsWith other (names old.fields) l r → WorksOnGiven (HasAnswered other holds) old new text_old text_new l
 
 -- the lines given are those that printed
-pub answered_first : {G S W : Type 0} (other : List (List ℕ) → List ℕ → Reading → Type 0) (holds : S → Rules W → List Doc → W → Type 0) (s : Answering G S) (rules : Rules W) (given : List Line) (so_far : List ℕ)
+pub answered_first : {G S W : Type 0} (other : List (List ℕ) → List ℕ → Reading → Type 0) (holds : S → Rules W → List Doc → W → Type 0)
+    (s : Answering G S) (rules : Rules W) (given : List Line) (so_far : List ℕ)
     → HasAnswered other holds s rules given so_far → PrintsFront (IsBody other) rules given so_far
 answered_first other holds s rules given so_far h = prints_all (IsBody other) rules given so_far (record { readings = h.readings; read = h.read; bytes = h.printed })
 

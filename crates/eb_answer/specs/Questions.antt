@@ -1,5 +1,5 @@
 -- What a query line is read as.
-use Rattle.std.specs.Prelude.{◌≡◌, ℕ, ◌≤◌, List, Result, Ok, Err}
+use Rattle.std.specs.Prelude.{ℕ, ◌≤◌, List, Result, Ok, Err}
 use Rattle.eb_base.specs.declared.query.Query.{Query}
 use Rattle.eb_base.specs.Query.{tree, IsWellFormed}
 use Rattle.eb_lines.specs.declared.refusal.Refusal.{Refusal}

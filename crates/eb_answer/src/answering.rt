@@ -46,7 +46,8 @@ impl<'a, G: Gate, S: Store> Answering<'a, G, S> {
         store: S,
         fields: Fields<'a>,
     ) -> Answering<'a, G, S>
-        ensures { (rules : Rules S.Watches) → names fields.entry ≡ rules.fields → S.holds store rules rules.start rules.watches → HasAnswered S.other S.holds result rules [] [] }
+        ensures { (rules : Rules S.Watches) → names fields.entry ≡ rules.fields → S.holds store rules rules.start rules.watches
+            → HasAnswered S.other S.holds result rules [] [] }
     {
         Answering {
             alloc,

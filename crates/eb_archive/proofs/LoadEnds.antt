@@ -65,7 +65,8 @@ module _ (σ : Setting) (docs : List Doc) (rest : List ℕ) (allowed : IsSetting
         ∙ ap (λ ds. let b : Loaded = record { fields = a.fields; setting = σ; documents = ds; form = a.form } in b) same_both.1
         ∙ ap₂ (λ ns t. let b : Loaded = record { fields = ns; setting = σ; documents = docs; form = t } in b) n f
 
-  pub load_completes : (fields : List (List ℕ)) (form : Form) (status : Status) (l0 l1 p0 p1 : Option (List ℕ)) (read_rose write_rose : Type 0) → EndsLoad fields form status l0 l1 p0 p1 → (status ≡ ReadFault → read_rose)
+  pub load_completes : (fields : List (List ℕ)) (form : Form) (status : Status) (l0 l1 p0 p1 : Option (List ℕ)) (read_rose write_rose : Type 0) → EndsLoad fields form status l0 l1 p0 p1
+      → (status ≡ ReadFault → read_rose)
       → (status ≡ WriteFault → write_rose) → (read_rose → ⊥) → (write_rose → ⊥) → l0 ≡ Some (image_of σ docs ++ rest) → length rest < longest_input → IsWorkedOff status
   load_completes fields form status l0 l1 p0 p1 read_rose write_rose e f g no_read no_write source short = elim e [
     | inl unread ↦ of_unread status unread f

@@ -27,8 +27,8 @@ use Rattle.eb_archive.specs.Saving.{HasSaved, TakesLine}
 
 -- a line of this reading is taken: what it comes to, a, is that of the documents before it
 module _ {G : Type 0} (old new : Saving G) (q : Asked) (given : List Line) (so_far : List ℕ) (l : Line) (r a : Reading) (h : HasSaved old q given so_far)
-    (reads : ReadsToSave (names old.fields) l r) (fields : names new.fields ≡ names old.fields) (is : a ≡ admit q.setting old.writer.docs r) (index : new.index ≡ old.index) (writer : new.writer.index ≡ old.writer.index)
-    (docs : new.writer.docs ≡ old.writer.docs ++ documents_in a)
+    (reads : ReadsToSave (names old.fields) l r) (fields : names new.fields ≡ names old.fields) (is : a ≡ admit q.setting old.writer.docs r) (index : new.index ≡ old.index)
+    (writer : new.writer.index ≡ old.writer.index) (docs : new.writer.docs ≡ old.writer.docs ++ documents_in a)
     (number : new.number ≡ old.number + 1) (refused_more : new.refused ≡ old.refused + one_if (is_refused a)) (low : one_if (is_refused a) ≤ 1) where
   a_is : admit q.setting (accepted h.readings) r ≡ a
   a_is = ap (λ ds. admit q.setting ds r) (sym h.documents) ∙ sym is
@@ -47,7 +47,8 @@ module _ {G : Type 0} (old new : Saving G) (q : Asked) (given : List Line) (so_f
     number = number ∙ omega (arith, h.number, length-append given (l ∷ []));
     refused = refused_more ∙ ap (λ n. n + one_if (is_refused a)) h.refused ∙ sym (refusals-push h.readings a);
     few = omega (arith, number, refused_more, low, h.few);
-    written = ap (λ b. b ++ flat_map document_part (documents_in a)) h.written ∙ append_assoc (head_of q.setting) (flat_map document_part (accepted h.readings)) (flat_map document_part (documents_in a))
+    written = ap (λ b. b ++ flat_map document_part (documents_in a)) h.written ∙ append_assoc (head_of q.setting) (flat_map document_part (accepted h.readings))
+        (flat_map document_part (documents_in a))
         ∙ ap (λ b. head_of q.setting ++ b) (sym (flat_map-append document_part (accepted h.readings) (documents_in a)) ∙ ap (flat_map document_part) (sym (accepted-push h.readings a)));
   }
 
@@ -65,7 +66,8 @@ takes_quiet old new r a is none fields index writer number more low text = λ l 
     )
 
 -- a document line whose document is added
-pub takes_document : {G : Type 0} (old new : Saving G) (d : Doc) (text part text_new : List ℕ) → HasRoom old.index.setting old.writer.docs d → names new.fields ≡ names old.fields → new.index ≡ old.index
+pub takes_document : {G : Type 0} (old new : Saving G) (d : Doc) (text part text_new : List ℕ) → HasRoom old.index.setting old.writer.docs d → names new.fields ≡ names old.fields
+    → new.index ≡ old.index
     → new.writer ≡ (let t : HistoryToken = record { index = old.writer.index; docs = old.writer.docs ++ d ∷ []; converted = old.writer.converted } in t)
     → new.number ≡ old.number + 1 → new.refused ≡ old.refused → part ≡ document_part d → text_new ≡ text ++ part → TakesLine old new text text_new (document d)
 takes_document old new d text part text_new room fields index writer number refused_same is put = λ l reads q given so_far h.
@@ -79,7 +81,8 @@ takes_document old new d text part text_new room fields index writer number refu
     )
 
 -- a document line whose document has no room
-pub takes_full : {G : Type 0} (old new : Saving G) (d : Doc) (text : List ℕ) → has_room old.index.setting old.writer.docs d ≡ false → names new.fields ≡ names old.fields → new.index ≡ old.index → new.writer ≡ old.writer
+pub takes_full : {G : Type 0} (old new : Saving G) (d : Doc) (text : List ℕ) → has_room old.index.setting old.writer.docs d ≡ false → names new.fields ≡ names old.fields → new.index ≡ old.index
+    → new.writer ≡ old.writer
     → new.number ≡ old.number + 1 → new.refused ≡ old.refused + 1 → TakesLine old new text text (document d)
 takes_full old new d text room fields index writer number refused_more =
     takes_quiet old new (document d) (refused Full)

@@ -33,7 +33,8 @@ pub fn save_lines<S: Source, K: Sink, G: Gate>(
         (S.left source.old) (S.left source.new) (K.taken out.old) (K.taken out.new) }
     // Where source and `out` tell their bytes, `out` took what the status says, of the documents of the input.
     ensures output { (bytes before : List ℕ) → S.left source.old ≡ Some bytes → K.taken out.old ≡ Some before
-        → (printed : List ℕ) × (K.taken out.new ≡ Some (before ++ printed)) × WroteSaved (asked (names fields.entry) config) result bytes (S.left source.new) printed }
+        → (printed : List ℕ) × (K.taken out.new ≡ Some (before ++ printed))
+        × WroteSaved (asked (names fields.entry) config) result bytes (S.left source.new) printed }
     // What the status says of the input holds whatever becomes of the output.
     ensures means { (bytes : List ℕ) → S.left source.old ≡ Some bytes → MeansSaved (asked (names fields.entry) config) result bytes (S.left source.new) }
     // Faults come only from outside.

@@ -1,43 +1,28 @@
 -- Which prefixes the queries of a run may see, in both modes.
 use Rattle.std.specs.Prelude.{◌≡◌, ℕ, ◌+◌, ◌≤◌, Bool, true, false, List, [], ◌∷◌, length, drop, Option, Some, None, slice_get, if◌then◌else◌}
 use Rattle.eb_lines.specs.declared.refusal.Refusal.{Refusal}
-use Rattle.eb_lines.specs.declared.refusal.Refusal.TheVariants.{BadLine, LongLine, BadJson, BadDocument, TooLong}
-use Rattle.eb_lines.specs.declared.refusal.Refusal.TheVariants.{NotRising, Full, BadNumber, BadQuery, QueryTooLarge, QueryTooDeep, NoWatch, WatchTaken, WatchesFull}
+use Rattle.eb_lines.specs.Refusals.{RefusedLine, of_document, of_query, of_watch, of_other, row}
 use Rattle.eb_lines.specs.Reading.{Reading, blank, document, query, refused, watch}
 use Rattle.eb_lines.specs.Progress.{documents_in, is_query, told}
 
 -- the refusal of a document line; of a query line
+abbrev pub is_of_document : RefusedLine → Bool
+is_of_document of_document = true
+is_of_document of_query = false
+is_of_document of_watch = false
+is_of_document of_other = false
+
+abbrev pub is_of_query : RefusedLine → Bool
+is_of_query of_document = false
+is_of_query of_query = true
+is_of_query of_watch = false
+is_of_query of_other = false
+
 abbrev pub of_document_line : Refusal → Bool
-of_document_line BadLine = false
-of_document_line LongLine = false
-of_document_line BadJson = true
-of_document_line BadDocument = true
-of_document_line TooLong = true
-of_document_line (NotRising last) = true
-of_document_line Full = true
-of_document_line BadNumber = false
-of_document_line (BadQuery column) = false
-of_document_line QueryTooLarge = false
-of_document_line QueryTooDeep = false
-of_document_line NoWatch = false
-of_document_line WatchTaken = false
-of_document_line WatchesFull = false
+of_document_line r = is_of_document (row r).kind
 
 abbrev pub of_query_line : Refusal → Bool
-of_query_line BadLine = false
-of_query_line LongLine = false
-of_query_line BadJson = false
-of_query_line BadDocument = false
-of_query_line TooLong = false
-of_query_line (NotRising last) = false
-of_query_line Full = false
-of_query_line BadNumber = true
-of_query_line (BadQuery column) = true
-of_query_line QueryTooLarge = true
-of_query_line QueryTooDeep = true
-of_query_line NoWatch = false
-of_query_line WatchTaken = false
-of_query_line WatchesFull = false
+of_query_line r = is_of_query (row r).kind
 
 -- refused lines count too
 abbrev pub is_document_line : Reading → Bool

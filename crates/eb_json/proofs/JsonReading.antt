@@ -1,5 +1,5 @@
 -- The JSON lines that are printed are read as what they tell.
-use Rattle.std.proofs.Common.{◌≡◌, ℕ, ◌≤◌, true, List, [], ◌∷◌, ◌++◌, Option, Some, refl, sym, ap, ◌∙◌, arith, append-nil}
+use Rattle.std.proofs.Common.{◌≡◌, ℕ, ◌≤◌, List, [], ◌∷◌, ◌++◌, Option, Some, refl, sym, ap, ◌∙◌, arith, append-nil}
 use Rattle.std.specs.Prelude.{codes, if◌then◌else◌, option_and_then}
 use Rattle.std.specs.List.{AllByRecursion}
 use Rattle.json.specs.Token.{Token}
@@ -10,20 +10,20 @@ use Rattle.json.proofs.Printed.Decimals.{IsNumber-decimal}
 use Rattle.json.proofs.Printed.Tokens.{tokens-print}
 use Rattle.json.proofs.Printed.Trees.{ArePrintable-json_tokens, value-json_tokens}
 use Rattle.serde_json.specs.Data.{Data, string, array, object, no_members, member}
-use Rattle.serde_json.specs.Read.{number_of, of_json, of_items, read, max_depth}
+use Rattle.serde_json.specs.Read.{of_json, of_items, read, max_depth}
 use Rattle.serde_json.specs.Written.{compact_text, outline, items_outline}
 use Rattle.serde_json.proofs.Numbers.{number_of-decimal}
 use Rattle.serde_json.proofs.Texts.{print-outline}
-use Rattle.eb_lines.specs.declared.form.Form.{Form}
 use Rattle.eb_lines.specs.declared.form.Tail.{Tail}
-use Rattle.eb_lines.specs.declared.form.Tail.TheVariants.{Nothing, Kept, Segments}
+use Rattle.eb_lines.specs.declared.form.Tail.TheVariants.{Nothing, Kept, Segments, Generations}
 use Rattle.eb_lines.specs.declared.refusal.Refusal.{Refusal}
 use Rattle.eb_lines.specs.declared.refusal.Refusal.TheVariants.{BadLine, LongLine, BadJson, BadDocument, TooLong}
 use Rattle.eb_lines.specs.declared.refusal.Refusal.TheVariants.{NotRising, Full, BadNumber, BadQuery, QueryTooLarge, QueryTooDeep, NoWatch, WatchTaken, WatchesFull}
 use Rattle.eb_lines.specs.Text.{answer_line, some_watch_line, refusal_line, summary_with}
-use Rattle.eb_lines.specs.Values.{json_line, counted, numbers, answer_value, watch_value, cause, beside_cause, refusal_value, kept_member, summary_value, segments_value, segments_lines}
+use Rattle.eb_lines.specs.Values.{json_line, counted, numbers, answer_value, watch_value, cause}
+use Rattle.eb_lines.specs.Values.{beside_cause, refusal_value, kept_member, summary_value, segments_value, generations_value, segments_lines}
 use Rattle.eb_lines.specs.Words.{answer_words, watch_words, refusal_words, summary_words}
-use Rattle.eb_json.specs.JsonLaws.{IsWord, IsLineOf, AnswersRead, WatchesRead, TellsWord, followed_by, RefusalsRead, TellsWords, EndsRead, SegmentsRead}
+use Rattle.eb_json.specs.JsonLaws.{IsWord, AnswersRead, WatchesRead, TellsWord, followed_by, RefusalsRead, TellsWords, EndsRead, SegmentsRead, GenerationsRead}
 
 abbrev whole : Option (json.Json × List Token) → Option Data
 whole o = option_and_then of_json (option_and_then (λ p. json.if_last p.0 p.1) o)
@@ -109,6 +109,9 @@ counts_read d q r (Kept kept) h1 h2 h3 k = read_as (summary_value d q r (Kept ke
 counts_read d q r (Segments begun converted) h1 h2 h3 k = read_as (summary_value d q r (Segments begun converted)) _
     ((IsNumber-decimal d h1, (IsNumber-decimal q h2, (IsNumber-decimal r h3, tt))), tt) (omega arith)
     (rw (number_of-decimal d h1, number_of-decimal q h2, number_of-decimal r h3) refl)
+counts_read d q r (Generations kept segments converted begun) h1 h2 h3 k = read_as (summary_value d q r (Generations kept segments converted begun)) _
+    ((IsNumber-decimal d h1, (IsNumber-decimal q h2, (IsNumber-decimal r h3, (IsNumber-decimal kept k.0, tt)))), tt) (omega arith)
+    (rw (number_of-decimal d h1, number_of-decimal q h2, number_of-decimal r h3, number_of-decimal kept k.0) refl)
 
 pub ends_read : EndsRead
 unfolding summary_with
@@ -124,4 +127,14 @@ segments_read begun converted h1 h2 = (
   refl,
   read_as (segments_value begun converted) (object (counted (codes "converted") converted (counted (codes "segments") begun no_members)))
       (IsNumber-decimal begun h1, (IsNumber-decimal converted h2, tt)) (omega arith) (rw (number_of-decimal begun h1, number_of-decimal converted h2) refl),
+)
+
+pub generations_read : GenerationsRead
+generations_read kept segments converted begun h1 h2 h3 = (
+  compact_text (generations_value segments converted begun),
+  refl,
+  read_as (generations_value segments converted begun)
+      (object (counted (codes "converted") converted (counted (codes "generations") begun (counted (codes "segments") segments no_members))))
+      (IsNumber-decimal segments h1, (IsNumber-decimal converted h2, (IsNumber-decimal begun h3, tt))) (omega arith)
+      (rw (number_of-decimal segments h1, number_of-decimal converted h2, number_of-decimal begun h3) refl),
 )

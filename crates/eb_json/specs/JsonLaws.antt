@@ -1,17 +1,15 @@
 -- What the JSON lines that are printed are read as.
-use Rattle.std.specs.Prelude.{◌≡◌, ℕ, ◌<◌, ◌^◌, true, List, [], ◌∷◌, ◌++◌, codes, Some, ⊤}
+use Rattle.std.specs.Prelude.{◌≡◌, ℕ, ◌<◌, ◌^◌, true, List, [], ◌∷◌, ◌++◌, codes, Option, Some, None, ⊤}
 use Rattle.std.specs.List.{AllByRecursion}
 use Rattle.serde_json.specs.Data.{Data, string, array, object, Members, no_members, member}
 use Rattle.serde_json.specs.Read.{read}
-use Rattle.serde_json.specs.Written.{compact_text}
 use Rattle.eb_lines.specs.declared.form.Form.{Form}
 use Rattle.eb_lines.specs.declared.form.Tail.{Tail}
-use Rattle.eb_lines.specs.declared.form.Tail.TheVariants.{Nothing, Kept, Segments}
+use Rattle.eb_lines.specs.declared.form.Tail.TheVariants.{Nothing, Kept, Segments, Generations}
 use Rattle.eb_lines.specs.declared.refusal.Refusal.{Refusal}
-use Rattle.eb_lines.specs.declared.refusal.Refusal.TheVariants.{BadLine, LongLine, BadJson, BadDocument, TooLong}
-use Rattle.eb_lines.specs.declared.refusal.Refusal.TheVariants.{NotRising, Full, BadNumber, BadQuery, QueryTooLarge, QueryTooDeep, NoWatch, WatchTaken, WatchesFull}
+use Rattle.eb_lines.specs.Refusals.{Told, row}
 use Rattle.eb_lines.specs.Text.{answer_line, watch_line, refusal_line, summary_with}
-use Rattle.eb_lines.specs.Values.{counted, numbers, cause, beside_cause, kept_member, segments_value, segments_lines}
+use Rattle.eb_lines.specs.Values.{counted, numbers, cause, beside_cause, kept_member, segments_lines}
 
 -- a number of 64 bits
 abbrev pub IsWord : ℕ → Type 0
@@ -31,21 +29,12 @@ WatchesRead = (form : Form) → form.json ≡ true → (line n : ℕ) (ns : List
     → IsLineOf (watch_line form line (n ∷ ns)) (object (counted (codes "line") line (member (codes "watches") (array (numbers (n ∷ ns))) no_members)))
 
 -- the number that a refusal tells
+abbrev pub IsToldWord : Option Told → Type 0
+IsToldWord None = ⊤
+IsToldWord (Some told) = IsWord told.number
+
 abbrev pub TellsWord : Refusal → Type 0
-TellsWord BadLine = ⊤
-TellsWord LongLine = ⊤
-TellsWord BadJson = ⊤
-TellsWord BadDocument = ⊤
-TellsWord TooLong = ⊤
-TellsWord (NotRising last) = IsWord last
-TellsWord Full = ⊤
-TellsWord BadNumber = ⊤
-TellsWord (BadQuery column) = IsWord column
-TellsWord QueryTooLarge = ⊤
-TellsWord QueryTooDeep = ⊤
-TellsWord NoWatch = ⊤
-TellsWord WatchTaken = ⊤
-TellsWord WatchesFull = ⊤
+TellsWord r = IsToldWord (row r).told
 
 -- the members, and others after them
 abbrev pub followed_by : Members → Members → Members
@@ -61,6 +50,7 @@ abbrev pub TellsWords : Tail → Type 0
 TellsWords Nothing = ⊤
 TellsWords (Kept kept) = IsWord kept
 TellsWords (Segments begun converted) = IsWord begun × IsWord converted
+TellsWords (Generations kept segments converted begun) = IsWord kept × IsWord segments × IsWord converted × IsWord begun
 
 -- the counts, and the documents kept where that is told
 abbrev pub counts_read_as : ℕ → ℕ → ℕ → Tail → Data
@@ -75,3 +65,9 @@ EndsRead = (form : Form) → form.json ≡ true → (d q r : ℕ) (t : Tail) →
 abbrev pub SegmentsRead : Type 0
 SegmentsRead = (begun converted : ℕ) → IsWord begun → IsWord converted
     → IsLineOf (segments_lines (Segments begun converted)) (object (counted (codes "converted") converted (counted (codes "segments") begun no_members)))
+
+-- of a feed with how many generations are begun
+abbrev pub GenerationsRead : Type 0
+GenerationsRead = (kept segments converted begun : ℕ) → IsWord segments → IsWord converted → IsWord begun
+    → IsLineOf (segments_lines (Generations kept segments converted begun))
+    (object (counted (codes "converted") converted (counted (codes "generations") begun (counted (codes "segments") segments no_members))))

@@ -1,4 +1,4 @@
-ghost use Rattle.eb_json.specs.JsonLaws.{AnswersRead, WatchesRead, RefusalsRead, EndsRead, SegmentsRead};
+ghost use Rattle.eb_json.specs.JsonLaws.{AnswersRead, WatchesRead, RefusalsRead, EndsRead, SegmentsRead, GenerationsRead};
 
 /// The answer to a query is read as an object with its line, how many documents it saw, and the ids in their order. The call
 /// does nothing.
@@ -26,4 +26,9 @@ pub fn ends_read()
 /// The segments are read as an object with how many are begun and how many of them are converted. The call does nothing.
 pub fn segments_read()
     ensures { SegmentsRead }
+{}
+
+/// Those of a feed are read as an object with how many generations are begun besides. The call does nothing.
+pub fn generations_read()
+    ensures { GenerationsRead }
 {}

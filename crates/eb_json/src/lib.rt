@@ -4,4 +4,6 @@
 
 mod laws;
 
-pub use laws::{answers_read, ends_read, refusals_read, segments_read, watches_read};
+pub use laws::{
+    answers_read, ends_read, generations_read, refusals_read, segments_read, watches_read,
+};

@@ -1,11 +1,11 @@
 -- How far some lines come, with one line more.
-use Rattle.std.proofs.Common.{◌≡◌, ℕ, ◌+◌, ◌≤◌, Bool, List, [], ◌∷◌, ◌++◌, length, take, drop, count_by, flat_map, refl, sym, ap, ◌∙◌, arith, append-nil, zero-add, length-append}
+use Rattle.std.proofs.Common.{◌≡◌, ℕ, ◌+◌, ◌≤◌, Bool, List, [], ◌∷◌, ◌++◌, length, take, drop, count_by, flat_map, sym, ap, ◌∙◌, arith, append-nil, zero-add, length-append}
 use Rattle.std.proofs.lemmas.Grind.{flat_map-append}
-use Rattle.std.proofs.lemmas.List.{take-append-le, take-append-drop}
+use Rattle.std.proofs.lemmas.List.{take-append-drop}
 use Rattle.std.proofs.lemmas.List.Sums.{sum_by-append}
 use Rattle.std.proofs.Math.Seq.{take-length}
 use Rattle.eb_lines.specs.Reading.{Reading, blank, document, query, refused, watch}
-use Rattle.eb_lines.specs.Progress.{documents_in, is_query, is_refused, accepted, queries, refusals, told, progress_after, one_if, with_line, nothing}
+use Rattle.eb_lines.specs.Progress.{documents_in, is_query, is_refused, accepted, queries, refusals, told, one_if}
 
 pub flat_map-push : {A B : Type 0} (f : A → List B) (xs : List A) (x : A) → flat_map f (xs ++ x ∷ []) ≡ flat_map f xs ++ f x
 flat_map-push f xs x = flat_map-append f xs (x ∷ []) ∙ ap (λ ys. flat_map f xs ++ ys) (append-nil (f x))
@@ -42,21 +42,7 @@ pub refusals-push : (rs : List Reading) (r : Reading) → refusals (rs ++ r ∷ 
 unfolding refusals
 refusals-push rs r = count_push is_refused rs r
 
-pub progress_after-push : (rs : List Reading) (r : Reading) → progress_after (rs ++ r ∷ []) ≡ with_line (progress_after rs) r
-unfolding progress_after
-progress_after-push rs r =
-    let counted : length (rs ++ r ∷ []) ≡ length rs + 1 = length-append rs (r ∷ []) in
-    rw (counted, accepted-push rs r, queries-push rs r, refusals-push rs r) refl
-
-pub progress_after-nil : progress_after [] ≡ nothing
-unfolding progress_after accepted queries refusals
-progress_after-nil = refl
-
 -- ---- what a line sees
-
-pub told-push : (rs : List Reading) (r : Reading) (j : ℕ) → j ≤ length rs → told (rs ++ r ∷ []) j ≡ told rs j
-unfolding told
-told-push rs r j le = ap (λ xs. length (accepted xs)) (take-append-le j rs (r ∷ []) le)
 
 pub told-length : (rs : List Reading) → told rs (length rs) ≡ length (accepted rs)
 unfolding told

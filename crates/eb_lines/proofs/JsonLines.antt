@@ -5,13 +5,13 @@ use Rattle.std.specs.Fmt.{decimal}
 use Rattle.json.specs.Print.{quoted, escape_byte}
 use Rattle.serde_json.specs.Written.{items_text, members_text}
 use Rattle.eb_lines.specs.declared.form.Tail.{Tail}
-use Rattle.eb_lines.specs.declared.form.Tail.TheVariants.{Nothing, Kept, Segments}
+use Rattle.eb_lines.specs.declared.form.Tail.TheVariants.{Nothing, Kept, Segments, Generations}
 use Rattle.eb_lines.specs.declared.refusal.Refusal.{Refusal}
 use Rattle.eb_lines.specs.declared.refusal.Refusal.TheVariants.{BadLine, LongLine, BadJson, BadDocument, TooLong}
 use Rattle.eb_lines.specs.declared.refusal.Refusal.TheVariants.{NotRising, Full, BadNumber, BadQuery, QueryTooLarge, QueryTooDeep, NoWatch, WatchTaken, WatchesFull}
 use Rattle.eb_lines.specs.Words.{parted}
-use Rattle.eb_lines.specs.Values.{json_line, numbers, answer_value, watch_value, cause, beside_cause, refusal_value, kept_member, summary_value, segments_lines}
-use Rattle.eb_lines.specs.JsonTexts.{listed, answer_text, watch_text, cause_text, refusal_text, tail_text, summary_text}
+use Rattle.eb_lines.specs.Values.{json_line, numbers, answer_value, watch_value, cause, beside_cause, refusal_value, kept_member, generations_value, summary_value, segments_lines}
+use Rattle.eb_lines.specs.JsonTexts.{listed, answer_text, watch_text, cause_text, refusal_text, segments_text, tail_text, summary_text}
 
 -- ---- numbers with commas
 
@@ -83,7 +83,8 @@ before_cause a r = append_assoc a (quoted (cause r) ++ members_text true (beside
 pub refusal_json : (number : ℕ) (r : Refusal) → refusal_text number r ≡ json_line (refusal_value number r)
 unfolding escape_byte
 refusal_json number r =
-    let flat : refusal_text number r ≡ codes "{\"line\":" ++ (decimal number ++ (codes ",\"refused\":" ++ cause_text r)) = simp append_assoc in
+    let flat : refusal_text number r ≡ codes "{\"line\":" ++ (decimal number ++ (codes ",\"refused\":" ++ cause_text r)) =
+    append_assoc (codes "{\"line\":" ++ decimal number) (codes ",\"refused\":") (cause_text r) ∙ append_assoc (codes "{\"line\":") (decimal number) (codes ",\"refused\":" ++ cause_text r) in
     flat ∙ sym (before (codes "{\"line\":") (decimal number) (codes ",\"refused\":" ++ (quoted (cause r) ++ members_text true (beside_cause r)))
     (codes ",\"refused\":" ++ cause_text r) (before_cause (codes ",\"refused\":") r))
 
@@ -99,6 +100,13 @@ before_closed a b c more rest e = one a (b ++ c) ∙ ap (λ t. a ++ t) (one b c 
   one x y = ap (λ t. (t ++ 10 ∷ []) ++ more) (append_assoc x y (125 ∷ []))
       ∙ ap (λ t. t ++ more) (append_assoc x (y ++ 125 ∷ []) (10 ∷ [])) ∙ append_assoc x ((y ++ 125 ∷ []) ++ 10 ∷ []) more
 
+segments_front : (segments converted : ℕ) (rest : List ℕ) → segments_text segments converted ++ rest
+    ≡ codes "}}\n{\"segments\":" ++ (decimal segments ++ (codes ",\"converted\":" ++ (decimal converted ++ rest)))
+segments_front segments converted rest = simp append_assoc
+
+to_the_right : (a b c d e f : List ℕ) → ((((a ++ b) ++ c) ++ d) ++ e) ++ f ≡ a ++ (b ++ (c ++ (d ++ (e ++ f))))
+to_the_right a b c d e f = simp append_assoc
+
 tail_json : (t : Tail) → closed (members_text true (kept_member t)) (segments_lines t) ≡ tail_text t
 unfolding escape_byte
 tail_json Nothing = refl
@@ -109,6 +117,18 @@ tail_json (Segments begun converted) =
     let flat : tail_text (Segments begun converted) ≡ codes "}}\n{\"segments\":" ++ (decimal begun ++ (codes ",\"converted\":" ++ (decimal converted ++ codes "}\n"))) = simp append_assoc in
     before (codes "}}\n{\"segments\":") (decimal begun) (codes ",\"converted\":" ++ (decimal converted ++ 125 ∷ []))
     (codes ",\"converted\":" ++ (decimal converted ++ codes "}\n")) (before (codes ",\"converted\":") (decimal converted) (125 ∷ []) (codes "}\n") refl) ∙ sym flat
+tail_json (Generations kept segments converted begun) =
+    let flat : tail_text (Generations kept segments converted begun)
+    ≡ codes ",\"kept\":" ++ (decimal kept
+    ++ (codes "}}\n{\"segments\":" ++ (decimal segments ++ (codes ",\"converted\":" ++ (decimal converted ++ (codes ",\"generations\":" ++ (decimal begun ++ codes "}\n"))))))) =
+    to_the_right (codes ",\"kept\":") (decimal kept) (segments_text segments converted) (codes ",\"generations\":") (decimal begun) (codes "}\n")
+    ∙ ap (λ t. codes ",\"kept\":" ++ (decimal kept ++ t)) (segments_front segments converted (codes ",\"generations\":" ++ (decimal begun ++ codes "}\n"))) in
+    before_closed (codes ",\"kept\":") (decimal kept) (125 ∷ []) (json_line (generations_value segments converted begun))
+    (codes "}}\n{\"segments\":" ++ (decimal segments ++ (codes ",\"converted\":" ++ (decimal converted ++ (codes ",\"generations\":" ++ (decimal begun ++ codes "}\n"))))))
+    (before (codes "}}\n{\"segments\":") (decimal segments) (codes ",\"converted\":" ++ (decimal converted ++ (codes ",\"generations\":" ++ (decimal begun ++ 125 ∷ []))))
+    (codes ",\"converted\":" ++ (decimal converted ++ (codes ",\"generations\":" ++ (decimal begun ++ codes "}\n"))))
+    (before (codes ",\"converted\":") (decimal converted) (codes ",\"generations\":" ++ (decimal begun ++ 125 ∷ []))
+    (codes ",\"generations\":" ++ (decimal begun ++ codes "}\n")) (before (codes ",\"generations\":") (decimal begun) (125 ∷ []) (codes "}\n") refl))) ∙ sym flat
 
 pub summary_json : (d q r : ℕ) (t : Tail) → summary_text d q r t ≡ json_line (summary_value d q r t) ++ segments_lines t
 unfolding escape_byte

@@ -1,11 +1,10 @@
 -- The bytes of the JSON lines, piece by piece, for private clauses.
-use Rattle.std.specs.Prelude.{ℕ, List, [], ◌∷◌, ◌++◌, codes}
+use Rattle.std.specs.Prelude.{ℕ, List, [], ◌∷◌, ◌++◌, Option, Some, None, codes}
 use Rattle.std.specs.Fmt.{decimal}
 use Rattle.eb_lines.specs.declared.form.Tail.{Tail}
-use Rattle.eb_lines.specs.declared.form.Tail.TheVariants.{Nothing, Kept, Segments}
+use Rattle.eb_lines.specs.declared.form.Tail.TheVariants.{Nothing, Kept, Segments, Generations}
 use Rattle.eb_lines.specs.declared.refusal.Refusal.{Refusal}
-use Rattle.eb_lines.specs.declared.refusal.Refusal.TheVariants.{BadLine, LongLine, BadJson, BadDocument, TooLong}
-use Rattle.eb_lines.specs.declared.refusal.Refusal.TheVariants.{NotRising, Full, BadNumber, BadQuery, QueryTooLarge, QueryTooDeep, NoWatch, WatchTaken, WatchesFull}
+use Rattle.eb_lines.specs.Refusals.{Told, row}
 use Rattle.eb_lines.specs.Words.{parted}
 
 -- numbers with a comma (44) between two of them
@@ -19,29 +18,25 @@ answer_text number seen ids = codes "{\"line\":" ++ decimal number ++ codes ",\"
 abbrev pub watch_text : ℕ → List ℕ → List ℕ
 watch_text number ns = codes "{\"line\":" ++ decimal number ++ codes ",\"watches\":[" ++ listed ns ++ codes "]}\n"
 
+-- what a refusal tells, as a further member
+abbrev pub told_text : Option Told → List ℕ
+told_text None = []
+told_text (Some told) = codes ",\"" ++ told.key ++ codes "\":" ++ decimal told.number
+
 abbrev pub cause_text : Refusal → List ℕ
-cause_text BadLine = codes "\"bad line\"}\n"
-cause_text LongLine = codes "\"long line\"}\n"
-cause_text BadJson = codes "\"bad json\"}\n"
-cause_text BadDocument = codes "\"bad document\"}\n"
-cause_text TooLong = codes "\"too long\"}\n"
-cause_text (NotRising last) = codes "\"not rising\",\"after\":" ++ decimal last ++ codes "}\n"
-cause_text Full = codes "\"full\"}\n"
-cause_text BadNumber = codes "\"bad number\"}\n"
-cause_text (BadQuery column) = codes "\"bad query\",\"column\":" ++ decimal column ++ codes "}\n"
-cause_text QueryTooLarge = codes "\"query too large\"}\n"
-cause_text QueryTooDeep = codes "\"query too deep\"}\n"
-cause_text NoWatch = codes "\"no watch\"}\n"
-cause_text WatchTaken = codes "\"watch taken\"}\n"
-cause_text WatchesFull = codes "\"watches full\"}\n"
+cause_text r = codes "\"" ++ (row r).name ++ codes "\"" ++ told_text (row r).told ++ codes "}\n"
 
 abbrev pub refusal_text : ℕ → Refusal → List ℕ
 refusal_text number r = codes "{\"line\":" ++ decimal number ++ codes ",\"refused\":" ++ cause_text r
 
+abbrev pub segments_text : ℕ → ℕ → List ℕ
+segments_text begun converted = codes "}}\n{\"segments\":" ++ decimal begun ++ codes ",\"converted\":" ++ decimal converted
+
 abbrev pub tail_text : Tail → List ℕ
 tail_text Nothing = codes "}}\n"
 tail_text (Kept kept) = codes ",\"kept\":" ++ decimal kept ++ codes "}}\n"
-tail_text (Segments begun converted) = codes "}}\n{\"segments\":" ++ decimal begun ++ codes ",\"converted\":" ++ decimal converted ++ codes "}\n"
+tail_text (Segments begun converted) = segments_text begun converted ++ codes "}\n"
+tail_text (Generations kept segments converted begun) = codes ",\"kept\":" ++ decimal kept ++ segments_text segments converted ++ codes ",\"generations\":" ++ decimal begun ++ codes "}\n"
 
 abbrev pub summary_text : ℕ → ℕ → ℕ → Tail → List ℕ
 summary_text d q r tail = codes "{\"end\":{\"documents\":" ++ decimal d ++ codes ",\"queries\":" ++ decimal q ++ codes ",\"refused\":" ++ decimal r ++ tail_text tail

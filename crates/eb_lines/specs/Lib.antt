@@ -4,6 +4,8 @@ pub mod Kinds
 pub mod LineKinds
 pub mod Reads
 pub mod Works
+pub mod Refusals
+pub mod RefusalViews
 pub mod Words
 pub mod Values
 pub mod JsonTexts
@@ -12,3 +14,4 @@ pub mod StatusLine
 pub mod Programs
 pub mod Outcomes
 pub mod Passing
+pub mod Laws

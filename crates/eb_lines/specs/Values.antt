@@ -1,12 +1,11 @@
 -- The lines that are printed, as values of JSON.
-use Rattle.std.specs.Prelude.{ℕ, List, [], ◌∷◌, ◌++◌, codes}
+use Rattle.std.specs.Prelude.{ℕ, List, [], ◌∷◌, ◌++◌, Option, Some, None, codes}
 use Rattle.serde_json.specs.Data.{unsigned, Data, number, string, array, object, Items, no_items, item, Members, no_members, member}
 use Rattle.serde_json.specs.Written.{compact_text}
 use Rattle.eb_lines.specs.declared.form.Tail.{Tail}
-use Rattle.eb_lines.specs.declared.form.Tail.TheVariants.{Nothing, Kept, Segments}
+use Rattle.eb_lines.specs.declared.form.Tail.TheVariants.{Nothing, Kept, Segments, Generations}
 use Rattle.eb_lines.specs.declared.refusal.Refusal.{Refusal}
-use Rattle.eb_lines.specs.declared.refusal.Refusal.TheVariants.{BadLine, LongLine, BadJson, BadDocument, TooLong}
-use Rattle.eb_lines.specs.declared.refusal.Refusal.TheVariants.{NotRising, Full, BadNumber, BadQuery, QueryTooLarge, QueryTooDeep, NoWatch, WatchTaken, WatchesFull}
+use Rattle.eb_lines.specs.Refusals.{Told, row}
 
 -- a value in a line of its own, with no space
 abbrev pub json_line : Data → List ℕ
@@ -28,38 +27,16 @@ answer_value line seen ids = object (counted (codes "line") line (counted (codes
 abbrev pub watch_value : ℕ → List ℕ → Data
 watch_value line ns = object (counted (codes "line") line (member (codes "watches") (array (numbers ns)) no_members))
 
--- the name of a refusal, and what stands beside it
+-- what stands beside the name of a refusal
+abbrev pub told_member : Option Told → Members
+told_member None = no_members
+told_member (Some told) = counted told.key told.number no_members
+
 abbrev pub cause : Refusal → List ℕ
-cause BadLine = codes "bad line"
-cause LongLine = codes "long line"
-cause BadJson = codes "bad json"
-cause BadDocument = codes "bad document"
-cause TooLong = codes "too long"
-cause (NotRising last) = codes "not rising"
-cause Full = codes "full"
-cause BadNumber = codes "bad number"
-cause (BadQuery column) = codes "bad query"
-cause QueryTooLarge = codes "query too large"
-cause QueryTooDeep = codes "query too deep"
-cause NoWatch = codes "no watch"
-cause WatchTaken = codes "watch taken"
-cause WatchesFull = codes "watches full"
+cause r = (row r).name
 
 abbrev pub beside_cause : Refusal → Members
-beside_cause BadLine = no_members
-beside_cause LongLine = no_members
-beside_cause BadJson = no_members
-beside_cause BadDocument = no_members
-beside_cause TooLong = no_members
-beside_cause (NotRising last) = counted (codes "after") last no_members
-beside_cause Full = no_members
-beside_cause BadNumber = no_members
-beside_cause (BadQuery column) = counted (codes "column") column no_members
-beside_cause QueryTooLarge = no_members
-beside_cause QueryTooDeep = no_members
-beside_cause NoWatch = no_members
-beside_cause WatchTaken = no_members
-beside_cause WatchesFull = no_members
+beside_cause r = told_member (row r).told
 
 -- the refusal of line `line`
 abbrev pub refusal_value : ℕ → Refusal → Data
@@ -70,6 +47,7 @@ abbrev pub kept_member : Tail → Members
 kept_member Nothing = no_members
 kept_member (Kept kept) = counted (codes "kept") kept no_members
 kept_member (Segments begun converted) = no_members
+kept_member (Generations kept segments converted begun) = counted (codes "kept") kept no_members
 
 abbrev pub counts_value : ℕ → ℕ → ℕ → Tail → Data
 counts_value d q r tail = object (counted (codes "documents") d (counted (codes "queries") q (counted (codes "refused") r (kept_member tail))))
@@ -81,7 +59,12 @@ summary_value d q r tail = object (member (codes "end") (counts_value d q r tail
 abbrev pub segments_value : ℕ → ℕ → Data
 segments_value begun converted = object (counted (codes "segments") begun (counted (codes "converted") converted no_members))
 
+-- and how many generations are begun
+abbrev pub generations_value : ℕ → ℕ → ℕ → Data
+generations_value segments converted begun = object (counted (codes "segments") segments (counted (codes "converted") converted (counted (codes "generations") begun no_members)))
+
 abbrev pub segments_lines : Tail → List ℕ
 segments_lines Nothing = []
 segments_lines (Kept kept) = []
 segments_lines (Segments begun converted) = json_line (segments_value begun converted)
+segments_lines (Generations kept segments converted begun) = json_line (generations_value segments converted begun)

@@ -21,4 +21,15 @@ pub enum Tail {
         /// How many of them are converted.
         converted: u64,
     },
+    /// How many of the accepted documents are kept, and the generations that keep them.
+    Generations {
+        /// How many documents are kept.
+        kept: u64,
+        /// How many segments are begun in the generations that are kept.
+        segments: u64,
+        /// How many of them are converted.
+        converted: u64,
+        /// How many generations are begun, also those that are kept no more.
+        begun: u64,
+    },
 }

@@ -5,6 +5,7 @@
 mod form;
 mod gathered;
 mod kind;
+mod laws;
 mod objects;
 mod passing;
 mod pieces;
@@ -18,6 +19,7 @@ mod writing;
 pub use form::{Form, Tail};
 pub use gathered::{write_gathered, write_much};
 pub use kind::{LineKind, line_kind};
+pub use laws::lines_without_fields;
 pub use passing::pass_lines;
 pub use program::LineProgram;
 pub use refusal::Refusal;

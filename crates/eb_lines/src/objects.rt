@@ -1,6 +1,6 @@
 //! The lines as JSON.
 ghost use Rattle.std.specs.Prelude.{◌≡◌, ◌+◌, ◌*◌, ◌≤◌, ◌++◌, length, vec_len, vec_capacity};
-ghost use Rattle.eb_lines.specs.JsonTexts.{answer_text, watch_text, cause_text, refusal_text, summary_text, tail_text};
+ghost use Rattle.eb_lines.specs.JsonTexts.{answer_text, watch_text, cause_text, refusal_text, summary_text, segments_text, tail_text};
 
 use crate::form::Tail;
 use crate::pieces::{put, put_id_list, put_number, put_number_list};
@@ -41,30 +41,17 @@ fn put_cause(text: &mut Vec<u8>, refusal: Refusal)
     ensures len { vec_len text.new ≤ vec_len text.old + 48 }
     ensures room { vec_capacity text.old ≤ vec_capacity text.new }
 {
-    match refusal {
-        Refusal::BadLine => put(text, b"\"bad line\"}\n"),
-        Refusal::LongLine => put(text, b"\"long line\"}\n"),
-        Refusal::BadJson => put(text, b"\"bad json\"}\n"),
-        Refusal::BadDocument => put(text, b"\"bad document\"}\n"),
-        Refusal::TooLong => put(text, b"\"too long\"}\n"),
-        Refusal::NotRising(last) => {
-            put(text, b"\"not rising\",\"after\":");
-            put_number(text, last);
-            put(text, b"}\n");
-        }
-        Refusal::Full => put(text, b"\"full\"}\n"),
-        Refusal::BadNumber => put(text, b"\"bad number\"}\n"),
-        Refusal::BadQuery(column) => {
-            put(text, b"\"bad query\",\"column\":");
-            put_number(text, column);
-            put(text, b"}\n");
-        }
-        Refusal::QueryTooLarge => put(text, b"\"query too large\"}\n"),
-        Refusal::QueryTooDeep => put(text, b"\"query too deep\"}\n"),
-        Refusal::NoWatch => put(text, b"\"no watch\"}\n"),
-        Refusal::WatchTaken => put(text, b"\"watch taken\"}\n"),
-        Refusal::WatchesFull => put(text, b"\"watches full\"}\n"),
+    let row = refusal.row();
+    put(text, b"\"");
+    put(text, row.name.as_bytes());
+    put(text, b"\"");
+    if let Some(told) = row.told {
+        put(text, b",\"");
+        put(text, told.key.as_bytes());
+        put(text, b"\":");
+        put_number(text, told.number);
     }
+    put(text, b"}\n");
 }
 
 pub(crate) fn put_refusal_json(text: &mut Vec<u8>, number: u64, refusal: Refusal)
@@ -79,9 +66,22 @@ pub(crate) fn put_refusal_json(text: &mut Vec<u8>, number: u64, refusal: Refusal
     put_cause(text, refusal);
 }
 
+// The end of the object of the counts, and the segments, from the object of their own on.
+fn put_segments(text: &mut Vec<u8>, begun: u64, converted: u64)
+    requires { vec_len text.old + 72 ≤ vec_capacity text.old }
+    ensures text { text.new.items ≡ text.old.items ++ segments_text begun converted }
+    ensures len { vec_len text.new ≤ vec_len text.old + 72 }
+    ensures room { vec_capacity text.old ≤ vec_capacity text.new }
+{
+    put(text, b"}}\n{\"segments\":");
+    put_number(text, begun);
+    put(text, b",\"converted\":");
+    put_number(text, converted);
+}
+
 // What is told beside the counts, from the end of the object of the counts on.
 fn put_tail(text: &mut Vec<u8>, tail: Tail)
-    requires { vec_len text.old + 80 ≤ vec_capacity text.old }
+    requires { vec_len text.old + 144 ≤ vec_capacity text.old }
     ensures { text.new.items ≡ text.old.items ++ tail_text tail }
 {
     match tail {
@@ -92,10 +92,20 @@ fn put_tail(text: &mut Vec<u8>, tail: Tail)
             put(text, b"}}\n");
         }
         Tail::Segments { begun, converted } => {
-            put(text, b"}}\n{\"segments\":");
+            put_segments(text, begun, converted);
+            put(text, b"}\n");
+        }
+        Tail::Generations {
+            kept,
+            segments,
+            converted,
+            begun,
+        } => {
+            put(text, b",\"kept\":");
+            put_number(text, kept);
+            put_segments(text, segments, converted);
+            put(text, b",\"generations\":");
             put_number(text, begun);
-            put(text, b",\"converted\":");
-            put_number(text, converted);
             put(text, b"}\n");
         }
     }
@@ -108,7 +118,7 @@ pub(crate) fn put_summary_json(
     refused: u64,
     tail: Tail,
 )
-    requires { vec_len text.old + 192 ≤ vec_capacity text.old }
+    requires { vec_len text.old + 256 ≤ vec_capacity text.old }
     ensures { text.new.items ≡ text.old.items ++ summary_text documents queries refused tail }
 {
     put(text, b"{\"end\":{\"documents\":");

@@ -1,6 +1,6 @@
 //! The lines in words.
 ghost use Rattle.std.specs.Prelude.{◌≡◌, ◌+◌, ◌*◌, ◌≤◌, ◌++◌, length, vec_len, vec_capacity};
-ghost use Rattle.eb_lines.specs.Words.{answer_words, watch_words, refusal_words, refusal_name, summary_words, tail_words};
+ghost use Rattle.eb_lines.specs.Words.{answer_words, watch_words, refusal_words, refusal_name, summary_words, segments_words, tail_words};
 
 use crate::form::Tail;
 use crate::pieces::{put, put_ids, put_number, put_numbers};
@@ -38,27 +38,11 @@ fn put_name(text: &mut Vec<u8>, refusal: Refusal)
     ensures len { vec_len text.new ≤ vec_len text.old + 37 }
     ensures room { vec_capacity text.old ≤ vec_capacity text.new }
 {
-    match refusal {
-        Refusal::BadLine => put(text, b"bad line"),
-        Refusal::LongLine => put(text, b"long line"),
-        Refusal::BadJson => put(text, b"bad json"),
-        Refusal::BadDocument => put(text, b"bad document"),
-        Refusal::TooLong => put(text, b"too long"),
-        Refusal::NotRising(last) => {
-            put(text, b"not rising after ");
-            put_number(text, last);
-        }
-        Refusal::Full => put(text, b"full"),
-        Refusal::BadNumber => put(text, b"bad number"),
-        Refusal::BadQuery(column) => {
-            put(text, b"bad query at ");
-            put_number(text, column);
-        }
-        Refusal::QueryTooLarge => put(text, b"query too large"),
-        Refusal::QueryTooDeep => put(text, b"query too deep"),
-        Refusal::NoWatch => put(text, b"no watch"),
-        Refusal::WatchTaken => put(text, b"watch taken"),
-        Refusal::WatchesFull => put(text, b"watches full"),
+    let row = refusal.row();
+    put(text, row.name.as_bytes());
+    if let Some(told) = row.told {
+        put(text, told.before.as_bytes());
+        put_number(text, told.number);
     }
 }
 
@@ -74,10 +58,23 @@ pub(crate) fn put_refusal_words(text: &mut Vec<u8>, number: u64, refusal: Refusa
     put(text, b"\n");
 }
 
-fn put_tail(text: &mut Vec<u8>, tail: Tail)
+// The segments, in a line of their own.
+fn put_segments(text: &mut Vec<u8>, begun: u64, converted: u64)
     requires { vec_len text.old + 64 ≤ vec_capacity text.old }
-    ensures text { text.new.items ≡ text.old.items ++ tail_words tail }
+    ensures text { text.new.items ≡ text.old.items ++ segments_words begun converted }
     ensures len { vec_len text.new ≤ vec_len text.old + 64 }
+    ensures room { vec_capacity text.old ≤ vec_capacity text.new }
+{
+    put(text, b"\nsegments ");
+    put_number(text, begun);
+    put(text, b", converted ");
+    put_number(text, converted);
+}
+
+fn put_tail(text: &mut Vec<u8>, tail: Tail)
+    requires { vec_len text.old + 128 ≤ vec_capacity text.old }
+    ensures text { text.new.items ≡ text.old.items ++ tail_words tail }
+    ensures len { vec_len text.new ≤ vec_len text.old + 128 }
     ensures room { vec_capacity text.old ≤ vec_capacity text.new }
 {
     match tail {
@@ -86,11 +83,18 @@ fn put_tail(text: &mut Vec<u8>, tail: Tail)
             put(text, b", kept ");
             put_number(text, kept);
         }
-        Tail::Segments { begun, converted } => {
-            put(text, b"\nsegments ");
+        Tail::Segments { begun, converted } => put_segments(text, begun, converted),
+        Tail::Generations {
+            kept,
+            segments,
+            converted,
+            begun,
+        } => {
+            put(text, b", kept ");
+            put_number(text, kept);
+            put_segments(text, segments, converted);
+            put(text, b", generations ");
             put_number(text, begun);
-            put(text, b", converted ");
-            put_number(text, converted);
         }
     }
 }
@@ -102,7 +106,7 @@ pub(crate) fn put_summary_words(
     refused: u64,
     tail: Tail,
 )
-    requires { vec_len text.old + 192 ≤ vec_capacity text.old }
+    requires { vec_len text.old + 256 ≤ vec_capacity text.old }
     ensures { text.new.items ≡ text.old.items ++ summary_words documents queries refused tail }
 {
     put(text, b"end: documents ");

@@ -61,7 +61,8 @@ pub record WorkedOff (names : List (List ℕ)) (form : Form) (σ : Setting) (hel
   pub refused : counts_new.refused ≡ counts_old.refused + count_by fails (map shown_entry shown)
 
 -- two rounds were processed, one after the other
-pub record WorkedOffBoth (names : List (List ℕ)) (form : Form) (σ : Setting) (ahead held : List HeldLine) (docs_old docs_new : List Doc) (counts_old counts_new : Counted) (printed : List ℕ) : Type 0 where
+pub record WorkedOffBoth (names : List (List ℕ)) (form : Form) (σ : Setting) (ahead held : List HeldLine) (docs_old docs_new : List Doc)
+    (counts_old counts_new : Counted) (printed : List ℕ) : Type 0 where
   pub docs_between : List Doc
   pub counts_between : Counted
   pub printed_first : List ℕ

@@ -74,7 +74,8 @@ fn read_all_then<R: Threads + Sync>(
     fields: Fields<'_>,
     lines: &[ThenLine],
 ) -> Result<Result<Vec<Given>, NoMemory>, AllocError>
-    ensures { IfOk result (λ all. IfOk all (λ tasks. AllZip (λ line task. ReadsLine (names fields.entry) (then_line line) (given_entry task)) lines.now tasks.items)) }
+    ensures { IfOk result (λ all. IfOk all (λ tasks.
+        AllZip (λ line task. ReadsLine (names fields.entry) (then_line line) (given_entry task)) lines.now tasks.items)) }
 {
     lines
         .par_iter()
@@ -93,7 +94,8 @@ fn read_all_first<R: Threads + Sync>(
     fields: Fields<'_>,
     lines: &[FirstLine],
 ) -> Result<Result<Vec<Asked>, NoMemory>, AllocError>
-    ensures { IfOk result (λ all. IfOk all (λ tasks. AllZip (λ line task. ReadsLine (names fields.entry) (first_line line) (asked_entry task)) lines.now tasks.items)) }
+    ensures { IfOk result (λ all. IfOk all (λ tasks.
+        AllZip (λ line task. ReadsLine (names fields.entry) (first_line line) (asked_entry task)) lines.now tasks.items)) }
 {
     lines
         .par_iter()

@@ -289,7 +289,8 @@ pub(crate) fn work_tasks<R: Threads + Sync, G: Gate + Sync>(
     ensures len { vec_len text.new ≤ vec_len text.old + need_of_tasks tasks.old }
     ensures room { vec_capacity text.old ≤ vec_capacity text.new }
     ensures works { (fields : List (List ℕ)) (held : List HeldLine) → AllZip (ReadsLine fields) held (entries_of tasks.old)
-        → WorksOff fields form index.now.setting held writer.old.docs writer.new.docs text.old.items text.new.items result.documents result.queries result.refused }
+        → WorksOff fields form index.now.setting held writer.old.docs writer.new.docs text.old.items text.new.items
+        result.documents result.queries result.refused }
     ensures few { result.documents + (result.queries + result.refused) ≤ count_of_tasks tasks.old }
 {
     converter.meet(index, writer.reader(index));

@@ -72,29 +72,13 @@ on_on old mid new t0 t1 t2 f g = λ a given so_far h.
     let y = g a given (so_far ++ x.0) x.1 in
     (x.0 ++ y.0, subst (HasServed new a given) (append_assoc so_far x.0 y.0) y.1, y.2 ∙ ap (λ t. t ++ y.0) x.2 ∙ append_assoc t0 x.0 y.0)
 
-pub on_line : (old mid new : Serving) (t0 t1 : List ℕ) (l : Line) (r : Reading) → WorksOn HasServed old mid t0 t1 → TakesLine mid new r → Reads (names mid.fields) l r → WorksOnGiven HasServed old new t0 t1 l
+pub on_line : (old mid new : Serving) (t0 t1 : List ℕ) (l : Line) (r : Reading) → WorksOn HasServed old mid t0 t1 → TakesLine mid new r → Reads (names mid.fields) l r
+    → WorksOnGiven HasServed old new t0 t1 l
 on_line old mid new t0 t1 l r f g reads = λ a given so_far h.
     let x = f a given so_far h in (x.0, g a given (so_far ++ x.0) l x.1 (subst (λ ns. Reads ns l r) x.1.fields reads), x.2)
 
 pub goes_running : (old new : Serving) (t0 t1 : List ℕ) → IsRunning HasServed old → WorksOn HasServed old new t0 t1 → IsRunning HasServed new
 goes_running old new t0 t1 r f = let w = f r.0 r.1 r.2 r.3 in (r.0, r.1, r.2 ++ w.0, w.1)
-
-pub further_trans : (old mid new : Serving) → IsFurther old mid → IsFurther mid new → IsFurther old new
-further_trans old mid new f g =
-    let docs : mid.office.writer.docs ≡ old.office.writer.docs = ap (λ (t : HistoryToken). t.docs) f.writer in
-    record {
-      keeps = record { staffed = g.keeps.staffed; index = g.keeps.index ∙ f.keeps.index };
-      writer = g.writer ∙ f.writer;
-      put = g.put ∙ f.put;
-      fields = g.fields ∙ f.fields;
-      form = g.form ∙ f.form;
-      number = g.number ∙ f.number;
-      queries = g.queries ∙ f.queries;
-      refused = g.refused ∙ f.refused;
-      waiting = λ told rs h.
-          let W : List Doc → List Waiting → Type 0 = λ ds ws. AreWaiting ds told rs ws in
-          subst (λ ds. W ds new.waiting.items) docs (g.waiting told rs (subst (λ ds. W ds mid.waiting.items) (sym docs) (f.waiting told rs h)));
-    }
 
 -- an answer is taken in
 pub further_in : (old new : Serving) (at seen : ℕ) (frame : Frame) (known : List Doc) → Keeps old.office new.office
@@ -124,7 +108,8 @@ further_in old new at seen frame known keeps writer put fields form number queri
 
 -- ---- the next line is printed
 
-module _ (old new : Serving) (w : Waiting) (ws : List Waiting) (text text_new : List ℕ) (n : ℕ) (office : new.office ≡ old.office) (fields : names new.fields ≡ names old.fields) (form : new.form ≡ old.form) (number : new.number ≡ old.number)
+module _ (old new : Serving) (w : Waiting) (ws : List Waiting) (text text_new : List ℕ) (n : ℕ) (office : new.office ≡ old.office) (fields : names new.fields ≡ names old.fields)
+    (form : new.form ≡ old.form) (number : new.number ≡ old.number)
     (queries_same : new.queries ≡ old.queries) (refused_same : new.refused ≡ old.refused) (first : old.waiting.items ≡ w ∷ ws) (rest : new.waiting.items ≡ ws) (ready : IsReady w)
     (is : n ≡ old.number - length ws) (put : text_new ≡ text ++ printed_by old.form n w) where
   served_printed : (a : Asked) (given : List Line) (so_far : List ℕ) → HasServed old a given so_far → HasServed new a given (so_far ++ printed_by a.form n w)
@@ -217,7 +202,8 @@ pub above_more : (n : ℕ) (ps : List Pair) → IsAboveEach n ps → IsAboveEach
 above_more n ps a = All-weaker (λ (q : Pair). q.number < n) (λ q. q.number < n + 1) (λ q h. omega (arith, h)) ps a
 
 -- the same lines wait
-pub further_items : (old new : Serving) → IsStaffed old.office → new.office ≡ old.office → names new.fields ≡ names old.fields → new.form ≡ old.form → new.number ≡ old.number → new.queries ≡ old.queries → new.refused ≡ old.refused
+pub further_items : (old new : Serving) → IsStaffed old.office → new.office ≡ old.office → names new.fields ≡ names old.fields → new.form ≡ old.form → new.number ≡ old.number
+    → new.queries ≡ old.queries → new.refused ≡ old.refused
     → new.waiting.items ≡ old.waiting.items → IsFurther old new
 further_items old new staffed office fields form number asks fails items = record {
   keeps = record { staffed = subst (λ (o : Office). IsStaffed o) (sym office) staffed; index = ap (λ (o : Office). o.index.now) office };
@@ -230,9 +216,6 @@ further_items old new staffed office fields form number asks fails items = recor
   refused = fails;
   waiting = λ told rs h. subst (AreWaiting old.office.writer.docs told rs) (sym items) h;
 }
-
-pub further_same : (s : Serving) → IsStaffed s.office → IsFurther s s
-further_same s staffed = further_items s s staffed refl refl refl refl refl refl refl
 
 pub next_is : (items : List Waiting) (need : ℕ) (w : Waiting) (ws : List Waiting) → NextNeeds items need → items ≡ w ∷ ws → IsReady w × (need ≡ need_of w)
 next_is items need w ws h e = subst (λ (xs : List Waiting). NextNeeds xs need) e h

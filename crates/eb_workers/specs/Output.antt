@@ -41,10 +41,6 @@ pub record IsWorkersText (a : Asked) (lines : List Line) (printed : List ℕ) : 
   pub sees : SeesTold readings numbers
   pub bytes : printed ≡ body a.form numbers readings ++ end_of a.setting a.form readings
 
--- the text of an input of these bytes
-abbrev pub IsWorkersOutput : List (List ℕ) → Setting → Form → List ℕ → List ℕ → Type 0
-IsWorkersOutput names σ form bytes printed = IsWorkersText (asked names σ form) (lines_of bytes) printed
-
 -- what a run with workers that ends so has printed, of an input of these bytes of which this is left
 abbrev pub WroteWorkers : Asked → Status → List ℕ → Option (List ℕ) → List ℕ → Type 0
 WroteWorkers a = Wrote (IsWorkersBody a) (IsWorkersText a) (HasRefusal a.fields a.setting) (HasNoRefusal a.fields a.setting)

@@ -12,7 +12,8 @@ pub returns-in_default-clause-ends : goal.returns-in_default-clause-ends
 returns-in_default-clause-ends g c = ends_at_once _ _ _ _ (parts_first (asked (names c.args.fields) c.args.config)) _ _ (head_of c.args.config) (parts_none (asked (names c.args.fields) c.args.config))
 
 pub returns-in_default-new-clause-ends : goal.returns-in_default-new-clause-ends
-returns-in_default-new-clause-ends g c = ends_at_once _ _ _ _ (parts_first (asked (names c.args.fields) c.args.config)) _ _ (head_of c.args.config) (parts_none (asked (names c.args.fields) c.args.config))
+returns-in_default-new-clause-ends g c = ends_at_once _ _ _ _ (parts_first (asked (names c.args.fields) c.args.config)) _ _ (head_of c.args.config)
+    (parts_none (asked (names c.args.fields) c.args.config))
 
 pub returns-clause-ends : goal.returns-clause-ends
 returns-clause-ends g c =

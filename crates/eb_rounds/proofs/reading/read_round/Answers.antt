@@ -21,7 +21,8 @@ returns g c =
     let room = c.in_ok-refusals.ensures in
     record {
       read = zip_append (ReadsLine (names c.args.fields)) (map first_line round.first.items) (map asked_entry asked) (map then_line round.last.items) (map given_entry given)
-          (zip_map (ReadsLine (names c.args.fields)) first_line asked_entry round.first.items asked first) (zip_map (ReadsLine (names c.args.fields)) then_line given_entry round.last.items given last);
+          (zip_map (ReadsLine (names c.args.fields)) first_line asked_entry round.first.items asked first)
+          (zip_map (ReadsLine (names c.args.fields)) then_line given_entry round.last.items given last);
       refusals = (room.items, room.len, omega (arith, room.capacity, c.len.ensures, ap (λ n. n * c.len.result) c.line_room.ensures));
       asked = AllZip-long _ _ _ first;
       given = AllZip-long _ _ _ last;

@@ -14,7 +14,8 @@ overflow_add-self-in-Some g c = let r = c.requires.state in let few = few_refuse
 
 pub returns-in-Some-clause-ok : goal.returns-in-Some-clause-ok
 returns-in-Some-clause-ok g c =
-    takes_unplaced g.S.Store.other g.S.Store.holds c.args.self.now _ refl c.form-form.result c.form-form.ensures c.args.document.now c.in-Some.refusal _ _ c.in-Some.ensures refl c.requires.number refl refl
+    takes_unplaced g.S.Store.other g.S.Store.holds c.args.self.now _ refl c.form-form.result c.form-form.ensures c.args.document.now c.in-Some.refusal _ _ c.in-Some.ensures refl
+    c.requires.number refl refl
     (c.put_refusal.ensures.text ∙ ap (λ (t : List ℕ). t ++ refusal_line c.form-form.result (c.args.self.now.number + 1) c.in-Some.refusal) c.in_ok-reserve.ensures.items)
 
 pub returns-clause-ok : goal.returns-clause-ok

@@ -29,7 +29,8 @@ returns-in-Some-clause-ok g c =
     let bytes = c.args.bytes.now in
     let own = c.in_ok-take_other.ensures.ok in
     let T : Option Refusal → Type 0 = λ x. TakesOther g.S.Store.holds c.args.self.now.store c.take_other.new.self own.0 x in
-    refuses_other g.S.Store.other g.S.Store.holds c.args.self.now _ refl c.form-form.result c.form-form.ensures own.0 c.in-Some.refusal _ _ (subst T c.in-Some.is own.2) refl c.requires.number refl refl
+    refuses_other g.S.Store.other g.S.Store.holds c.args.self.now _ refl c.form-form.result c.form-form.ensures own.0 c.in-Some.refusal _ _ (subst T c.in-Some.is own.2) refl
+    c.requires.number refl refl
     (c.put_refusal.ensures.text ∙ ap (λ (t : List ℕ). t ++ refusal_line c.form-form.result (c.args.self.now.number + 1) c.in-Some.refusal) c.in_ok-reserve.ensures.items)
     (line bytes) (reads_with g.S.Store.other (names c.args.self.now.fields) bytes bad_line own.0 c.requires.kind own.1)
 

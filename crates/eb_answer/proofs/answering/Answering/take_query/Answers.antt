@@ -1,4 +1,4 @@
-use Rattle.std.proofs.Common.{ℕ, List, Ok, Err, subst}
+use Rattle.std.proofs.Common.{ℕ, subst}
 use Rattle.std.specs.Prelude.{Result}
 use Rattle.eb_base.specs.declared.query.Query.{Query}
 use Rattle.eb_base.specs.Query.{tree}

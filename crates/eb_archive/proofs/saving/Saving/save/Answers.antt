@@ -12,7 +12,8 @@ returns-clause-ok g c = elim c.match-add.branch [
   | in-Ok w ↦
       let is = w.self-is in
       takes_document c.args.self.now c.match-add.self c.args.document.now c.args.text.now.items c.in_ok-part.part.items c.match-add.text.items w.in-Ok.ensures.ok.0
-      (ap (λ (s : Saving _). names s.fields) is) (ap (λ (s : Saving _). s.index) is) (ap (λ (s : Saving _). s.writer) is ∙ w.in-Ok.ensures.ok.1) (ap (λ (s : Saving _). s.number) is) (ap (λ (s : Saving _). s.refused) is) c.in_ok-part.ensures
+      (ap (λ (s : Saving _). names s.fields) is) (ap (λ (s : Saving _). s.index) is) (ap (λ (s : Saving _). s.writer) is ∙ w.in-Ok.ensures.ok.1) (ap (λ (s : Saving _). s.number) is)
+      (ap (λ (s : Saving _). s.refused) is) c.in_ok-part.ensures
       (ap (λ t. t.items) w.text-is ∙ w.put.ensures ∙ ap (λ t. t ++ w.deref.result.now) c.in_ok-reserve.ensures.items ∙ ap (λ b. c.args.text.now.items ++ b) w.deref.ensures.value)
   | in-Err w ↦
       let is = w.self-is in

@@ -1,4 +1,4 @@
-use Rattle.std.proofs.Common.{◌+◌, ◌<◌, ℕ, [], length, refl, sym, ap, ◌∙◌, subst, arith}
+use Rattle.std.proofs.Common.{ℕ, [], refl, ap, arith}
 use Rattle.eb_base.specs.Setting.{Setting}
 use Rattle.eb_engine.specs.Tokens.{HistoryToken, ConverterToken}
 use Rattle.eb_place.specs.Room.{cut}

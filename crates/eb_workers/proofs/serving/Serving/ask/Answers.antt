@@ -10,5 +10,6 @@ returns g c =
     let r = c.requires.running in
     let f = c.args.frame in
     let x = query (k_of f) (query_of f) in
-    served_line c.args.self.now _ x _ x refl c.ask.ensures.keeps (ap (λ (t : HistoryToken). t.docs) c.ask.ensures.writer ∙ sym (append-nil _)) refl refl refl refl (omega arith) (omega arith, omega arith)
+    served_line c.args.self.now _ x _ x refl c.ask.ensures.keeps (ap (λ (t : HistoryToken). t.docs) c.ask.ensures.writer ∙ sym (append-nil _)) refl refl refl refl (omega arith)
+    (omega arith, omega arith)
     c.ask.ensures.above c.push.ensures (rw (c.k-k.ensures, c.requires.same) refl, c.documents-told.ensures)

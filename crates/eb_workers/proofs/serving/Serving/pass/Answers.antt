@@ -7,5 +7,6 @@ use Rattle.eb_workers.proofs.serving.Serving.pass.Goals as goal
 pub returns : goal.returns
 returns c =
     let r = c.requires.running in
-    served_line c.args.self.now _ blank waits.Nothing blank refl (record { staffed = r.3.staffed; index = refl }) (sym (append-nil _)) refl refl refl (omega arith) (omega arith) (omega arith, omega arith)
+    served_line c.args.self.now _ blank waits.Nothing blank refl (record { staffed = r.3.staffed; index = refl }) (sym (append-nil _)) refl refl refl (omega arith) (omega arith)
+    (omega arith, omega arith)
     (above_more _ _ r.3.above) c.push.ensures (record { asks = refl; nothing = λ form number seen docs. refl })

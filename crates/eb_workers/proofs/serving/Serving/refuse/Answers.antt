@@ -8,5 +8,6 @@ pub returns : goal.returns
 returns c =
     let r = c.requires.running in
     let x = refused c.args.refusal in
-    served_line c.args.self.now _ x (waits.Refused c.args.refusal) x refl (record { staffed = r.3.staffed; index = refl }) (sym (append-nil _)) refl refl refl (omega arith) refl (omega arith, omega arith)
+    served_line c.args.self.now _ x (waits.Refused c.args.refusal) x refl (record { staffed = r.3.staffed; index = refl }) (sym (append-nil _)) refl refl refl (omega arith) refl
+    (omega arith, omega arith)
     (above_more _ _ r.3.above) c.push.ensures refl

@@ -1,0 +1,21 @@
+-- What holds of lines, over the definitions alone.
+use Rattle.std.specs.Prelude.{◌≡◌, ℕ, List, []}
+use Rattle.eb_doc.specs.DocumentLine.{document_of}
+use Rattle.eb_io.specs.Lines.{line}
+use Rattle.eb_query.specs.Reading.{Outcome, ReadsAs}
+use Rattle.eb_lines.specs.declared.refusal.Refusal.TheVariants.{BadLine}
+use Rattle.eb_lines.specs.Kinds.{Kind, blank_line, document_line, query_line, bad_line, kind_of}
+use Rattle.eb_lines.specs.Reading.{Reading, blank, refused}
+use Rattle.eb_lines.specs.Reads.{IsOfDocument, Reads, of_query}
+
+-- by the rules that know nothing of fields
+abbrev pub ReadsPlainly : Kind → List ℕ → Reading → Type 0
+ReadsPlainly blank_line bytes r = r ≡ blank
+ReadsPlainly document_line bytes r = IsOfDocument (document_of bytes) r
+ReadsPlainly query_line bytes r = (o : Outcome) × ReadsAs bytes o × (r ≡ of_query o)
+ReadsPlainly bad_line bytes r = r ≡ refused BadLine
+
+-- without fields a line is read as by these rules, and as nothing else
+abbrev pub LinesWithoutFields : Type 0
+LinesWithoutFields = (bytes : List ℕ) (r : Reading)
+    → (Reads [] (line bytes) r → ReadsPlainly (kind_of bytes) bytes r) × (ReadsPlainly (kind_of bytes) bytes r → Reads [] (line bytes) r)
