@@ -20,7 +20,7 @@ OPTIONS = {
     "parts": Option("N", 1, 16, None, range(1, 17), "spread the messages over N indexes by their ids, which have to rise"),
     "watch": Option(text="take lines !N QUERY and !N, which set and remove a watch: each message prints the watches that it matches"),
     "fields": Option("LIST", None, None, None, (), "find messages by their members of these names, as by from:mara; LIST is 1 to 8 names with commas between"),
-    "stats": Option(text="print the number of segments, and how many are converted, after the summary"),
+    "stats": Option(text="print the number of segments, and how many are converted, after the summary; of a feed those that it keeps, and the number of generations"),
     "json": Option(text="print each line of the output as one JSON object"),
     "segments": Option("N", 1, 64, 12, (1, 2, 3, 6, 9, 12, 15, 20, 32, 64), "segments of the index"),
     "docs": Option("N", 1, 16777216, 4096, [1 << at for at in range(10, 25)], "messages that a segment has room for"),
@@ -36,7 +36,7 @@ Command = namedtuple("Command", "words ways options text launcher", defaults=(()
 SETTING = ("segments", "docs", "terms")
 COMMANDS = {
     "run": Command((), ("overlap", "workers", "parts", "watch"), ("fields", "stats", "json", *SETTING), "read messages and queries, and print answers"),
-    "feed": Command((), (), ("keep", "fields", "json", *SETTING), "the same, without end: the oldest messages go where there is no room"),
+    "feed": Command((), (), ("keep", "watch", "fields", "stats", "json", *SETTING), "the same, without end: the oldest messages go where there is no room"),
     "save": Command((), (), ("fields", *SETTING), "read messages, and write an image of the index"),
     "load": Command((), (), ("fields", "stats", "json"), "read an image, and then go on as run does"),
     "bench": Command(("START", "DOCS"), (), (), "process DOCS messages (1 to 40000) that the number START makes, and print one line of figures"),

@@ -52,7 +52,7 @@ def statuses():
 def text():
     run, feed = COMMANDS["run"], COMMANDS["feed"]
     of_run = "\n".join(option(it) for it in (*run.ways, *run.options))
-    of_feed = "\n".join(option(it) for it in feed.options if it not in run.options)
+    of_feed = "\n".join(option(it) for it in feed.options if it not in (*run.ways, *run.options))
     commands = "\n".join(filled(it.text, "  %-14s " % name, " " * 17) for name, it in COMMANDS.items())
     of_install = "\n".join(option(it) for it in COMMANDS["install"].options)
     return "\n".join([

@@ -82,12 +82,6 @@ module _ (b : Bench) (lines : List Line) (h : HasCounted b lines) (few : length 
   unfolding refusals
   refused_few = let n = count_by-le-length is_refused h.readings in omega (arith, n, long, few, h.refused)
 
-  pub ids_few : b.ids ≤ 2 ^ 34
-  ids_few = omega (arith, h.few_ids, few)
-
-  pub sum_few : b.sum ≤ 2 ^ 98
-  sum_few = omega (arith, h.few_ids, h.small_sum, few)
-
   -- an answer has few ids
   pub answer_small : (k : ℕ) (q : Tree) → length (answer q k (accepted h.readings)) ≤ 2 ^ 17
   answer_small k q = let n = answer_short k q (accepted h.readings) in omega (arith, n, documents_few, few)

@@ -33,10 +33,6 @@ then_in : {A : Type 0} (f : A → Option Command) → ((x : A) → IsInRange (f 
 then_in f h None = tt
 then_in f h (Some x) = h x
 
-either_in : (b : Bool) (x y : Option Command) → IsInRange x → IsInRange y → IsInRange (if b then x else y)
-either_in true x y h k = h
-either_in false x y h k = k
-
 -- only where a test holds
 where_in : (b : Bool) (c : Command) → (b ≡ true → IsInRange (Some c)) → IsInRange (if b then Some c else None)
 where_in true c h = h refl

@@ -16,7 +16,7 @@ use Rattle.eb_lines.specs.Reading.{Reading, blank, document, query, refused, wat
 use Rattle.eb_lines.specs.Text.{answer_line}
 use Rattle.eb_place.specs.Room.{has_room}
 use Rattle.eb_indexed.specs.Admitted.{admit, admitted_from}
-use Rattle.eb_indexed.specs.LinesRead.{AreRead, AreReadBehind, HasRefusal, HasNoRefusal}
+use Rattle.eb_indexed.specs.LinesRead.{AreReadBehind, HasRefusal, HasNoRefusal}
 use Rattle.eb_indexed.specs.Text as rounds
 use Rattle.eb_lines.specs.Kinds.{Kind, blank_line, document_line, query_line, bad_line, kind_of}
 use Rattle.eb_lines.specs.Reads.{ReadsByKind, Reads}

@@ -12,4 +12,5 @@ pub mod Commanded
 pub mod EachCommand
 pub mod InOrder
 pub mod MadeLines
+pub mod Feeds
 pub mod NeverFull

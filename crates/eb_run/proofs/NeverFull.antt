@@ -1,16 +1,32 @@
--- No line is refused as full.
-use Rattle.std.proofs.Common.{◌≡◌, ℕ, List}
-use Rattle.std.specs.Prelude.{Result, Ok, Err}
+-- No line comes to one that is refused as full.
+use Rattle.std.proofs.Common.{◌≡◌, ℕ, Bool, true, false, List, [], ◌∷◌, ◌++◌, Option, Some, None, sym, ap, refl, subst}
+use Rattle.std.specs.Prelude.{◌==◌, if◌then◌else◌, length, Result, Ok, Err}
+use Rattle.std.specs.List.{AllZip, AllByRecursion}
+use Rattle.eb_answer.specs.Rules.{Rules, document_outcome, watch_outcome, comes, watches_after, come_behind, ReadsKind, ReadsWith, AreRead, is_bad}
 use Rattle.eb_base.specs.Document.{Doc}
+use Rattle.eb_base.specs.Query.{Tree}
 use Rattle.eb_io.specs.Lines.{Line, line, long_line}
 use Rattle.eb_doc.specs.WithFields.{document_with}
 use Rattle.eb_doc.specs.declared.LineFault.{LineFault}
 use Rattle.eb_doc.specs.declared.LineFault.TheVariants as fault
 use Rattle.eb_query.specs.Reading.{Outcome, asks, bad_number, bad_query, too_deep, too_many_nodes}
-use Rattle.eb_lines.specs.declared.refusal.Refusal.TheVariants.{Full}
+use Rattle.eb_query.specs.WatchLine as outcome
+use Rattle.eb_lines.specs.declared.refusal.Refusal.{Refusal}
+use Rattle.eb_lines.specs.declared.refusal.Refusal.TheVariants.{Full, NoWatch, WatchTaken, WatchesFull}
 use Rattle.eb_lines.specs.Kinds.{Kind, blank_line, document_line, query_line, bad_line, kind_of}
-use Rattle.eb_lines.specs.Reading.{refused}
-use Rattle.eb_lines.specs.Reads.{IsOfDocument, of_query, ReadsByKind, Reads}
+use Rattle.eb_lines.specs.Progress.{documents_in}
+use Rattle.eb_lines.specs.Reading.{Reading, blank, document, query, refused, watch}
+use Rattle.eb_lines.specs.Reads.{IsOfDocument, of_query}
+use Rattle.eb_run.specs.FeedLaws.{NeverFull}
+use Rattle.eb_run.specs.FeedOutput.{AreFed, rules_of}
+use Rattle.eb_watch.specs.Watches.{Watched, is_set}
+use Rattle.eb_watching.specs.Others.{is_watch_line, of_watch_line, ReadsOtherBy, ReadsOther}
+use Rattle.eb_watching.specs.WatchRules.{watch_refusal, with_watches}
+
+abbrev IsNotFull : Reading → Type 0
+IsNotFull r = r ≡ refused Full → ⊥
+
+-- ---- no line is read so
 
 of_document : (d : Result Doc LineFault) → IsOfDocument d (refused Full) → ⊥
 of_document (Ok d) e = (cc e)
@@ -26,12 +42,84 @@ of_asked (bad_query column) e = (cc e)
 of_asked too_deep e = (cc e)
 of_asked too_many_nodes e = (cc e)
 
-by_kind : (fields : List (List ℕ)) (k : Kind) (bytes : List ℕ) → ReadsByKind fields k bytes (refused Full) → ⊥
-by_kind fields blank_line bytes e = (cc e)
-by_kind fields document_line bytes e = of_document (document_with fields bytes) e
-by_kind fields query_line bytes e = of_asked e.0 e.2
-by_kind fields bad_line bytes e = (cc e)
+of_watch : (o : outcome.WatchOutcome) → refused Full ≡ of_watch_line o → ⊥
+of_watch (outcome.removes n) e = (cc e)
+of_watch (outcome.reads (asks n q)) e = (cc e)
+of_watch (outcome.reads bad_number) e = (cc e)
+of_watch (outcome.reads (bad_query column)) e = (cc e)
+of_watch (outcome.reads too_deep) e = (cc e)
+of_watch (outcome.reads too_many_nodes) e = (cc e)
 
-pub no_full : (fields : List (List ℕ)) (l : Line) → Reads fields l (refused Full) → ⊥
-no_full fields (line bytes) e = by_kind fields (kind_of bytes) bytes e
-no_full fields long_line e = (cc e)
+of_bad : (names : List (List ℕ)) (bytes : List ℕ) → is_bad names bytes (refused Full) → ⊥
+of_bad names bytes e = (cc e)
+
+of_other : (names : List (List ℕ)) (bytes : List ℕ) → ReadsOther names bytes (refused Full) → ⊥
+of_other names bytes e = go (is_watch_line bytes) e
+  where
+    go : (t : Bool) → ReadsOtherBy names t bytes (refused Full) → ⊥
+    go true e = of_watch e.0 e.2
+    go false e = (cc e)
+
+module _ (other : List (List ℕ) → List ℕ → Reading → Type 0) (none : (names : List (List ℕ)) (bytes : List ℕ) → other names bytes (refused Full) → ⊥) where
+  by_kind : (names : List (List ℕ)) (k : Kind) (bytes : List ℕ) → ReadsKind other names k bytes (refused Full) → ⊥
+  by_kind names blank_line bytes e = (cc e)
+  by_kind names document_line bytes e = of_document (document_with names bytes) e
+  by_kind names query_line bytes e = of_asked e.0 e.2
+  by_kind names bad_line bytes e = none names bytes e
+
+  of_line : (names : List (List ℕ)) (l : Line) → ReadsWith other names l (refused Full) → ⊥
+  of_line names (line bytes) e = by_kind names (kind_of bytes) bytes e
+  of_line names long_line e = (cc e)
+
+  raw_none : (names : List (List ℕ)) (ls : List Line) (rs : List Reading) → AllZip (ReadsWith other names) ls rs → AllByRecursion IsNotFull rs
+  raw_none names [] [] e = tt
+  raw_none names [] (r ∷ rs) e = absurd e
+  raw_none names (l ∷ ls) [] e = absurd e
+  raw_none names (l ∷ ls) (r ∷ rs) e = (λ is. of_line names l (subst (ReadsWith other names l) is e.0), raw_none names ls rs e.1)
+
+  -- ---- none comes to one by rules that refuse no document
+
+  module _ {W : Type 0} (rules : Rules W) (none_refused : (docs : List Doc) (d : Doc) → rules.refusal docs d ≡ None) (none_so : (ws : W) (n : ℕ) (q : Option Tree)
+      → rules.watch_refusal ws n q ≡ Some Full → ⊥) where
+    watch_comes : (n : ℕ) (q : Option Tree) (x : Option Refusal) → (x ≡ Some Full → ⊥) → IsNotFull (watch_outcome n q x)
+    watch_comes n q None h e = (cc e)
+    watch_comes n q (Some r) h e = let same : r ≡ Full = cc in h (ap Some same)
+
+    one_comes : (docs : List Doc) (ws : W) (r : Reading) → IsNotFull r → IsNotFull (comes rules docs ws r)
+    one_comes docs ws blank h = h
+    one_comes docs ws (document d) h = subst (λ (x : Option Refusal). IsNotFull (document_outcome d x)) (sym (none_refused docs d)) h
+    one_comes docs ws (query k q) h = h
+    one_comes docs ws (refused r) h = h
+    one_comes docs ws (watch n q) h = watch_comes n q (rules.watch_refusal ws n q) (none_so ws n q)
+
+    all_come : (docs : List Doc) (ws : W) (rs : List Reading) → AllByRecursion IsNotFull rs → AllByRecursion IsNotFull (come_behind rules docs ws rs)
+    unfolding come_behind
+    all_come docs ws [] h = tt
+    all_come docs ws (r ∷ rs) h =
+        (one_comes docs ws r h.0, all_come (docs ++ documents_in (comes rules docs ws r)) (watches_after rules ws (comes rules docs ws r)) rs h.1)
+
+    none_full : (lines : List Line) (rs : List Reading) → AreRead other rules lines rs → AllByRecursion IsNotFull rs
+    none_full lines rs read =
+        subst (AllByRecursion IsNotFull) (sym read.2) (all_come rules.start rules.watches read.0 (raw_none rules.fields lines read.0 read.1))
+
+-- ---- with watches, or without them
+
+sets : (taken full : Bool) → (if taken then Some WatchTaken else (if full then Some WatchesFull else None)) ≡ Some Full → ⊥
+sets true full e = (cc e)
+sets false true e = (cc e)
+sets false false e = (cc e)
+
+removes : (there : Bool) → (if there then None else Some NoWatch) ≡ Some Full → ⊥
+removes true e = (cc e)
+removes false e = (cc e)
+
+watch_none : (ws : List Watched) (n : ℕ) (q : Option Tree) → watch_refusal ws n q ≡ Some Full → ⊥
+watch_none ws n None e = removes (is_set ws n) e
+watch_none ws n (Some q) e = sets (is_set ws n) (length ws == 10000) e
+
+pub never_full : NeverFull
+never_full names c lines rs read = go c.watch read
+  where
+    go : (b : Bool) → AreFed b (rules_of names c) lines rs → AllByRecursion (λ r. r ≡ refused Full → ⊥) rs
+    go true read = none_full ReadsOther of_other (with_watches (rules_of names c)) (λ docs d. refl) watch_none lines rs read
+    go false read = none_full is_bad of_bad (rules_of names c) (λ docs d. refl) (λ ws n q e. (cc e)) lines rs read

@@ -1,27 +1,77 @@
 -- What a feed prints for the bytes of an input.
-use Rattle.std.specs.Prelude.{ℕ, List, [], length, Option, None}
-use Rattle.eb_answer.specs.Rules.{Rules, plain_rules, is_bad, IsBody, IsText, HasRefusal, HasNoRefusal}
+use Rattle.std.specs.Prelude.{ℕ, Bool, true, false, List, [], length, Option, None, if◌then◌else◌}
+use Rattle.eb_answer.specs.Rules.{Rules, plain_rules, is_bad, AreRead, IsBody, IsText, HasRefusal, HasNoRefusal}
+use Rattle.eb_base.specs.Document.{Doc}
 use Rattle.eb_base.specs.Setting.{Setting}
-use Rattle.eb_feed.specs.Generations.{kept}
-use Rattle.eb_io.specs.Lines.{lines_of}
+use Rattle.eb_feed.specs.Generations.{generations, kept, kept_segments}
+use Rattle.eb_io.specs.Lines.{Line, lines_of}
 use Rattle.eb_lines.specs.declared.form.Form.{Form}
-use Rattle.eb_lines.specs.declared.form.Tail.TheVariants.{Kept}
+use Rattle.eb_lines.specs.declared.form.Tail.{Tail}
+use Rattle.eb_lines.specs.declared.form.Tail.TheVariants.{Kept, Generations}
 use Rattle.eb_lines.specs.declared.status.Status.{Status}
 use Rattle.eb_lines.specs.Outcomes as outcomes
+use Rattle.eb_lines.specs.Passing as passing
+use Rattle.eb_lines.specs.Reading.{Reading}
+use Rattle.eb_run.specs.declared.feed.command.FeedCommand.{FeedCommand}
+use Rattle.eb_watching.specs.Others.{ReadsOther}
+use Rattle.eb_watching.specs.WatchRules.{with_watches}
 
--- a feed that keeps so many generations of an index of this setting, where lines are read by the names of the fields, refuses no document, answers over what it keeps, and
--- tells at last how many documents that are
+-- what is told at last: how many documents are kept, and where the form says so the segments of the generations that keep them, of
+-- which none is converted, and how many generations were begun
+abbrev pub feed_tail : Setting → ℕ → Form → List Doc → Tail
+feed_tail σ keep form docs =
+    if form.stats then Generations (length (kept σ keep docs)) (kept_segments σ keep docs) 0 (length (generations σ docs)) else Kept (length (kept σ keep docs))
+
+-- a feed that keeps so many generations of an index of this setting, where lines are read by the names of the fields, refuses no document, and answers over what it
+-- keeps
 abbrev pub feed_rules : List (List ℕ) → Setting → ℕ → Form → Rules (Unit {0})
-feed_rules names σ keep form = plain_rules names [] (λ docs d. None) (kept σ keep) form (λ docs. Kept (length (kept σ keep docs)))
+feed_rules names σ keep form = plain_rules names [] (λ docs d. None) (kept σ keep) form (feed_tail σ keep form)
+
+-- ---- with watches, or without them
+
+-- the lines are read one by one, and come to these
+abbrev pub AreFed : Bool → Rules (Unit {0}) → List Line → List Reading → Type 0
+AreFed true rules = AreRead ReadsOther (with_watches rules)
+AreFed false rules = AreRead is_bad rules
+
+-- what these lines print; their whole text
+abbrev pub IsBodyFed : Bool → Rules (Unit {0}) → List Line → List ℕ → Type 0
+IsBodyFed true rules = IsBody ReadsOther (with_watches rules)
+IsBodyFed false rules = IsBody is_bad rules
+
+abbrev pub IsTextFed : Bool → Rules (Unit {0}) → List Line → List ℕ → Type 0
+IsTextFed true rules = IsText ReadsOther (with_watches rules)
+IsTextFed false rules = IsText is_bad rules
+
+-- some line is refused; none is
+abbrev pub HasRefusalFed : Bool → Rules (Unit {0}) → List Line → Type 0
+HasRefusalFed true rules = HasRefusal ReadsOther (with_watches rules)
+HasRefusalFed false rules = HasRefusal is_bad rules
+
+abbrev pub HasNoRefusalFed : Bool → Rules (Unit {0}) → List Line → Type 0
+HasNoRefusalFed true rules = HasNoRefusal ReadsOther (with_watches rules)
+HasNoRefusalFed false rules = HasNoRefusal is_bad rules
+
+-- ---- of what the words ask for
+
+-- the rules beside watches, where lines are read by the names of the fields
+abbrev pub rules_of : List (List ℕ) → FeedCommand → Rules (Unit {0})
+rules_of names c = feed_rules names c.config c.keep c.form
 
 -- the text of an input of these bytes
-abbrev pub IsFeedOutput : List (List ℕ) → Setting → ℕ → Form → List ℕ → List ℕ → Type 0
-IsFeedOutput names σ keep form bytes printed = IsText is_bad (feed_rules names σ keep form) (lines_of bytes) printed
+abbrev pub IsFeedOutput : List (List ℕ) → FeedCommand → List ℕ → List ℕ → Type 0
+IsFeedOutput names c bytes printed = IsTextFed c.watch (rules_of names c) (lines_of bytes) printed
+
+-- how a feed ends so of an input, by what was left and taken before and after
+abbrev pub EndsFeed : List (List ℕ) → FeedCommand → Status → Option (List ℕ) → Option (List ℕ) → Option (List ℕ) → Option (List ℕ) → Type 0
+EndsFeed names c =
+    let rules = rules_of names c in passing.Ends (IsBodyFed c.watch rules) (IsTextFed c.watch rules) (HasRefusalFed c.watch rules) (HasNoRefusalFed c.watch rules)
 
 -- what a feed that ends so has printed, of an input of these bytes of which this is left
-abbrev pub WroteFeed : List (List ℕ) → Setting → ℕ → Form → Status → List ℕ → Option (List ℕ) → List ℕ → Type 0
-WroteFeed names σ keep form = let rules = feed_rules names σ keep form in outcomes.Wrote (IsBody is_bad rules) (IsText is_bad rules) (HasRefusal is_bad rules) (HasNoRefusal is_bad rules)
+abbrev pub WroteFeed : List (List ℕ) → FeedCommand → Status → List ℕ → Option (List ℕ) → List ℕ → Type 0
+WroteFeed names c =
+    let rules = rules_of names c in outcomes.Wrote (IsBodyFed c.watch rules) (IsTextFed c.watch rules) (HasRefusalFed c.watch rules) (HasNoRefusalFed c.watch rules)
 
 -- what a status says of an input of these bytes of which this is left, whatever became of the output
-abbrev pub FeedMeans : List (List ℕ) → Setting → ℕ → Form → Status → List ℕ → Option (List ℕ) → Type 0
-FeedMeans names σ keep form = let rules = feed_rules names σ keep form in outcomes.Means (HasRefusal is_bad rules) (HasNoRefusal is_bad rules)
+abbrev pub FeedMeans : List (List ℕ) → FeedCommand → Status → List ℕ → Option (List ℕ) → Type 0
+FeedMeans names c = let rules = rules_of names c in outcomes.Means (HasRefusalFed c.watch rules) (HasNoRefusalFed c.watch rules)

@@ -15,7 +15,7 @@ status_line status = line_of usage status
 
 -- how the program is called for a feed, and the line of its status
 abbrev pub feed_usage : List ℕ
-feed_usage = codes "earlybird: usage: feed [--keep N] [--fields LIST] [--json] [--segments N] [--docs N] [--terms N]\n"
+feed_usage = codes "earlybird: usage: feed [--keep N] [--watch] [--fields LIST] [--stats] [--json] [--segments N] [--docs N] [--terms N]\n"
 
 abbrev pub feed_status_line : Status → List ℕ
 feed_status_line status = line_of feed_usage status

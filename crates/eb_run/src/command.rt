@@ -5,7 +5,7 @@ ghost use Rattle.eb_options.specs.Settings.{setting_options};
 ghost use Rattle.eb_run.specs.Requests.{request_view};
 
 mod bench;
-mod form;
+pub(crate) mod form;
 mod images;
 mod lines;
 

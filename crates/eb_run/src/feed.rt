@@ -2,13 +2,10 @@ ghost use Rattle.std.specs.Prelude.{◌≡◌, ◌⊎◌, ◌<◌, ◌≤◌, �
 ghost use Rattle.eb_fields.specs.Fields.{names};
 ghost use Rattle.eb_io.specs.Faults.{HasRisen};
 ghost use Rattle.eb_io.specs.Lines.{longest_input};
-ghost use Rattle.eb_base.specs.Setting.{Setting};
 ghost use Rattle.eb_lines.specs.Outcomes.{IsWorkedOff};
-ghost use Rattle.eb_lines.specs.Passing.{Ends};
 ghost use Rattle.eb_run.specs.FeedCommand.{feed_asked_of, AsksFeed};
 ghost use Rattle.eb_run.specs.StatusLine.{feed_status_line};
-ghost use Rattle.eb_answer.specs.Rules.{Rules, is_bad, IsBody, IsText, HasRefusal, HasNoRefusal};
-ghost use Rattle.eb_run.specs.FeedOutput.{feed_rules, WroteFeed, FeedMeans};
+ghost use Rattle.eb_run.specs.FeedOutput.{EndsFeed, WroteFeed, FeedMeans};
 
 mod command;
 mod fed;
@@ -17,17 +14,18 @@ use crate::command::CommandFault;
 use crate::usage::FEED_USAGE;
 pub use command::{FeedCommand, FeedRequest, read_feed_command};
 use eb_answer::answer_lines;
-use eb_base::{Config, Gate};
+use eb_base::Gate;
 use eb_fields::Fields;
 use eb_io::{Sink, Source, write_all};
-use eb_lines::{Form, Status};
+use eb_lines::Status;
+use eb_watching::answer_watched;
 use fed::Fed;
 use std::alloc::Global;
 
 /// Runs the feed that the words ask for, which are without the program's name and the word `feed`: reads document lines
-/// and query lines from the source and prints answers and refusals on `out`. Each document is taken; the oldest go. What is
-/// printed goes out in one write before the source is asked again, or once 64 KiB are gathered. What the status has to say
-/// goes to `err`; a fault there changes no status.
+/// and query lines, and with `--watch` lines that set watches, from the source, and prints answers, what watches are told
+/// and refusals on `out`. Each document is taken; the oldest go. What is printed goes out in one write before the source is
+/// asked again, or once 64 KiB are gathered. What the status has to say goes to `err`; a fault there changes no status.
 pub fn run_feed<S, K, E, G>(
     alloc: Global,
     words: &[String],
@@ -47,17 +45,17 @@ where
     ensures unread { feed_asked_of (map string_bytes words.now) ≡ None → (source.new ≡ source.old) × (out.new ≡ out.old) }
     // Where the words ask for a feed, and source and `out` tell their bytes, the run printed the text of the input as the
     // status says.
-    ensures output { (fields : List (List ℕ)) (keep : ℕ) (form : Form) (σ : Setting) → AsksFeed (map string_bytes words.now) fields keep form σ
+    ensures output { (fields : List (List ℕ)) (c : FeedCommand) → AsksFeed (map string_bytes words.now) fields c
         → (bytes before : List ℕ) → S.left source.old ≡ Some bytes → K.taken out.old ≡ Some before
-        → (printed : List ℕ) × (K.taken out.new ≡ Some (before ++ printed)) × WroteFeed fields σ keep form result bytes (S.left source.new) printed }
+        → (printed : List ℕ) × (K.taken out.new ≡ Some (before ++ printed)) × WroteFeed fields c result bytes (S.left source.new) printed }
     // What the status says of the input holds whatever becomes of the output.
-    ensures means { (fields : List (List ℕ)) (keep : ℕ) (form : Form) (σ : Setting) → AsksFeed (map string_bytes words.now) fields keep form σ
-        → (bytes : List ℕ) → S.left source.old ≡ Some bytes → FeedMeans fields σ keep form result bytes (S.left source.new) }
+    ensures means { (fields : List (List ℕ)) (c : FeedCommand) → AsksFeed (map string_bytes words.now) fields c
+        → (bytes : List ℕ) → S.left source.old ≡ Some bytes → FeedMeans fields c result bytes (S.left source.new) }
     // Faults come only from outside.
     ensures read_fault { result ≡ Status.ReadFault → HasRisen (S.faults source.old) (S.faults source.new) }
     ensures write_fault { result ≡ Status.WriteFault → HasRisen (K.faults out.old) (K.faults out.new) }
     // Without a fault and with an end in time, the input is processed.
-    ensures completes { (fields : List (List ℕ)) (keep : ℕ) (form : Form) (σ : Setting) → AsksFeed (map string_bytes words.now) fields keep form σ
+    ensures completes { (fields : List (List ℕ)) (c : FeedCommand) → AsksFeed (map string_bytes words.now) fields c
         → (HasRisen (S.faults source.old) (S.faults source.new) → ⊥) → (HasRisen (K.faults out.old) (K.faults out.new) → ⊥)
         → (bytes : List ℕ) → S.left source.old ≡ Some bytes → length bytes < longest_input → IsWorkedOff result }
     // `err` took the line of the status, unless it failed.
@@ -79,10 +77,8 @@ fn run_words<S: Source, K: Sink, G: Gate>(
     ensures usage { result ≡ Status.Usage → feed_asked_of (map string_bytes words.now) ≡ None }
     ensures no_command { feed_asked_of (map string_bytes words.now) ≡ None → (result ≡ Status.Usage) ⊎ (result ≡ Status.NoMemory) }
     ensures unread { feed_asked_of (map string_bytes words.now) ≡ None → (source.new ≡ source.old) × (out.new ≡ out.old) }
-    ensures ends { (fields : List (List ℕ)) (keep : ℕ) (form : Form) (σ : Setting) → AsksFeed (map string_bytes words.now) fields keep form σ
-        → let rules = feed_rules fields σ keep form in
-        Ends (IsBody is_bad rules) (IsText is_bad rules) (HasRefusal is_bad rules) (HasNoRefusal is_bad rules)
-        result (S.left source.old) (S.left source.new) (K.taken out.old) (K.taken out.new) }
+    ensures ends { (fields : List (List ℕ)) (c : FeedCommand) → AsksFeed (map string_bytes words.now) fields c
+        → EndsFeed fields c result (S.left source.old) (S.left source.new) (K.taken out.old) (K.taken out.new) }
     ensures read_fault { result ≡ Status.ReadFault → HasRisen (S.faults source.old) (S.faults source.new) }
     ensures write_fault { result ≡ Status.WriteFault → HasRisen (K.faults out.old) (K.faults out.new) }
 {
@@ -91,30 +87,34 @@ fn run_words<S: Source, K: Sink, G: Gate>(
         Err(CommandFault::Usage) => return Status::Usage,
         Err(CommandFault::NoMemory) => return Status::NoMemory,
     };
-    let FeedCommand { keep, form, config } = request.command;
-    run_lines(alloc, keep, request.fields, form, config, source, out, gate)
+    run_lines(alloc, request.fields, request.command, source, out, gate)
 }
 
 // Processes an input over a feed.
 fn run_lines<S: Source, K: Sink, G: Gate>(
     alloc: Global,
-    keep: u32,
     fields: Fields<'_>,
-    form: Form,
-    config: Config,
+    command: FeedCommand,
     source: &mut S,
     out: &mut K,
     gate: &G,
 ) -> Status
-    requires { (2 ≤ keep) × (keep ≤ 64) }
-    ensures ends { let rules = feed_rules (names fields.entry) config keep form in
-        Ends (IsBody is_bad rules) (IsText is_bad rules) (HasRefusal is_bad rules) (HasNoRefusal is_bad rules) result
-        (S.left source.old) (S.left source.new) (K.taken out.old) (K.taken out.new) }
+    requires { (2 ≤ command.keep) × (command.keep ≤ 64) }
+    ensures ends { EndsFeed (names fields.entry) command result (S.left source.old) (S.left source.new) (K.taken out.old) (K.taken out.new) }
     ensures read_fault { result ≡ Status.ReadFault → HasRisen (S.faults source.old) (S.faults source.new) }
     ensures write_fault { result ≡ Status.WriteFault → HasRisen (K.faults out.old) (K.faults out.new) }
 {
+    let FeedCommand {
+        keep,
+        watch,
+        form,
+        config,
+    } = command;
     let Ok(fed) = Fed::new(alloc, keep, form, config) else {
         return Status::NoMemory;
     };
+    if watch {
+        return answer_watched(alloc, fed, fields, source, out, gate);
+    }
     answer_lines(alloc, fed, fields, source, out, gate)
 }

@@ -29,7 +29,7 @@ pub fn feed_one_text()
     ensures { OneFeedText }
 {}
 
-/// A feed refuses no line as full. The call does nothing.
+/// A feed refuses no line as full, with watches or without them. The call does nothing.
 pub fn feed_never_full()
     ensures { NeverFull }
 {}

@@ -6,4 +6,4 @@ pub const USAGE: &[u8] =
 
 /// How it is called for a feed.
 pub const FEED_USAGE: &[u8] =
-    b"earlybird: usage: feed [--keep N] [--fields LIST] [--json] [--segments N] [--docs N] [--terms N]\n";
+    b"earlybird: usage: feed [--keep N] [--watch] [--fields LIST] [--stats] [--json] [--segments N] [--docs N] [--terms N]\n";

@@ -1,6 +1,6 @@
 -- How a line that begins with an exclamation mark is read, and one that doesn't.
-use Rattle.std.proofs.Common.{◌≡◌, ℕ, Bool, false, List, [], ◌∷◌, Option, Some, None, refl, sym, ap, subst, eqb→eq, ◌∙◌}
-use Rattle.std.specs.Prelude.{T, ◌==◌, slice_get, IsUtf8, option_map}
+use Rattle.std.proofs.Common.{◌≡◌, ℕ, Bool, true, false, List, [], ◌∷◌, Option, Some, None, refl, sym, ap, subst, eqb→eq, ◌∙◌}
+use Rattle.std.specs.Prelude.{T, ◌==◌, slice_get, IsUtf8}
 use Rattle.std.specs.Str.{is_utf8}
 use Rattle.std.proofs.lemmas.Bool.{false_from_ne_true}
 use Rattle.std.proofs.lemmas.Str.{IsUtf8-from_is_utf8, is_utf8-from_IsUtf8}
@@ -11,6 +11,8 @@ use Rattle.eb_lines.specs.Reading.{Reading, refused, watch}
 use Rattle.eb_lines.specs.Reads.{of_query}
 use Rattle.eb_lines.specs.Works.{refusal_of}
 use Rattle.eb_lines.proofs.Refused.{refused_as}
+use Rattle.eb_query.proofs.OneOutcome.{one_watch_outcome}
+use Rattle.eb_query.proofs.SomeOutcome.{some_watch_outcome}
 use Rattle.eb_query.specs.Reading.{Outcome, asks, bad_number, bad_query, too_deep, too_many_nodes}
 use Rattle.eb_query.specs.Refusal.{IsWatchRefusedWith}
 use Rattle.eb_query.specs.WatchLine.{WatchOutcome, ReadsWatchWith, watch_asked}
@@ -31,7 +33,8 @@ asked_is : (n : ℕ) (q : Option Tree) → of_watch_line (watch_asked n q) ≡ w
 asked_is n None = refl
 asked_is n (Some t) = refl
 
-pub reads_asked : (names : List (List ℕ)) (bytes : List ℕ) (n : ℕ) (q : Option Tree) → slice_get bytes 0 ≡ Some 33 → IsUtf8 bytes → ReadsWatchWith names bytes (watch_asked n q) → ReadsOther names bytes (watch n q)
+pub reads_asked : (names : List (List ℕ)) (bytes : List ℕ) (n : ℕ) (q : Option Tree) → slice_get bytes 0 ≡ Some 33 → IsUtf8 bytes → ReadsWatchWith names bytes (watch_asked n q)
+    → ReadsOther names bytes (watch n q)
 reads_asked names bytes n q e utf8 reads = subst (ReadsOther names bytes) (asked_is n q) (reads_text names bytes (watch_asked n q) e utf8 reads)
 
 -- a refused query text refuses its watch line
@@ -61,3 +64,19 @@ reads_unmarked names (b ∷ bs) unmarked =
     let other : (b == 33) ≡ false = false_from_ne_true _ (λ h. unmarked (ap Some (eqb→eq b 33 (subst T (sym h) tt)))) in
     let none : is_watch_line (b ∷ bs) ≡ false = rw other refl in
     subst (λ (t : Bool). ReadsOtherBy names t (b ∷ bs) (refused BadLine)) (sym none) refl
+
+-- ---- each line has exactly one reading
+
+one_by : (names : List (List ℕ)) (t : Bool) (bytes : List ℕ) (a b : Reading) → ReadsOtherBy names t bytes a → ReadsOtherBy names t bytes b → a ≡ b
+one_by names true bytes a b e f = e.2 ∙ ap of_watch_line (one_watch_outcome names bytes e.0 f.0 e.1 f.1) ∙ sym f.2
+one_by names false bytes a b e f = e ∙ sym f
+
+pub one_other : (names : List (List ℕ)) (bytes : List ℕ) (a b : Reading) → ReadsOther names bytes a → ReadsOther names bytes b → a ≡ b
+one_other names bytes a b e f = one_by names (is_watch_line bytes) bytes a b e f
+
+some_by : (names : List (List ℕ)) (t : Bool) (bytes : List ℕ) → (r : Reading) × ReadsOtherBy names t bytes r
+some_by names true bytes = let o = some_watch_outcome names bytes in (of_watch_line o.0, (o.0, o.1, refl))
+some_by names false bytes = (refused BadLine, refl)
+
+pub some_other : (names : List (List ℕ)) (bytes : List ℕ) → (r : Reading) × ReadsOther names bytes r
+some_other names bytes = some_by names (is_watch_line bytes) bytes

@@ -1,78 +1,109 @@
 -- A watch line is taken.
-use Rattle.std.proofs.Common.{◌≡◌, ℕ, Bool, true, false, List, [], ◌∷◌, ◌++◌, length, append-nil, Option, Some, None, refl, sym, ap, ap₂, subst, ◌∙◌, eqb→eq}
-use Rattle.std.specs.Prelude.{T, ◌==◌, Result, Ok, Err, if◌then◌else◌}
+use Rattle.std.proofs.Common.{◌≡◌, ℕ, ◌+◌, ◌≤◌, ◌^◌, ◌++◌, Bool, true, false, List, length, Option, Some, None, refl, sym, ap, ap₂, subst, ◌∙◌, eqb→eq}
+use Rattle.std.specs.Prelude.{T, ◌==◌, Result, Ok, Err, IfOk, OnOk, OnErr, if◌then◌else◌}
 use Rattle.std.proofs.lemmas.Bool.{false_from_ne_true}
 use Rattle.eb_answer.specs.Rules.{Rules, watch_outcome, watches_after}
-use Rattle.eb_answer.specs.Stores.{IsOutcome, TakesOther}
+use Rattle.eb_answer.specs.Stores.{IsHolding, IsOutcome, Places, PutsAnswer, TakesOther}
 use Rattle.eb_base.specs.Document.{Doc}
+use Rattle.eb_base.specs.Match.{answer}
 use Rattle.eb_base.specs.Query.{Tree}
-use Rattle.eb_indexed.specs.Indexed.{Holds, WithPlaced}
-use Rattle.eb_indexed.specs.declared.indexed.Indexed.{Indexed}
+use Rattle.eb_lines.specs.declared.form.Tail.{Tail}
 use Rattle.eb_lines.specs.declared.refusal.Refusal.{Refusal}
-use Rattle.eb_lines.specs.declared.refusal.Refusal.TheVariants.{Full, NoWatch, WatchTaken, WatchesFull}
+use Rattle.eb_lines.specs.declared.refusal.Refusal.TheVariants.{NoWatch, WatchTaken, WatchesFull}
 use Rattle.eb_lines.specs.Reading.{watch}
+use Rattle.eb_lines.specs.Text.{answer_line}
 use Rattle.eb_watch.specs.Seen.{watches_of}
+use Rattle.eb_watch.specs.declared.watches.Watches.{Watches}
 use Rattle.eb_watch.specs.Watches.{Watched, is_set}
-use Rattle.eb_watching.specs.declared.watched.WatchedIndex.{WatchedIndex}
+use Rattle.eb_watching.specs.declared.watched.Watching.{Watching}
 use Rattle.eb_watching.specs.Watched.{IsWatched}
-use Rattle.eb_watching.specs.WatchRules.{watch_rules, watch_refusal, watches_then}
+use Rattle.eb_watching.specs.WatchRules.{watch_refusal, watches_then}
 
 -- the watches after a watch line that comes to this
 abbrev pub behind : List Watched → ℕ → Option Tree → Option Refusal → List Watched
 behind ws n q None = watches_then ws n q
 behind ws n q (Some r) = ws
 
-module _ (old new : WatchedIndex) (same : new.indexed ≡ old.indexed) where
-  pub on : (rules : Rules (List Watched)) (docs : List Doc) (ws vs : List Watched) → IsWatched old rules docs ws → watches_of new.watches ≡ vs → IsWatched new rules docs vs
-  on rules docs ws vs h set = record {
-    fields = h.fields;
-    setting = h.setting;
-    by_rules = h.by_rules ∙ ap (λ (i : Indexed). watch_rules h.fields h.setting i.form) (sym same);
-    holds = subst (λ (i : Indexed). Holds i h.setting docs) (sym same) h.holds;
-    set = set;
+module _ {S W : Type 0} (holds : S → Rules W → List Doc → W → Type 0) where
+  -- ---- what the store itself holds
+
+  pub few_plain : (s : Watching S) (rules : Rules (List Watched)) (docs : List Doc) (ws : List Watched) (h : IsWatched holds s rules docs ws) → length docs ≤ length rules.start + 2 ^ 41
+      → length docs ≤ length h.plain.start + 2 ^ 41
+  few_plain s rules docs ws h few = subst (λ (r : Rules (List Watched)). length docs ≤ length r.start + 2 ^ 41) h.by_rules few
+
+  pub holding : (s : Watching S) → IsHolding (IsWatched holds) s → IsHolding holds s.store
+  holding s h = record {
+    rules = h.is.plain;
+    docs = h.docs;
+    watches = h.is.beside;
+    is = h.is.held;
+    few = few_plain s h.rules h.docs h.watches h.is h.few;
   }
 
-  pub keeps : watches_of new.watches ≡ watches_of old.watches → (rules : Rules (List Watched)) (docs : List Doc) (ws : List Watched) → IsWatched old rules docs ws → IsWatched new rules docs ws
-  keeps watches rules docs ws h = on rules docs ws ws h (watches ∙ h.set)
+  module _ (old new : Watching S) (same : watches_of new.watches ≡ watches_of old.watches) where
+    pub places : (d : Doc) (x : Option Refusal) → Places holds old.store new.store d x → Places (IsWatched holds) old new d x
+    places d x p = λ rules docs ws h.
+        let placed = p h.plain docs h.beside h.held in (
+          placed.0 ∙ sym (ap (λ (r : Rules (List Watched)). r.refusal docs d) h.by_rules),
+          record { plain = h.plain; beside = h.beside; by_rules = h.by_rules; held = placed.1; set = same ∙ h.set },
+        )
 
-  pub takes_watch : (n : ℕ) (q : Option Tree) (x : Option Refusal) → watch_refusal (watches_of old.watches) n q ≡ x → watches_of new.watches ≡ behind (watches_of old.watches) n q x
-      → TakesOther IsWatched old new (watch n q) x
-  takes_watch n q x is after = λ rules docs ws h.
-      let r : rules.watch_refusal ws n q ≡ x =
-      ap (λ (u : Rules (List Watched)). u.watch_refusal ws n q) h.by_rules ∙ ap (λ vs. watch_refusal vs n q) (sym h.set) ∙ is in
-      subst (λ (o : Option Refusal). IsOutcome (watch_outcome n q o) x × IsWatched new rules docs (watches_after rules ws (watch_outcome n q o))) (sym r) (by_outcome x after rules docs ws h)
-    where
-      by_outcome : (x : Option Refusal) → watches_of new.watches ≡ behind (watches_of old.watches) n q x → (rules : Rules (List Watched)) (docs : List Doc) (ws : List Watched)
-          → IsWatched old rules docs ws → IsOutcome (watch_outcome n q x) x × IsWatched new rules docs (watches_after rules ws (watch_outcome n q x))
-      by_outcome None after rules docs ws h = (
-        tt,
-        on rules docs ws (rules.with_watch ws n q) h
-            (after ∙ ap (λ vs. watches_then vs n q) h.set ∙ ap (λ (u : Rules (List Watched)). u.with_watch ws n q) (sym h.by_rules)),
-      )
-      by_outcome (Some r) after rules docs ws h = (refl, on rules docs ws ws h (after ∙ h.set))
+    pub answers : (number k : ℕ) (q : Tree) (t0 t1 : List ℕ) → PutsAnswer holds old.store new.store number k q t0 t1 → PutsAnswer (IsWatched holds) old new number k q t0 t1
+    answers number k q t0 t1 p = λ rules docs ws h few.
+        let put = p h.plain docs h.beside h.held (few_plain old rules docs ws h few) in (
+          record { plain = h.plain; beside = h.beside; by_rules = h.by_rules; held = put.0; set = same ∙ h.set },
+          subst (λ (r : Rules (List Watched)). t1 ≡ t0 ++ answer_line r.form number (length docs) (answer q k (r.sees docs))) (sym h.by_rules) put.1,
+        )
 
--- ---- a document is placed, or there is no room for it
+  pub closes : {E : Type 0} (s : Watching S) (r : Result Tail E) → IfOk r (λ tail. (rules : Rules W) (docs : List Doc) (ws : W) → holds s.store rules docs ws → tail ≡ rules.tail docs)
+      → IfOk r (λ tail. (rules : Rules (List Watched)) (docs : List Doc) (ws : List Watched) → IsWatched holds s rules docs ws → tail ≡ rules.tail docs)
+  closes s (Ok tail) told = λ rules docs ws h. told h.plain docs h.beside h.held ∙ sym (ap (λ (r : Rules (List Watched)). r.tail docs) h.by_rules)
+  closes s (Err e) told = tt
 
-module _ (old new : WatchedIndex) (rules : Rules (List Watched)) (docs : List Doc) (ws : List Watched) (d : Doc) (h : IsWatched old rules docs ws) where
-  pub places_one : WithPlaced new.indexed h.setting docs d true → new.indexed.form ≡ old.indexed.form → watches_of new.watches ≡ ws
-      → (None ≡ rules.refusal docs d) × IsWatched new rules (docs ++ d ∷ []) ws
-  places_one placed form set = (
-    sym (ap (λ (r : Rules (List Watched)). r.refusal docs d) h.by_rules ∙ ap (λ b. if b then None else Some Full) placed.0),
-    record { fields = h.fields; setting = h.setting; by_rules = h.by_rules ∙ ap (watch_rules h.fields h.setting) (sym form); holds = placed.1; set = set },
-  )
+  -- ---- a watch line
 
-  pub places_none : WithPlaced new.indexed h.setting docs d false → new.indexed.form ≡ old.indexed.form → watches_of new.watches ≡ ws
-      → (Some Full ≡ rules.refusal docs d) × IsWatched new rules (docs ++ []) ws
-  places_none placed form set = (
-    sym (ap (λ (r : Rules (List Watched)). r.refusal docs d) h.by_rules ∙ ap (λ b. if b then None else Some Full) placed.0),
-    record {
-      fields = h.fields;
-      setting = h.setting;
-      by_rules = h.by_rules ∙ ap (watch_rules h.fields h.setting) (sym form);
-      holds = subst (Holds new.indexed h.setting) (sym (append-nil docs)) placed.1;
+  module _ (old new : Watching S) (same : new.store ≡ old.store) where
+    pub on : (rules : Rules (List Watched)) (docs : List Doc) (ws vs : List Watched) → IsWatched holds old rules docs ws → watches_of new.watches ≡ vs → IsWatched holds new rules docs vs
+    on rules docs ws vs h set = record {
+      plain = h.plain;
+      beside = h.beside;
+      by_rules = h.by_rules;
+      held = subst (λ (s : S). holds s h.plain docs h.beside) (sym same) h.held;
       set = set;
-    },
-  )
+    }
+
+    pub keeps : watches_of new.watches ≡ watches_of old.watches → (rules : Rules (List Watched)) (docs : List Doc) (ws : List Watched) → IsWatched holds old rules docs ws
+        → IsWatched holds new rules docs ws
+    keeps watches rules docs ws h = on rules docs ws ws h (watches ∙ h.set)
+
+    pub takes_watch : (n : ℕ) (q : Option Tree) (x : Option Refusal) → watch_refusal (watches_of old.watches) n q ≡ x → watches_of new.watches ≡ behind (watches_of old.watches) n q x
+        → TakesOther (IsWatched holds) old new (watch n q) x
+    takes_watch n q x is after = λ rules docs ws h.
+        let r : rules.watch_refusal ws n q ≡ x =
+        ap (λ (u : Rules (List Watched)). u.watch_refusal ws n q) h.by_rules ∙ ap (λ vs. watch_refusal vs n q) (sym h.set) ∙ is in
+        subst (λ (o : Option Refusal). IsOutcome (watch_outcome n q o) x × IsWatched holds new rules docs (watches_after rules ws (watch_outcome n q o))) (sym r) (by_outcome x after rules docs ws h)
+      where
+        by_outcome : (x : Option Refusal) → watches_of new.watches ≡ behind (watches_of old.watches) n q x → (rules : Rules (List Watched)) (docs : List Doc) (ws : List Watched)
+            → IsWatched holds old rules docs ws → IsOutcome (watch_outcome n q x) x × IsWatched holds new rules docs (watches_after rules ws (watch_outcome n q x))
+        by_outcome None after rules docs ws h = (
+          tt,
+          on rules docs ws (rules.with_watch ws n q) h
+              (after ∙ ap (λ vs. watches_then vs n q) h.set ∙ ap (λ (u : Rules (List Watched)). u.with_watch ws n q) (sym h.by_rules)),
+        )
+        by_outcome (Some r) after rules docs ws h = (refl, on rules docs ws ws h (after ∙ h.set))
+
+-- ---- what a result says
+
+pub on_ok : {V E A B : Type 0} (r : Result V E) → (A → B) → OnOk r A → OnOk r B
+on_ok (Ok v) f h = f h
+on_ok (Err e) f h = tt
+
+pub on_err : {V E A B : Type 0} (r : Result V E) → (A → B) → OnErr r A → OnErr r B
+on_err (Ok v) f h = tt
+on_err (Err e) f h = f h
+
+pub same_store : {S : Type 0} (old new : Watching S) (t0 t1 : List ℕ) → new.watches ≡ old.watches → (new.store ≡ old.store) × (t1 ≡ t0) → (new ≡ old) × (t1 ≡ t0)
+same_store {S = S} old new t0 t1 same h = (ap₂ (λ (s : S) (w : Watches). let x : Watching S = record { store = s; watches = w } in x) h.0 same, h.1)
 
 -- ---- why a watch isn't set or removed
 

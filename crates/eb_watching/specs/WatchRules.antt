@@ -1,9 +1,9 @@
--- The rules of an index whose documents tell watches.
+-- The rules of a store whose documents tell watches.
 use Rattle.std.specs.Prelude.{ℕ, ◌==◌, List, [], length, Option, Some, None, if◌then◌else◌}
 use Rattle.eb_answer.specs.Rules.{Rules, IsBody, IsText, HasRefusal, HasNoRefusal}
 use Rattle.eb_base.specs.Query.{Tree}
 use Rattle.eb_base.specs.Setting.{Setting}
-use Rattle.eb_indexed.specs.IndexRules.{refusal_in, index_tail}
+use Rattle.eb_indexed.specs.IndexRules.{index_rules}
 use Rattle.eb_lines.specs.declared.form.Form.{Form}
 use Rattle.eb_lines.specs.declared.refusal.Refusal.{Refusal}
 use Rattle.eb_lines.specs.declared.refusal.Refusal.TheVariants.{NoWatch, WatchTaken, WatchesFull}
@@ -21,21 +21,24 @@ abbrev pub watches_then : List Watched → ℕ → Option Tree → List Watched
 watches_then ws n (Some q) = with_watch ws n q
 watches_then ws n None = without_watch ws n
 
--- an index of this setting, where lines are read by the names of the fields, without documents or watches at first: a document tells the watches that it matches, and a query sees
--- all documents
-abbrev pub watch_rules : List (List ℕ) → Setting → Form → Rules (List Watched)
-watch_rules names σ form = record {
-  fields = names;
-  start = [];
+-- the rules of a store, and watches, of which none is set at first: a document tells those that it matches, and all else is as without them
+abbrev pub with_watches : {W : Type 0} → Rules W → Rules (List Watched)
+with_watches rules = record {
+  fields = rules.fields;
+  start = rules.start;
   watches = [];
-  refusal = refusal_in σ;
+  refusal = rules.refusal;
   tells = λ ws d. numbers_of (matching ws d);
-  sees = λ docs. docs;
+  sees = rules.sees;
   watch_refusal = watch_refusal;
   with_watch = watches_then;
-  form = form;
-  tail = index_tail σ form;
+  form = rules.form;
+  tail = rules.tail;
 }
+
+-- an index of this setting, where lines are read by the names of the fields, without documents or watches at first
+abbrev pub watch_rules : List (List ℕ) → Setting → Form → Rules (List Watched)
+watch_rules names σ form = with_watches (index_rules names σ form [])
 
 -- what a run with watches that ends so has written, of an input of these bytes of which this is left
 abbrev pub WroteWatches : Rules (List Watched) → Status → List ℕ → Option (List ℕ) → List ℕ → Type 0

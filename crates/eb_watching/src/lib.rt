@@ -1,4 +1,5 @@
 //! A run with watches: lines also set and remove watches, and each document tells which it matches.
+//! [`answer_watched`] has them over any store, and [`run_watches`] over an index.
 //! `specs/WatchRules.antt` says by which rules.
 #![tactic(auto)]
 
@@ -6,4 +7,4 @@ mod other;
 mod run;
 mod watched;
 
-pub use run::run_watches;
+pub use run::{answer_watched, run_watches};

@@ -6,15 +6,45 @@ ghost use Rattle.eb_lines.specs.Outcomes.{IsWorkedOff};
 ghost use Rattle.eb_lines.specs.Passing.{Ends};
 ghost use Rattle.eb_answer.specs.Rules.{Rules, IsBody, IsText, HasRefusal, HasNoRefusal};
 ghost use Rattle.eb_watching.specs.Others.{ReadsOther};
-ghost use Rattle.eb_watching.specs.WatchRules.{watch_rules, WroteWatches, MeansWatches};
+ghost use Rattle.eb_watching.specs.WatchRules.{with_watches, watch_rules, WroteWatches, MeansWatches};
 
-use crate::watched::WatchedIndex;
-use eb_answer::answer_lines;
+use crate::watched::Watching;
+use eb_answer::{Store, answer_lines};
 use eb_base::{Config, Gate};
 use eb_fields::Fields;
+use eb_indexed::Indexed;
 use eb_io::{Sink, Source};
 use eb_lines::{Form, Status};
 use std::alloc::Global;
+
+/// Processes the lines that the source gives, in order, over a store that holds what it holds at first, as `answer_lines`
+/// does, with watches: a line `!N QUERY` sets the watch N, and `!N` takes it away, and a document that is accepted tells
+/// those that are set and whose query it matches. No watch is set at first.
+pub fn answer_watched<P: Store + Drop, S: Source, K: Sink, G: Gate>(
+    alloc: Global,
+    store: P,
+    fields: Fields<'_>,
+    source: &mut S,
+    out: &mut K,
+    gate: &G,
+) -> Status
+    requires { (rules : Rules P.Watches) × (names fields ≡ rules.fields) × P.holds store rules rules.start rules.watches }
+    ensures ends { (plain : Rules P.Watches) → names fields.entry ≡ plain.fields → P.holds store plain plain.start plain.watches
+        → let rules = with_watches plain in
+        Ends (IsBody ReadsOther rules) (IsText ReadsOther rules) (HasRefusal ReadsOther rules) (HasNoRefusal ReadsOther rules) result
+        (S.left source.old) (S.left source.new) (K.taken out.old) (K.taken out.new) }
+    ensures read_fault { result ≡ Status.ReadFault → HasRisen (S.faults source.old) (S.faults source.new) }
+    ensures write_fault { result ≡ Status.WriteFault → HasRisen (K.faults out.old) (K.faults out.new) }
+{
+    answer_lines(
+        alloc,
+        Watching::new(alloc, store),
+        fields,
+        source,
+        out,
+        gate,
+    )
+}
 
 /// Processes the lines that the source gives, in order, with an index of this setting; prints answers, what watches are
 /// told, refusals and the summary on `out`. Lines are numbered from 1. A line `!N QUERY` sets the watch N, and `!N` takes it
@@ -38,9 +68,11 @@ pub fn run_watches<S: Source, K: Sink, G: Gate>(
         (S.left source.old) (S.left source.new) (K.taken out.old) (K.taken out.new) }
     // Where source and `out` tell their bytes, `out` took what the status says of the input.
     ensures output { (bytes before : List ℕ) → S.left source.old ≡ Some bytes → K.taken out.old ≡ Some before
-        → (printed : List ℕ) × (K.taken out.new ≡ Some (before ++ printed)) × WroteWatches (watch_rules (names fields.entry) config form) result bytes (S.left source.new) printed }
+        → (printed : List ℕ) × (K.taken out.new ≡ Some (before ++ printed))
+        × WroteWatches (watch_rules (names fields.entry) config form) result bytes (S.left source.new) printed }
     // What the status says of the input holds whatever becomes of the output.
-    ensures means { (bytes : List ℕ) → S.left source.old ≡ Some bytes → MeansWatches (watch_rules (names fields.entry) config form) result bytes (S.left source.new) }
+    ensures means { (bytes : List ℕ) → S.left source.old ≡ Some bytes
+        → MeansWatches (watch_rules (names fields.entry) config form) result bytes (S.left source.new) }
     // Faults come only from outside.
     ensures read_fault { result ≡ Status.ReadFault → HasRisen (S.faults source.old) (S.faults source.new) }
     ensures write_fault { result ≡ Status.WriteFault → HasRisen (K.faults out.old) (K.faults out.new) }
@@ -66,8 +98,8 @@ fn pass_watched<S: Source, K: Sink, G: Gate>(
     ensures read_fault { result ≡ Status.ReadFault → HasRisen (S.faults source.old) (S.faults source.new) }
     ensures write_fault { result ≡ Status.WriteFault → HasRisen (K.faults out.old) (K.faults out.new) }
 {
-    let Ok(watched) = WatchedIndex::new(alloc, form, config) else {
+    let Ok(indexed) = Indexed::new(alloc, form, config) else {
         return Status::NoMemory;
     };
-    answer_lines(alloc, watched, fields, source, out, gate)
+    answer_watched(alloc, indexed, fields, source, out, gate)
 }

@@ -1,33 +1,33 @@
-//! An index whose documents tell watches.
+//! A store whose documents tell watches.
 //!
 //! The room for all that a document may tell is taken before it is added, so that nothing can fail after the add: 21
 //! bytes for each watch that is set. The room stays with the text, so it is taken once.
 ghost use Rattle.std.specs.Prelude.{◌≡◌, ◌<◌, ◌≤◌, ◌^◌, ℕ, List, [], Some, None, length, IfOk, OnErr};
+ghost use Rattle.eb_answer.specs.Rules.{Rules};
 ghost use Rattle.eb_answer.specs.Stores.{IsHolding, TakesOther, Keeps};
+ghost use Rattle.eb_base.specs.Document.{Doc};
 ghost use Rattle.eb_base.specs.Query.{tree, IsWellFormed};
 ghost use Rattle.eb_lines.specs.Reading.{watch};
 ghost use Rattle.eb_watch.specs.Seen.{watches_of};
 ghost use Rattle.eb_watch.specs.Watches.{numbers_of, matching};
 ghost use Rattle.eb_watching.specs.Watched.{IsWatched};
-ghost use Rattle.eb_watching.specs.WatchRules.{watch_rules};
+ghost use Rattle.eb_watching.specs.WatchRules.{with_watches};
 
 use crate::other::read_other;
 use eb_answer::Store;
-use eb_base::{Config, Document, Gate, NoMemory, Query};
-use eb_cursor::Frame;
+use eb_base::{Document, Gate, NoMemory, Query};
 use eb_fields::Fields;
-use eb_indexed::Indexed;
-use eb_lines::{Form, Refusal, Tail, line_room, put_answer};
+use eb_lines::{Form, Refusal, Tail};
 use eb_place::Steps;
 use eb_watch::{NoWatch, SetFault, Watches};
 use std::alloc::Global;
 use std::marker::Brand;
 use std::sync::ledger::{Blank, Ledger};
 
-// An index, and the watches that are set.
+// A store, and the watches that are set.
 #[derive(Drop)]
-pub(crate) struct WatchedIndex {
-    indexed: Indexed,
+pub(crate) struct Watching<S> {
+    store: S,
     watches: Watches,
 }
 
@@ -47,23 +47,23 @@ fn told_of<L: Ledger>(
     watches.told(alloc, document, &mut tests)
 }
 
-impl WatchedIndex {
-    // An empty index, and no watches. Takes all the memory of the index.
-    pub(crate) fn new(alloc: Global, form: Form, config: Config) -> Result<WatchedIndex, NoMemory>
-        ensures { IfOk result (λ s. (fields : List (List ℕ)) → IsWatched s (watch_rules fields config form) [] []) }
+impl<S: Store> Watching<S> {
+    // The store, and no watches. Takes no memory.
+    pub(crate) fn new(alloc: Global, store: S) -> Watching<S>
+        ensures { (rules : Rules S.Watches) (docs : List Doc) (beside : S.Watches) → S.holds store rules docs beside
+            → IsWatched S.holds result (with_watches rules) docs [] }
     {
-        let indexed = Indexed::new(alloc, form, config)?;
-        Ok(WatchedIndex {
-            indexed,
+        Watching {
+            store,
             watches: Watches::new(alloc),
-        })
+        }
     }
 
     // Sets a watch, or gives why it isn't set.
     fn set(&mut self, number: u32, query: Query) -> Result<Option<Refusal>, NoMemory>
         requires { IsWellFormed (tree query) }
-        ensures ok { IfOk result (λ refusal. TakesOther IsWatched self.old self.new (watch number (Some (tree query))) refusal) }
-        ensures err { OnErr result (Keeps IsWatched self.old self.new) }
+        ensures ok { IfOk result (λ refusal. TakesOther (IsWatched S.holds) self.old self.new (watch number (Some (tree query))) refusal) }
+        ensures err { OnErr result (Keeps (IsWatched S.holds) self.old self.new) }
     {
         match self.watches.set(number, query) {
             Ok(()) => Ok(None),
@@ -75,7 +75,7 @@ impl WatchedIndex {
 
     // Removes a watch, or gives why it isn't removed.
     fn remove(&mut self, number: u32) -> Option<Refusal>
-        ensures { TakesOther IsWatched self.old self.new (watch number None) result }
+        ensures { TakesOther (IsWatched S.holds) self.old self.new (watch number None) result }
     {
         match self.watches.remove(number) {
             Ok(()) => None,
@@ -84,7 +84,7 @@ impl WatchedIndex {
     }
 }
 
-impl Store for WatchedIndex {
+impl<S: Store> Store for Watching<S> {
     ghost use Rattle.std.specs.Prelude.{List};
     ghost use Rattle.eb_watch.specs.Watches.{Watched};
     ghost use Rattle.eb_watching.specs.Others.{ReadsOther};
@@ -94,14 +94,10 @@ impl Store for WatchedIndex {
 
     ghost other = { ReadsOther };
 
-    ghost holds = { IsWatchedBy };
+    ghost holds = { IsWatchedBy S.holds };
 
     fn place<G: Gate>(&mut self, document: &Document, gate: &G) -> Option<Refusal> {
-        if self.indexed.add(document, gate) {
-            None
-        } else {
-            Some(Refusal::Full)
-        }
+        self.store.place(document, gate)
     }
 
     fn told(&self, alloc: Global, document: &Document) -> Result<Vec<u32>, NoMemory> {
@@ -130,22 +126,18 @@ impl Store for WatchedIndex {
         gate: &G,
         text: &mut Vec<u8>,
     ) -> Result<(), NoMemory> {
-        let mut frame = Frame::new(alloc, query, k)?;
-        text.reserve(line_room(k as usize))?;
-        let seen = self.indexed.search(&mut frame, gate);
-        put_answer(text, self.indexed.form(), number, seen, frame.ids());
-        Ok(())
+        self.store.answer(alloc, number, k, query, gate, text)
     }
 
     fn documents(&self) -> u64 {
-        self.indexed.accepted()
+        self.store.documents()
     }
 
     fn form(&self) -> Form {
-        self.indexed.form()
+        self.store.form()
     }
 
-    fn close(&mut self, _alloc: Global) -> Result<Tail, NoMemory> {
-        Ok(self.indexed.tail())
+    fn close(&mut self, alloc: Global) -> Result<Tail, NoMemory> {
+        self.store.close(alloc)
     }
 }

@@ -5,7 +5,7 @@ use eb_lines::Form;
 use eb_options::Items;
 
 // In which form what is printed is written: what the items `--json` and `--stats` say.
-pub(super) fn read_form(items: &Items) -> Form
+pub(crate) fn read_form(items: &Items) -> Form
     ensures { result ≡ form_of items.now }
 {
     Form {

@@ -3,6 +3,7 @@ ghost use Rattle.eb_run.specs.FeedCommand.{feed_asked_of, feed_command_of, feed_
 ghost use Rattle.eb_run.specs.FeedRequests.{feed_request_view};
 
 use crate::command::CommandFault;
+use crate::command::form::read_form;
 use crate::fields::take_fields;
 use eb_base::{Config, MAX_WORDS};
 use eb_fields::Fields;
@@ -10,8 +11,8 @@ use eb_lines::Form;
 use eb_options::{Items, OptionFault, read_options, read_setting};
 use std::alloc::Global;
 
-// The flag of a feed, and its options: how many generations it keeps, and those of their setting.
-const FEED_FLAGS: [&str; 1] = ["json"];
+// The flags of a feed, and its options: how many generations it keeps, and those of their setting.
+const FEED_FLAGS: [&str; 3] = ["watch", "json", "stats"];
 
 const FEED_OPTIONS: [&str; 4] = ["keep", "segments", "docs", "terms"];
 
@@ -20,7 +21,9 @@ const FEED_OPTIONS: [&str; 4] = ["keep", "segments", "docs", "terms"];
 pub struct FeedCommand {
     /// How many generations are kept, 2 to 64 (`--keep`).
     pub keep: u32,
-    /// How what is printed is written (`--json`); the segments aren't told.
+    /// Whether lines set watches (`--watch`).
+    pub watch: bool,
+    /// How what is printed is written (`--json`), and whether the generations are told after the summary (`--stats`).
     pub form: Form,
     /// The setting of each; what the options don't name is as in `Config::usual`.
     pub config: Config,
@@ -37,7 +40,7 @@ pub struct FeedRequest<'a> {
 
 /// The feed that the words ask for; they are without the program's name and the word `feed`.
 ///
-/// They are items in any order, each option at most once: `--json`, for x of `keep`, `segments`, `docs` and `terms` the
+/// They are items in any order, each at most once: `--watch`, `--json`, `--stats`, for x of `keep`, `segments`, `docs` and `terms` the
 /// two words `--x V` or the one word `--x=V`, and the two words `--fields LIST` or the one word `--fields=LIST`. V is one to nine
 /// digits, leading zeros allowed; what isn't named is 4 generations, and else as in `Config::usual`; LIST is as `Fields::read` takes
 /// it. `Config::new` has to allow the setting, and keep is 2 to 64; keep + 1 indexes have at most 134,217,728 words together.
@@ -83,12 +86,14 @@ fn read_feed(items: &Items) -> Option<FeedCommand>
     ensures keep { IfSome result (λ command. (2 ≤ command.keep) × (command.keep ≤ 64)) }
 {
     let keep = items.number("keep").unwrap_or(4);
-    allow(keep, items.has("json"), read_setting(items)?)
+    let watch = items.has("watch");
+    let form = read_form(items);
+    allow(keep, watch, form, read_setting(items)?)
 }
 
 // The feed that keeps so many generations of this setting, if it is allowed.
-fn allow(keep: u32, json: bool, config: Config) -> Option<FeedCommand>
-    ensures feed { result ≡ feed_of keep json config }
+fn allow(keep: u32, watch: bool, form: Form, config: Config) -> Option<FeedCommand>
+    ensures feed { result ≡ feed_of keep watch form config }
     ensures keep { IfSome result (λ command. (2 ≤ command.keep) × (command.keep ≤ 64)) }
 {
     if keep < 2 || keep > 64 {
@@ -97,6 +102,10 @@ fn allow(keep: u32, json: bool, config: Config) -> Option<FeedCommand>
     if (u64::from(keep) + 1) * config.words() > MAX_WORDS {
         return None;
     }
-    let form = Form { json, stats: false };
-    Some(FeedCommand { keep, form, config })
+    Some(FeedCommand {
+        keep,
+        watch,
+        form,
+        config,
+    })
 }

@@ -8,7 +8,7 @@ ghost use Rattle.eb_cursor.specs.Frames.{query_of, k_of, ids_of};
 ghost use Rattle.eb_feed.specs.Generations.{kept};
 ghost use Rattle.eb_feed.specs.Held.{IsFedWith};
 ghost use Rattle.eb_run.specs.Fed.{IsFed};
-ghost use Rattle.eb_run.specs.FeedOutput.{feed_rules};
+ghost use Rattle.eb_run.specs.FeedOutput.{feed_rules, feed_tail};
 
 use eb_answer::Store;
 use eb_base::{Config, Document, Gate, NoMemory, Query};
@@ -55,6 +55,23 @@ impl Fed {
     {
         let feed = Feed::open(alloc, config, keep)?;
         Ok(Fed { feed, form })
+    }
+
+    // What is told beside the counts at the end.
+    fn tail(&self) -> Tail
+        requires { (σ : Setting) × (keep : ℕ) × (history : List Doc) × IsFedWith self.now.feed σ keep history }
+        ensures { (σ : Setting) (keep : ℕ) (history : List Doc) → IsFedWith self.now.feed σ keep history → result ≡ feed_tail σ keep self.now.form history }
+    {
+        let kept = self.feed.kept();
+        if !self.form.stats {
+            return Tail::Kept(kept);
+        }
+        Tail::Generations {
+            kept,
+            segments: self.feed.segments(),
+            converted: 0,
+            begun: self.feed.begun(),
+        }
     }
 }
 
@@ -111,6 +128,6 @@ impl Store for Fed {
     }
 
     fn close(&mut self, _alloc: Global) -> Result<Tail, NoMemory> {
-        Ok(Tail::Kept(self.feed.kept()))
+        Ok(self.tail())
     }
 }

@@ -52,6 +52,7 @@ fn step(
     feed: &mut Feed,
     frame: &mut Frame,
     id: u64,
+    generations: u64,
     found: &[u64],
 ) -> Result<(), Fail>
     requires { (σ : Setting) × (keep : ℕ) × (history : List Doc) × IsFedWith feed.old σ keep history }
@@ -60,22 +61,25 @@ fn step(
     let count = added(alloc, feed, id, b"a")?;
     let seen = searched(feed, frame);
     let kept = feed.kept();
+    let (begun, segments) = (feed.begun(), feed.segments());
     assert_eq!(rt; count, id);
     assert_eq!(rt; seen, id);
     assert_eq!(rt; kept, found.len() as u64);
+    assert_eq!(rt; begun, generations);
+    assert_eq!(rt; segments, generations.min(2));
     assert_eq!(rt; frame.ids(), found);
     Ok(())
 }
 
-// The ids of documents of the term `a` that are added, and what is found then.
-const STEPS: [(u64, &[u64]); 7] = [
-    (1, &[1]),
-    (2, &[2, 1]),
-    (3, &[3, 2, 1]),
-    (4, &[4, 3, 2, 1]),
-    (5, &[5, 4, 3]),
-    (6, &[6, 5, 4, 3]),
-    (7, &[7, 6, 5]),
+// The ids of documents of the term `a` that are added, how many generations are begun then, and what is found.
+const STEPS: [(u64, u64, &[u64]); 7] = [
+    (1, 1, &[1]),
+    (2, 1, &[2, 1]),
+    (3, 2, &[3, 2, 1]),
+    (4, 2, &[4, 3, 2, 1]),
+    (5, 3, &[5, 4, 3]),
+    (6, 3, &[6, 5, 4, 3]),
+    (7, 4, &[7, 6, 5]),
 ];
 
 #[test]
@@ -84,8 +88,16 @@ fn the_oldest_go(rt: HostRuntime) -> Result<(), Fail> {
     let mut feed = Feed::open(rt.alloc(), config, 2)?;
     let query = Query::Word(Term::new(rt.alloc(), b"a")?);
     let mut frame = Frame::new(rt.alloc(), query, 9)?;
-    for (id, found) in STEPS {
-        step(&rt, rt.alloc(), &mut feed, &mut frame, id, found)?;
+    for (id, generations, found) in STEPS {
+        step(
+            &rt,
+            rt.alloc(),
+            &mut feed,
+            &mut frame,
+            id,
+            generations,
+            found,
+        )?;
     }
     Ok(())
 }

@@ -180,7 +180,8 @@ const ROWS: [Row; 8] = [
     },
     Row {
         setting: (2, 2, 1024),
-        lines: "{\"id\":1,\"text\":\"a\"}\n{\"id\":2,\"text\":\"a\"}\n{\"id\":3,\"text\":\"a\"}\n{\"id\":4,\"text\":\"a\"}\n{\"id\":5,\"text\":\"a\"}\n\n?9 a\n",
+        lines: "{\"id\":1,\"text\":\"a\"}\n{\"id\":2,\"text\":\"a\"}\n{\"id\":3,\"text\":\"a\"}\n{\"id\":4,\"text\":\"a\"}\n\
+            {\"id\":5,\"text\":\"a\"}\n\n?9 a\n",
         allowed: &["5 refused: full\n7 seen 4: 4 3 2 1\n"],
         counts: (4, 1, 1),
     },

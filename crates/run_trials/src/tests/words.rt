@@ -100,35 +100,43 @@ const COMMANDS: [(&str, &str); 25] = [
     ("bench 007 00001", "Bench { start: 7, docs: 1 }"),
 ];
 
-const FEEDS: [(&str, &str); 6] = [
+const FEEDS: [(&str, &str); 8] = [
     (
         "--keep=2",
-        "FeedCommand { keep: 2, form: Form { json: false, stats: false }, config: Config { segments: 12, docs: 4096, terms: 8192 } }",
+        "FeedCommand { keep: 2, watch: false, form: Form { json: false, stats: false }, config: Config { segments: 12, docs: 4096, terms: 8192 } }",
     ),
     (
         "--keep 000000016",
-        "FeedCommand { keep: 16, form: Form { json: false, stats: false }, config: Config { segments: 12, docs: 4096, terms: 8192 } }",
+        "FeedCommand { keep: 16, watch: false, form: Form { json: false, stats: false }, config: Config { segments: 12, docs: 4096, terms: 8192 } }",
     ),
     (
         "--terms 1024 --keep 64 --segments=1",
-        "FeedCommand { keep: 64, form: Form { json: false, stats: false }, config: Config { segments: 1, docs: 4096, terms: 1024 } }",
+        "FeedCommand { keep: 64, watch: false, form: Form { json: false, stats: false }, config: Config { segments: 1, docs: 4096, terms: 1024 } }",
     ),
     (
         "--segments=1 --terms=262144 --docs=13369341 --keep=3",
-        "FeedCommand { keep: 3, form: Form { json: false, stats: false }, config: Config { segments: 1, docs: 13369341, terms: 262144 } }",
+        "FeedCommand { keep: 3, watch: false, form: Form { json: false, stats: false }, config: Config { segments: 1, docs: 13369341, terms: 262144 } }",
     ),
     (
         "--json --keep=2",
-        "FeedCommand { keep: 2, form: Form { json: true, stats: false }, config: Config { segments: 12, docs: 4096, terms: 8192 } }",
+        "FeedCommand { keep: 2, watch: false, form: Form { json: true, stats: false }, config: Config { segments: 12, docs: 4096, terms: 8192 } }",
+    ),
+    (
+        "--keep=2 --watch",
+        "FeedCommand { keep: 2, watch: true, form: Form { json: false, stats: false }, config: Config { segments: 12, docs: 4096, terms: 8192 } }",
+    ),
+    (
+        "--stats --json --keep=2 --watch",
+        "FeedCommand { keep: 2, watch: true, form: Form { json: true, stats: true }, config: Config { segments: 12, docs: 4096, terms: 8192 } }",
     ),
     (
         "--docs=2 --segments 3 --terms=1024",
-        "FeedCommand { keep: 4, form: Form { json: false, stats: false }, config: Config { segments: 3, docs: 2, terms: 1024 } }",
+        "FeedCommand { keep: 4, watch: false, form: Form { json: false, stats: false }, config: Config { segments: 3, docs: 2, terms: 1024 } }",
     ),
 ];
 
 const USUAL_FEED: &str =
-    "FeedCommand { keep: 4, form: Form { json: false, stats: false }, config: Config { segments: 12, docs: 4096, terms: 8192 } }";
+    "FeedCommand { keep: 4, watch: false, form: Form { json: false, stats: false }, config: Config { segments: 12, docs: 4096, terms: 8192 } }";
 
 #[test]
 fn words_ask_for_a_command(rt: HostRuntime) -> Result<(), Fail> {

@@ -1,7 +1,7 @@
 use Rattle.std.proofs.Common.{List, Option, String, Global, map, string_bytes, option_map, sym, ap, ◌∙◌}
 use Rattle.std.specs.Prelude.{option_and_then}
 use Rattle.eb_fields.specs.Fields.{names}
-use Rattle.eb_options.proofs.Aparts.{err_same}
+use Rattle.eb_options.proofs.Splitting.{err_same}
 use Rattle.eb_run.specs.Command.{Asks, FieldsApart, asks, run_of}
 use Rattle.eb_run.specs.declared.command.Command.{Command}
 use Rattle.eb_run.specs.declared.command.CommandFault.TheVariants.{Usage}

@@ -1,8 +1,7 @@
-use Rattle.eb_answer.proofs.OneText.{some_text_of, some_bad}
-use Rattle.eb_answer.specs.Rules.{is_bad}
 use Rattle.eb_io.specs.Lines.{lines_of}
-use Rattle.eb_run.specs.FeedOutput.{feed_rules}
+use Rattle.eb_run.proofs.Feeds.{some_fed}
+use Rattle.eb_run.specs.FeedOutput.{rules_of}
 use Rattle.eb_run.proofs.laws.feed_some_text.Goals as goal
 
 pub returns : goal.returns
-returns c = λ names σ keep form bytes. some_text_of is_bad some_bad (feed_rules names σ keep form) (lines_of bytes)
+returns c = λ names asked bytes. some_fed asked.watch (rules_of names asked) (lines_of bytes)
