@@ -1,0 +1,7 @@
+//! The tests, by what they run.
+mod ahead;
+mod beside;
+mod holding;
+mod made;
+mod rows;
+mod turns;
