@@ -1,6 +1,13 @@
-/* Adds and searches a second of what threads share: one thread adds without a pause, and so many search beside it. Arguments: shared
- * or stream, how many search, for how many seconds at least. Prints one line of JSON: the seconds, the adds, and the searches of each
- * thread. It goes in rounds of MESSAGES, each over a new index or feed; opening isn't measured, nor is making the texts. */
+/* Adds and searches a second of what threads share: one thread adds without a pause, and so many search beside it. Prints one line of
+ * JSON.
+ *
+ *     threads shared|stream SEARCHING SECONDS    the seconds, the adds, and the searches of each thread. It goes in rounds of MESSAGES
+ *                                                for so many seconds at least, each over a new index or feed
+ *     threads feed SEARCHING ADDS                of one feed with so many adds also the pause of each, and the memory: see below
+ *     threads check SEARCHING SECONDS            adds to a feed of small generations for so long, and compares each answer with a plain
+ *                                                scan: how many there were, and how many were wrong, which is the status too
+ *
+ * Opening isn't measured, nor is making the texts. */
 #include "earlybird.h"
 #include <inttypes.h>
 #include <pthread.h>
@@ -8,7 +15,9 @@
 #include <stdio.h>
 #include <stdlib.h>
 #include <string.h>
+#include <sys/resource.h>
 #include <time.h>
+#include <unistd.h>
 
 #define MESSAGES 150000
 #define MOST_SEARCHING 16
@@ -87,16 +96,247 @@ static double round_of(struct searching *searching, size_t number) {
     return took;
 }
 
+/* ---- one feed, from its first add to its last
+ *
+ * The pause of an add is what the clock tells before and after it; the clock's own time is in it. A pause falls into the bucket of its
+ * nanoseconds: 16 for each power of two, so that what is told of a bucket, its end, is at most a sixteenth above the pause. The
+ * resident memory is that of the process after opening, in the middle and at the end. A follower that asked once, before
+ * the middle, sleeps through the second half: so the memory at the end is that of a feed with one that sleeps. It asks again then. */
+
+#define FINE 16
+#define BUCKETS (FINE * 61)
+
+static uint64_t buckets[BUCKETS];
+
+static uint64_t nanoseconds(void) {
+    struct timespec now;
+    clock_gettime(CLOCK_MONOTONIC, &now);
+    return (uint64_t)now.tv_sec * 1000000000u + (uint64_t)now.tv_nsec;
+}
+
+/* The bucket of a pause: the first FINE have a nanosecond each. */
+static size_t bucket_of(uint64_t pause) {
+    size_t power = 0;
+    while (pause >> power >= 2 * FINE)
+        power++;
+    return FINE * power + (size_t)(pause >> power);
+}
+
+/* The greatest pause that falls into it. */
+static uint64_t end_of(size_t bucket) {
+    if (bucket < 2 * FINE)
+        return bucket;
+    size_t power = bucket / FINE - 1;
+    return ((uint64_t)(bucket % FINE + FINE + 1) << power) - 1;
+}
+
+/* The pause that so many of 1,000 aren't above, as far as buckets tell. */
+static uint64_t pause_of(uint64_t adds, uint64_t of_thousand) {
+    uint64_t wanted = adds - adds * (1000 - of_thousand) / 1000, passed = 0;
+    for (size_t at = 0; at < BUCKETS; at++) {
+        passed += buckets[at];
+        if (passed >= wanted)
+            return end_of(at);
+    }
+    return 0;
+}
+
+/* The resident memory of the process, in KiB; and the most that it had. */
+static uint64_t resident(void) {
+    uint64_t all, pages = 0;
+    FILE *file = fopen("/proc/self/statm", "r");
+    if (file == NULL || fscanf(file, "%" SCNu64 " %" SCNu64, &all, &pages) != 2)
+        exit(1);
+    fclose(file);
+    return pages * (uint64_t)sysconf(_SC_PAGESIZE) / 1024;
+}
+
+static uint64_t most_resident(void) {
+    struct rusage usage;
+    if (getrusage(RUSAGE_SELF, &usage) != 0)
+        exit(1);
+    return (uint64_t)usage.ru_maxrss;
+}
+
+/* Asks once, and gives how many documents the follower knows then. */
+static uint64_t asked(struct eb_handle *follower) {
+    uint64_t ids[WANTED];
+    struct eb_answer answer;
+    expect("asking", eb_follower_ask_text(follower, WANTED, (const unsigned char *)"all", 3, ids, WANTED, &answer));
+    return answer.seen;
+}
+
+static void measure_feed(struct searching *searching, size_t number, uint64_t adds) {
+    struct eb_handle leader = {NULL, 0}, sleeper = {NULL, 0};
+    pthread_t threads[MOST_SEARCHING];
+    uint64_t memory[4] = {0}, longest = 0, slept = 0, woken, held;
+    expect("opening", eb_stream_open(&leader, 12, 4096, 8192, 4));
+    memory[0] = resident();
+    pthread_barrier_init(&ready, NULL, (unsigned)number + 1);
+    for (size_t at = 0; at < number; at++) {
+        expect("making", eb_follower(&leader, &searching[at].handle));
+        if (pthread_create(&threads[at], NULL, search_all, &searching[at]) != 0)
+            exit(1);
+    }
+    expect("making", eb_follower(&leader, &sleeper));
+    pthread_barrier_wait(&ready);
+    double begun = seconds();
+    for (uint64_t n = 0; n < adds; n++) {
+        size_t at = n % MESSAGES;
+        if (n == adds / 2) {
+            slept = asked(&sleeper);
+            memory[1] = resident();
+        }
+        uint64_t before = nanoseconds();
+        expect("an add", eb_leader_add_text(&leader, n, (const unsigned char *)texts[at], lengths[at]));
+        uint64_t pause = nanoseconds() - before;
+        buckets[bucket_of(pause)]++;
+        if (pause > longest)
+            longest = pause;
+    }
+    double took = seconds() - begun;
+    atomic_store(&over, 1);
+    memory[2] = resident();
+    for (size_t at = 0; at < number; at++) {
+        pthread_join(threads[at], NULL);
+        eb_close(&searching[at].handle);
+    }
+    for (uint32_t told = 0; told == 0;)
+        expect("telling", eb_leader_tell(&leader, &told));
+    woken = asked(&sleeper);
+    expect("asking", eb_follower_held(&sleeper, &held));
+    memory[3] = resident();
+    eb_close(&sleeper);
+    eb_close(&leader);
+    if (woken != adds) {
+        fprintf(stderr, "threads: woken after %" PRIu64 " adds, the follower knows %" PRIu64 "\n", adds, woken);
+        exit(1);
+    }
+    printf("{\"seconds\": %.3f, \"adds\": %" PRIu64 ", \"searches\": [", took, adds);
+    for (size_t at = 0; at < number; at++)
+        printf("%s%" PRIu64, at ? ", " : "", searching[at].searches);
+    printf("], \"pauses, ns\": {\"50th of 100\": %" PRIu64 ", \"99th\": %" PRIu64 ", \"99.9th\": %" PRIu64 ", \"longest\": %" PRIu64 "}",
+           pause_of(adds, 500), pause_of(adds, 990), pause_of(adds, 999), longest);
+    printf(", \"pauses below, ns\": {");
+    uint64_t below = 0;
+    const char *comma = "";
+    for (size_t at = 0; at < BUCKETS; at++) {
+        below += buckets[at];
+        if (below > 0 && at % FINE == FINE - 1) {
+            printf("%s\"%" PRIu64 "\": %" PRIu64, comma, end_of(at) + 1, below);
+            comma = ", ";
+            if (below == adds)
+                break;
+        }
+    }
+    printf("}, \"resident, KiB\": {\"start\": %" PRIu64 ", \"middle\": %" PRIu64 ", \"end\": %" PRIu64 ", \"woken\": %" PRIu64 ", \"most\": %" PRIu64 "}",
+           memory[0], memory[1], memory[2], memory[3], most_resident());
+    printf(", \"sleeper\": {\"slept at\": %" PRIu64 ", \"woken at\": %" PRIu64 ", \"held\": %" PRIu64 "}}\n", slept, woken, held);
+}
+
+/* ---- each answer beside a plain scan */
+
+#define CHECKED_DOCS 30
+#define CHECKED_SIZE (2 * CHECKED_DOCS) /* of a generation, which has two segments */
+#define CHECKED_KEEP 3
+
+static atomic_ulong wrong;
+
+/* Whether message n has what the query of this number asks for. */
+static int matches(size_t query, uint64_t n) {
+    uint64_t word = n % MESSAGES % 1000;
+    int third = n % MESSAGES % 3 == 0;
+    switch (query) {
+    case 0: return third;
+    case 1: return 1;
+    case 2: return word == 7;
+    case 3: return !third;
+    default: return word == 7 || word == 9;
+    }
+}
+
+/* Whether these are the newest matches of the generations that are held. A generation is begun with its first message. */
+static int is_right(size_t query, uint64_t held, const struct eb_answer *answer, const uint64_t *ids) {
+    uint64_t turns = answer->seen == 0 ? 1 : (answer->seen + CHECKED_SIZE - 1) / CHECKED_SIZE, count = 0;
+    if (held == 0 || held > CHECKED_KEEP || held > turns)
+        return 0;
+    for (uint64_t n = answer->seen; n > (turns - held) * CHECKED_SIZE && count < WANTED; n--)
+        if (matches(query, n - 1)) {
+            if (count >= answer->count || ids[count] != n - 1)
+                return 0;
+            count++;
+        }
+    return count == answer->count;
+}
+
+/* Asks, and naps now and then, for longer each time, so that it falls behind. */
+static void *check_all(void *argument) {
+    struct searching *searching = argument;
+    uint64_t ids[WANTED], seen = 0, held;
+    struct eb_answer answer;
+    pthread_barrier_wait(&ready);
+    while (!atomic_load(&over)) {
+        size_t at = searching->searches++ % QUERIES;
+        expect("a search", eb_follower_ask_text(&searching->handle, WANTED, (const unsigned char *)queries[at], strlen(queries[at]), ids, WANTED, &answer));
+        expect("asking", eb_follower_held(&searching->handle, &held));
+        if (answer.seen < seen || !is_right(at, held, &answer, ids))
+            atomic_fetch_add(&wrong, 1);
+        seen = answer.seen;
+        if (searching->searches % 1000 == 0) {
+            struct timespec nap = {0, (long)(searching->searches / 1000 % 64) * 100000};
+            nanosleep(&nap, NULL);
+        }
+    }
+    return NULL;
+}
+
+static int check_feed(struct searching *searching, size_t number, double wanted) {
+    struct eb_handle leader = {NULL, 0};
+    pthread_t threads[MOST_SEARCHING];
+    uint64_t adds = 0;
+    expect("opening", eb_stream_open(&leader, 2, CHECKED_DOCS, 1024, CHECKED_KEEP));
+    pthread_barrier_init(&ready, NULL, (unsigned)number + 1);
+    for (size_t at = 0; at < number; at++) {
+        expect("making", eb_follower(&leader, &searching[at].handle));
+        if (pthread_create(&threads[at], NULL, check_all, &searching[at]) != 0)
+            exit(1);
+    }
+    pthread_barrier_wait(&ready);
+    double begun = seconds();
+    for (; seconds() - begun < wanted; adds++)
+        expect("an add", eb_leader_add_text(&leader, adds, (const unsigned char *)texts[adds % MESSAGES], lengths[adds % MESSAGES]));
+    double took = seconds() - begun;
+    atomic_store(&over, 1);
+    printf("{\"seconds\": %.3f, \"adds\": %" PRIu64 ", \"turns\": %" PRIu64 ", \"searches\": [", took, adds, (adds + CHECKED_SIZE - 1) / CHECKED_SIZE);
+    for (size_t at = 0; at < number; at++) {
+        pthread_join(threads[at], NULL);
+        printf("%s%" PRIu64, at ? ", " : "", searching[at].searches);
+        eb_close(&searching[at].handle);
+    }
+    eb_close(&leader);
+    printf("], \"wrong\": %lu}\n", atomic_load(&wrong));
+    return atomic_load(&wrong) > 0;
+}
+
 int main(int argc, char **argv) {
     static struct searching searching[MOST_SEARCHING];
     size_t number = argc == 4 ? strtoul(argv[2], NULL, 10) : MOST_SEARCHING + 1;
-    if (number > MOST_SEARCHING || (strcmp(argv[1], "shared") != 0 && strcmp(argv[1], "stream") != 0)) {
-        fputs("usage: threads shared|stream SEARCHING SECONDS\n", stderr);
+    const char *mode = argc == 4 ? argv[1] : "";
+    int shared = strcmp(mode, "shared") == 0, feed = strcmp(mode, "feed") == 0, check = strcmp(mode, "check") == 0;
+    of_stream = feed || check || strcmp(mode, "stream") == 0;
+    uint64_t of_adds = feed ? strtoull(argv[3], NULL, 10) : 1;
+    if (number > MOST_SEARCHING || of_adds == 0 || !(shared || of_stream)) {
+        fputs("usage: threads shared|stream|check SEARCHING SECONDS, or threads feed SEARCHING ADDS\n", stderr);
         return 2;
     }
-    of_stream = strcmp(argv[1], "stream") == 0;
     for (size_t n = 0; n < MESSAGES; n++)
         lengths[n] = (size_t)snprintf(texts[n], sizeof texts[n], "all w%zu %s message", n % 1000, n % 3 ? "other" : "third");
+    if (check)
+        return check_feed(searching, number, strtod(argv[3], NULL));
+    if (feed) {
+        measure_feed(searching, number, of_adds);
+        return 0;
+    }
     double wanted = strtod(argv[3], NULL), took = 0;
     uint64_t adds = 0;
     for (; took < wanted; adds += MESSAGES)

@@ -1,12 +1,24 @@
 #!/usr/bin/env python3
 """Measures what threads share, from C and from Python: searches a second by 0, 1, 2 and 3 threads beside one that adds without a
-pause, over the shared index and over the feed.
+pause, over the shared index and over the feed; and what one long feed costs: the pauses of its adds, and its memory.
 
-    python3 bench/threads.py [--seconds S] [--json FILE]
+    python3 bench/threads.py [--seconds S] [--feed ADDS] [--json FILE]
+    python3 bench/threads.py --check S
+    python3 bench/threads.py --table FILE
 
 Builds bench/threads.c against libearlybird.a: that of the folder in EARLYBIRD_LIB, else of crates/eb_c/out (.ci/library makes it),
 else of dist/. Each figure is of S seconds of adding, 5 if not said otherwise. Prints a table, and writes JSON, with the machine and the
 commit. A search asks for the newest 10 of one of five queries; what it answers is checked by examples/embed, and not here.
+
+With --feed one feed takes so many adds (10,000,000 is a good number), from C, at the usual setting with 4 generations kept, in place of
+all that: beside 0, 1, 2 and 3 followers that search without a pause, and one that asks in the middle and sleeps through the rest. Of the
+pauses of the adds it tells the 50th, the 99th and the 99.9th of 100 and the longest, and of the memory what is resident after opening, in
+the middle, at the end, and once the follower that slept has asked again; and the most at any time.
+
+With --check nothing is measured: for S seconds two followers ask a feed of small generations, which begins some hundred a second, and nap in
+between, and each answer is compared with a plain scan. The status is 1 where one was wrong.
+
+--table prints what --json has written as a table of docs/PERFORMANCE.md, and measures nothing.
 """
 import argparse
 import json
@@ -109,6 +121,57 @@ def measured(program, seconds):
                 }
 
 
+def of_one_feed(program, adds):
+    """A figure of a feed with so many adds for each number of threads that search."""
+    for searching in SEARCHING:
+        words = [program, "feed", str(searching), str(adds)]
+        found = json.loads(subprocess.run(words, stdout=subprocess.PIPE, check=True).stdout)
+        yield {
+            "language": "C", "index": "one feed", "searching": searching,
+            "adds a second": round(found["adds"] / found["seconds"]),
+            "searches a second": round(sum(found["searches"]) / found["seconds"]),
+            **found,
+        }
+
+
+def print_rates(figures):
+    print("%-8s %-8s %10s %16s %18s" % ("language", "index", "searching", "adds a second", "searches a second"))
+    for it in figures:
+        row = (it["language"], it["index"], it["searching"], it["adds a second"], it["searches a second"])
+        print("%-8s %-8s %10d %16s %18s" % (*row[:3], *("{:,}".format(number) for number in row[3:])), flush=True)
+        yield it
+
+
+def print_pauses(figures):
+    pauses, times = ("50th of 100", "99th", "99.9th", "longest"), ("start", "middle", "end", "woken", "most")
+    print("A pause of an add in microseconds; resident memory in MiB.")
+    print("%10s %14s %18s %12s %8s %8s %10s" % ("searching", "adds a second", "searches a second", *pauses), *("%7s" % it for it in times))
+    for it in figures:
+        rates = ["{:,}".format(it[name]) for name in ("adds a second", "searches a second")]
+        numbers = ["{:,.1f}".format(it["pauses, ns"][name] / 1000) for name in pauses]
+        memory = ["%7s" % "{:,}".format(round(it["resident, KiB"][name] / 1024)) for name in times]
+        print("%10d %14s %18s %12s %8s %8s %10s" % (it["searching"], *rates, *numbers), *memory, flush=True)
+        yield it
+
+
+def table(told):
+    """A result as a table of docs/PERFORMANCE.md."""
+    machine, figures = told["machine"], told["figures"]
+    lines = ["%s, %s, %d cores, commit %s." % (told["date"], machine["processor"], machine["processors"], told["commit"]), ""]
+    large = lambda it: ["{:,}".format(it[name]) for name in ("adds a second", "searches a second")]
+    if "pauses, ns" in figures[0]:
+        lines += ["| Searching | adds a second | searches a second | an add, 99.9th of 100, ms | the longest, ms | MiB at the start | in the middle | at the end |", "|---|---|---|---|---|---|---|---|"]
+        for it in figures:
+            pauses = ["%.3f" % (it["pauses, ns"][name] / 1e6) for name in ("99.9th", "longest")]
+            memory = ["{:,}".format(round(it["resident, KiB"][name] / 1024)) for name in ("start", "middle", "end")]
+            lines.append("| " + " | ".join([str(it["searching"]), *large(it), *pauses, *memory]) + " |")
+        return "\n".join(lines)
+    lines += ["| From | over | searching | adds a second | searches a second |", "|---|---|---|---|---|"]
+    names = {"shared": "the shared index", "stream": "the feed"}
+    lines += ["| " + " | ".join([it["language"], names[it["index"]], str(it["searching"]), *large(it)]) + " |" for it in figures]
+    return "\n".join(lines)
+
+
 def processor():
     with open("/proc/cpuinfo", encoding="utf-8") as file:
         names = [row.split(":", 1)[1].strip() for row in file if row.startswith("model name")]
@@ -118,17 +181,23 @@ def processor():
 def main():
     options = argparse.ArgumentParser(description="Searches a second beside a thread that adds.")
     options.add_argument("--seconds", type=float, default=5)
-    options.add_argument("--json")
+    options.add_argument("--feed", type=int, metavar="ADDS")
+    options.add_argument("--check", type=float, metavar="S")
+    options.add_argument("--json", metavar="FILE")
+    options.add_argument("--table", metavar="FILE")
     options = options.parse_args()
+    if options.table:
+        with open(options.table, encoding="utf-8") as file:
+            return print(table(json.load(file)))
     with tempfile.TemporaryDirectory() as folder:
         program, os.environ["EARLYBIRD_LIBRARY"] = built(folder)
+        if options.check:
+            sys.exit(subprocess.run([program, "check", "2", str(options.check)]).returncode)
         sys.path.insert(0, os.path.join(ROOT, "python/src"))
-        figures = []
-        print("%-8s %-8s %10s %16s %18s" % ("language", "index", "searching", "adds a second", "searches a second"))
-        for it in measured(program, options.seconds):
-            figures.append(it)
-            row = (it["language"], it["index"], it["searching"], it["adds a second"], it["searches a second"])
-            print("%-8s %-8s %10d %16s %18s" % (*row[:3], *("{:,}".format(number) for number in row[3:])), flush=True)
+        if options.feed:
+            figures = list(print_pauses(of_one_feed(program, options.feed)))
+        else:
+            figures = list(print_rates(measured(program, options.seconds)))
     commit = subprocess.run(["git", "-C", ROOT, "rev-parse", "--short", "HEAD"], stdout=subprocess.PIPE).stdout.decode().strip()
     machine = {"processor": processor(), "processors": os.cpu_count(), "system": platform.platform(), "python": platform.python_version()}
     if options.json:
