@@ -1,0 +1,9 @@
+pub mod Weighing
+pub mod Moving
+pub mod JobsKept
+pub mod AnswersKept
+pub mod Books
+pub mod Law
+pub mod Asking
+pub mod Fronts
+pub mod Crossing

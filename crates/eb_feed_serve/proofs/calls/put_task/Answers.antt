@@ -1,0 +1,16 @@
+use Rattle.std.proofs.Common.{ap, sym, subst, ◌∙◌}
+use Rattle.eb_feed_serve.specs.declared.job.Task.{Task}
+use Rattle.eb_feed_serve.specs.declared.rule.View.TheVariants.{At}
+use Rattle.eb_feed_serve.specs.Rule.{IsMadeTask}
+use Rattle.eb_feed_serve.specs.Steps.{MayPut, put_in}
+use Rattle.eb_feed_serve.proofs.JobsKept.{puts_task}
+use Rattle.eb_feed_serve.proofs.calls.put_task.Goals as goal
+
+pub try_push_as-requires-clause-rule : goal.try_push_as-requires-clause-rule
+try_push_as-requires-clause-rule g c =
+    let r = c.requires.rule in
+    let t = sym c.loop.invariant.2 in
+    puts_task _ _ _ _ r.0 r.1 (c.loop.invariant.1 ∙ r.2) r.3 (subst (IsMadeTask r.0) t r.4) (subst (MayPut r.1) t r.5)
+
+pub returns-in-Ok-clause-moved : goal.returns-in-Ok-clause-moved
+returns-in-Ok-clause-moved g c = λ feed h e. c.in-Ok.ensures.rule feed h (c.loop.invariant.1 ∙ e) ∙ ap (λ (t : Task). At feed (put_in h t)) c.loop.invariant.2

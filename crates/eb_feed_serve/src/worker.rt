@@ -1,0 +1,139 @@
+//! A worker.
+//!
+//! Who has nothing to do tries for a while and then sleeps by an event count. Before it sleeps it announces the wait
+//! and looks again by the take that fails only at an empty queue, since the quick one also fails where another thread
+//! is in the way. A worker has a number because slices of tokens without bytes get no proof.
+ghost use Rattle.std.specs.Prelude.{◌≡◌, ◌+◌, MatchOption};
+ghost use Rattle.eb_feed_serve.specs.Feeds.{IsReaderOf};
+ghost use Rattle.eb_feed_serve.specs.Jobs.{answer_pair, answerer};
+ghost use Rattle.eb_feed_serve.specs.Rule.{IsMadeTask};
+ghost use Rattle.eb_feed_serve.specs.Desk.{with_task, with_answer, HasWorked};
+
+use crate::calls::{put_answer, sure_task, take_task};
+use crate::desk::Desk;
+use crate::job::{Answer, Task};
+use crate::rule::View;
+use crossbeam_queue::Pass;
+use crossbeam_utils::Backoff;
+use eb_base::Gate;
+use std::marker::Model;
+use std::sync::Wait;
+use std::thread;
+
+/// One who takes jobs from a desk, and puts their answers there. It may go to a thread of its own. Contracts see the
+/// pairs (a number, and how many documents the job's reader knew of) of the jobs that it took and of the answers that it
+/// put, and how many stops it took.
+#[derive(Drop)]
+pub struct Worker {
+    // Slices of tokens that take no bytes get no proof, so a worker has its number among those of its desk, from 0.
+    pub(crate) number: u32,
+    pub(crate) jobs: Pass<Task, View>,
+    pub(crate) answers: Pass<Answer, View>,
+}
+
+impl Model for Worker {
+    ghost use Rattle.eb_feed_serve.specs.Desk.{WorkerBook, worker_book, IsWorker};
+
+    ghost Value = { WorkerBook };
+
+    ghost view = { λ w. worker_book w.jobs w.answers };
+
+    ghost invariant = { λ w. IsWorker w.jobs w.answers };
+}
+
+// One more. A count that has no next one waits for ever.
+fn counted<R: Wait>(rt: &R, count: u64) -> u64
+    ensures { result ≡ count + 1 }
+{
+    if count < u64::MAX {
+        return count + 1;
+    }
+    for _ in rt.forever() {
+        thread::yield_now();
+    }
+    unreachable!()
+}
+
+impl Worker {
+    // Takes a job or a stop, where there is one and no other thread is in the way.
+    fn take(&mut self, desk: &Desk) -> Option<Task>
+        requires desk { self.old.queues ≡ desk.now.queues }
+        ensures { MatchOption result (self.new ≡ self.old) (λ t. (self.new ≡ with_task self.old t) × IsMadeTask self.old.feed t) }
+    {
+        take_task(&desk.jobs, &mut self.jobs)
+    }
+
+    // Takes a job or a stop. `None` only if there was none at one moment of the call.
+    fn sure_take<R: Wait>(&mut self, rt: &R, desk: &Desk) -> Option<Task>
+        requires desk { self.old.queues ≡ desk.now.queues }
+        ensures { MatchOption result (self.new ≡ self.old) (λ t. (self.new ≡ with_task self.old t) × IsMadeTask self.old.feed t) }
+    {
+        sure_task(rt, &desk.jobs, &mut self.jobs)
+    }
+
+    // Takes a job or a stop, or sleeps until one is put. What was put before the wait was announced, the sure take finds.
+    fn take_or_sleep<R: Wait>(&mut self, rt: &R, desk: &Desk) -> Option<Task>
+        requires desk { self.old.queues ≡ desk.now.queues }
+        ensures { MatchOption result (self.new ≡ self.old) (λ t. (self.new ≡ with_task self.old t) × IsMadeTask self.old.feed t) }
+    {
+        let key = desk.tasks_came.prepare_wait();
+        match self.sure_take(rt, desk) {
+            Some(task) => Some(task),
+            None => {
+                key.wait(rt);
+                None
+            }
+        }
+    }
+
+    // Takes a job or a stop: tries for a while, and then sleeps until one is put.
+    fn next_task<R: Wait>(&mut self, rt: &R, desk: &Desk) -> Task
+        requires desk { self.old.queues ≡ desk.now.queues }
+        ensures { (self.new ≡ with_task self.old result) × IsMadeTask self.old.feed result }
+    {
+        let backoff = Backoff::new();
+        for _ in rt.forever() {
+            if let Some(task) = self.take(desk) {
+                return task;
+            }
+            if !backoff.is_completed() {
+                backoff.snooze();
+            } else if let Some(task) = self.take_or_sleep(rt, desk) {
+                return task;
+            }
+        }
+        unreachable!()
+    }
+
+    // Puts an answer, and tries again while the queue is full.
+    fn put<R: Wait>(&mut self, rt: &R, desk: &Desk, answer: Answer)
+        requires desk { self.old.queues ≡ desk.now.queues }
+        requires made { IsReaderOf self.old.feed (answerer answer) }
+        ensures { self.new ≡ with_answer self.old (answer_pair answer) }
+    {
+        put_answer(rt, &desk.answers, &mut self.answers, answer);
+        desk.answers_came.notify_one();
+    }
+
+    /// Answers jobs until it takes a stop, and gives how many jobs it took. Each is answered by a search, whose gate is
+    /// this one. The pairs that it puts as answers are those of the jobs that it takes, in the same order, and of stops
+    /// it takes exactly one. It tries again while the queue of answers is full, and sleeps where there is no job. Takes
+    /// no memory.
+    pub fn work<R: Wait, G: Gate>(&mut self, rt: &R, desk: &Desk, gate: &G) -> u64
+        requires desk { self.old.queues ≡ desk.now.queues }
+        ensures { HasWorked self.old self.new result }
+    {
+        let mut count = 0;
+        for _ in rt.forever() {
+            match self.next_task(rt, desk) {
+                Task::Stop => return count,
+                Task::Job(job) => {
+                    let answer = job.answered(gate);
+                    self.put(rt, desk, answer);
+                    count = counted(rt, count);
+                }
+            }
+        }
+        unreachable!()
+    }
+}
