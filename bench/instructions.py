@@ -20,6 +20,7 @@ docs/PERFORMANCE.md. Takes some minutes, and wants valgrind and objdump; it is n
 """
 import argparse
 import datetime
+import glob
 import json
 import os
 import random
@@ -148,8 +149,17 @@ def live_and_packed(count, held, asked, times):
     return told
 
 
-def table(told):
-    """The result as the tables of docs/PERFORMANCE.md."""
+def result_before(path):
+    """The newest result of the folder that is older than this one, if there is one."""
+    older = [it for it in sorted(glob.glob(os.path.join(os.path.dirname(path), "instructions-*.json"))) if it < path]
+    if not older:
+        return None
+    with open(older[-1], encoding="utf-8") as file:
+        return json.load(file)
+
+
+def table(told, before=None):
+    """The result as the tables of docs/PERFORMANCE.md, beside one of the program before."""
     number = "{:,}".format
     filled = lambda it: textwrap.fill(it, 100, break_on_hyphens=False, break_long_words=False)
     lines = [filled("%s, commit %s; %s documents of a corpus, %s queries of a class, each for the newest ten."
@@ -160,13 +170,25 @@ def table(told):
     for name, it in told["each"].items():
         cells = [name, number(it["instructions"]), number(it["bytes set"])] + ([number(plain[name]["instructions"])] if plain else [])
         lines.append("| %s |" % " | ".join(cells))
-    lines += ["", filled("Over one segment of 20,000 documents, live and packed:"), "", "| A query | live | packed | packed to live |", "|---|---|---|---|"]
-    row = lambda name, live, packed: "| %s | %s | %s | %.2f |" % (name, number(live), number(packed), packed / live)
-    lines += [row(name, live, told["classes"]["packed"][name]) for name, live in told["classes"]["live"].items()]
+    of_before = ", and by the program before, commit %s" % before["commit"][:7] if before else ""
+    lines += ["", filled("Over one segment of 20,000 documents, live and packed%s:" % of_before), ""]
+    lines += both_kinds("A query", told["classes"], before and before["classes"])
     lines += ["", filled("An And of a word in each document and one in each n-th, for the newest 100, a match:"), ""]
-    lines += ["| n | live | packed | packed to live |", "|---|---|---|---|"]
-    lines += [row(name, live, told["leaps"]["packed"][name]) for name, live in told["leaps"]["live"].items()]
+    lines += both_kinds("n", told["leaps"], before and before["leaps"])
     return "\n".join(lines)
+
+
+def both_kinds(head, found, before):
+    """A table of what was found over live and over packed lists."""
+    number = "{:,}".format
+    heads = [head, "live", "packed", "packed to live"] + ["live before", "packed before"] * bool(before)
+    lines = ["| %s |" % " | ".join(heads), "|%s" % ("---|" * len(heads))]
+    for name, live in found["live"].items():
+        packed = found["packed"][name]
+        cells = [name, number(live), number(packed), "%.2f" % (packed / live)]
+        cells += [number(before[kind][name]) for kind in ("live", "packed")] if before else []
+        lines.append("| %s |" % " | ".join(cells))
+    return lines
 
 
 def main():
@@ -180,7 +202,7 @@ def main():
     given = parser.parse_args()
     if given.table:
         with open(given.table, encoding="utf-8") as file:
-            return print(table(json.load(file)))
+            return print(table(json.load(file), result_before(given.table)))
     count = lambda settings, text: counted(given.program, ["run", *settings], text)
     told = {"date": datetime.date.today().isoformat(), "commit": commit(), "documents": given.documents, "queries": given.queries}
     held = zipf_lines(QUERIED_DOCUMENTS)
