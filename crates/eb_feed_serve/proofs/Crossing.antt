@@ -17,7 +17,10 @@ use Rattle.eb_feed_serve.specs.contracts.job.Answer as Answer
 use Rattle.eb_feed_serve.specs.contracts.desk.Desk as Desk
 
 frame_send : IsSend Frame.the_row
-frame_send = declared_send Frame.the_type (search (crosses, query.crosses, query.send-Query, query.send-Queries, term.the_send, terms.the_send, as_row_send) depth 20, (search crosses, (search crosses, (search (crosses, as_row_send, cursor.the_send), (search (crosses, as_row_send), tt)))))
+frame_send = declared_send Frame.the_type (
+  search (crosses, query.crosses, query.send-Query, query.send-Queries, term.the_send, terms.the_send, as_row_send) depth 20,
+  (search crosses, (search crosses, (search (crosses, as_row_send, cursor.the_send), (search (crosses, as_row_send), tt)))),
+)
 
 job_send : IsSend Job.the_row
 job_send = declared_send Job.the_type (search crosses, (search crosses, (frame_send, (reader.the_send, tt))))
