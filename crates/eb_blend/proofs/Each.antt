@@ -111,7 +111,7 @@ take_set [] n x lt = absurd (omega (arith, lt))
 take_set (y ∷ xs) zero x lt = refl
 take_set (y ∷ xs) (suc n) x lt = let e : suc n + 1 ≡ suc (n + 1) = omega arith in rw e (ap (λ z. y ∷ z) (take_set xs n x (omega (arith, lt))))
 
-length_map : {A B : Type 0} (f : A → B) (xs : List A) → length (map f xs) ≡ length xs
+pub length_map : {A B : Type 0} (f : A → B) (xs : List A) → length (map f xs) ≡ length xs
 length_map f [] = refl
 length_map f (x ∷ xs) = ap suc (length_map f xs)
 
@@ -149,6 +149,17 @@ pub sum_push : (ns : List ℕ) (n x : ℕ) (count : ℕ) → n < length ns → c
 sum_push ns n x count l e =
     let s : sum (take (n + 1) (set ns n x)) ≡ sum (take n ns) + x = ap sum (take_set ns n x l) ∙ sum_by_push (λ (z : ℕ). z) (take n ns) x in
     omega (arith, e, s)
+
+-- one history more is counted
+pub counted_push : (xs : List ℕ) (n x count : ℕ) → n < length xs → get_or xs n x ≡ x → count ≡ counted (take n xs) → min (count + x) (2 ^ 64 - 1) ≡ counted (take (n + 1) xs)
+counted_push xs n x count lt e c =
+    let s : sum (take (n + 1) xs) ≡ sum (take n xs) + x = ap sum (take_next xs n x lt e) ∙ sum_by_push (λ (z : ℕ). z) (take n xs) x in
+    omega (arith, c, s)
+
+pub lengths_got : (ts : List HistoryToken) (n : ℕ) (t : HistoryToken) (x : ℕ) → n < length ts → t ≡ get_or ts n t → x ≡ length t.docs → get_or (lengths_of (histories_of ts)) n x ≡ x
+lengths_got ts n t x lt a e =
+    get_or-map length (histories_of ts) n t.docs x (omega (arith, lt, length_histories ts))
+    ∙ ap length (get_or-map (λ (z : HistoryToken). z.docs) ts n t t.docs lt ∙ ap (λ (z : HistoryToken). z.docs) (sym a)) ∙ sym e
 
 -- ---- nothing changed at a part
 
@@ -299,6 +310,20 @@ converter_met_more cs rs n new r l m b pre f p le =
       | inl s ↦ subst (λ k. IsPrefix (history (histories_of rs) k) (history (converter_histories_of (set cs n new)) k)) (sym s)
           (subst (λ (z : List Doc × List Doc). IsPrefix z.0 z.1) (λ i. (here i, there i)) pre)
       | inr ne ↦ subst (λ (z : List Doc). IsPrefix (history (histories_of rs) p) z) (sym (other_history cs n new p ne)) (f p (omega (arith, le, ne)))
+    ]
+
+-- one converter more was told
+pub told_more : (ts : List HistoryToken) (cs : List ConverterToken) (n : ℕ) (t : HistoryToken) (new : ConverterToken) → n < length ts → n < length cs
+    → t ≡ get_or ts n t → IsPrefix t.docs new.docs
+    → ((p : ℕ) → p < n → IsPrefix (history (histories_of ts) p) (history (converter_histories_of cs) p))
+    → (p : ℕ) → p < n + 1 → IsPrefix (history (histories_of ts) p) (history (converter_histories_of (set cs n new)) p)
+told_more ts cs n t new l m a pre f p lt =
+    let here = sym (history_at ts n t l a) in
+    let there = sym (new_history cs n new m) in
+    elim (cases_eq p n) [
+      | inl s ↦ subst (λ k. IsPrefix (history (histories_of ts) k) (history (converter_histories_of (set cs n new)) k)) (sym s)
+          (subst (λ (z : List Doc × List Doc). IsPrefix z.0 z.1) (λ i. (here i, there i)) pre)
+      | inr ne ↦ subst (λ (z : List Doc). IsPrefix (history (histories_of ts) p) z) (sym (other_history cs n new p ne)) (f p (omega (arith, lt, ne)))
     ]
 
 -- ---- a sum over the parts

@@ -4,3 +4,5 @@ pub mod Blends
 pub mod Copies
 pub mod Closings
 pub mod Law
+pub mod Turns
+pub mod Convertings

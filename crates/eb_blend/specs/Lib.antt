@@ -4,3 +4,5 @@ pub mod Refused
 pub mod Frames
 pub mod Laws
 pub mod Faults
+pub mod Adding
+pub mod Converting

@@ -2,6 +2,7 @@
 //! blends their answers. What many machines would do, each with a part, stands here in one program, with its law.
 #![tactic(auto)]
 
+mod adding;
 mod blend;
 mod catching_up;
 mod converter;
@@ -10,6 +11,7 @@ mod laws;
 mod order;
 mod reader;
 mod refusal;
+mod searching;
 mod writer;
 
 pub use blend::Blend;

@@ -1,13 +1,15 @@
-ghost use Rattle.std.specs.Prelude.{◌≡◌, ◌%◌, ◌≤◌, ◌<◌, [], length, get_or, replicate, None, Some, IfOk, IfErr, IfSome, OnErr, ℕ};
+ghost use Rattle.std.specs.Prelude.{◌≡◌, ◌%◌, ◌≤◌, ◌<◌, [], length, get_or, replicate, None, Some, IfOk, IfErr, IfSome, OnErr, OnOk, ℕ};
 ghost use Rattle.eb_place.specs.Room.{HasRoom};
 ghost use Rattle.eb_blend.specs.Parts.{WriterTokens, indexes_of, histories_of, converter_indexes_of, converter_histories_of, converted_of, lengths_of, counted};
-ghost use Rattle.eb_blend.specs.Parts.{few_counted, segments_of, history, part_of, with_document, IsAbove, AreFronts, AllClosed, IsCaughtUp};
+ghost use Rattle.eb_blend.specs.Parts.{few_counted, segments_of, history, part_of, with_document, IsAbove, AreFronts, AllClosed, AllConverted, IsCaughtUp};
 ghost use Rattle.eb_base.specs.Setting.{Setting};
 ghost use Rattle.std.specs.List.{All};
 ghost use Rattle.eb_blend.specs.Refused.{Refuses};
+ghost use Rattle.eb_blend.specs.Adding.{outcomes_of, with_items};
 
+use crate::adding::{Space, add_with, count_all};
 use crate::blend::Blend;
-use crate::catching_up::catch_up_at;
+use crate::catching_up::{catch_up_at, catch_up_each};
 use crate::converter::BlendConverter;
 use crate::reader::BlendReader;
 use crate::refusal::BlendRefusal;
@@ -16,12 +18,13 @@ use eb_engine::{Converter, Index, Reader, Writer};
 use eb_writer::Full;
 use std::alloc::Global;
 use std::marker::Model;
+use std::thread::Threads;
 
 /// The one writer of a blend. It may go to a thread of its own. Contracts see the history of each part, and the id of
 /// the document that it added last.
 #[derive(Drop)]
 pub struct BlendWriter {
-    writers: Vec<Writer>,
+    pub(crate) writers: Vec<Writer>,
     last: Option<u64>,
     accepted: u64,
 }
@@ -79,6 +82,37 @@ impl BlendWriter {
         self.last = Some(id);
         self.accepted = self.accepted.saturating_add(1);
         Ok(self.accepted)
+    }
+
+    /// Adds the documents among some items, one after the other, each exactly as `add` does, and gives what came of each
+    /// item: why it was refused, where it is a document that was. Where ids rise the parts add side by side, each on a
+    /// thread of its own; few documents and those of one part start none. Where memory doesn't suffice, which shows before
+    /// the first is added, nothing is done. The writer must have been made with this blend.
+    pub fn add_all<R: Threads + Sync, E: Sync, G: Gate + Sync>(
+        &mut self,
+        rt: &R,
+        alloc: Global,
+        blend: &Blend,
+        items: &[Result<Document, E>],
+        gate: &G,
+    ) -> Result<Vec<Option<BlendRefusal>>, NoMemory>
+        requires { self.old.indexes ≡ blend.now.indexes }
+        ensures outcomes { IfOk result (λ r. r.items ≡ outcomes_of blend.now.setting self.old items.now) }
+        ensures added { OnOk result (self.new ≡ with_items blend.now.setting self.old items.now) }
+        ensures unchanged { OnErr result (self.new ≡ self.old) }
+    {
+        let mut space = Space::new(alloc, blend.parts.len(), items.len())?;
+        self.last = add_with(
+            rt,
+            blend.parts.as_slice(),
+            &mut space,
+            &mut self.writers,
+            self.last,
+            items,
+            gate,
+        );
+        self.accepted = count_all(self.writers.as_slice());
+        Ok(space.outcomes)
     }
 
     /// The sum of the lengths of the histories.
@@ -165,6 +199,37 @@ impl BlendWriter {
             at,
             blend.parts.as_slice(),
             self.writers.as_mut_slice(),
+            converter.converters.as_mut_slice(),
+        );
+    }
+
+    /// Catches up with all parts: the converter is told their histories and, side by side where a segment waits in some
+    /// part, converts in each until there is nothing to convert, and the writer is told of that. Both must have been made
+    /// with this blend. Takes no memory.
+    pub fn catch_up_all<R: Threads + Sync>(
+        &mut self,
+        rt: &R,
+        blend: &Blend,
+        converter: &mut BlendConverter,
+    )
+        requires this { self.old.indexes ≡ blend.now.indexes }
+        requires converter { converter.old.indexes ≡ blend.now.indexes }
+        ensures this { self.new ≡ self.old }
+        ensures indexes { converter.new.indexes ≡ converter.old.indexes }
+        ensures parts { length converter.new.converted ≡ length converter.old.converted }
+        ensures known { AreFronts converter.old.histories converter.new.histories }
+        ensures told { AreFronts self.old.histories converter.new.histories }
+        ensures converted { AllConverted blend.now.setting self.old.histories converter.new.converted }
+    {
+        catch_up_each(
+            rt,
+            blend.parts.as_slice(),
+            self.writers.as_mut_slice(),
+            converter.converters.as_mut_slice(),
+        );
+        hear_each(
+            self.writers.as_mut_slice(),
+            blend.parts.as_slice(),
             converter.converters.as_mut_slice(),
         );
     }

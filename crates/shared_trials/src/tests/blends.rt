@@ -3,3 +3,4 @@ mod beside;
 mod made;
 mod rows;
 mod table;
+mod together;

@@ -1,0 +1,85 @@
+//! The writer of a blend searches, as one who reads his own writes.
+ghost use Rattle.std.specs.Prelude.{◌≡◌, ℕ, map, length};
+ghost use Rattle.eb_base.specs.Query.{Tree};
+ghost use Rattle.eb_base.specs.Match.{answer};
+ghost use Rattle.eb_cursor.specs.Frames.{ids_of};
+ghost use Rattle.eb_blend.specs.Blended.{blended};
+ghost use Rattle.eb_blend.specs.Frames.{AllAsk, Asks, found_of, searched_of};
+ghost use Rattle.eb_blend.specs.Parts.{indexes_of, histories_of, lengths_of, counted};
+
+use crate::blend::Blend;
+use crate::frame::BlendFrame;
+use crate::writer::BlendWriter;
+use eb_base::Gate;
+use eb_cursor::Frame;
+use eb_engine::{Index, Writer};
+use eb_place::Steps;
+use std::sync::ledger::Ledger;
+
+impl BlendWriter {
+    /// Searches the whole histories, part after part; else as `BlendReader::search`, and so the answer is over exactly the
+    /// documents that were added. The writer must have been made with this blend, and the frame for so many parts. Takes
+    /// no memory.
+    pub fn search<G: Gate, L: Ledger>(
+        &mut self,
+        blend: &Blend,
+        frame: &mut BlendFrame,
+        gate: &G,
+        steps: &mut Steps<L>,
+    ) -> u64
+        requires made { self.old.indexes ≡ blend.now.indexes }
+        requires frame { (q : Tree) × (k : ℕ) × Asks frame.old q k (length blend.now.indexes) }
+        ensures this { self.new ≡ self.old }
+        ensures lengths { searched_of frame.new ≡ lengths_of self.old.histories }
+        ensures count { result ≡ counted (lengths_of self.old.histories) }
+        ensures asks { (q : Tree) (k parts : ℕ) → Asks frame.old q k parts → Asks frame.new q k parts }
+        ensures ids { (q : Tree) (k : ℕ) → Asks frame.old q k (length blend.now.indexes)
+            → found_of frame.new ≡ blended q k self.old.histories (lengths_of self.old.histories) }
+    {
+        search_own(
+            self.writers.as_mut_slice(),
+            blend.parts.as_slice(),
+            frame.frames.as_mut_slice(),
+            gate,
+            steps,
+        );
+        let count = count_own(self.writers.as_slice(), frame.lengths.as_mut_slice());
+        frame.blend();
+        count
+    }
+}
+
+// Each writer searches its part with its frame.
+fn search_own<G: Gate, L: Ledger>(
+    writers: &mut [Writer],
+    indexes: &[Index],
+    frames: &mut [Frame],
+    gate: &G,
+    steps: &mut Steps<L>,
+)
+    requires made { indexes_of writers.old ≡ indexes.now }
+    requires frames { length frames.old ≡ length writers.old }
+    requires ask { (q : Tree) × (k : ℕ) × AllAsk q k frames.old }
+    ensures writers { writers.new ≡ writers.old }
+    ensures ask { (q : Tree) (k : ℕ) → AllAsk q k frames.old → AllAsk q k frames.new }
+    ensures found { (q : Tree) (k : ℕ) → AllAsk q k frames.old → map ids_of frames.new ≡ map (answer q k) (histories_of writers.old) }
+{
+    for at in 0..writers.len() {
+        writers[at].search(&indexes[at], &mut frames[at], gate, steps);
+    }
+}
+
+// Puts how many documents each writer added, and gives their sum.
+fn count_own(writers: &[Writer], lengths: &mut [u64]) -> u64
+    requires { length lengths.old ≡ length writers.now }
+    ensures lengths { lengths.new ≡ lengths_of (histories_of writers.now) }
+    ensures sum { result ≡ counted lengths.new }
+{
+    let mut count = 0u64;
+    for at in 0..writers.len() {
+        let added = writers[at].accepted();
+        lengths[at] = added;
+        count = count.saturating_add(added);
+    }
+    count
+}
