@@ -21,31 +21,29 @@ use eb_lines::{
 };
 use std::alloc::Global;
 
-// A run over a store: it processes each line at once.
+/// A run over a store between two lines.
 #[derive(Drop)]
-pub(crate) struct Answering<'a, G, S> {
+pub struct Answering<'a, G, S> {
     alloc: Global,
-    // It is told what the store does.
-    gate: &'a G,
-    store: S,
-    // The fields by which lines are read.
-    fields: Fields<'a>,
+    /// It is told what the store does.
+    pub gate: &'a G,
+    /// What the lines fill and ask.
+    pub store: S,
+    /// The fields by which lines are read.
+    pub fields: Fields<'a>,
     // What reads document lines, with its room.
     documents: DocumentReader,
-    // The number of the last line, and how many queries were answered and lines refused.
-    number: u64,
+    /// The number of the last line.
+    pub number: u64,
+    // How many queries were answered.
     queries: u64,
-    refused: u64,
+    /// How many lines were refused.
+    pub refused: u64,
 }
 
 impl<'a, G: Gate, S: Store> Answering<'a, G, S> {
-    // Before the first line.
-    pub(crate) fn new(
-        alloc: Global,
-        gate: &'a G,
-        store: S,
-        fields: Fields<'a>,
-    ) -> Answering<'a, G, S>
+    /// A run before the first line, over this store, which reads lines with these fields. The gate is told what the store does.
+    pub fn new(alloc: Global, gate: &'a G, store: S, fields: Fields<'a>) -> Answering<'a, G, S>
         ensures { (rules : Rules S.Watches) → names fields.entry ≡ rules.fields → S.holds store rules rules.start rules.watches
             → HasAnswered S.other S.holds result rules [] [] }
     {
@@ -61,8 +59,8 @@ impl<'a, G: Gate, S: Store> Answering<'a, G, S> {
         }
     }
 
-    // Passes over a blank line.
-    fn pass(&mut self)
+    /// Passes over a blank line.
+    pub fn pass(&mut self)
         requires state { IsRunning (HasAnswered S.other S.holds) self.old }
         requires number { self.old.number ≤ 2 ^ 40 }
         ensures { (text : List ℕ) → TakesLine S.other S.holds self.old self.new text text blank }
@@ -70,8 +68,8 @@ impl<'a, G: Gate, S: Store> Answering<'a, G, S> {
         self.number += 1;
     }
 
-    // Refuses a line.
-    fn refuse(&mut self, refusal: Refusal, text: &mut Vec<u8>) -> Result<(), NoMemory>
+    /// Refuses a line for this cause, and puts so after the text. Where memory doesn't suffice, nothing is done.
+    pub fn refuse(&mut self, refusal: Refusal, text: &mut Vec<u8>) -> Result<(), NoMemory>
         requires state { IsRunning (HasAnswered S.other S.holds) self.old }
         requires number { self.old.number ≤ 2 ^ 40 }
         ensures ok { OnOk result (TakesLine S.other S.holds self.old self.new text.old.items text.new.items (is_refused refusal)) }
@@ -85,8 +83,9 @@ impl<'a, G: Gate, S: Store> Answering<'a, G, S> {
         Ok(())
     }
 
-    // Adds a document; where it isn't accepted, the line is refused.
-    fn add(&mut self, document: &Document, text: &mut Vec<u8>) -> Result<(), NoMemory>
+    /// Adds a document, and puts the watches that it matches after the text; where it isn't accepted, its line is refused. Where
+    /// memory doesn't suffice, nothing is done.
+    pub fn add(&mut self, document: &Document, text: &mut Vec<u8>) -> Result<(), NoMemory>
         requires state { IsRunning (HasAnswered S.other S.holds) self.old }
         requires number { self.old.number ≤ 2 ^ 40 }
         ensures ok { OnOk result (TakesLine S.other S.holds self.old self.new text.old.items text.new.items (reads_document document.now)) }
@@ -105,8 +104,8 @@ impl<'a, G: Gate, S: Store> Answering<'a, G, S> {
         Ok(())
     }
 
-    // Answers a query.
-    fn answer(&mut self, k: u32, query: Query, text: &mut Vec<u8>) -> Result<(), NoMemory>
+    /// Answers a query: puts the ids of the newest `k` matches after the text. Where memory doesn't suffice, nothing is done.
+    pub fn answer(&mut self, k: u32, query: Query, text: &mut Vec<u8>) -> Result<(), NoMemory>
         requires state { IsRunning (HasAnswered S.other S.holds) self.old }
         requires number { self.old.number ≤ 2 ^ 40 }
         requires asked { MayAsk k query }
@@ -121,8 +120,8 @@ impl<'a, G: Gate, S: Store> Answering<'a, G, S> {
         Ok(())
     }
 
-    // Takes a line that is neither blank, nor a document or query line, nor long.
-    fn take_other(&mut self, bytes: &[u8], text: &mut Vec<u8>) -> Result<(), NoMemory>
+    /// Takes a line that is neither blank, nor a document or query line, nor long. Where memory doesn't suffice, it isn't taken.
+    pub fn take_other(&mut self, bytes: &[u8], text: &mut Vec<u8>) -> Result<(), NoMemory>
         requires state { IsRunning (HasAnswered S.other S.holds) self.old }
         requires number { self.old.number ≤ 2 ^ 40 }
         requires kind { kind_of bytes.now ≡ bad_line }

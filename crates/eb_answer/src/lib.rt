@@ -6,5 +6,7 @@ mod question;
 mod run;
 mod store;
 
+pub use answering::Answering;
+pub use question::read_question;
 pub use run::answer_lines;
 pub use store::Store;

@@ -8,8 +8,8 @@ use eb_lines::{Refusal, query_refusal};
 use eb_query::read_query_with;
 use std::alloc::Global;
 
-// The query of a query line, which begins with `?`, with these fields, and how many matches it asks for, or why the line is refused.
-pub(crate) fn read_question(
+/// The query of a query line, which begins with `?`, with these fields, and how many matches it asks for, or why the line is refused.
+pub fn read_question(
     alloc: Global,
     fields: Fields<'_>,
     text: &str,

@@ -1,0 +1,5 @@
+pub mod Placings
+pub mod Collected
+pub mod RunTasks
+pub mod Running
+pub mod Waitings

@@ -1,0 +1,5 @@
+pub mod Placed
+pub mod Placing
+pub mod Tasks
+pub mod Runs
+pub mod Ahead

@@ -1,0 +1,43 @@
+ghost use Rattle.std.specs.Prelude.{length, IfOk, OnErr};
+ghost use Rattle.eb_ahead.specs.Placed.{IsHoldingFor, PlacesItem, PlacesAll};
+ghost use Rattle.eb_answer.specs.Stores.{IsHolding, Keeps};
+
+use eb_answer::Store;
+use eb_base::{Document, Gate, NoMemory};
+use eb_lines::Refusal;
+use std::alloc::Global;
+
+// Adds an item that is a document, and gives why it is refused, if it is.
+fn place_item<S: Store, E, G: Gate>(
+    store: &mut S,
+    item: &Result<Document, E>,
+    gate: &G,
+) -> Option<Refusal>
+    requires { IsHolding S.holds store.old }
+    ensures { PlacesItem S.holds store.old store.new item.now result }
+{
+    match item {
+        Ok(document) => store.place(document, gate),
+        Err(_) => None,
+    }
+}
+
+/// Adds the documents among some items to a store, one after the other, and gives what came of each item: why it is refused,
+/// where it is a document that is. Where memory doesn't suffice, which shows before the first is added, nothing is done.
+pub fn place_each<S: Store, E, G: Gate>(
+    store: &mut S,
+    alloc: Global,
+    items: &[Result<Document, E>],
+    gate: &G,
+) -> Result<Vec<Option<Refusal>>, NoMemory>
+    requires { IsHoldingFor S.holds store.old (length items.now) }
+    ensures ok { IfOk result (λ refusals. PlacesAll S.holds store.old store.new items.now refusals.items) }
+    ensures err { OnErr result (Keeps S.holds store.old store.new) }
+{
+    let mut refusals = Vec::with_capacity(alloc, items.len())?;
+    for item in items {
+        let refusal = place_item(store, item, gate);
+        refusals.push_reserved(refusal);
+    }
+    Ok(refusals)
+}

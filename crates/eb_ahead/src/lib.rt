@@ -1,0 +1,13 @@
+//! A run over the lines of an input whose lines wait a little: they are read side by side, and their documents are added to a store many at once.
+#![tactic(auto)]
+
+mod adding;
+mod ahead;
+mod each;
+mod held;
+mod program;
+mod run;
+
+pub use each::place_each;
+pub use held::{Other, Question};
+pub use run::answer_lines_ahead;

@@ -1,0 +1,63 @@
+ghost use Rattle.std.specs.Prelude.{◌≡◌, OnOk};
+ghost use Rattle.eb_ahead.specs.Ahead.{HasHeld, HoldsNone};
+ghost use Rattle.eb_ahead.specs.Placing.{PlacesTogether, TellsNone};
+ghost use Rattle.eb_answer.specs.Rules.{Rules, IsBody, IsText, HasRefusal, HasNoRefusal};
+ghost use Rattle.eb_fields.specs.Fields.{names};
+ghost use Rattle.eb_io.specs.Faults.{HasRisen};
+ghost use Rattle.eb_lines.specs.Passing.{Ends};
+ghost use Rattle.eb_lines.specs.Programs.{IsRunning, WorksOn};
+
+use crate::ahead::{Ahead, work_held};
+use crate::held::Other;
+use crate::program::AheadProgram;
+use eb_answer::{Answering, Store};
+use eb_base::{Document, Gate, NoMemory};
+use eb_fields::Fields;
+use eb_io::{Sink, Source};
+use eb_lines::{Refusal, Status, pass_lines};
+use std::alloc::Global;
+use std::thread::Threads;
+
+/// As `answer_lines` of eb_answer, and prints the same, while at most 4,096 lines wait: they are read side by side, by several
+/// threads where there are many, and the documents up to the next query are added many at once. No query waits for a further
+/// line. Memory for what a run of documents prints is taken before the first of them is added.
+pub fn answer_lines_ahead<
+    P: Store + Drop,
+    R: Threads + Sync,
+    S: Source,
+    K: Sink,
+    G: Gate,
+    W: Fn(&mut P, &[Result<Document, Other>]) -> Result<Vec<Option<Refusal>>, NoMemory>,
+>(
+    rt: &R,
+    alloc: Global,
+    store: P,
+    place_all: &W,
+    fields: Fields<'_>,
+    source: &mut S,
+    out: &mut K,
+    gate: &G,
+) -> Status
+    requires store { (rules : Rules P.Watches) × (names fields ≡ rules.fields) × P.holds store rules rules.start rules.watches }
+    requires placing { PlacesTogether P.holds W.pre W.post place_all.now }
+    requires tells { TellsNone P.holds }
+    ensures ends { (rules : Rules P.Watches) → names fields.entry ≡ rules.fields → P.holds store rules rules.start rules.watches
+        → Ends (IsBody P.other rules) (IsText P.other rules) (HasRefusal P.other rules) (HasNoRefusal P.other rules)
+        result (S.left source.old) (S.left source.new) (K.taken out.old) (K.taken out.new) }
+    ensures read_fault { result ≡ Status.ReadFault → HasRisen (S.faults source.old) (S.faults source.new) }
+    ensures write_fault { result ≡ Status.WriteFault → HasRisen (K.faults out.old) (K.faults out.new) }
+{
+    let mut program = AheadProgram {
+        alloc,
+        worker: |ahead: &mut Ahead<'_, G, P>, text: &mut Vec<u8>| -> Result<(), NoMemory>
+            requires state { IsRunning (HasHeld P.other P.holds) ahead.old }
+            requires placing { PlacesTogether P.holds W.pre W.post place_all.now }
+            requires tells { TellsNone P.holds }
+            ensures on { WorksOn (HasHeld P.other P.holds) ahead.old ahead.new text.old.items text.new.items }
+            ensures none { OnOk result (HoldsNone ahead.new) }
+            ensures same { ahead.new.number ≡ ahead.old.number }
+        { work_held(ahead, rt, alloc, place_all, text) },
+        ahead: Ahead::new(alloc, Answering::new(alloc, gate, store, fields)),
+    };
+    pass_lines(alloc, &mut program, Vec::new(alloc), source, out)
+}
