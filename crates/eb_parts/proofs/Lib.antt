@@ -1,3 +1,4 @@
 pub mod Histories
 pub mod Placings
 pub mod Closing
+pub mod Runs

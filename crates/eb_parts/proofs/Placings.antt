@@ -1,6 +1,6 @@
 -- What a document comes to in the parts, and what is searched in them.
 use Rattle.std.proofs.Common.{◌≡◌, ℕ, ◌+◌, ◌-◌, ◌%◌, ◌<◌, ◌≤◌, zero, suc, inl, inr, get_or, Bool, true, false, List, []}
-use Rattle.std.proofs.Common.{◌∷◌, ◌++◌, length, Option, Some, None, refl, ap, ap₂, sym, ◌∙◌, subst, arith, append-nil}
+use Rattle.std.proofs.Common.{◌∷◌, ◌++◌, length, Option, Some, None, refl, ap, sym, ◌∙◌, subst, arith, append-nil}
 use Rattle.std.specs.Prelude.{min, ◌^◌, nat_le, if◌then◌else◌, replicate, map}
 use Rattle.std.specs.List.{All, range_with_len}
 use Rattle.std.proofs.lemmas.Bool.{cases_lt, cases_eq, le-leb, lt-leb}
@@ -15,17 +15,16 @@ use Rattle.eb_blend.specs.Blended.{blended}
 use Rattle.eb_blend.specs.declared.refusal.BlendRefusal.{BlendRefusal}
 use Rattle.eb_blend.specs.declared.refusal.BlendRefusal.TheVariants as blend
 use Rattle.eb_blend.specs.Laws.{part, cut_into}
-use Rattle.eb_blend.specs.Parts.{Parts, WriterTokens, ConverterTokens, history, part_of, with_document, IsAbove, counted, lengths_of, AreFronts, AllConverted, IsCaughtUp}
+use Rattle.eb_blend.specs.Parts.{Parts, WriterTokens, ConverterTokens, history, part_of, with_document, IsAbove, counted, lengths_of, AllConverted, IsCaughtUp}
 use Rattle.eb_blend.specs.Refused.{Refuses}
 use Rattle.eb_blend.proofs.Law.{is_answer, own_part, other_part}
 use Rattle.eb_blend.proofs.Each.{no_lengths}
-use Rattle.eb_engine.proofs.Knows.{same_fronts}
 use Rattle.eb_lines.specs.declared.refusal.Refusal.{Refusal}
 use Rattle.eb_lines.specs.declared.refusal.Refusal.TheVariants.{NotRising, Full}
 use Rattle.eb_place.specs.Room.{cut, has_room, HasRoom}
 use Rattle.eb_table.specs.Known.{Words}
 use Rattle.eb_parts.specs.declared.store.Store.{Store}
-use Rattle.eb_parts.specs.AcceptedInParts.{last_id, refusal_of_part, refusal_above, refusal_in_parts}
+use Rattle.eb_parts.specs.AcceptedInParts.{last_id, refusal_of_part, refusal_above, refusal_in_parts, refused_by}
 use Rattle.eb_parts.specs.Stores.{Holds, WithPlaced}
 use Rattle.eb_parts.proofs.Histories.{cut_length, history_of, history_past, histories_push, last-push, rising-push, short_push, short_none, counts_push}
 
@@ -56,7 +55,7 @@ admit_rising : (o : Option ℕ) (d : Doc) (r : Option Refusal) → IsAbove o d.i
 admit_rising None d r above = refl
 admit_rising (Some last) d r above = let e : nat_le d.id last ≡ false = lt-leb d.id last above in rw e refl
 
-part_is : (parts : ℕ) (docs : List Doc) (d : Doc) → 1 ≤ parts → history (cut_into parts docs) (part_of (cut_into parts docs) d) ≡ part parts docs (d.id % parts)
+pub part_is : (parts : ℕ) (docs : List Doc) (d : Doc) → 1 ≤ parts → history (cut_into parts docs) (part_of (cut_into parts docs) d) ≡ part parts docs (d.id % parts)
 part_is parts docs d some =
     let below : d.id % parts < parts = mod-lt d.id (omega (arith, some)) in
     ap (λ n. history (cut_into parts docs) (d.id % n)) (cut_length parts docs) ∙ history_of parts (d.id % parts) docs below
@@ -81,7 +80,7 @@ admit_low parts σ docs d last is low =
 
 -- ---- the store after it
 
-short_more : (parts : ℕ) (σ : Setting) (docs : List Doc) (d : Doc) (p : ℕ) → 1 ≤ parts → σ.segments ≤ 64 → has_room σ (part parts docs (d.id % parts)) d ≡ true
+pub short_more : (parts : ℕ) (σ : Setting) (docs : List Doc) (d : Doc) (p : ℕ) → 1 ≤ parts → σ.segments ≤ 64 → has_room σ (part parts docs (d.id % parts)) d ≡ true
     → length (cut σ (history (cut_into parts docs) p)) ≤ 64 → length (cut σ (history (cut_into parts (docs ++ d ∷ [])) p)) ≤ 64
 short_more parts σ docs d p some few room short = elim (cases_lt p parts) [
   | inl lt ↦
@@ -163,10 +162,6 @@ unplaced old new parts σ docs d r h same is = record {
 }
 
 -- a document that is refused
-abbrev pub refused_by : BlendRefusal → Refusal
-refused_by (blend.NotRising last) = NotRising last
-refused_by (blend.Full part) = Full
-
 pub not_placed : (old new : Store) (parts : ℕ) (σ : Setting) (docs : List Doc) (d : Doc) (b : BlendRefusal) → Holds old parts σ docs → Refuses old.blend.setting old.writer d b → new ≡ old
     → WithPlaced new parts σ docs d (Some (refused_by b))
 not_placed old new parts σ docs d (blend.NotRising last) h r same =
@@ -218,15 +213,6 @@ holds_none s parts σ ws some most allowed number settings blend writer converte
 }
 
 -- ---- a search over all documents
-
-by_gets : {A : Type 0} (xs ys : List A) (x : A) → length xs ≡ length ys → ((p : ℕ) → get_or xs p x ≡ get_or ys p x) → xs ≡ ys
-by_gets [] [] x e f = refl
-by_gets [] (b ∷ ys) x e f = absurd (omega (arith, e))
-by_gets (a ∷ xs) [] x e f = absurd (omega (arith, e))
-by_gets (a ∷ xs) (b ∷ ys) x e f = ap₂ (λ z zs. z ∷ zs) (f 0) (by_gets xs ys x (omega (arith, e)) (λ p. f (suc p)))
-
-pub fronts_same : (hs gs : List (List Doc)) → AreFronts hs gs → AreFronts gs hs → hs ≡ gs
-fronts_same hs gs f g = by_gets hs gs [] f.parts (λ p. same_fronts (history hs p) (history gs p) (f.each p) (g.each p))
 
 pub answers_all : (s : Store) (parts : ℕ) (σ : Setting) (docs : List Doc) (q : Tree) (k : ℕ) (found : List ℕ) → Holds s parts σ docs
     → found ≡ blended q k s.writer.histories (lengths_of s.writer.histories) → found ≡ answer q k docs

@@ -3,6 +3,8 @@ use Rattle.std.specs.Prelude.{ℕ, ◌%◌, List, [], ◌∷◌, Option, Some, N
 use Rattle.eb_base.specs.Document.{Doc}
 use Rattle.eb_base.specs.Setting.{Setting}
 use Rattle.eb_place.specs.Room.{has_room}
+use Rattle.eb_blend.specs.declared.refusal.BlendRefusal.{BlendRefusal}
+use Rattle.eb_blend.specs.declared.refusal.BlendRefusal.TheVariants as blend
 use Rattle.eb_blend.specs.Laws.{part}
 use Rattle.eb_lines.specs.declared.refusal.Refusal.{Refusal}
 use Rattle.eb_lines.specs.declared.refusal.Refusal.TheVariants.{NotRising, Full}
@@ -26,3 +28,8 @@ refusal_above (Some last) d r = if nat_le d.id last then Some (NotRising last) e
 -- why a document is refused after these accepted ones
 abbrev pub refusal_in_parts : ℕ → Setting → List Doc → Doc → Option Refusal
 refusal_in_parts parts σ docs d = refusal_above (last_id docs) d (refusal_of_part parts σ docs d)
+
+-- a document that the blend of the parts refuses
+abbrev pub refused_by : BlendRefusal → Refusal
+refused_by (blend.NotRising last) = NotRising last
+refused_by (blend.Full part) = Full

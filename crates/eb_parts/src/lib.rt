@@ -6,4 +6,4 @@ mod parted;
 mod run;
 mod store;
 
-pub use run::run_parts;
+pub use run::{run_parts, run_parts_beside};

@@ -1,5 +1,7 @@
 //! The parts that lines fill and ask.
-ghost use Rattle.std.specs.Prelude.{◌≡◌, ◌≤◌, ℕ, List, [], IfOk};
+ghost use Rattle.std.specs.Prelude.{◌≡◌, ◌≤◌, ℕ, List, [], length, IfOk, OnErr};
+ghost use Rattle.eb_ahead.specs.Placed.{IsHoldingFor, PlacesAll};
+ghost use Rattle.eb_answer.specs.Stores.{Keeps};
 ghost use Rattle.eb_parts.specs.Parted.{IsParted};
 ghost use Rattle.eb_parts.specs.Texts.{parts_rules};
 
@@ -11,6 +13,7 @@ use eb_fields::Fields;
 use eb_indexed::tell_segments;
 use eb_lines::{Form, Refusal, Tail, line_room, put_answer};
 use std::alloc::Global;
+use std::thread::Threads;
 
 // So many parts, and how what is printed of them is written.
 #[derive(Drop)]
@@ -37,6 +40,22 @@ impl Parted {
             number,
             form,
         })
+    }
+
+    // Adds the documents among some items, one after the other, all parts side by side, and gives why each is refused, where it
+    // is a document that is. Where memory doesn't suffice, which shows before the first is added, nothing is done.
+    pub(crate) fn place_all<R: Threads + Sync, E: Sync, G: Gate + Sync>(
+        &mut self,
+        rt: &R,
+        alloc: Global,
+        items: &[Result<Document, E>],
+        gate: &G,
+    ) -> Result<Vec<Option<Refusal>>, NoMemory>
+        requires { IsHoldingFor IsParted self.old (length items.now) }
+        ensures ok { IfOk result (λ refusals. PlacesAll IsParted self.old self.new items.now refusals.items) }
+        ensures err { OnErr result (Keeps IsParted self.old self.new) }
+    {
+        self.parts.add_all(rt, alloc, items, gate)
     }
 }
 
@@ -78,8 +97,7 @@ impl Store for Parted {
     ) -> Result<(), NoMemory> {
         let mut frame = BlendFrame::new(alloc, &query, k, self.number)?;
         text.reserve(line_room(k as usize))?;
-        let reader = self.parts.reader(alloc)?;
-        let seen = self.parts.search(reader, &mut frame, gate);
+        let seen = self.parts.search(&mut frame, gate);
         put_answer(text, self.form, number, seen, frame.ids());
         Ok(())
     }

@@ -1,25 +1,30 @@
 //! The blend that a run over parts fills and asks.
-ghost use Rattle.std.specs.Prelude.{◌≡◌, ◌<◌, ◌≤◌, ◌^◌, ℕ, List, [], length, map, sum, IfOk};
+ghost use Rattle.std.specs.Prelude.{◌≡◌, ◌+◌, ◌<◌, ◌≤◌, ◌^◌, ◌++◌, ℕ, List, [], length, map, sum, vec_len, vec_capacity, option_map, IfOk, OnErr, OnOk};
 ghost use Rattle.eb_base.specs.Document.{Doc};
 ghost use Rattle.eb_base.specs.Match.{answer};
 ghost use Rattle.eb_base.specs.Query.{Tree};
 ghost use Rattle.eb_base.specs.Setting.{Setting};
 ghost use Rattle.eb_blend.specs.Blended.{blended};
-ghost use Rattle.eb_blend.specs.Frames.{Asks, found_of, searched_of};
+ghost use Rattle.eb_blend.specs.Frames.{Asks, found_of};
 ghost use Rattle.eb_blend.specs.Laws.{cut_into};
-ghost use Rattle.eb_blend.specs.Parts.{AreFronts, counted, lengths_of};
+ghost use Rattle.eb_blend.specs.Parts.{counted, lengths_of};
 ghost use Rattle.eb_place.specs.Room.{cut};
 ghost use Rattle.eb_indexed.specs.Conversions.{most_converted};
+ghost use Rattle.eb_lines.specs.declared.form.Form.{Form};
+ghost use Rattle.eb_parts.specs.AcceptedInParts.{refused_by};
+ghost use Rattle.eb_ahead.specs.Placed.{outcomes_of, docs_after};
 ghost use Rattle.eb_parts.specs.Stores.{Holds, WithPlaced};
+ghost use Rattle.eb_parts.specs.Texts.{parts_rules};
 
 use eb_base::{Config, Document, Gate, NoMemory};
-use eb_blend::{Blend, BlendConverter, BlendFrame, BlendReader, BlendRefusal, BlendWriter};
+use eb_blend::{Blend, BlendConverter, BlendFrame, BlendRefusal, BlendWriter};
 use eb_indexed::SegmentCounts;
 use eb_lines::Refusal;
 use eb_place::Steps;
 use std::alloc::Global;
 use std::marker::Brand;
 use std::sync::ledger::{Blank, Ledger};
+use std::thread::Threads;
 
 // A blend with its writer and its converter.
 #[derive(Drop)]
@@ -29,48 +34,44 @@ pub(crate) struct Store {
     converter: BlendConverter,
 }
 
-// Searches with a counter of its own. Takes no memory.
+// Searches all documents with a counter of its own, and gives their number. Takes no memory.
 fn search_alone<G: Gate, L: Ledger>(
     blend: &Blend,
-    reader: &mut BlendReader,
+    writer: &mut BlendWriter,
     frame: &mut BlendFrame,
     gate: &G,
     blank: Blank,
 ) -> u64
     requires blank { (blank.name ≡ L.name) × (blank.parts ≡ L.parts) × (0 < blank.parts) }
-    requires made { reader.old.indexes ≡ blend.now.indexes }
-    requires frame { (q : Tree) × (k : ℕ) × Asks frame.old q k (length blend.now.indexes) }
-    ensures indexes { reader.new.indexes ≡ reader.old.indexes }
-    ensures known { AreFronts reader.old.histories reader.new.histories }
-    ensures lengths { searched_of frame.new ≡ lengths_of reader.new.histories }
-    ensures count { result ≡ counted (searched_of frame.new) }
-    ensures ids { (q : Tree) (k : ℕ) → Asks frame.old q k (length blend.now.indexes)
-        → found_of frame.new ≡ blended q k reader.new.histories (searched_of frame.new) }
-{
-    let mut steps = Steps::<L>::new(blank);
-    reader.search(blend, frame, gate, &mut steps)
-}
-
-// Searches all documents of a blend, of which the reader was told, and gives their number. Takes no memory.
-fn search_told<G: Gate>(
-    blend: &Blend,
-    writer: &mut BlendWriter,
-    reader: BlendReader,
-    frame: &mut BlendFrame,
-    gate: &G,
-) -> u64
-    requires writer { writer.old.indexes ≡ blend.now.indexes }
-    requires told { reader ≡ record { indexes = writer.old.indexes; histories = writer.old.histories } }
+    requires made { writer.old.indexes ≡ blend.now.indexes }
     requires frame { (q : Tree) × (k : ℕ) × Asks frame.old q k (length blend.now.indexes) }
     ensures writer { writer.new ≡ writer.old }
     ensures count { result ≡ counted (lengths_of writer.old.histories) }
     ensures ids { (q : Tree) (k : ℕ) → Asks frame.old q k (length blend.now.indexes)
         → found_of frame.new ≡ blended q k writer.old.histories (lengths_of writer.old.histories) }
 {
-    let mut reader = reader;
-    let count = search_alone::<G, Brand>(blend, &mut reader, frame, gate, Blank::new(1));
-    writer.meet(blend, reader);
-    count
+    let mut steps = Steps::<L>::new(blank);
+    writer.search(blend, frame, gate, &mut steps)
+}
+
+// Why a document is refused that the blend refuses.
+fn refused(refusal: BlendRefusal) -> Refusal
+    ensures { result ≡ refused_by refusal }
+{
+    match refusal {
+        BlendRefusal::NotRising { last } => Refusal::NotRising(last),
+        BlendRefusal::Full { part: _ } => Refusal::Full,
+    }
+}
+
+// Puts what came of each item after the others.
+fn put_outcomes(outcomes: &[Option<BlendRefusal>], all: &mut Vec<Option<Refusal>>)
+    requires { vec_len all.old + length outcomes.now ≤ vec_capacity all.old }
+    ensures { all.new.items ≡ all.old.items ++ map (option_map refused_by) outcomes.now }
+{
+    for outcome in outcomes {
+        all.push_reserved(outcome.map(refused));
+    }
 }
 
 impl Store {
@@ -100,29 +101,38 @@ impl Store {
                 self.writer.catch_up(&self.blend, &mut self.converter);
                 None
             }
-            Err(BlendRefusal::NotRising { last }) => Some(Refusal::NotRising(last)),
-            Err(BlendRefusal::Full { part: _ }) => Some(Refusal::Full),
+            Err(refusal) => Some(refused(refusal)),
         }
     }
 
-    // A reader that knows all documents.
-    pub(crate) fn reader(&mut self, alloc: Global) -> Result<BlendReader, NoMemory>
+    // Adds the documents among some items, one after the other, all parts side by side, and converts the segments that
+    // they closed; gives why each is refused, where it is a document that is. Where memory doesn't suffice, which shows
+    // before the first is added, nothing is done.
+    pub(crate) fn add_all<R: Threads + Sync, E: Sync, G: Gate + Sync>(
+        &mut self,
+        rt: &R,
+        alloc: Global,
+        items: &[Result<Document, E>],
+        gate: &G,
+    ) -> Result<Vec<Option<Refusal>>, NoMemory>
         requires { (parts : ℕ) × (σ : Setting) × (docs : List Doc) × Holds self.old parts σ docs }
-        ensures store { self.new ≡ self.old }
-        ensures told { IfOk result (λ r. r ≡ record { indexes = self.old.writer.indexes; histories = self.old.writer.histories }) }
+        ensures outcomes { IfOk result (λ r. (fields : List (List ℕ)) (parts : ℕ) (σ : Setting) (form : Form) (docs : List Doc) → Holds self.old parts σ docs
+            → r.items ≡ outcomes_of (parts_rules fields parts σ form) docs items.now) }
+        ensures holds { OnOk result ((fields : List (List ℕ)) (parts : ℕ) (σ : Setting) (form : Form) (docs : List Doc) → Holds self.old parts σ docs
+            → Holds self.new parts σ (docs_after (parts_rules fields parts σ form) docs items.now)) }
+        ensures unchanged { OnErr result (self.new ≡ self.old) }
     {
-        self.writer.reader(alloc, &self.blend)
+        let mut refusals = Vec::with_capacity(alloc, items.len())?;
+        let outcomes = self.writer.add_all(rt, alloc, &self.blend, items, gate)?;
+        self.writer
+            .catch_up_all(rt, &self.blend, &mut self.converter);
+        put_outcomes(outcomes.as_slice(), &mut refusals);
+        Ok(refusals)
     }
 
-    // Searches all documents, of which the reader was told, and gives their number. Takes no memory.
-    pub(crate) fn search<G: Gate>(
-        &mut self,
-        reader: BlendReader,
-        frame: &mut BlendFrame,
-        gate: &G,
-    ) -> u64
+    // Searches all documents, and gives their number. Takes no memory.
+    pub(crate) fn search<G: Gate>(&mut self, frame: &mut BlendFrame, gate: &G) -> u64
         requires holds { (parts : ℕ) × (σ : Setting) × (docs : List Doc) × Holds self.old parts σ docs }
-        requires told { reader ≡ record { indexes = self.old.writer.indexes; histories = self.old.writer.histories } }
         requires frame { (q : Tree) × (k : ℕ) × Asks frame.old q k (length self.old.blend.indexes) }
         ensures store { self.new ≡ self.old }
         ensures count { (parts : ℕ) (σ : Setting) (docs : List Doc) → Holds self.old parts σ docs → length docs < 2 ^ 64 → result ≡ length docs }
@@ -131,7 +141,7 @@ impl Store {
         ensures few { (parts : ℕ) (σ : Setting) (docs : List Doc) (q : Tree) (k : ℕ) → Holds self.old parts σ docs → Asks frame.old q k parts
             → length (found_of frame.new) ≤ k }
     {
-        search_told(&self.blend, &mut self.writer, reader, frame, gate)
+        search_alone::<G, Brand>(&self.blend, &mut self.writer, frame, gate, Blank::new(1))
     }
 
     // The number of documents.
