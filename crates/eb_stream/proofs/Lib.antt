@@ -5,4 +5,5 @@ pub mod Adding
 pub mod MailKept
 pub mod Taking
 pub mod GoingOn
+pub mod Counting
 mod Rows

@@ -13,7 +13,7 @@ use crate::mail::Slot;
 use crate::reader::FeedReader;
 use crate::spare::Spare;
 use crate::writer::FeedWriter;
-use eb_base::{Document, Gate, NoMemory};
+use eb_base::{Config, Document, Gate, NoMemory};
 use eb_cursor::Frame;
 use eb_place::Steps;
 use std::alloc::Global;
@@ -176,11 +176,19 @@ impl Leader {
     }
 
     /// Lends the index of the next generation, as [`FeedWriter::lend`].
-    pub fn lend(&mut self, spare: Spare)
+    pub fn lend(&mut self, spare: Spare) -> Option<Spare>
         requires { spare.setting ≡ self.old.setting }
-        ensures { self.new ≡ self.old }
+        ensures this { self.new ≡ self.old }
+        ensures back { IfSome result (λ s. s.setting ≡ self.old.setting) }
     {
-        self.writer.lend(spare);
+        self.writer.lend(spare)
+    }
+
+    /// The setting of each generation.
+    pub fn config(&self) -> Config
+        ensures { result ≡ self.now.setting }
+    {
+        self.writer.config()
     }
 
     /// The converter of the newest generation, as [`FeedWriter::converter`].

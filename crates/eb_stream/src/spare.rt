@@ -13,6 +13,7 @@ use std::sync::Arc;
 /// index it is, and its setting.
 #[derive(Drop)]
 pub struct Spare {
+    config: Config,
     index: Arc<Index, Global>,
     writer: Writer,
     converter: FeedConverter,
@@ -27,7 +28,7 @@ impl Model for Spare {
 
     ghost view = { λ s. arc_value s.index };
 
-    ghost invariant = { λ s. (s.writer ≡ record { index = arc_value s.index; docs = []; converted = 0 })
+    ghost invariant = { λ s. ((arc_value s.index).setting ≡ s.config) × (s.writer ≡ record { index = arc_value s.index; docs = []; converted = 0 })
         × (s.converter ≡ record { index = arc_value s.index; docs = []; placing = None; converted = 0 }) };
 }
 
@@ -41,10 +42,18 @@ impl Spare {
         let index = Arc::new(alloc, index)?;
         let theirs = Arc::try_clone(&index)?;
         Ok(Spare {
+            config,
             index,
             writer,
             converter: FeedConverter::new(theirs, converter),
         })
+    }
+
+    /// Its setting.
+    pub fn config(&self) -> Config
+        ensures { result ≡ self.now.setting }
+    {
+        self.config
     }
 
     // Its parts: the index, with its writer and its converter.
@@ -57,6 +66,7 @@ impl Spare {
             index,
             writer,
             converter,
+            ..
         } = self;
         (index, writer, converter)
     }

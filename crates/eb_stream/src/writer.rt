@@ -6,8 +6,9 @@ ghost use Rattle.eb_base.specs.Document.{Doc};
 ghost use Rattle.eb_base.specs.Match.{answer};
 ghost use Rattle.eb_cursor.specs.Frames.{query_of, k_of, ids_of};
 ghost use Rattle.eb_place.specs.Room.{has_room};
-ghost use Rattle.eb_feed.specs.Generations.{with_generation};
-ghost use Rattle.eb_stream.specs.Turns.{generations_of, history_of, stretch_of, counted, HasLapsed, HasTaken, IsBegun, IsOfNewest};
+ghost use Rattle.eb_feed.specs.Generations.{with_generation, joined_generations};
+ghost use Rattle.eb_stream.specs.Turns.{generations_of, past_of, history_of, stretch_of, counted, AreHeld, HasLapsed, HasTaken, IsBegun, IsOfNewest};
+ghost use Rattle.eb_stream.specs.declared.turn.Turn.{Turn};
 
 use crate::converter::FeedConverter;
 use crate::piece::{Piece, copy_all};
@@ -198,13 +199,22 @@ impl FeedWriter {
         }
     }
 
-    /// Lends the index of the next generation, so that the turn doesn't have to open one. One that was lent before and
-    /// isn't taken yet is let go. So it serves to open another on a thread of its own after each turn. Takes no memory.
-    pub fn lend(&mut self, spare: Spare)
+    /// Lends the index of the next generation, so that the turn doesn't have to open one, and gives back the one that was
+    /// lent before and isn't taken yet. So it may be called before each add, and where nothing comes back another index
+    /// has to be opened, on a thread of its own. Takes no memory.
+    pub fn lend(&mut self, spare: Spare) -> Option<Spare>
         requires { spare.setting ≡ self.old.setting }
-        ensures { self.new ≡ self.old }
+        ensures this { self.new ≡ self.old }
+        ensures back { IfSome result (λ s. s.setting ≡ self.old.setting) }
     {
-        self.spare = Some(spare);
+        self.spare.replace(spare)
+    }
+
+    /// The setting of each generation.
+    pub fn config(&self) -> Config
+        ensures { result ≡ self.now.setting }
+    {
+        self.config
     }
 
     /// The converter of the newest generation, where it wasn't given out since the turn. Where it is never asked for, the
@@ -262,6 +272,7 @@ impl FeedWriter {
         steps: &mut Steps<L>,
     ) -> u64
         ensures this { self.new ≡ self.old }
+        ensures held { self.new.feed.held ≡ min self.new.keep (length self.new.feed.log) }
         ensures count { result ≡ counted (history_of self.new.feed.log self.new.feed.docs) }
         ensures query { query_of frame.new ≡ query_of frame.old }
         ensures k { k_of frame.new ≡ k_of frame.old }
@@ -280,12 +291,33 @@ impl FeedWriter {
         self.before.saturating_add(self.writer.accepted())
     }
 
+    /// How many documents stand in the generations that it holds, which are the newest, as many as it keeps, or all.
+    pub fn kept(&self) -> u64
+        ensures kept { result ≡ counted (stretch_of self.now.feed.held self.now.feed.log self.now.feed.docs) }
+        ensures held { self.now.feed.held ≡ min self.now.keep (length self.now.feed.log) }
+    {
+        let newest = self.writer.accepted();
+        newest.saturating_add(seen_in(self.older.as_slice()))
+    }
+
     /// How many generations were begun.
     pub fn turns(&self) -> u64
         ensures { result ≡ length self.now.feed.log }
     {
         self.trail.count()
     }
+}
+
+// How many documents pieces know together, as far as a number of 64 bits goes.
+fn seen_in(pieces: &[Piece]) -> u64
+    ensures { (docs : List Doc) (ts : List Turn) → AreHeld pieces.now docs ts
+        → result ≡ counted (joined_generations (take (length pieces.now) (past_of docs ts))) }
+{
+    let mut count = 0u64;
+    for at in 0..pieces.len() {
+        count = count.saturating_add(pieces[at].seen());
+    }
+    count
 }
 
 // Puts a piece in front, and keeps so many of the others.

@@ -4,4 +4,5 @@ mod beside;
 mod holding;
 mod made;
 mod rows;
+mod serving;
 mod turns;

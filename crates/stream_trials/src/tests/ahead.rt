@@ -59,34 +59,38 @@ fn add(feed: &mut FeedWriter, document: &Document) -> Result<(), Fail>
     }
 }
 
-// Lends an index, and adds a document.
+// Lends an index, and adds a document. Whether the feed had none for the next generation.
 fn add_ahead(
     alloc: Global,
     feed: &mut FeedWriter,
     document: &Document,
     config: Config,
-) -> Result<(), Fail>
+) -> Result<bool, Fail>
     requires { feed.old.setting ≡ config }
     ensures { feed.new.setting ≡ feed.old.setting }
 {
     let spare = spare(alloc, config)?;
-    feed.lend(spare);
-    add(feed, document)
+    let back = feed.lend(spare);
+    add(feed, document)?;
+    Ok(back.is_none())
 }
 
-// Lends an index before each of the documents.
+// Lends an index before each of the documents, and gives how often the feed had none.
 fn add_all_ahead(
     alloc: Global,
     feed: &mut FeedWriter,
     documents: &[Document],
     config: Config,
-) -> Result<(), Fail>
+) -> Result<u64, Fail>
     requires { feed.old.setting ≡ config }
 {
+    let mut lacked = 0u64;
     for document in documents {
-        add_ahead(alloc, feed, document, config)?;
+        if add_ahead(alloc, feed, document, config)? {
+            lacked = lacked.saturating_add(1);
+        }
     }
-    Ok(())
+    Ok(lacked)
 }
 
 // A generation of two segments of two documents: the first segment is converted once the third document is there, also
@@ -123,7 +127,11 @@ fn fill(
 {
     let documents = documents(alloc, 9)?;
     let first = first_of(rt, feed)?;
-    add_all_ahead(alloc, feed, documents.as_slice(), config)?;
+    // before the first document, and before the one after a turn to the second generation
+    assert_eq!(rt;
+        add_all_ahead(alloc, feed, documents.as_slice(), config)?,
+        2
+    );
     Ok(first)
 }
 
