@@ -1,0 +1,10 @@
+-- What never becomes of a line.
+use Rattle.std.specs.Prelude.{◌≡◌, ℕ, List, Some, slice_get}
+use Rattle.eb_io.specs.Lines.{Line}
+use Rattle.eb_lines.specs.declared.refusal.Refusal.TheVariants.{Full}
+use Rattle.eb_lines.specs.Reading.{Reading, refused}
+use Rattle.eb_feed_workers.specs.Output.{AreRead}
+
+-- of lines that are read so, none is refused as full
+abbrev pub NoneIsFull : Type 0
+NoneIsFull = (names : List (List ℕ)) (lines : List Line) (rs : List Reading) → AreRead names lines rs → (j : ℕ) → slice_get rs j ≡ Some (refused Full) → ⊥

@@ -1,0 +1,33 @@
+-- A desk with its clerk, beside the writer of its feed.
+use Rattle.std.specs.Prelude.{◌≡◌, ℕ, List, [], ◌∷◌, Option, Some, None}
+use Rattle.eb_base.specs.Document.{Doc}
+use Rattle.eb_base.specs.Setting.{Setting}
+use Rattle.eb_feed_serve.specs.Desk.{Queues, IsOpen, new_clerk}
+use Rattle.eb_feed_serve.specs.Feeds.{feed_name}
+use Rattle.eb_stream.specs.Turns.{WriterToken, generations_of, history_of, HasTaken}
+use Rattle.eb_feed_workers.specs.declared.office.Side.{Side}
+use Rattle.eb_feed_workers.specs.declared.office.Office.{Office}
+
+-- the documents that the feed has taken
+abbrev pub taken_by : WriterToken → List Doc
+taken_by w = history_of w.feed.log w.feed.docs
+
+abbrev pub docs_of : Office → List Doc
+docs_of o = taken_by o.feed
+
+-- the clerk is the desk's and of the feed, and has put no stop; the feed's generations are those of its history
+pub record IsStaffed (o : Office) : Type 0 where
+  pub clerk : IsOpen o.desk.now.queues (feed_name o.feed) o.clerk
+  pub taken : HasTaken o.feed (docs_of o)
+
+-- the office is still one of the same feed
+pub record Keeps (old new : Office) : Type 0 where
+  pub staffed : IsStaffed new
+  pub name : feed_name new.feed ≡ feed_name old.feed
+  pub setting : new.feed.setting ≡ old.feed.setting
+
+-- a new clerk of these queues, and the writer of an empty feed that keeps so many generations of an index of this setting
+abbrev pub IsNewSide : Queues → Setting → ℕ → Option Side → Type 0
+IsNewSide queues σ keep None = ⊥
+IsNewSide queues σ keep (Some s) = (s.clerk ≡ new_clerk queues (feed_name s.feed)) × (s.feed.setting ≡ σ) × (s.feed.keep ≡ keep)
+    × (generations_of s.feed.feed.log s.feed.feed.docs ≡ [] ∷ [])
