@@ -100,7 +100,7 @@ def in_parts(parts):
         wanted.append([answer(len(given), documents, k, query)])
     wanted.append(["end: documents %d, queries 24, refused %d" % (len(documents), refused)])
     words = "run --parts %d --segments 2 --docs 4 --terms 1024" % parts
-    return row("%d parts answer as one history" % parts, [words], 4096, given, wanted, 1)
+    return row("%d parts answer as one history" % parts, [words, words + " --overlap"], 4096, given, wanted, 1)
 
 
 ASKED = [("d", word("d")), ("c", word("c")), ("a -b", each(word("a"), without(word("b"))))]

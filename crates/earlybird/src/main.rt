@@ -33,7 +33,7 @@ fn main(rt: HostRuntime) -> ExitCode {
     let gate = OpenGate;
     let status = match words.split_first() {
         Some((name, rest)) if name.as_str() == "feed" => {
-            run_feed(alloc, rest, &mut source, &mut out, &mut err, &gate)
+            run_feed(&rt, alloc, rest, &mut source, &mut out, &mut err, &gate)
         }
         _ => run(&rt, alloc, &words, &mut source, &mut out, &mut err, &gate),
     };

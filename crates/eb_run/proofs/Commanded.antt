@@ -80,7 +80,7 @@ module _ (status : Status) (l0 l1 p0 p1 : Option (List ℕ)) where
   pub ran_of : (fields : List (List ℕ)) (c : Command) → EndsBy fields c status l0 l1 p0 p1 → Ran fields c status l0 l1 p0 p1
   ran_of fields (Run overlap form σ) e = λ bytes before source sink. ends_told _ _ _ _ status _ _ _ _ bytes e source before sink
   ran_of fields (RunWorkers n form σ) e = λ bytes before source sink. ends_told _ _ _ _ status _ _ _ _ bytes e source before sink
-  ran_of fields (RunParts n form σ) e = λ bytes before source sink. ends_told _ _ _ _ status _ _ _ _ bytes e source before sink
+  ran_of fields (RunParts n overlap form σ) e = λ bytes before source sink. ends_told _ _ _ _ status _ _ _ _ bytes e source before sink
   ran_of fields (RunWatches form σ) e = λ bytes before source sink. ends_told _ _ _ _ status _ _ _ _ bytes e source before sink
   ran_of fields (Bench start count) e = λ before sink. figures_told status start count p0 p1 before e sink
   ran_of fields (Save σ) e = λ bytes before source sink. ends_told _ _ _ _ status _ _ _ _ bytes e source before sink
@@ -93,7 +93,7 @@ module _ (status : Status) (l0 l1 p0 p1 : Option (List ℕ)) where
   pub means_of : (fields : List (List ℕ)) (c : Command) → EndsBy fields c status l0 l1 p0 p1 → Means fields c status l0 l1
   means_of fields (Run overlap form σ) e = λ bytes source. ends_mean _ _ _ _ status _ _ _ _ bytes e source
   means_of fields (RunWorkers n form σ) e = λ bytes source. ends_mean _ _ _ _ status _ _ _ _ bytes e source
-  means_of fields (RunParts n form σ) e = λ bytes source. ends_mean _ _ _ _ status _ _ _ _ bytes e source
+  means_of fields (RunParts n overlap form σ) e = λ bytes source. ends_mean _ _ _ _ status _ _ _ _ bytes e source
   means_of fields (RunWatches form σ) e = λ bytes source. ends_mean _ _ _ _ status _ _ _ _ bytes e source
   means_of fields (Bench start count) e = figures_mean status start count p0 p1 e
   means_of fields (Save σ) e = λ bytes source. ends_mean _ _ _ _ status _ _ _ _ bytes e source
@@ -107,7 +107,7 @@ module _ (status : Status) (l0 l1 p0 p1 : Option (List ℕ)) where
     pub completes_of : (fields : List (List ℕ)) (c : Command) → EndsBy fields c status l0 l1 p0 p1 → Completes c read_risen write_risen status l0
     completes_of fields (Run overlap form σ) e = λ no_read no_write bytes source short. completes _ _ _ _ status _ _ _ _ _ _ bytes e read write no_read no_write source short
     completes_of fields (RunWorkers n form σ) e = λ no_read no_write bytes source short. completes _ _ _ _ status _ _ _ _ _ _ bytes e read write no_read no_write source short
-    completes_of fields (RunParts n form σ) e = λ no_read no_write bytes source short. completes _ _ _ _ status _ _ _ _ _ _ bytes e read write no_read no_write source short
+    completes_of fields (RunParts n overlap form σ) e = λ no_read no_write bytes source short. completes _ _ _ _ status _ _ _ _ _ _ bytes e read write no_read no_write source short
     completes_of fields (RunWatches form σ) e = λ no_read no_write bytes source short. completes _ _ _ _ status _ _ _ _ _ _ bytes e read write no_read no_write source short
     completes_of fields (Bench start count) e = λ no_write. figures_end status _ p0 p1 write_risen e write no_write
     completes_of fields (Save σ) e = λ no_read no_write bytes source short. completes _ _ _ _ status _ _ _ _ _ _ bytes e read write no_read no_write source short
@@ -127,7 +127,7 @@ pub none_done : (fields : List (List ℕ)) (c : Command) (left printed : Option 
 none_done fields (Run overlap form σ) left printed = let a = output.asked fields σ overlap form in passing.ends_at_once _ _ _ _ (body_first a) left printed [] (body_none a)
 none_done fields (RunWorkers n form σ) left printed =
     passing.ends_at_once _ _ _ _ (serving.body_first (workers.asked fields σ form)) left printed [] (body_none_given (workers.asked fields σ form))
-none_done fields (RunParts n form σ) left printed = ends_none is_bad (parts_rules fields n σ form) left printed
+none_done fields (RunParts n overlap form σ) left printed = ends_none is_bad (parts_rules fields n σ form) left printed
 none_done fields (RunWatches form σ) left printed = ends_none ReadsOther (watch_rules fields σ form) left printed
 none_done fields (Bench start count) left printed = figures_none _ printed
 none_done fields (Save σ) left printed = passing.ends_at_once _ _ _ _ (parts_first (saved.asked fields σ)) left printed (head_of σ) (parts_none (saved.asked fields σ))

@@ -19,7 +19,7 @@ abbrev IsInRange : Option Command → Type 0
 IsInRange None = Unit {0}
 IsInRange (Some (Run overlap form σ)) = Unit {0}
 IsInRange (Some (RunWorkers n form σ)) = (1 ≤ n) × (n ≤ 16)
-IsInRange (Some (RunParts n form σ)) = (1 ≤ n) × (n ≤ 16)
+IsInRange (Some (RunParts n overlap form σ)) = (1 ≤ n) × (n ≤ 16)
 IsInRange (Some (RunWatches form σ)) = Unit {0}
 IsInRange (Some (Bench start docs)) = docs ≤ 40000
 IsInRange (Some (Save σ)) = Unit {0}
@@ -44,8 +44,8 @@ few_is n e = let p = and_parts (nat_le 1 n) (nat_le n 16) e in (leb-true 1 n p.0
 workers_in : (n : ℕ) (form : Form) (σ : Setting) → IsInRange (with_workers n form σ)
 workers_in n form σ = where_in (is_few n) (RunWorkers n form σ) (few_is n)
 
-parts_in : (n : ℕ) (form : Form) (σ : Setting) → IsInRange (over_parts n form σ)
-parts_in n form σ = where_in (is_few n && nat_le (n * words_of σ) (2 ^ 27)) (RunParts n form σ) (λ e. few_is n (and_parts (is_few n) (nat_le (n * words_of σ) (2 ^ 27)) e).0)
+parts_in : (n : ℕ) (overlap : Bool) (form : Form) (σ : Setting) → IsInRange (over_parts n overlap form σ)
+parts_in n overlap form σ = where_in (is_few n && nat_le (n * words_of σ) (2 ^ 27)) (RunParts n overlap form σ) (λ e. few_is n (and_parts (is_few n) (nat_le (n * words_of σ) (2 ^ 27)) e).0)
 
 by_in : (overlap watch : Bool) (workers parts : Option ℕ) (form : Form) (σ : Setting) → IsInRange (run_by overlap watch workers parts form σ)
 by_in true false None None form σ = tt
@@ -56,8 +56,8 @@ by_in false false (Some n) None form σ = workers_in n form σ
 by_in true false (Some n) None form σ = tt
 by_in false true (Some n) None form σ = tt
 by_in true true (Some n) None form σ = tt
-by_in false false None (Some n) form σ = parts_in n form σ
-by_in true false None (Some n) form σ = tt
+by_in false false None (Some n) form σ = parts_in n false form σ
+by_in true false None (Some n) form σ = parts_in n true form σ
 by_in false true None (Some n) form σ = tt
 by_in true true None (Some n) form σ = tt
 by_in false false (Some n) (Some p) form σ = tt
@@ -134,5 +134,5 @@ few_made words names start docs e = in_range words names (Bench start docs) e
 pub few_workers : (words names : List (List ℕ)) (n : ℕ) (form : Form) (σ : Setting) → asked_of words ≡ Some (asks names (RunWorkers n form σ)) → (1 ≤ n) × (n ≤ 16)
 few_workers words names n form σ e = in_range words names (RunWorkers n form σ) e
 
-pub few_parts : (words names : List (List ℕ)) (n : ℕ) (form : Form) (σ : Setting) → asked_of words ≡ Some (asks names (RunParts n form σ)) → (1 ≤ n) × (n ≤ 16)
-few_parts words names n form σ e = in_range words names (RunParts n form σ) e
+pub few_parts : (words names : List (List ℕ)) (n : ℕ) (overlap : Bool) (form : Form) (σ : Setting) → asked_of words ≡ Some (asks names (RunParts n overlap form σ)) → (1 ≤ n) × (n ≤ 16)
+few_parts words names n overlap form σ e = in_range words names (RunParts n overlap form σ) e

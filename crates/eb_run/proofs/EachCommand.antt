@@ -46,14 +46,16 @@ module _ (words : List (List ℕ)) (result : Status) (l0 l1 p0 p1 : Option (List
   pub workers_complete : (fields : List (List ℕ)) (n : ℕ) (form : Form) (σ : Setting) → AsksWorkers words fields n form σ → InTime read_risen write_risen result l0
   workers_complete fields n form σ is = completes fields (RunWorkers n form σ) is
 
-  pub parts_output : (fields : List (List ℕ)) (n : ℕ) (form : Form) (σ : Setting) → AsksParts words fields n form σ → Prints (WroteInParts (parts_rules fields n σ form) result) l0 l1 p0 p1
-  parts_output fields n form σ is = ran fields (RunParts n form σ) is
+  pub parts_output : (fields : List (List ℕ)) (n : ℕ) (overlap : Bool) (form : Form) (σ : Setting) → AsksParts words fields n overlap form σ
+      → Prints (WroteInParts (parts_rules fields n σ form) result) l0 l1 p0 p1
+  parts_output fields n overlap form σ is = ran fields (RunParts n overlap form σ) is
 
-  pub parts_mean : (fields : List (List ℕ)) (n : ℕ) (form : Form) (σ : Setting) → AsksParts words fields n form σ → Told (MeansInParts (parts_rules fields n σ form) result) l0 l1
-  parts_mean fields n form σ is = means fields (RunParts n form σ) is
+  pub parts_mean : (fields : List (List ℕ)) (n : ℕ) (overlap : Bool) (form : Form) (σ : Setting) → AsksParts words fields n overlap form σ
+      → Told (MeansInParts (parts_rules fields n σ form) result) l0 l1
+  parts_mean fields n overlap form σ is = means fields (RunParts n overlap form σ) is
 
-  pub parts_complete : (fields : List (List ℕ)) (n : ℕ) (form : Form) (σ : Setting) → AsksParts words fields n form σ → InTime read_risen write_risen result l0
-  parts_complete fields n form σ is = completes fields (RunParts n form σ) is
+  pub parts_complete : (fields : List (List ℕ)) (n : ℕ) (overlap : Bool) (form : Form) (σ : Setting) → AsksParts words fields n overlap form σ → InTime read_risen write_risen result l0
+  parts_complete fields n overlap form σ is = completes fields (RunParts n overlap form σ) is
 
   pub watches_output : (fields : List (List ℕ)) (form : Form) (σ : Setting) → AsksWatches words fields form σ → Prints (WroteWatches (watch_rules fields σ form) result) l0 l1 p0 p1
   watches_output fields form σ is = ran fields (RunWatches form σ) is

@@ -28,15 +28,15 @@ use Rattle.eb_lines.specs.Passing.{IsFrontOfWhole, EndsAs}
 use Rattle.eb_lines.specs.Passing as passing
 use Rattle.eb_run.specs.Output.{Ends, IsBodyOf, IsTextOf, asked}
 
-told-cons : (r : Reading) (rs : List Reading) (i : ℕ) → told (r ∷ rs) (suc i) ≡ length (documents_in r) + told rs i
+pub told-cons : (r : Reading) (rs : List Reading) (i : ℕ) → told (r ∷ rs) (suc i) ≡ length (documents_in r) + told rs i
 unfolding told accepted
 told-cons r rs i = length-append (documents_in r) (accepted (take i rs))
 
-told-first : (rs : List Reading) → told rs 0 ≡ 0
+pub told-first : (rs : List Reading) → told rs 0 ≡ 0
 unfolding told accepted
 told-first rs = refl
 
-accepted-cons : (r : Reading) (rs : List Reading) → accepted (r ∷ rs) ≡ documents_in r ++ accepted rs
+pub accepted-cons : (r : Reading) (rs : List Reading) → accepted (r ∷ rs) ≡ documents_in r ++ accepted rs
 unfolding accepted
 accepted-cons r rs = refl
 
@@ -51,7 +51,7 @@ line_read : (fields : List (List ℕ)) (l : Line) (r : Reading) → ReadsWith is
 line_read fields (line bytes) r h = kind_read fields (kind_of bytes) bytes r h
 line_read fields long_line r h = h
 
-raw_read : (fields : List (List ℕ)) (ls : List Line) (rs : List Reading) → AllZip (ReadsWith is_bad fields) ls rs → AllZip (Reads fields) ls rs
+pub raw_read : (fields : List (List ℕ)) (ls : List Line) (rs : List Reading) → AllZip (ReadsWith is_bad fields) ls rs → AllZip (Reads fields) ls rs
 raw_read fields [] [] h = tt
 raw_read fields [] (r ∷ rs) h = absurd h
 raw_read fields (l ∷ ls) [] h = absurd h

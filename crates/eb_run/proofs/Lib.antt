@@ -13,4 +13,5 @@ pub mod EachCommand
 pub mod InOrder
 pub mod MadeLines
 pub mod Feeds
+pub mod FeedsInOrder
 pub mod NeverFull

@@ -16,7 +16,9 @@ use Rattle.eb_lines.specs.declared.refusal.Refusal.TheVariants.{Full, NoWatch, W
 use Rattle.eb_lines.specs.Kinds.{Kind, blank_line, document_line, query_line, bad_line, kind_of}
 use Rattle.eb_lines.specs.Progress.{documents_in}
 use Rattle.eb_lines.specs.Reading.{Reading, blank, document, query, refused, watch}
-use Rattle.eb_lines.specs.Reads.{IsOfDocument, of_query}
+use Rattle.eb_lines.specs.Reads.{IsOfDocument, of_query, ReadsByKind, Reads}
+use Rattle.eb_run.specs.declared.feed.command.FeedWay.{FeedWay}
+use Rattle.eb_run.specs.declared.feed.command.FeedWay.TheVariants.{InOrder, Watches, Overlap, Workers}
 use Rattle.eb_run.specs.FeedLaws.{NeverFull}
 use Rattle.eb_run.specs.FeedOutput.{AreFed, rules_of}
 use Rattle.eb_watch.specs.Watches.{Watched, is_set}
@@ -102,7 +104,7 @@ module _ (other : List (List ℕ) → List ℕ → Reading → Type 0) (none : (
     none_full lines rs read =
         subst (AllByRecursion IsNotFull) (sym read.2) (all_come rules.start rules.watches read.0 (raw_none rules.fields lines read.0 read.1))
 
--- ---- with watches, or without them
+-- ---- what watch lines come to
 
 sets : (taken full : Bool) → (if taken then Some WatchTaken else (if full then Some WatchesFull else None)) ≡ Some Full → ⊥
 sets true full e = (cc e)
@@ -117,9 +119,31 @@ watch_none : (ws : List Watched) (n : ℕ) (q : Option Tree) → watch_refusal w
 watch_none ws n None e = removes (is_set ws n) e
 watch_none ws n (Some q) e = sets (is_set ws n) (length ws == 10000) e
 
+-- ---- lines that are read by themselves
+
+kind_none : (names : List (List ℕ)) (k : Kind) (bytes : List ℕ) → ReadsByKind names k bytes (refused Full) → ⊥
+kind_none names blank_line bytes e = (cc e)
+kind_none names document_line bytes e = of_document (document_with names bytes) e
+kind_none names query_line bytes e = of_asked e.0 e.2
+kind_none names bad_line bytes e = (cc e)
+
+reads_none : (names : List (List ℕ)) (l : Line) → Reads names l (refused Full) → ⊥
+reads_none names (line bytes) e = kind_none names (kind_of bytes) bytes e
+reads_none names long_line e = (cc e)
+
+all_none : (names : List (List ℕ)) (ls : List Line) (rs : List Reading) → AllZip (Reads names) ls rs → AllByRecursion IsNotFull rs
+all_none names [] [] e = tt
+all_none names [] (r ∷ rs) e = absurd e
+all_none names (l ∷ ls) [] e = absurd e
+all_none names (l ∷ ls) (r ∷ rs) e = (λ is. reads_none names l (subst (Reads names l) is e.0), all_none names ls rs e.1)
+
+-- ---- by the way in which the lines are processed
+
 pub never_full : NeverFull
-never_full names c lines rs read = go c.watch read
+never_full names c lines rs read = go c.way read
   where
-    go : (b : Bool) → AreFed b (rules_of names c) lines rs → AllByRecursion (λ r. r ≡ refused Full → ⊥) rs
-    go true read = none_full ReadsOther of_other (with_watches (rules_of names c)) (λ docs d. refl) watch_none lines rs read
-    go false read = none_full is_bad of_bad (rules_of names c) (λ docs d. refl) (λ ws n q e. (cc e)) lines rs read
+    go : (w : FeedWay) → AreFed w names c lines rs → AllByRecursion (λ r. r ≡ refused Full → ⊥) rs
+    go InOrder read = none_full is_bad of_bad (rules_of names c) (λ docs d. refl) (λ ws n q e. (cc e)) lines rs read
+    go Watches read = none_full ReadsOther of_other (with_watches (rules_of names c)) (λ docs d. refl) watch_none lines rs read
+    go Overlap read = none_full is_bad of_bad (rules_of names c) (λ docs d. refl) (λ ws n q e. (cc e)) lines rs read
+    go (Workers n) read = all_none names lines rs read

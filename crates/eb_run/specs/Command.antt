@@ -32,16 +32,16 @@ is_few n = nat_le 1 n && nat_le n 16
 abbrev pub with_workers : ℕ → Form → Setting → Option Command
 with_workers n form σ = if is_few n then Some (RunWorkers n form σ) else None
 
--- to run over so many parts, which together have at most as many words as an index may have
-abbrev pub over_parts : ℕ → Form → Setting → Option Command
-over_parts n form σ = if is_few n && nat_le (n * words_of σ) (2 ^ 27) then Some (RunParts n form σ) else None
+-- to run over so many parts, with or without overlap, which together have at most as many words as an index may have
+abbrev pub over_parts : ℕ → Bool → Form → Setting → Option Command
+over_parts n overlap form σ = if is_few n && nat_le (n * words_of σ) (2 ^ 27) then Some (RunParts n overlap form σ) else None
 
--- at most one of overlap, watches, workers and parts
+-- at most one of overlap, watches, workers and parts, but that overlap may stand beside parts
 abbrev pub run_by : Bool → Bool → Option ℕ → Option ℕ → Form → Setting → Option Command
 run_by overlap false None None form σ = Some (Run overlap form σ)
 run_by false true None None form σ = Some (RunWatches form σ)
 run_by false false (Some n) None form σ = with_workers n form σ
-run_by false false None (Some n) form σ = over_parts n form σ
+run_by overlap false None (Some n) form σ = over_parts n overlap form σ
 run_by overlap watch workers parts form σ = None
 
 -- what the items after `run` ask for
@@ -130,12 +130,12 @@ asked_of (name ∷ words) =
 abbrev pub AsksRun : List (List ℕ) → List (List ℕ) → Bool → Form → Setting → Type 0
 AsksRun words names overlap form σ = asked_of words ≡ Some (asks names (Run overlap form σ))
 
--- to run with so many workers, or over so many parts with an index of this setting each
+-- to run with so many workers, or over so many parts with an index of this setting each, with or without overlap
 abbrev pub AsksWorkers : List (List ℕ) → List (List ℕ) → ℕ → Form → Setting → Type 0
 AsksWorkers words names n form σ = asked_of words ≡ Some (asks names (RunWorkers n form σ))
 
-abbrev pub AsksParts : List (List ℕ) → List (List ℕ) → ℕ → Form → Setting → Type 0
-AsksParts words names n form σ = asked_of words ≡ Some (asks names (RunParts n form σ))
+abbrev pub AsksParts : List (List ℕ) → List (List ℕ) → ℕ → Bool → Form → Setting → Type 0
+AsksParts words names n overlap form σ = asked_of words ≡ Some (asks names (RunParts n overlap form σ))
 
 -- to run with watches
 abbrev pub AsksWatches : List (List ℕ) → List (List ℕ) → Form → Setting → Type 0

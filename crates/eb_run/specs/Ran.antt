@@ -35,7 +35,7 @@ abbrev pub EndsBy : List (List ℕ) → Command → Status → (l0 l1 p0 p1 : Op
 EndsBy names (Run overlap form σ) status l0 l1 p0 p1 = Ends names σ overlap form status l0 l1 p0 p1
 EndsBy names (RunWorkers n form σ) status l0 l1 p0 p1 =
     let a = workers.asked names σ form in passing.Ends (workers.IsWorkersBody a) (workers.IsWorkersText a) (HasRefusal names σ) (HasNoRefusal names σ) status l0 l1 p0 p1
-EndsBy names (RunParts n form σ) status l0 l1 p0 p1 =
+EndsBy names (RunParts n overlap form σ) status l0 l1 p0 p1 =
     let rules = parts_rules names n σ form in passing.Ends (IsBody is_bad rules) (IsText is_bad rules) (answered.HasRefusal is_bad rules) (answered.HasNoRefusal is_bad rules) status l0 l1 p0 p1
 EndsBy names (RunWatches form σ) status l0 l1 p0 p1 =
     let rules = watch_rules names σ form in
@@ -76,7 +76,7 @@ pub record RanLoad (names : List (List ℕ)) (form : Form) (status : Status) (l0
 abbrev pub Ran : List (List ℕ) → Command → Status → (l0 l1 p0 p1 : Option (List ℕ)) → Type 0
 Ran names (Run overlap form σ) status l0 l1 p0 p1 = Prints (Wrote names σ overlap form status) l0 l1 p0 p1
 Ran names (RunWorkers n form σ) status l0 l1 p0 p1 = Prints (workers.WroteWorkers (workers.asked names σ form) status) l0 l1 p0 p1
-Ran names (RunParts n form σ) status l0 l1 p0 p1 = Prints (WroteInParts (parts_rules names n σ form) status) l0 l1 p0 p1
+Ran names (RunParts n overlap form σ) status l0 l1 p0 p1 = Prints (WroteInParts (parts_rules names n σ form) status) l0 l1 p0 p1
 Ran names (RunWatches form σ) status l0 l1 p0 p1 = Prints (WroteWatches (watch_rules names σ form) status) l0 l1 p0 p1
 Ran names (Bench start count) status l0 l1 p0 p1 = (before : List ℕ) → p0 ≡ Some before → (printed : List ℕ) × (p1 ≡ Some (before ++ printed)) × WroteBench status start count printed
 Ran names (Save σ) status l0 l1 p0 p1 = Prints (saved.WroteSaved (saved.asked names σ) status) l0 l1 p0 p1
@@ -97,7 +97,7 @@ pub record LoadMeans (names : List (List ℕ)) (form : Form) (status : Status) (
 abbrev pub Means : List (List ℕ) → Command → Status → (l0 l1 : Option (List ℕ)) → Type 0
 Means names (Run overlap form σ) status l0 l1 = Told (output.Means names σ status) l0 l1
 Means names (RunWorkers n form σ) status l0 l1 = Told (workers.MeansWorkers (workers.asked names σ form) status) l0 l1
-Means names (RunParts n form σ) status l0 l1 = Told (MeansInParts (parts_rules names n σ form) status) l0 l1
+Means names (RunParts n overlap form σ) status l0 l1 = Told (MeansInParts (parts_rules names n σ form) status) l0 l1
 Means names (RunWatches form σ) status l0 l1 = Told (MeansWatches (watch_rules names σ form) status) l0 l1
 Means names (Bench start count) status l0 l1 = MeansBench status start count
 Means names (Save σ) status l0 l1 = Told (saved.MeansSaved (saved.asked names σ) status) l0 l1
@@ -112,7 +112,7 @@ InTime read_risen write_risen status l0 = (read_risen → ⊥) → (write_risen 
 abbrev pub Completes : Command → (read_risen write_risen : Type 0) → Status → Option (List ℕ) → Type 0
 Completes (Run overlap form σ) read_risen write_risen status l0 = InTime read_risen write_risen status l0
 Completes (RunWorkers n form σ) read_risen write_risen status l0 = InTime read_risen write_risen status l0
-Completes (RunParts n form σ) read_risen write_risen status l0 = InTime read_risen write_risen status l0
+Completes (RunParts n overlap form σ) read_risen write_risen status l0 = InTime read_risen write_risen status l0
 Completes (RunWatches form σ) read_risen write_risen status l0 = InTime read_risen write_risen status l0
 Completes (Bench start count) read_risen write_risen status l0 = (write_risen → ⊥) → outcomes.IsWorkedOff status
 Completes (Save σ) read_risen write_risen status l0 = InTime read_risen write_risen status l0
@@ -125,7 +125,7 @@ abbrev pub reads_source : Option Command → Bool
 reads_source None = false
 reads_source (Some (Run overlap form σ)) = true
 reads_source (Some (RunWorkers n form σ)) = true
-reads_source (Some (RunParts n form σ)) = true
+reads_source (Some (RunParts n overlap form σ)) = true
 reads_source (Some (RunWatches form σ)) = true
 reads_source (Some (Bench start count)) = false
 reads_source (Some (Save σ)) = true

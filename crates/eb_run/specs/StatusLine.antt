@@ -5,7 +5,7 @@ use Rattle.eb_lines.specs.StatusLine.{line_of}
 
 -- how the program is called
 abbrev pub usage : List ℕ
-usage = codes "earlybird: usage: run [--overlap | --workers N | --parts N | --watch] [--fields LIST] [--stats] [--json] [--segments N] "
+usage = codes "earlybird: usage: run [--overlap | --workers N | --parts N [--overlap] | --watch] [--fields LIST] [--stats] [--json] [--segments N] "
     ++ codes "[--docs N] [--terms N] | bench START DOCS | save [--fields LIST] [--segments N] [--docs N] [--terms N] | "
     ++ codes "load [--fields LIST] [--stats] [--json]\n"
 
@@ -15,7 +15,7 @@ status_line status = line_of usage status
 
 -- how the program is called for a feed, and the line of its status
 abbrev pub feed_usage : List ℕ
-feed_usage = codes "earlybird: usage: feed [--keep N] [--watch] [--fields LIST] [--stats] [--json] [--segments N] [--docs N] [--terms N]\n"
+feed_usage = codes "earlybird: usage: feed [--overlap | --workers N | --watch] [--keep N] [--fields LIST] [--stats] [--json] [--segments N] [--docs N] [--terms N]\n"
 
 abbrev pub feed_status_line : Status → List ℕ
 feed_status_line status = line_of feed_usage status

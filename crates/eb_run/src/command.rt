@@ -44,6 +44,8 @@ pub enum Command {
     RunParts {
         /// How many indexes there are, 1 to 16.
         parts: u32,
+        /// Whether lines are read side by side, and the parts add side by side (`--overlap`).
+        overlap: bool,
         /// How what is printed is written (`--json`), and whether the segments of all parts are told after the summary
         /// (`--stats`).
         form: Form,
@@ -150,7 +152,7 @@ fn ask_load<'a>(alloc: Global, words: &'a [String]) -> Result<Request<'a>, Comma
 /// - `run`, and then items in any order, each option at most once: `--overlap`, `--watch`, `--json`, `--stats`, and for x of
 ///   `workers`, `parts`, `segments`, `docs` and `terms` the two words `--x V` or the one word `--x=V`. V is one to nine digits, leading
 ///   zeros allowed; what isn't named of a setting is as in `Config::usual`. `Config::new` has to allow the setting. At most
-///   one of `--overlap`, `--workers`, `--parts` and `--watch` stands there; the number of workers and of parts is from 1 to
+///   one of `--overlap`, `--workers`, `--parts` and `--watch` stands there, or `--overlap` beside `--parts`; the number of workers and of parts is from 1 to
 ///   16, and the words of all parts together are at most 134,217,728.
 /// - `bench START DOCS`: one to twenty digits of value at most 18446744073709551615, and one to nine
 ///   digits of value 1 to 40,000; leading zeros allowed.

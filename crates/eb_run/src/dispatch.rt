@@ -1,4 +1,4 @@
-ghost use Rattle.std.specs.Prelude.{◌≡◌, ◌⊎◌, ◌++◌, true, false, List, [], ℕ, None, Some, OnOk, map, option_map, string_bytes};
+ghost use Rattle.std.specs.Prelude.{◌≡◌, ◌≤◌, ◌⊎◌, ◌++◌, true, false, List, [], ℕ, None, Some, OnOk, map, option_map, string_bytes};
 ghost use Rattle.eb_fields.specs.Fields.{names};
 ghost use Rattle.eb_io.specs.Faults.{HasRisen};
 ghost use Rattle.eb_lines.specs.Programs.{IsRunning, WorksOn};
@@ -20,7 +20,7 @@ use eb_fields::Fields;
 use eb_indexed::Indexed;
 use eb_io::{Sink, Source, write_all};
 use eb_lines::{Form, Status, pass_lines};
-use eb_parts::run_parts;
+use eb_parts::{run_parts, run_parts_beside};
 use eb_watching::run_watches;
 use eb_workers::run_workers;
 use std::alloc::Global;
@@ -31,9 +31,9 @@ use std::thread::Threads;
 /// source and prints answers and refusals on `out`. With `--overlap` documents are added while queries
 /// are answered, by two threads, and lines are read by several; with `--workers N` queries are answered by workers that live
 /// for the whole run, and the call may wait: its promise holds if its waits end; with `--parts N` documents go to several
-/// indexes by their ids; with `--watch` lines also set and remove watches, and documents tell which they match. What is
-/// printed goes out in one write before the source is asked again, or once 64 KiB are gathered. What the status has to say
-/// goes to `err`; a fault there changes no status.
+/// indexes by their ids, which add side by side where `--overlap` stands beside it; with `--watch` lines also set and remove
+/// watches, and documents tell which they match. What is printed goes out in one write before the source is asked again, or
+/// once 64 KiB are gathered. What the status has to say goes to `err`; a fault there changes no status.
 pub fn run<R, S, K, E, G>(
     rt: &R,
     alloc: Global,
@@ -111,9 +111,12 @@ fn run_words<R: Threads + Wait + Sync, S: Source, K: Sink, G: Gate + Sync>(
         } => run_workers(rt, alloc, workers, fields, form, config, source, out, gate),
         Command::RunParts {
             parts,
+            overlap,
             form,
             config,
-        } => run_parts(alloc, parts, fields, form, config, source, out, gate),
+        } => run_in_parts(
+            rt, alloc, parts, overlap, fields, form, config, source, out, gate,
+        ),
         Command::RunWatches { form, config } => {
             run_watches(alloc, fields, form, config, source, out, gate)
         }
@@ -121,6 +124,31 @@ fn run_words<R: Threads + Wait + Sync, S: Source, K: Sink, G: Gate + Sync>(
         Command::Save { config } => save_lines(alloc, fields, config, source, out, gate),
         Command::Load { form } => load_lines(alloc, fields, form, source, out, gate),
     }
+}
+
+// Processes the lines over so many parts, one after the other, or while the parts add side by side.
+fn run_in_parts<R: Threads + Sync, S: Source, K: Sink, G: Gate + Sync>(
+    rt: &R,
+    alloc: Global,
+    parts: u32,
+    overlap: bool,
+    fields: Fields<'_>,
+    form: Form,
+    config: Config,
+    source: &mut S,
+    out: &mut K,
+    gate: &G,
+) -> Status
+    requires { (1 ≤ parts) × (parts ≤ 16) }
+    ensures ends { EndsBy (names fields.entry) (Command.RunParts parts overlap form config) result
+        (S.left source.old) (S.left source.new) (K.taken out.old) (K.taken out.new) }
+    ensures read_fault { result ≡ Status.ReadFault → HasRisen (S.faults source.old) (S.faults source.new) }
+    ensures write_fault { result ≡ Status.WriteFault → HasRisen (K.faults out.old) (K.faults out.new) }
+{
+    if overlap {
+        return run_parts_beside(rt, alloc, parts, fields, form, config, source, out, gate);
+    }
+    run_parts(alloc, parts, fields, form, config, source, out, gate)
 }
 
 // Processes the lines one after the other, or adds documents while queries are answered.

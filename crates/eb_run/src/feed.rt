@@ -1,10 +1,16 @@
-ghost use Rattle.std.specs.Prelude.{◌≡◌, ◌⊎◌, ◌<◌, ◌≤◌, ◌++◌, List, ℕ, None, Some, length, map, string_bytes};
+ghost use Rattle.std.specs.Prelude.{◌≡◌, ◌⊎◌, ◌<◌, ◌≤◌, ◌++◌, List, ℕ, None, Some, IfOk, OnErr, length, map, string_bytes};
+ghost use Rattle.eb_ahead.specs.Placed.{IsHoldingFor, PlacesAll};
+ghost use Rattle.eb_answer.specs.Rules.{Rules, is_bad, IsBody, IsText, HasRefusal, HasNoRefusal};
+ghost use Rattle.eb_answer.specs.Stores.{Keeps};
 ghost use Rattle.eb_fields.specs.Fields.{names};
 ghost use Rattle.eb_io.specs.Faults.{HasRisen};
 ghost use Rattle.eb_io.specs.Lines.{longest_input};
 ghost use Rattle.eb_lines.specs.Outcomes.{IsWorkedOff};
+ghost use Rattle.eb_lines.specs.Passing.{Ends};
+ghost use Rattle.eb_run.specs.Fed.{IsFed};
 ghost use Rattle.eb_run.specs.FeedCommand.{feed_asked_of, AsksFeed};
 ghost use Rattle.eb_run.specs.StatusLine.{feed_status_line};
+ghost use Rattle.eb_run.specs.FeedLaws.{IsSettledWay};
 ghost use Rattle.eb_run.specs.FeedOutput.{EndsFeed, WroteFeed, FeedMeans};
 
 mod command;
@@ -12,21 +18,26 @@ mod fed;
 
 use crate::command::CommandFault;
 use crate::usage::FEED_USAGE;
-pub use command::{FeedCommand, FeedRequest, read_feed_command};
+pub use command::{FeedCommand, FeedRequest, FeedWay, read_feed_command};
+use eb_ahead::{Other, answer_lines_ahead, place_each};
 use eb_answer::answer_lines;
-use eb_base::Gate;
+use eb_base::{Document, Gate, NoMemory};
+use eb_feed_workers::run_feed_workers;
 use eb_fields::Fields;
 use eb_io::{Sink, Source, write_all};
-use eb_lines::Status;
+use eb_lines::{Refusal, Status};
 use eb_watching::answer_watched;
 use fed::Fed;
 use std::alloc::Global;
+use std::sync::Wait;
+use std::thread::Threads;
 
 /// Runs the feed that the words ask for, which are without the program's name and the word `feed`: reads document lines
 /// and query lines, and with `--watch` lines that set watches, from the source, and prints answers, what watches are told
 /// and refusals on `out`. Each document is taken; the oldest go. What is printed goes out in one write before the source is
 /// asked again, or once 64 KiB are gathered. What the status has to say goes to `err`; a fault there changes no status.
-pub fn run_feed<S, K, E, G>(
+pub fn run_feed<R, S, K, E, G>(
+    rt: &R,
     alloc: Global,
     words: &[String],
     source: &mut S,
@@ -35,10 +46,11 @@ pub fn run_feed<S, K, E, G>(
     gate: &G,
 ) -> Status
 where
+    R: Threads + Wait + Sync,
     S: Source,
     K: Sink,
     E: Sink,
-    G: Gate,
+    G: Gate + Sync,
     // Usage comes only where the words ask for no feed; then nothing is read and nothing printed.
     ensures usage { result ≡ Status.Usage → feed_asked_of (map string_bytes words.now) ≡ None }
     ensures no_command { feed_asked_of (map string_bytes words.now) ≡ None → (result ≡ Status.Usage) ⊎ (result ≡ Status.NoMemory) }
@@ -62,12 +74,13 @@ where
     ensures told { (before : List ℕ) → E.taken err.old ≡ Some before
         → HasRisen (E.faults err.old) (E.faults err.new) ⊎ (E.taken err.new ≡ Some (before ++ feed_status_line result)) }
 {
-    let status = run_words(alloc, words, source, out, gate);
+    let status = run_words(rt, alloc, words, source, out, gate);
     let _ = write_all(err, status.line(FEED_USAGE));
     status
 }
 
-fn run_words<S: Source, K: Sink, G: Gate>(
+fn run_words<R: Threads + Wait + Sync, S: Source, K: Sink, G: Gate + Sync>(
+    rt: &R,
     alloc: Global,
     words: &[String],
     source: &mut S,
@@ -87,11 +100,27 @@ fn run_words<S: Source, K: Sink, G: Gate>(
         Err(CommandFault::Usage) => return Status::Usage,
         Err(CommandFault::NoMemory) => return Status::NoMemory,
     };
-    run_lines(alloc, request.fields, request.command, source, out, gate)
+    let FeedRequest { command, fields } = request;
+    if let FeedWay::Workers(workers) = command.way {
+        return run_feed_workers(
+            rt,
+            alloc,
+            workers,
+            fields,
+            command.form,
+            command.config,
+            command.keep,
+            source,
+            out,
+            gate,
+        );
+    }
+    run_lines(rt, alloc, fields, command, source, out, gate)
 }
 
-// Processes an input over a feed.
-fn run_lines<S: Source, K: Sink, G: Gate>(
+// Processes an input over a feed, whose queries are answered by the thread that adds.
+fn run_lines<R: Threads + Sync, S: Source, K: Sink, G: Gate + Sync>(
+    rt: &R,
     alloc: Global,
     fields: Fields<'_>,
     command: FeedCommand,
@@ -99,22 +128,47 @@ fn run_lines<S: Source, K: Sink, G: Gate>(
     out: &mut K,
     gate: &G,
 ) -> Status
-    requires { (2 ≤ command.keep) × (command.keep ≤ 64) }
+    requires keep { (2 ≤ command.keep) × (command.keep ≤ 64) }
+    requires way { IsSettledWay command.way }
     ensures ends { EndsFeed (names fields.entry) command result (S.left source.old) (S.left source.new) (K.taken out.old) (K.taken out.new) }
     ensures read_fault { result ≡ Status.ReadFault → HasRisen (S.faults source.old) (S.faults source.new) }
     ensures write_fault { result ≡ Status.WriteFault → HasRisen (K.faults out.old) (K.faults out.new) }
 {
-    let FeedCommand {
-        keep,
-        watch,
-        form,
-        config,
-    } = command;
-    let Ok(fed) = Fed::new(alloc, keep, form, config) else {
+    let Ok(fed) = Fed::new(alloc, command.keep, command.form, command.config) else {
         return Status::NoMemory;
     };
-    if watch {
-        return answer_watched(alloc, fed, fields, source, out, gate);
+    match command.way {
+        FeedWay::Watches => answer_watched(alloc, fed, fields, source, out, gate),
+        FeedWay::Overlap => answer_ahead(rt, alloc, fed, fields, source, out, gate),
+        FeedWay::InOrder => answer_lines(alloc, fed, fields, source, out, gate),
+        FeedWay::Workers(_) => unreachable!(),
     }
-    answer_lines(alloc, fed, fields, source, out, gate)
+}
+
+// Processes an input over a feed whose lines are read by several threads.
+fn answer_ahead<R: Threads + Sync, S: Source, K: Sink, G: Gate>(
+    rt: &R,
+    alloc: Global,
+    fed: Fed,
+    fields: Fields<'_>,
+    source: &mut S,
+    out: &mut K,
+    gate: &G,
+) -> Status
+    requires { (rules : Rules (Unit {0})) × (names fields ≡ rules.fields) × IsFed fed rules rules.start rules.watches }
+    ensures ends { (rules : Rules (Unit {0})) → names fields.entry ≡ rules.fields → IsFed fed rules rules.start rules.watches
+        → Ends (IsBody is_bad rules) (IsText is_bad rules) (HasRefusal is_bad rules) (HasNoRefusal is_bad rules)
+        result (S.left source.old) (S.left source.new) (K.taken out.old) (K.taken out.new) }
+    ensures read_fault { result ≡ Status.ReadFault → HasRisen (S.faults source.old) (S.faults source.new) }
+    ensures write_fault { result ≡ Status.WriteFault → HasRisen (K.faults out.old) (K.faults out.new) }
+{
+    let place_all = |fed: &mut Fed, items: &[Result<Document, Other>]| -> Result<
+        Vec<Option<Refusal>>,
+        NoMemory,
+    >
+        requires { IsHoldingFor IsFed fed.old (length items.now) }
+        ensures ok { IfOk result (λ refusals. PlacesAll IsFed fed.old fed.new items.now refusals.items) }
+        ensures err { OnErr result (Keeps IsFed fed.old fed.new) }
+    { place_each(fed, alloc, items, gate) };
+    answer_lines_ahead(rt, alloc, fed, &place_all, fields, source, out, gate)
 }

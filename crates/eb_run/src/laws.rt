@@ -1,4 +1,4 @@
-ghost use Rattle.eb_run.specs.FeedLaws.{SomeFeedText, OneFeedText, NeverFull};
+ghost use Rattle.eb_run.specs.FeedLaws.{SomeFeedText, OneFeedText, OrderFeedText, NeverFull};
 ghost use Rattle.eb_run.specs.Laws.{SomeText, OneText, OrderText};
 
 /// The rules leave no input out: each has a text, with and without `--overlap`. The call does nothing.
@@ -23,13 +23,19 @@ pub fn feed_some_text()
     ensures { SomeFeedText }
 {}
 
-/// They give an input one text and no other. So what a feed prints up to the end of its input is settled by the input's
-/// bytes. The call does nothing.
+/// Without workers they give an input one text and no other. So what a feed prints up to the end of its input is settled by
+/// the input's bytes. The call does nothing.
 pub fn feed_one_text()
     ensures { OneFeedText }
 {}
 
-/// A feed refuses no line as full, with watches or without them. The call does nothing.
+/// This text is one of those that the rules allow with workers: to see just the documents before it is allowed to each query.
+/// The call does nothing.
+pub fn feed_order_text()
+    ensures { OrderFeedText }
+{}
+
+/// A feed refuses no line as full, in whichever way its lines are processed. The call does nothing.
 pub fn feed_never_full()
     ensures { NeverFull }
 {}

@@ -18,6 +18,9 @@ mod usage;
 
 pub use command::{Command, CommandFault, Request, read_command};
 pub use dispatch::run;
-pub use feed::{FeedCommand, FeedRequest, read_feed_command, run_feed};
-pub use laws::{feed_never_full, feed_one_text, feed_some_text, one_text, order_text, some_text};
+pub use feed::{FeedCommand, FeedRequest, FeedWay, read_feed_command, run_feed};
+pub use laws::{
+    feed_never_full, feed_one_text, feed_order_text, feed_some_text, one_text, order_text,
+    some_text,
+};
 pub use usage::{FEED_USAGE, USAGE};

@@ -1,9 +1,10 @@
 /// How the program is called, but for feeds.
 pub const USAGE: &[u8] =
-    b"earlybird: usage: run [--overlap | --workers N | --parts N | --watch] [--fields LIST] [--stats] [--json] [--segments N] \
-      [--docs N] [--terms N] | bench START DOCS | save [--fields LIST] [--segments N] [--docs N] [--terms N] | \
+    b"earlybird: usage: run [--overlap | --workers N | --parts N [--overlap] | --watch] [--fields LIST] [--stats] [--json] \
+      [--segments N] [--docs N] [--terms N] | bench START DOCS | save [--fields LIST] [--segments N] [--docs N] [--terms N] | \
       load [--fields LIST] [--stats] [--json]\n";
 
 /// How it is called for a feed.
 pub const FEED_USAGE: &[u8] =
-    b"earlybird: usage: feed [--keep N] [--watch] [--fields LIST] [--stats] [--json] [--segments N] [--docs N] [--terms N]\n";
+    b"earlybird: usage: feed [--overlap | --workers N | --watch] [--keep N] [--fields LIST] [--stats] [--json] [--segments N] \
+      [--docs N] [--terms N]\n";

@@ -35,7 +35,7 @@ fn run_by<R: Threads + Wait + Sync>(
 ) -> Status {
     match words.split_first() {
         Some((name, rest)) if name.as_str() == "feed" => {
-            run_feed(alloc, rest, source, out, err, gate)
+            run_feed(rt, alloc, rest, source, out, err, gate)
         }
         _ => run(rt, alloc, words, source, out, err, gate),
     }

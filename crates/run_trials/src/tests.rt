@@ -2,6 +2,7 @@
 
 mod meeting;
 mod overlap;
+mod parts;
 mod rounds;
 mod sinks;
 mod turns;

@@ -32,14 +32,15 @@ fn run_with_workers(workers: u32, form: Form, config: Config) -> Option<Command>
 }
 
 // To run over so many parts.
-fn run_over_parts(parts: u32, form: Form, config: Config) -> Option<Command>
-    ensures { result ≡ over_parts parts form config }
+fn run_over_parts(parts: u32, overlap: bool, form: Form, config: Config) -> Option<Command>
+    ensures { result ≡ over_parts parts overlap form config }
 {
     if parts < 1 || parts > MOST || u64::from(parts) * config.words() > MAX_WORDS {
         return None;
     }
     Some(Command::RunParts {
         parts,
+        overlap,
         form,
         config,
     })
@@ -64,7 +65,7 @@ fn run_in_way(
         }),
         (None, None) if !overlap => Some(Command::RunWatches { form, config }),
         (Some(workers), None) if !overlap && !watch => run_with_workers(workers, form, config),
-        (None, Some(parts)) if !overlap && !watch => run_over_parts(parts, form, config),
+        (None, Some(parts)) if !watch => run_over_parts(parts, overlap, form, config),
         _ => None,
     }
 }

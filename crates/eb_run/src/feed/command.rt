@@ -1,5 +1,7 @@
 ghost use Rattle.std.specs.Prelude.{◌≡◌, ◌≤◌, Some, None, IfSome, IfOk, IsErrOf, map, string_bytes};
-ghost use Rattle.eb_run.specs.FeedCommand.{feed_asked_of, feed_command_of, feed_of, feed_with};
+ghost use Rattle.eb_options.specs.Items.{items_of};
+ghost use Rattle.eb_run.specs.FeedCommand.{feed_asked_of, feed_command_of, feed_flags, feed_of, feed_options, feed_with, way_by, way_with};
+ghost use Rattle.eb_run.specs.FeedCommand.{HasFewWorkers};
 ghost use Rattle.eb_run.specs.FeedRequests.{feed_request_view};
 
 use crate::command::CommandFault;
@@ -11,18 +13,34 @@ use eb_lines::Form;
 use eb_options::{Items, OptionFault, read_options, read_setting};
 use std::alloc::Global;
 
-// The flags of a feed, and its options: how many generations it keeps, and those of their setting.
-const FEED_FLAGS: [&str; 3] = ["watch", "json", "stats"];
+// The flags of a feed, and its options: how many workers it has, how many generations it keeps, and those of their setting.
+const FEED_FLAGS: [&str; 4] = ["overlap", "watch", "json", "stats"];
 
-const FEED_OPTIONS: [&str; 4] = ["keep", "segments", "docs", "terms"];
+const FEED_OPTIONS: [&str; 5] = ["workers", "keep", "segments", "docs", "terms"];
+
+// The most workers of a feed.
+const MOST: u32 = 16;
+
+/// How the lines of a feed are processed.
+#[derive(Clone, Copy, Debug, PartialEq, Eq)]
+pub enum FeedWay {
+    /// One after the other.
+    InOrder,
+    /// One after the other, of which some set watches (`--watch`).
+    Watches,
+    /// Read by several threads, and then one after the other (`--overlap`).
+    Overlap,
+    /// One after the other, while so many standing workers, 1 to 16, answer the queries (`--workers`).
+    Workers(u32),
+}
 
 /// What the words after `feed` ask for.
 #[derive(Clone, Copy, Debug, PartialEq, Eq)]
 pub struct FeedCommand {
     /// How many generations are kept, 2 to 64 (`--keep`).
     pub keep: u32,
-    /// Whether lines set watches (`--watch`).
-    pub watch: bool,
+    /// How its lines are processed.
+    pub way: FeedWay,
     /// How what is printed is written (`--json`), and whether the generations are told after the summary (`--stats`).
     pub form: Form,
     /// The setting of each; what the options don't name is as in `Config::usual`.
@@ -40,10 +58,12 @@ pub struct FeedRequest<'a> {
 
 /// The feed that the words ask for; they are without the program's name and the word `feed`.
 ///
-/// They are items in any order, each at most once: `--watch`, `--json`, `--stats`, for x of `keep`, `segments`, `docs` and `terms` the
-/// two words `--x V` or the one word `--x=V`, and the two words `--fields LIST` or the one word `--fields=LIST`. V is one to nine
-/// digits, leading zeros allowed; what isn't named is 4 generations, and else as in `Config::usual`; LIST is as `Fields::read` takes
-/// it. `Config::new` has to allow the setting, and keep is 2 to 64; keep + 1 indexes have at most 134,217,728 words together.
+/// They are items in any order, each at most once: `--overlap`, `--watch`, `--json`, `--stats`, for x of `workers`, `keep`, `segments`,
+/// `docs` and `terms` the two words `--x V` or the one word `--x=V`, and the two words `--fields LIST` or the one word
+/// `--fields=LIST`. V is one to nine digits, leading zeros allowed; what isn't named is 4 generations, and else as in
+/// `Config::usual`; LIST is as `Fields::read` takes it. At most one of `--overlap`, `--watch` and `--workers` stands there, and
+/// `--stats` not beside `--workers`, of which there are 1 to 16. `Config::new` has to allow the setting, and keep is 2 to 64;
+/// keep + 1 indexes have at most 134,217,728 words together.
 ///
 /// Usage comes exactly where the words are none of these; NoMemory is free.
 pub fn read_feed_command<'a>(
@@ -52,10 +72,11 @@ pub fn read_feed_command<'a>(
 ) -> Result<FeedRequest<'a>, CommandFault>
     ensures request { IfOk result (λ request. feed_asked_of (map string_bytes words.entry.now) ≡ Some (feed_request_view request)) }
     ensures keep { IfOk result (λ request. (2 ≤ request.command.keep) × (request.command.keep ≤ 64)) }
+    ensures workers { IfOk result (λ request. HasFewWorkers request.command.way) }
     ensures usage { IsErrOf result CommandFault.Usage → feed_asked_of (map string_bytes words.entry.now) ≡ None }
 {
     match take_fields(alloc, words, &FEED_OPTIONS) {
-        Ok(apart) => match read_items(alloc, apart.others.as_slice()) {
+        Ok(apart) => match read_command(alloc, apart.others.as_slice()) {
             Ok(command) => Ok(FeedRequest {
                 command,
                 fields: apart.fields,
@@ -67,34 +88,78 @@ pub fn read_feed_command<'a>(
 }
 
 // The feed that the words ask for beside the fields.
-fn read_items(alloc: Global, words: &[String]) -> Result<FeedCommand, CommandFault>
+fn read_command(alloc: Global, words: &[String]) -> Result<FeedCommand, CommandFault>
     ensures command { IfOk result (λ command. feed_command_of (map string_bytes words.now) ≡ Some command) }
     ensures keep { IfOk result (λ command. (2 ≤ command.keep) × (command.keep ≤ 64)) }
+    ensures workers { IfOk result (λ command. HasFewWorkers command.way) }
     ensures usage { IsErrOf result CommandFault.Usage → feed_command_of (map string_bytes words.now) ≡ None }
 {
-    let items = match read_options(alloc, words, &FEED_FLAGS, &FEED_OPTIONS) {
-        Ok(items) => items,
-        Err(OptionFault::Usage) => return Err(CommandFault::Usage),
-        Err(OptionFault::NoMemory) => return Err(CommandFault::NoMemory),
-    };
-    read_feed(&items).ok_or(CommandFault::Usage)
+    let items = read_items(alloc, words)?;
+    match read_feed(&items) {
+        Some(command) => Ok(command),
+        None => Err(CommandFault::Usage),
+    }
+}
+
+// The items that the words beside the fields are.
+fn read_items(alloc: Global, words: &[String]) -> Result<Items, CommandFault>
+    ensures items { IfOk result (λ items. items_of feed_flags feed_options (map string_bytes words.now) ≡ Some items) }
+    ensures usage { IsErrOf result CommandFault.Usage → items_of feed_flags feed_options (map string_bytes words.now) ≡ None }
+{
+    match read_options(alloc, words, &FEED_FLAGS, &FEED_OPTIONS) {
+        Ok(items) => Ok(items),
+        Err(OptionFault::Usage) => Err(CommandFault::Usage),
+        Err(OptionFault::NoMemory) => Err(CommandFault::NoMemory),
+    }
+}
+
+// The way to process lines, where at most one is asked for.
+fn way_of(overlap: bool, watch: bool, workers: Option<u32>, stats: bool) -> Option<FeedWay>
+    ensures way { result ≡ way_by overlap watch workers stats }
+    ensures workers { IfSome result HasFewWorkers }
+{
+    match workers {
+        None if !watch && !overlap => Some(FeedWay::InOrder),
+        None if !overlap => Some(FeedWay::Watches),
+        None if !watch => Some(FeedWay::Overlap),
+        Some(workers) if !overlap && !watch && !stats => work_with(workers),
+        _ => None,
+    }
+}
+
+// The way with so many workers, if that is allowed.
+fn work_with(workers: u32) -> Option<FeedWay>
+    ensures way { result ≡ way_with workers }
+    ensures workers { IfSome result HasFewWorkers }
+{
+    if workers < 1 || workers > MOST {
+        return None;
+    }
+    Some(FeedWay::Workers(workers))
 }
 
 // The feed that the items ask for, if it is allowed.
 fn read_feed(items: &Items) -> Option<FeedCommand>
     ensures feed { result ≡ feed_with items.now }
     ensures keep { IfSome result (λ command. (2 ≤ command.keep) × (command.keep ≤ 64)) }
+    ensures workers { IfSome result (λ command. HasFewWorkers command.way) }
 {
     let keep = items.number("keep").unwrap_or(4);
-    let watch = items.has("watch");
     let form = read_form(items);
-    allow(keep, watch, form, read_setting(items)?)
+    let way = way_of(
+        items.has("overlap"),
+        items.has("watch"),
+        items.number("workers"),
+        items.has("stats"),
+    )?;
+    allow(keep, way, form, read_setting(items)?)
 }
 
 // The feed that keeps so many generations of this setting, if it is allowed.
-fn allow(keep: u32, watch: bool, form: Form, config: Config) -> Option<FeedCommand>
-    ensures feed { result ≡ feed_of keep watch form config }
+fn allow(keep: u32, way: FeedWay, form: Form, config: Config) -> Option<FeedCommand>
+    ensures feed { result ≡ feed_of keep form way config }
     ensures keep { IfSome result (λ command. (2 ≤ command.keep) × (command.keep ≤ 64)) }
+    ensures way { IfSome result (λ command. command.way ≡ way) }
 {
     if keep < 2 || keep > 64 {
         return None;
@@ -104,7 +169,7 @@ fn allow(keep: u32, watch: bool, form: Form, config: Config) -> Option<FeedComma
     }
     Some(FeedCommand {
         keep,
-        watch,
+        way,
         form,
         config,
     })

@@ -97,7 +97,12 @@ fn run_in_turns<R: Threads + Wait + Sync>(
 }
 
 // The same of a feed.
-fn feed_in_turns(alloc: Global) -> (Status, u64) {
+fn feed_in_turns<R: Threads + Wait + Sync>(
+    rt: &R,
+    alloc: Global,
+    line: &str,
+) -> Result<(Status, u64), Fail> {
+    let words = words_of(alloc, line)?;
     let taken = AtomicU64::new(0);
     let mut source = StdSource::new(Asker {
         taken: &taken,
@@ -105,16 +110,25 @@ fn feed_in_turns(alloc: Global) -> (Status, u64) {
     });
     let mut out = StdSink::new(Taker { taken: &taken });
     let mut err = CountSink::new();
-    let status = run_feed(alloc, &[], &mut source, &mut out, &mut err, &OpenGate);
-    (status, taken.load(Ordering::SeqCst))
+    let status = run_feed(
+        rt,
+        alloc,
+        words.as_slice(),
+        &mut source,
+        &mut out,
+        &mut err,
+        &OpenGate,
+    );
+    Ok((status, taken.load(Ordering::SeqCst)))
 }
 
 // The lines by which it is run.
-const LINES: [&str; 5] = [
+const LINES: [&str; 6] = [
     "run --terms=1024",
     "run --terms=1024 --overlap",
     "run --terms=1024 --workers=2",
     "run --terms=1024 --parts=2",
+    "run --terms=1024 --parts=2 --overlap",
     "run --terms=1024 --watch",
 ];
 
@@ -127,8 +141,14 @@ fn each_answer_is_out_before_the_next_line_is_read(rt: HostRuntime) -> Result<()
     Ok(())
 }
 
+// The lines by which a feed is.
+const FEED_LINES: [&str; 4] = ["--keep=4", "--overlap", "--workers=2", "--watch"];
+
 #[test]
-fn each_answer_of_a_feed_is_out_before_the_next_line_is_read(rt: HostRuntime) {
-    let left = feed_in_turns(rt.alloc());
-    assert_eq!(rt; left, (Status::Done, WHOLE.len() as u64 + 8));
+fn each_answer_of_a_feed_is_out_before_the_next_line_is_read(rt: HostRuntime) -> Result<(), Fail> {
+    for line in FEED_LINES {
+        let left = feed_in_turns(&rt, rt.alloc(), line)?;
+        assert_eq!(rt; left, (Status::Done, WHOLE.len() as u64 + 8), "{line}");
+    }
+    Ok(())
 }

@@ -6,7 +6,7 @@ use std::alloc::Global;
 use std::fmt::Write;
 use std::test::Fail;
 
-const COMMANDS: [(&str, &str); 25] = [
+const COMMANDS: [(&str, &str); 27] = [
     (
         "run",
         "Run { overlap: false, form: Form { json: false, stats: false }, config: Config { segments: 12, docs: 4096, terms: 8192 } }",
@@ -49,15 +49,23 @@ const COMMANDS: [(&str, &str); 25] = [
     ),
     (
         "run --parts 1",
-        "RunParts { parts: 1, form: Form { json: false, stats: false }, config: Config { segments: 12, docs: 4096, terms: 8192 } }",
+        "RunParts { parts: 1, overlap: false, form: Form { json: false, stats: false }, config: Config { segments: 12, docs: 4096, terms: 8192 } }",
     ),
     (
         "run --parts=16 --stats --terms=1024 --docs 2 --segments=2",
-        "RunParts { parts: 16, form: Form { json: false, stats: true }, config: Config { segments: 2, docs: 2, terms: 1024 } }",
+        "RunParts { parts: 16, overlap: false, form: Form { json: false, stats: true }, config: Config { segments: 2, docs: 2, terms: 1024 } }",
     ),
     (
         "run --parts 16 --docs 68264",
-        "RunParts { parts: 16, form: Form { json: false, stats: false }, config: Config { segments: 12, docs: 68264, terms: 8192 } }",
+        "RunParts { parts: 16, overlap: false, form: Form { json: false, stats: false }, config: Config { segments: 12, docs: 68264, terms: 8192 } }",
+    ),
+    (
+        "run --parts 1 --overlap",
+        "RunParts { parts: 1, overlap: true, form: Form { json: false, stats: false }, config: Config { segments: 12, docs: 4096, terms: 8192 } }",
+    ),
+    (
+        "run --json --overlap --terms=1024 --parts=16 --docs 2 --segments=2",
+        "RunParts { parts: 16, overlap: true, form: Form { json: true, stats: false }, config: Config { segments: 2, docs: 2, terms: 1024 } }",
     ),
     (
         "run --watch",
@@ -100,43 +108,59 @@ const COMMANDS: [(&str, &str); 25] = [
     ("bench 007 00001", "Bench { start: 7, docs: 1 }"),
 ];
 
-const FEEDS: [(&str, &str); 8] = [
+const FEEDS: [(&str, &str); 12] = [
     (
         "--keep=2",
-        "FeedCommand { keep: 2, watch: false, form: Form { json: false, stats: false }, config: Config { segments: 12, docs: 4096, terms: 8192 } }",
+        "FeedCommand { keep: 2, way: InOrder, form: Form { json: false, stats: false }, config: Config { segments: 12, docs: 4096, terms: 8192 } }",
     ),
     (
         "--keep 000000016",
-        "FeedCommand { keep: 16, watch: false, form: Form { json: false, stats: false }, config: Config { segments: 12, docs: 4096, terms: 8192 } }",
+        "FeedCommand { keep: 16, way: InOrder, form: Form { json: false, stats: false }, config: Config { segments: 12, docs: 4096, terms: 8192 } }",
     ),
     (
         "--terms 1024 --keep 64 --segments=1",
-        "FeedCommand { keep: 64, watch: false, form: Form { json: false, stats: false }, config: Config { segments: 1, docs: 4096, terms: 1024 } }",
+        "FeedCommand { keep: 64, way: InOrder, form: Form { json: false, stats: false }, config: Config { segments: 1, docs: 4096, terms: 1024 } }",
     ),
     (
         "--segments=1 --terms=262144 --docs=13369341 --keep=3",
-        "FeedCommand { keep: 3, watch: false, form: Form { json: false, stats: false }, config: Config { segments: 1, docs: 13369341, terms: 262144 } }",
+        "FeedCommand { keep: 3, way: InOrder, form: Form { json: false, stats: false }, config: Config { segments: 1, docs: 13369341, terms: 262144 } }",
     ),
     (
         "--json --keep=2",
-        "FeedCommand { keep: 2, watch: false, form: Form { json: true, stats: false }, config: Config { segments: 12, docs: 4096, terms: 8192 } }",
+        "FeedCommand { keep: 2, way: InOrder, form: Form { json: true, stats: false }, config: Config { segments: 12, docs: 4096, terms: 8192 } }",
     ),
     (
         "--keep=2 --watch",
-        "FeedCommand { keep: 2, watch: true, form: Form { json: false, stats: false }, config: Config { segments: 12, docs: 4096, terms: 8192 } }",
+        "FeedCommand { keep: 2, way: Watches, form: Form { json: false, stats: false }, config: Config { segments: 12, docs: 4096, terms: 8192 } }",
     ),
     (
         "--stats --json --keep=2 --watch",
-        "FeedCommand { keep: 2, watch: true, form: Form { json: true, stats: true }, config: Config { segments: 12, docs: 4096, terms: 8192 } }",
+        "FeedCommand { keep: 2, way: Watches, form: Form { json: true, stats: true }, config: Config { segments: 12, docs: 4096, terms: 8192 } }",
+    ),
+    (
+        "--overlap --keep=2",
+        "FeedCommand { keep: 2, way: Overlap, form: Form { json: false, stats: false }, config: Config { segments: 12, docs: 4096, terms: 8192 } }",
+    ),
+    (
+        "--stats --overlap",
+        "FeedCommand { keep: 4, way: Overlap, form: Form { json: false, stats: true }, config: Config { segments: 12, docs: 4096, terms: 8192 } }",
+    ),
+    (
+        "--workers 1 --json",
+        "FeedCommand { keep: 4, way: Workers(1), form: Form { json: true, stats: false }, config: Config { segments: 12, docs: 4096, terms: 8192 } }",
+    ),
+    (
+        "--keep=2 --workers=16",
+        "FeedCommand { keep: 2, way: Workers(16), form: Form { json: false, stats: false }, config: Config { segments: 12, docs: 4096, terms: 8192 } }",
     ),
     (
         "--docs=2 --segments 3 --terms=1024",
-        "FeedCommand { keep: 4, watch: false, form: Form { json: false, stats: false }, config: Config { segments: 3, docs: 2, terms: 1024 } }",
+        "FeedCommand { keep: 4, way: InOrder, form: Form { json: false, stats: false }, config: Config { segments: 3, docs: 2, terms: 1024 } }",
     ),
 ];
 
 const USUAL_FEED: &str =
-    "FeedCommand { keep: 4, watch: false, form: Form { json: false, stats: false }, config: Config { segments: 12, docs: 4096, terms: 8192 } }";
+    "FeedCommand { keep: 4, way: InOrder, form: Form { json: false, stats: false }, config: Config { segments: 12, docs: 4096, terms: 8192 } }";
 
 #[test]
 fn words_ask_for_a_command(rt: HostRuntime) -> Result<(), Fail> {

@@ -14,9 +14,9 @@ run_workers-requires-after_bounds g c = λ κs bounds.
     few_workers (map string_bytes c.args.words.now.items) (names c.in-Ok.request.fields) c.in-RunWorkers.workers c.in-RunWorkers.form c.in-RunWorkers.config
     (c.in-Ok.ensures.request ∙ ap (λ x. Some (asks (names c.in-Ok.request.fields) x)) c.in-RunWorkers.is)
 
-pub run_parts-requires : goal.run_parts-requires
-run_parts-requires g c =
-    few_parts (map string_bytes c.args.words.now.items) (names c.in-Ok.request.fields) c.in-RunParts.parts c.in-RunParts.form c.in-RunParts.config
+pub run_in_parts-requires-after_bounds : goal.run_in_parts-requires-after_bounds
+run_in_parts-requires-after_bounds g c = λ κs bounds.
+    few_parts (map string_bytes c.args.words.now.items) (names c.in-Ok.request.fields) c.in-RunParts.parts c.in-RunParts.overlap c.in-RunParts.form c.in-RunParts.config
     (c.in-Ok.ensures.request ∙ ap (λ x. Some (asks (names c.in-Ok.request.fields) x)) c.in-RunParts.is)
 
 pub run_bench-requires : goal.run_bench-requires

@@ -1,7 +1,6 @@
 use Rattle.eb_io.specs.Lines.{lines_of}
 use Rattle.eb_run.proofs.Feeds.{one_fed}
-use Rattle.eb_run.specs.FeedOutput.{rules_of}
 use Rattle.eb_run.proofs.laws.feed_one_text.Goals as goal
 
 pub returns : goal.returns
-returns c = λ names asked bytes. one_fed asked.watch (rules_of names asked) (lines_of bytes)
+returns c = λ names asked bytes a b settled. one_fed asked.way names asked (lines_of bytes) a b settled
