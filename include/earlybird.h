@@ -132,7 +132,7 @@ void eb_last_segment(const struct eb_index *index, struct eb_segment *last);
 /* A handle. It is closed where it is all zero. */
 struct eb_handle {
     void *at;
-    uint32_t kind; /* 0 closed, 1 a writer, 2 a reader, 3 a converter, 4 a leader, 5 a follower */
+    uint32_t kind; /* 0 closed, 1 a writer, 2 a reader, 3 a converter, 4 a leader, 5 a follower, 6 a spare index */
 };
 
 /* Opens an index of this setting, as eb_words has it, without a document. Both handles are closed before. EB_BAD_SETTING,
@@ -170,7 +170,7 @@ void eb_close(struct eb_handle *handle);
  * followers, as many as there is memory for; each searches the newest generations that it knows, at most as many as the feed
  * keeps. The leader tells its followers of a generation that was begun, and a follower takes that in at its next ask. Handles
  * are as above, calls on different handles may run at the same time, and none waits for another. An add that begins a
- * generation takes the memory of an index, and is as slow as eb_open. The memory of a generation is given back when neither
+ * generation takes the memory of an index, and is as slow as eb_open, unless the leader was lent one. The memory of a generation is given back when neither
  * the leader nor a follower holds it: so a follower that doesn't ask keeps its own generations alive, and an add is never refused
  * because of that. A feed goes on for its followers where the leader is closed.
  *
@@ -199,6 +199,16 @@ uint32_t eb_leader_tell(struct eb_handle *leader, uint32_t *told);
  * newest any more. A generation whose converter isn't made stays unpacked. EB_NO_MEMORY: so does this one. Tested, and not proved:
  * that it is made where it wasn't before. */
 uint32_t eb_leader_converter(struct eb_handle *leader, struct eb_handle *converter);
+
+/* Opens a spare index of this setting, as eb_words has it, for the next generation of a feed: on any thread, beside the leader. The
+ * handle is closed before. EB_BAD_SETTING, EB_NO_MEMORY. */
+uint32_t eb_spare_open(struct eb_handle *spare, uint32_t segments, uint32_t docs, uint32_t terms);
+
+/* Lends the leader a spare index of its feed's setting: the add that begins the next generation takes it, and opens none. The
+ * spare's handle then leads to the one that the leader had been lent before and hasn't taken, or it is closed where there was none: so
+ * a program may lend before each add, and have another one opened where the handle comes back closed. EB_BAD_SETTING: both are as
+ * before. Tested, and not proved: that the next generation takes it, and that one that isn't taken comes back. */
+uint32_t eb_leader_lend(struct eb_handle *leader, struct eb_handle *spare);
 
 /* Makes a follower, which knows all that the leader added. EB_NO_MEMORY. */
 uint32_t eb_follower(struct eb_handle *leader, struct eb_handle *follower);

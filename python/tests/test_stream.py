@@ -2,7 +2,7 @@
 import threading
 import unittest
 
-from earlybird import BadDocument, BadHandle, BadNumber, BadQuery, BadSetting, BadText, Follower, Leader
+from earlybird import BadDocument, BadHandle, BadNumber, BadQuery, BadSetting, BadText, Follower, Leader, Spare
 
 
 class Stream(unittest.TestCase):
@@ -30,6 +30,16 @@ class Stream(unittest.TestCase):
         self.assertEqual([first.convert() for _ in range(3)], [1, 2, 2])
         self.assertEqual(second.convert(), 1)
         self.assertEqual(list(follower.search('"a b"')), [5, 4, 3, 2, 1])
+
+    def test_a_spare_index_is_taken_by_the_next_generation(self):
+        leader = Leader(segments=1, docs=2, terms=1024, keep=2)
+        spare, other = (Spare(segments=1, docs=2, terms=1024) for _ in range(2))
+        self.assertRaises(BadSetting, lambda: leader.lend(Spare(segments=1, docs=3, terms=1024)))
+        self.assertEqual((leader.lend(spare), leader.lend(other)), (True, False))
+        self.assertRaises(BadHandle, lambda: leader.lend(spare))
+        for id in range(1, 4):
+            leader.add(id, "train")
+        self.assertEqual((leader.lend(other), list(leader.follower().search("train"))), (True, [3, 2, 1]))
 
     def test_refusals_change_nothing(self):
         leader = Leader(segments=1, docs=1, terms=1024, keep=2)

@@ -11,6 +11,8 @@ extern "C" {
     fn eb_leader_add_text(leader: *mut Handle, id: u64, text: *const u8, text_len: usize) -> u32;
     fn eb_leader_tell(leader: *mut Handle, told: *mut u32) -> u32;
     fn eb_leader_converter(leader: *mut Handle, converter: *mut Handle) -> u32;
+    fn eb_spare_open(spare: *mut Handle, segments: u32, docs: u32, terms: u32) -> u32;
+    fn eb_leader_lend(leader: *mut Handle, spare: *mut Handle) -> u32;
     fn eb_follower(leader: *mut Handle, follower: *mut Handle) -> u32;
     fn eb_follower_ask_line(follower: *mut Handle, line: *const u8, line_len: usize, ids: *mut u64, ids_len: usize, answer: *mut Told) -> u32;
     fn eb_follower_ask_text(
@@ -86,12 +88,46 @@ impl Leader {
         Ok(if made.is_closed() { None } else { Some(Converter { side: made }) })
     }
 
+    /// Takes an index that was opened ahead: the add that begins the next generation takes it, and opens none. Gives back the one that
+    /// it was lent before and hasn't taken; so a program may lend before each add, and have another one opened where nothing
+    /// comes back.
+    ///
+    /// [`Refusal::BadSetting`] where its setting isn't that of the feed, and it is let go.
+    pub fn lend(&mut self, mut spare: Spare) -> Result<Option<Spare>, Refusal> {
+        // SAFETY: two handles that no other call has.
+        Refusal::of(unsafe { eb_leader_lend(self.side.at(), spare.side.at()) }, 0)?;
+        Ok(if spare.side.is_closed() { None } else { Some(spare) })
+    }
+
     /// A follower that knows all that was added.
     pub fn follower(&mut self) -> Result<Follower, Refusal> {
         let made = Side::closed();
         // SAFETY: two handles that no other call has.
         Refusal::of(unsafe { eb_follower(self.side.at(), made.at()) }, 0)?;
         Ok(Follower { side: made, room: Room::new() })
+    }
+}
+
+/// An index that is opened ahead, on any thread, for the next generation of a feed.
+///
+/// ```
+/// use earlybird::stream::{open, Spare};
+/// let mut leader = open(1, 2, 1024, 2)?;
+/// let spare = std::thread::spawn(|| Spare::open(1, 2, 1024)).join().unwrap()?;
+/// assert!(leader.lend(spare)?.is_none());
+/// # Ok::<(), earlybird::Refusal>(())
+/// ```
+pub struct Spare {
+    side: Side,
+}
+
+impl Spare {
+    /// Opens an index of so many segments with room for so many documents and distinct terms. Takes memory for one generation.
+    pub fn open(segments: u32, docs: u32, terms: u32) -> Result<Spare, Refusal> {
+        let side = Side::closed();
+        // SAFETY: a handle that no other call has.
+        Refusal::of(unsafe { eb_spare_open(side.at(), segments, docs, terms) }, 0)?;
+        Ok(Spare { side })
     }
 }
 

@@ -1,6 +1,6 @@
 //! The feed that threads share: what its types answer and refuse.
 
-use earlybird::stream::{open, Follower, Leader};
+use earlybird::stream::{open, Follower, Leader, Spare};
 use earlybird::Refusal;
 use std::thread;
 
@@ -34,6 +34,21 @@ fn a_converter_changes_no_answer() -> Result<(), Refusal> {
     drop(leader);
     assert_eq!((first.convert()?, first.convert()?, first.convert()?, second.convert()?), (1, 2, 2, 1));
     assert_eq!(follower.search(10, "\"a b\"")?.ids, [5, 4, 3, 2, 1]);
+    Ok(())
+}
+
+#[test]
+fn a_spare_index_is_taken_by_the_next_generation() -> Result<(), Refusal> {
+    let mut leader = open(1, 2, 1024, 2)?;
+    let spare = thread::spawn(|| Spare::open(1, 2, 1024)).join().expect("the thread ends")?;
+    assert!(leader.lend(spare)?.is_none());
+    let other = leader.lend(Spare::open(1, 2, 1024)?)?.expect("the one before");
+    assert_eq!(leader.lend(Spare::open(1, 3, 1024)?).err(), Some(Refusal::BadSetting));
+    for id in 1..=3 {
+        leader.add(id, "train")?;
+    }
+    assert!(leader.lend(other)?.is_none());
+    assert_eq!(leader.follower()?.search(9, "train")?.ids, [3, 2, 1]);
     Ok(())
 }
 

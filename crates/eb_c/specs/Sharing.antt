@@ -2,9 +2,9 @@
 use Rattle.std.specs.Prelude.{◌≡◌, ◌⊎◌, ℕ, Option, Some, None}
 use Rattle.eb_engine.specs.Tokens.{HistoryToken, ConverterToken}
 use Rattle.eb_c.specs.declared.held.Held.{Held}
-use Rattle.eb_c.specs.declared.held.Held.TheVariants.{Writer, Reader, Converter, Leader, Follower, FeedConverter}
+use Rattle.eb_c.specs.declared.held.Held.TheVariants.{Writer, Reader, Converter, Leader, Follower, FeedConverter, Spare}
 
--- 0: nothing; 1: a writer; 2: a reader; 3: a converter, also of a generation of a feed; 4: a leader; 5: a follower
+-- 0: nothing; 1: a writer; 2: a reader; 3: a converter, also of a generation of a feed; 4: a leader; 5: a follower; 6: a spare index
 abbrev pub kind_of : Option Held → ℕ
 kind_of None = 0
 kind_of (Some (Writer w)) = 1
@@ -13,6 +13,7 @@ kind_of (Some (Converter c)) = 3
 kind_of (Some (Leader w)) = 4
 kind_of (Some (Follower f)) = 5
 kind_of (Some (FeedConverter c)) = 3
+kind_of (Some (Spare s)) = 6
 
 -- it is closed
 abbrev pub LeadsNowhere : Option Held → Type 0

@@ -1,12 +1,14 @@
 -- What a handle of a feed leads to, and what comes of its calls.
-use Rattle.std.specs.Prelude.{◌≡◌, ◌⊎◌, ℕ, false, List, [], ◌∷◌, ◌++◌, Option, Some, Result, Ok, Err}
+use Rattle.std.specs.Prelude.{◌≡◌, ◌⊎◌, ℕ, false, List, [], ◌∷◌, ◌++◌, Option, None, Some, Result, Ok, Err}
 use mathlib.Core.List.{IsPrefix}
 use Rattle.eb_base.specs.Document.{Doc}
+use Rattle.eb_base.specs.Setting.{Setting}
 use Rattle.eb_place.specs.Room.{has_room}
 use Rattle.eb_feed.specs.Generations.{with_generation}
+use Rattle.eb_table.specs.Known.{Words}
 use Rattle.eb_stream.specs.Turns.{FeedToken, WriterToken, generations_of, history_of, stretch_of, counted, HasLapsed, HasTaken}
 use Rattle.eb_c.specs.declared.held.Held.{Held}
-use Rattle.eb_c.specs.declared.held.Held.TheVariants.{Leader, Follower}
+use Rattle.eb_c.specs.declared.held.Held.TheVariants.{Leader, Follower, Spare}
 use Rattle.eb_c.specs.declared.index.Answer.{Answer}
 use Rattle.eb_c.specs.declared.refusal.Refusal.{Refusal}
 use Rattle.eb_c.specs.declared.refusal.Refusal.TheVariants as refusal
@@ -20,6 +22,14 @@ LeadsToLeader h w = h ≡ Some (Leader w)
 -- it leads to a follower of a feed, which knows this
 abbrev pub LeadsToFollower : Option Held → FeedToken → Type 0
 LeadsToFollower h f = h ≡ Some (Follower f)
+
+-- it leads to an index that was opened ahead
+abbrev pub LeadsToSpare : Option Held → Words → Type 0
+LeadsToSpare h s = h ≡ Some (Spare s)
+
+-- after it was lent, it leads to another one of this setting, which was lent before it, or to nothing
+abbrev pub LeadsBack : Option Held → Setting → Type 0
+LeadsBack h σ = (h ≡ None) ⊎ ((s : Words) × LeadsToSpare h s × (s.setting ≡ σ))
 
 -- the document was added, to the newest generation where that has room for it, else to a new one
 pub record Takes (old new : WriterToken) (d : Doc) : Type 0 where

@@ -12,8 +12,8 @@ use std::mem;
 // What a call answers where a handle isn't of the kind that it takes.
 pub(crate) const BAD_HANDLE: u32 = 16;
 
-/// A handle: it leads to a writer (1), to a reader (2), to a converter (3), to a leader (4), to a follower (5), or to nothing
-/// (0, and it is closed).
+/// A handle: it leads to a writer (1), to a reader (2), to a converter (3), to a leader (4), to a follower (5), to a spare index
+/// (6), or to nothing (0, and it is closed).
 #[repr(C)]
 #[derive(Drop)]
 pub struct Handle {
@@ -31,6 +31,7 @@ fn kind(held: &Held) -> u32
         Held::Converter(_) | Held::FeedConverter(_) => 3,
         Held::Leader(_) => 4,
         Held::Follower(_) => 5,
+        Held::Spare(_) => 6,
     }
 }
 

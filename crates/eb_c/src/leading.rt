@@ -1,5 +1,6 @@
 //! What a handle of a feed leads to: its leader, or a follower.
 ghost use Rattle.std.specs.Prelude.{◌≡◌, ◌<◌, ◌≤◌, [], true, false, IfOk, IfSome};
+ghost use Rattle.std.specs.Bool.{MatchBool};
 ghost use Rattle.eb_base.specs.Match.{answer as answer_of};
 ghost use Rattle.eb_cursor.specs.Frames.{query_of, k_of, ids_of};
 ghost use Rattle.eb_place.specs.Room.{has_room};
@@ -9,7 +10,7 @@ ghost use Rattle.eb_c.specs.Streaming.{Takes, Hears, Learns};
 use eb_base::{Config, Document, NoMemory, OpenGate};
 use eb_cursor::Frame;
 use eb_place::Steps;
-use eb_stream::{FeedConverter, FeedWriter, Follower, Leader};
+use eb_stream::{FeedConverter, FeedWriter, Follower, Leader, Spare};
 use std::alloc::Global;
 use std::marker::{Brand, Model};
 use std::sync::ledger::{Blank, Ledger};
@@ -92,6 +93,22 @@ impl HeldLeader {
         ensures converter { IfSome result (λ c. IsOfNewest c.index self.old.feed.log) }
     {
         self.leader.converter()
+    }
+
+    // Whether an index is of the feed's setting.
+    pub(crate) fn fits(&self, spare: &Spare) -> bool
+        ensures { MatchBool result (spare.now.setting ≡ self.now.setting) (spare.now.setting ≡ self.now.setting → ⊥) }
+    {
+        self.leader.config() == spare.config()
+    }
+
+    // Takes an index for the next generation, and gives back the one that it had for it.
+    pub(crate) fn take(&mut self, spare: Spare) -> Option<Spare>
+        requires { spare.setting ≡ self.old.setting }
+        ensures this { self.new ≡ self.old }
+        ensures back { IfSome result (λ s. s.setting ≡ self.old.setting) }
+    {
+        self.leader.lend(spare)
     }
 
     // Tells each follower of the newest turns. False where one couldn't be told.

@@ -1,14 +1,16 @@
 //! The feed that threads share, for C: it never ends and is never full. One leader adds, and any number of followers search
 //! the newest generations that the feed keeps, each behind a handle, as those of `sharing` are.
-ghost use Rattle.std.specs.Prelude.{◌≡◌, ◌≢◌, ◌⊎◌, ◌≤◌, Some, Err, Result, [], IfOk, IfSome};
+ghost use Rattle.std.specs.Prelude.{◌≡◌, ◌≢◌, ◌⊎◌, ◌≤◌, None, Some, Err, Result, [], IfOk, IfErr, IfSome, IsErr, MatchResult};
+ghost use Rattle.std.specs.Bool.{MatchBool};
 ghost use Rattle.eb_base.specs.Document.{Doc};
 ghost use Rattle.eb_base.specs.Setting.{Setting, IsSetting};
 ghost use Rattle.eb_engine.specs.Tokens.{ConverterToken};
+ghost use Rattle.eb_table.specs.Known.{Words};
 ghost use Rattle.eb_stream.specs.Turns.{FeedToken, WriterToken, history_of, counted, HasTaken, IsOfNewest};
 ghost use Rattle.eb_c.specs.Adding.{document_in, document_with};
 ghost use Rattle.eb_c.specs.Asking.{asked_of, nothing_told, LineAsks, TextAsks};
 ghost use Rattle.eb_c.specs.Sharing.{kind_of, LeadsNowhere, LeadsToConverter};
-ghost use Rattle.eb_c.specs.Streaming.{LeadsToLeader, LeadsToFollower, LeaderAdds, Follows, FollowerTells, FollowerAnswers};
+ghost use Rattle.eb_c.specs.Streaming.{LeadsToLeader, LeadsToFollower, LeadsToSpare, LeadsBack, LeaderAdds, Follows, FollowerTells, FollowerAnswers};
 
 use crate::asking::{refused, write_ids};
 use crate::handle::{BAD_HANDLE, Handle, crosses, handle_of};
@@ -20,7 +22,7 @@ use crate::reading::{
 };
 use crate::refusal::Refusal;
 use eb_base::{Config, Document, NoMemory};
-use eb_stream::FeedConverter;
+use eb_stream::{FeedConverter, Spare};
 use std::alloc::Global;
 
 /// Opens a feed without a document, which keeps so many generations of an index of this setting, 2 to 64, with its leader,
@@ -207,6 +209,147 @@ fn converter_of(held: &mut Held) -> Option<FeedConverter>
 {
     match held {
         Held::Leader(leader) => leader.converter(),
+        _ => None,
+    }
+}
+
+/// Opens an index of this setting ahead, for the next generation of a feed, on any thread; its handle is closed before: 0; else
+/// `BadSetting` (13), `NoMemory` (12), or 16 where the handle isn't closed, and it is as before. Takes memory for one generation.
+#[unsafe(no_mangle)]
+pub extern "C" fn eb_spare_open(
+    alloc: Global,
+    spare: &mut Handle,
+    segments: u32,
+    docs: u32,
+    terms: u32,
+) -> u32
+    ensures opened { let σ : Setting = record { segments = segments; docs = docs; terms = terms } in
+        result ≡ 0 → (s : Words) × LeadsToSpare spare.new.seal.held s × (s.setting ≡ σ) }
+    ensures setting { let σ : Setting = record { segments = segments; docs = docs; terms = terms } in
+        LeadsNowhere spare.old.seal.held → (IsSetting σ → ⊥) → result ≡ 13 }
+    ensures unchanged { (result ≡ 0 → ⊥) → spare.new ≡ spare.old }
+    ensures bad { kind_of spare.old.seal.held ≢ 0 → result ≡ 16 }
+    ensures memory { let σ : Setting = record { segments = segments; docs = docs; terms = terms } in
+        kind_of spare.old.seal.held ≡ 0 → IsSetting σ → (result ≡ 0) ⊎ (result ≡ 12) }
+{
+    if spare.kind != 0 {
+        return BAD_HANDLE;
+    }
+    let Some(config) = setting(segments, docs, terms) else {
+        return Refusal::BadSetting.number();
+    };
+    match open_spare(alloc, config) {
+        Ok(handle) => {
+            *spare = handle;
+            0
+        }
+        Err(NoMemory) => Refusal::NoMemory.number(),
+    }
+}
+
+fn open_spare(alloc: Global, config: Config) -> Result<Handle, NoMemory>
+    ensures { IfOk result (λ h. (s : Words) × LeadsToSpare h.seal.held s × (s.setting ≡ config)) }
+{
+    match Spare::open(alloc, config) {
+        Ok(spare) => handle_of(alloc, Held::Spare(spare)),
+        Err(NoMemory) => Err(NoMemory),
+    }
+}
+
+/// Gives this leader an index that was opened ahead: the add that begins the next generation takes it, and opens none. The
+/// spare's handle leads then to the one that the leader was given before and didn't begin yet, or it is closed: 0; else
+/// `BadSetting` (13) where its setting isn't that of the feed, or 16 where the one handle leads to no leader, or the other to no
+/// spare index, and both are as before. Takes no memory.
+#[unsafe(no_mangle)]
+pub extern "C" fn eb_leader_lend(alloc: Global, leader: &mut Handle, spare: &mut Handle) -> u32
+    ensures leader { leader.new.seal.held ≡ leader.old.seal.held }
+    ensures lent { (w : WriterToken) (s : Words) → LeadsToLeader leader.old.seal.held w → LeadsToSpare spare.old.seal.held s
+        → ((result ≡ 0) × (s.setting ≡ w.setting) × LeadsBack spare.new.seal.held w.setting)
+        ⊎ ((result ≡ 13) × (s.setting ≡ w.setting → ⊥)) }
+    ensures unchanged { (result ≡ 0 → ⊥) → spare.new.seal.held ≡ spare.old.seal.held }
+    ensures bad { (kind_of leader.old.seal.held ≢ 4) ⊎ (kind_of spare.old.seal.held ≢ 6) → result ≡ 16 }
+{
+    if leader.kind != 4 || spare.kind != 6 {
+        return BAD_HANDLE;
+    }
+    let Some(held) = leader.take(alloc) else {
+        return BAD_HANDLE;
+    };
+    let mut held = held;
+    let number = lend_by(alloc, &mut held, spare);
+    *leader = Handle::of(held);
+    number
+}
+
+fn lend_by(alloc: Global, held: &mut Held, spare: &mut Handle) -> u32
+    ensures held { held.new ≡ held.old }
+    ensures lent { (w : WriterToken) (s : Words) → held.old ≡ Held.Leader w → LeadsToSpare spare.old.seal.held s
+        → ((result ≡ 0) × (s.setting ≡ w.setting) × LeadsBack spare.new.seal.held w.setting)
+        ⊎ ((result ≡ 13) × (s.setting ≡ w.setting → ⊥)) }
+    ensures unchanged { (result ≡ 0 → ⊥) → spare.new.seal.held ≡ spare.old.seal.held }
+    ensures bad { (kind_of (Some held.old) ≢ 4) ⊎ (kind_of spare.old.seal.held ≢ 6) → (result ≡ 0 → ⊥) }
+{
+    let Some(lent) = spare.take(alloc) else {
+        return BAD_HANDLE;
+    };
+    match lend_held(held, lent) {
+        Ok(back) => {
+            put_back(alloc, spare, back);
+            0
+        }
+        Err(lent) => {
+            *spare = Handle::of(lent);
+            Refusal::BadSetting.number()
+        }
+    }
+}
+
+// Has a closed handle lead to an index, where there is one, and memory for the handle.
+fn put_back(alloc: Global, spare: &mut Handle, back: Option<Spare>)
+    requires { LeadsNowhere spare.old.seal.held }
+    ensures { LeadsNowhere spare.new.seal.held ⊎ ((t : Words) × (back ≡ Some t) × LeadsToSpare spare.new.seal.held t) }
+{
+    let Some(back) = back else {
+        return;
+    };
+    if let Ok(handle) = handle_of(alloc, Held::Spare(back)) {
+        *spare = handle;
+    }
+}
+
+// Gives an index to a leader, and gives back the one that it had; or the same one, where its setting isn't that of the feed.
+fn lend_held(held: &mut Held, lent: Box<Held, Global>) -> Result<Option<Spare>, Box<Held, Global>>
+    ensures held { held.new ≡ held.old }
+    ensures err { IfErr result (λ b. b.value ≡ lent.value) }
+    ensures lent { (w : WriterToken) (s : Words) → held.old ≡ Held.Leader w → lent.value ≡ Held.Spare s
+        → MatchResult result (λ back. (s.setting ≡ w.setting) × ((t : Words) → back ≡ Some t → t.setting ≡ w.setting)) (λ b. s.setting ≡ w.setting → ⊥) }
+    ensures bad { (kind_of (Some held.old) ≢ 4) ⊎ (kind_of (Some lent.value) ≢ 6) → IsErr result }
+{
+    if !fits(held, &lent) {
+        return Err(lent);
+    }
+    Ok(give(held, Box::into_inner(lent)))
+}
+
+// Whether this is a leader, and that a spare index of its feed's setting.
+fn fits(held: &Held, lent: &Held) -> bool
+    ensures { MatchBool result ((w : WriterToken) × (s : Words) × (held.now ≡ Held.Leader w) × (lent.now ≡ Held.Spare s) × (s.setting ≡ w.setting))
+        ((w : WriterToken) (s : Words) → held.now ≡ Held.Leader w → lent.now ≡ Held.Spare s → s.setting ≡ w.setting → ⊥) }
+{
+    match (held, lent) {
+        (Held::Leader(leader), Held::Spare(spare)) => leader.fits(spare),
+        _ => false,
+    }
+}
+
+// Gives a leader a spare index of its feed's setting, and gives back the one that it had.
+fn give(held: &mut Held, lent: Held) -> Option<Spare>
+    requires { (w : WriterToken) × (s : Words) × (held.old ≡ Held.Leader w) × (lent ≡ Held.Spare s) × (s.setting ≡ w.setting) }
+    ensures held { held.new ≡ held.old }
+    ensures back { (w : WriterToken) (t : Words) → held.old ≡ Held.Leader w → result ≡ Some t → t.setting ≡ w.setting }
+{
+    match (held, lent) {
+        (Held::Leader(leader), Held::Spare(spare)) => leader.take(spare),
         _ => None,
     }
 }

@@ -24,6 +24,7 @@ static void refused(void) {
     EXPECT(eb_leader_add_line(&none, bytes("{}"), 2), EB_BAD_HANDLE);
     EXPECT(eb_leader_tell(&none, &told), EB_BAD_HANDLE);
     EXPECT(eb_leader_converter(&none, &converter), EB_BAD_HANDLE);
+    EXPECT(eb_leader_lend(&none, &none), EB_BAD_HANDLE);
     EXPECT(eb_follower(&none, &follower), EB_BAD_HANDLE);
     EXPECT(ask(&none, "train"), EB_BAD_HANDLE);
     EXPECT(eb_follower_ask_line(&none, bytes("?1 a"), 4, ids, 10, &answer), EB_BAD_HANDLE);
@@ -174,8 +175,46 @@ static void packed(void) {
     eb_close(&second);
 }
 
+/* A spare index: who may lend it, which one comes back, and that the next generation takes it. */
+static void lent(void) {
+    struct eb_handle leader = {NULL, 0}, spare = {NULL, 0}, other = {NULL, 0}, follower = {NULL, 0};
+    EXPECT(eb_spare_open(&spare, 0, 2, 1024), EB_BAD_SETTING);
+    EXPECT(spare.kind, 0);
+    EXPECT(eb_spare_open(&spare, 1, 2, 1024), EB_OK);
+    EXPECT(spare.kind, 6);
+    EXPECT(eb_spare_open(&spare, 1, 2, 1024), EB_BAD_HANDLE);
+    EXPECT(eb_leader_lend(&leader, &spare), EB_BAD_HANDLE);
+    EXPECT(eb_leader_lend(&spare, &spare), EB_BAD_HANDLE);
+    EXPECT(OPEN(&leader), EB_OK);
+    EXPECT(eb_leader_lend(&leader, &other), EB_BAD_HANDLE);
+    EXPECT(eb_leader_lend(&spare, &leader), EB_BAD_HANDLE);
+    EXPECT(add(&spare, 1, "train"), EB_BAD_HANDLE);
+    EXPECT(ask(&spare, "train"), EB_BAD_HANDLE);
+    EXPECT(spare.kind * 10 + leader.kind, 64);
+    EXPECT(eb_spare_open(&other, 1, 3, 1024), EB_OK);
+    EXPECT(eb_leader_lend(&leader, &other), EB_BAD_SETTING);
+    EXPECT(other.kind, 6);
+    eb_close(&other);
+    EXPECT(eb_leader_lend(&leader, &spare), EB_OK);
+    EXPECT(spare.kind, 0);
+    EXPECT(eb_spare_open(&spare, 1, 2, 1024), EB_OK);
+    EXPECT(eb_follower(&leader, &follower), EB_OK);
+    for (uint64_t n = 1; n <= 2; n++) {
+        EXPECT(eb_leader_lend(&leader, &spare), EB_OK);
+        EXPECT(spare.kind, 6); /* the one before, which no generation took */
+        EXPECT(add(&leader, n, "train"), EB_OK);
+    }
+    EXPECT(add(&leader, 3, "train"), EB_OK);
+    EXPECT(eb_leader_lend(&leader, &spare), EB_OK);
+    EXPECT(spare.kind, 0);
+    EXPECT(ask(&follower, "train"), EB_OK);
+    EXPECT(answer.seen * 10 + answer.count, 33);
+    eb_close(&leader);
+    eb_close(&follower);
+}
+
 static long without_memory(void) {
-    struct eb_handle leader = {NULL, 0}, follower = {NULL, 0}, converter = {NULL, 0};
+    struct eb_handle leader = {NULL, 0}, follower = {NULL, 0}, converter = {NULL, 0}, spare = {NULL, 0};
     long tried = 0;
     uint32_t told = 0;
     UNTIL_IT_GOES_WELL(OPEN(&leader), leader.kind == 0)
@@ -186,6 +225,8 @@ static long without_memory(void) {
     EXPECT(converter.kind, 0);
     EXPECT(eb_leader_converter(&leader, &converter), EB_OK);
     EXPECT(converter.kind, 0);
+    UNTIL_IT_GOES_WELL(eb_spare_open(&spare, 1, 2, 1024), spare.kind == 0)
+    EXPECT(eb_leader_lend(&leader, &spare), EB_OK);
     for (uint64_t n = 1; n <= 5; n++)
         UNTIL_IT_GOES_WELL(add(&leader, n, "night train"), leader.kind == 4)
     /* (the letter of the last add may have had no memory) */
@@ -206,6 +247,7 @@ int main(void) {
     turns();
     at_the_ends();
     packed();
+    lent();
     EXPECT(without_memory() > 9, 1);
     if (failures == 0)
         puts("right");

@@ -2,7 +2,7 @@
 import ctypes
 from typing import Optional
 
-from earlybird._handles import Adding, Asking, numbers_of
+from earlybird._handles import Adding, Asking, Side, numbers_of
 from earlybird._index import Answer
 from earlybird._shared import Converter
 
@@ -64,6 +64,17 @@ class Leader(Adding):
             self._done(self._calls.eb_leader_converter(self._at, made._at))
         return made if made._handle.kind else None
 
+    def lend(self, spare: "Spare") -> bool:
+        """Lends it a spare index of its feed's setting: the `add` that begins the next generation takes it, and opens none. True where
+        it had none: the spare is closed then. False where it had been lent one before that it hasn't taken: the spare is that one
+        then. So a program may lend before each `add`, and open another one where the answer is True.
+
+        Raises `BadSetting`, or `BadHandle`; then nothing is changed.
+        """
+        with self._alone, spare._alone:
+            self._done(self._calls.eb_leader_lend(self._at, spare._at))
+            return spare._handle.kind == 0
+
     def follower(self) -> "Follower":
         """A follower that knows all that was added.
 
@@ -73,6 +84,22 @@ class Leader(Adding):
         with self._alone:
             self._done(self._calls.eb_follower(self._at, made._at))
         return made
+
+
+class Spare(Side):
+    """A spare index, which is opened ahead, on any thread, for the next generation of a feed with these numbers.
+
+    Raises `BadSetting` and `NoMemory` as `Leader` does.
+
+        >>> leader = Leader(segments=1, docs=2, terms=1024, keep=2)
+        >>> spare = Spare(segments=1, docs=2, terms=1024)
+        >>> leader.lend(spare)
+        True
+    """
+
+    def __init__(self, segments: int = 12, docs: int = 4096, terms: int = 8192) -> None:
+        super().__init__()
+        self._done(self._calls.eb_spare_open(self._at, *numbers_of(segments, docs, terms)))
 
 
 class Follower(Asking):
