@@ -4,6 +4,7 @@
  *     threads shared|stream SEARCHING SECONDS    the seconds, the adds, and the searches of each thread. It goes in rounds of MESSAGES
  *                                                for so many seconds at least, each over a new index or feed
  *     threads feed SEARCHING ADDS                of one feed with so many adds also the pause of each, and the memory: see below
+ *     threads lent SEARCHING ADDS                the same of a feed that is lent the index of each next generation, which another thread opens
  *     threads check SEARCHING SECONDS            adds to a feed of small generations for so long, and compares each answer with a plain
  *                                                scan: how many there were, and how many were wrong, which is the status too
  *
@@ -101,7 +102,13 @@ static double round_of(struct searching *searching, size_t number) {
  * The pause of an add is what the clock tells before and after it; the clock's own time is in it. A pause falls into the bucket of its
  * nanoseconds: 16 for each power of two, so that what is told of a bucket, its end, is at most a sixteenth above the pause. The
  * resident memory is that of the process after opening, in the middle and at the end. A follower that asked once, before
- * the middle, sleeps through the second half: so the memory at the end is that of a feed with one that sleeps. It asks again then. */
+ * the middle, sleeps through the second half: so the memory at the end is that of a feed with one that sleeps. It asks again then.
+ * Where indexes are lent, the thread that adds tries it before each LENDING_th add, and that is a part of its pause. */
+
+#define LENDING 1024
+#define SEGMENTS 12
+#define DOCS 4096
+#define TERMS 8192
 
 #define FINE 16
 #define BUCKETS (FINE * 61)
@@ -166,12 +173,41 @@ static uint64_t asked(struct eb_handle *follower) {
     return answer.seen;
 }
 
-static void measure_feed(struct searching *searching, size_t number, uint64_t adds) {
+/* An index that is opened ahead: the one thread has the handle while it is wanted, and the other while it is there. */
+static struct eb_handle spare;
+static atomic_int there;
+
+static void *open_spares(void *argument) {
+    const struct timespec nap = {0, 1000000};
+    while (!atomic_load(&over)) {
+        if (atomic_load(&there)) {
+            nanosleep(&nap, NULL);
+            continue;
+        }
+        expect("opening ahead", eb_spare_open(&spare, SEGMENTS, DOCS, TERMS));
+        atomic_store(&there, 1);
+    }
+    return argument;
+}
+
+/* Lends the index that is there; where the leader had none, another is wanted. */
+static void lend(struct eb_handle *leader) {
+    if (!atomic_load(&there))
+        return;
+    expect("lending", eb_leader_lend(leader, &spare));
+    if (spare.kind == 0)
+        atomic_store(&there, 0);
+}
+
+static void measure_feed(struct searching *searching, size_t number, uint64_t adds, int lends) {
     struct eb_handle leader = {NULL, 0}, sleeper = {NULL, 0};
+    pthread_t opener;
     pthread_t threads[MOST_SEARCHING];
     uint64_t memory[4] = {0}, longest = 0, slept = 0, woken, held;
-    expect("opening", eb_stream_open(&leader, 12, 4096, 8192, 4));
+    expect("opening", eb_stream_open(&leader, SEGMENTS, DOCS, TERMS, 4));
     memory[0] = resident();
+    if (lends && pthread_create(&opener, NULL, open_spares, NULL) != 0)
+        exit(1);
     pthread_barrier_init(&ready, NULL, (unsigned)number + 1);
     for (size_t at = 0; at < number; at++) {
         expect("making", eb_follower(&leader, &searching[at].handle));
@@ -188,6 +224,8 @@ static void measure_feed(struct searching *searching, size_t number, uint64_t ad
             memory[1] = resident();
         }
         uint64_t before = nanoseconds();
+        if (lends && n % LENDING == 0)
+            lend(&leader);
         expect("an add", eb_leader_add_text(&leader, n, (const unsigned char *)texts[at], lengths[at]));
         uint64_t pause = nanoseconds() - before;
         buckets[bucket_of(pause)]++;
@@ -200,6 +238,10 @@ static void measure_feed(struct searching *searching, size_t number, uint64_t ad
     for (size_t at = 0; at < number; at++) {
         pthread_join(threads[at], NULL);
         eb_close(&searching[at].handle);
+    }
+    if (lends) {
+        pthread_join(opener, NULL);
+        eb_close(&spare);
     }
     for (uint32_t told = 0; told == 0;)
         expect("telling", eb_leader_tell(&leader, &told));
@@ -322,11 +364,12 @@ int main(int argc, char **argv) {
     static struct searching searching[MOST_SEARCHING];
     size_t number = argc == 4 ? strtoul(argv[2], NULL, 10) : MOST_SEARCHING + 1;
     const char *mode = argc == 4 ? argv[1] : "";
-    int shared = strcmp(mode, "shared") == 0, feed = strcmp(mode, "feed") == 0, check = strcmp(mode, "check") == 0;
+    int shared = strcmp(mode, "shared") == 0, lends = strcmp(mode, "lent") == 0, check = strcmp(mode, "check") == 0;
+    int feed = lends || strcmp(mode, "feed") == 0;
     of_stream = feed || check || strcmp(mode, "stream") == 0;
     uint64_t of_adds = feed ? strtoull(argv[3], NULL, 10) : 1;
     if (number > MOST_SEARCHING || of_adds == 0 || !(shared || of_stream)) {
-        fputs("usage: threads shared|stream|check SEARCHING SECONDS, or threads feed SEARCHING ADDS\n", stderr);
+        fputs("usage: threads shared|stream|check SEARCHING SECONDS, or threads feed|lent SEARCHING ADDS\n", stderr);
         return 2;
     }
     for (size_t n = 0; n < MESSAGES; n++)
@@ -334,7 +377,7 @@ int main(int argc, char **argv) {
     if (check)
         return check_feed(searching, number, strtod(argv[3], NULL));
     if (feed) {
-        measure_feed(searching, number, of_adds);
+        measure_feed(searching, number, of_adds, lends);
         return 0;
     }
     double wanted = strtod(argv[3], NULL), took = 0;

@@ -11,7 +11,8 @@ else of dist/. Each figure is of S seconds of adding, 5 if not said otherwise. P
 commit. A search asks for the newest 10 of one of five queries; what it answers is checked by examples/embed, and not here.
 
 With --feed one feed takes so many adds (10,000,000 is a good number), from C, at the usual setting with 4 generations kept, in place of
-all that: beside 0, 1, 2 and 3 followers that search without a pause, and one that asks in the middle and sleeps through the rest. Of the
+all that: beside 0, 1, 2 and 3 followers that search without a pause, and one that asks in the middle and sleeps through the rest; first
+where an add that begins a generation opens its index, and then where another thread opens it ahead, and it is lent. Of the
 pauses of the adds it tells the 50th, the 99th and the 99.9th of 100 and the longest, and of the memory what is resident after opening, in
 the middle, at the end, and once the follower that slept has asked again; and the most at any time.
 
@@ -21,6 +22,7 @@ between, and each answer is compared with a plain scan. The status is 1 where on
 --table prints what --json has written as a table of docs/PERFORMANCE.md, and measures nothing.
 """
 import argparse
+import itertools
 import json
 import os
 import platform
@@ -122,12 +124,12 @@ def measured(program, seconds):
 
 
 def of_one_feed(program, adds):
-    """A figure of a feed with so many adds for each number of threads that search."""
-    for searching in SEARCHING:
-        words = [program, "feed", str(searching), str(adds)]
+    """A figure of a feed with so many adds for each number of threads that search, without and with indexes that are lent."""
+    for mode, searching in itertools.product(("feed", "lent"), SEARCHING):
+        words = [program, mode, str(searching), str(adds)]
         found = json.loads(subprocess.run(words, stdout=subprocess.PIPE, check=True).stdout)
         yield {
-            "language": "C", "index": "one feed", "searching": searching,
+            "language": "C", "index": "one feed", "searching": searching, "lent": mode == "lent",
             "adds a second": round(found["adds"] / found["seconds"]),
             "searches a second": round(sum(found["searches"]) / found["seconds"]),
             **found,
@@ -145,12 +147,12 @@ def print_rates(figures):
 def print_pauses(figures):
     pauses, times = ("50th of 100", "99th", "99.9th", "longest"), ("start", "middle", "end", "woken", "most")
     print("A pause of an add in microseconds; resident memory in MiB.")
-    print("%10s %14s %18s %12s %8s %8s %10s" % ("searching", "adds a second", "searches a second", *pauses), *("%7s" % it for it in times))
+    print("%6s %10s %14s %18s %12s %8s %8s %10s" % ("lent", "searching", "adds a second", "searches a second", *pauses), *("%7s" % it for it in times))
     for it in figures:
         rates = ["{:,}".format(it[name]) for name in ("adds a second", "searches a second")]
         numbers = ["{:,.1f}".format(it["pauses, ns"][name] / 1000) for name in pauses]
         memory = ["%7s" % "{:,}".format(round(it["resident, KiB"][name] / 1024)) for name in times]
-        print("%10d %14s %18s %12s %8s %8s %10s" % (it["searching"], *rates, *numbers), *memory, flush=True)
+        print("%6s %10d %14s %18s %12s %8s %8s %10s" % ("yes" if it["lent"] else "no", it["searching"], *rates, *numbers), *memory, flush=True)
         yield it
 
 
@@ -160,11 +162,11 @@ def table(told):
     lines = ["%s, %s, %d cores, commit %s." % (told["date"], machine["processor"], machine["processors"], told["commit"]), ""]
     large = lambda it: ["{:,}".format(it[name]) for name in ("adds a second", "searches a second")]
     if "pauses, ns" in figures[0]:
-        lines += ["| Searching | adds a second | searches a second | an add, 99.9th of 100, ms | the longest, ms | MiB at the start | in the middle | at the end |", "|---|---|---|---|---|---|---|---|"]
+        lines += ["| Indexes lent | searching | adds a second | searches a second | an add, 99.9th of 100, ms | the longest, ms | MiB at the start | in the middle | at the end |", "|---|---|---|---|---|---|---|---|---|"]
         for it in figures:
             pauses = ["%.3f" % (it["pauses, ns"][name] / 1e6) for name in ("99.9th", "longest")]
             memory = ["{:,}".format(round(it["resident, KiB"][name] / 1024)) for name in ("start", "middle", "end")]
-            lines.append("| " + " | ".join([str(it["searching"]), *large(it), *pauses, *memory]) + " |")
+            lines.append("| " + " | ".join(["yes" if it.get("lent") else "no", str(it["searching"]), *large(it), *pauses, *memory]) + " |")
         return "\n".join(lines)
     lines += ["| From | over | searching | adds a second | searches a second |", "|---|---|---|---|---|"]
     names = {"shared": "the shared index", "stream": "the feed"}

@@ -15,7 +15,7 @@ Option = namedtuple("Option", "value low high usual offers text", defaults=(None
 POWERS = [1 << at for at in range(10, 21)]
 
 OPTIONS = {
-    "overlap": Option(text="read lines side by side, and add messages while queries are answered: a query may see later ones"),
+    "overlap": Option(text="read lines side by side; in run without --parts messages are added while queries are answered, and a query may see later ones"),
     "workers": Option("N", 1, 16, None, range(1, 17), "let N workers answer queries beside the messages that come in: a query may see later ones"),
     "parts": Option("N", 1, 16, None, range(1, 17), "spread the messages over N indexes by their ids, which have to rise"),
     "watch": Option(text="take lines !N QUERY and !N, which set and remove a watch: each message prints the watches that it matches"),
@@ -30,13 +30,14 @@ OPTIONS = {
 }
 
 # A command: its words that aren't options; the options of which at most one is given, and the others; and what it does. The
-# launcher has some commands of its own, which the program doesn't know.
-Command = namedtuple("Command", "words ways options text launcher", defaults=((), (), (), "", False))
+# launcher has some commands of its own, which the program doesn't know. Then, of those of which one is given, which may stand beside
+# which; and which others may not.
+Command = namedtuple("Command", "words ways options text launcher beside apart", defaults=((), (), (), "", False, {}, {}))
 
 SETTING = ("segments", "docs", "terms")
 COMMANDS = {
-    "run": Command((), ("overlap", "workers", "parts", "watch"), ("fields", "stats", "json", *SETTING), "read messages and queries, and print answers"),
-    "feed": Command((), (), ("keep", "watch", "fields", "stats", "json", *SETTING), "the same, without end: the oldest messages go where there is no room"),
+    "run": Command((), ("overlap", "workers", "parts", "watch"), ("fields", "stats", "json", *SETTING), "read messages and queries, and print answers", beside={"parts": ("overlap",)}),
+    "feed": Command((), ("overlap", "workers", "watch"), ("keep", "fields", "stats", "json", *SETTING), "the same, without end: the oldest messages go where there is no room", apart={"workers": ("stats",)}),
     "save": Command((), (), ("fields", *SETTING), "read messages, and write an image of the index"),
     "load": Command((), (), ("fields", "stats", "json"), "read an image, and then go on as run does"),
     "bench": Command(("START", "DOCS"), (), (), "process DOCS messages (1 to 40000) that the number START makes, and print one line of figures"),
@@ -65,8 +66,18 @@ def synopsis(name):
     """A command with its words, as `run [--stats] [--docs N]`."""
     command = COMMANDS[name]
     shown = lambda it: "--%s %s" % (it, OPTIONS[it].value) if OPTIONS[it].value else "--" + it
-    ways = ["[" + " | ".join(shown(it) for it in command.ways) + "]"] if command.ways else []
+    with_others = lambda it: shown(it) + "".join(" [%s]" % shown(other) for other in command.beside.get(it, ()))
+    ways = ["[" + " | ".join(with_others(it) for it in command.ways) + "]"] if command.ways else []
     return " ".join([name, *command.words, *ways, *("[%s]" % shown(it) for it in command.options)])
+
+
+def excluded(name, option):
+    """The options that can't stand beside one of a command."""
+    command = COMMANDS[name]
+    is_apart = lambda one, other: other in command.apart.get(one, ()) or one in command.ways and other in command.ways and other not in command.beside.get(one, ())
+    together = lambda one, other: other in command.beside.get(one, ()) or one in command.beside.get(other, ())
+    others = [other for other in (*command.ways, *command.options) if other != option]
+    return [other for other in others if not together(option, other) and (is_apart(option, other) or is_apart(other, option))]
 
 
 def range_of(name):
@@ -84,5 +95,5 @@ def said(name):
 
 def wrapped(row, width, **how):
     """A synopsis in lines of at most so many letters, which ends none of them inside of brackets."""
-    whole = re.sub(r"\[[^]]*\]", lambda found: found.group(0).replace(" ", "\0"), row)
+    whole = re.sub(r"\[(?:[^][]|\[[^][]*\])*\]", lambda found: found.group(0).replace(" ", "\0"), row)
     return textwrap.fill(whole, width, break_on_hyphens=False, break_long_words=False, **how).replace("\0", " ")

@@ -1,5 +1,5 @@
 """Completions for bash, zsh and fish: commands, options that are still free, and numbers in their ranges."""
-from made.commands import ALONE, COMMANDS, OPTIONS, range_of, said
+from made.commands import ALONE, COMMANDS, OPTIONS, excluded, range_of, said
 
 MADE = "# Completion of the command earlybird for %s; made by .ci/pages from .ci/made/commands.py.\n"
 
@@ -14,7 +14,8 @@ def bash():
     numbers = "\n".join("        --%s) echo '%s' ;;" % (name, offered(name)) for name, it in OPTIONS.items() if it.offers)
     folders = " | ".join("--" + name for name, it in OPTIONS.items() if it.value == "DIR")
     lists = " | ".join("--" + name for name, it in OPTIONS.items() if it.value == "LIST")
-    ways = " ".join("--" + it for it in COMMANDS["run"].ways)
+    apart = "\n".join("        '%s --%s') echo '%s' ;;" % (name, it, " ".join("--" + other for other in excluded(name, it)))
+                      for name, command in COMMANDS.items() for it in (*command.ways, *command.options) if excluded(name, it))
     return MADE % "bash" + """
 _earlybird_options() {
     case $1 in
@@ -28,8 +29,15 @@ _earlybird_numbers() {
     esac
 }
 
+# what can't stand beside an option
+_earlybird_others() {
+    case $1 in
+%s
+    esac
+}
+
 _earlybird() {
-    local word=${COMP_WORDS[COMP_CWORD]} before=${COMP_WORDS[COMP_CWORD - 1]} ways=' %s ' words='' given it
+    local word=${COMP_WORDS[COMP_CWORD]} before=${COMP_WORDS[COMP_CWORD - 1]} words='' given it other
     # (bash makes words of their own of --docs, = and 4096)
     [ "$word" = = ] && word=
     [ "$before" = = ] && before=${COMP_WORDS[COMP_CWORD - 2]}
@@ -47,10 +55,9 @@ _earlybird() {
         given=" ${COMP_WORDS[*]:1:COMP_CWORD - 1} "
         for it in $(_earlybird_options "${COMP_WORDS[1]}"); do
             case $given in *" $it "*) continue ;; esac
-            case $ways in *" $it "*)
-                # at most one of these
-                case $given in %s) continue ;; esac ;;
-            esac
+            for other in $(_earlybird_others "${COMP_WORDS[1]} $it"); do
+                case $given in *" $other "*) continue 2 ;; esac
+            done
             words="$words $it"
         done
     fi
@@ -58,8 +65,7 @@ _earlybird() {
 }
 
 complete -F _earlybird earlybird
-""" % (options, numbers, ways, " ".join([*COMMANDS, *ALONE]), folders, lists,
-       " | ".join('*" %s "*' % it for it in ways.split()))
+""" % (options, numbers, apart, " ".join([*COMMANDS, *ALONE]), folders, lists)
 
 
 def quoted(text):
@@ -69,7 +75,7 @@ def quoted(text):
 def zsh():
     def row(command, name):
         it = OPTIONS[name]
-        others = " ".join("--" + other for other in command.ways) if name in command.ways else "--" + name
+        others = " ".join("--" + other for other in (name, *excluded(command, name)))
         value = ""
         if it.value == "N":
             value = ":%s:(%s)" % (range_of(name), offered(name))
@@ -82,7 +88,7 @@ def zsh():
 
     cases = []
     for name, command in COMMANDS.items():
-        rows = [row(command, it) for it in (*command.ways, *command.options)]
+        rows = [row(name, it) for it in (*command.ways, *command.options)]
         if rows:
             cases.append("        %s)\n            _arguments \\\n%s\n            ;;" % (name, " \\\n".join(rows)))
     words = "\n".join("        %s" % quoted("%s:%s" % (name, text)) for name, text in [*((it, its.text) for it, its in COMMANDS.items()), *ALONE.items()])
@@ -114,11 +120,12 @@ def fish():
     for word, text in ALONE.items():
         lines.append("complete -c earlybird -n __fish_use_subcommand -l %s -d %s" % (word[2:], quoted(text)))
     for name, it in OPTIONS.items():
-        seen = " ".join(command for command, its in COMMANDS.items() if name in (*its.ways, *its.options))
-        condition = "__fish_seen_subcommand_from %s" % seen
-        others = [other for other in COMMANDS["run"].ways if other != name] if name in COMMANDS["run"].ways else []
-        condition += "".join("; and not __fish_contains_opt %s" % other for other in others)
         folders = " -a '(__fish_complete_directories)'" if it.value == "DIR" else ""
         value = " -x -a %s" % quoted(offered(name)) if it.offers else " -x" + folders if it.value else ""
-        lines.append("complete -c earlybird -n %s -l %s%s -d %s" % (quoted(condition), name, value, quoted(said(name))))
+        takers = [command for command, its in COMMANDS.items() if name in (*its.ways, *its.options)]
+        # commands beside whose option the same ones can't stand share a line
+        for others in dict.fromkeys(tuple(excluded(command, name)) for command in takers):
+            seen = " ".join(command for command in takers if tuple(excluded(command, name)) == others)
+            condition = "__fish_seen_subcommand_from %s" % seen + "".join("; and not __fish_contains_opt %s" % other for other in others)
+            lines.append("complete -c earlybird -n %s -l %s%s -d %s" % (quoted(condition), name, value, quoted(said(name))))
     return MADE % "fish" + "\n" + "\n".join(lines) + "\n"

@@ -57,7 +57,7 @@ def text():
     of_install = "\n".join(option(it) for it in COMMANDS["install"].options)
     return "\n".join([
         NAME + "\n", usage() + "\n", commands + "\n", HEAD, of_run + "\n",
-        filled("At most one of %s is given. A feed keeps the messages of so many generations, each an index of this setting, and "
+        filled("At most one of %s is given, or --overlap beside --parts; and --stats isn't given to a feed with --workers. A feed keeps the messages of so many generations, each an index of this setting, and "
                "drops the oldest where the newest has no room for a message:" % ", ".join("--" + it for it in run.ways), "", "") + "\n",
         of_feed + "\n", "save writes an image of the index, and load starts with one:\n", IMAGES,
         "install and uninstall take the folder; bin/, lib/, include/ and share/ below it get the files:\n", of_install + "\n",
