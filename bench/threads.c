@@ -5,6 +5,7 @@
  *                                                for so many seconds at least, each over a new index or feed
  *     threads feed SEARCHING ADDS                of one feed with so many adds also the pause of each, and the memory: see below
  *     threads lent SEARCHING ADDS                the same of a feed that is lent the index of each next generation, which another thread opens
+ *     threads feed|lent SEARCHING ADDS paced     the same at a pace: it naps after each NAPPING adds, so that opening keeps up
  *     threads check SEARCHING SECONDS            adds to a feed of small generations for so long, and compares each answer with a plain
  *                                                scan: how many there were, and how many were wrong, which is the status too
  *
@@ -106,6 +107,7 @@ static double round_of(struct searching *searching, size_t number) {
  * Where indexes are lent, the thread that adds tries it before each LENDING_th add, and that is a part of its pause. */
 
 #define LENDING 1024
+#define NAPPING 100
 #define SEGMENTS 12
 #define DOCS 4096
 #define TERMS 8192
@@ -199,7 +201,8 @@ static void lend(struct eb_handle *leader) {
         atomic_store(&there, 0);
 }
 
-static void measure_feed(struct searching *searching, size_t number, uint64_t adds, int lends) {
+static void measure_feed(struct searching *searching, size_t number, uint64_t adds, int lends, int paced) {
+    const struct timespec nap = {0, 400000};
     struct eb_handle leader = {NULL, 0}, sleeper = {NULL, 0};
     pthread_t opener;
     pthread_t threads[MOST_SEARCHING];
@@ -223,6 +226,8 @@ static void measure_feed(struct searching *searching, size_t number, uint64_t ad
             slept = asked(&sleeper);
             memory[1] = resident();
         }
+        if (paced && n % NAPPING == 0)
+            nanosleep(&nap, NULL);
         uint64_t before = nanoseconds();
         if (lends && n % LENDING == 0)
             lend(&leader);
@@ -362,14 +367,15 @@ static int check_feed(struct searching *searching, size_t number, double wanted)
 
 int main(int argc, char **argv) {
     static struct searching searching[MOST_SEARCHING];
-    size_t number = argc == 4 ? strtoul(argv[2], NULL, 10) : MOST_SEARCHING + 1;
-    const char *mode = argc == 4 ? argv[1] : "";
+    int paced = argc == 5 && strcmp(argv[4], "paced") == 0;
+    size_t number = argc == 4 || paced ? strtoul(argv[2], NULL, 10) : MOST_SEARCHING + 1;
+    const char *mode = argc == 4 || paced ? argv[1] : "";
     int shared = strcmp(mode, "shared") == 0, lends = strcmp(mode, "lent") == 0, check = strcmp(mode, "check") == 0;
     int feed = lends || strcmp(mode, "feed") == 0;
     of_stream = feed || check || strcmp(mode, "stream") == 0;
     uint64_t of_adds = feed ? strtoull(argv[3], NULL, 10) : 1;
     if (number > MOST_SEARCHING || of_adds == 0 || !(shared || of_stream)) {
-        fputs("usage: threads shared|stream|check SEARCHING SECONDS, or threads feed|lent SEARCHING ADDS\n", stderr);
+        fputs("usage: threads shared|stream|check SEARCHING SECONDS, or threads feed|lent SEARCHING ADDS [paced]\n", stderr);
         return 2;
     }
     for (size_t n = 0; n < MESSAGES; n++)
@@ -377,7 +383,7 @@ int main(int argc, char **argv) {
     if (check)
         return check_feed(searching, number, strtod(argv[3], NULL));
     if (feed) {
-        measure_feed(searching, number, of_adds, lends);
+        measure_feed(searching, number, of_adds, lends, paced);
         return 0;
     }
     double wanted = strtod(argv[3], NULL), took = 0;

@@ -12,7 +12,8 @@ commit. A search asks for the newest 10 of one of five queries; what it answers 
 
 With --feed one feed takes so many adds (10,000,000 is a good number), from C, at the usual setting with 4 generations kept, in place of
 all that: beside 0, 1, 2 and 3 followers that search without a pause, and one that asks in the middle and sleeps through the rest; first
-where an add that begins a generation opens its index, and then where another thread opens it ahead, and it is lent. Of the
+where an add that begins a generation opens its index, and then where another thread opens it ahead, and it is lent; then a tenth of the
+adds in each way, at a pace at which opening keeps up. Of the
 pauses of the adds it tells the 50th, the 99th and the 99.9th of 100 and the longest, and of the memory what is resident after opening, in
 the middle, at the end, and once the follower that slept has asked again; and the most at any time.
 
@@ -125,11 +126,12 @@ def measured(program, seconds):
 
 def of_one_feed(program, adds):
     """A figure of a feed with so many adds for each number of threads that search, without and with indexes that are lent."""
-    for mode, searching in itertools.product(("feed", "lent"), SEARCHING):
-        words = [program, mode, str(searching), str(adds)]
+    at_once = itertools.product(("feed", "lent"), SEARCHING, ([],))
+    for mode, searching, pace in itertools.chain(at_once, itertools.product(("feed", "lent"), (0, 2), (["paced"],))):
+        words = [program, mode, str(searching), str(adds // 10 if pace else adds), *pace]
         found = json.loads(subprocess.run(words, stdout=subprocess.PIPE, check=True).stdout)
         yield {
-            "language": "C", "index": "one feed", "searching": searching, "lent": mode == "lent",
+            "language": "C", "index": "one feed", "searching": searching, "lent": mode == "lent", "paced": bool(pace),
             "adds a second": round(found["adds"] / found["seconds"]),
             "searches a second": round(sum(found["searches"]) / found["seconds"]),
             **found,
@@ -144,15 +146,20 @@ def print_rates(figures):
         yield it
 
 
+def lent(it):
+    """Whether a feed was lent its indexes, and was paced, in words."""
+    return ("yes" if it["lent"] else "no") + (", paced" if it["paced"] else "")
+
+
 def print_pauses(figures):
     pauses, times = ("50th of 100", "99th", "99.9th", "longest"), ("start", "middle", "end", "woken", "most")
     print("A pause of an add in microseconds; resident memory in MiB.")
-    print("%6s %10s %14s %18s %12s %8s %8s %10s" % ("lent", "searching", "adds a second", "searches a second", *pauses), *("%7s" % it for it in times))
+    print("%10s %10s %14s %18s %12s %8s %8s %10s" % ("lent", "searching", "adds a second", "searches a second", *pauses), *("%7s" % it for it in times))
     for it in figures:
         rates = ["{:,}".format(it[name]) for name in ("adds a second", "searches a second")]
         numbers = ["{:,.1f}".format(it["pauses, ns"][name] / 1000) for name in pauses]
         memory = ["%7s" % "{:,}".format(round(it["resident, KiB"][name] / 1024)) for name in times]
-        print("%6s %10d %14s %18s %12s %8s %8s %10s" % ("yes" if it["lent"] else "no", it["searching"], *rates, *numbers), *memory, flush=True)
+        print("%10s %10d %14s %18s %12s %8s %8s %10s" % (lent(it), it["searching"], *rates, *numbers), *memory, flush=True)
         yield it
 
 
@@ -166,7 +173,7 @@ def table(told):
         for it in figures:
             pauses = ["%.3f" % (it["pauses, ns"][name] / 1e6) for name in ("99.9th", "longest")]
             memory = ["{:,}".format(round(it["resident, KiB"][name] / 1024)) for name in ("start", "middle", "end")]
-            lines.append("| " + " | ".join(["yes" if it.get("lent") else "no", str(it["searching"]), *large(it), *pauses, *memory]) + " |")
+            lines.append("| " + " | ".join([lent(it), str(it["searching"]), *large(it), *pauses, *memory]) + " |")
         return "\n".join(lines)
     lines += ["| From | over | searching | adds a second | searches a second |", "|---|---|---|---|---|"]
     names = {"shared": "the shared index", "stream": "the feed"}

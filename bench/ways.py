@@ -29,7 +29,7 @@ from instructions import commit, queries, zipf_lines
 DOCUMENTS = 100_000
 EVERY = 1_000
 PROCESSORS = {1: "0", 2: "0,1", 4: "0-3"}
-SETTING = ["--segments", "12", "--docs", "10000", "--terms", "65536"]
+SETTING = ["--segments", "12", "--docs", "10000", "--terms", "32768"]
 WAYS = {
     "order mode": [],
     "--overlap": ["--overlap"],
@@ -61,7 +61,7 @@ def texts():
         asked.append(line)
         if at % EVERY == 0:
             asked.append(asks[at // EVERY - 1])
-    return {"documents": "".join(lines), "a query after each 1,000": "".join(asked)}
+    return {"an empty input": "", "documents": "".join(lines), "a query after each 1,000": "".join(asked)}
 
 
 def figures(program, text, times):

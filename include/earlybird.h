@@ -170,9 +170,10 @@ void eb_close(struct eb_handle *handle);
  * followers, as many as there is memory for; each searches the newest generations that it knows, at most as many as the feed
  * keeps. The leader tells its followers of a generation that was begun, and a follower takes that in at its next ask. Handles
  * are as above, calls on different handles may run at the same time, and none waits for another. An add that begins a
- * generation takes the memory of an index, and is as slow as eb_open, unless the leader was lent one. The memory of a generation is given back when neither
- * the leader nor a follower holds it: so a follower that doesn't ask keeps its own generations alive, and an add is never refused
- * because of that. A feed goes on for its followers where the leader is closed.
+ * generation takes the memory of an index, and is as slow as eb_open, unless the leader was lent one. The memory of a generation
+ * is given back when neither the leader nor a follower holds it, by an add too, which takes some milliseconds: so a follower that
+ * doesn't ask keeps its own generations alive, and an add is never refused because of that. A feed goes on for its followers
+ * where the leader is closed.
  *
  * Proved of each call, whatever the others do meanwhile: what is stated beside it, where nothing else is said. Tested, and not
  * proved: that a follower's next ask takes in what the leader told, and that it holds as many generations as the feed keeps, or all.
