@@ -19,7 +19,6 @@ Prints JSON, and writes it to bench/results/ with the date and the commit; --tab
 docs/PERFORMANCE.md. Takes some minutes, and wants valgrind and objdump; it is no part of the gate.
 """
 import argparse
-import datetime
 import glob
 import json
 import os
@@ -29,6 +28,7 @@ import subprocess
 import tempfile
 import textwrap
 
+import kept
 from corpora import ROOT, Zipf, made_words
 
 SETTINGS = ["--segments", "12", "--docs", "20000", "--terms", "65536"]
@@ -121,11 +121,6 @@ def each(more, less, count):
     return {"instructions": round((more[0] - more[1] - less[0] + less[1]) / count), "bytes set": round((more[1] - less[1]) / count)}
 
 
-def commit():
-    done = subprocess.run(["git", "-C", ROOT, "rev-parse", "HEAD"], stdout=subprocess.PIPE, stderr=subprocess.DEVNULL)
-    return done.stdout.decode().strip()
-
-
 def by_each(count, held, asked, given):
     """What the start, a document of each corpus and a query of each class take."""
     start = count(SETTINGS, "")
@@ -197,14 +192,12 @@ def main():
     parser.add_argument("--plain", metavar="FILE", help="the program of bench/plain, to be counted beside")
     parser.add_argument("--documents", type=int, default=5_000)
     parser.add_argument("--queries", type=int, default=2_000)
-    parser.add_argument("--out", metavar="FILE", help="where the result goes in place of bench/results/")
-    parser.add_argument("--table", metavar="FILE", help="print this result as tables, and count nothing")
+    kept.takes_files(parser, "count")
     given = parser.parse_args()
     if given.table:
-        with open(given.table, encoding="utf-8") as file:
-            return print(table(json.load(file), result_before(given.table)))
+        return print(table(kept.read(given.table), result_before(given.table)))
     count = lambda settings, text: counted(given.program, ["run", *settings], text)
-    told = {"date": datetime.date.today().isoformat(), "commit": commit(), "documents": given.documents, "queries": given.queries}
+    told = kept.begun(documents=given.documents, queries=given.queries)
     held = zipf_lines(QUERIED_DOCUMENTS)
     asked = {kind: queries(kind, given.queries) for kind in KINDS}
     told["each"] = by_each(count, held, asked, given)
@@ -215,10 +208,7 @@ def main():
     matches = {str(n): min(100, QUERIED_DOCUMENTS // n) for n in LEAPS}
     leaps = live_and_packed(count, leap_lines(QUERIED_DOCUMENTS), {str(n): "?100 a b%d\n" % n * LEAP_QUERIES for n in LEAPS}, LEAP_QUERIES)
     told["leaps"] = {state: {name: round(it / matches[name]) for name, it in whole.items()} for state, whole in leaps.items()}
-    path = given.out or os.path.join(ROOT, "bench", "results", "instructions-%s-%s.json" % (told["date"], told["commit"][:7]))
-    with open(path, "w", encoding="utf-8") as file:
-        json.dump(told, file, indent=1)
-        file.write("\n")
+    kept.keep(told, "instructions-", given.out)
     print(table(told))
 
 

@@ -13,7 +13,6 @@ and writes it to bench/results/ with the date, the machine and the commit; --tab
 docs/PERFORMANCE.md. Nothing of this runs in the gate. Run it on a machine that does nothing else.
 """
 import argparse
-import datetime
 import json
 import os
 import platform
@@ -22,7 +21,8 @@ import sys
 import textwrap
 import time
 
-from corpora import KINDS, ROOT, messages, queries
+import kept
+from corpora import KINDS, messages, queries
 from engines import ENGINES
 
 WRITER = 20_000
@@ -105,11 +105,6 @@ def machine():
     return {"processor": names[0] if names else platform.machine(), "cores": len(names), "memory, GiB": memory, "system": platform.platform()}
 
 
-def commit():
-    done = subprocess.run(["git", "-C", ROOT, "rev-parse", "HEAD"], stdout=subprocess.PIPE, stderr=subprocess.DEVNULL)
-    return done.stdout.decode().strip()
-
-
 def compare(results):
     """Of each engine and class, how many answers are those of the first engine; the answers themselves are left out then."""
     first = next(iter(results.values()))["answers"]
@@ -154,20 +149,17 @@ def main():
     parser.add_argument("--queries", type=int, default=5_000)
     parser.add_argument("--seconds", type=float, default=5, help="how long queries are asked beside a writer")
     parser.add_argument("--engines", nargs="+", choices=ENGINES, default=list(ENGINES))
-    parser.add_argument("--out", metavar="FILE", help="where the result goes in place of bench/results/")
-    parser.add_argument("--table", metavar="FILE", help="print this result as a table, and measure nothing")
+    kept.takes_files(parser, "measure")
     parser.add_argument("--one", choices=ENGINES, help=argparse.SUPPRESS)
     options = parser.parse_args()
     if options.table:
-        with open(options.table, encoding="utf-8") as file:
-            return print(table(json.load(file)))
+        return print(table(kept.read(options.table)))
     if options.one:
         documents = list(enumerate(messages(options.documents), 1))
         asked = {kind: queries(kind, options.queries, [words for _, words in documents[:10_000]]) for kind in KINDS}
         return json.dump(measured(ENGINES[options.one](), documents, asked, options.seconds), sys.stdout)
 
-    told = {"date": datetime.date.today().isoformat(), "machine": machine(), "commit": commit(), "documents": options.documents,
-            "queries": options.queries, "left out": {}, "engines": {}}
+    told = kept.begun(machine=machine(), documents=options.documents, queries=options.queries, engines={}, **{"left out": {}})
     for key in options.engines:
         engine = ENGINES[key]()
         why = engine.missing()
@@ -180,11 +172,7 @@ def main():
         done = subprocess.run(words, stdout=subprocess.PIPE, check=True)
         told["engines"][engine.name] = {"version": engine.version(), **json.loads(done.stdout)}
     compare(told["engines"])
-    path = options.out or os.path.join(ROOT, "bench", "results", "%s-%s.json" % (told["date"], told["commit"][:7]))
-    os.makedirs(os.path.dirname(os.path.abspath(path)), exist_ok=True)
-    with open(path, "w", encoding="utf-8") as file:
-        json.dump(told, file, indent=1)
-        file.write("\n")
+    kept.keep(told, "", options.out)
     print(table(told))
 
 

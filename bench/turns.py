@@ -15,9 +15,7 @@ Writes JSON to bench/results/ with the date and the commit, and prints it; --tab
 docs/PERFORMANCE.md.
 """
 import argparse
-import datetime
 import hashlib
-import json
 import os
 import resource
 import subprocess
@@ -25,8 +23,9 @@ import sys
 import tempfile
 import textwrap
 
+import kept
 from corpora import ROOT
-from instructions import KINDS, QUERIED, QUERIED_DOCUMENTS, SETTINGS, commit, made_lines, queries, zipf_lines
+from instructions import KINDS, QUERIED, QUERIED_DOCUMENTS, SETTINGS, made_lines, queries, zipf_lines
 
 DOCUMENTS = 200_000
 QUERIES = 100_000
@@ -77,16 +76,14 @@ def main():
     parser.add_argument("--program", default=os.path.join(ROOT, "dist", "earlybird"))
     parser.add_argument("--plain", help="the plain program, which is built where none is named")
     parser.add_argument("--times", type=int, default=10)
-    parser.add_argument("--out", metavar="FILE", help="where the result goes in place of bench/results/")
-    parser.add_argument("--table", metavar="FILE", help="print this result as a table, and time nothing")
+    kept.takes_files(parser, "time")
     given = parser.parse_args()
     if given.table:
-        with open(given.table, encoding="utf-8") as file:
-            return print(table(json.load(file)))
+        return print(table(kept.read(given.table)))
     plain = given.plain or build()
     both = lambda settings: [[given.program, "run", *settings], [plain]]
     rates = lambda count, more, less: [round(count / max(it - base, 0.001)) for it, base in zip(more, less)]
-    told = {"date": datetime.date.today().isoformat(), "commit": commit(), "times": given.times, "a second": {}}
+    told = kept.begun(times=given.times, **{"a second": {}})
     start = least(both(SETTINGS), "", given.times)
     for name, lines in (("Zipf documents", zipf_lines), ("made documents", made_lines)):
         told["a second"][name] = rates(DOCUMENTS, least(both(SETTINGS), lines(DOCUMENTS), given.times), start)
@@ -96,10 +93,7 @@ def main():
     for kind in KINDS:
         told["a second"][kind] = rates(QUERIES, least(both(QUERIED), held + queries(kind, QUERIES), given.times), before)
         print(kind, told["a second"][kind], file=sys.stderr)
-    path = given.out or os.path.join(ROOT, "bench", "results", "turns-%s-%s.json" % (told["date"], told["commit"][:7]))
-    with open(path, "w", encoding="utf-8") as file:
-        json.dump(told, file, indent=1)
-        file.write("\n")
+    kept.keep(told, "turns-", given.out)
     print(table(told))
 
 

@@ -13,9 +13,7 @@ Writes JSON to bench/results/ with the date and the commit, and prints it; --tab
 docs/PERFORMANCE.md.
 """
 import argparse
-import datetime
 import hashlib
-import json
 import os
 import resource
 import subprocess
@@ -23,8 +21,9 @@ import tempfile
 import textwrap
 import time
 
+import kept
 from corpora import ROOT
-from instructions import commit, queries, zipf_lines
+from instructions import queries, zipf_lines
 
 DOCUMENTS = 100_000
 EVERY = 1_000
@@ -97,20 +96,15 @@ def main():
     parser = argparse.ArgumentParser(description=__doc__.split("\n")[0])
     parser.add_argument("--program", default=os.path.join(ROOT, "dist", "earlybird"))
     parser.add_argument("--times", type=int, default=5)
-    parser.add_argument("--out", metavar="FILE", help="where the result goes in place of bench/results/")
-    parser.add_argument("--table", metavar="FILE", help="print this result as a table, and time nothing")
+    kept.takes_files(parser, "time")
     given = parser.parse_args()
     if given.table:
-        with open(given.table, encoding="utf-8") as file:
-            return print(table(json.load(file)))
-    told = {"date": datetime.date.today().isoformat(), "commit": commit(), "times": given.times, "seconds": {}}
+        return print(table(kept.read(given.table)))
+    told = kept.begun(times=given.times, seconds={})
     for name, text in texts().items():
         least = figures(given.program, text, given.times)
         told["seconds"][name] = {str(count): ways for count, ways in least.items()}
-    path = given.out or os.path.join(ROOT, "bench", "results", "ways-%s-%s.json" % (told["date"], told["commit"][:7]))
-    with open(path, "w", encoding="utf-8") as file:
-        json.dump(told, file, indent=1)
-        file.write("\n")
+    kept.keep(told, "ways-", given.out)
     print(table(told))
 
 
