@@ -104,13 +104,17 @@ static double round_of(struct searching *searching, size_t number) {
  * nanoseconds: 16 for each power of two, so that what is told of a bucket, its end, is at most a sixteenth above the pause. The
  * resident memory is that of the process after opening, in the middle and at the end. A follower that asked once, before
  * the middle, sleeps through the second half: so the memory at the end is that of a feed with one that sleeps. It asks again then.
- * Where indexes are lent, the thread that adds tries it before each LENDING_th add, and that is a part of its pause. */
+ * Where indexes are lent, the thread that adds tries it before each LENDING_th add, and that is a part of its pause. The thread that
+ * opens them has a follower of its own, and asks before each: so the last who holds an old generation is that thread, which gives its
+ * memory back, and not the one that adds. */
 
 #define LENDING 1024
 #define NAPPING 100
+#ifndef SEGMENTS
 #define SEGMENTS 12
 #define DOCS 4096
 #define TERMS 8192
+#endif
 
 #define FINE 16
 #define BUCKETS (FINE * 61)
@@ -176,7 +180,7 @@ static uint64_t asked(struct eb_handle *follower) {
 }
 
 /* An index that is opened ahead: the one thread has the handle while it is wanted, and the other while it is there. */
-static struct eb_handle spare;
+static struct eb_handle spare, keeper;
 static atomic_int there;
 
 static void *open_spares(void *argument) {
@@ -186,6 +190,7 @@ static void *open_spares(void *argument) {
             nanosleep(&nap, NULL);
             continue;
         }
+        asked(&keeper);
         expect("opening ahead", eb_spare_open(&spare, SEGMENTS, DOCS, TERMS));
         atomic_store(&there, 1);
     }
@@ -209,8 +214,11 @@ static void measure_feed(struct searching *searching, size_t number, uint64_t ad
     uint64_t memory[4] = {0}, longest = 0, slept = 0, woken, held;
     expect("opening", eb_stream_open(&leader, SEGMENTS, DOCS, TERMS, 4));
     memory[0] = resident();
-    if (lends && pthread_create(&opener, NULL, open_spares, NULL) != 0)
-        exit(1);
+    if (lends) {
+        expect("making", eb_follower(&leader, &keeper));
+        if (pthread_create(&opener, NULL, open_spares, NULL) != 0)
+            exit(1);
+    }
     pthread_barrier_init(&ready, NULL, (unsigned)number + 1);
     for (size_t at = 0; at < number; at++) {
         expect("making", eb_follower(&leader, &searching[at].handle));
@@ -247,6 +255,7 @@ static void measure_feed(struct searching *searching, size_t number, uint64_t ad
     if (lends) {
         pthread_join(opener, NULL);
         eb_close(&spare);
+        eb_close(&keeper);
     }
     for (uint32_t told = 0; told == 0;)
         expect("telling", eb_leader_tell(&leader, &told));

@@ -207,8 +207,9 @@ uint32_t eb_spare_open(struct eb_handle *spare, uint32_t segments, uint32_t docs
 
 /* Lends the leader a spare index of its feed's setting: the add that begins the next generation takes it, and opens none. The
  * spare's handle then leads to the one that the leader had been lent before and hasn't taken, or it is closed where there was none: so
- * a program may lend before each add, and have another one opened where the handle comes back closed. EB_BAD_SETTING: both are as
- * before. Tested, and not proved: that the next generation takes it, and that one that isn't taken comes back. */
+ * a program may lend before each add, and have another one opened where the handle comes back closed. A thread that opens them may
+ * have a follower, and ask it once before each: then an old generation's memory is given back there, and by no add. EB_BAD_SETTING:
+ * both are as before. Tested, and not proved: that the next generation takes it, and that one that isn't taken comes back. */
 uint32_t eb_leader_lend(struct eb_handle *leader, struct eb_handle *spare);
 
 /* Makes a follower, which knows all that the leader added. EB_NO_MEMORY. */
