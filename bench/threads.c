@@ -4,8 +4,11 @@
  *     threads shared|stream SEARCHING SECONDS    the seconds, the adds, and the searches of each thread. It goes in rounds of MESSAGES
  *                                                for so many seconds at least, each over a new index or feed
  *     threads feed SEARCHING ADDS                of one feed with so many adds also the pause of each, and the memory: see below
- *     threads lent SEARCHING ADDS                the same of a feed that is lent the index of each next generation, which another thread opens
- *     threads feed|lent SEARCHING ADDS paced     the same at a pace: it naps after each NAPPING adds, so that opening keeps up
+ *     threads lent SEARCHING ADDS                the same of a feed that is lent the index of each next generation, which another thread opens;
+ *                                                that thread also closes the generations that are let go
+ *     threads whole SEARCHING ADDS               the same of a feed whose first generation has room for all: no other is begun
+ *     threads feed|lent|whole SEARCHING ADDS paced    the same at a pace: it naps after each NAPPING adds, so that opening keeps up; then
+ *                                                also of each add the thread's own processor time
  *     threads check SEARCHING SECONDS            adds to a feed of small generations for so long, and compares each answer with a plain
  *                                                scan: how many there were, and how many were wrong, which is the status too
  *
@@ -100,13 +103,14 @@ static double round_of(struct searching *searching, size_t number) {
 
 /* ---- one feed, from its first add to its last
  *
- * The pause of an add is what the clock tells before and after it; the clock's own time is in it. A pause falls into the bucket of its
- * nanoseconds: 16 for each power of two, so that what is told of a bucket, its end, is at most a sixteenth above the pause. The
- * resident memory is that of the process after opening, in the middle and at the end. A follower that asked once, before
+ * The pause of an add is what the clock tells before and after it; the clock's own time is in it. The processor time of an add is what the
+ * clock of the thread tells so; that clock is a system call, which is in it too, and so it is read only at a pace. A pause falls into
+ * the bucket of its nanoseconds: 16 for each power of two, so that what is told of a bucket, its end, is at most a sixteenth above the
+ * pause. The resident memory is that of the process after opening, in the middle and at the end. A follower that asked once, before
  * the middle, sleeps through the second half: so the memory at the end is that of a feed with one that sleeps. It asks again then.
- * Where indexes are lent, the thread that adds tries it before each LENDING_th add, and that is a part of its pause. The thread that
- * opens them has a follower of its own, and asks before each: so the last who holds an old generation is that thread, which gives its
- * memory back, and not the one that adds. */
+ * Where indexes are lent, the thread that adds tries it before each LENDING_th add, and takes what was let go; that is a part of its pause.
+ * The other thread opens an index where one is wanted, and then closes what was let go: meanwhile the followers that search have asked
+ * again, so it is the last who holds that generation, and gives its memory back. */
 
 #define LENDING 1024
 #define NAPPING 100
@@ -115,15 +119,22 @@ static double round_of(struct searching *searching, size_t number) {
 #define DOCS 4096
 #define TERMS 8192
 #endif
+#ifndef WHOLE
+#define WHOLE 62 /* segments, where one generation has room for all */
+#endif
 
 #define FINE 16
 #define BUCKETS (FINE * 61)
 
-static uint64_t buckets[BUCKETS];
+struct pauses {
+    uint64_t buckets[BUCKETS], longest;
+};
 
-static uint64_t nanoseconds(void) {
+static struct pauses by_the_clock, of_the_processor;
+
+static uint64_t nanoseconds(clockid_t clock) {
     struct timespec now;
-    clock_gettime(CLOCK_MONOTONIC, &now);
+    clock_gettime(clock, &now);
     return (uint64_t)now.tv_sec * 1000000000u + (uint64_t)now.tv_nsec;
 }
 
@@ -143,11 +154,17 @@ static uint64_t end_of(size_t bucket) {
     return ((uint64_t)(bucket % FINE + FINE + 1) << power) - 1;
 }
 
+static void count(struct pauses *pauses, uint64_t pause) {
+    pauses->buckets[bucket_of(pause)]++;
+    if (pause > pauses->longest)
+        pauses->longest = pause;
+}
+
 /* The pause that so many of 1,000 aren't above, as far as buckets tell. */
-static uint64_t pause_of(uint64_t adds, uint64_t of_thousand) {
+static uint64_t pause_of(const struct pauses *pauses, uint64_t adds, uint64_t of_thousand) {
     uint64_t wanted = adds - adds * (1000 - of_thousand) / 1000, passed = 0;
     for (size_t at = 0; at < BUCKETS; at++) {
-        passed += buckets[at];
+        passed += pauses->buckets[at];
         if (passed >= wanted)
             return end_of(at);
     }
@@ -179,46 +196,58 @@ static uint64_t asked(struct eb_handle *follower) {
     return answer.seen;
 }
 
-/* An index that is opened ahead: the one thread has the handle while it is wanted, and the other while it is there. */
-static struct eb_handle spare, keeper;
-static atomic_int there;
+/* An index that is opened ahead, and a generation that was let go: the one thread has the handle while the flag is up, and the other
+ * while it is down. */
+static struct eb_handle spare, released;
+static atomic_int there, let_go;
 
-static void *open_spares(void *argument) {
+static void *open_and_close(void *argument) {
     const struct timespec nap = {0, 1000000};
     while (!atomic_load(&over)) {
-        if (atomic_load(&there)) {
+        if (!atomic_load(&there)) {
+            expect("opening ahead", eb_spare_open(&spare, SEGMENTS, DOCS, TERMS));
+            atomic_store(&there, 1);
+        } else if (atomic_load(&let_go)) {
+            eb_close(&released);
+            atomic_store(&let_go, 0);
+        } else
             nanosleep(&nap, NULL);
-            continue;
-        }
-        asked(&keeper);
-        expect("opening ahead", eb_spare_open(&spare, SEGMENTS, DOCS, TERMS));
-        atomic_store(&there, 1);
     }
     return argument;
 }
 
-/* Lends the index that is there; where the leader had none, another is wanted. */
+/* Lends the index that is there, and takes what the leader let go. Where the leader had no index, another is wanted. */
 static void lend(struct eb_handle *leader) {
-    if (!atomic_load(&there))
-        return;
-    expect("lending", eb_leader_lend(leader, &spare));
-    if (spare.kind == 0)
-        atomic_store(&there, 0);
+    if (atomic_load(&there)) {
+        expect("lending", eb_leader_lend(leader, &spare));
+        if (spare.kind == 0)
+            atomic_store(&there, 0);
+    }
+    if (!atomic_load(&let_go)) {
+        expect("taking what was let go", eb_leader_released(leader, &released));
+        if (released.kind != 0)
+            atomic_store(&let_go, 1);
+    }
 }
 
-static void measure_feed(struct searching *searching, size_t number, uint64_t adds, int lends, int paced) {
+static void print_pauses(const char *before, const struct pauses *pauses, uint64_t adds) {
+    printf("%s\"50th of 100\": %" PRIu64 ", \"99th\": %" PRIu64 ", \"99.9th\": %" PRIu64 ", \"longest\": %" PRIu64 "}", before,
+           pause_of(pauses, adds, 500), pause_of(pauses, adds, 990), pause_of(pauses, adds, 999), pauses->longest);
+}
+
+static void measure_feed(struct searching *searching, size_t number, uint64_t adds, int lends, int whole, int paced) {
     const struct timespec nap = {0, 400000};
     struct eb_handle leader = {NULL, 0}, sleeper = {NULL, 0};
     pthread_t opener;
     pthread_t threads[MOST_SEARCHING];
-    uint64_t memory[4] = {0}, longest = 0, slept = 0, woken, held;
-    expect("opening", eb_stream_open(&leader, SEGMENTS, DOCS, TERMS, 4));
+    uint64_t memory[4] = {0}, slept = 0, woken, held, used = 0;
+    if (whole)
+        expect("opening", eb_stream_open(&leader, WHOLE, (uint32_t)(adds / WHOLE + 1), TERMS, 4));
+    else
+        expect("opening", eb_stream_open(&leader, SEGMENTS, DOCS, TERMS, 4));
     memory[0] = resident();
-    if (lends) {
-        expect("making", eb_follower(&leader, &keeper));
-        if (pthread_create(&opener, NULL, open_spares, NULL) != 0)
-            exit(1);
-    }
+    if (lends && pthread_create(&opener, NULL, open_and_close, NULL) != 0)
+        exit(1);
     pthread_barrier_init(&ready, NULL, (unsigned)number + 1);
     for (size_t at = 0; at < number; at++) {
         expect("making", eb_follower(&leader, &searching[at].handle));
@@ -236,14 +265,15 @@ static void measure_feed(struct searching *searching, size_t number, uint64_t ad
         }
         if (paced && n % NAPPING == 0)
             nanosleep(&nap, NULL);
-        uint64_t before = nanoseconds();
+        if (paced)
+            used = nanoseconds(CLOCK_THREAD_CPUTIME_ID);
+        uint64_t before = nanoseconds(CLOCK_MONOTONIC);
         if (lends && n % LENDING == 0)
             lend(&leader);
         expect("an add", eb_leader_add_text(&leader, n, (const unsigned char *)texts[at], lengths[at]));
-        uint64_t pause = nanoseconds() - before;
-        buckets[bucket_of(pause)]++;
-        if (pause > longest)
-            longest = pause;
+        count(&by_the_clock, nanoseconds(CLOCK_MONOTONIC) - before);
+        if (paced)
+            count(&of_the_processor, nanoseconds(CLOCK_THREAD_CPUTIME_ID) - used);
     }
     double took = seconds() - begun;
     atomic_store(&over, 1);
@@ -255,7 +285,7 @@ static void measure_feed(struct searching *searching, size_t number, uint64_t ad
     if (lends) {
         pthread_join(opener, NULL);
         eb_close(&spare);
-        eb_close(&keeper);
+        eb_close(&released);
     }
     for (uint32_t told = 0; told == 0;)
         expect("telling", eb_leader_tell(&leader, &told));
@@ -264,20 +294,22 @@ static void measure_feed(struct searching *searching, size_t number, uint64_t ad
     memory[3] = resident();
     eb_close(&sleeper);
     eb_close(&leader);
-    if (woken != adds) {
-        fprintf(stderr, "threads: woken after %" PRIu64 " adds, the follower knows %" PRIu64 "\n", adds, woken);
+    if (woken != adds || (whole && held != 1)) {
+        fprintf(stderr, "threads: woken after %" PRIu64 " adds, the follower knows %" PRIu64 ", in %" PRIu64 " generations\n", adds, woken, held);
         exit(1);
     }
     printf("{\"seconds\": %.3f, \"adds\": %" PRIu64 ", \"searches\": [", took, adds);
     for (size_t at = 0; at < number; at++)
         printf("%s%" PRIu64, at ? ", " : "", searching[at].searches);
-    printf("], \"pauses, ns\": {\"50th of 100\": %" PRIu64 ", \"99th\": %" PRIu64 ", \"99.9th\": %" PRIu64 ", \"longest\": %" PRIu64 "}",
-           pause_of(adds, 500), pause_of(adds, 990), pause_of(adds, 999), longest);
+    printf("]");
+    print_pauses(", \"pauses, ns\": {", &by_the_clock, adds);
+    if (paced)
+        print_pauses(", \"of the processor, ns\": {", &of_the_processor, adds);
     printf(", \"pauses below, ns\": {");
     uint64_t below = 0;
     const char *comma = "";
     for (size_t at = 0; at < BUCKETS; at++) {
-        below += buckets[at];
+        below += by_the_clock.buckets[at];
         if (below > 0 && at % FINE == FINE - 1) {
             printf("%s\"%" PRIu64 "\": %" PRIu64, comma, end_of(at) + 1, below);
             comma = ", ";
@@ -379,12 +411,12 @@ int main(int argc, char **argv) {
     int paced = argc == 5 && strcmp(argv[4], "paced") == 0;
     size_t number = argc == 4 || paced ? strtoul(argv[2], NULL, 10) : MOST_SEARCHING + 1;
     const char *mode = argc == 4 || paced ? argv[1] : "";
-    int shared = strcmp(mode, "shared") == 0, lends = strcmp(mode, "lent") == 0, check = strcmp(mode, "check") == 0;
-    int feed = lends || strcmp(mode, "feed") == 0;
+    int shared = strcmp(mode, "shared") == 0, lends = strcmp(mode, "lent") == 0, whole = strcmp(mode, "whole") == 0, check = strcmp(mode, "check") == 0;
+    int feed = lends || whole || strcmp(mode, "feed") == 0;
     of_stream = feed || check || strcmp(mode, "stream") == 0;
     uint64_t of_adds = feed ? strtoull(argv[3], NULL, 10) : 1;
     if (number > MOST_SEARCHING || of_adds == 0 || !(shared || of_stream)) {
-        fputs("usage: threads shared|stream|check SEARCHING SECONDS, or threads feed|lent SEARCHING ADDS [paced]\n", stderr);
+        fputs("usage: threads shared|stream|check SEARCHING SECONDS, or threads feed|lent|whole SEARCHING ADDS [paced]\n", stderr);
         return 2;
     }
     for (size_t n = 0; n < MESSAGES; n++)
@@ -392,7 +424,7 @@ int main(int argc, char **argv) {
     if (check)
         return check_feed(searching, number, strtod(argv[3], NULL));
     if (feed) {
-        measure_feed(searching, number, of_adds, lends, paced);
+        measure_feed(searching, number, of_adds, lends, whole, paced);
         return 0;
     }
     double wanted = strtod(argv[3], NULL), took = 0;

@@ -12,11 +12,12 @@ commit. A search asks for the newest 10 of one of five queries; what it answers 
 
 With --feed one feed takes so many adds (10,000,000 is a good number), from C, at the usual setting with 4 generations kept, in place of
 all that: beside 0, 1, 2 and 3 followers that search without a pause, and one that asks in the middle and sleeps through the rest; first
-where an add that begins a generation opens its index, and then where another thread opens it ahead, and it is lent; then a tenth of the
-adds in each way, at a pace at which opening keeps up: of five such runs the one whose longest pause is the least, since the
-machine's own pauses are in it. Of the
-pauses of the adds it tells the 50th, the 99th and the 99.9th of 100 and the longest, and of the memory what is resident after opening, in
-the middle, at the end, and once the follower that slept has asked again; and the most at any time.
+where an add that begins a generation opens its index, and then where another thread opens it ahead, and it is lent, and that thread
+closes what is let go; then a tenth of the adds in each way, at a pace at which opening keeps up, and into one generation that has room
+for all: five such runs of each, of which the one is told in full whose longest add took the middle of their processor times, and of
+all the longest add, by the clock and by the processor time of the thread that adds, since the machine's own pauses are in the former.
+Of the pauses of the adds it tells the 50th, the 99th and the 99.9th of 100 and the longest, and of the memory what is resident after
+opening, in the middle, at the end, and once the follower that slept has asked again; and the most at any time.
 
 With --check nothing is measured: for S seconds two followers ask a feed of small generations, which begins some hundred a second, and nap in
 between, and each answer is compared with a plain scan. The status is 1 where one was wrong.
@@ -125,18 +126,23 @@ def measured(program, seconds):
                 }
 
 
+def longest(run):
+    """The longest add of a run: by the clock, and by the thread's processor time where that was read."""
+    return [run[name]["longest"] for name in ("pauses, ns", "of the processor, ns") if name in run]
+
+
 def of_one_feed(program, adds):
     """A figure of a feed with so many adds for each number of threads that search, without and with indexes that are lent."""
     at_once = itertools.product(("feed", "lent"), SEARCHING, ([],))
-    for mode, searching, pace in itertools.chain(at_once, itertools.product(("feed", "lent"), (0, 2), (["paced"],))):
+    for mode, searching, pace in itertools.chain(at_once, itertools.product(("feed", "lent", "whole"), (0, 2), (["paced"],))):
         words = [program, mode, str(searching), str(adds // 10 if pace else adds), *pace]
         runs = [json.loads(subprocess.run(words, stdout=subprocess.PIPE, check=True).stdout) for _ in range(5 if pace else 1)]
-        found = min(runs, key=lambda it: it["pauses, ns"]["longest"])
+        found = sorted(runs, key=lambda it: longest(it)[-1])[len(runs) // 2]
         yield {
-            "language": "C", "index": "one feed", "searching": searching, "lent": mode == "lent", "paced": bool(pace),
+            "language": "C", "index": "one feed", "searching": searching, "way": mode, "paced": bool(pace),
             "adds a second": round(found["adds"] / found["seconds"]),
             "searches a second": round(sum(found["searches"]) / found["seconds"]),
-            **found,
+            **found, "longest of each run, ns": [longest(it) for it in runs],
         }
 
 
@@ -148,20 +154,29 @@ def print_rates(figures):
         yield it
 
 
-def lent(it):
-    """Whether a feed was lent its indexes, and was paced, in words."""
-    return ("yes" if it["lent"] else "no") + (", paced" if it["paced"] else "")
+def way(it):
+    """How a feed came by its indexes, and whether it was paced, in words."""
+    name = it.get("way") or ("lent" if it["lent"] else "feed")
+    return {"feed": "opens them", "lent": "is lent them", "whole": "needs one alone"}[name] + (", paced" if it["paced"] else "")
+
+
+def longest_of_all(it, at):
+    """The longest adds of all runs in milliseconds: by the clock (0) or by processor time (1)."""
+    told = it.get("longest of each run, ns", [[it["pauses, ns"]["longest"]]])
+    return ", ".join("%.3f" % (run[at] / 1e6) for run in told if len(run) > at)
 
 
 def print_pauses(figures):
     pauses, times = ("50th of 100", "99th", "99.9th", "longest"), ("start", "middle", "end", "woken", "most")
     print("A pause of an add in microseconds; resident memory in MiB.")
-    print("%10s %10s %14s %18s %12s %8s %8s %10s" % ("lent", "searching", "adds a second", "searches a second", *pauses), *("%7s" % it for it in times))
+    print("%22s %10s %14s %18s %12s %8s %8s %10s" % ("its indexes", "searching", "adds a second", "searches a second", *pauses), *("%7s" % it for it in times))
     for it in figures:
         rates = ["{:,}".format(it[name]) for name in ("adds a second", "searches a second")]
         numbers = ["{:,.1f}".format(it["pauses, ns"][name] / 1000) for name in pauses]
         memory = ["%7s" % "{:,}".format(round(it["resident, KiB"][name] / 1024)) for name in times]
-        print("%10s %10d %14s %18s %12s %8s %8s %10s" % (lent(it), it["searching"], *rates, *numbers), *memory, flush=True)
+        print("%22s %10d %14s %18s %12s %8s %8s %10s" % (way(it), it["searching"], *rates, *numbers), *memory, flush=True)
+        if it["paced"]:
+            print("%22s longest, ms: %s; of the processor: %s" % ("", longest_of_all(it, 0), longest_of_all(it, 1)), flush=True)
         yield it
 
 
@@ -171,11 +186,14 @@ def table(told):
     lines = ["%s, %s, %d cores, commit %s." % (told["date"], machine["processor"], machine["processors"], told["commit"]), ""]
     large = lambda it: ["{:,}".format(it[name]) for name in ("adds a second", "searches a second")]
     if "pauses, ns" in figures[0]:
-        lines += ["| Indexes lent | searching | adds a second | searches a second | an add, 99.9th of 100, ms | the longest, ms | MiB at the start | in the middle | at the end |", "|---|---|---|---|---|---|---|---|---|"]
+        names = ("Its indexes", "searching", "adds a second", "searches a second", "an add, 99.9th of 100, ms", "the longest, ms",
+                 "its processor time, 99.9th of 100, ms", "the longest, ms", "MiB at the start", "in the middle", "at the end")
+        lines += ["| " + " | ".join(names) + " |", "|---" * len(names) + "|"]
         for it in figures:
-            pauses = ["%.3f" % (it["pauses, ns"][name] / 1e6) for name in ("99.9th", "longest")]
+            tail = ["%.3f" % (it[name]["99.9th"] / 1e6) if name in it else "" for name in ("pauses, ns", "of the processor, ns")]
+            pauses = [tail[0], longest_of_all(it, 0), tail[1], longest_of_all(it, 1)]
             memory = ["{:,}".format(round(it["resident, KiB"][name] / 1024)) for name in ("start", "middle", "end")]
-            lines.append("| " + " | ".join([lent(it), str(it["searching"]), *large(it), *pauses, *memory]) + " |")
+            lines.append("| " + " | ".join([way(it), str(it["searching"]), *large(it), *pauses, *memory]) + " |")
         return "\n".join(lines)
     lines += ["| From | over | searching | adds a second | searches a second |", "|---|---|---|---|---|"]
     names = {"shared": "the shared index", "stream": "the feed"}

@@ -132,7 +132,7 @@ void eb_last_segment(const struct eb_index *index, struct eb_segment *last);
 /* A handle. It is closed where it is all zero. */
 struct eb_handle {
     void *at;
-    uint32_t kind; /* 0 closed, 1 a writer, 2 a reader, 3 a converter, 4 a leader, 5 a follower, 6 a spare index */
+    uint32_t kind; /* 0 closed, 1 a writer, 2 a reader, 3 a converter, 4 a leader, 5 a follower, 6 a spare index, 7 a released generation */
 };
 
 /* Opens an index of this setting, as eb_words has it, without a document. Both handles are closed before. EB_BAD_SETTING,
@@ -171,9 +171,9 @@ void eb_close(struct eb_handle *handle);
  * keeps. The leader tells its followers of a generation that was begun, and a follower takes that in at its next ask. Handles
  * are as above, calls on different handles may run at the same time, and none waits for another. An add that begins a
  * generation takes the memory of an index, and is as slow as eb_open, unless the leader was lent one. The memory of a generation
- * is given back when neither the leader nor a follower holds it, by an add too, which takes some milliseconds: so a follower that
- * doesn't ask keeps its own generations alive, and an add is never refused because of that. A feed goes on for its followers
- * where the leader is closed.
+ * is given back by the call after which neither the leader nor a follower nor a converter holds it, which takes some milliseconds; that
+ * is an add too, unless eb_leader_released takes it out of that. So a follower that doesn't ask keeps its own generations alive, and
+ * an add is never refused because of that. A feed goes on for its followers where the leader is closed.
  *
  * Proved of each call, whatever the others do meanwhile: what is stated beside it, where nothing else is said. Tested, and not
  * proved: that a follower's next ask takes in what the leader told, and that it holds as many generations as the feed keeps, or all.
@@ -207,10 +207,17 @@ uint32_t eb_spare_open(struct eb_handle *spare, uint32_t segments, uint32_t docs
 
 /* Lends the leader a spare index of its feed's setting: the add that begins the next generation takes it, and opens none. The
  * spare's handle then leads to the one that the leader had been lent before and hasn't taken, or it is closed where there was none: so
- * a program may lend before each add, and have another one opened where the handle comes back closed. A thread that opens them may
- * have a follower, and ask it once before each: then an old generation's memory is given back there, and by no add. EB_BAD_SETTING:
- * both are as before. Tested, and not proved: that the next generation takes it, and that one that isn't taken comes back. */
+ * a program may lend before each add, and have another one opened where the handle comes back closed. EB_BAD_SETTING: both are as
+ * before. Tested, and not proved: that the next generation takes it, and that one that isn't taken comes back. */
 uint32_t eb_leader_lend(struct eb_handle *leader, struct eb_handle *spare);
+
+/* Takes the generation that the leader let go where it began the newest one, if it began that in a spare index, and this call wasn't
+ * made since; else the handle stays closed, and the call answers EB_OK too. The handle is closed before. So that add gave no memory
+ * back: who closes the handle does, on any thread, unless a follower or the generation's converter holds it on; then the last of them
+ * does. One that isn't taken is let go where the leader begins another generation, so at most one is held beyond those that the feed
+ * keeps. EB_NO_MEMORY: there was none for the handle, and the call let the generation go. Tested, and not proved: that there is one
+ * where one was let go. */
+uint32_t eb_leader_released(struct eb_handle *leader, struct eb_handle *released);
 
 /* Makes a follower, which knows all that the leader added. EB_NO_MEMORY. */
 uint32_t eb_follower(struct eb_handle *leader, struct eb_handle *follower);

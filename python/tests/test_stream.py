@@ -41,6 +41,23 @@ class Stream(unittest.TestCase):
             leader.add(id, "train")
         self.assertEqual((leader.lend(other), list(leader.follower().search("train"))), (True, [3, 2, 1]))
 
+    def test_a_turn_into_a_spare_index_gives_out_what_it_let_go(self):
+        leader = Leader(segments=1, docs=1, terms=1024, keep=2)
+        asleep, given = leader.follower(), []
+        for id, lent in ((1, False), (2, True), (3, True), (4, False), (5, True)):
+            if lent:
+                self.assertTrue(leader.lend(Spare(segments=1, docs=1, terms=1024)))
+            leader.add(id, "train")
+            released = leader.released()
+            self.assertIsNone(leader.released())
+            given.append(released is not None)
+            if released:
+                closing = threading.Thread(target=released.close)
+                closing.start()
+                closing.join()
+                self.assertRaises(BadHandle, lambda: leader.lend(released))
+        self.assertEqual((given, list(asleep.search("train"))), ([False, False, True, False, True], [5, 4]))
+
     def test_refusals_change_nothing(self):
         leader = Leader(segments=1, docs=1, terms=1024, keep=2)
         leader.add(1, "a")
@@ -57,7 +74,7 @@ class Stream(unittest.TestCase):
         with Leader(segments=1, docs=1, terms=1024) as leader:
             follower = leader.follower()
             leader.add(1, "a")
-        for call in (lambda: leader.add(2, "b"), leader.follower, leader.tell, leader.converter, lambda: Follower().search("a")):
+        for call in (lambda: leader.add(2, "b"), leader.follower, leader.tell, leader.converter, leader.released, lambda: Follower().search("a")):
             self.assertRaises(BadHandle, call)
         self.assertEqual(list(follower.search("a")), [1])
         follower.close()

@@ -13,6 +13,7 @@ extern "C" {
     fn eb_leader_converter(leader: *mut Handle, converter: *mut Handle) -> u32;
     fn eb_spare_open(spare: *mut Handle, segments: u32, docs: u32, terms: u32) -> u32;
     fn eb_leader_lend(leader: *mut Handle, spare: *mut Handle) -> u32;
+    fn eb_leader_released(leader: *mut Handle, released: *mut Handle) -> u32;
     fn eb_follower(leader: *mut Handle, follower: *mut Handle) -> u32;
     fn eb_follower_ask_line(follower: *mut Handle, line: *const u8, line_len: usize, ids: *mut u64, ids_len: usize, answer: *mut Told) -> u32;
     fn eb_follower_ask_text(
@@ -99,6 +100,18 @@ impl Leader {
         Ok(if spare.side.is_closed() { None } else { Some(spare) })
     }
 
+    /// The generation that was let go where the newest one was begun, if that was begun in an index that was lent; nothing where it
+    /// was asked for since. So that [`Leader::add`] gives no memory back: who drops the generation does, on any thread, unless a
+    /// follower or its converter holds it on. One that isn't asked for is let go by the add that begins another generation.
+    ///
+    /// [`Refusal::NoMemory`], and this call lets it go.
+    pub fn released(&mut self) -> Result<Option<Released>, Refusal> {
+        let taken = Side::closed();
+        // SAFETY: two handles that no other call has.
+        Refusal::of(unsafe { eb_leader_released(self.side.at(), taken.at()) }, 0)?;
+        Ok(if taken.is_closed() { None } else { Some(Released { _side: taken }) })
+    }
+
     /// A follower that knows all that was added.
     pub fn follower(&mut self) -> Result<Follower, Refusal> {
         let made = Side::closed();
@@ -129,6 +142,25 @@ impl Spare {
         Refusal::of(unsafe { eb_spare_open(side.at(), segments, docs, terms) }, 0)?;
         Ok(Spare { side })
     }
+}
+
+/// A generation that a feed let go. Its memory is given back where it is dropped, on any thread, unless a follower or its converter
+/// holds it on.
+///
+/// ```
+/// use earlybird::stream::{open, Spare};
+/// let mut leader = open(1, 2, 1024, 2)?;
+/// for id in 1..6 {
+///     leader.lend(Spare::open(1, 2, 1024)?)?;
+///     leader.add(id, "Night train")?;
+/// }
+/// let released = leader.released()?;
+/// assert!(released.is_some());
+/// std::thread::spawn(move || drop(released));
+/// # Ok::<(), earlybird::Refusal>(())
+/// ```
+pub struct Released {
+    _side: Side,
 }
 
 /// A follower of a feed. It may go to another thread; each further thread has one of its own, from the leader. It keeps the

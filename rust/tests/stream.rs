@@ -53,6 +53,26 @@ fn a_spare_index_is_taken_by_the_next_generation() -> Result<(), Refusal> {
 }
 
 #[test]
+fn a_turn_into_a_spare_index_gives_out_what_it_let_go() -> Result<(), Refusal> {
+    let mut leader = open(1, 1, 1024, 2)?;
+    let mut asleep = leader.follower()?;
+    let mut given = Vec::new();
+    for (id, lent) in [(1, false), (2, true), (3, true), (4, false), (5, true)] {
+        if lent {
+            assert!(leader.lend(Spare::open(1, 1, 1024)?)?.is_none());
+        }
+        leader.add(id, "train")?;
+        let released = leader.released()?;
+        assert!(leader.released()?.is_none());
+        given.push(released.is_some());
+        thread::spawn(move || drop(released)).join().expect("the thread ends");
+    }
+    assert_eq!(given, [false, false, true, false, true]);
+    assert_eq!(asleep.search(9, "train")?.ids, [5, 4]);
+    Ok(())
+}
+
+#[test]
 fn refusals_change_nothing() -> Result<(), Refusal> {
     let mut leader = open(1, 1, 1024, 2)?;
     leader.add_line(br#"{"id":1,"text":"a"}"#)?;

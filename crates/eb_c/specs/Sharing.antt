@@ -2,9 +2,10 @@
 use Rattle.std.specs.Prelude.{◌≡◌, ◌⊎◌, ℕ, Option, Some, None}
 use Rattle.eb_engine.specs.Tokens.{HistoryToken, ConverterToken}
 use Rattle.eb_c.specs.declared.held.Held.{Held}
-use Rattle.eb_c.specs.declared.held.Held.TheVariants.{Writer, Reader, Converter, Leader, Follower, FeedConverter, Spare}
+use Rattle.eb_c.specs.declared.held.Held.TheVariants.{Writer, Reader, Converter, Leader, Follower, FeedConverter, Spare, Released}
 
--- 0: nothing; 1: a writer; 2: a reader; 3: a converter, also of a generation of a feed; 4: a leader; 5: a follower; 6: a spare index
+-- 0: nothing; 1: a writer; 2: a reader; 3: a converter, also of a generation of a feed; 4: a leader; 5: a follower; 6: a spare index;
+-- 7: a generation that a feed let go
 abbrev pub kind_of : Option Held → ℕ
 kind_of None = 0
 kind_of (Some (Writer w)) = 1
@@ -14,6 +15,7 @@ kind_of (Some (Leader w)) = 4
 kind_of (Some (Follower f)) = 5
 kind_of (Some (FeedConverter c)) = 3
 kind_of (Some (Spare s)) = 6
+kind_of (Some (Released p)) = 7
 
 -- it is closed
 abbrev pub LeadsNowhere : Option Held → Type 0

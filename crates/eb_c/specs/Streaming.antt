@@ -6,9 +6,9 @@ use Rattle.eb_base.specs.Setting.{Setting}
 use Rattle.eb_place.specs.Room.{has_room}
 use Rattle.eb_feed.specs.Generations.{with_generation}
 use Rattle.eb_table.specs.Known.{Words}
-use Rattle.eb_stream.specs.Turns.{FeedToken, WriterToken, generations_of, history_of, stretch_of, counted, HasLapsed, HasTaken}
+use Rattle.eb_stream.specs.Turns.{FeedToken, PieceToken, WriterToken, generations_of, history_of, stretch_of, counted, HasLapsed, HasTaken}
 use Rattle.eb_c.specs.declared.held.Held.{Held}
-use Rattle.eb_c.specs.declared.held.Held.TheVariants.{Leader, Follower, Spare}
+use Rattle.eb_c.specs.declared.held.Held.TheVariants.{Leader, Follower, Spare, Released}
 use Rattle.eb_c.specs.declared.index.Answer.{Answer}
 use Rattle.eb_c.specs.declared.refusal.Refusal.{Refusal}
 use Rattle.eb_c.specs.declared.refusal.Refusal.TheVariants as refusal
@@ -26,6 +26,10 @@ LeadsToFollower h f = h ≡ Some (Follower f)
 -- it leads to an index that was opened ahead
 abbrev pub LeadsToSpare : Option Held → Words → Type 0
 LeadsToSpare h s = h ≡ Some (Spare s)
+
+-- it leads to a generation that a feed let go
+abbrev pub LeadsToReleased : Option Held → PieceToken → Type 0
+LeadsToReleased h p = h ≡ Some (Released p)
 
 -- after it was lent, it leads to another one of this setting, which was lent before it, or to nothing
 abbrev pub LeadsBack : Option Held → Setting → Type 0

@@ -13,7 +13,7 @@ use std::mem;
 pub(crate) const BAD_HANDLE: u32 = 16;
 
 /// A handle: it leads to a writer (1), to a reader (2), to a converter (3), to a leader (4), to a follower (5), to a spare index
-/// (6), or to nothing (0, and it is closed).
+/// (6), to a generation that was let go (7), or to nothing (0, and it is closed).
 #[repr(C)]
 #[derive(Drop)]
 pub struct Handle {
@@ -32,6 +32,7 @@ fn kind(held: &Held) -> u32
         Held::Leader(_) => 4,
         Held::Follower(_) => 5,
         Held::Spare(_) => 6,
+        Held::Released(_) => 7,
     }
 }
 

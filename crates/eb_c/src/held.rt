@@ -1,5 +1,5 @@
-//! What a handle leads to: a writer, a reader or a converter, with its share of the index; a leader or a follower of a feed, or a
-//! spare index for one.
+//! What a handle leads to: a writer, a reader or a converter, with its share of the index; a leader or a follower of a feed, a
+//! spare index for one, or a generation that one let go.
 ghost use Rattle.std.specs.Prelude.{◌≡◌, ◌<◌, ◌++◌, ◌∷◌, [], false, length, IfSome};
 ghost use mathlib.Core.List.{IsPrefix};
 ghost use Rattle.eb_base.specs.Match.{answer as answer_of};
@@ -14,7 +14,7 @@ use eb_base::{Document, OpenGate};
 use eb_cursor::Frame;
 use eb_engine::{Converter, Index as Shared, Reader, Writer};
 use eb_place::Steps;
-use eb_stream::{FeedConverter, Spare};
+use eb_stream::{FeedConverter, Released, Spare};
 use eb_writer::Full;
 use std::alloc::Global;
 use std::marker::{Brand, Model};
@@ -95,6 +95,8 @@ pub enum Held {
     FeedConverter(FeedConverter),
     /// A spare index: one that was opened ahead, for the next generation of a feed.
     Spare(Spare),
+    /// A generation that a feed let go.
+    Released(Released),
 }
 
 impl HeldConverter {

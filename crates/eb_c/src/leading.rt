@@ -4,13 +4,13 @@ ghost use Rattle.std.specs.Bool.{MatchBool};
 ghost use Rattle.eb_base.specs.Match.{answer as answer_of};
 ghost use Rattle.eb_cursor.specs.Frames.{query_of, k_of, ids_of};
 ghost use Rattle.eb_place.specs.Room.{has_room};
-ghost use Rattle.eb_stream.specs.Turns.{FeedToken, history_of, stretch_of, counted, HasTaken, IsOfNewest};
+ghost use Rattle.eb_stream.specs.Turns.{FeedToken, history_of, stretch_of, counted, HasTaken, IsLetGo, IsOfNewest};
 ghost use Rattle.eb_c.specs.Streaming.{Takes, Hears, Learns};
 
 use eb_base::{Config, Document, NoMemory, OpenGate};
 use eb_cursor::Frame;
 use eb_place::Steps;
-use eb_stream::{FeedConverter, FeedWriter, Follower, Leader, Spare};
+use eb_stream::{FeedConverter, FeedWriter, Follower, Leader, Released, Spare};
 use std::alloc::Global;
 use std::marker::{Brand, Model};
 use std::sync::ledger::{Blank, Ledger};
@@ -109,6 +109,14 @@ impl HeldLeader {
         ensures back { IfSome result (λ s. s.setting ≡ self.old.setting) }
     {
         self.leader.lend(spare)
+    }
+
+    // The generation that the last turn let go, where that one began a lent index, and it wasn't taken.
+    pub(crate) fn released(&mut self) -> Option<Released>
+        ensures this { self.new ≡ self.old }
+        ensures let_go { IfSome result (λ r. IsLetGo r self.old.keep self.old.feed.log) }
+    {
+        self.leader.released()
     }
 
     // Tells each follower of the newest turns. False where one couldn't be told.

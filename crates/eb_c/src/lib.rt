@@ -39,5 +39,6 @@ pub use sharing::{
 };
 pub use streaming::{
     eb_follower, eb_follower_ask_line, eb_follower_ask_text, eb_follower_held, eb_follower_seen,
-    eb_leader_add_line, eb_leader_add_text, eb_leader_converter, eb_leader_tell, eb_stream_open,
+    eb_leader_add_line, eb_leader_add_text, eb_leader_converter, eb_leader_released,
+    eb_leader_tell, eb_stream_open,
 };

@@ -6,11 +6,12 @@ ghost use Rattle.eb_base.specs.Document.{Doc};
 ghost use Rattle.eb_base.specs.Setting.{Setting, IsSetting};
 ghost use Rattle.eb_engine.specs.Tokens.{ConverterToken};
 ghost use Rattle.eb_table.specs.Known.{Words};
-ghost use Rattle.eb_stream.specs.Turns.{FeedToken, WriterToken, history_of, counted, HasTaken, IsOfNewest};
+ghost use Rattle.eb_stream.specs.Turns.{FeedToken, PieceToken, WriterToken, history_of, counted, HasTaken, IsLetGo, IsOfNewest};
 ghost use Rattle.eb_c.specs.Adding.{document_in, document_with};
 ghost use Rattle.eb_c.specs.Asking.{asked_of, nothing_told, LineAsks, TextAsks};
 ghost use Rattle.eb_c.specs.Sharing.{kind_of, LeadsNowhere, LeadsToConverter};
-ghost use Rattle.eb_c.specs.Streaming.{LeadsToLeader, LeadsToFollower, LeadsToSpare, LeadsBack, LeaderAdds, Follows, FollowerTells, FollowerAnswers};
+ghost use Rattle.eb_c.specs.Streaming.{LeadsToLeader, LeadsToFollower, LeadsToSpare, LeadsToReleased, LeadsBack};
+ghost use Rattle.eb_c.specs.Streaming.{LeaderAdds, Follows, FollowerTells, FollowerAnswers};
 
 use crate::asking::{refused, write_ids};
 use crate::handle::{BAD_HANDLE, Handle, crosses, handle_of};
@@ -22,7 +23,7 @@ use crate::reading::{
 };
 use crate::refusal::Refusal;
 use eb_base::{Config, Document, NoMemory};
-use eb_stream::{FeedConverter, Spare};
+use eb_stream::{FeedConverter, Released, Spare};
 use std::alloc::Global;
 
 /// Opens a feed without a document, which keeps so many generations of an index of this setting, 2 to 64, with its leader,
@@ -350,6 +351,54 @@ fn give(held: &mut Held, lent: Held) -> Option<Spare>
 {
     match (held, lent) {
         (Held::Leader(leader), Held::Spare(spare)) => leader.take(spare),
+        _ => None,
+    }
+}
+
+/// Takes the generation that this leader's last turn let go, where that turn began an index that was lent, and it wasn't taken yet;
+/// else the handle stays closed: 0; else 16 where the one handle leads to no leader, or the other isn't closed. So the add of that
+/// turn gives no memory back: `eb_close` does, on any thread, unless a follower or the generation's converter holds it on. Takes
+/// memory for the handle; where there is none, `NoMemory` (12), and the generation is let go in this call.
+#[unsafe(no_mangle)]
+pub extern "C" fn eb_leader_released(
+    alloc: Global,
+    leader: &mut Handle,
+    released: &mut Handle,
+) -> u32
+    ensures taken { (w : WriterToken) → LeadsToLeader leader.old.seal.held w → result ≡ 0 → LeadsNowhere released.new.seal.held
+        ⊎ ((p : PieceToken) × LeadsToReleased released.new.seal.held p × IsLetGo p w.keep w.feed.log) }
+    ensures leader { leader.new.seal.held ≡ leader.old.seal.held }
+    ensures unchanged { (result ≡ 0 → ⊥) → released.new ≡ released.old }
+    ensures bad { (kind_of released.old.seal.held ≢ 0) ⊎ (kind_of leader.old.seal.held ≢ 4) → result ≡ 16 }
+    ensures memory { kind_of released.old.seal.held ≡ 0 → kind_of leader.old.seal.held ≡ 4 → (result ≡ 0) ⊎ (result ≡ 12) }
+{
+    if released.kind != 0 || leader.kind != 4 {
+        return BAD_HANDLE;
+    }
+    let Some(held) = leader.take(alloc) else {
+        return BAD_HANDLE;
+    };
+    let mut held = held;
+    let taken = released_by(&mut held);
+    *leader = Handle::of(held);
+    let Some(taken) = taken else {
+        return 0;
+    };
+    match handle_of(alloc, Held::Released(taken)) {
+        Ok(handle) => {
+            *released = handle;
+            0
+        }
+        Err(NoMemory) => Refusal::NoMemory.number(),
+    }
+}
+
+fn released_by(held: &mut Held) -> Option<Released>
+    ensures held { held.new ≡ held.old }
+    ensures taken { (w : WriterToken) → held.old ≡ Held.Leader w → IfSome result (λ p. IsLetGo p w.keep w.feed.log) }
+{
+    match held {
+        Held::Leader(leader) => leader.released(),
         _ => None,
     }
 }

@@ -6,4 +6,5 @@ pub mod MailKept
 pub mod Taking
 pub mod GoingOn
 pub mod Counting
+pub mod LettingGo
 mod Rows

@@ -81,6 +81,10 @@ newest_docs (p ∷ ps) = p.docs
 abbrev pub IsOfNewest : Words → List Turn → Type 0
 IsOfNewest index log = (earlier : List Turn) × (before : List Doc) × (log ≡ earlier ++ turn index before ∷ [])
 
+-- a generation that a feed of these turns has let go, which keeps so many: the newest that it keeps no more. Its index, and its documents
+abbrev pub IsLetGo : PieceToken → ℕ → List Turn → Type 0
+IsLetGo p keep log = (keep < length log) × ((t : Turn) → p.index ≡ (get_or (reverse log) keep t).index) × (p.docs ≡ get_or (generations_of log []) keep [])
+
 -- another generation was begun, without a document
 pub record IsBegun (old new : WriterToken) : Type 0 where
   pub setting : new.setting ≡ old.setting

@@ -6,11 +6,12 @@ ghost use Rattle.eb_base.specs.Match.{answer};
 ghost use Rattle.eb_cursor.specs.Frames.{query_of, k_of, ids_of};
 ghost use Rattle.eb_place.specs.Room.{has_room};
 ghost use Rattle.eb_feed.specs.Generations.{with_generation};
-ghost use Rattle.eb_stream.specs.Turns.{generations_of, history_of, stretch_of, counted, HasLapsed, HasTaken, IsOfNewest};
+ghost use Rattle.eb_stream.specs.Turns.{generations_of, history_of, stretch_of, counted, HasLapsed, HasTaken, IsLetGo, IsOfNewest};
 
 use crate::converter::FeedConverter;
 use crate::mail::Slot;
 use crate::reader::FeedReader;
+use crate::released::Released;
 use crate::spare::Spare;
 use crate::writer::FeedWriter;
 use eb_base::{Config, Document, Gate, NoMemory};
@@ -182,6 +183,14 @@ impl Leader {
         ensures back { IfSome result (λ s. s.setting ≡ self.old.setting) }
     {
         self.writer.lend(spare)
+    }
+
+    /// The generation that the last turn let go, as [`FeedWriter::released`].
+    pub fn released(&mut self) -> Option<Released>
+        ensures this { self.new ≡ self.old }
+        ensures let_go { IfSome result (λ r. IsLetGo r self.old.keep self.old.feed.log) }
+    {
+        self.writer.released()
     }
 
     /// The setting of each generation.

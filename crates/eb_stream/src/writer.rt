@@ -1,18 +1,20 @@
 //! The writer of a feed.
-ghost use Rattle.std.specs.Prelude.{◌≡◌, ◌≤◌, ◌<◌, ◌++◌, ◌∷◌, [], List, false, take, length, min, vec_len, vec_capacity};
-ghost use Rattle.std.specs.Prelude.{IsTrue, IsFalse, IfOk, IfSome, OnOk, OnErr};
+ghost use Rattle.std.specs.Prelude.{◌≡◌, ◌≤◌, ◌<◌, ◌+◌, ◌++◌, ◌∷◌, [], List, false, take, get_or, length, min, vec_len, vec_capacity};
+ghost use Rattle.std.specs.Prelude.{IsTrue, IsFalse, IfOk, IfSome, OnOk, OnErr, MatchOption};
 ghost use mathlib.Core.List.{IsPrefix};
 ghost use Rattle.eb_base.specs.Document.{Doc};
 ghost use Rattle.eb_base.specs.Match.{answer};
 ghost use Rattle.eb_cursor.specs.Frames.{query_of, k_of, ids_of};
 ghost use Rattle.eb_place.specs.Room.{has_room};
 ghost use Rattle.eb_feed.specs.Generations.{with_generation, joined_generations};
-ghost use Rattle.eb_stream.specs.Turns.{generations_of, past_of, history_of, stretch_of, counted, AreHeld, HasLapsed, HasTaken, IsBegun, IsOfNewest};
+ghost use Rattle.eb_stream.specs.Turns.{generations_of, past_of, history_of, stretch_of, counted, AreHeld, HasLapsed, HasTaken};
+ghost use Rattle.eb_stream.specs.Turns.{IsBegun, IsLetGo, IsOfNewest};
 ghost use Rattle.eb_stream.specs.declared.turn.Turn.{Turn};
 
 use crate::converter::FeedConverter;
 use crate::piece::{Piece, copy_all};
 use crate::reader::{FeedReader, covers, search_behind};
+use crate::released::Released;
 use crate::spare::Spare;
 use crate::trail::{Head, Trail};
 use crate::turn::Pair;
@@ -43,6 +45,8 @@ pub struct FeedWriter {
     before: u64,
     // The index of the next generation, where one was lent.
     spare: Option<Spare>,
+    // The generation that the last turn let go, where it began a lent index, until that is taken.
+    released: Option<Released>,
     // The converter of the newest generation, until it is given out.
     converter: Option<FeedConverter>,
 }
@@ -50,7 +54,7 @@ pub struct FeedWriter {
 impl Model for FeedWriter {
     ghost use Rattle.std.specs.Prelude.{◌≡◌, ◌≤◌, ◌∷◌, [], suc, min, length, reverse, IfSome};
     ghost use Rattle.std.specs.Arc.{arc_value};
-    ghost use Rattle.eb_stream.specs.Turns.{FeedToken, WriterToken, piece_of, AreHeld, IsOfNewest, history_of, counted};
+    ghost use Rattle.eb_stream.specs.Turns.{FeedToken, WriterToken, piece_of, AreHeld, IsLetGo, IsOfNewest, history_of, counted};
 
     ghost Value = { WriterToken };
 
@@ -63,7 +67,7 @@ impl Model for FeedWriter {
     ghost invariant = { λ w. (2 ≤ w.keep) × (w.head ≡ w.trail.book) × (w.writer.index ≡ arc_value w.index) × (w.writer.index.setting ≡ w.config)
         × AreHeld (piece_of w.writer ∷ w.older.items) w.writer.docs (reverse w.trail.log) × (suc (length w.older.items) ≡ min w.keep (length w.trail.log))
         × (w.before ≡ counted (history_of w.trail.log [])) × IfSome w.spare (λ s. s.setting ≡ w.config)
-        × IfSome w.converter (λ c. IsOfNewest c.index w.trail.log) };
+        × IfSome w.converter (λ c. IsOfNewest c.index w.trail.log) × IfSome w.released (λ r. IsLetGo r w.keep w.trail.log) };
 }
 
 impl FeedWriter {
@@ -95,6 +99,7 @@ impl FeedWriter {
             older,
             before: 0,
             spare: None,
+            released: None,
             converter: Some(converter),
         })
     }
@@ -157,11 +162,16 @@ impl FeedWriter {
         ensures begun { OnOk result (IsBegun self.old self.new) }
         ensures unchanged { OnErr result (self.new ≡ self.old) }
     {
+        let lent = self.spare.is_some();
         let spare = self.next_index()?;
-        self.turn_to(spare)
+        self.turn_to(spare)?;
+        if !lent {
+            self.released = None;
+        }
+        Ok(())
     }
 
-    // Begins another generation in this index.
+    // Begins another generation in this index, and sets aside the one that is let go.
     fn turn_to(&mut self, spare: Spare) -> Result<(), NoMemory>
         requires { spare.setting ≡ self.old.setting }
         ensures begun { OnOk result (IsBegun self.old self.new) }
@@ -181,7 +191,7 @@ impl FeedWriter {
         self.before = self.before.saturating_add(closed.seen());
         let index = std::mem::replace(&mut self.index, index);
         let most = self.keep as usize - 2;
-        put_first(&mut self.older, most, Piece::new(index, closed));
+        self.released = put_first(&mut self.older, most, Piece::new(index, closed));
         self.writer = writer;
         self.trail = trail;
         self.converter = Some(converter);
@@ -208,6 +218,17 @@ impl FeedWriter {
         ensures back { IfSome result (λ s. s.setting ≡ self.old.setting) }
     {
         self.spare.replace(spare)
+    }
+
+    /// The generation that the last turn let go, where that turn began a lent index, and it wasn't taken yet. So the add of
+    /// the turn gives no memory back: who drops the generation does, on any thread, unless a reader or its converter
+    /// holds it on. Where it isn't taken, the next turn lets it go, so at most one is held beyond those that are kept. A
+    /// turn that opens an index itself lets the oldest go at once. Takes no memory and gives none back.
+    pub fn released(&mut self) -> Option<Released>
+        ensures this { self.new ≡ self.old }
+        ensures let_go { IfSome result (λ r. IsLetGo r self.old.keep self.old.feed.log) }
+    {
+        self.released.take()
     }
 
     /// The setting of each generation.
@@ -320,12 +341,31 @@ fn seen_in(pieces: &[Piece]) -> u64
     count
 }
 
-// Puts a piece in front, and keeps so many of the others.
-fn put_first(older: &mut Vec<Piece>, most: usize, piece: Piece)
-    requires { vec_len older.old < vec_capacity older.old }
-    ensures { older.new.items ≡ piece ∷ take most older.old.items }
+// Puts a piece in front, and keeps so many of the others. Gives the one that is let go, if there were more.
+fn put_first(older: &mut Vec<Piece>, most: usize, piece: Piece) -> Option<Released>
+    requires room { vec_len older.old < vec_capacity older.old }
+    requires few { vec_len older.old ≤ most + 1 }
+    ensures older { older.new.items ≡ piece ∷ take most older.old.items }
+    ensures let_go { MatchOption result (vec_len older.old ≤ most) (λ p. (most < vec_len older.old) × (p ≡ get_or older.old.items most p)) }
 {
-    older.truncate(most);
+    let last = last_behind(older, most);
     older.push_reserved(piece);
     older.as_mut_slice().rotate_right(1);
+    last
+}
+
+// Takes out the last piece, where there are more than so many.
+fn last_behind(pieces: &mut Vec<Piece>, most: usize) -> Option<Released>
+    requires { vec_len pieces.old ≤ most + 1 }
+    ensures capacity { vec_capacity pieces.new ≡ vec_capacity pieces.old }
+    ensures kept { pieces.new.items ≡ take most pieces.old.items }
+    ensures last { MatchOption result (vec_len pieces.old ≤ most) (λ p. (most < vec_len pieces.old) × (p ≡ get_or pieces.old.items most p)) }
+{
+    if pieces.len() <= most {
+        return None;
+    }
+    match pieces.pop() {
+        Some(last) => Some(Released::new(last)),
+        None => None,
+    }
 }

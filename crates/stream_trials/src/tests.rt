@@ -2,6 +2,7 @@
 mod ahead;
 mod beside;
 mod holding;
+mod letting_go;
 mod made;
 mod rows;
 mod serving;

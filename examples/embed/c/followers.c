@@ -25,6 +25,7 @@ static void refused(void) {
     EXPECT(eb_leader_tell(&none, &told), EB_BAD_HANDLE);
     EXPECT(eb_leader_converter(&none, &converter), EB_BAD_HANDLE);
     EXPECT(eb_leader_lend(&none, &none), EB_BAD_HANDLE);
+    EXPECT(eb_leader_released(&none, &follower), EB_BAD_HANDLE);
     EXPECT(eb_follower(&none, &follower), EB_BAD_HANDLE);
     EXPECT(ask(&none, "train"), EB_BAD_HANDLE);
     EXPECT(eb_follower_ask_line(&none, bytes("?1 a"), 4, ids, 10, &answer), EB_BAD_HANDLE);
@@ -213,8 +214,48 @@ static void lent(void) {
     eb_close(&follower);
 }
 
+/* What a generation let go that was begun in a spare index: which one is given out, and that a follower that sleeps has it on. */
+static void let_go(void) {
+    struct eb_handle leader = {NULL, 0}, asleep = {NULL, 0}, spare = {NULL, 0}, released = {NULL, 0};
+    uint64_t number = 0;
+    EXPECT(OPEN(&leader), EB_OK);
+    EXPECT(eb_leader_released(&leader, &leader), EB_BAD_HANDLE);
+    EXPECT(eb_leader_released(&released, &leader), EB_BAD_HANDLE);
+    EXPECT(eb_follower(&leader, &asleep), EB_OK);
+    for (uint64_t n = 1; n <= 15; n++) {
+        /* the turns are those of 3, 5, 7 and so on; from that of 5 on each lets one go; those of 7 and 11 open an index themselves */
+        if (n % 2 == 1 && n != 1 && n != 7 && n != 11) {
+            EXPECT(eb_spare_open(&spare, 1, 2, 1024), EB_OK);
+            EXPECT(eb_leader_lend(&leader, &spare), EB_OK);
+            EXPECT(spare.kind, 0);
+        }
+        EXPECT(add(&leader, n, "train"), EB_OK);
+        if (n == 9 || n == 10 || n == 13 || n == 14)
+            continue; /* what they let go isn't taken, and goes with the next turn */
+        EXPECT(eb_leader_released(&leader, &released), EB_OK);
+        EXPECT(released.kind, n == 5 || n == 15 ? 7 : 0);
+        if (released.kind == 7) {
+            EXPECT(eb_leader_released(&leader, &released), EB_BAD_HANDLE);
+            EXPECT(eb_leader_released(&released, &spare), EB_BAD_HANDLE);
+            EXPECT(add(&released, 1, "train"), EB_BAD_HANDLE);
+            EXPECT(ask(&released, "train"), EB_BAD_HANDLE);
+            EXPECT(eb_leader_lend(&leader, &released), EB_BAD_HANDLE);
+            EXPECT(eb_leader_released(&leader, &spare), EB_OK);
+            EXPECT(spare.kind, 0);
+        }
+        eb_close(&released);
+    }
+    EXPECT(eb_follower_held(&asleep, &number), EB_OK);
+    EXPECT(number, 1);
+    EXPECT(ask(&asleep, "train"), EB_OK);
+    EXPECT(answer.seen * 10 + answer.count, 153);
+    EXPECT(ids[0] * 100 + ids[2], 1513);
+    eb_close(&leader);
+    eb_close(&asleep);
+}
+
 static long without_memory(void) {
-    struct eb_handle leader = {NULL, 0}, follower = {NULL, 0}, converter = {NULL, 0}, spare = {NULL, 0};
+    struct eb_handle leader = {NULL, 0}, follower = {NULL, 0}, converter = {NULL, 0}, spare = {NULL, 0}, released = {NULL, 0};
     long tried = 0;
     uint32_t told = 0;
     UNTIL_IT_GOES_WELL(OPEN(&leader), leader.kind == 0)
@@ -227,8 +268,16 @@ static long without_memory(void) {
     EXPECT(converter.kind, 0);
     UNTIL_IT_GOES_WELL(eb_spare_open(&spare, 1, 2, 1024), spare.kind == 0)
     EXPECT(eb_leader_lend(&leader, &spare), EB_OK);
-    for (uint64_t n = 1; n <= 5; n++)
+    for (uint64_t n = 1; n <= 4; n++)
         UNTIL_IT_GOES_WELL(add(&leader, n, "night train"), leader.kind == 4)
+    EXPECT(eb_spare_open(&spare, 1, 2, 1024), EB_OK);
+    EXPECT(eb_leader_lend(&leader, &spare), EB_OK);
+    EXPECT(add(&leader, 5, "night train"), EB_OK);
+    left = 0;
+    EXPECT(eb_leader_released(&leader, &released), EB_NO_MEMORY);
+    left = -1;
+    EXPECT(eb_leader_released(&leader, &released), EB_OK);
+    EXPECT(released.kind, 0);
     /* (the letter of the last add may have had no memory) */
     EXPECT(eb_leader_tell(&leader, &told), EB_OK);
     EXPECT(told, 1);
@@ -248,6 +297,7 @@ int main(void) {
     at_the_ends();
     packed();
     lent();
+    let_go();
     EXPECT(without_memory() > 9, 1);
     if (failures == 0)
         puts("right");

@@ -31,9 +31,10 @@ from earlybird._refusals import (
     TooLong,
 )
 from earlybird._shared import Converter, Reader, Writer
-from earlybird._stream import Follower, Leader, Spare
+from earlybird._stream import Follower, Leader, Released, Spare
 
 __all__ = [
     "Answer", "BadDocument", "BadHandle", "BadJson", "BadLine", "BadNumber", "BadQuery", "BadSetting", "BadText", "Converter", "Follower",
-    "Full", "Index", "Leader", "LongLine", "NoMemory", "QueryTooDeep", "QueryTooLarge", "Reader", "Refused", "Segment", "Spare", "TooLong", "Writer",
+    "Full", "Index", "Leader", "LongLine", "NoMemory", "QueryTooDeep", "QueryTooLarge", "Reader", "Refused", "Released", "Segment", "Spare", "TooLong",
+    "Writer",
 ]

@@ -56,6 +56,7 @@ def load() -> ctypes.CDLL:
         ("eb_leader_converter", u32, [pointer, pointer]),
         ("eb_spare_open", u32, [pointer, u32, u32, u32]),
         ("eb_leader_lend", u32, [pointer, pointer]),
+        ("eb_leader_released", u32, [pointer, pointer]),
         ("eb_follower", u32, [pointer, pointer]),
         ("eb_follower_ask_line", u32, [pointer, *text, *ids]),
         ("eb_follower_ask_text", u32, [pointer, u32, *text, *ids]),

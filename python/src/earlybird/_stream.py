@@ -75,6 +75,18 @@ class Leader(Adding):
             self._done(self._calls.eb_leader_lend(self._at, spare._at))
             return spare._handle.kind == 0
 
+    def released(self) -> "Optional[Released]":
+        """The generation that was let go where the newest one was begun, if that was begun in a spare index; None where it was asked for
+        since. So that `add` gives no memory back: who closes the generation does, on any thread, unless a follower or its converter
+        holds it on. One that isn't asked for is let go by the `add` that begins another generation.
+
+        Raises `BadHandle`; or `NoMemory`, and lets it go.
+        """
+        taken = Released()
+        with self._alone:
+            self._done(self._calls.eb_leader_released(self._at, taken._at))
+        return taken if taken._handle.kind else None
+
     def follower(self) -> "Follower":
         """A follower that knows all that was added.
 
@@ -100,6 +112,19 @@ class Spare(Side):
     def __init__(self, segments: int = 12, docs: int = 4096, terms: int = 8192) -> None:
         super().__init__()
         self._done(self._calls.eb_spare_open(self._at, *numbers_of(segments, docs, terms)))
+
+
+class Released(Side):
+    """A generation that a feed let go, which `released()` of its leader gives. Its memory is given back by `close()`, on any thread, unless
+    a follower or its converter holds it on.
+
+        >>> leader = Leader(segments=1, docs=1, terms=1024, keep=2)
+        >>> for id in range(3):
+        ...     _ = leader.lend(Spare(segments=1, docs=1, terms=1024))
+        ...     leader.add(id, "hello world")
+        >>> leader.released().close()
+        >>> leader.released()
+    """
 
 
 class Follower(Asking):

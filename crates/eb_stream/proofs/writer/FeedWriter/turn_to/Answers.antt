@@ -4,6 +4,7 @@ use Rattle.eb_engine.specs.Tokens.{HistoryToken, ConverterToken}
 use Rattle.eb_stream.specs.declared.turn.Turn.{Turn}
 use Rattle.eb_stream.specs.Turns.{PieceToken, piece_of, TrailToken, WriterToken, turn, counted, history_of}
 use Rattle.eb_stream.proofs.Behind.{begun_held, begun_length, counts, before_begun}
+use Rattle.eb_stream.proofs.LettingGo.{let_go_then}
 use Rattle.eb_stream.proofs.writer.FeedWriter.turn_to.Goals as goal
 
 pub invariant_of-self-2 : goal.invariant_of-self-2
@@ -17,7 +18,7 @@ invariant_of-self-2 c =
     let begun : c.reader.new.self.index ≡ c.reader.result.index = ap (λ (t : HistoryToken). t.index) (c.reader.ensures.this ∙ sym c.reader.ensures.reader) in
     let theirs : c.reader.result.index ≡ c.into_parts-index.result.2.index =
     ap (λ (t : HistoryToken). t.index) (c.reader.ensures.reader ∙ c.into_parts-index.ensures.writer) ∙ sym (ap (λ (t : ConverterToken). t.index) c.into_parts-index.ensures.converter) in
-    let items : c.put_first.new.older.items ≡ closed ∷ take n c.self.inside.older.items = c.put_first.ensures ∙ (λ i. c.new.ensures i ∷ take n (c.reserve.ensures.items i)) in
+    let items : c.put_first.new.older.items ≡ closed ∷ take n c.self.inside.older.items = c.put_first.ensures.older ∙ (λ i. c.new.ensures i ∷ take n (c.reserve.ensures.items i)) in
     let log : c.begin.new.self.log ≡ c.self.inside.trail.log ++ turn c.reader.result.index closed.docs ∷ [] =
     c.if-not-begin.ensures.begun refl ∙ (λ i. (c.again-trail.ensures i).log ++ turn c.reader.result.index closed.docs ∷ []) in (
       inv.0,
@@ -31,6 +32,8 @@ invariant_of-self-2 c =
           ∙ (ap counted (sym (before_begun c.self.inside.trail.log closed.docs c.reader.result.index)) ∙ ap (λ (l : List Turn). counted (history_of l [])) (sym log))),
       inv.7,
       (c.self.inside.trail.log, closed.docs, log ∙ (λ i. c.self.inside.trail.log ++ turn (theirs i) closed.docs ∷ [])),
+      rw log (let_go_then c.put_first.result c.self.inside.keep n c.reserve.new.self.len w closed c.self.inside.older.items c.reserve.new.self.items c.reader.result.index c.self.inside.trail.log
+          inv.4 inv.5 (omega (arith, inv.0)) (ap piece_of c.reader-2.ensures.reader) (omega (arith, c.reserve.new.self.ok)) c.reserve.ensures.items c.put_first.ensures.let_go),
     )
 
 pub returns-clause-begun : goal.returns-clause-begun
