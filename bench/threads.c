@@ -203,15 +203,15 @@ static atomic_int there, let_go;
 
 static void *open_and_close(void *argument) {
     const struct timespec nap = {0, 1000000};
-    while (!atomic_load(&over)) {
+    for (; !atomic_load(&over); nanosleep(&nap, NULL)) {
         if (!atomic_load(&there)) {
             expect("opening ahead", eb_spare_open(&spare, SEGMENTS, DOCS, TERMS));
             atomic_store(&there, 1);
-        } else if (atomic_load(&let_go)) {
+        }
+        if (atomic_load(&let_go)) {
             eb_close(&released);
             atomic_store(&let_go, 0);
-        } else
-            nanosleep(&nap, NULL);
+        }
     }
     return argument;
 }

@@ -106,7 +106,7 @@ impl Leader {
     ///
     /// [`Refusal::NoMemory`], and this call lets it go.
     pub fn released(&mut self) -> Result<Option<Released>, Refusal> {
-        let taken = Side::closed();
+        let mut taken = Side::closed();
         // SAFETY: two handles that no other call has.
         Refusal::of(unsafe { eb_leader_released(self.side.at(), taken.at()) }, 0)?;
         Ok(if taken.is_closed() { None } else { Some(Released { _side: taken }) })

@@ -4,8 +4,8 @@ ghost use Rattle.std.specs.Prelude.{◌≡◌};
 use crate::piece::Piece;
 use std::marker::Model;
 
-/// A generation that a feed let go, which finds nothing there any more. Who drops it gives its memory back, on any thread,
-/// unless a reader or its converter holds it on. Contracts see its index, and its documents.
+/// A generation that a feed let go: it is not searched by the writer any more. Who drops it gives its memory back, on any
+/// thread, unless a reader or its converter holds it on. Contracts see its index, and its documents.
 #[derive(Drop)]
 pub struct Released {
     piece: Piece,
