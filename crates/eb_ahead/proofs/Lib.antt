@@ -1,5 +1,6 @@
 pub mod Placings
-pub mod Collected
 pub mod RunTasks
 pub mod Running
 pub mod Waitings
+pub mod Pieces
+pub mod HeldLines

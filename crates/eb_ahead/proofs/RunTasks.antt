@@ -11,8 +11,8 @@ use Rattle.eb_lines.specs.declared.refusal.Refusal.{Refusal}
 use Rattle.eb_lines.specs.Kinds.{Kind, blank_line, document_line, query_line, bad_line, kind_of}
 use Rattle.eb_lines.specs.Reading.{Reading, blank, document, query, refused}
 use Rattle.eb_lines.specs.Reads.{ReadsByKind}
-use Rattle.eb_ahead.specs.declared.held.Other.{Other}
-use Rattle.eb_ahead.specs.declared.held.Other.TheVariants.{Blank, Ask, Refuse, Leave}
+use Rattle.eb_ahead.specs.declared.reading.Other.{Other}
+use Rattle.eb_ahead.specs.declared.reading.Other.TheVariants.{Blank, Ask, Refuse, Leave}
 use Rattle.eb_ahead.specs.Tasks.{IsTaskOfKind, IsLeft, IsTaskBy, IsTaskOf, is_run_task, AreRun, cause, cause_line, one_cause, run_text, run_refused}
 
 -- ---- the first lines that may be added at once

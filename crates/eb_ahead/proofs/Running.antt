@@ -18,8 +18,8 @@ use Rattle.eb_lines.specs.Progress.{documents_in, accepted}
 use Rattle.eb_lines.proofs.Advancing.{accepted_few}
 use Rattle.eb_lines.specs.Reading.{Reading, blank, document, refused}
 use Rattle.eb_lines.specs.Text.{watch_line}
-use Rattle.eb_ahead.specs.declared.held.Other.{Other}
-use Rattle.eb_ahead.specs.declared.held.Other.TheVariants.{Blank, Ask, Refuse, Leave}
+use Rattle.eb_ahead.specs.declared.reading.Other.{Other}
+use Rattle.eb_ahead.specs.declared.reading.Other.TheVariants.{Blank, Ask, Refuse, Leave}
 use Rattle.eb_ahead.specs.Placed.{IsHoldingFor, outcome, docs_with, outcomes_of, docs_after, PlacesAll}
 use Rattle.eb_ahead.specs.Runs.{TakesRun}
 use Rattle.eb_ahead.specs.Tasks.{IsTaskOf, is_run_task, AreRun, cause, cause_line, one_cause, run_text, run_refused}

@@ -1,5 +1,5 @@
 -- How far a run has come between two lines, where some lines wait.
-use Rattle.std.specs.Prelude.{◌≡◌, ℕ, ◌+◌, ◌≤◌, ◌^◌, List, [], ◌++◌, length, map, drop, Result, OnOk}
+use Rattle.std.specs.Prelude.{◌≡◌, ℕ, ◌+◌, ◌≤◌, ◌^◌, List, [], ◌++◌, length, drop, Result, OnOk}
 use Rattle.std.specs.List.{AllZip}
 use Rattle.std.specs.declared.vec.Vec.{Vec}
 use Rattle.std.proofs.Common.{append-nil, ◌∙◌}
@@ -12,32 +12,32 @@ use Rattle.eb_io.specs.Lines.{Line}
 use Rattle.eb_lines.specs.Programs.{IsRunning, WorksOn, PrintsFront}
 use Rattle.eb_lines.specs.Reading.{Reading}
 use Rattle.eb_ahead.specs.declared.ahead.Ahead.{Ahead}
-use Rattle.eb_ahead.specs.declared.held.HeldLine.{HeldLine}
-use Rattle.eb_ahead.specs.declared.held.Other.{Other}
-use Rattle.eb_ahead.specs.Tasks.{line_of, IsTaskOf}
+use Rattle.eb_ahead.specs.declared.reading.Other.{Other}
+use Rattle.eb_ahead.specs.Tasks.{IsTaskOf}
 
 -- no line waits
 abbrev pub HoldsNone : {G S : Type 0} → Ahead G S → Type 0
-HoldsNone s = (s.held.items ≡ []) × (s.worked ≡ 0)
+HoldsNone s = (s.held ≡ []) × (s.worked ≡ 0)
 
 -- the lines that wait
-abbrev pub waiting_in : {G S : Type 0} → Ahead G S → List HeldLine
-waiting_in s = drop s.worked s.held.items
+abbrev pub waiting_in : {G S : Type 0} → Ahead G S → List Line
+waiting_in s = drop s.worked s.held
 
 -- the lines that wait are read so
 abbrev pub AreWaiting : {G S : Type 0} → Ahead G S → List (Result Doc Other) → Type 0
-AreWaiting s tasks = AllZip (λ l. IsTaskOf (names s.answering.fields) (line_of l)) (waiting_in s) tasks
+AreWaiting s tasks = AllZip (IsTaskOf (names s.answering.fields)) (waiting_in s) tasks
 
 -- so many more of the lines that wait are processed
 abbrev pub HasWorked : {G S : Type 0} → Ahead G S → Ahead G S → ℕ → Type 0
-HasWorked old new n = (new.held.items ≡ old.held.items) × (new.worked ≡ old.worked + n)
+HasWorked old new n = (new.held ≡ old.held) × (new.worked ≡ old.worked + n)
 
 -- of these lines the first are processed, by these rules, and printed this text; the others wait
 pub record HasHeld {G S W : Type 0} (other : List (List ℕ) → List ℕ → Reading → Type 0) (holds : S → Rules W → List Doc → W → Type 0)
     (s : Ahead G S) (rules : Rules W) (given : List Line) (so_far : List ℕ) : Type 0 where
   pub done : List Line
-  pub lines : given ≡ done ++ map line_of (waiting_in s)
-  pub within : s.worked ≤ length s.held.items
+  pub lines : given ≡ done ++ waiting_in s
+  pub within : s.worked ≤ length s.held
+  pub past : s.worked ≤ length done
   pub answered : HasAnswered other holds s.answering rules done so_far
   pub number : s.number ≡ length given
   pub short : s.number ≤ 2 ^ 40 + 1
@@ -64,7 +64,7 @@ pub held_first : {G S W : Type 0} (other : List (List ℕ) → List ℕ → Read
     → HasHeld other holds s rules given so_far → PrintsFront (IsBody other) rules given so_far
 held_first other holds s rules given so_far h = (
   h.done,
-  map line_of (waiting_in s),
+  waiting_in s,
   [],
   h.lines,
   record { readings = h.answered.readings; read = h.answered.read; bytes = append-nil so_far ∙ h.answered.printed },

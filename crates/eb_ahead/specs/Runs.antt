@@ -8,7 +8,7 @@ use Rattle.eb_base.specs.Document.{Doc}
 use Rattle.eb_fields.specs.Fields.{names}
 use Rattle.eb_io.specs.Lines.{Line}
 use Rattle.eb_lines.specs.Reading.{Reading}
-use Rattle.eb_ahead.specs.declared.held.Other.{Other}
+use Rattle.eb_ahead.specs.declared.reading.Other.{Other}
 use Rattle.eb_ahead.specs.Tasks.{IsTaskOf}
 
 -- lines that are read so were taken, and what they print was put after the text

@@ -11,14 +11,14 @@ use Rattle.eb_lines.specs.Kinds.{Kind, blank_line, document_line, query_line, ba
 use Rattle.eb_lines.specs.Reading.{blank, document, query, refused}
 use Rattle.eb_lines.specs.Reads.{ReadsByKind}
 use Rattle.eb_lines.specs.Text.{refusal_line}
-use Rattle.eb_ahead.specs.declared.held.HeldLine.{HeldLine}
-use Rattle.eb_ahead.specs.declared.held.HeldLine.TheVariants as held
-use Rattle.eb_ahead.specs.declared.held.Other.{Other}
-use Rattle.eb_ahead.specs.declared.held.Other.TheVariants.{Blank, Ask, Refuse, Leave}
+use Rattle.eb_ahead.specs.declared.lines.HeldLine.{HeldLine}
+use Rattle.eb_ahead.specs.declared.lines.HeldLine.TheVariants as held
+use Rattle.eb_ahead.specs.declared.reading.Other.{Other}
+use Rattle.eb_ahead.specs.declared.reading.Other.TheVariants.{Blank, Ask, Refuse, Leave}
 
 -- which line waits
 abbrev pub line_of : HeldLine → Line
-line_of (held.Line bytes) = line bytes.items
+line_of (held.Line bytes) = line bytes.now
 line_of held.Long = long_line
 
 -- this is to be done for a line of a kind other than the last one, with these fields; one of the last kind is left to the store

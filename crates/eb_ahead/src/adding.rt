@@ -8,7 +8,8 @@ ghost use Rattle.eb_fields.specs.Fields.{names};
 ghost use Rattle.eb_lines.specs.Programs.{IsRunning, WorksOn, WorksOnGiven};
 ghost use Rattle.eb_lines.specs.Text.{room_of};
 
-use crate::held::{HeldLine, Other};
+use crate::lines::HeldLine;
+use crate::reading::Other;
 use eb_answer::{Answering, Store};
 use eb_base::{Document, Gate, NoMemory};
 use eb_lines::{Form, Refusal, line_room, put_refusal};
@@ -97,14 +98,14 @@ pub(crate) fn work_run<
 fn work_other<P: Store, G: Gate>(
     answering: &mut Answering<'_, G, P>,
     alloc: Global,
-    line: &HeldLine,
+    line: HeldLine<'_>,
     other: &Other,
     text: &mut Vec<u8>,
 ) -> Result<(), NoMemory>
     requires state { IsRunning (HasAnswered P.other P.holds) answering.old }
     requires number { answering.old.number ≤ 2 ^ 40 }
-    requires task { IsTaskOf (names answering.old.fields) (line_of line.now) (Err other.now) }
-    ensures ok { OnOk result (WorksOnGiven (HasAnswered P.other P.holds) answering.old answering.new text.old.items text.new.items (line_of line.now)) }
+    requires task { IsTaskOf (names answering.old.fields) (line_of line) (Err other.now) }
+    ensures ok { OnOk result (WorksOnGiven (HasAnswered P.other P.holds) answering.old answering.new text.old.items text.new.items (line_of line.entry)) }
     ensures err { OnErr result (WorksOn (HasAnswered P.other P.holds) answering.old answering.new text.old.items text.new.items) }
 {
     match other {
@@ -118,7 +119,7 @@ fn work_other<P: Store, G: Gate>(
         }
         Other::Refuse(refusal) => answering.refuse(*refusal, text),
         Other::Leave => match line {
-            HeldLine::Line(bytes) => answering.take_other(bytes.as_slice(), text),
+            HeldLine::Line(bytes) => answering.take_other(bytes, text),
             HeldLine::Long => answering.refuse(Refusal::LongLine, text),
         },
     }
@@ -128,14 +129,14 @@ fn work_other<P: Store, G: Gate>(
 pub(crate) fn work_line<P: Store, G: Gate>(
     answering: &mut Answering<'_, G, P>,
     alloc: Global,
-    line: &HeldLine,
+    line: HeldLine<'_>,
     task: &Result<Document, Other>,
     text: &mut Vec<u8>,
 ) -> Result<(), NoMemory>
     requires state { IsRunning (HasAnswered P.other P.holds) answering.old }
     requires number { answering.old.number ≤ 2 ^ 40 }
-    requires task { IsTaskOf (names answering.old.fields) (line_of line.now) task.now }
-    ensures ok { OnOk result (WorksOnGiven (HasAnswered P.other P.holds) answering.old answering.new text.old.items text.new.items (line_of line.now)) }
+    requires task { IsTaskOf (names answering.old.fields) (line_of line) task.now }
+    ensures ok { OnOk result (WorksOnGiven (HasAnswered P.other P.holds) answering.old answering.new text.old.items text.new.items (line_of line.entry)) }
     ensures err { OnErr result (WorksOn (HasAnswered P.other P.holds) answering.old answering.new text.old.items text.new.items) }
 {
     match task {

@@ -10,22 +10,20 @@ ghost use Rattle.eb_fields.specs.Fields.{names};
 ghost use Rattle.eb_lines.specs.Programs.{IsRunning, WorksOn, WorksOnGiven};
 
 use crate::adding::{work_line, work_run};
-use crate::held::{HeldLine, Other, read_lines, run_length};
+use crate::lines::{HeldLine, HeldLines};
+use crate::reading::{Other, let_go, read_lines, run_length};
 use eb_answer::{Answering, Store};
 use eb_base::{Document, Gate, NoMemory};
 use eb_lines::Refusal;
 use std::alloc::Global;
 use std::thread::Threads;
 
-// At most so many lines wait.
-const MOST_LINES: usize = 4096;
-
 // A run over a store, the lines that wait, of which the first so many are processed, whether a query may be among them, and
 // the number of the last line given.
 #[derive(Drop)]
 pub(crate) struct Ahead<'a, G, S> {
     pub(crate) answering: Answering<'a, G, S>,
-    held: Vec<HeldLine>,
+    held: HeldLines,
     worked: usize,
     asks: bool,
     pub(crate) number: u64,
@@ -38,7 +36,7 @@ impl<'a, G: Gate, S: Store> Ahead<'a, G, S> {
     {
         Ahead {
             answering,
-            held: Vec::new(alloc),
+            held: HeldLines::new(alloc),
             worked: 0,
             asks: false,
             number: 0,
@@ -58,17 +56,17 @@ impl<'a, G: Gate, S: Store> Ahead<'a, G, S> {
         ensures worked { OnOk result (HasWorked self.old self.new 1) }
         ensures number { self.new.number ≡ self.old.number }
     {
-        let line = &self.held[self.worked];
+        let line = self.held.get(self.worked);
         work_line(&mut self.answering, alloc, line, task, text)?;
         self.worked += 1;
         Ok(())
     }
 
     // Lets the next line wait, where few do.
-    fn put(&mut self, line: HeldLine, asks: bool) -> Result<(), NoMemory>
+    fn put(&mut self, line: HeldLine<'_>, asks: bool) -> Result<(), NoMemory>
         requires state { IsRunning (HasHeld S.other S.holds) self.old }
         requires number { self.old.number ≤ 2 ^ 40 }
-        ensures ok { OnOk result ((text : List _) → WorksOnGiven (HasHeld S.other S.holds) self.old self.new text text (line_of line)) }
+        ensures ok { OnOk result ((text : List _) → WorksOnGiven (HasHeld S.other S.holds) self.old self.new text text (line_of line.entry)) }
         ensures err { OnErr result ((text : List _) → WorksOn (HasHeld S.other S.holds) self.old self.new text text) }
     {
         self.held.push(line)?;
@@ -103,7 +101,7 @@ impl<'a, G: Gate, S: Store> Ahead<'a, G, S> {
         ensures on { WorksOn (HasHeld S.other S.holds) self.old self.new text.old.items text.new.items }
         ensures number { self.new.number ≡ self.old.number }
     {
-        if self.held.len() >= MOST_LINES {
+        if self.held.is_full() {
             worker(self, text)
         } else {
             Ok(())
@@ -113,7 +111,7 @@ impl<'a, G: Gate, S: Store> Ahead<'a, G, S> {
     // Lets the next line wait, and processes those that wait before where they are as many as may.
     pub(crate) fn hold<W: Fn(&mut Ahead<'a, G, S>, &mut Vec<u8>) -> Result<(), NoMemory>>(
         &mut self,
-        line: HeldLine,
+        line: HeldLine<'_>,
         asks: bool,
         worker: &W,
         text: &mut Vec<u8>,
@@ -121,7 +119,7 @@ impl<'a, G: Gate, S: Store> Ahead<'a, G, S> {
         requires state { IsRunning (HasHeld S.other S.holds) self.old }
         requires worker { WorksOffHeld S.other S.holds W.pre W.post worker.now }
         requires number { self.old.number ≤ 2 ^ 40 }
-        ensures ok { OnOk result (WorksOnGiven (HasHeld S.other S.holds) self.old self.new text.old.items text.new.items (line_of line)) }
+        ensures ok { OnOk result (WorksOnGiven (HasHeld S.other S.holds) self.old self.new text.old.items text.new.items (line_of line.entry)) }
         ensures err { OnErr result (WorksOn (HasHeld S.other S.holds) self.old self.new text.old.items text.new.items) }
     {
         self.make_way(worker, text)?;
@@ -253,9 +251,9 @@ pub(crate) fn work_held<
     ensures none { OnOk result (HoldsNone ahead.new) }
     ensures number { ahead.new.number ≡ ahead.old.number }
 {
-    let (_, waiting) = ahead.held.as_slice().split_at(ahead.worked);
-    let tasks = read_lines(rt, alloc, ahead.answering.fields, waiting)?;
+    let mut tasks = read_lines(rt, alloc, ahead.answering.fields, &ahead.held, ahead.worked)?;
     work_all(ahead, alloc, place_all, tasks.as_slice(), text)?;
+    let_go(rt, tasks.as_mut_slice());
     ahead.held.clear();
     ahead.worked = 0;
     ahead.asks = false;

@@ -4,10 +4,11 @@
 mod adding;
 mod ahead;
 mod each;
-mod held;
+mod lines;
 mod program;
+mod reading;
 mod run;
 
 pub use each::place_each;
-pub use held::{Other, Question};
+pub use reading::{Other, Question};
 pub use run::answer_lines_ahead;

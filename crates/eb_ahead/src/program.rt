@@ -1,7 +1,7 @@
 //! The program over the lines of an input that wait a little.
 
 use crate::ahead::Ahead;
-use crate::held::HeldLine;
+use crate::lines::HeldLine;
 use eb_answer::Store;
 use eb_base::{Gate, NoMemory};
 use eb_lines::LineProgram;
@@ -43,7 +43,7 @@ impl<
     ghost number = { λ p. p.ahead.number };
 
     fn take_line(&mut self, bytes: &[u8], text: &mut Vec<u8>) -> Result<(), NoMemory> {
-        let line = HeldLine::Line(Vec::from_slice(self.alloc, bytes)?);
+        let line = HeldLine::Line(bytes);
         let asks = bytes.first() == Some(&b'?');
         self.ahead.hold(line, asks, &self.worker, text)
     }

@@ -8,8 +8,8 @@ ghost use Rattle.eb_lines.specs.Passing.{Ends};
 ghost use Rattle.eb_lines.specs.Programs.{IsRunning, WorksOn};
 
 use crate::ahead::{Ahead, work_held};
-use crate::held::Other;
 use crate::program::AheadProgram;
+use crate::reading::Other;
 use eb_answer::{Answering, Store};
 use eb_base::{Document, Gate, NoMemory};
 use eb_fields::Fields;
@@ -18,7 +18,7 @@ use eb_lines::{Refusal, Status, pass_lines};
 use std::alloc::Global;
 use std::thread::Threads;
 
-/// As `answer_lines` of eb_answer, and prints the same, while at most 4,096 lines wait: they are read side by side, by several
+/// As `answer_lines` of eb_answer, and prints the same, while at most 32,768 lines wait: they are read side by side, by several
 /// threads where there are many, and the documents up to the next query are added many at once. No query waits for a further
 /// line. Memory for what a run of documents prints is taken before the first of them is added.
 pub fn answer_lines_ahead<

@@ -15,10 +15,11 @@ ghost use Rattle.eb_blend.specs.Adding.{writers_of, fulls_of, blend_writer, turn
 
 use crate::refusal::BlendRefusal;
 use eb_base::{Document, Gate, NoMemory};
+use eb_beside::each_place;
 use eb_engine::{Index, Writer};
 use std::alloc::Global;
+use std::mem;
 use std::thread::Threads;
-use std::{mem, thread};
 
 // A part's writer while documents are added, and for which of them it had no room.
 #[derive(Drop)]
@@ -109,16 +110,11 @@ fn take_turns<R: Threads + Sync, E: Sync, G: Gate + Sync>(
     ensures turned { (p : ℕ) (w : Words) (t : Turn) → p < length turns.old → w ≡ get_or indexes.now p w
         → HasTurned w.setting (length indexes.now) p items.now (get_or turns.old p t) (get_or turns.new p t) }
 {
-    let threads = if items.len() < LEAST_ITEMS {
-        1
-    } else {
-        turns.len()
-    };
     let parts = indexes.len();
-    thread::for_each_mut(
+    each_place(
         rt,
         turns,
-        threads,
+        items.len() >= LEAST_ITEMS,
         &|part: usize, turn: &mut Turn|
             requires place { part < length indexes.now }
             requires parts { parts ≡ length indexes.now }

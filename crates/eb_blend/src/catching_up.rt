@@ -10,8 +10,8 @@ ghost use Rattle.eb_table.specs.Known.{Words};
 ghost use Rattle.eb_blend.specs.Converting.{HasConverted};
 
 use crate::converter::convert_part;
+use eb_beside::each_place;
 use eb_engine::{Converter, Index, Writer};
-use std::thread;
 use std::thread::Threads;
 
 // The converter of one part catches up.
@@ -81,22 +81,21 @@ fn tell_each(indexes: &[Index], writers: &mut [Writer], converters: &mut [Conver
     waits
 }
 
-// Each part converts until there is nothing to convert, on at most so many threads.
+// Each part converts until there is nothing to convert: all at once, on threads of their own, where a segment waits.
 fn convert_beside<R: Threads + Sync>(
     rt: &R,
     indexes: &[Index],
     converters: &mut [Converter],
-    threads: usize,
+    waits: bool,
 )
-    requires threads { 0 < threads }
     requires made { converter_indexes_of converters.old ≡ indexes.now }
     ensures each { (p : ℕ) (w : Words) (c : ConverterToken) → p < length converters.old → w ≡ get_or indexes.now p w
         → HasConverted w.setting (get_or converters.old p c) (get_or converters.new p c) }
 {
-    thread::for_each_mut(
+    each_place(
         rt,
         converters,
-        threads,
+        waits,
         &|part: usize, converter: &mut Converter|
             requires place { part < length indexes.now }
             requires made { (w : Words) → w ≡ get_or indexes.now part w → converter.now.index ≡ w }
@@ -129,10 +128,6 @@ pub(crate) fn catch_up_each<R: Threads + Sync>(
     ensures told { AreFronts (histories_of writers.old) (converter_histories_of converters.new) }
     ensures converted { (σ : Setting) → All (λ w. w.setting ≡ σ) indexes.now → AllConverted σ (histories_of writers.old) (converted_of converters.new) }
 {
-    let threads = if tell_each(indexes, writers, converters) {
-        indexes.len()
-    } else {
-        1
-    };
-    convert_beside(rt, indexes, converters, threads);
+    let waits = tell_each(indexes, writers, converters);
+    convert_beside(rt, indexes, converters, waits);
 }

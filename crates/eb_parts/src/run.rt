@@ -83,7 +83,7 @@ fn pass_parts<S: Source, K: Sink, G: Gate>(
     answer_lines(alloc, parted, fields, source, out, gate)
 }
 
-/// As `run_parts`, and prints the same, while the parts add side by side: at most 4,096 lines wait, are read by several
+/// As `run_parts`, and prints the same, while the parts add side by side: at most 32,768 lines wait, are read by several
 /// threads, and the documents up to the next query are added by a thread for each part where their ids rise. No query
 /// waits for a further line. Memory for what a run of documents prints is taken before the first of them is added.
 pub fn run_parts_beside<R: Threads + Sync, S: Source, K: Sink, G: Gate + Sync>(

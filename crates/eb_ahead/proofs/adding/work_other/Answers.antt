@@ -1,16 +1,15 @@
-use Rattle.std.proofs.Common.{Err, sym, ap, subst, ◌∙◌}
+use Rattle.std.proofs.Common.{Err, sym, ap, subst}
 use Rattle.eb_base.specs.Query.{Tree}
 use Rattle.eb_fields.specs.Fields.{names}
-use Rattle.eb_io.specs.Lines.{line}
 use Rattle.eb_lines.specs.Reading.{query}
 use Rattle.eb_lines.specs.Programs.{WorksOnGiven}
 use Rattle.eb_lines.proofs.Results.{ok_on, err_on, err_any}
 use Rattle.eb_lines.proofs.Runs.{stays, stays_at}
 use Rattle.eb_answer.specs.Answering.{HasAnswered}
 use Rattle.eb_answer.specs.Rules.{ReadsWith}
-use Rattle.eb_ahead.specs.declared.held.Other.TheVariants.{Ask}
+use Rattle.eb_ahead.specs.declared.reading.Other.TheVariants.{Ask}
 use Rattle.eb_ahead.proofs.RunTasks.{reads_raw}
-use Rattle.eb_ahead.specs.declared.held.Other.{Other}
+use Rattle.eb_ahead.specs.declared.reading.Other.{Other}
 use Rattle.eb_ahead.specs.Tasks.{line_of, IsTaskOf}
 use Rattle.eb_ahead.proofs.adding.work_other.Goals as goal
 
@@ -19,7 +18,7 @@ returns-in_err-query-in-Ask-clause-err g c = err_any c.from_residual.result (sta
 
 pub returns-in_ok-query-in-Ask-clause-ok : goal.returns-in_ok-query-in-Ask-clause-ok
 returns-in_ok-query-in-Ask-clause-ok g c =
-    let l = line_of c.args.line.now in
+    let l = line_of c.args.line in
     let ns = names c.args.answering.now.fields in
     let own = c.in-Ask.question in
     let read = reads_raw g.P.Store.other ns l (Err (Ask own)) (λ x. x) (subst (λ (o : Other). IsTaskOf ns l (Err o)) c.in-Ask.is c.requires.task) in
@@ -34,6 +33,6 @@ returns-in-Refuse-clause-err g c = err_on c.refuse.result c.refuse.ensures.err (
 
 pub returns-in-Line-clause-ok : goal.returns-in-Line-clause-ok
 returns-in-Line-clause-ok g c =
-    let same = ap line c.as_slice.ensures.value ∙ sym (ap line_of c.in-Line.is) in
+    let same = sym (ap line_of c.in-Line.is) in
     ok_on c.take_other.result c.take_other.ensures.ok
     (λ x. subst (λ l. WorksOnGiven (HasAnswered g.P.Store.other g.P.Store.holds) c.args.answering.now c.take_other.new.self c.args.text.now.items c.take_other.new.text.items l) same x)

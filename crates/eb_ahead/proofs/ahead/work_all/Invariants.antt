@@ -8,7 +8,7 @@ invariant-loop-rest g l = record {
   on : WorksOn (HasHeld g.P.Store.other g.P.Store.holds) l.initial.ahead l.ahead l.initial.text.items l.text.items;
   running : IsRunning (HasHeld g.P.Store.other g.P.Store.holds) l.ahead;
   waits : AreWaiting l.ahead l.rest;
-  held : l.ahead.held.items ≡ l.initial.ahead.held.items;
+  held : l.ahead.held ≡ l.initial.ahead.held;
   worked : l.ahead.worked + length l.rest ≡ l.initial.ahead.worked + length l.fn.tasks;
   number : l.ahead.number ≡ l.initial.ahead.number;
 }

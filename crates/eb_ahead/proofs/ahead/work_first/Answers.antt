@@ -1,5 +1,5 @@
-use Rattle.std.proofs.Common.{refl}
-use Rattle.eb_ahead.proofs.Waitings.{stays_on, waits_few, run_worked}
+use Rattle.std.proofs.Common.{refl, arith}
+use Rattle.eb_ahead.proofs.Waitings.{stays_on, waits_few, waits_fit, run_worked}
 use Rattle.eb_ahead.proofs.ahead.work_first.Goals as goal
 
 pub work_run-requires-clause-number : goal.work_run-requires-clause-number
@@ -11,3 +11,7 @@ returns-in_err-work_run-clause-on g c = stays_on g.P.Store.other g.P.Store.holds
 pub returns-clause-on : goal.returns-clause-on
 returns-clause-on g c =
     run_worked g.P.Store.other g.P.Store.holds c.args.ahead.now c.requires.state c.args.tasks.now c.requires.waits.0 c.requires.waits.1 _ _ _ (refl, refl) refl c.in_ok-work_run.ensures.ok
+
+pub overflow_add-ahead : goal.overflow_add-ahead
+overflow_add-ahead g c =
+    let few = waits_fit g.P.Store.other g.P.Store.holds c.args.ahead.now c.requires.state c.args.tasks.now c.requires.waits.0 c.requires.waits.1 in record { fits = omega (arith, few) }

@@ -4,6 +4,12 @@ use Rattle.eb_ahead.specs.Ahead.{HasHeld, AreWaiting}
 use Rattle.eb_ahead.proofs.Waitings.{goes_on, waits_still}
 use Rattle.eb_ahead.proofs.ahead.work_some.Goals as goal
 
+pub work_first-requires-clause-waits : goal.work_first-requires-clause-waits
+work_first-requires-clause-waits g c =
+    let all : c.split_at.result.0.now ++ c.split_at.result.1.now ≡ c.args.tasks.now =
+    ap₂ (λ xs ys. xs ++ ys) c.split_at.ensures.front c.split_at.ensures.back ∙ take-append-drop c.run_length.result c.args.tasks.now in
+    (c.split_at.result.1.now, subst (λ ts. AreWaiting c.args.ahead.now ts) (sym all) c.requires.waits)
+
 pub work_one-requires-clause-state : goal.work_one-requires-clause-state
 work_one-requires-clause-state g c =
     running_on (HasHeld g.P.Store.other g.P.Store.holds) c.args.ahead.now c.work_first.new.ahead c.args.text.now.items c.work_first.new.text.items c.requires.state c.work_first.ensures.on

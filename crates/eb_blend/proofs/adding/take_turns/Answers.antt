@@ -9,12 +9,12 @@ use Rattle.eb_blend.proofs.adding.take_turns.Goals as goal
 pub returns : goal.returns
 returns g c = record {
   turned = λ p w t lt is.
-      let e = (c.for_each_mut.ensures p t lt).1 in
+      let e = (c.each_place.ensures p t lt).1 in
       subst (λ (x : Turn × Turn). HasTurned w.setting (length c.args.indexes.now) p c.args.items.now x.0 x.1) (λ j. (e.argument_is j, e.left j)) (e.call w is);
 }
 
-pub for_each_mut-requires-clause-accepts : goal.for_each_mut-requires-clause-accepts
-for_each_mut-requires-clause-accepts g c κs within = λ i p lt is.
+pub each_place-requires-after_bounds : goal.each_place-requires-after_bounds
+each_place-requires-after_bounds g c κs within = λ i p lt is.
     let ts = c.args.turns.now in
     let ws = c.args.indexes.now in
     let made = c.requires.made in

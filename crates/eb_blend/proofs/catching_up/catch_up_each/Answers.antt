@@ -6,8 +6,8 @@ use Rattle.eb_blend.proofs.catching_up.catch_up_each.Goals as goal
 
 pub returns : goal.returns
 returns g c =
-    let tell = c.tell_each.ensures in
-    let mid = c.tell_each.new.converters in
+    let tell = c.tell_each-waits.ensures in
+    let mid = c.tell_each-waits.new.converters in
     let new = c.convert_beside.new.converters in
     let ws = c.args.indexes.now in
     let made : converter_indexes_of mid ≡ ws = tell.indexes ∙ c.requires.converters in

@@ -3,4 +3,4 @@ use Rattle.eb_ahead.proofs.Waitings.{held_none}
 use Rattle.eb_ahead.proofs.ahead.Ahead.new.Goals as goal
 
 pub returns : goal.returns
-returns g c = λ rules h. held_none g.S.Store.other g.S.Store.holds _ c.new.ensures.items refl refl rules h
+returns g c = λ rules h. held_none g.S.Store.other g.S.Store.holds _ c.new.ensures refl refl rules h

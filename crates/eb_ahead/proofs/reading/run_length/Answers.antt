@@ -1,6 +1,6 @@
 use Rattle.std.proofs.Common.{sym, ◌∙◌}
 use Rattle.eb_ahead.proofs.RunTasks.{run_next}
-use Rattle.eb_ahead.proofs.held.run_length.Goals as goal
+use Rattle.eb_ahead.proofs.reading.run_length.Goals as goal
 
 pub loop-at-preserved : goal.loop-at-preserved
 loop-at-preserved c =

@@ -1,0 +1,267 @@
+//! What lines that wait are read as, by several threads.
+ghost use Rattle.std.specs.Prelude.{◌≡◌, ℕ, ◌+◌, ◌*◌, ◌<◌, ◌≤◌, ◌^◌, ◌++◌, List, IfOk, OnOk, Ok, Some, length, vec_len, take, drop, slice_get};
+ghost use Rattle.std.specs.List.{AllZip};
+ghost use Rattle.eb_ahead.specs.Tasks.{line_of, IsTaskOf, IsTaskOfKind, is_run_task, AreRun};
+ghost use Rattle.eb_fields.specs.Fields.{names};
+ghost use Rattle.eb_ahead.specs.Pieces.{IsPiece, ArePieces};
+ghost use Rattle.eb_io.specs.Lines.{Line, line};
+ghost use Rattle.eb_lines.specs.Kinds.{document_line, query_line};
+
+use crate::lines::{HeldLine, HeldLines};
+use eb_answer::read_question;
+use eb_base::{Document, NoMemory, Query};
+use eb_beside::each_place;
+use eb_doc::DocumentReader;
+use eb_fields::Fields;
+use eb_lines::{LineKind, Refusal, line_kind, read_document_line_by};
+use rayon::current_num_threads;
+use std::alloc::Global;
+use std::thread;
+use std::thread::Threads;
+
+/// A query, and how many matches it asks for.
+#[derive(Drop)]
+pub struct Question {
+    pub(crate) k: u32,
+    pub(crate) query: Query,
+}
+
+/// What is to be done for a line that is no document.
+#[derive(Drop)]
+pub enum Other {
+    /// Nothing.
+    Blank,
+    /// It is answered.
+    Ask(Question),
+    /// It is refused.
+    Refuse(Refusal),
+    /// It is left to the store.
+    Leave,
+}
+
+// How few lines are worth a thread of their own.
+const LEAST_LINES: usize = 128;
+
+// What some lines that stand one behind the other are read as.
+type Piece = Result<Vec<Result<Document, Other>>, NoMemory>;
+
+// Reads a document line.
+fn read_document(
+    reader: &mut DocumentReader,
+    fields: Fields<'_>,
+    bytes: &[u8],
+) -> Result<Result<Document, Other>, NoMemory>
+    ensures { IfOk result (IsTaskOfKind (names fields.entry) document_line bytes.now) }
+{
+    match read_document_line_by(reader, fields, bytes)? {
+        Ok(document) => Ok(Ok(document)),
+        Err(refusal) => Ok(Err(Other::Refuse(refusal))),
+    }
+}
+
+// Reads a query line.
+fn read_query(
+    alloc: Global,
+    fields: Fields<'_>,
+    text: &str,
+) -> Result<Result<Document, Other>, NoMemory>
+    requires { slice_get text.now 0 ≡ Some 63 }
+    ensures { IfOk result (IsTaskOfKind (names fields.entry) query_line text.now) }
+{
+    match read_question(alloc, fields, text)? {
+        Ok((k, query)) => Ok(Err(Other::Ask(Question { k, query }))),
+        Err(refusal) => Ok(Err(Other::Refuse(refusal))),
+    }
+}
+
+// Reads a line that isn't long.
+fn read_bytes(
+    reader: &mut DocumentReader,
+    alloc: Global,
+    fields: Fields<'_>,
+    bytes: &[u8],
+) -> Result<Result<Document, Other>, NoMemory>
+    ensures { IfOk result (IsTaskOf (names fields.entry) (line bytes.now)) }
+{
+    match line_kind(bytes) {
+        LineKind::Blank => Ok(Err(Other::Blank)),
+        LineKind::Document => read_document(reader, fields, bytes),
+        LineKind::Query(text) => read_query(alloc, fields, text),
+        LineKind::Bad => Ok(Err(Other::Leave)),
+    }
+}
+
+// Reads a line.
+fn read_line(
+    reader: &mut DocumentReader,
+    alloc: Global,
+    fields: Fields<'_>,
+    line: HeldLine<'_>,
+) -> Result<Result<Document, Other>, NoMemory>
+    ensures { IfOk result (IsTaskOf (names fields.entry) (line_of line.entry)) }
+{
+    match line {
+        HeldLine::Line(bytes) => read_bytes(reader, alloc, fields, bytes),
+        HeldLine::Long => Ok(Err(Other::Refuse(Refusal::LongLine))),
+    }
+}
+
+// Reads the lines from this place on, at most so many, one after the other by one reader.
+fn read_some(
+    alloc: Global,
+    fields: Fields<'_>,
+    lines: &HeldLines,
+    from: usize,
+    most: usize,
+) -> Piece
+    requires { from ≤ length lines.now }
+    ensures { IfOk result (λ tasks. AllZip (IsTaskOf (names fields.entry)) (take most (drop from lines.now)) tasks.items) }
+{
+    let mut reader = DocumentReader::new(alloc);
+    let count = most.min(lines.len() - from);
+    let mut tasks = Vec::with_capacity(alloc, count)?;
+    for at in from..from + count {
+        let task = read_line(&mut reader, alloc, fields, lines.get(at))?;
+        tasks.push_reserved(task);
+    }
+    Ok(tasks)
+}
+
+// So many pieces, nothing of which is read yet.
+fn no_pieces(alloc: Global, count: usize) -> Result<Vec<Piece>, NoMemory>
+    ensures { IfOk result (λ pieces. vec_len pieces ≡ count) }
+{
+    let mut pieces = Vec::with_capacity(alloc, count)?;
+    for _piece in 0..count {
+        pieces.push_reserved(Ok(Vec::new(alloc)));
+    }
+    Ok(pieces)
+}
+
+// Reads the lines from this place on in pieces of so many lines, each by a thread of its own.
+fn read_pieces<R: Threads + Sync>(
+    rt: &R,
+    alloc: Global,
+    fields: Fields<'_>,
+    lines: &HeldLines,
+    from: usize,
+    size: usize,
+    pieces: &mut [Piece],
+)
+    requires starts { (i : ℕ) → i < length pieces.old → from + i * size < length lines.now }
+    requires fits { length lines.now < 2 ^ 64 }
+    ensures pieces { ArePieces (names fields.entry) (drop from lines.now) size pieces.new }
+    ensures count { length pieces.new ≡ length pieces.old }
+{
+    each_place(
+        rt,
+        pieces,
+        true,
+        &|at: usize, piece: &mut Piece|
+            requires { (from + at * size < length lines.now) × (length lines.now < 2 ^ 64) }
+            ensures { IsPiece (names fields.entry) (drop from lines.entry.now) size at piece.exit.now }
+        { *piece = read_some(alloc, fields, lines, from + at * size, size) },
+    );
+}
+
+// Puts a piece behind what was read before.
+fn join_piece(tasks: &mut Vec<Result<Document, Other>>, piece: &mut Piece) -> Result<(), NoMemory>
+    ensures { OnOk result ((more : _) × (piece.old ≡ Ok more) × (tasks.new.items ≡ tasks.old.items ++ more.items)) }
+{
+    match piece {
+        Ok(more) => {
+            tasks.append(more)?;
+            Ok(())
+        }
+        Err(_) => Err(NoMemory),
+    }
+}
+
+// Puts the pieces together, which hold at most so many lines.
+fn join_pieces(alloc: Global, count: usize, pieces: &mut [Piece]) -> Piece
+    ensures { (names : List (List ℕ)) (lines : List Line) (size : ℕ) → ArePieces names lines size pieces.old
+        → IfOk result (λ tasks. AllZip (IsTaskOf names) (take (length pieces.old * size) lines) tasks.items) }
+{
+    let mut tasks = Vec::with_capacity(alloc, count)?;
+    for at in 0..pieces.len() {
+        join_piece(&mut tasks, &mut pieces[at])?;
+    }
+    Ok(tasks)
+}
+
+// Reads the lines from this place on, in list order, in pieces of so many lines, which are enough.
+fn read_in_pieces<R: Threads + Sync>(
+    rt: &R,
+    alloc: Global,
+    fields: Fields<'_>,
+    lines: &HeldLines,
+    from: usize,
+    size: usize,
+    pieces: &mut [Piece],
+) -> Piece
+    requires starts { (i : ℕ) → i < length pieces.old → from + i * size < length lines.now }
+    requires fits { (from ≤ length lines.now) × (length lines.now < 2 ^ 64) }
+    requires enough { length lines.now ≤ from + length pieces.old * size }
+    ensures { IfOk result (λ tasks. AllZip (IsTaskOf (names fields.entry)) (drop from lines.now) tasks.items) }
+{
+    read_pieces(rt, alloc, fields, lines, from, size, pieces);
+    join_pieces(alloc, lines.len() - from, pieces)
+}
+
+// Reads the lines from this place on, in list order, by several threads where there are many.
+pub(crate) fn read_lines<R: Threads + Sync>(
+    rt: &R,
+    alloc: Global,
+    fields: Fields<'_>,
+    lines: &HeldLines,
+    from: usize,
+) -> Piece
+    requires { from ≤ length lines.now }
+    ensures { IfOk result (λ tasks. AllZip (IsTaskOf (names fields.entry)) (drop from lines.now) tasks.items) }
+{
+    let count = lines.len() - from;
+    let size = count.div_ceil(current_num_threads(rt)).max(LEAST_LINES);
+    let mut pieces = no_pieces(alloc, count.div_ceil(size))?;
+    read_in_pieces(rt, alloc, fields, lines, from, size, pieces.as_mut_slice())
+}
+
+// Gives the memory of what lines were read as back, by several threads where they are many.
+pub(crate) fn let_go<R: Threads + Sync>(rt: &R, tasks: &mut [Result<Document, Other>]) {
+    let size = tasks
+        .len()
+        .div_ceil(current_num_threads(rt))
+        .max(LEAST_LINES);
+    thread::for_each_chunk_mut(
+        rt,
+        tasks,
+        size,
+        &|_start: usize, some: &mut [Result<Document, Other>]| {
+            for task in some.iter_mut() {
+                *task = Err(Other::Blank);
+            }
+        },
+    );
+}
+
+// Whether a line may be among those whose documents are added many at once: it is no query, and not left to the store.
+fn is_added(task: &Result<Document, Other>) -> bool
+    ensures { result ≡ is_run_task task.now }
+{
+    match task {
+        Err(Other::Ask(_)) | Err(Other::Leave) => false,
+        _ => true,
+    }
+}
+
+// How many of the first lines may be added at once.
+pub(crate) fn run_length(tasks: &[Result<Document, Other>]) -> usize
+    ensures most { result ≤ length tasks.now }
+    ensures run { AreRun (take result tasks.now) }
+{
+    for (at, task) in tasks.iter().enumerate() {
+        if !is_added(task) {
+            return at;
+        }
+    }
+    tasks.len()
+}
