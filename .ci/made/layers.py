@@ -32,14 +32,14 @@ def layers_of(below):
 
 
 def columns_of(below):
-    """The column of each crate, and none for those on which both sides stand."""
+    """The column of each crate, and none for those that stand on no crate, on which both sides do."""
     def all_below(name):
         return {name}.union(*(all_below(it) for it in below[name]))
 
     columns = {}
     for name in below:
         on = all_below(name)
-        columns[name] = 2 if on & LINES and on & INDEX else 1 if on & INDEX else 0 if on != {"eb_base"} else None
+        columns[name] = 2 if on & LINES and on & INDEX else 1 if on & INDEX else 0 if on != {name} else None
     return columns
 
 
