@@ -90,6 +90,15 @@ impl Terms {
         }
     }
 
+    /// No terms, with room for so many.
+    pub fn with_capacity(alloc: Global, room: usize) -> Result<Terms, NoMemory>
+        ensures { IfOk result (λ t. t ≡ []) }
+    {
+        Ok(Terms {
+            terms: Vec::with_capacity(alloc, room)?,
+        })
+    }
+
     /// Puts the term at the end. Without memory the list stays as it was, and the term is dropped.
     pub fn push(&mut self, term: Term) -> Result<(), NoMemory>
         ensures ok { OnOk result (self.new ≡ self.old ++ term ∷ []) }

@@ -1,5 +1,5 @@
 -- What a walk within a block leaves as it is.
-use Rattle.std.proofs.Common.{◌≡◌, refl, subst}
+use Rattle.std.proofs.Common.{◌≡◌, subst}
 use Rattle.eb_block.specs.declared.packed_list.PackedList.{PackedList}
 
 -- one after the other

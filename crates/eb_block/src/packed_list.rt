@@ -108,6 +108,10 @@ impl PackedList {
             → steps.new ≤ steps.old + (length rest - length (up_to most rest)) + 4 }
     {
         self.seek(port, most, steps);
+        if self.held {
+            self.held = false;
+            return Some(self.last);
+        }
         self.give(port, steps)
     }
 

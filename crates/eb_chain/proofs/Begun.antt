@@ -1,5 +1,5 @@
 -- Where a posting begins a slice, by a number of postings like that of its term.
-use Rattle.std.proofs.Common.{◌≡◌, ℕ, ◌+◌, ◌-◌, ◌*◌, ◌%◌, ◌≤◌, ◌==◌, ◌&&◌, Bool, refl, sym, ◌∙◌, arith, nat_le}
+use Rattle.std.proofs.Common.{◌≡◌, ℕ, ◌+◌, ◌-◌, ◌%◌, ◌==◌, ◌&&◌, ◌∙◌, arith, nat_le}
 use Rattle.std.proofs.lemmas.Bool.Decides.{nat_tests}
 use Rattle.eb_place.specs.Address.{pool_at, offset_at, slice_start, begins_in}
 use Rattle.eb_chain.specs.Needs.{HasLike}

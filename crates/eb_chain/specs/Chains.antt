@@ -2,7 +2,7 @@
 use Rattle.std.specs.Prelude.{◌≡◌, ℕ, zero, suc, ◌-◌, ◌<◌, ◌≤◌, ◌&&◌, List, [], ◌∷◌, length, take, reverse, Option, Some, None, if◌then◌else◌, nat_lt, nat_le}
 use Rattle.eb_base.specs.Term.{Term}
 use Rattle.eb_place.specs.declared.moment.Moment.{Moment}
-use Rattle.eb_place.specs.Layout.{address_pool, address_offset}
+use Rattle.eb_place.specs.Layout.{place, pool_slot, address_pool, address_offset}
 use Rattle.eb_place.specs.Postings.{postings}
 use Rattle.eb_place.specs.Address.{begins, pool_at}
 use Rattle.eb_place.specs.Seen.{segment, seen_count}
@@ -55,6 +55,11 @@ pub record IsWayBefore (a : ℕ) (w : Way) : Type 0 where
   pub second : address_pool a ≡ 0 → 1 ≤ address_offset a → w ≡ At (a - 1)
   pub linked : 1 ≤ address_pool a → address_offset a ≡ 1 → w ≡ Link (a - 1)
   pub within : 2 ≤ address_offset a → w ≡ At (a - 1)
+
+-- posting f of the term, which is seen, stands at this address, and that at this place of the words
+pub record IsPlaceOf (m : Moment) (s : ℕ) (t : Term) (f a at : ℕ) : Type 0 where
+  pub address : IsAddress m s t f a
+  pub is : at ≡ place m.setting (pool_slot s a)
 
 -- posting f of the term, which is seen, and its address
 pub record IsPosting (m : Moment) (s : ℕ) (t : Term) (f at value : ℕ) : Type 0 where

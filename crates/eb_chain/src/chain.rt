@@ -12,7 +12,7 @@ ghost use Rattle.eb_place.specs.Moments.{IsMoment};
 ghost use Rattle.eb_place.specs.Told.{Told};
 ghost use Rattle.eb_place.specs.Seen.{seen, seen_count};
 ghost use Rattle.eb_place.specs.Walk.{IsAddress, IsLink, IsTerm};
-ghost use Rattle.eb_chain.specs.Chains.{Stands, Given, next_loads, IsWay, IsWayBefore, IsPosting, IsWayOf};
+ghost use Rattle.eb_chain.specs.Chains.{Stands, Given, next_loads, IsWay, IsWayBefore, IsPlaceOf, IsPosting, IsWayOf};
 ghost use Rattle.eb_chain.specs.Leaps.{at_most, IsLeap, IsShort, LeadsTo, lead_loads};
 
 use crate::leaps::{Look, look_back, oldest_in_slice};
@@ -194,7 +194,7 @@ fn follow<P: Port, L: Ledger>(port: &mut P, segment: u32, link: u32, steps: &mut
 }
 
 // The posting at an address. Ticks one load.
-pub(crate) fn posting_in<P: Port, L: Ledger>(
+fn posting_in<P: Port, L: Ledger>(
     port: &mut P,
     segment: u32,
     address: u32,
@@ -206,5 +206,19 @@ pub(crate) fn posting_in<P: Port, L: Ledger>(
     ensures steps { steps.new ≡ steps.old + 1 }
 {
     let places = Places::new(port.config());
-    posting_in_word(port.load(places.posting_at(segment, address), steps))
+    posting_from(port, places.posting_at(segment, address), steps)
+}
+
+// The posting at the place of an address. Ticks one load.
+pub(crate) fn posting_from<P: Port, L: Ledger>(
+    port: &mut P,
+    place: u64,
+    steps: &mut Steps<L>,
+) -> Posting
+    requires { (m : Moment) × (s : ℕ) × (t : Term) × (f : ℕ) × (a : ℕ) × P.stands port.old m × IsPlaceOf m s t f a place }
+    ensures told { (s : ℕ) (t : Term) (f a : ℕ) → Told P.stands P.keeps port.old port.new (λ m. IsPlaceOf m s t f a place)
+        (λ n. IsPosting n s t f a result) }
+    ensures steps { steps.new ≡ steps.old + 1 }
+{
+    posting_in_word(port.load(place, steps))
 }

@@ -1,13 +1,13 @@
-//! Leaps within a slice: its postings stand one place after the other, and rise.
+//! Leaps within a slice: its postings stand one place after the other, and rise. The place of the first is computed once.
 ghost use Rattle.std.specs.Prelude.{◌≡◌, ℕ, ◌+◌, ◌-◌, ◌*◌, ◌<◌, ◌≤◌, ◌^◌};
 ghost use Rattle.eb_base.specs.Term.{Term};
 ghost use Rattle.eb_place.specs.declared.moment.Moment.{Moment};
 ghost use Rattle.eb_place.specs.Layout.{address_pool, address_offset};
 ghost use Rattle.eb_place.specs.Later.{IsNotBefore};
-ghost use Rattle.eb_chain.specs.Leaps.{IsRow, IsOldest, Between, IsNewest, IsLook, IsLookLoads};
+ghost use Rattle.eb_chain.specs.Leaps.{IsRow, IsRowAt, IsOldest, Between, IsNewest, IsLook, IsLookLoads};
 
-use crate::chain::posting_in;
-use eb_place::{Port, Posting, Steps, offset_of, pool_of};
+use crate::chain::posting_from;
+use eb_place::{Places, Port, Posting, Steps, offset_of, pool_of};
 use std::sync::ledger::Ledger;
 
 // A posting, and where in its slice it stands, counted from the slice's first.
@@ -60,38 +60,39 @@ pub(crate) fn look_back<P: Port, L: Ledger>(
         × IsLook m segment t b span most result }
     ensures loads { IsLookLoads span result steps.old steps.new }
 {
-    let first = posting_in(port, segment, oldest, steps);
+    let places = Places::new(port.config());
+    let place = places.posting_at(segment, oldest);
+    let first = posting_from(port, place, steps);
     if first > most {
         return Look::Above(first);
     }
-    let bounds = gallop(port, segment, oldest, span, first, most, steps);
-    Look::Within(halve(port, segment, oldest, span, bounds, most, steps))
+    let bounds = gallop(port, place, span, first, most, steps);
+    Look::Within(halve(port, place, span, bounds, most, steps))
 }
 
 // Leaps back from the newest posting, each leap twice as long as the one before, to one that is not above
 // `most`; `first` is the slice's first posting, which isn't.
 fn gallop<P: Port, L: Ledger>(
     port: &mut P,
-    segment: u32,
-    oldest: u32,
+    place: u64,
     span: u32,
     first: Posting,
     most: Posting,
     steps: &mut Steps<L>,
 ) -> Bounds
-    requires { (m : Moment) × (t : Term) × (b : ℕ) × P.stands port.old m × IsRow m segment t b oldest span
-        × Between m segment t b span most (record { low = 0; high = span + 1; found = first }) }
-    ensures told { (m : Moment) (t : Term) (b : ℕ) → P.stands port.old m → IsRow m segment t b oldest span
-        → Between m segment t b span most (record { low = 0; high = span + 1; found = first })
+    requires { (m : Moment) × (s : ℕ) × (t : Term) × (b : ℕ) × (o : ℕ) × P.stands port.old m × IsRowAt m s t b o span place
+        × Between m s t b span most (record { low = 0; high = span + 1; found = first }) }
+    ensures told { (m : Moment) (s : ℕ) (t : Term) (b o : ℕ) → P.stands port.old m → IsRowAt m s t b o span place
+        → Between m s t b span most (record { low = 0; high = span + 1; found = first })
         → (n : Moment) × P.stands port.new n × IsNotBefore n m × P.keeps port.old m port.new n
-        × Between m segment t b span most result }
+        × Between m s t b span most result }
     ensures loads { (i : ℕ) × (result.high + 2 ^ i ≡ span + 2) × (result.high ≤ result.low + 2 ^ i) × (steps.new ≤ steps.old + i + 1) }
 {
     let mut high = span + 1;
     let mut step = 1;
     while step < high {
         let at = high - step;
-        let posting = posting_in(port, segment, oldest + at, steps);
+        let posting = posting_from(port, place + u64::from(at), steps);
         if posting <= most {
             return Bounds {
                 low: at,
@@ -112,25 +113,24 @@ fn gallop<P: Port, L: Ledger>(
 // Halves what lies between the bounds until nothing does.
 fn halve<P: Port, L: Ledger>(
     port: &mut P,
-    segment: u32,
-    oldest: u32,
+    place: u64,
     span: u32,
     bounds: Bounds,
     most: Posting,
     steps: &mut Steps<L>,
 ) -> Found
-    requires { (m : Moment) × (l : Moment) × (t : Term) × (b : ℕ) × P.stands port.old m × IsRow m segment t b oldest span
-        × IsNotBefore m l × Between l segment t b span most bounds × IsRow l segment t b oldest span }
-    ensures told { (l : Moment) (m : Moment) (t : Term) (b : ℕ) → P.stands port.old m → IsNotBefore m l → IsRow l segment t b oldest span
-        → IsRow m segment t b oldest span → Between l segment t b span most bounds
+    requires { (m : Moment) × (l : Moment) × (s : ℕ) × (t : Term) × (b : ℕ) × (o : ℕ) × P.stands port.old m × IsRowAt m s t b o span place
+        × IsNotBefore m l × Between l s t b span most bounds × IsRowAt l s t b o span place }
+    ensures told { (l : Moment) (m : Moment) (s : ℕ) (t : Term) (b o : ℕ) → P.stands port.old m → IsNotBefore m l → IsRowAt l s t b o span place
+        → IsRowAt m s t b o span place → Between l s t b span most bounds
         → (n : Moment) × P.stands port.new n × IsNotBefore n m × P.keeps port.old m port.new n
-        × IsNewest l segment t b span most result × (result.at < bounds.high) }
+        × IsNewest l s t b span most result × (result.at < bounds.high) }
     ensures loads { (c : ℕ) → bounds.high ≤ bounds.low + 2 ^ c → steps.new ≤ steps.old + c }
 {
     let mut now = bounds;
     while now.high - now.low > 1 {
         let middle = now.low + (now.high - now.low) / 2;
-        let posting = posting_in(port, segment, oldest + middle, steps);
+        let posting = posting_from(port, place + u64::from(middle), steps);
         now = if posting <= most {
             Bounds {
                 low: middle,

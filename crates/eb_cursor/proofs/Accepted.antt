@@ -16,7 +16,7 @@ use Rattle.eb_place.specs.Layout.Region.{cell_region, tail_region}
 use Rattle.eb_place.specs.Postings.{postings, terms_of, distinct, count_of, number_of}
 use Rattle.eb_place.specs.Placing.{Store, pairs_of}
 use Rattle.eb_place.specs.Room.{cut, IsLawful}
-use Rattle.eb_place.specs.Moments.{IsMoment, current_of, document_stores, placings}
+use Rattle.eb_place.specs.Moments.{IsMoment, document_stores, placings}
 use Rattle.eb_place.specs.Later.{IsNotBefore, ReachesPacked}
 use Rattle.eb_place.specs.Seen.{segment, tails_done, seen_count, is_in, entered, IsEntered}
 use Rattle.std.proofs.lemmas.Slice.Eq.{bytes_eq-Decides}
@@ -28,7 +28,7 @@ use Rattle.eb_place.proofs.DictionaryOfTerms.{Behind}
 use Rattle.eb_place.proofs.EntryStores.{is_entry, entries, entries_picked}
 use Rattle.eb_place.proofs.RegionStores.{picks_all, count_none}
 use Rattle.eb_place.proofs.DictionaryAtMoment.{entered_done_is, cells_counted}
-use Rattle.eb_place.proofs.WordsAtMoment.{placed_all, lawful_front}
+use Rattle.eb_place.proofs.WordsAtMoment.{placed_all}
 use Rattle.eb_place.proofs.Prefixes.{prefix_self}
 use Rattle.eb_place.proofs.EnteredTerms.{is_entered_later}
 use Rattle.eb_place.proofs.ReachedLater.{later_reached}

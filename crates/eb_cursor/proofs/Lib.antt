@@ -2,6 +2,7 @@ pub mod Firsts
 pub mod Tellings
 pub mod Accepted
 pub mod Openings
+pub mod Absent
 pub mod Tops
 pub mod PostingsOf
 pub mod Leaves

@@ -1,18 +1,23 @@
 -- What an opened list gives: the postings of the accepted documents, and above them what came since.
-use Rattle.std.proofs.Common.{◌≡◌, ◌==◌, ℕ, Bool, true, false, zero, suc, ◌*◌, ◌<◌, ◌≤◌, inl, inr, List, [], ◌∷◌, ◌++◌, length, take, reverse, get_or, refl, ap, sym, ◌∙◌, subst, arith, append_assoc}
+use Rattle.std.proofs.Common.{◌≡◌, ◌==◌, ℕ, Bool, true, false, zero, suc, ◌+◌, ◌*◌, ◌<◌, ◌≤◌, inl, inr, List, [], ◌∷◌, ◌++◌, length, take, reverse, get_or, refl, ap, sym, ◌∙◌}
+use Rattle.std.proofs.Common.{subst, arith, append_assoc}
 use Rattle.std.proofs.lemmas.Bool.{cases_lt}
 use Rattle.std.proofs.lemmas.List.{length-append, take_all}
 use mathlib.Core.List.{IsPrefix}
 use Rattle.eb_place.proofs.NextStore.{accepted_lawful}
 use Rattle.eb_base.specs.Term.{Term}
 use Rattle.eb_base.specs.Document.{Doc}
+use Rattle.eb_base.specs.Query.{Tree, word as word_of}
+use Rattle.eb_base.specs.Match.{Matches}
+use Rattle.eb_base.proofs.Matching.{match_decides}
+use Rattle.std.proofs.lemmas.Bool.Decides.{nat_tests}
 use Rattle.eb_place.specs.declared.moment.Moment.{Moment}
 use Rattle.eb_place.specs.Postings.{places, postings, terms_of, count_of}
 use Rattle.eb_place.specs.Room.{cut}
 use Rattle.eb_place.specs.Moments.{IsMoment, with_current, word}
 use Rattle.eb_place.specs.Later.{IsNotBefore}
 use Rattle.eb_place.specs.Seen.{segment, seen, seen_count, IsEntered}
-use Rattle.eb_place.proofs.TermCounts.{count_of-append}
+use Rattle.eb_place.proofs.TermCounts.{count_of-append, any_count}
 use Rattle.eb_place.proofs.ReaderWords.{seen_is, reached_few}
 use Rattle.eb_place.proofs.EnoughPackedWords.{length-postings}
 use Rattle.eb_place.proofs.ReachedLater.{later_segment}
@@ -33,6 +38,7 @@ use Rattle.eb_chain.specs.declared.chain.Chain.{Chain}
 use Rattle.eb_cursor.specs.Lists.{from_below, IsDescending}
 use Rattle.eb_cursor.specs.Posted.{Narrow}
 use Rattle.eb_cursor.specs.Accepted.{accepted_in, AreFirst}
+use Rattle.eb_cursor.specs.Greatest.{MatchesAt}
 use Rattle.eb_cursor.specs.Opened.{CanRead, Opened}
 use Rattle.eb_cursor.specs.declared.posting_list.PostingList.TheVariants.{Empty, Live, Packed}
 use Rattle.eb_cursor.proofs.Accepted.{whole_moment, whole_segment, whole_before, seen_accepted, entered_accepted}
@@ -135,3 +141,34 @@ match_true b A B h e = subst (λ z. MatchBool z A B) e h
 pub match_not : (b : Bool) (A B : Type 0) → MatchBool b A B → (B → ⊥) → b ≡ true
 match_not true A B h away = refl
 match_not false A B h away = absurd (away h)
+
+-- ---- a term that isn't entered
+
+own_count : (t : Term) (d : Doc) → Matches (word_of t) d → 1 ≤ count_of t d.terms
+own_count t d h = let e = (match_decides (word_of t) d).1 h in let f = any_count t d.terms in grind (arith, nat_tests)
+
+count_cons : (t : Term) (d : Doc) (docs : List Doc) → count_of t (terms_of (d ∷ docs)) ≡ count_of t d.terms + count_of t (terms_of docs)
+unfolding terms_of
+count_cons t d docs = count_of-append t d.terms (terms_of docs)
+
+some_count : (t : Term) (docs : List Doc) (n : ℕ) → MatchesAt (word_of t) docs n → 1 ≤ count_of t (terms_of docs)
+some_count t [] n h = let e = h.1 in absurd cc
+some_count t (x ∷ xs) zero h = let e : h.0 ≡ x = (let f = h.1 in cc) in omega (arith, count_cons t x xs, own_count t x (subst (Matches (word_of t)) e h.2))
+some_count t (x ∷ xs) (suc n) h = omega (arith, count_cons t x xs, some_count t xs n h)
+
+at_some : (q : Tree) (docs : List Doc) (n : ℕ) → MatchesAt q docs n → 1 ≤ length docs
+at_some q [] n h = let e = h.1 in absurd cc
+at_some q (x ∷ xs) n h = omega arith
+
+-- stands in no accepted document
+pub absent_matches : (m : Moment) (s : ℕ) (docs : List Doc) (n : ℕ) (t : Term) → IsMoment m → (IsEntered m s t → ⊥) → IsPrefix docs (accepted_in m s) → MatchesAt (word_of t) docs n → ⊥
+absent_matches m s docs n t is away p h =
+    let a = are_first m s docs is (at_some (word_of t) docs n h) p in
+    away (entered_accepted m s t
+    (omega (
+      arith,
+      some_count t docs n h,
+      ap (λ (z : List Doc). count_of t (terms_of z)) (first_are m s docs a),
+      ap (count_of t) (terms_more docs a.rest),
+      count_of-append t (terms_of docs) (terms_of a.rest),
+    )))

@@ -1,8 +1,11 @@
 -- The greatest match among the documents of a segment.
-use Rattle.std.specs.Prelude.{◌≡◌, ℕ, ◌<◌, ◌≤◌, List, slice_get, Option, Some, None}
+use Rattle.std.specs.Prelude.{◌≡◌, ℕ, ◌<◌, ◌≤◌, Bool, true, false, List, get_or, slice_get, Option, Some, None}
+use mathlib.Core.List.{IsPrefix}
 use Rattle.eb_base.specs.Document.{Doc}
 use Rattle.eb_base.specs.Query.{Tree}
 use Rattle.eb_base.specs.Match.{Matches}
+use Rattle.eb_place.specs.declared.moment.Moment.{Moment}
+use Rattle.eb_cursor.specs.Accepted.{accepted_in}
 
 -- the document with this number is there, and the query matches it
 abbrev pub MatchesAt : Tree → List Doc → ℕ → Type 0
@@ -18,3 +21,7 @@ pub record IsGreatest (q : Tree) (docs : List Doc) (most n : ℕ) : Type 0 where
 abbrev pub IsGreatestMatch : Tree → List Doc → ℕ → Option ℕ → Type 0
 IsGreatestMatch q docs most None = (k : ℕ) → k ≤ most → MatchesAt q docs k → ⊥
 IsGreatestMatch q docs most (Some n) = IsGreatest q docs most n
+
+-- none of the documents that a segment of the moment holds matches, where the list says false of the segment
+abbrev pub AreLikely : Moment → Tree → List Bool → Type 0
+AreLikely m q likely = (s : ℕ) (docs : List Doc) (n : ℕ) → get_or likely s true ≡ false → IsPrefix docs (accepted_in m s) → MatchesAt q docs n → ⊥

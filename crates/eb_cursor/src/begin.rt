@@ -48,7 +48,7 @@ fn open_leaf<P: Port, L: Ledger>(
     ensures leaf { OpensIn P.stands P.keeps port.old port.new segment packed
         (λ docs n. IsLeaf (gives n) (is_posting docs term.now) result (places * length docs)) }
     ensures costs { (was : Moment) → Told P.stands P.keeps port.old port.new (λ m. IsReading was m segment packed)
-        (λ n. IsPaid (Costs n segment term.now result.list) steps.old (word_loads was n segment term.now) steps.new) }
+        (λ n. IsPaid (Costs n segment term.now result.list) steps.old (word_loads was n segment term.now) (steps.new + 1)) }
     ensures spans { Told P.stands P.keeps port.old port.new (λ m. IsReadAs m segment packed)
         (λ n. IsPaid (Spans n segment term.now result.list) steps.old (opening_loads n segment term.now + 2) steps.new) }
 {
@@ -148,7 +148,7 @@ pub fn begin_query<P: Port, L: Ledger>(
     ensures ready { BeginsIn P.stands P.keeps port.old port.new segment documents packed
         (λ docs n. Ready (gives n) docs (tree query.now) cursors.new (length docs)) }
     ensures costs { (was : Moment) (t : List ℕ) → tree query.now ≡ word t → Told P.stands P.keeps port.old port.new
-        (λ m. IsReading was m segment packed) (λ n. IsPaid (FirstCosts n segment t cursors.new) steps.old (word_loads was n segment t) steps.new) }
+        (λ m. IsReading was m segment packed) (λ n. IsPaid (FirstCosts n segment t cursors.new) steps.old (word_loads was n segment t) (steps.new + 1)) }
     ensures rounds { (docs : List Doc) (ts : List (List ℕ)) (t : List ℕ) → tree query.now ≡ conjunction (word_parts ts)
         → length docs ≡ documents → Told P.stands P.keeps port.old port.new (λ m. IsReadAs m segment packed)
         (λ n. IsPaid (AndOwes n segment docs ts t cursors.new) steps.old (and_loads n segment ts (documents_with docs t)) steps.new) }

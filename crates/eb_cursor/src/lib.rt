@@ -8,6 +8,7 @@ mod below;
 mod bound;
 mod cursor;
 mod frame;
+mod likely;
 mod phrase;
 mod posting_list;
 mod rarest;

@@ -56,7 +56,7 @@ impl PostingList {
         requires { CanOpen P.stands port.old segment packed }
         ensures opened { OpensIn P.stands P.keeps port.old port.new segment packed (λ docs n. Opened n docs term.now result) }
         ensures costs { (was : Moment) → Told P.stands P.keeps port.old port.new (λ m. IsReading was m segment packed)
-            (λ n. IsPaid (Costs n segment term.now result) steps.old (word_loads was n segment term.now) steps.new) }
+            (λ n. IsPaid (Costs n segment term.now result) steps.old (word_loads was n segment term.now) (steps.new + 1)) }
         ensures spans { Told P.stands P.keeps port.old port.new (λ m. IsReadAs m segment packed)
             (λ n. IsPaid (Spans n segment term.now result) steps.old (opening_loads n segment term.now) steps.new) }
     {

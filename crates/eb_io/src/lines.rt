@@ -16,8 +16,8 @@ use std::mem;
 /// kept (this project's profile, docs/FORMATS.md).
 pub const LONGEST_LINE: usize = 65_536;
 
-// The most bytes of a read.
-const PIECE: usize = 65_536;
+// The most bytes of a read: what waits is read at once, so that lines which may be taken together come together.
+const PIECE: usize = 1 << 20;
 
 const LF: u8 = 10;
 

@@ -1,5 +1,5 @@
 -- The accepted documents of a segment, at later moments too.
-use Rattle.std.proofs.Common.{◌≡◌, ℕ, ◌+◌, ◌<◌, ◌≤◌, ◌^◌, List, [], ◌++◌, length, drop, get_or, slice_get, Some, ap, sym, ◌∙◌, subst, arith}
+use Rattle.std.proofs.Common.{◌≡◌, ℕ, ◌+◌, ◌-◌, ◌<◌, ◌≤◌, ◌^◌, Bool, true, false, zero, suc, List, [], ◌∷◌, ◌++◌, length, drop, get_or, slice_get, Some, refl, ap, sym, ◌∙◌, subst, arith}
 use mathlib.Core.List.{IsPrefix}
 use Rattle.eb_place.proofs.NextStore.{accepted_lawful}
 use Rattle.eb_base.specs.Document.{Doc}
@@ -20,7 +20,11 @@ use Rattle.eb_cursor.specs.declared.frame.Frame.{Frame}
 use Rattle.eb_cursor.proofs.Bounds.{IsLow, first_is_low, loaded_first}
 use Rattle.eb_cursor.proofs.Openings.{are_first}
 use Rattle.eb_place.proofs.LaterMoments.{later_self}
-use Rattle.eb_search.specs.Visible.{AreFirsts, AreVisible, documents_before}
+use Rattle.eb_base.specs.Query.{Tree}
+use Rattle.eb_base.specs.Match.{answer}
+use Rattle.eb_cursor.specs.Greatest.{AreLikely}
+use Rattle.eb_search.proofs.Matches.{found_none, found_nothing}
+use Rattle.eb_search.specs.Visible.{AreFirsts, AreNone, AreVisible, documents_before}
 use Rattle.eb_search.proofs.Parts.{is_part, drop_segment}
 use Rattle.eb_search.proofs.Beginnings.{cut_short}
 
@@ -43,6 +47,24 @@ visible_later m n docs firsts begun l v = record {
   accepted = prefix_trans _ _ _ v.accepted l.documents.accepted;
   words = subst (λ σ. AreFirsts σ docs firsts begun) l.setting v.words;
 }
+
+-- and those of which none matches
+pub none_later : (m n : Moment) (docs : List Doc) (likely : List Bool) (q : Tree) → IsNotBefore n m → AreNone q (cut m.setting docs) likely → AreNone q (cut n.setting docs) likely
+none_later m n docs likely q l h = subst (λ (σ : Setting). AreNone q (cut σ docs) likely) l.setting h
+
+-- inside a list it's no matter what stands behind it
+pub inside_same : (xs : List Bool) (i : ℕ) → i < length xs → get_or xs i true ≡ get_or xs i false
+inside_same [] i h = absurd (omega (arith, h))
+inside_same (x ∷ xs) zero h = refl
+inside_same (x ∷ xs) (suc i) h = inside_same xs i (omega (arith, h))
+
+-- they are those that the cursors know of
+pub none_of : (m : Moment) (docs : List Doc) (likely : List Bool) (q : Tree) → IsPrefix docs m.documents.accepted → AreLikely m q likely → AreNone q (cut m.setting docs) likely
+none_of m docs likely q p h s k off =
+    let part : List Doc = get_or (cut m.setting docs) s [] in
+    let all : k - 0 ≡ k = omega arith in
+    ap (λ j. answer q j part) (sym all)
+    ∙ sym (found_none q k [] part (length part) [] (omega arith) (λ n low here. h s part n off (part_accepted m docs s p) here) (found_nothing q k [] part (length part) [] refl refl))
 
 -- and their numbers
 pub start_later : (m n : Moment) (docs : List Doc) (s start : ℕ) → IsNotBefore n m → start ≡ documents_before (cut m.setting docs) s → start ≡ documents_before (cut n.setting docs) s

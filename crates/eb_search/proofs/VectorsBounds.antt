@@ -1,5 +1,5 @@
 -- Bounds of an and of two words: how many documents have a word, the rarest of both, and the rounds that can still come.
-use Rattle.std.proofs.Common.{◌≡◌, ℕ, List, [], ◌∷◌, refl}
+use Rattle.std.proofs.Common.{◌≡◌, List, [], ◌∷◌, refl}
 use Rattle.eb_base.specs.Document.{Doc}
 use Rattle.eb_base.specs.Term.{Term}
 use Rattle.eb_cursor.specs.AndCosts.{documents_with, document_has, all_rounds_cost, call_loads}

@@ -1,7 +1,9 @@
 -- The segments of the first accepted documents.
-use Rattle.std.specs.Prelude.{◌≡◌, ℕ, ◌+◌, ◌<◌, List, length, take, get_or, sum_by}
+use Rattle.std.specs.Prelude.{◌≡◌, ℕ, ◌+◌, ◌<◌, Bool, true, false, List, [], length, take, get_or, sum_by}
 use mathlib.Core.List.{IsPrefix}
 use Rattle.eb_base.specs.Document.{Doc}
+use Rattle.eb_base.specs.Query.{Tree}
+use Rattle.eb_base.specs.Match.{answer}
 use Rattle.eb_base.specs.Setting.{Setting}
 use Rattle.eb_place.specs.declared.moment.Moment.{Moment}
 use Rattle.eb_place.specs.Room.{cut}
@@ -23,3 +25,7 @@ pub record AreVisible (m : Moment) (docs : List Doc) (firsts : List ℕ) (begun 
 -- at some moment that the port stands for, so many documents are accepted, and their segments are known
 abbrev pub CanWalk : {S : Type 0} → (S → Moment → Type 0) → S → ℕ → List ℕ → ℕ → Type 0
 CanWalk stands s count firsts begun = (m : Moment) × (docs : List Doc) × stands s m × (length docs ≡ count) × AreVisible m docs firsts begun
+
+-- no document of a segment matches of which the list says false
+abbrev pub AreNone : Tree → List (List Doc) → List Bool → Type 0
+AreNone q segs likely = (s k : ℕ) → get_or likely s true ≡ false → answer q k (get_or segs s []) ≡ []

@@ -1,5 +1,5 @@
 -- The generation that a turn lets go.
-use Rattle.std.proofs.Common.{◌≡◌, ℕ, zero, suc, ◌+◌, ◌<◌, ◌≤◌, List, [], ◌∷◌, ◌++◌, length, min, reverse, get_or, Option, None, Some, MatchOption, IfSome, refl, ap, sym, ◌∙◌, subst, arith, length-append}
+use Rattle.std.proofs.Common.{◌≡◌, ℕ, zero, suc, ◌<◌, ◌≤◌, List, [], ◌∷◌, ◌++◌, length, min, reverse, get_or, Option, None, Some, MatchOption, IfSome, ap, sym, ◌∙◌, arith, length-append}
 use Rattle.std.proofs.lemmas.List.{reverse-append}
 use Rattle.eb_base.specs.Document.{Doc}
 use Rattle.eb_table.specs.Known.{Words}

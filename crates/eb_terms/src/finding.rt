@@ -2,10 +2,11 @@
 //!
 //! A filled cell is one whose word isn't 0; the run from the home cell counts at most all cells. None is answered
 //! where all cells were come round; a free one is always met earlier.
-ghost use Rattle.std.specs.Prelude.{◌≡◌, ◌+◌, ◌*◌, ◌<◌, ◌≤◌, ◌↔◌, IsTrue};
+ghost use Rattle.std.specs.Prelude.{◌≡◌, ◌+◌, ◌*◌, ◌<◌, ◌≤◌, ◌↔◌, IsTrue, false};
 ghost use Rattle.eb_place.specs.declared.moment.Moment.{Moment};
 ghost use Rattle.eb_place.specs.Placing.{text_of};
 ghost use Rattle.eb_place.specs.Later.{IsNotBefore};
+ghost use Rattle.eb_place.specs.Seen.{IsEntered};
 ghost use Rattle.eb_place.specs.Told.{Told};
 ghost use Rattle.eb_terms.specs.Finding.{IsAnswer, most_finding_loads};
 ghost use Rattle.eb_terms.specs.Comparing.{IsNumber, term_at, words_compared};
@@ -21,8 +22,8 @@ use std::sync::ledger::Ledger;
 /// project's profile, docs/FORMATS.md).
 ///
 /// A number is that of the term at the moment on exit, at which it is entered. None comes only where the
-/// term isn't entered at the moment on entry, also where words grow between two loads. The loads are at
-/// most `(r + 1) * (3 + w)`, with `r` the filled cells that follow each other from the home cell, wrapping,
+/// term isn't entered at the moment on entry, also where words grow between two loads. The loads are
+/// fewer than `(r + 1) * (3 + w)`, with `r` the filled cells that follow each other from the home cell, wrapping,
 /// at the moment on exit, and `w` the text words of the term. Takes no memory.
 pub fn find<P: Port, L: Ledger>(
     port: &mut P,
@@ -33,7 +34,7 @@ pub fn find<P: Port, L: Ledger>(
     requires { (m : Moment) × P.stands port.old m × (segment < m.setting.segments) }
     ensures told { (m : Moment) → P.stands port.old m
         → (n : Moment) × P.stands port.new n × IsNotBefore n m × P.keeps port.old m port.new n
-        × IsAnswer m n segment term.now result × (steps.new ≤ steps.old + most_finding_loads n segment term.now) }
+        × IsAnswer m n segment term.now result × (steps.new < steps.old + most_finding_loads n segment term.now) }
 {
     let cells = 2 * port.config().terms();
     let first = home(term, cells);
@@ -47,6 +48,27 @@ pub fn find<P: Port, L: Ledger>(
         }
     }
     None
+}
+
+/// Whether a term may be entered in a segment: whether its home cell is filled. Where it isn't, the term isn't
+/// entered at the moment on exit. One load, and `find` makes one less than it may. Takes no memory.
+pub fn may_be_entered<P: Port, L: Ledger>(
+    port: &mut P,
+    segment: u32,
+    term: &Term,
+    steps: &mut Steps<L>,
+) -> bool
+    requires { (m : Moment) × P.stands port.old m × (segment < m.setting.segments) }
+    ensures told { (m : Moment) → P.stands port.old m
+        → (n : Moment) × P.stands port.new n × IsNotBefore n m × P.keeps port.old m port.new n × (result ≡ false → IsEntered n segment term.now → ⊥) }
+    ensures step { steps.new ≡ steps.old + 1 }
+{
+    let cells = 2 * port.config().terms();
+    let first = home(term, cells);
+    let Some(_) = number_in(port, segment, first, steps) else {
+        return false;
+    };
+    true
 }
 
 // Whether the entered term of this number is the given one: the lengths are compared first, then the words

@@ -10,6 +10,6 @@ mod loads;
 mod texts;
 
 pub use entering::enter;
-pub use finding::find;
+pub use finding::{find, may_be_entered};
 pub use hashing::home;
 pub use texts::count_words;

@@ -18,7 +18,7 @@ use unicode_segmentation::UnicodeSegmentation;
 pub fn tokens(alloc: Global, text: &str) -> Result<Terms, NoMemory>
     ensures { IfOk result (λ terms. terms ≡ tokens_of text.now) }
 {
-    let mut terms = Terms::new(alloc);
+    let mut terms = Terms::with_capacity(alloc, text.len() / 6 + 1)?;
     for word in text.unicode_words() {
         let term = folded_term(alloc, word)?;
         terms.push(term)?;

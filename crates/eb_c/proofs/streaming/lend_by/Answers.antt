@@ -1,5 +1,4 @@
 use Rattle.std.proofs.Common.{◌≡◌, Some, inl, inr, refl, sym, ◌∙◌}
-use Rattle.eb_c.specs.declared.held.Held.{Held}
 use Rattle.eb_c.specs.declared.held.Held.TheVariants.{Spare}
 use Rattle.eb_c.proofs.streaming.lend_by.Goals as goal
 

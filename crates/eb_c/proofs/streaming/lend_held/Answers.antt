@@ -1,7 +1,6 @@
 use Rattle.std.proofs.Common.{◌≡◌, ap, sym, ◌∙◌}
 use Rattle.eb_stream.specs.Turns.{WriterToken}
 use Rattle.eb_table.specs.Known.{Words}
-use Rattle.eb_c.specs.declared.held.Held.{Held}
 use Rattle.eb_c.specs.declared.held.Held.TheVariants.{Leader, Spare}
 use Rattle.eb_c.proofs.streaming.lend_held.Goals as goal
 

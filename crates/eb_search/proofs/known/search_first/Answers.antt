@@ -1,4 +1,4 @@
-use Rattle.std.proofs.Common.{length, take, drop}
+use Rattle.std.proofs.Common.{take, drop}
 use Rattle.std.proofs.lemmas.List.{take-append-drop, length-take-le}
 use Rattle.eb_place.proofs.LaterMoments.{later_on}
 use Rattle.eb_search.proofs.known.search_first.Goals as goal
