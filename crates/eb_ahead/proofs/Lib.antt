@@ -4,3 +4,4 @@ pub mod Running
 pub mod Waitings
 pub mod Pieces
 pub mod HeldLines
+pub mod VectorsLines

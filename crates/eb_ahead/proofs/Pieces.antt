@@ -4,14 +4,9 @@ use Rattle.std.specs.Prelude.{Some, slice_get}
 use Rattle.std.specs.List.{AllZip}
 use Rattle.std.proofs.lemmas.List.{take-take, drop-take, take_more, get_or-drop}
 use Rattle.std.proofs.lemmas.Option.{get_or_from_slice_get}
+use Rattle.rayon.proofs.ListFacts.{AllZip-append}
 
 module _ {X Y : Type 0} (R : X → Y → Type 0) where
-  pub zip_behind : (xs zs : List X) (ys ws : List Y) → AllZip R xs ys → AllZip R zs ws → AllZip R (xs ++ zs) (ys ++ ws)
-  zip_behind [] zs [] ws h k = k
-  zip_behind [] zs (y ∷ ys) ws h k = absurd h
-  zip_behind (x ∷ xs) zs [] ws h k = absurd h
-  zip_behind (x ∷ xs) zs (y ∷ ys) ws h k = (h.0, zip_behind xs zs ys ws h.1 k)
-
   take_both : (n m : ℕ) (xs : List X) → take n xs ++ take m (drop n xs) ≡ take (n + m) xs
   take_both n m xs =
       let all = take (n + m) xs in
@@ -19,7 +14,7 @@ module _ {X Y : Type 0} (R : X → Y → Type 0) where
 
   -- a piece more
   pub next_piece : (n m : ℕ) (xs : List X) (ys zs : List Y) → AllZip R (take n xs) ys → AllZip R (take m (drop n xs)) zs → AllZip R (take (n + m) xs) (ys ++ zs)
-  next_piece n m xs ys zs h k = subst (λ ws. AllZip R ws (ys ++ zs)) (take_both n m xs) (zip_behind (take n xs) (take m (drop n xs)) ys zs h k)
+  next_piece n m xs ys zs h k = subst (λ ws. AllZip R ws (ys ++ zs)) (take_both n m xs) (AllZip-append R (take n xs) (take m (drop n xs)) ys zs h k)
 
   -- one more, from a place on
   pub next_one : (xs : List X) (from k : ℕ) (x : X) (y : Y) (ys : List Y) → from + k < length xs → slice_get xs (from + k) ≡ Some x → R x y
@@ -28,4 +23,4 @@ module _ {X Y : Type 0} (R : X → Y → Type 0) where
       let at : get_or (drop from xs) k x ≡ x = get_or-drop from xs k x ∙ get_or_from_slice_get xs (from + k) x x is in
       let more : take (k + 1) (drop from xs) ≡ take k (drop from xs) ++ x ∷ [] =
       take_more (drop from xs) k x (omega (arith, length-drop from xs, low)) ∙ ap (λ z. take k (drop from xs) ++ z ∷ []) at in
-      subst (λ ws. AllZip R ws (ys ++ y ∷ [])) (sym more) (zip_behind (take k (drop from xs)) (x ∷ []) ys (y ∷ []) h (one, tt))
+      subst (λ ws. AllZip R ws (ys ++ y ∷ [])) (sym more) (AllZip-append R (take k (drop from xs)) (x ∷ []) ys (y ∷ []) h (one, tt))

@@ -20,10 +20,10 @@ use Rattle.eb_lines.specs.Reading.{Reading, blank, document, refused}
 use Rattle.eb_lines.specs.Text.{watch_line}
 use Rattle.eb_ahead.specs.declared.reading.Other.{Other}
 use Rattle.eb_ahead.specs.declared.reading.Other.TheVariants.{Blank, Ask, Refuse, Leave}
-use Rattle.eb_ahead.specs.Placed.{IsHoldingFor, outcome, docs_with, outcomes_of, docs_after, PlacesAll}
+use Rattle.eb_ahead.specs.Placed.{IsHoldingFor, item_refusal, docs_with, item_refusals, docs_after, PlacesAll}
 use Rattle.eb_ahead.specs.Runs.{TakesRun}
 use Rattle.eb_ahead.specs.Tasks.{IsTaskOf, is_run_task, AreRun, cause, cause_line, one_cause, run_text, run_refused}
-use Rattle.eb_ahead.proofs.Placings.{outcomes_long}
+use Rattle.eb_ahead.proofs.Placings.{item_refusals_long}
 use Rattle.eb_ahead.proofs.RunTasks.{reads_raw, run_refused_le}
 
 -- what a store should hold
@@ -76,8 +76,8 @@ module _ {G S W : Type 0} (other : List (List ℕ) → List ℕ → Reading → 
         (ap (λ ds. ds ++ []) h.store.0, h.store.1) refl few (omega arith) refl
 
     pub line_more : (docs : List Doc) (task : Result Doc Other) → IsTaskOf (names s.fields) l task → is_run_task task ≡ true → Counts docs ws n f given so_far
-        → Counts (docs_with rules docs task) ws (n + 1) (f + one_cause (cause task (outcome rules docs task))) (given ++ l ∷ [])
-        (so_far ++ cause_line rules.form (n + 1) (cause task (outcome rules docs task)))
+        → Counts (docs_with rules docs task) ws (n + 1) (f + one_cause (cause task (item_refusal rules docs task))) (given ++ l ∷ [])
+        (so_far ++ cause_line rules.form (n + 1) (cause task (item_refusal rules docs task)))
     line_more docs (Ok d) is run h = document_more docs d (rules.refusal docs d) refl is h
     line_more docs (Err Blank) is run h =
         one_more other stands (counting s docs ws n f) (counting s docs ws (n + 1) (f + 0)) rules given so_far l blank h (reads_raw other (names s.fields) l (Err Blank) (λ x. x) is) refl blank refl
@@ -90,22 +90,23 @@ module _ {G S W : Type 0} (other : List (List ℕ) → List ℕ → Reading → 
 
   lines_more : (ws : W) (none : (d : Doc) → rules.tells ws d ≡ []) (docs : List Doc) (n f : ℕ) (given : List Line) (so_far : List ℕ) (lines : List Line) (tasks : List (Result Doc Other))
       → AllZip (IsTaskOf (names s.fields)) lines tasks → AreRun tasks → n + length tasks ≤ 2 ^ 40 + 1 → Counts docs ws n f given so_far
-      → Counts (docs_after rules docs tasks) ws (n + length tasks) (f + run_refused tasks (outcomes_of rules docs tasks)) (given ++ lines)
-      (so_far ++ run_text rules.form n tasks (outcomes_of rules docs tasks))
-  unfolding docs_after outcomes_of run_text run_refused
+      → Counts (docs_after rules docs tasks) ws (n + length tasks) (f + run_refused tasks (item_refusals rules docs tasks)) (given ++ lines)
+      (so_far ++ run_text rules.form n tasks (item_refusals rules docs tasks))
+  unfolding docs_after item_refusals run_text run_refused
   lines_more ws none docs n f given so_far [] [] zip run few h =
       counts_as docs ws n (n + 0) f (f + 0) given (given ++ []) so_far (so_far ++ []) (omega arith) (omega arith) (sym (append-nil given)) (sym (append-nil so_far)) h
   lines_more ws none docs n f given so_far [] (t ∷ ts) zip run few h = absurd zip
   lines_more ws none docs n f given so_far (l ∷ ls) [] zip run few h = absurd zip
   lines_more ws none docs n f given so_far (l ∷ ls) (t ∷ ts) zip run few h =
-      let o = outcome rules docs t in
+      let o = item_refusal rules docs t in
       let own = cause_line rules.form (n + 1) (cause t o) in
       let one = one_cause (cause t o) in
       let next = docs_with rules docs t in
-      let rest = run_text rules.form (n + 1) ts (outcomes_of rules next ts) in
+      let rest = run_text rules.form (n + 1) ts (item_refusals rules next ts) in
       let first = line_more ws none n f given so_far l (omega (arith, few)) docs t zip.0 run.0 h in
       let all = lines_more ws none next (n + 1) (f + one) (given ++ l ∷ []) (so_far ++ own) ls ts zip.1 run.1 (omega (arith, few)) first in
-      counts_as (docs_after rules next ts) ws (n + 1 + length ts) (n + length (t ∷ ts)) (f + one + run_refused ts (outcomes_of rules next ts)) (f + (one + run_refused ts (outcomes_of rules next ts)))
+      let more = run_refused ts (item_refusals rules next ts) in
+      counts_as (docs_after rules next ts) ws (n + 1 + length ts) (n + length (t ∷ ts)) (f + one + more) (f + (one + more))
       ((given ++ l ∷ []) ++ ls) (given ++ l ∷ ls) ((so_far ++ own) ++ rest) (so_far ++ (own ++ rest)) (omega arith) (omega arith) (append_assoc given (l ∷ []) ls) (append_assoc so_far own rest) all
 
 module _ {G S W : Type 0} (other : List (List ℕ) → List ℕ → Reading → Type 0) (holds : S → Rules W → List Doc → W → Type 0) where
@@ -129,7 +130,7 @@ module _ {G S W : Type 0} (other : List (List ℕ) → List ℕ → Reading → 
         printed = h.printed;
       } in
       let after = lines_more other old rules ws (none rules docs ws h.store) docs old.number old.refused given so_far lines tasks zip run few before in (
-        run_text rules.form old.number tasks (outcomes_of rules docs tasks),
+        run_text rules.form old.number tasks (item_refusals rules docs tasks),
         record {
           readings = after.readings;
           fields = same ∙ after.fields;
@@ -162,7 +163,7 @@ module _ {G S W : Type 0} (other : List (List ℕ) → List ℕ → Reading → 
     outcomes_many new tasks rs places =
         let rules = r.0 in
         let docs = held_behind rules r.3.readings in
-        ap length (places rules docs (watches_behind rules r.3.readings) r.3.store).0 ∙ outcomes_long rules docs tasks
+        ap length (places rules docs (watches_behind rules r.3.readings) r.3.store).0 ∙ item_refusals_long rules docs tasks
 
     pub refused_fit : (n : ℕ) (tasks : List (Result Doc Other)) (rs : List (Option Refusal)) → n ≡ run_refused tasks rs → s.number + length tasks ≤ 2 ^ 40 + 1 → s.refused + n ≤ 2 ^ 40 + 1
     refused_fit n tasks rs is few = omega (arith, is, few, run_refused_le tasks rs, few_refused other holds s r.0 r.1 r.2 r.3)

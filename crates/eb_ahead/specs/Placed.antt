@@ -14,9 +14,9 @@ pub record IsHoldingFor {P W : Type 0} (holds : P → Rules W → List Doc → W
   pub few : length docs + more ≤ length rules.start + 2 ^ 41
 
 -- why an item is refused after these documents, if it is a document that is
-abbrev pub outcome : {E W : Type 0} → Rules W → List Doc → Result Doc E → Option Refusal
-outcome rules docs (Ok d) = rules.refusal docs d
-outcome rules docs (Err e) = None
+abbrev pub item_refusal : {E W : Type 0} → Rules W → List Doc → Result Doc E → Option Refusal
+item_refusal rules docs (Ok d) = rules.refusal docs d
+item_refusal rules docs (Err e) = None
 
 -- what is held behind it
 abbrev pub docs_with : {E W : Type 0} → Rules W → List Doc → Result Doc E → List Doc
@@ -24,9 +24,9 @@ docs_with rules docs (Ok d) = docs ++ documents_in (document_outcome d (rules.re
 docs_with rules docs (Err e) = docs
 
 -- the same of items, each after those before it
-unfoldable pub outcomes_of : {E W : Type 0} → Rules W → List Doc → List (Result Doc E) → List (Option Refusal)
-outcomes_of rules docs [] = []
-outcomes_of rules docs (item ∷ items) = outcome rules docs item ∷ outcomes_of rules (docs_with rules docs item) items
+unfoldable pub item_refusals : {E W : Type 0} → Rules W → List Doc → List (Result Doc E) → List (Option Refusal)
+item_refusals rules docs [] = []
+item_refusals rules docs (item ∷ items) = item_refusal rules docs item ∷ item_refusals rules (docs_with rules docs item) items
 
 unfoldable pub docs_after : {E W : Type 0} → Rules W → List Doc → List (Result Doc E) → List Doc
 docs_after rules docs [] = docs
@@ -35,9 +35,9 @@ docs_after rules docs (item ∷ items) = docs_after rules (docs_with rules docs 
 -- what came of an item is this
 abbrev pub PlacesItem : {E P W : Type 0} → (P → Rules W → List Doc → W → Type 0) → P → P → Result Doc E → Option Refusal → Type 0
 PlacesItem {E} {P} {W} holds old new item r = (rules : Rules W) (docs : List Doc) (ws : W) → holds old rules docs ws
-    → (r ≡ outcome rules docs item) × holds new rules (docs_with rules docs item) ws
+    → (r ≡ item_refusal rules docs item) × holds new rules (docs_with rules docs item) ws
 
 -- the documents among the items were added in order, and these are the causes of those that are refused
 abbrev pub PlacesAll : {E P W : Type 0} → (P → Rules W → List Doc → W → Type 0) → P → P → List (Result Doc E) → List (Option Refusal) → Type 0
 PlacesAll {E} {P} {W} holds old new items rs = (rules : Rules W) (docs : List Doc) (ws : W) → holds old rules docs ws
-    → (rs ≡ outcomes_of rules docs items) × holds new rules (docs_after rules docs items) ws
+    → (rs ≡ item_refusals rules docs items) × holds new rules (docs_after rules docs items) ws

@@ -119,8 +119,8 @@ module _ (fields : List (List ℕ)) (parts : ℕ) (σ : Setting) (form : Form) (
 
   -- what came of each
   pub outcomes_same : {E : Type 0} (words : List Words) (docs : List Doc) (xs : List (Result Doc E))
-      → map (option_map refused_by) (adding.outcomes_of σ (writer_of words parts docs) xs) ≡ placed.outcomes_of by_rules docs xs
-  unfolding placed.outcomes_of adding.outcomes_of
+      → map (option_map refused_by) (adding.outcomes_of σ (writer_of words parts docs) xs) ≡ placed.item_refusals by_rules docs xs
+  unfolding placed.item_refusals adding.outcomes_of
   outcomes_same words docs [] = refl
   outcomes_same words docs (Ok d ∷ xs) =
       let w = writer_of words parts docs in

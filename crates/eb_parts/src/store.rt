@@ -12,7 +12,7 @@ ghost use Rattle.eb_place.specs.Room.{cut};
 ghost use Rattle.eb_indexed.specs.Conversions.{most_converted};
 ghost use Rattle.eb_lines.specs.declared.form.Form.{Form};
 ghost use Rattle.eb_parts.specs.AcceptedInParts.{refused_by};
-ghost use Rattle.eb_ahead.specs.Placed.{outcomes_of, docs_after};
+ghost use Rattle.eb_ahead.specs.Placed.{item_refusals, docs_after};
 ghost use Rattle.eb_parts.specs.Stores.{Holds, WithPlaced};
 ghost use Rattle.eb_parts.specs.Texts.{parts_rules};
 
@@ -117,7 +117,7 @@ impl Store {
     ) -> Result<Vec<Option<Refusal>>, NoMemory>
         requires { (parts : ℕ) × (σ : Setting) × (docs : List Doc) × Holds self.old parts σ docs }
         ensures outcomes { IfOk result (λ r. (fields : List (List ℕ)) (parts : ℕ) (σ : Setting) (form : Form) (docs : List Doc) → Holds self.old parts σ docs
-            → r.items ≡ outcomes_of (parts_rules fields parts σ form) docs items.now) }
+            → r.items ≡ item_refusals (parts_rules fields parts σ form) docs items.now) }
         ensures holds { OnOk result ((fields : List (List ℕ)) (parts : ℕ) (σ : Setting) (form : Form) (docs : List Doc) → Holds self.old parts σ docs
             → Holds self.new parts σ (docs_after (parts_rules fields parts σ form) docs items.now)) }
         ensures unchanged { OnErr result (self.new ≡ self.old) }
