@@ -3,7 +3,8 @@
  *
  *     threads shared|stream SEARCHING SECONDS    the seconds, the adds, and the searches of each thread. It goes in rounds of MESSAGES
  *                                                for so many seconds at least, each over a new index or feed
- *     threads feed SEARCHING ADDS                of one feed with so many adds also the pause of each, and the memory: see below
+ *     threads feed SEARCHING ADDS                of one feed with so many adds also the pause of each, those that begin a generation, and the
+ *                                                memory: see below
  *     threads lent SEARCHING ADDS                the same of a feed that is lent the index of each next generation, which another thread opens;
  *                                                that thread also closes the generations that are let go
  *     threads whole SEARCHING ADDS               the same of a feed whose first generation has room for all: no other is begun
@@ -110,7 +111,11 @@ static double round_of(struct searching *searching, size_t number) {
  * the middle, sleeps through the second half: so the memory at the end is that of a feed with one that sleeps. It asks again then.
  * Where indexes are lent, the thread that adds tries it before each LENDING_th add, and takes what was let go; that is a part of its pause.
  * The other thread opens an index where one is wanted, and then closes what was let go: meanwhile the followers that search have asked
- * again, so it is the last who holds that generation, and gives its memory back. */
+ * again, so it is the last who holds that generation, and gives its memory back.
+ *
+ * A turn is an add that begins a generation. Here that is the add after each GENERATION adds, since no other room of a segment runs out
+ * before that for its documents; the leader is asked before and after it whether it is so. The turn opens an index where none was lent
+ * since the last turn. */
 
 #define LENDING 1024
 #define NAPPING 100
@@ -119,6 +124,7 @@ static double round_of(struct searching *searching, size_t number) {
 #define DOCS 4096
 #define TERMS 8192
 #endif
+#define GENERATION ((uint64_t)SEGMENTS * DOCS)
 #ifndef WHOLE
 #define WHOLE 62 /* segments, where one generation has room for all */
 #endif
@@ -131,6 +137,11 @@ struct pauses {
 };
 
 static struct pauses by_the_clock, of_the_processor;
+
+/* How many adds were turns, how many of them opened an index, and the longest of them. */
+struct turns {
+    uint64_t adds, opened, longest, of_the_processor;
+};
 
 static uint64_t nanoseconds(clockid_t clock) {
     struct timespec now;
@@ -216,10 +227,18 @@ static void *open_and_close(void *argument) {
     return argument;
 }
 
+/* Whether the leader was lent an index since the last turn: only the thread that adds knows. */
+static int has_lent;
+
 /* Lends the index that is there, and takes what the leader let go. Where the leader had no index, another is wanted. */
 static void lend(struct eb_handle *leader) {
     if (atomic_load(&there)) {
         expect("lending", eb_leader_lend(leader, &spare));
+        if ((spare.kind != 0) != has_lent) {
+            fprintf(stderr, "threads: the leader %s an index\n", has_lent ? "lost" : "opened no generation in");
+            exit(1);
+        }
+        has_lent = 1;
         if (spare.kind == 0)
             atomic_store(&there, 0);
     }
@@ -228,6 +247,33 @@ static void lend(struct eb_handle *leader) {
         if (released.kind != 0)
             atomic_store(&let_go, 1);
     }
+}
+
+/* Whether the leader began a generation since it was asked last: then, and only then, it makes a converter, which isn't used. */
+static int has_begun(struct eb_handle *leader) {
+    struct eb_handle converter = {NULL, 0};
+    expect("asking for a converter", eb_leader_converter(leader, &converter));
+    int begun = converter.kind != 0;
+    eb_close(&converter);
+    return begun;
+}
+
+/* Ends where the leader began a generation since it was asked last, and none was to be begun; or began none, and one was. */
+static void expect_begun(struct eb_handle *leader, int wanted, uint64_t adds) {
+    if (has_begun(leader) == wanted)
+        return;
+    fprintf(stderr, "threads: after %" PRIu64 " adds a generation was begun %s\n", adds, wanted ? "too late" : "too soon");
+    exit(1);
+}
+
+static void count_turn(struct turns *turns, uint64_t pause, uint64_t processor) {
+    turns->adds++;
+    turns->opened += !has_lent;
+    has_lent = 0;
+    if (pause > turns->longest)
+        turns->longest = pause;
+    if (processor > turns->of_the_processor)
+        turns->of_the_processor = processor;
 }
 
 static void print_pauses(const char *before, const struct pauses *pauses, uint64_t adds) {
@@ -240,12 +286,14 @@ static void measure_feed(struct searching *searching, size_t number, uint64_t ad
     struct eb_handle leader = {NULL, 0}, sleeper = {NULL, 0};
     pthread_t opener;
     pthread_t threads[MOST_SEARCHING];
+    struct turns turns = {0};
     uint64_t memory[4] = {0}, slept = 0, woken, held, used = 0;
     if (whole)
         expect("opening", eb_stream_open(&leader, WHOLE, (uint32_t)(adds / WHOLE + 1), TERMS, 4));
     else
         expect("opening", eb_stream_open(&leader, SEGMENTS, DOCS, TERMS, 4));
     memory[0] = resident();
+    expect_begun(&leader, 1, 0);
     if (lends && pthread_create(&opener, NULL, open_and_close, NULL) != 0)
         exit(1);
     pthread_barrier_init(&ready, NULL, (unsigned)number + 1);
@@ -259,6 +307,9 @@ static void measure_feed(struct searching *searching, size_t number, uint64_t ad
     double begun = seconds();
     for (uint64_t n = 0; n < adds; n++) {
         size_t at = n % MESSAGES;
+        int turn = !whole && n > 0 && n % GENERATION == 0;
+        if (turn)
+            expect_begun(&leader, 0, n);
         if (n == adds / 2) {
             slept = asked(&sleeper);
             memory[1] = resident();
@@ -271,11 +322,19 @@ static void measure_feed(struct searching *searching, size_t number, uint64_t ad
         if (lends && n % LENDING == 0)
             lend(&leader);
         expect("an add", eb_leader_add_text(&leader, n, (const unsigned char *)texts[at], lengths[at]));
-        count(&by_the_clock, nanoseconds(CLOCK_MONOTONIC) - before);
-        if (paced)
-            count(&of_the_processor, nanoseconds(CLOCK_THREAD_CPUTIME_ID) - used);
+        uint64_t pause = nanoseconds(CLOCK_MONOTONIC) - before, processor = 0;
+        count(&by_the_clock, pause);
+        if (paced) {
+            processor = nanoseconds(CLOCK_THREAD_CPUTIME_ID) - used;
+            count(&of_the_processor, processor);
+        }
+        if (turn) {
+            expect_begun(&leader, 1, n + 1);
+            count_turn(&turns, pause, processor);
+        }
     }
     double took = seconds() - begun;
+    expect_begun(&leader, 0, adds);
     atomic_store(&over, 1);
     memory[2] = resident();
     for (size_t at = 0; at < number; at++) {
@@ -305,6 +364,11 @@ static void measure_feed(struct searching *searching, size_t number, uint64_t ad
     print_pauses(", \"pauses, ns\": {", &by_the_clock, adds);
     if (paced)
         print_pauses(", \"of the processor, ns\": {", &of_the_processor, adds);
+    printf(", \"turns\": {\"adds\": %" PRIu64 ", \"opened\": %" PRIu64, turns.adds, turns.opened);
+    printf(", \"longest, ns\": %" PRIu64, turns.longest);
+    if (paced)
+        printf(", \"of the processor, ns\": %" PRIu64, turns.of_the_processor);
+    printf("}");
     printf(", \"pauses below, ns\": {");
     uint64_t below = 0;
     const char *comma = "";

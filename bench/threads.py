@@ -16,13 +16,17 @@ where an add that begins a generation opens its index, and then where another th
 closes what is let go; then a tenth of the adds in each way, at a pace at which opening keeps up, and into one generation that has room
 for all: five such runs of each, of which the one is told in full whose longest add took the middle of their processor times, and of
 all the longest add, by the clock and by the processor time of the thread that adds, since the machine's own pauses are in the former.
-Of the pauses of the adds it tells the 50th, the 99th and the 99.9th of 100 and the longest, and of the memory what is resident after
+And once 3,500,000 adds at that pace, none searching, of a feed that is lent indexes of the greatest setting for a million documents:
+1,009 MiB each, where 1 GiB is the most. It begins three generations, and takes 7 GiB of memory.
+
+Of the pauses of the adds it tells the 50th, the 99th and the 99.9th of 100 and the longest; of the adds that began a generation how
+many there were, how many of them had no lent index and opened one, and the longest; and of the memory what is resident after
 opening, in the middle, at the end, and once the follower that slept has asked again; and the most at any time.
 
 With --check nothing is measured: for S seconds two followers ask a feed of small generations, which begins some hundred a second, and nap in
 between, and each answer is compared with a plain scan. The status is 1 where one was wrong.
 
---table prints what --json has written as a table of docs/PERFORMANCE.md, and measures nothing.
+--table prints what --json has written as the tables of docs/PERFORMANCE.md, and measures nothing.
 """
 import argparse
 import itertools
@@ -32,6 +36,7 @@ import platform
 import subprocess
 import sys
 import tempfile
+import textwrap
 import threading
 import time
 
@@ -39,6 +44,8 @@ ROOT = os.path.dirname(os.path.dirname(os.path.abspath(__file__)))
 SEARCHING = (0, 1, 2, 3)
 KINDS = ("shared", "stream")
 MESSAGES = 20_000
+GREATEST = ("-DSEGMENTS=13", "-DDOCS=76923", "-DTERMS=131072")
+GREATEST_ADDS = 3_500_000
 QUERIES = ("third", "all", "w7", "all -third", "w7 OR w9")
 
 
@@ -51,14 +58,19 @@ def library():
     sys.exit("threads: there is no libearlybird.a: .ci/library makes it")
 
 
-def built(folder):
-    """The program, and the shared library that Python loads."""
-    at, program, shared = library(), os.path.join(folder, "threads"), os.path.join(folder, "libearlybird.so")
-    flags = ["-O2", "-std=c11", "-D_POSIX_C_SOURCE=200809L", "-I" + os.path.join(ROOT, "include")]
-    subprocess.run(["cc", *flags, os.path.join(ROOT, "bench/threads.c"), "-L" + at, "-learlybird", "-pthread", "-o", program], check=True)
-    whole = ["-Wl,--whole-archive", os.path.join(at, "libearlybird.a"), "-Wl,--no-whole-archive"]
+def built(folder, name="threads", setting=()):
+    """The program, at the usual setting or at another one."""
+    program, flags = os.path.join(folder, name), ["-O2", "-std=c11", "-D_POSIX_C_SOURCE=200809L", "-I" + os.path.join(ROOT, "include"), *setting]
+    subprocess.run(["cc", *flags, os.path.join(ROOT, "bench/threads.c"), "-L" + library(), "-learlybird", "-pthread", "-o", program], check=True)
+    return program
+
+
+def built_for_python(folder):
+    """The shared library that Python loads."""
+    shared = os.path.join(folder, "libearlybird.so")
+    whole = ["-Wl,--whole-archive", os.path.join(library(), "libearlybird.a"), "-Wl,--no-whole-archive"]
     subprocess.run(["cc", "-shared", *whole, "-o", shared], check=True)
-    return program, shared
+    return shared
 
 
 def opened(kind):
@@ -131,19 +143,27 @@ def longest(run):
     return [run[name]["longest"] for name in ("pauses, ns", "of the processor, ns") if name in run]
 
 
-def of_one_feed(program, adds):
-    """A figure of a feed with so many adds for each number of threads that search, without and with indexes that are lent."""
-    at_once = itertools.product(("feed", "lent"), SEARCHING, ([],))
-    for mode, searching, pace in itertools.chain(at_once, itertools.product(("feed", "lent", "whole"), (0, 2), (["paced"],))):
-        words = [program, mode, str(searching), str(adds // 10 if pace else adds), *pace]
-        runs = [json.loads(subprocess.run(words, stdout=subprocess.PIPE, check=True).stdout) for _ in range(5 if pace else 1)]
-        found = sorted(runs, key=lambda it: longest(it)[-1])[len(runs) // 2]
-        yield {
-            "language": "C", "index": "one feed", "searching": searching, "way": mode, "paced": bool(pace),
-            "adds a second": round(found["adds"] / found["seconds"]),
-            "searches a second": round(sum(found["searches"]) / found["seconds"]),
-            **found, "longest of each run, ns": [longest(it) for it in runs],
-        }
+def of_one_feed(program, mode, searching, adds, paced=False, times=1, setting="the usual"):
+    """A figure of a feed with so many adds: of so many runs the middle one, and the longest add and the turns of each."""
+    words = [program, mode, str(searching), str(adds), *(["paced"] if paced else [])]
+    runs = [json.loads(subprocess.run(words, stdout=subprocess.PIPE, check=True).stdout) for _ in range(times)]
+    found = sorted(runs, key=lambda it: longest(it)[-1])[len(runs) // 2]
+    return {
+        "language": "C", "index": "one feed", "setting": setting, "searching": searching, "way": mode, "paced": paced,
+        "adds a second": round(found["adds"] / found["seconds"]),
+        "searches a second": round(sum(found["searches"]) / found["seconds"]),
+        **found, "longest of each run, ns": [longest(it) for it in runs], "turns of each run": [it["turns"] for it in runs],
+    }
+
+
+def of_feeds(program, greatest, adds):
+    """A figure of a feed with so many adds for each number of threads that search, without and with indexes that are lent; the same at a
+    pace with a tenth of the adds; and one of the program with the greatest setting."""
+    for mode, searching in itertools.product(("feed", "lent"), SEARCHING):
+        yield of_one_feed(program, mode, searching, adds)
+    for mode, searching in itertools.product(("feed", "lent", "whole"), (0, 2)):
+        yield of_one_feed(program, mode, searching, adds // 10, paced=True, times=5)
+    yield of_one_feed(greatest, "lent", 0, GREATEST_ADDS, paced=True, setting="the greatest")
 
 
 def print_rates(figures):
@@ -155,50 +175,65 @@ def print_rates(figures):
 
 
 def way(it):
-    """How a feed came by its indexes, and whether it was paced, in words."""
-    name = it.get("way") or ("lent" if it["lent"] else "feed")
-    return {"feed": "opens them", "lent": "is lent them", "whole": "needs one alone"}[name] + (", paced" if it["paced"] else "")
+    """How a feed came by its indexes, whether it was paced, and its setting where it isn't the usual one, in words."""
+    name = {"feed": "opens them", "lent": "is lent them", "whole": "needs one alone"}[it["way"]]
+    return name + (", paced" if it["paced"] else "") + (", at the greatest setting" if it["setting"] == "the greatest" else "")
 
 
-def longest_of_all(it, at):
-    """The longest adds of all runs in milliseconds: by the clock (0) or by processor time (1)."""
-    told = it.get("longest of each run, ns", [[it["pauses, ns"]["longest"]]])
-    return ", ".join("%.3f" % (run[at] / 1e6) for run in told if len(run) > at)
+def large(numbers):
+    return ["{:,}".format(number) for number in numbers]
 
 
-def print_pauses(figures):
-    pauses, times = ("50th of 100", "99th", "99.9th", "longest"), ("start", "middle", "end", "woken", "most")
-    print("A pause of an add in microseconds; resident memory in MiB.")
-    print("%22s %10s %14s %18s %12s %8s %8s %10s" % ("its indexes", "searching", "adds a second", "searches a second", *pauses), *("%7s" % it for it in times))
+def milliseconds(pauses):
+    return ", ".join("%.3f" % (it / 1e6) for it in pauses)
+
+
+def rates_and_memory(it):
+    """What a feed did a second, and its resident memory in MiB."""
+    resident = [round(it["resident, KiB"][name] / 1024) for name in ("start", "middle", "end", "most")]
+    return [way(it), str(it["searching"]), *large([it["adds a second"], it["searches a second"]]), *large(resident)]
+
+
+def pauses(it):
+    """The pauses of a feed's adds in milliseconds, the longest of each run by the clock and by processor time; and its turns."""
+    turns = [turn for turn in it["turns of each run"] if turn["adds"] > 0]
+    longest_of_all = [milliseconds(run[at] for run in it["longest of each run, ns"] if len(run) > at) for at in (0, 1)]
+    at_turns = [milliseconds(turn[name] for turn in turns if name in turn) for name in ("longest, ns", "of the processor, ns")]
+    return [way(it), str(it["searching"]), "%.3f" % (it["pauses, ns"]["99.9th"] / 1e6), *longest_of_all, *at_turns,
+            str(it["turns"]["adds"]), ", ".join(str(turn["opened"]) for turn in turns)]
+
+
+RATES = ("Its indexes", "searching", "adds a second", "searches a second", "MiB at the start", "in the middle", "at the end", "at most")
+PAUSES = ("Its indexes", "searching", "an add, 99.9th of 100, ms", "the longest, ms", "its processor time, ms",
+          "the longest at a turn, ms", "its processor time, ms", "turns", "of these opened an index")
+
+
+def print_feeds(figures):
+    """Prints what each figure adds to the two tables."""
     for it in figures:
-        rates = ["{:,}".format(it[name]) for name in ("adds a second", "searches a second")]
-        numbers = ["{:,.1f}".format(it["pauses, ns"][name] / 1000) for name in pauses]
-        memory = ["%7s" % "{:,}".format(round(it["resident, KiB"][name] / 1024)) for name in times]
-        print("%22s %10d %14s %18s %12s %8s %8s %10s" % (way(it), it["searching"], *rates, *numbers), *memory, flush=True)
-        if it["paced"]:
-            print("%22s longest, ms: %s; of the processor: %s" % ("", longest_of_all(it, 0), longest_of_all(it, 1)), flush=True)
+        print(", ".join("%s: %s" % pair for pair in zip(RATES, rates_and_memory(it))))
+        print("    " + "; ".join("%s: %s" % pair for pair in list(zip(PAUSES, pauses(it)))[2:] if pair[1]), flush=True)
         yield it
 
 
+def rows(names, cells):
+    """A table with these names, and a row for each of these lists of cells."""
+    return ["| " + " | ".join(names) + " |", "|---" * len(names) + "|", *("| " + " | ".join(row) + " |" for row in cells)]
+
+
 def table(told):
-    """A result as a table of docs/PERFORMANCE.md."""
+    """A result as the tables of docs/PERFORMANCE.md."""
     machine, figures = told["machine"], told["figures"]
     lines = ["%s, %s, %d cores, commit %s." % (told["date"], machine["processor"], machine["processors"], told["commit"]), ""]
-    large = lambda it: ["{:,}".format(it[name]) for name in ("adds a second", "searches a second")]
     if "pauses, ns" in figures[0]:
-        names = ("Its indexes", "searching", "adds a second", "searches a second", "an add, 99.9th of 100, ms", "the longest, ms",
-                 "its processor time, 99.9th of 100, ms", "the longest, ms", "MiB at the start", "in the middle", "at the end")
-        lines += ["| " + " | ".join(names) + " |", "|---" * len(names) + "|"]
-        for it in figures:
-            tail = ["%.3f" % (it[name]["99.9th"] / 1e6) if name in it else "" for name in ("pauses, ns", "of the processor, ns")]
-            pauses = [tail[0], longest_of_all(it, 0), tail[1], longest_of_all(it, 1)]
-            memory = ["{:,}".format(round(it["resident, KiB"][name] / 1024)) for name in ("start", "middle", "end")]
-            lines.append("| " + " | ".join([way(it), str(it["searching"]), *large(it), *pauses, *memory]) + " |")
-        return "\n".join(lines)
-    lines += ["| From | over | searching | adds a second | searches a second |", "|---|---|---|---|---|"]
+        lines += rows(RATES, map(rates_and_memory, figures))
+        said = ("The pauses of the adds. A turn is an add that begins a generation; where no index was lent since the last turn, it opens one"
+                " itself. The longest adds, and how many turns opened an index, are those of each run, in the order in which they ran.")
+        return "\n".join(lines + ["", textwrap.fill(said, 100), "", *rows(PAUSES, map(pauses, figures))])
     names = {"shared": "the shared index", "stream": "the feed"}
-    lines += ["| " + " | ".join([it["language"], names[it["index"]], str(it["searching"]), *large(it)]) + " |" for it in figures]
-    return "\n".join(lines)
+    rates = ("adds a second", "searches a second")
+    cells = ([it["language"], names[it["index"]], str(it["searching"]), *large(it[name] for name in rates)] for it in figures)
+    return "\n".join(lines + rows(("From", "over", "searching", *rates), cells))
 
 
 def processor():
@@ -219,13 +254,14 @@ def main():
         with open(options.table, encoding="utf-8") as file:
             return print(table(json.load(file)))
     with tempfile.TemporaryDirectory() as folder:
-        program, os.environ["EARLYBIRD_LIBRARY"] = built(folder)
+        program = built(folder)
         if options.check:
             sys.exit(subprocess.run([program, "check", "2", str(options.check)]).returncode)
-        sys.path.insert(0, os.path.join(ROOT, "python/src"))
         if options.feed:
-            figures = list(print_pauses(of_one_feed(program, options.feed)))
+            figures = list(print_feeds(of_feeds(program, built(folder, "threads-greatest", GREATEST), options.feed)))
         else:
+            os.environ["EARLYBIRD_LIBRARY"] = built_for_python(folder)
+            sys.path.insert(0, os.path.join(ROOT, "python/src"))
             figures = list(print_rates(measured(program, options.seconds)))
     commit = subprocess.run(["git", "-C", ROOT, "rev-parse", "--short", "HEAD"], stdout=subprocess.PIPE).stdout.decode().strip()
     machine = {"processor": processor(), "processors": os.cpu_count(), "system": platform.platform(), "python": platform.python_version()}

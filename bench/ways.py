@@ -7,17 +7,19 @@
 The ways are order mode, --overlap, and so many parts (1, 2 and 4) with and without --overlap; the lines are 100,000 Zipf
 documents whose ids rise, alone and with a query after each 1,000. Each runs N times (5), in turn with the others, on each
 number of processors by taskset. The time runs from the first byte that the program is given, once it has taken its memory and
-waits, to its summary; the least seconds count, and the processor seconds of that run. All have to print the same answers, with
---overlap alone but for what its queries see.
+waits, to its summary. All have to print the same answers, with --overlap alone but for what its queries see.
+
+The result has the seconds and the processor seconds of each run. The table tells the least and the middle seconds, the middle
+processor seconds, and how many times as fast as order mode a way is: the middle over the turns of the seconds of order mode by
+those of the way in the same turn, so that what slows the machine for a while counts for both.
 
 Writes JSON to bench/results/ with the date and the commit, and prints it; --table prints such a file as the table of
-docs/PERFORMANCE.md.
+docs/PERFORMANCE.md. The program is the launcher at the root, if no other is named.
 """
 import argparse
-import fcntl
 import hashlib
 import os
-import subprocess
+import statistics
 import textwrap
 import threading
 import time
@@ -25,6 +27,7 @@ import time
 import kept
 from corpora import ROOT
 from instructions import queries, zipf_lines
+from running import give, started
 
 DOCUMENTS = 100_000
 EVERY = 1_000
@@ -49,32 +52,13 @@ def spent(process):
     return (int(fields[11]) + int(fields[12])) / os.sysconf("SC_CLK_TCK")
 
 
-def waits_for_input(process):
-    """Whether a process is in a read of its standard input."""
-    with open("/proc/%d/syscall" % process.pid, encoding="utf-8") as file:
-        return file.read().split()[:2] == ["0", "0x0"]
-
-
-def give(pipe, text):
-    """Writes all of a text into a pipe, and closes it."""
-    left = memoryview(text)
-    while left:
-        left = left[os.write(pipe, left[:1 << 18]):]
-    os.close(pipe)
-
-
 def seconds(command, text):
     """The seconds and the processor seconds of one run over the text, once it waits for it, and a checksum of what it printed."""
-    reads, writes = os.pipe()
-    fcntl.fcntl(writes, fcntl.F_SETPIPE_SZ, 1 << 20)
-    with subprocess.Popen(command, stdin=reads, stdout=subprocess.PIPE) as process:
-        os.close(reads)
-        while not waits_for_input(process):
-            time.sleep(0.01)
+    with started(command) as (process, pipe):
         before, start = spent(process), time.monotonic()
-        giving = threading.Thread(target=give, args=(writes, text))
+        giving = threading.Thread(target=give, args=(pipe, text, True))
         giving.start()
-        printed = b""
+        printed = bytearray()
         while not printed.rpartition(b"\n")[0].rpartition(b"\n")[2].startswith(b"end: "):
             some = os.read(process.stdout.fileno(), 1 << 16)
             if not some:
@@ -98,44 +82,54 @@ def texts():
 
 
 def figures(program, text, times):
-    """By processors and ways, the least seconds and the processor seconds of that run."""
-    least = {count: {} for count in PROCESSORS}
+    """By processors and ways, the seconds and the processor seconds of each run, in the order of the turns."""
+    runs = {count: {way: [] for way in WAYS} for count in PROCESSORS}
     for count, processors in PROCESSORS.items():
         for _ in range(times):
             printed = {}
             for way, words in WAYS.items():
                 command = ["taskset", "-c", processors, program, "run", *SETTING, *words]
                 took, processor, printed[way] = seconds(command, text.encode())
-                least[count][way] = min(least[count].get(way, (took, processor)), (took, processor))
+                runs[count][way].append((took, processor))
             if len({text for way, text in printed.items() if way != "--overlap"}) > 1:
                 raise SystemExit("ways: they print different answers")
-    return least
+    return runs
+
+
+def cells(runs, of_order_mode):
+    """Two cells of the table: the seconds of a way, and how many times as fast as order mode it is."""
+    took = [seconds for seconds, _ in runs]
+    times = [order / own for (order, _), own in zip(of_order_mode, took)]
+    said = "%.3f / %.3f (%.2f)" % (min(took), statistics.median(took), statistics.median(processor for _, processor in runs))
+    return [said, "%.2f" % statistics.median(times)]
 
 
 def table(told):
     """The result as the table of docs/PERFORMANCE.md."""
-    head = "%s, commit %s; the seconds of the fastest of %d runs of each in turn, and its processor seconds."
+    head = ("%s, commit %s; of %d runs of each in turn the least / the middle seconds (the middle processor seconds), and how many"
+            " times as fast as order mode: the middle over the turns of order mode's seconds by its own of the same turn.")
     lines = [textwrap.fill(head % (told["date"], told["commit"][:8], told["times"]), 100), ""]
-    lines += ["| Way | on 1 processor | on 2 | on 4 |", "|---|" + "---|" * len(PROCESSORS)]
-    for name, by_count in told["seconds"].items():
+    heads = ["on 1 processor, s"] + ["on %d, s" % count for count in list(PROCESSORS)[1:]]
+    lines.append("| Lines | Way | %s |" % " | ".join("%s | × order mode" % it for it in heads))
+    lines.append("|---|---|" + "---|---|" * len(PROCESSORS))
+    for name, by_count in told["runs"].items():
         for way in WAYS:
-            cells = ["%.3f (%.2f)" % tuple(by_count[str(count)][way]) for count in PROCESSORS]
-            lines.append("| %s, %s | %s |" % (way, name, " | ".join(cells)))
+            row = [cell for count in PROCESSORS for cell in cells(by_count[str(count)][way], by_count[str(count)]["order mode"])]
+            lines.append("| %s | %s | %s |" % (name, way, " | ".join(row)))
     return "\n".join(lines)
 
 
 def main():
     parser = argparse.ArgumentParser(description=__doc__.split("\n")[0])
-    parser.add_argument("--program", default=os.path.join(ROOT, "dist", "earlybird"))
+    parser.add_argument("--program", default=os.path.join(ROOT, "earlybird"))
     parser.add_argument("--times", type=int, default=5)
     kept.takes_files(parser, "time")
     given = parser.parse_args()
     if given.table:
         return print(table(kept.read(given.table)))
-    told = kept.begun(times=given.times, seconds={})
+    told = kept.begun(times=given.times, runs={})
     for name, text in texts().items():
-        least = figures(given.program, text, given.times)
-        told["seconds"][name] = {str(count): ways for count, ways in least.items()}
+        told["runs"][name] = {str(count): ways for count, ways in figures(given.program, text, given.times).items()}
     kept.keep(told, "ways-", given.out)
     print(table(told))
 
