@@ -90,7 +90,7 @@ impl Terms {
         }
     }
 
-    /// No terms, with room for so many.
+    /// No terms, with room for so many, which is taken at once. `NoMemory` where there is none.
     pub fn with_capacity(alloc: Global, room: usize) -> Result<Terms, NoMemory>
         ensures { IfOk result (λ t. t ≡ []) }
     {

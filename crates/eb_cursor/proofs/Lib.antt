@@ -20,3 +20,5 @@ pub mod Rounds
 pub mod Asking
 pub mod LoadsLeft
 pub mod AndLoads
+pub mod Turns
+pub mod Terms

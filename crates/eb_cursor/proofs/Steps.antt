@@ -5,6 +5,8 @@ use Rattle.std.proofs.lemmas.Bool.{cases_lt, and_parts}
 use Rattle.eb_base.specs.Document.{Doc}
 use Rattle.eb_base.specs.Query.{Tree, Trees, size, word, phrase, window, since, negation, conjunction, disjunction, no_trees, trees, tree, queries_of}
 use Rattle.eb_base.specs.declared.query.Query.{Query, And, Or, Not, Word, Phrase, Window, Since, the_lemmas}
+use Rattle.eb_base.specs.declared.query.Query.TheOpen.{Query-F}
+use Rattle.eb_base.specs.declared.query.Query.TheViews.{out-Query, roll-Query, roll-out-Query, rolls-Word, rolls-Phrase, rolls-Window, rolls-Since, rolls-Not, rolls-And, rolls-Or}
 use Rattle.eb_base.specs.declared.query.Queries.{Queries}
 use Rattle.eb_place.specs.Postings.{places}
 use Rattle.eb_cursor.specs.Tops.{top}
@@ -39,6 +41,19 @@ tree_Since x = search (rules, the_lemmas)
 
 pub tree_Not : (b : Box Query Global) → tree (Not b) ≡ negation (tree b.value)
 tree_Not b = search (rules, the_lemmas)
+
+-- only a word's tree is a word
+word_layer : (x : Query-F Query Queries) (q : Query) (t : List ℕ) → q ≡ roll-Query x → tree q ≡ word t → q ≡ Word t
+word_layer (Query-F.Word u) q t r e = let i : q ≡ Word u = r ∙ rolls-Word u in i ∙ ap Word (cc (sym (ap tree i ∙ tree_Word u) ∙ e))
+word_layer (Query-F.Phrase us) q t r e = absurd (cc (sym (ap tree (r ∙ rolls-Phrase us) ∙ tree_Phrase us) ∙ e))
+word_layer (Query-F.Window us w) q t r e = absurd (cc (sym (ap tree (r ∙ rolls-Window us w) ∙ tree_Window us w) ∙ e))
+word_layer (Query-F.Since x) q t r e = absurd (cc (sym (ap tree (r ∙ rolls-Since x) ∙ tree_Since x) ∙ e))
+word_layer (Query-F.Not b) q t r e = absurd (cc (sym (ap tree (r ∙ rolls-Not b) ∙ tree_Not b) ∙ e))
+word_layer (Query-F.And qs) q t r e = absurd (cc (sym (ap tree (r ∙ rolls-And qs) ∙ tree_And qs) ∙ e))
+word_layer (Query-F.Or qs) q t r e = absurd (cc (sym (ap tree (r ∙ rolls-Or qs) ∙ tree_Or qs) ∙ e))
+
+pub word_is : (q : Query) (t : List ℕ) → tree q ≡ word t → q ≡ Word t
+word_is q t e = word_layer (out-Query q) q t (sym (roll-out-Query q)) e
 
 -- nothing is left to pass
 pub ended : (g : Gives) (docs : List Doc) (q : Tree) (cursors : List Cursor) (end last : ℕ) → end ≡ 0 → Ready g docs q cursors last → (0 ≡ top (match_at docs q) end) × Ready g docs q cursors end

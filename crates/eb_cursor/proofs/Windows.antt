@@ -7,9 +7,12 @@ use Rattle.eb_base.specs.Document.{Doc}
 use Rattle.eb_base.specs.Query.{window}
 use Rattle.eb_base.specs.Match.{Stand}
 use Rattle.eb_base.proofs.Matching.{match_decides}
+use Rattle.eb_place.specs.declared.moment.Moment.{Moment}
 use Rattle.eb_place.specs.Postings.{places}
 use Rattle.eb_cursor.specs.Tops.{top, number_before}
-use Rattle.eb_cursor.specs.Lists.{Gives}
+use Rattle.eb_cursor.specs.Asked.{CanAskBehind, CanAskLeaf}
+use Rattle.eb_cursor.specs.Finds.{FindsLeaf, FindsSpan}
+use Rattle.eb_cursor.specs.Lists.{Gives, gives}
 use Rattle.eb_cursor.specs.Posted.{doc_at, terms_at, is_term, is_posting, match_at, last_term, first_below, reach_end, is_window_end, Narrow, document_end}
 use Rattle.eb_cursor.specs.Ready.{IsLeaf, AllBehind, IsPassed, Ready, upto}
 use Rattle.eb_cursor.specs.declared.cursor.Cursor.{Cursor}
@@ -269,6 +272,39 @@ span_last g docs ts us t s' ss end place e i k w =
     let all : AllBehind g docs (t ∷ []) (s' ∷ ss) end = (w.1, k) in
     let told : (place ≡ first_below docs (t ∷ []) end) × (place ≡ top (is_posting docs (last_term (t ∷ []))) end) × AllBehind g docs (t ∷ []) (s' ∷ ss) end = (w.0, w.0, all) in
     subst (λ (z : List (List ℕ)). (place ≡ first_below docs z end) × (place ≡ top (is_posting docs (last_term z)) end) × AllBehind g docs z (s' ∷ ss) end) (sym one) told
+
+-- where the last term stands alone, its leaf may be asked
+pub alone_can : {S : Type 0} (stands : S → Moment → Type 0) (p : S) (cursors : List Cursor) (s : Cursor) (ss : List Cursor) (end : ℕ)
+    → cursors ≡ s ∷ ss → length ss ≡ 0 → CanAskBehind stands p cursors end → CanAskLeaf stands p s end
+alone_can stands p cursors s ss end e none r =
+    let a = behind_asks (gives r.0) r.1 r.2 cursors s ss r.3 e r.6 in
+    (r.0, is_posting r.1 a.0, r.4, (last_leaf (gives r.0) r.1 a.1 s ss a.0 end r.3 r.5 none a.3 a.4).2)
+
+-- and it begins and ends the terms
+pub alone_found : {S : Type 0} {stands : S → Moment → Type 0} {keeps : S → Moment → S → Moment → Type 0} {p p1 : S} (cursors : List Cursor) (s s' : Cursor) (ss : List Cursor)
+    (end place : ℕ) → cursors ≡ s ∷ ss → length ss ≡ 0 → FindsLeaf stands keeps p p1 s s' end place
+    → FindsSpan stands keeps p p1 cursors (s' ∷ ss) end (record { first = place; last = place })
+alone_found cursors s s' ss end place e none found = λ docs ts last h. record {
+  told = λ m st r.
+      let a = behind_asks (gives m) docs ts cursors s ss last e r in
+      let l = last_leaf (gives m) docs a.1 s ss a.0 end last h none a.3 a.4 in
+      let x = (found (is_posting docs a.0)).told m st l.2 in
+      (x.0, x.1, x.2, x.3, span_last (gives x.0) docs ts a.1 a.0 s' ss end place a.2 l.0 l.1 (x.4.0, x.4.1));
+}
+
+-- so it is for a single cursor
+pub single_can : {S : Type 0} (stands : S → Moment → Type 0) (p : S) (cursors : List Cursor) (d : Cursor) (end : ℕ)
+    → 0 < length cursors → length cursors ≤ 1 → CanAskBehind stands p cursors end → CanAskLeaf stands p (get_or cursors 0 d) end
+single_can stands p [] d end some few r = absurd (omega arith)
+single_can stands p (s ∷ []) d end some few r = alone_can stands p (s ∷ []) s [] end refl refl r
+single_can stands p (s ∷ x ∷ xs) d end some few r = absurd (omega arith)
+
+pub single_found : {S : Type 0} {stands : S → Moment → Type 0} {keeps : S → Moment → S → Moment → Type 0} {p p1 : S} (cursors : List Cursor) (d s' : Cursor) (end place : ℕ)
+    → 0 < length cursors → length cursors ≤ 1 → FindsLeaf stands keeps p p1 (get_or cursors 0 d) s' end place
+    → FindsSpan stands keeps p p1 cursors (set cursors 0 s') end (record { first = place; last = place })
+single_found [] d s' end place some few found = absurd (omega arith)
+single_found (s ∷ []) d s' end place some few found = alone_found (s ∷ []) s s' [] end place refl refl found
+single_found (s ∷ x ∷ xs) d s' end place some few found = absurd (omega arith)
 
 -- the last of terms is that of those after the first, where there are some
 last_behind : (t : List ℕ) (us : List (List ℕ)) → 0 < length us → last_term (t ∷ us) ≡ last_term us

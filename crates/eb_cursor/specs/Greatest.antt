@@ -1,10 +1,12 @@
 -- The greatest match among the documents of a segment.
-use Rattle.std.specs.Prelude.{◌≡◌, ℕ, ◌<◌, ◌≤◌, Bool, true, false, List, get_or, slice_get, Option, Some, None}
+use Rattle.std.specs.Prelude.{◌≡◌, ℕ, ◌<◌, ◌≤◌, Bool, IsTrue, true, false, List, get_or, slice_get, Option, Some, None}
 use mathlib.Core.List.{IsPrefix}
 use Rattle.eb_base.specs.Document.{Doc}
 use Rattle.eb_base.specs.Query.{Tree}
 use Rattle.eb_base.specs.Match.{Matches}
+use Rattle.eb_base.specs.Term.{Term}
 use Rattle.eb_place.specs.declared.moment.Moment.{Moment}
+use Rattle.eb_terms.specs.Finding.{is_home_filled}
 use Rattle.eb_cursor.specs.Accepted.{accepted_in}
 
 -- the document with this number is there, and the query matches it
@@ -25,3 +27,7 @@ IsGreatestMatch q docs most (Some n) = IsGreatest q docs most n
 -- none of the documents that a segment of the moment holds matches, where the list says false of the segment
 abbrev pub AreLikely : Moment → Tree → List Bool → Type 0
 AreLikely m q likely = (s : ℕ) (docs : List Doc) (n : ℕ) → get_or likely s true ≡ false → IsPrefix docs (accepted_in m s) → MatchesAt q docs n → ⊥
+
+-- the term's home cell is filled in each of the first `begun` segments of which the list says true
+abbrev pub AreFilled : Moment → Term → ℕ → List Bool → Type 0
+AreFilled m t begun likely = (s : ℕ) → s < begun → get_or likely s true ≡ true → IsTrue (is_home_filled m s t)

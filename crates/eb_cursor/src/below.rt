@@ -273,7 +273,7 @@ fn all_below<P: Port, L: Ledger>(
 {
     let mut place = end;
     loop {
-        let found = round_below(parts, cursors, port, steps, place);
+        let found = turn_below(parts, cursors, port, steps, place);
         if found == place {
             return place;
         }
@@ -281,7 +281,55 @@ fn all_below<P: Port, L: Ledger>(
     }
 }
 
-// One such turn. A bound on the id is asked after the parts that follow it, since it costs loads.
+// One such turn. The first part is most often a word, which is asked here, without a call.
+#[inline(always)]
+#[cycle(below)]
+fn turn_below<P: Port, L: Ledger>(
+    parts: &[Query],
+    cursors: &mut [Cursor],
+    port: &mut P,
+    steps: &mut Steps<L>,
+    end: u64,
+) -> u64
+    requires small { (end ≤ 2 ^ 32) × (length cursors.old ≤ 64) }
+    requires ready { CanAskAll P.stands port.old (trees_in parts.now) cursors.old end }
+    ensures found { GoesRound P.stands P.keeps port.old port.new (trees_in parts.now) cursors.old cursors.new end result }
+    ensures loads { steps.new + loads_left cursors.new ≤ steps.old + loads_left cursors.old }
+    ensures spans { (ts : List (List ℕ)) → trees_in parts.now ≡ word_parts ts
+        → PaysSpans P.stands P.keeps port.old port.new ts cursors.old cursors.new (round_loads ts) steps.old steps.new }
+{
+    let Some((Query::Word(_), others)) = parts.split_first() else {
+        return round_below(parts, cursors, port, steps, end);
+    };
+    let (own, rest) = cursors.split_at_mut(1);
+    let found = word_below(own, port, steps, end);
+    last_below(others, rest, port, steps, found)
+}
+
+// The same over the parts after the first, most often a single one.
+#[inline(always)]
+#[cycle(below)]
+fn last_below<P: Port, L: Ledger>(
+    parts: &[Query],
+    cursors: &mut [Cursor],
+    port: &mut P,
+    steps: &mut Steps<L>,
+    end: u64,
+) -> u64
+    requires small { (end ≤ 2 ^ 32) × (length cursors.old ≤ 64) }
+    requires ready { CanAskAll P.stands port.old (trees_in parts.now) cursors.old end }
+    ensures found { GoesRound P.stands P.keeps port.old port.new (trees_in parts.now) cursors.old cursors.new end result }
+    ensures loads { steps.new + loads_left cursors.new ≤ steps.old + loads_left cursors.old }
+    ensures spans { (ts : List (List ℕ)) → trees_in parts.now ≡ word_parts ts
+        → PaysSpans P.stands P.keeps port.old port.new ts cursors.old cursors.new (round_loads ts) steps.old steps.new }
+{
+    match parts {
+        [part] => part_below(part, cursors, port, steps, end),
+        _ => round_below(parts, cursors, port, steps, end),
+    }
+}
+
+// A turn over all parts. A bound on the id is asked after the parts that follow it, since it costs loads.
 #[cycle(below)]
 fn round_below<P: Port, L: Ledger>(
     parts: &[Query],

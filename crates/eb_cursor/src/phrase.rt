@@ -63,6 +63,32 @@ fn leaves_below<P: Port, L: Ledger>(
     leaves_below(at + 1, rest, port, steps, found)
 }
 
+// The same from the first term on, most often over two terms, which are asked here, without a loop.
+#[inline(always)]
+fn terms_below<P: Port, L: Ledger>(
+    cursors: &mut [Cursor],
+    port: &mut P,
+    steps: &mut Steps<L>,
+    end: u64,
+) -> u64
+    requires small { end + length cursors.old < 2 ^ 49 }
+    requires ready { CanAskLeaves P.stands port.old cursors.old 0 end }
+    ensures found { GoesOver P.stands P.keeps port.old port.new cursors.old cursors.new 0 end result }
+    ensures loads { steps.new + loads_left cursors.new ≤ steps.old + loads_left cursors.old }
+{
+    if end == 0 {
+        return 0;
+    }
+    if cursors.len() != 2 {
+        return leaves_below(0, cursors, port, steps, end);
+    }
+    let found = leaf_below(&mut cursors[0], port, steps, end);
+    if found == 0 {
+        return 0;
+    }
+    leaf_below(&mut cursors[1], port, steps, found + 1).saturating_sub(1)
+}
+
 // One more than the greatest place below `end` from which the leading term can stand, or 0; `end` where
 // no term has its number.
 fn lead_leaf_below<P: Port, L: Ledger>(
@@ -103,7 +129,7 @@ fn starts_below<P: Port, L: Ledger>(
     let mut place = end;
     loop {
         let room = room_below(count, place);
-        let found = leaves_below(0, cursors, port, steps, room);
+        let found = terms_below(cursors, port, steps, room);
         if found == place {
             return place;
         }

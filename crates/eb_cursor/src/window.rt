@@ -24,7 +24,10 @@ pub struct Span {
     pub last: u64,
 }
 
-// Asks the terms from the last on, each for its greatest place below that of the term after it.
+// Asks the terms from the last on, each for its greatest place below that of the term after it. Two terms, which
+// most windows have, are asked here, without a call.
+#[inline(always)]
+#[cycle(span_below)]
 fn span_below<P: Port, L: Ledger>(
     cursors: &mut [Cursor],
     port: &mut P,
@@ -46,7 +49,7 @@ fn span_below<P: Port, L: Ledger>(
             last: place,
         };
     }
-    let behind = span_below(rest, port, steps, end);
+    let behind = rest_below(rest, port, steps, end);
     if behind.first == 0 {
         return behind;
     }
@@ -55,6 +58,46 @@ fn span_below<P: Port, L: Ledger>(
         first,
         last: behind.last,
     }
+}
+
+// The same over the terms after the first, most often a single one.
+#[inline(always)]
+#[cycle(span_below)]
+fn rest_below<P: Port, L: Ledger>(
+    cursors: &mut [Cursor],
+    port: &mut P,
+    steps: &mut Steps<L>,
+    end: u64,
+) -> Span
+    requires some { 0 < length cursors.old }
+    requires ready { CanAskBehind P.stands port.old cursors.old end }
+    ensures found { FindsSpan P.stands P.keeps port.old port.new cursors.old cursors.new end result }
+    ensures loads { steps.new + loads_left cursors.new ≤ steps.old + loads_left cursors.old }
+{
+    if cursors.len() > 1 {
+        return more_below(cursors, port, steps, end);
+    }
+    let place = leaf_below(&mut cursors[0], port, steps, end);
+    Span {
+        first: place,
+        last: place,
+    }
+}
+
+// The same by a call, for windows of more than two terms.
+#[cycle(span_below)]
+fn more_below<P: Port, L: Ledger>(
+    cursors: &mut [Cursor],
+    port: &mut P,
+    steps: &mut Steps<L>,
+    end: u64,
+) -> Span
+    requires some { 0 < length cursors.old }
+    requires ready { CanAskBehind P.stands port.old cursors.old end }
+    ensures found { FindsSpan P.stands P.keeps port.old port.new cursors.old cursors.new end result }
+    ensures loads { steps.new + loads_left cursors.new ≤ steps.old + loads_left cursors.old }
+{
+    span_below(cursors, port, steps, end)
 }
 
 // The end below which the last term of a window stands whose first term stands before `first`: at most

@@ -1,3 +1,4 @@
 pub mod Bytes
-pub mod Pieces
+pub mod Ends
 pub mod Given
+pub mod Pieces

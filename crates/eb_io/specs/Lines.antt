@@ -1,5 +1,5 @@
 -- The lines of a text.
-use Rattle.std.specs.Prelude.{◌≡◌, ◌≢◌, ℕ, ◌^◌, ◌+◌, ◌<◌, Bool, ◌==◌, ◌⊎◌, List, [], ◌∷◌, ◌++◌, length, take, drop, map, nat_lt, if◌then◌else◌}
+use Rattle.std.specs.Prelude.{◌≡◌, ◌≢◌, ℕ, ◌^◌, ◌+◌, ◌<◌, Bool, ◌==◌, ◌⊎◌, List, [], ◌∷◌, ◌++◌, length, take, drop, map, nat_lt, if◌then◌else◌, Option, MatchOption}
 use Rattle.std.specs.List.{All}
 use Rattle.std.specs.Io.BufRead.{strip_last}
 
@@ -66,6 +66,10 @@ pub record IsFirstLf (bytes : List ℕ) (place : ℕ) : Type 0 where
   pub within : place < length bytes
   pub uncut : IsUncut (take place bytes)
   pub cut : bytes ≡ take place bytes ++ 10 ∷ drop (place + 1) bytes
+
+-- where the first line of the bytes ends: the place of their first LF, or none where there is none
+abbrev pub IsEnd : List ℕ → Option ℕ → Type 0
+IsEnd bytes end = MatchOption end (IsUncut bytes) (IsFirstLf bytes)
 
 -- the bytes are whole lines: there are none, or the last is a LF
 abbrev pub AreWhole : List ℕ → Type 0

@@ -1,9 +1,9 @@
-ghost use Rattle.std.specs.Prelude.{◌≡◌, ◌≢◌, ℕ, ◌+◌, ◌<◌, ◌≤◌, ◌↔◌, ◌⊎◌, true, false, List, []};
-ghost use Rattle.std.specs.Prelude.{◌++◌, length, take, drop, vec_capacity, IfOk, IsTrue, MatchOption};
+ghost use Rattle.std.specs.Prelude.{◌≡◌, ◌≢◌, ℕ, ◌+◌, ◌-◌, ◌<◌, ◌≤◌, ◌↔◌, ◌⊎◌, true, false, List, []};
+ghost use Rattle.std.specs.Prelude.{◌++◌, length, take, drop, vec_capacity, IfOk, IsTrue, MatchOption, option_map, ⊤};
 ghost use Rattle.std.specs.List.{Contains};
 ghost use Rattle.eb_io.specs.Faults.{HasRisen};
 ghost use Rattle.eb_io.specs.Source.{after, got, IsCount, IsEmpty};
-ghost use Rattle.eb_io.specs.Lines.{Line, without_cr, line_from, IsUncut, IsFirstLf};
+ghost use Rattle.eb_io.specs.Lines.{Line, without_cr, line_from, IsUncut, IsEnd};
 
 use crate::source::{Got, Source};
 use eb_base::NoMemory;
@@ -47,10 +47,12 @@ pub enum Next {
 /// It takes all its memory when it is made.
 #[derive(Drop)]
 pub struct Lines {
-    // what was read last, of which the bytes from `from` to `to` are still to be cut
+    // what was read last, of which the bytes from `from` to `to` are still to be cut, and the place of the first LF
+    // among these, which is sought once
     piece: Vec<u8>,
     from: usize,
     to: usize,
+    end: Option<usize>,
     // what was taken of the line that comes next; nothing where it is known to be long
     part: Vec<u8>,
     is_long: bool,
@@ -83,9 +85,20 @@ impl Model for Lines {
 
 // The place of the first LF.
 fn find_end(bytes: &[u8]) -> Option<usize>
-    ensures { MatchOption result (IsUncut bytes.now) (IsFirstLf bytes.now) }
+    ensures { IsEnd bytes.now result }
 {
     memchr(LF, bytes)
+}
+
+// A place from which so many bytes before it are taken away.
+fn place_behind(place: Option<usize>, count: usize) -> Option<usize>
+    requires { MatchOption place ⊤ (λ at. count ≤ at) }
+    ensures { result ≡ option_map (λ at. at - count) place }
+{
+    match place {
+        None => None,
+        Some(at) => Some(at - count),
+    }
 }
 
 // Reads into the front of a piece.
@@ -131,6 +144,7 @@ impl Lines {
             piece,
             from: 0,
             to: 0,
+            end: None,
             part,
             is_long: false,
             given,
@@ -159,9 +173,9 @@ impl Lines {
     fn find(&self) -> Option<usize>
         ensures within { self.now.taken ≤ self.now.limit }
         ensures short { self.now.is_ended ≡ true → self.now.taken < self.now.limit }
-        ensures place { MatchOption result (IsUncut self.now.rest) (IsFirstLf self.now.rest) }
+        ensures place { IsEnd self.now.rest result }
     {
-        find_end(&self.piece[self.from..self.to])
+        self.end
     }
 
     /// Whether a whole line is held, so that the next call for a line leaves the source alone. Takes no memory.
@@ -180,15 +194,17 @@ impl Lines {
         self.to - self.from
     }
 
-    // Moves the first bytes of the rest after the part.
+    // Moves the first bytes of the rest, none of which is a LF, after the part.
     fn join(&mut self, count: usize)
-        requires { count ≤ length self.old.rest }
+        requires within { count ≤ length self.old.rest }
+        requires uncut { IsUncut (take count self.old.rest) }
         ensures held { self.new ≡ record self.old { part = self.new.part; rest = drop count self.old.rest } }
         ensures part { (begun : List ℕ) → self.old.part ≡ kept_part begun
             → self.new.part ≡ kept_part (begun ++ take count self.old.rest) }
     {
         let start = self.from;
         self.from += count;
+        self.end = place_behind(self.end, count);
         if self.is_long {
             return;
         }
@@ -207,6 +223,7 @@ impl Lines {
         ensures { self.new ≡ record self.old { rest = drop 1 self.old.rest } }
     {
         self.from += 1;
+        self.end = find_end(&self.piece[self.from..self.to]);
     }
 
     // Gives the part as a line.
@@ -250,9 +267,11 @@ impl Lines {
         let got = read_piece(source, self.piece.as_mut_slice(), room);
         self.from = 0;
         self.to = 0;
+        self.end = None;
         match got {
             Got::Bytes(count) => {
                 self.to = count;
+                self.end = find_end(&self.piece[..count]);
                 self.taken += count as u64;
             }
             Got::End => self.is_ended = true,

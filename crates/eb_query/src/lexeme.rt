@@ -10,7 +10,7 @@ use crate::quoted::quoted_at;
 use crate::value::value_at;
 use eb_base::{NoMemory, Query};
 use eb_fields::Fields;
-use eb_text::tokens;
+use eb_text::{plain_token, tokens};
 use std::alloc::Global;
 
 /// A lexeme of a query text.
@@ -71,6 +71,9 @@ pub fn run_len(bytes: &[u8]) -> usize
 pub fn text_of(alloc: Global, text: &str) -> Result<Lexeme, NoMemory>
     ensures { IfOk result (λ lexeme. lexeme_of lexeme ≡ text_lexeme text.now) }
 {
+    if let Some(term) = plain_token(alloc, text)? {
+        return Ok(Lexeme::Leaf(Query::Word(term)));
+    }
     match Query::of_terms(tokens(alloc, text)?) {
         Some(query) => Ok(Lexeme::Leaf(query)),
         None => Ok(Lexeme::Broken),

@@ -68,6 +68,9 @@ impl Group {
             ands,
             minuses: _,
         } = self;
+        if ors.is_empty() {
+            return Ok(Query::all_of(ands));
+        }
         let mut ors = ors;
         ors.push(Query::all_of(ands))?;
         Ok(Query::any_of(ors))

@@ -31,6 +31,10 @@ cells_in m = 2 * m.setting.terms
 abbrev pub is_filled : Moment → ℕ → ℕ → Bool
 is_filled m s c = nat_lt 0 (word m (place m.setting (slot s cell_region c)))
 
+-- whether the term's home cell is filled
+abbrev pub is_home_filled : Moment → ℕ → Term → Bool
+is_home_filled m s t = is_filled m s (home_cell (cells_in m) t)
+
 -- the filled cells that follow each other from the term's home cell on, wrapping
 unfoldable pub filled_run : Moment → ℕ → Term → ℕ
 filled_run m s t = prefix_len (λ k. is_filled m s ((home_cell (cells_in m) t + k) % cells_in m)) (range_with_len 0 (cells_in m))

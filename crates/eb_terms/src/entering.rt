@@ -79,11 +79,13 @@ fn free_cell<P: Port, L: Ledger>(
         → (n : Moment) × P.stands port.new n × IsNotBefore n m × P.keeps port.old m port.new n
         × (result ≡ cell_of_next (cells_in n) (entered n segment) term.now) × (result < cells_in n) }
 {
-    let cells = 2 * port.config().terms();
+    let config = port.config();
+    let places = Places::new(config);
+    let cells = 2 * config.terms();
     let first = home(term, cells);
     for step in 0..cells {
         let cell = cell_behind(first, step, cells);
-        let Some(_) = number_in(port, segment, cell, steps) else {
+        let Some(_) = number_in(port, places, segment, cell, steps) else {
             return cell;
         };
     }

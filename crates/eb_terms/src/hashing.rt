@@ -10,7 +10,15 @@ pub fn home(term: &Term, cells: u32) -> u32
     requires { 1 ≤ cells }
     ensures { result ≡ home_cell cells term.now }
 {
-    rest(hash_of(term), cells)
+    home_of(hash_of(term), cells)
+}
+
+/// The home cell of a term by its hash, as [`home`] tells it. Takes no memory.
+pub fn home_of(hashed: u32, cells: u32) -> u32
+    requires { 1 ≤ cells }
+    ensures { result ≡ hashed % cells }
+{
+    rest(hashed, cells)
 }
 
 // The rest of a number by another one that isn't 0.
@@ -26,8 +34,9 @@ fn rest(number: u32, by: u32) -> u32
     }
 }
 
-// The hash of a term: 0, and for each byte 31 times the hash plus the byte, modulo 2^32.
-pub(crate) fn hash_of(term: &Term) -> u32
+/// The hash of a term, from which its home cell comes: 0, and for each byte 31 times the hash plus the byte, modulo
+/// 2^32 (this project's profile, docs/FORMATS.md). Takes no memory.
+pub fn hash_of(term: &Term) -> u32
     ensures { result ≡ hash term.now }
 {
     let mut hash = 0u32;

@@ -10,6 +10,6 @@ mod loads;
 mod texts;
 
 pub use entering::enter;
-pub use finding::{find, may_be_entered};
-pub use hashing::home;
+pub use finding::{find, find_hashed, may_be_entered};
+pub use hashing::{hash_of, home, home_of};
 pub use texts::count_words;

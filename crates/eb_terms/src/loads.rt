@@ -12,15 +12,15 @@ use std::sync::ledger::Ledger;
 // The number of the term that has this cell, if the cell is filled.
 pub(crate) fn number_in<P: Port, L: Ledger>(
     port: &mut P,
+    places: Places,
     segment: u32,
     cell: u32,
     steps: &mut Steps<L>,
 ) -> Option<u32>
-    requires { (m : Moment) × P.stands port.old m × (segment < m.setting.segments) × (cell < cells_in m) }
-    ensures told { Told P.stands P.keeps port.old port.new (λ m. (segment < m.setting.segments) × (cell < cells_in m)) (λ n. CellHolds n segment cell result) }
+    requires { (m : Moment) × P.stands port.old m × (places ≡ m.setting) × (segment < m.setting.segments) × (cell < cells_in m) }
+    ensures told { Told P.stands P.keeps port.old port.new (λ m. (places ≡ m.setting) × (segment < m.setting.segments) × (cell < cells_in m)) (λ n. CellHolds n segment cell result) }
     ensures step { steps.new ≡ steps.old + 1 }
 {
-    let places = Places::new(port.config());
     let word = port.load(places.cell(segment, cell), steps);
     if word == 0 {
         return None;
@@ -31,32 +31,32 @@ pub(crate) fn number_in<P: Port, L: Ledger>(
 // Where the text of an entered term begins, by its text place.
 pub(crate) fn start_of<P: Port, L: Ledger>(
     port: &mut P,
+    places: Places,
     segment: u32,
     number: u32,
     steps: &mut Steps<L>,
 ) -> u32
-    requires { (m : Moment) × P.stands port.old m × (segment < m.setting.segments) × IsNumber m segment number }
-    ensures told { Told P.stands P.keeps port.old port.new (λ m. (segment < m.setting.segments) × IsNumber m segment number)
+    requires { (m : Moment) × P.stands port.old m × (places ≡ m.setting) × (segment < m.setting.segments) × IsNumber m segment number }
+    ensures told { Told P.stands P.keeps port.old port.new (λ m. (places ≡ m.setting) × (segment < m.setting.segments) × IsNumber m segment number)
         (λ n. IsText n segment number result) }
     ensures step { steps.new ≡ steps.old + 1 }
 {
-    let places = Places::new(port.config());
     port.load(places.text_place(segment, number), steps) as u32
 }
 
 // A text word of an entered term whose text begins here.
 pub(crate) fn word_of_text<P: Port, L: Ledger>(
     port: &mut P,
+    places: Places,
     segment: u32,
     start: u32,
     at: usize,
     steps: &mut Steps<L>,
 ) -> u64
-    requires { (m : Moment) × (number : ℕ) × P.stands port.old m × IsText m segment number start × (at < text_words (term_at m segment number)) }
-    ensures told { (number : ℕ) → Told P.stands P.keeps port.old port.new (λ m. IsText m segment number start × (at < text_words (term_at m segment number)))
+    requires { (m : Moment) × (number : ℕ) × P.stands port.old m × (places ≡ m.setting) × IsText m segment number start × (at < text_words (term_at m segment number)) }
+    ensures told { (number : ℕ) → Told P.stands P.keeps port.old port.new (λ m. (places ≡ m.setting) × IsText m segment number start × (at < text_words (term_at m segment number)))
         (λ n. result ≡ get_or (text_of (term_at n segment number)) at 0) }
     ensures step { steps.new ≡ steps.old + 1 }
 {
-    let places = Places::new(port.config());
     port.load(places.text(segment, start + at as u32), steps)
 }

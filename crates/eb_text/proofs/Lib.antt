@@ -1,2 +1,4 @@
 pub mod Encoded
 pub mod Folding
+pub mod Parting
+pub mod Words

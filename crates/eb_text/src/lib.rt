@@ -1,10 +1,16 @@
-//! The tokens of a text: its words, with their case folded. Documents and queries are cut by this
-//! one call, so what a query names is found however it was written. [`folded_term`] folds a whole text.
+//! The tokens of a text: its words, with their case folded. Documents and queries are cut by this one rule, so what a
+//! query names is found however it was written. [`folded_term`] folds a whole text.
+//!
+//! Most words of ASCII stand between spaces, and are found by these alone; the word boundaries of UAX #29 are looked for
+//! only in the parts of a text between such words.
 #![tactic(auto)]
 
-ghost use Rattle.std.specs.Prelude.{◌≡◌, ◌≤◌, [], ◌∷◌, length, IfOk, IsAscii, IsTrue};
+ghost use Rattle.std.specs.Prelude.{◌≡◌, ◌+◌, ◌<◌, ◌≤◌, [], ◌∷◌, ◌++◌, drop, length, slice_index, take, IfOk, IsAscii, IsTrue, MatchOption};
 ghost use Rattle.std.specs.List.{All};
+ghost use Rattle.std.specs.Str.{IsCharBoundary};
 ghost use Rattle.ucd_case.specs.CaseFolding.{full_fold};
+ghost use Rattle.unicode_segmentation.specs.Word.{words};
+ghost use Rattle.eb_text.specs.Parting.{IsAlphanumeric, IsPlain, IsParting};
 ghost use Rattle.eb_text.specs.Tokens.{IsFoldedByte, folded, tokens_of};
 
 use caseless::default_case_fold_str;
@@ -23,12 +29,107 @@ const SHORT: usize = 64;
 pub fn tokens(alloc: Global, text: &str) -> Result<Terms, NoMemory>
     ensures { IfOk result (λ terms. terms ≡ tokens_of text.now) }
 {
-    let mut terms = Terms::with_capacity(alloc, text.len() / 6 + 1)?;
+    let mut terms = Terms::with_capacity(alloc, text.len() / 4 + 1)?;
+    let mut rest = text;
+    loop {
+        let plain = plain_front(rest);
+        let end = parting_space(rest, plain);
+        push_tokens(alloc, &rest[..end], plain, &mut terms)?;
+        if end == rest.len() {
+            return Ok(terms);
+        }
+        rest = &rest[end + 1..];
+    }
+}
+
+/// The token of a text that is one word of letters and digits of ASCII, and `None` of any other text, whose tokens
+/// [`tokens`] gives. Takes memory for a long token alone, and answers `NoMemory` where there is none.
+pub fn plain_token(alloc: Global, text: &str) -> Result<Option<Term>, NoMemory>
+    ensures { IfOk result (λ found. MatchOption found (IsPlain text.now → ⊥) (λ term. tokens_of text.now ≡ term ∷ [])) }
+{
+    let plain = plain_front(text);
+    if plain == 0 || plain != text.len() {
+        return Ok(None);
+    }
+    let term = folded_term(alloc, text)?;
+    Ok(Some(term))
+}
+
+// Puts the tokens of a text at the end, of which so many bytes at its front are letters and digits of ASCII: where
+// all are, the text is one word.
+#[inline(always)]
+fn push_tokens(alloc: Global, text: &str, plain: usize, terms: &mut Terms) -> Result<(), NoMemory>
+    requires { All IsAlphanumeric (take plain text.now) }
+    ensures { IfOk result (λ _. terms.new ≡ terms.old ++ tokens_of text.now) }
+{
+    if plain == 0 || plain != text.len() {
+        return push_words(alloc, text, terms);
+    }
+    let term = folded_term(alloc, text)?;
+    terms.push(term)?;
+    Ok(())
+}
+
+// The same of any text.
+fn push_words(alloc: Global, text: &str, terms: &mut Terms) -> Result<(), NoMemory>
+    ensures { IfOk result (λ _. terms.new ≡ terms.old ++ tokens_of text.now) }
+{
     for word in text.unicode_words() {
         let term = folded_term(alloc, word)?;
         terms.push(term)?;
     }
-    Ok(terms)
+    Ok(())
+}
+
+// How many bytes at the front are letters and digits of ASCII.
+#[inline(always)]
+fn plain_front(text: &str) -> usize
+    ensures within { result ≤ length text.now }
+    ensures plain { All IsAlphanumeric (take result text.now) }
+    ensures most { result < length text.now → IsAlphanumeric (slice_index text.now result) → ⊥ }
+{
+    let bytes = text.as_bytes();
+    let mut place = 0;
+    while place < bytes.len() && bytes[place].is_ascii_alphanumeric() {
+        place += 1;
+    }
+    place
+}
+
+// The first place, from this one on, of a space that parts the words before it from those behind it, whatever they are,
+// or the length.
+#[inline(always)]
+fn parting_space(text: &str, from: usize) -> usize
+    requires { from ≤ length text.now }
+    ensures within { (from ≤ result) × (result ≤ length text.now) }
+    ensures ends { IsCharBoundary text.now result }
+    ensures begins { result < length text.now → IsCharBoundary text.now (result + 1) }
+    ensures parts { words text.now ≡ words (take result text.now) ++ words (drop (result + 1) text.now) }
+{
+    let bytes = text.as_bytes();
+    for place in from..bytes.len() {
+        if is_parting(bytes, place) {
+            return place;
+        }
+    }
+    bytes.len()
+}
+
+// Whether a space stands here that follows a byte of ASCII other than a space, and comes before a letter or a digit of
+// ASCII: no rule of UAX #29 joins what stands on both sides of it, or looks past it.
+#[inline(always)]
+fn is_parting(bytes: &[u8], place: usize) -> bool
+    requires { place < length bytes.now }
+    ensures { IsTrue result → IsParting bytes.now place }
+{
+    if bytes[place] != b' ' {
+        return false;
+    }
+    if place == 0 || place + 1 == bytes.len() {
+        return false;
+    }
+    let last = bytes[place - 1];
+    last < 128 && last != b' ' && bytes[place + 1].is_ascii_alphanumeric()
 }
 
 /// A text under the default case folding of Unicode, as one term: it isn't cut into words. One whose characters

@@ -1,21 +1,26 @@
 -- Remembering the tokens of a document.
-use Rattle.std.proofs.Common.{◌≡◌, ◌≢◌, ℕ, zero, suc, ◌+◌, ◌<◌, ◌≤◌, false, List, [], ◌∷◌, length, take, get_or, refl, ap, sym, ◌∙◌, subst, arith, inl, inr, bytes_eq, slice_get, slice_set, Some}
+use Rattle.std.proofs.Common.{◌≡◌, ◌≢◌, ℕ, zero, suc, ◌+◌, ◌%◌, ◌<◌, ◌≤◌, false, List, [], ◌∷◌, length, take, get_or, refl, ap, sym, ◌∙◌, subst, arith, inl, inr, bytes_eq, slice_get, slice_set, Some}
 use native.Mathlib.Decide.{ℕ_discrete}
 use Rattle.std.proofs.lemmas.Bool.{cases_Bool, cases_lt}
 use Rattle.std.proofs.lemmas.Slice.Eq.{bytes_eq-Decides}
 use Rattle.eb_base.specs.Term.{Term}
 use Rattle.eb_base.specs.Document.{most_tokens}
+use Rattle.eb_place.specs.Placing.{hash}
 use Rattle.eb_place.specs.Postings.{count_of}
 use Rattle.eb_place.proofs.TermCounts.{one_if, count_of-nil, count_of-cons}
 use Rattle.eb_writer.specs.declared.plan.Recall.{Recall}
 use Rattle.eb_writer.specs.declared.plan.TheConstants.{BUCKETS}
-use Rattle.eb_writer.specs.Recall.{bucket, token_at, LeadsBack, Remembers, StoodAt}
+use Rattle.eb_writer.specs.Recall.{bucket, bucket_in, token_at, LeadsBack, Remembers, StoodAt}
 
 -- the element that is given is that at its place
 pub at_place : {X : Type 0} (xs : List X) (i : ℕ) (x y : X) → slice_get xs i ≡ Some x → get_or xs i y ≡ x
 at_place [] i x y e = absurd cc
 at_place (z ∷ xs) zero x y e = cc
 at_place (z ∷ xs) (suc i) x y e = at_place xs i x y e
+
+-- the bucket of a token by its hash
+pub bucket_by_hash : (ts : List Term) (i hashed b : ℕ) → hashed ≡ hash (token_at ts i) → b ≡ hashed % BUCKETS → b ≡ bucket_in ts i
+bucket_by_hash ts i hashed b h e = e ∙ ap (λ k. k % BUCKETS) h
 
 -- the first tokens with one more
 pub count_take : (u : Term) (ts : List Term) (p : ℕ) → p < length ts → count_of u (take (suc p) ts) ≡ count_of u (take p ts) + one_if (bytes_eq u (token_at ts p))

@@ -2,18 +2,19 @@ ghost use Rattle.std.specs.Prelude.{◌≡◌, ◌<◌, ◌≤◌, ◌+◌, ◌+
 ghost use Rattle.eb_base.specs.Term.{Term};
 ghost use Rattle.eb_base.specs.Document.{most_tokens, most_bytes};
 ghost use Rattle.eb_place.specs.declared.moment.Moment.{Moment};
+ghost use Rattle.eb_place.specs.Placing.{hash};
 ghost use Rattle.eb_place.specs.Postings.{count_of, number_of, distinct};
 ghost use Rattle.eb_place.specs.Later.{IsNotBefore};
 ghost use Rattle.eb_chain.specs.Needs.{IsTailWord};
-ghost use Rattle.eb_writer.specs.Recall.{Remembers, bucket_in};
+ghost use Rattle.eb_writer.specs.Recall.{Remembers, bucket_in, token_at};
 ghost use Rattle.eb_writer.specs.Counting.{IsIdle, tokens_in, IsUsedBy, IsFound, AreFound, IsFirst, IsReady, IsPlan, IsSmall};
 
 use crate::plan::{Found, Plan, Recall};
-use crate::recall::{bucket_of, forget, last_place, remember};
+use crate::recall::{bucket_of, forget, hash_at, last_place, remember};
 use eb_base::{Document, MAX_TOKENS, Term, Terms};
 use eb_chain::{NewSlices, needs_next};
 use eb_place::{Pen, Places, Steps, Used};
-use eb_terms::{count_words, find};
+use eb_terms::{count_words, find_hashed};
 use std::sync::ledger::{Blank, Ledger};
 
 // Counts what a document needs of a segment, token by token, before anything is stored of it.
@@ -36,12 +37,14 @@ pub(crate) fn make_plan<P: Pen, L: Ledger>(
     plan.used = used;
     for at in 0..terms.len() {
         let next = plan.used.terms;
-        let bucket = bucket_of(terms, at);
+        let hashed = hash_at(terms, at);
+        let bucket = bucket_of(hashed);
         let token = found_at(
             pen,
             segment,
             terms,
             at,
+            hashed,
             bucket,
             &plan.recall,
             &plan.found,
@@ -61,6 +64,7 @@ fn found_at<P: Pen, L: Ledger>(
     segment: u32,
     terms: &Terms,
     at: usize,
+    hashed: u32,
     bucket: usize,
     recall: &Recall,
     found: &[Found; MAX_TOKENS],
@@ -68,6 +72,7 @@ fn found_at<P: Pen, L: Ledger>(
     steps: &mut Steps<L>,
 ) -> Found
     requires place { (at < length terms.now) × (length terms.now ≤ most_tokens) × Remembers recall.now terms.now at × (bucket ≡ bucket_in terms.now at) }
+    requires hash { hashed ≡ hash (token_at terms.now at) }
     requires ready { (m : Moment) × P.stands pen.old m × IsIdle m × (segment < m.setting.segments) × AreFound (tokens_in m segment) terms.now found.now at }
     ensures { (m : Moment) → P.stands pen.old m → IsIdle m → segment < m.setting.segments → AreFound (tokens_in m segment) terms.now found.now at
         → next ≡ length (distinct (tokens_in m segment ++ take at terms.now))
@@ -81,7 +86,7 @@ fn found_at<P: Pen, L: Ledger>(
                 ..last
             }
         }
-        None => first_found(pen, segment, terms.get(at), next, steps),
+        None => first_found(pen, segment, terms.get(at), hashed, next, steps),
     }
 }
 
@@ -90,14 +95,16 @@ fn first_found<P: Pen, L: Ledger>(
     pen: &mut P,
     segment: u32,
     term: &Term,
+    hashed: u32,
     next: u32,
     steps: &mut Steps<L>,
 ) -> Found
-    requires { (m : Moment) × P.stands pen.old m × IsIdle m × (segment < m.setting.segments) }
+    requires hash { hashed ≡ hash term.now }
+    requires ready { (m : Moment) × P.stands pen.old m × IsIdle m × (segment < m.setting.segments) }
     ensures { (m : Moment) → P.stands pen.old m → IsIdle m → segment < m.setting.segments
         → (n : Moment) × P.stands pen.new n × IsNotBefore n m × P.keeps pen.old m pen.new n × IsFirst (tokens_in m segment) term.now next result }
 {
-    match find(pen, segment, term, steps) {
+    match find_hashed(pen, segment, term, hashed, steps) {
         Some(number) => {
             let place = Places::new(pen.config()).tail(segment, number);
             Found {

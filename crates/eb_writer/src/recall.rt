@@ -1,11 +1,12 @@
-ghost use Rattle.std.specs.Prelude.{◌≡◌, ◌<◌, ◌≤◌, ◌+◌, length, take, MatchOption};
+ghost use Rattle.std.specs.Prelude.{◌≡◌, ◌<◌, ◌≤◌, ◌+◌, ◌%◌, length, take, MatchOption};
 ghost use Rattle.eb_base.specs.Document.{most_tokens};
+ghost use Rattle.eb_place.specs.Placing.{hash};
 ghost use Rattle.eb_place.specs.Postings.{count_of};
 ghost use Rattle.eb_writer.specs.Recall.{Remembers, StoodAt, token_at, bucket_in};
 
 use crate::plan::{BUCKETS, Recall};
 use eb_base::Terms;
-use eb_terms::home;
+use eb_terms::{hash_of, home_of};
 
 // Forgets all tokens: those of another document come.
 pub(crate) fn forget(recall: &mut Recall, terms: &Terms)
@@ -15,12 +16,19 @@ pub(crate) fn forget(recall: &mut Recall, terms: &Terms)
     recall.latest = [0; BUCKETS];
 }
 
-// The bucket of the token at a place.
-pub(crate) fn bucket_of(terms: &Terms, at: usize) -> usize
+// The hash of the token at a place, by which its bucket and its home cell are found.
+pub(crate) fn hash_at(terms: &Terms, at: usize) -> u32
     requires { at < length terms.now }
-    ensures { result ≡ bucket_in terms.now at }
+    ensures { result ≡ hash (token_at terms.now at) }
 {
-    home(terms.get(at), BUCKETS as u32) as usize
+    hash_of(terms.get(at))
+}
+
+// The bucket of a token of this hash.
+pub(crate) fn bucket_of(hashed: u32) -> usize
+    ensures { result ≡ hashed % BUCKETS }
+{
+    home_of(hashed, BUCKETS as u32) as usize
 }
 
 // Where the term of the token at a place stood last before it, if it did.

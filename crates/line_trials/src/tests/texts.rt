@@ -15,7 +15,7 @@ fn barred(alloc: Global, text: &str) -> Result<Vec<u8>, NoMemory> {
 }
 
 // Texts, and their tokens.
-const TEXTS: [(&str, &str); 7] = [
+const TEXTS: [(&str, &str); 14] = [
     (
         "Sunset over the Straße tonight",
         "sunset|over|the|strasse|tonight|",
@@ -26,6 +26,14 @@ const TEXTS: [(&str, &str); 7] = [
     ("", ""),
     ("ΣΑΣ σας", "σασ|σασ|"),
     ("foo.bar 3.14 e-mail", "foo.bar|3.14|e|mail|"),
+    (" rain  over   Wien ", "rain|over|wien|"),
+    ("Rain, rain. 3 7a 2,5", "rain|rain|3|7a|2,5|"),
+    ("a _b c_ d", "a|_b|c_|d|"),
+    ("Straße 12 ÖBB", "strasse|12|öbb|"),
+    ("tab\tand\nline feed", "tab|and|line|feed|"),
+    ("x\u{2003} y", "x|y|"),
+    // a mark that is a letter stands on the space before it, and folds to an iota
+    ("snow \u{345}fall", "snow| \u{3b9}|fall|"),
 ];
 
 #[test]

@@ -2,19 +2,19 @@ use Rattle.std.proofs.Common.{◌≡◌, ◌≢◌, ℕ, zero, suc, ◌+◌, ◌
 use Rattle.eb_base.specs.Query.{Tree, tree, word, phrase, window, since, negation, conjunction, disjunction}
 use Rattle.eb_base.specs.declared.query.Query.{Query}
 use Rattle.eb_cursor.specs.AndCosts.{word_parts, rounds_cost, AndOwes}
-use Rattle.eb_cursor.specs.Asked.{trees_in}
+use Rattle.eb_cursor.specs.Asked.{weight, weights, trees_in}
 use Rattle.eb_cursor.specs.Lists.{gives}
 use Rattle.eb_cursor.specs.Ready.{Ready, AllReady}
 use Rattle.eb_cursor.specs.Tops.{top}
 use Rattle.eb_cursor.specs.Posted.{match_at}
 use Rattle.eb_cursor.specs.declared.cursor.Cursor.{Cursor}
-use Rattle.eb_cursor.proofs.Tops.{top_le}
 use Rattle.eb_cursor.proofs.Readies.{ready_lower, ready_later, all_lower, all_size}
 use Rattle.eb_cursor.proofs.Steps.{tree_Word, tree_Phrase, tree_Window, tree_Since, tree_Not, tree_And, tree_Or, not_asks, not_told, not_here, not_past, each_told, each_asks, led_none}
-use Rattle.eb_cursor.proofs.Steps.{led_here, led_there, led_top, round_end, round_step, round_behind, some_end, some_step, some_asks, some_told, front_of, front_asks, others_ask, ended}
+use Rattle.eb_cursor.proofs.Steps.{led_here, led_there, led_top, round_end, round_behind, some_end, some_step, some_asks, some_told, front_of, front_asks, others_ask, ended}
 use Rattle.eb_place.proofs.LaterMoments.{later_on}
 use Rattle.eb_cursor.proofs.AndLoads.{words_split, spans_front, spans_join, cost_low, cost_falls, under_at}
 use Rattle.eb_cursor.proofs.Owing.{all_span_later}
+use Rattle.eb_cursor.proofs.Turns.{word_front, part_alone, others_can, turn_found, turn_paid, single_can, single_found, single_paid}
 use Rattle.eb_cursor.proofs.LoadsLeft.{loads_split, loads_split_back}
 use Rattle.eb_cursor.proofs.Tellings.{IsLater, gives_later, later_same, told_itself, told_as, told_on}
 use Rattle.eb_cursor.proofs.below.+below.Goals as goal
@@ -181,8 +181,8 @@ all_below-loop-place-init g t c = record {
   rounds = λ ts t e i docs r last s most h st ready. told_itself g.met.P.Port.keeps_itself (λ m p. (most, p, omega arith));
 }
 
-pub all_below-round_below-found-requires : goal.all_below-round_below-found-requires
-all_below-round_below-found-requires g t c = λ κs lv.
+pub all_below-turn_below-found-requires : goal.all_below-turn_below-found-requires
+all_below-turn_below-found-requires g t c = λ κs lv.
     let r = c.requires.ready in
     let i = (c.loop-place.invariant.found r.1 r.2 r.4).told r.0 r.3 r.5 in (
       search rules,
@@ -194,45 +194,45 @@ all_below-round_below-found-requires g t c = λ κs lv.
 
 pub all_below-returns-then-found-place-clause-found : goal.all_below-returns-then-found-place-clause-found
 all_below-returns-then-found-place-clause-found g t c = λ docs last h.
-    told_on g.met.P.Port.lawful g.met.P.Port.keeps_on (c.loop-place.invariant.found docs last h) (c.round_below-found.ensures.found docs c.loop-place.place (omega arith))
+    told_on g.met.P.Port.lawful g.met.P.Port.keeps_on (c.loop-place.invariant.found docs last h) (c.turn_below-found.ensures.found docs c.loop-place.place (omega arith))
     (λ l r. r) (λ l m w r i. i.1)
     (λ l m n w1 w2 r i round.
-    (sym (i.0 ∙ round.all c.if-found-place.true), subst (λ y. AllReady (gives n) docs (trees_in c.args.parts.now) c.round_below-found.new.cursors y) c.if-found-place.true round.ready))
+    (sym (i.0 ∙ round.all c.if-found-place.true), subst (λ y. AllReady (gives n) docs (trees_in c.args.parts.now) c.turn_below-found.new.cursors y) c.if-found-place.true round.ready))
 
 pub all_below-loop-place-smaller : goal.all_below-loop-place-smaller
 all_below-loop-place-smaller g t c =
     let r = c.requires.ready in
     let i = (c.loop-place.invariant.found r.1 r.2 r.4).told r.0 r.3 r.5 in
-    let x = (c.round_below-found.ensures.found r.1 c.loop-place.place (omega arith)).told i.0 i.1 i.4.1 in
-    let le : c.round_below-found.result ≤ c.loop-place.place = x.4.falls in
-    let ne : c.round_below-found.result ≢ c.loop-place.place = c.if-found-place.false in
+    let x = (c.turn_below-found.ensures.found r.1 c.loop-place.place (omega arith)).told i.0 i.1 i.4.1 in
+    let le : c.turn_below-found.result ≤ c.loop-place.place = x.4.falls in
+    let ne : c.turn_below-found.result ≢ c.loop-place.place = c.if-found-place.false in
     omega arith
 
 pub all_below-loop-place-preserved : goal.all_below-loop-place-preserved
 all_below-loop-place-preserved g t c =
     let r = c.requires.ready in
     let i = (c.loop-place.invariant.found r.1 r.2 r.4).told r.0 r.3 r.5 in
-    let x = (c.round_below-found.ensures.found r.1 c.loop-place.place (omega arith)).told i.0 i.1 i.4.1 in
+    let x = (c.turn_below-found.ensures.found r.1 c.loop-place.place (omega arith)).told i.0 i.1 i.4.1 in
     record {
       falls = omega (arith, x.4.falls, c.loop-place.invariant.falls);
-      loads = omega (arith, c.round_below-found.ensures.loads, c.loop-place.invariant.loads);
+      loads = omega (arith, c.turn_below-found.ensures.loads, c.loop-place.invariant.loads);
       found = λ docs last h.
-          told_on g.met.P.Port.lawful g.met.P.Port.keeps_on (c.loop-place.invariant.found docs last h) (c.round_below-found.ensures.found docs c.loop-place.place (omega arith))
+          told_on g.met.P.Port.lawful g.met.P.Port.keeps_on (c.loop-place.invariant.found docs last h) (c.turn_below-found.ensures.found docs c.loop-place.place (omega arith))
           (λ l r. r) (λ l m w r i. i.1)
           (λ l m n w1 w2 r i round. (i.0 ∙ round.same, round.ready));
       rounds = λ ts t e member docs r last s most h st ready. record {
         told = λ m at p.
             let i = (c.loop-place.invariant.found docs last h).told r st (subst (λ z. AllReady (gives r) docs z c.args.cursors.now last) (sym e) ready) in
-            let z = (c.round_below-found.ensures.found docs c.loop-place.place (omega arith)).told i.0 i.1 i.4.1 in
-            let falls : c.round_below-found.result < c.loop-place.place = let ne : c.round_below-found.result ≢ c.loop-place.place = c.if-found-place.false in omega (arith, z.4.falls, ne) in
-            let pays = cost_falls docs ts t c.round_below-found.result c.loop-place.place falls (under_at docs ts t (trees_in c.args.parts.now) _ _ member e z.4.under) in
+            let z = (c.turn_below-found.ensures.found docs c.loop-place.place (omega arith)).told i.0 i.1 i.4.1 in
+            let falls : c.turn_below-found.result < c.loop-place.place = let ne : c.turn_below-found.result ≢ c.loop-place.place = c.if-found-place.false in omega (arith, z.4.falls, ne) in
+            let pays = cost_falls docs ts t c.turn_below-found.result c.loop-place.place falls (under_at docs ts t (trees_in c.args.parts.now) _ _ member e z.4.under) in
             let x = (c.loop-place.invariant.rounds ts t e member docs r last s most h st ready).told m at p in
-            let y = (c.round_below-found.ensures.spans ts e s x.4.1.0).told x.0 x.1 x.4.1.1 in (
+            let y = (c.turn_below-found.ensures.spans ts e s x.4.1.0).told x.0 x.1 x.4.1.1 in (
               y.0,
               y.1,
               later_on m x.0 y.0 x.2 y.2,
               g.met.P.Port.keeps_on _ _ _ m x.0 y.0 x.3 y.3,
-              (y.4.0 + rounds_cost docs ts t c.round_below-found.result, (y.4.0, y.4.1, omega arith), omega (arith, x.4.1.2, x.4.2, y.4.2, pays)),
+              (y.4.0 + rounds_cost docs ts t c.turn_below-found.result, (y.4.0, y.4.1, omega arith), omega (arith, x.4.1.2, x.4.2, y.4.2, pays)),
             );
       };
     }
@@ -329,38 +329,20 @@ round_below-split_at_mut-own-requires g t c = let r = c.requires.ready in
 
 pub round_below-round_below-requires : goal.round_below-round_below-requires
 round_below-round_below-requires g t c = λ κs lv.
-    let r = c.requires.ready in
     let e = front_of c.args.parts.now c.in-Some.part.now c.in-Some.others.now c.args.cursors.now c.split_at_mut-own.result.0.now c.split_at_mut-own.result.1.now
     c.part_size.result c.in-Some.ensures.cases.0 c.part_size.ensures c.split_at_mut-own.ensures.front c.split_at_mut-own.ensures.back in
-    let x = (c.part_below-found.ensures.found r.1 r.2 r.4).told r.0 r.3 (front_asks (gives r.0) r.1 (trees_in c.args.parts.now) (tree c.in-Some.part.now)
-    (trees_in c.in-Some.others.now) c.args.cursors.now c.split_at_mut-own.result.0.now c.split_at_mut-own.result.1.now r.2 e r.5) in
-    let w : IsLater r.0 x.0 = record { is = g.met.P.Port.lawful _ r.0 r.3; later = x.2 } in
-    let more = others_ask (gives r.0) (gives x.0) r.1 (trees_in c.args.parts.now) (tree c.in-Some.part.now)
-    (trees_in c.in-Some.others.now) c.args.cursors.now c.split_at_mut-own.result.0.now c.split_at_mut-own.result.1.now c.args.end r.2 e (gives_later r.0 x.0 w) r.4 r.5 in
-    let under : c.part_below-found.result ≤ c.args.end = omega (arith, x.4.0, top_le (match_at r.1 (tree c.in-Some.part.now)) c.args.end) in (
-      search rules,
-      (
-        search rules,
-        (search rules, ((omega (arith, under, c.requires.small.0), search rules), (x.0, r.1, c.args.end, x.1, omega (arith, x.4.0, top_le (match_at r.1 (tree c.in-Some.part.now)) c.args.end), more))),
-      ),
-    )
+    let more = others_can (trees_in c.args.parts.now) (tree c.in-Some.part.now) (trees_in c.in-Some.others.now) c.args.cursors.now
+    c.split_at_mut-own.result.0.now c.split_at_mut-own.result.1.now c.part_below-found.new.cursors c.args.end c.part_below-found.result
+    g.met.P.Port.lawful e c.requires.ready c.part_below-found.ensures.found in
+    (search rules, (search rules, (search rules, ((omega (arith, more.0, c.requires.small.0), search rules), more.1))))
 
 pub round_below-returns-clause-found : goal.round_below-returns-clause-found
-round_below-returns-clause-found g t c = λ docs last h.
-    let r = c.requires.ready in
+round_below-returns-clause-found g t c =
     let e = front_of c.args.parts.now c.in-Some.part.now c.in-Some.others.now c.args.cursors.now c.split_at_mut-own.result.0.now c.split_at_mut-own.result.1.now
     c.part_size.result c.in-Some.ensures.cases.0 c.part_size.ensures c.split_at_mut-own.ensures.front c.split_at_mut-own.ensures.back in
-    let x = (c.part_below-found.ensures.found r.1 r.2 r.4).told r.0 r.3 (front_asks (gives r.0) r.1 (trees_in c.args.parts.now) (tree c.in-Some.part.now)
-    (trees_in c.in-Some.others.now) c.args.cursors.now c.split_at_mut-own.result.0.now c.split_at_mut-own.result.1.now r.2 e r.5) in
-    let under : c.part_below-found.result ≤ c.args.end = omega (arith, x.4.0, top_le (match_at r.1 (tree c.in-Some.part.now)) c.args.end) in
-    told_on g.met.P.Port.lawful g.met.P.Port.keeps_on (c.part_below-found.ensures.found docs last h) (c.round_below.ensures.found docs c.args.end under)
-    (λ l k. front_asks (gives l) docs (trees_in c.args.parts.now) (tree c.in-Some.part.now)
-    (trees_in c.in-Some.others.now) c.args.cursors.now c.split_at_mut-own.result.0.now c.split_at_mut-own.result.1.now last e k)
-    (λ l m w k i. others_ask (gives l) (gives m) docs (trees_in c.args.parts.now) (tree c.in-Some.part.now)
-    (trees_in c.in-Some.others.now) c.args.cursors.now c.split_at_mut-own.result.0.now c.split_at_mut-own.result.1.now c.args.end last e (gives_later l m w) h k)
-    (λ l m n w1 w2 k i more. round_step (gives m) (gives n) docs (trees_in c.args.parts.now) (tree c.in-Some.part.now)
-    (trees_in c.in-Some.others.now) c.part_below-found.new.cursors c.round_below.new.cursors c.args.end c.part_below-found.result c.round_below.result
-    e.parts (gives_later m n w2) i.0 i.1 more)
+    turn_found (trees_in c.args.parts.now) (tree c.in-Some.part.now) (trees_in c.in-Some.others.now) c.args.cursors.now c.split_at_mut-own.result.0.now c.split_at_mut-own.result.1.now
+    c.part_below-found.new.cursors c.round_below.new.cursors c.args.end c.part_below-found.result c.round_below.result g.met.P.Port.lawful g.met.P.Port.keeps_on e
+    c.requires.ready c.part_below-found.ensures.found c.round_below.ensures.found
 
 -- ---- a bound on the id is asked after the parts that follow it
 
@@ -474,7 +456,7 @@ pub all_below-returns-then-found-place-clause-rounds : goal.all_below-returns-th
 all_below-returns-then-found-place-clause-rounds g t c = λ ts u e member docs r last s most h st ready. record {
   told = λ m at p.
       let x = (c.loop-place.invariant.rounds ts u e member docs r last s most h st ready).told m at p in
-      let y = (c.round_below-found.ensures.spans ts e s x.4.1.0).told x.0 x.1 x.4.1.1 in (
+      let y = (c.turn_below-found.ensures.spans ts e s x.4.1.0).told x.0 x.1 x.4.1.1 in (
         y.0,
         y.1,
         later_on m x.0 y.0 x.2 y.2,
@@ -567,28 +549,12 @@ pub round_below-returns-in_default-clause-spans : goal.round_below-returns-in_de
 round_below-returns-in_default-clause-spans g t c = λ ts e s most. told_itself g.met.P.Port.keeps_itself (λ m h. (most, h, omega arith))
 
 pub round_below-returns-clause-spans : goal.round_below-returns-clause-spans
-round_below-returns-clause-spans g t c = λ ts e s most. record {
-  told = λ m at h.
-      let f = front_of c.args.parts.now c.in-Some.part.now c.in-Some.others.now c.args.cursors.now c.split_at_mut-own.result.0.now c.split_at_mut-own.result.1.now
-      c.part_size.result c.in-Some.ensures.cases.0 c.part_size.ensures c.split_at_mut-own.ensures.front c.split_at_mut-own.ensures.back in
-      let k = words_split ts (tree c.in-Some.part.now) (trees_in c.in-Some.others.now) (sym f.parts ∙ e) in
-      let o = spans_front m s ts k.0 k.1 (trees_in c.args.parts.now) (tree c.in-Some.part.now) (trees_in c.in-Some.others.now)
-      c.args.cursors.now c.split_at_mut-own.result.0.now c.split_at_mut-own.result.1.now most f k.2 k.3 h in
-      let x = (c.part_below-found.ensures.spans k.0 k.3 s o.0).told m at o.2 in
-      let others = all_span_later m x.0 s k.1 c.split_at_mut-own.result.1.now o.1 (g.met.P.Port.lawful _ m at) x.2 o.3 in
-      let y = (c.round_below.ensures.spans k.1 k.4 s o.1).told x.0 x.1 others in
-      let own = all_span_later x.0 y.0 s (k.0 ∷ []) c.part_below-found.new.cursors x.4.0 (g.met.P.Port.lawful _ x.0 x.1) y.2 x.4.1 in (
-        y.0,
-        y.1,
-        later_on m x.0 y.0 x.2 y.2,
-        g.met.P.Port.keeps_on _ _ _ m x.0 y.0 x.3 y.3,
-        (
-          x.4.0 + y.4.0,
-          spans_join y.0 s ts k.0 k.1 c.part_below-found.new.cursors c.round_below.new.cursors x.4.0 y.4.0 k.2 own y.4.1,
-          omega (arith, x.4.2, y.4.2, o.4, ap length k.2),
-        ),
-      );
-}
+round_below-returns-clause-spans g t c =
+    let e = front_of c.args.parts.now c.in-Some.part.now c.in-Some.others.now c.args.cursors.now c.split_at_mut-own.result.0.now c.split_at_mut-own.result.1.now
+    c.part_size.result c.in-Some.ensures.cases.0 c.part_size.ensures c.split_at_mut-own.ensures.front c.split_at_mut-own.ensures.back in
+    turn_paid (trees_in c.args.parts.now) (tree c.in-Some.part.now) (trees_in c.in-Some.others.now) c.args.cursors.now c.split_at_mut-own.result.0.now c.split_at_mut-own.result.1.now
+    c.part_below-found.new.cursors c.round_below.new.cursors c.args.steps.now c.part_below-found.new.steps c.round_below.new.steps
+    g.met.P.Port.lawful g.met.P.Port.keeps_on e c.part_below-found.ensures.spans c.round_below.ensures.spans
 
 pub round_below-returns-then-is_bound-clause-spans : goal.round_below-returns-then-is_bound-clause-spans
 round_below-returns-then-is_bound-clause-spans g t c = λ ts e s most. record {
@@ -613,3 +579,57 @@ round_below-returns-then-is_bound-clause-spans g t c = λ ts e s most. record {
         ),
       );
 }
+
+-- ---- a turn that begins with a word
+
+pub turn_below-last_below-requires : goal.turn_below-last_below-requires
+turn_below-last_below-requires g t c = λ κs lv.
+    let w = c.in-Some-Word-default in
+    let e = word_front c.args.parts.now w.field-0-0.now w.others.now w.field-0-0-0 c.args.cursors.now c.split_at_mut-own.result.0.now c.split_at_mut-own.result.1.now
+    w.ensures.cases.0 w.field-0-0-is c.split_at_mut-own.ensures.front c.split_at_mut-own.ensures.back in
+    let more = others_can (trees_in c.args.parts.now) (word w.field-0-0-0) (trees_in w.others.now) c.args.cursors.now
+    c.split_at_mut-own.result.0.now c.split_at_mut-own.result.1.now c.word_below-found.new.cursors c.args.end c.word_below-found.result
+    g.met.P.Port.lawful e c.requires.ready (λ docs. c.word_below-found.ensures.found docs w.field-0-0-0) in
+    (search rules, (search rules, (search rules, ((omega (arith, more.0, c.requires.small.0), search rules), more.1))))
+
+pub turn_below-returns-clause-found : goal.turn_below-returns-clause-found
+turn_below-returns-clause-found g t c =
+    let w = c.in-Some-Word-default in
+    let e = word_front c.args.parts.now w.field-0-0.now w.others.now w.field-0-0-0 c.args.cursors.now c.split_at_mut-own.result.0.now c.split_at_mut-own.result.1.now
+    w.ensures.cases.0 w.field-0-0-is c.split_at_mut-own.ensures.front c.split_at_mut-own.ensures.back in
+    turn_found (trees_in c.args.parts.now) (word w.field-0-0-0) (trees_in w.others.now) c.args.cursors.now c.split_at_mut-own.result.0.now c.split_at_mut-own.result.1.now
+    c.word_below-found.new.cursors c.last_below.new.cursors c.args.end c.word_below-found.result c.last_below.result g.met.P.Port.lawful g.met.P.Port.keeps_on e
+    c.requires.ready (λ docs. c.word_below-found.ensures.found docs w.field-0-0-0) c.last_below.ensures.found
+
+pub turn_below-returns-clause-loads : goal.turn_below-returns-clause-loads
+turn_below-returns-clause-loads g t c = loads_split c.args.cursors.now c.split_at_mut-own.result.0.now c.split_at_mut-own.result.1.now
+    c.word_below-found.new.cursors c.last_below.new.cursors c.args.steps.now c.word_below-found.new.steps c.last_below.new.steps
+    c.split_at_mut-own.ensures.value c.word_below-found.ensures.loads c.last_below.ensures.loads
+
+pub turn_below-returns-clause-spans : goal.turn_below-returns-clause-spans
+turn_below-returns-clause-spans g t c =
+    let w = c.in-Some-Word-default in
+    let e = word_front c.args.parts.now w.field-0-0.now w.others.now w.field-0-0-0 c.args.cursors.now c.split_at_mut-own.result.0.now c.split_at_mut-own.result.1.now
+    w.ensures.cases.0 w.field-0-0-is c.split_at_mut-own.ensures.front c.split_at_mut-own.ensures.back in
+    turn_paid (trees_in c.args.parts.now) (word w.field-0-0-0) (trees_in w.others.now) c.args.cursors.now c.split_at_mut-own.result.0.now c.split_at_mut-own.result.1.now
+    c.word_below-found.new.cursors c.last_below.new.cursors c.args.steps.now c.word_below-found.new.steps c.last_below.new.steps
+    g.met.P.Port.lawful g.met.P.Port.keeps_on e (λ u _. c.word_below-found.ensures.spans u) c.last_below.ensures.spans
+
+pub last_below-part_below-requires : goal.last_below-part_below-requires
+last_below-part_below-requires g t c = λ κs lv.
+    let alone = part_alone c.args.parts.now c.part-item.result c.in-len1.len_at_least c.in-len1.len_below c.part-item.is in
+    let can = single_can g.P.Port.stands c.args.port.now (trees_in c.args.parts.now) (tree c.part-item.result) c.args.cursors.now c.args.end alone c.requires.ready in
+    let less : weights (trees_in c.args.parts.now) ≡ suc (weight (tree c.part-item.result) + 0) = ap weights alone in
+    (search (rules, less), (search rules, (search rules, (search rules, can))))
+
+pub last_below-returns-in-len1-clause-found : goal.last_below-returns-in-len1-clause-found
+last_below-returns-in-len1-clause-found g t c =
+    let alone = part_alone c.args.parts.now c.part-item.result c.in-len1.len_at_least c.in-len1.len_below c.part-item.is in
+    single_found (trees_in c.args.parts.now) (tree c.part-item.result) c.args.cursors.now c.part_below.new.cursors c.args.end c.part_below.result
+    g.met.P.Port.lawful g.met.P.Port.keeps_itself g.met.P.Port.keeps_on alone c.requires.ready c.part_below.ensures.found
+
+pub last_below-returns-in-len1-clause-spans : goal.last_below-returns-in-len1-clause-spans
+last_below-returns-in-len1-clause-spans g t c =
+    let alone = part_alone c.args.parts.now c.part-item.result c.in-len1.len_at_least c.in-len1.len_below c.part-item.is in
+    single_paid (trees_in c.args.parts.now) (tree c.part-item.result) c.args.cursors.now c.part_below.new.cursors c.args.end c.args.steps.now c.part_below.new.steps
+    g.met.P.Port.lawful g.met.P.Port.keeps_itself g.met.P.Port.keeps_on alone c.requires.ready c.part_below.ensures.spans

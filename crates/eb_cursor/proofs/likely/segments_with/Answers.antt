@@ -2,13 +2,20 @@ use Rattle.std.proofs.Common.{◌<◌, refl, sym, ◌∙◌, arith, length}
 use Rattle.std.proofs.lemmas.Bool.{false≢true}
 use Rattle.std.proofs.lemmas.List.{length-set}
 use Rattle.eb_place.proofs.LaterMoments.{later_on, later_self}
-use Rattle.eb_cursor.proofs.Absent.{all_likely, one_told}
+use Rattle.eb_cursor.proofs.Absent.{all_likely, one_told, one_filled}
 use Rattle.eb_cursor.proofs.likely.segments_with.Goals as goal
 
 pub loop-segment-init : goal.loop-segment-init
 loop-segment-init g c = record {
   long = refl;
-  told = λ m st. (m, st, later_self m, g.met.P.Port.keeps_itself c.args.port.now m st, λ s no there. absurd (false≢true (sym no ∙ all_likely 64 s)));
+  told = λ m st. (
+    m,
+    st,
+    later_self m,
+    g.met.P.Port.keeps_itself c.args.port.now m st,
+    (λ s no there. absurd (false≢true (sym no ∙ all_likely 64 s))),
+    (λ s low. absurd (omega (arith, low))),
+  );
   loads = omega arith;
 }
 
@@ -29,6 +36,8 @@ loop-segment-preserved g c =
             l,
             g.met.P.Port.keeps_on _ _ _ m x.0 y.0 x.3 y.3,
             one_told m y.0 c.args.term.now c.loop-segment.likely c.loop-segment.segment c.may_be_entered.result l low y.4 x.4,
+            one_filled x.0 y.0 c.args.term.now c.loop-segment.likely c.loop-segment.segment c.may_be_entered.result
+                (g.met.P.Port.lawful c.loop-segment.port x.0 x.1) (g.met.P.Port.lawful c.may_be_entered.new.port y.0 y.1) y.2 low y.5 y.6 x.5,
           );
       loads = omega (arith, inv.loads, c.may_be_entered.ensures.step);
     }

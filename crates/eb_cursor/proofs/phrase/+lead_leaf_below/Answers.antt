@@ -1,17 +1,17 @@
-use Rattle.std.proofs.Common.{◌≡◌, ◌+◌, length, arith, rules}
+use Rattle.std.proofs.Common.{◌≡◌, ◌+◌, length, refl, arith, rules}
 use Rattle.eb_cursor.specs.Lists.{gives}
 use Rattle.eb_cursor.specs.Posted.{is_posting}
 use Rattle.eb_cursor.proofs.Phrases.{run_asks, front_leaf, front_rest, led_run_none, led_run_here, led_run_there}
 use Rattle.eb_cursor.proofs.Tellings.{told_itself, gives_later, later_same, IsLater}
+use Rattle.eb_cursor.proofs.Terms.{first_can}
 use Rattle.eb_cursor.proofs.phrase.+lead_leaf_below.Goals as goal
 
 pub returns-in_default-clause-found : goal.returns-in_default-clause-found
 returns-in_default-clause-found g t c = λ docs ts last h. told_itself g.met.P.Port.keeps_itself (λ m r. led_run_none (gives m) docs ts c.args.cursors.now c.args.at c.args.end last h r)
 
 pub leaf_below-requires : goal.leaf_below-requires
-leaf_below-requires g t c = let r = c.requires.ready in
-    let a = run_asks (gives r.0) r.1 r.2 c.args.cursors.now c.in-Some.own.now c.in-Some.rest.now (r.3 + c.args.at) c.in-Some.ensures.cases.0 r.6 in
-    (r.0, is_posting r.1 a.0, r.4, front_leaf (gives r.0) r.1 r.2 c.in-Some.own.now c.in-Some.rest.now c.args.at c.args.end r.3 r.5 a)
+leaf_below-requires g t c = first_can g.P.Port.stands c.args.port.now c.args.cursors.now c.in-Some.own.now c.in-Some.rest.now c.args.at c.args.end (c.args.end + c.args.at)
+    c.in-Some.ensures.cases.0 refl c.requires.ready
 
 pub returns-then-lead-eq0-clause-found : goal.returns-then-lead-eq0-clause-found
 returns-then-lead-eq0-clause-found g t c = λ docs ts last h. record {

@@ -10,11 +10,13 @@ returns-in_default g c m st =
     let s = c.args.segment in
     let t = c.args.term.now in
     let i = c.loop-step.step in
-    let inside : s < m.setting.segments = subst (λ (σ : Setting). s < σ.segments) (sym (c.config.ensures c.requires.0 c.requires.1) ∙ c.config.ensures m st) c.requires.2 in
+    let inside : s < m.setting.segments = subst (λ (σ : Setting). s < σ.segments) (sym (c.config-config.ensures c.requires.0 c.requires.1) ∙ c.config-config.ensures m st) c.requires.2 in
     let k = c.loop-step.invariant m st in
+    let set = c.new-places.ensures ∙ c.config-config.ensures m st ∙ k.2.setting in
     let js = g.met.P.Port.lawful c.loop-step.port k.0 k.1 in
-    let at = c.cell_behind-cell.ensures ∙ probe_is k.0 c.config.result t i c.terms-cells.result c.home-first.result (c.config.ensures m st ∙ k.2.setting) c.terms-cells.ensures c.home-first.ensures in
-    let n = c.in_default.ensures.told.told k.0 k.1 (inside_later m k.0 s k.2 inside, subst (λ z. z < cells_in k.0) (sym at) (probe_low k.0 t i js)) in
+    let at = c.cell_behind-cell.ensures
+    ∙ probe_is k.0 c.config-config.result t i c.terms-cells.result c.home-first.result (c.config-config.ensures m st ∙ k.2.setting) c.terms-cells.ensures c.home-first.ensures in
+    let n = c.in_default.ensures.told.told k.0 k.1 (set, inside_later m k.0 s k.2 inside, subst (λ z. z < cells_in k.0) (sym at) (probe_low k.0 t i js)) in
     let is = g.met.P.Port.lawful c.number_in.new.port n.0 n.1 in
     let later = later_on m k.0 n.0 k.2 n.2 in
     let at' = at ∙ sym (probe_later k.0 n.0 t i n.2) in
@@ -32,11 +34,13 @@ loop-step-preserved g c m st =
     let s = c.args.segment in
     let t = c.args.term.now in
     let i = c.loop-step.step in
-    let inside : s < m.setting.segments = subst (λ (σ : Setting). s < σ.segments) (sym (c.config.ensures c.requires.0 c.requires.1) ∙ c.config.ensures m st) c.requires.2 in
+    let inside : s < m.setting.segments = subst (λ (σ : Setting). s < σ.segments) (sym (c.config-config.ensures c.requires.0 c.requires.1) ∙ c.config-config.ensures m st) c.requires.2 in
     let k = c.loop-step.invariant m st in
+    let set = c.new-places.ensures ∙ c.config-config.ensures m st ∙ k.2.setting in
     let js = g.met.P.Port.lawful c.loop-step.port k.0 k.1 in
-    let at = c.cell_behind-cell.ensures ∙ probe_is k.0 c.config.result t i c.terms-cells.result c.home-first.result (c.config.ensures m st ∙ k.2.setting) c.terms-cells.ensures c.home-first.ensures in
-    let n = c.in-Some.ensures.told.told k.0 k.1 (inside_later m k.0 s k.2 inside, subst (λ z. z < cells_in k.0) (sym at) (probe_low k.0 t i js)) in (
+    let at = c.cell_behind-cell.ensures
+    ∙ probe_is k.0 c.config-config.result t i c.terms-cells.result c.home-first.result (c.config-config.ensures m st ∙ k.2.setting) c.terms-cells.ensures c.home-first.ensures in
+    let n = c.in-Some.ensures.told.told k.0 k.1 (set, inside_later m k.0 s k.2 inside, subst (λ z. z < cells_in k.0) (sym at) (probe_low k.0 t i js)) in (
       n.0,
       n.1,
       later_on m k.0 n.0 k.2 n.2,
@@ -50,5 +54,5 @@ unreachable-requires g c =
     let s = c.args.segment in
     let k = c.loop-step.invariant r.0 r.1 in
     let is = g.met.P.Port.lawful c.loop-step.port k.0 k.1 in
-    let cells : 2 * c.terms-cells.result ≡ cells_in k.0 = ap (λ x. 2 * x) (c.terms-cells.ensures ∙ ap (λ (σ : Setting). σ.terms) (c.config.ensures r.0 r.1 ∙ k.2.setting)) in
+    let cells : 2 * c.terms-cells.result ≡ cells_in k.0 = ap (λ x. 2 * x) (c.terms-cells.ensures ∙ ap (λ (σ : Setting). σ.terms) (c.config-config.ensures r.0 r.1 ∙ k.2.setting)) in
     some_free k.0 s c.args.term.now c.loop-step.step is (inside_later r.0 k.0 s k.2 r.2) (omega (arith, c.loop-step-test.false)) k.4

@@ -11,10 +11,10 @@ use Rattle.eb_terms.proofs.finding.is_term.Goals as goal
 pub word_of_text-requires : goal.word_of_text-requires
 word_of_text-requires g c =
     let r = c.requires in
-    let k = c.loop-at.invariant.0.told r.0 r.1 (r.2, r.3) in
+    let k = c.loop-at.invariant.0.told r.0 r.1 (r.2, r.3, r.4) in
     let e = c.count_words-at-end.ensures.count in
     let l = c.loop-at-test.true in
-    (k.0, c.args.number, k.1, k.4.0, at_low (term_at k.0 c.args.segment c.args.number) c.args.term.now c.loop-at.at (omega arith) k.4.1)
+    (k.0, c.args.number, k.1, r.2 ∙ k.2.setting, k.4.0, at_low (term_at k.0 c.args.segment c.args.number) c.args.term.now c.loop-at.at (omega arith) k.4.1)
 
 pub returns-then-word_of_text-text_word : goal.returns-then-word_of_text-text_word
 returns-then-word_of_text-text_word g c = record {
@@ -22,7 +22,7 @@ returns-then-word_of_text-text_word g c = record {
     told = λ m st h.
         (let k = c.loop-at.invariant.0.told m st h in
         let n = (c.word_of_text.ensures.told c.args.number).told k.0 k.1
-        (k.4.0, at_low (term_at k.0 c.args.segment c.args.number) c.args.term.now c.loop-at.at (omega (arith, c.count_words-at-end.ensures.count, c.loop-at-test.true)) k.4.1) in
+        (h.0 ∙ k.2.setting, k.4.0, at_low (term_at k.0 c.args.segment c.args.number) c.args.term.now c.loop-at.at (omega (arith, c.count_words-at-end.ensures.count, c.loop-at-test.true)) k.4.1) in
         let same = same_term_later k.0 n.0 c.args.segment c.args.number n.2 k.4.0.number in
         let front = subst (λ t. AreSame (text_of t) (text_of c.args.term.now) c.loop-at.at) (sym same) k.4.1 in
         let stop = compare_stops (term_at n.0 c.args.segment c.args.number) c.args.term.now c.loop-at.at
@@ -46,7 +46,7 @@ loop-at-preserved g c = (
     told = λ m st h.
         (let k = c.loop-at.invariant.0.told m st h in
         let n = (c.word_of_text.ensures.told c.args.number).told k.0 k.1
-        (k.4.0, at_low (term_at k.0 c.args.segment c.args.number) c.args.term.now c.loop-at.at (omega (arith, c.count_words-at-end.ensures.count, c.loop-at-test.true)) k.4.1) in
+        (h.0 ∙ k.2.setting, k.4.0, at_low (term_at k.0 c.args.segment c.args.number) c.args.term.now c.loop-at.at (omega (arith, c.count_words-at-end.ensures.count, c.loop-at-test.true)) k.4.1) in
         let same = same_term_later k.0 n.0 c.args.segment c.args.number n.2 k.4.0.number in
         let front = subst (λ t. AreSame (text_of t) (text_of c.args.term.now) c.loop-at.at) (sym same) k.4.1 in (
           n.0,

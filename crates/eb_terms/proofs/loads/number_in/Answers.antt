@@ -15,22 +15,22 @@ overflow_cast-result g c =
     let is = g.met.P.Port.lawful c.load-word.new.self n.0 n.1 in
     let s = c.args.segment in
     let at : c.cell.result ≡ place n.0.setting (slot s cell_region c.args.cell) = c.cell.ensures.place
-    ∙ ap (λ (σ : Setting). place σ (slot s cell_region c.args.cell)) (c.new-places.ensures ∙ c.config.ensures r.0 r.1 ∙ n.2.setting) in
-    let inside = inside_later r.0 n.0 s n.2 r.2 in
-    let h = holds_number n.0 s c.args.cell c.load-word.result is inside (cell_later r.0 n.0 c.args.cell n.2 r.3) (n.4 ∙ ap (word n.0) at) (omega arith) in
+    ∙ ap (λ (σ : Setting). place σ (slot s cell_region c.args.cell)) (r.2 ∙ n.2.setting) in
+    let inside = inside_later r.0 n.0 s n.2 r.3 in
+    let h = holds_number n.0 s c.args.cell c.load-word.result is inside (cell_later r.0 n.0 c.args.cell n.2 r.4) (n.4 ∙ ap (word n.0) at) (omega arith) in
     let few = number_small n.0 s (c.load-word.result - 1) is inside h.0 in
     omega (arith, few.0, few.1)
 
 pub returns-clause-told : goal.returns-clause-told
 returns-clause-told g c = record {
   told = λ m st h.
-      (let inside = h.0 in
-      let low = h.1 in
+      (let inside = h.1 in
+      let low = h.2 in
       let n = c.load-word.ensures.told m st in
       let is = g.met.P.Port.lawful c.load-word.new.self n.0 n.1 in
       let s = c.args.segment in
       let at : c.cell.result ≡ place n.0.setting (slot s cell_region c.args.cell) = c.cell.ensures.place
-      ∙ ap (λ (σ : Setting). place σ (slot s cell_region c.args.cell)) (c.new-places.ensures ∙ c.config.ensures m st ∙ n.2.setting) in
+      ∙ ap (λ (σ : Setting). place σ (slot s cell_region c.args.cell)) (h.0 ∙ n.2.setting) in
       let h = holds_number n.0 s c.args.cell c.load-word.result is (inside_later m n.0 s n.2 inside) (cell_later m n.0 c.args.cell n.2 low) (n.4 ∙ ap (word n.0) at) (omega arith) in
       (n.0, n.1, n.2, n.3, h));
 }

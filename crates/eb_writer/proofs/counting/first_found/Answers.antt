@@ -16,7 +16,7 @@ use Rattle.eb_writer.proofs.counting.first_found.Goals as goal
 
 pub tail-place-requires-clause-term : goal.tail-place-requires-clause-term
 tail-place-requires-clause-term g c =
-    let r = c.requires in
+    let r = c.requires.ready in
     let s = c.args.segment in
     let n = c.in-Some.ensures.told r.0 r.1 in
     let f = g.met.P.Pen.pen_keeps _ _ r.0 n.0 n.3 in

@@ -7,7 +7,7 @@ use Rattle.eb_place.proofs.LaterMoments.{later_self, later_on, inside_later}
 use Rattle.eb_place.proofs.TermCounts.{count_of-append}
 use Rattle.eb_writer.specs.Recall.{token_at}
 use Rattle.eb_writer.specs.Counting.{tokens_in, IsUsedBy, IsFound, AreFound}
-use Rattle.eb_writer.proofs.Recalling.{at_place}
+use Rattle.eb_writer.proofs.Recalling.{at_place, bucket_by_hash}
 use Rattle.eb_writer.proofs.Idle.{ready_used, small_first, tokens_same, idle_same}
 use Rattle.eb_writer.proofs.Tallies.{small_more, token_short}
 use Rattle.eb_writer.proofs.Finding.{count_few, found_more}
@@ -35,7 +35,8 @@ found_at-token-requires-clause-place g c =
     let doc = c.terms-terms.ensures.document in
     let tokens = doc.limits.tokens in
     let same = ap length c.terms-terms.ensures.terms in
-    (omega (arith, c.loop-at-test.true, c.len-at-end.ensures), omega (arith, tokens, same), c.loop-at.invariant.1, c.bucket_of-bucket.ensures)
+    let bucket = bucket_by_hash c.terms-terms.result.now c.loop-at.at _ _ c.hash_at-hashed.ensures c.bucket_of-bucket.ensures in
+    (omega (arith, c.loop-at-test.true, c.len-at-end.ensures), omega (arith, tokens, same), c.loop-at.invariant.1, bucket)
 
 pub found_at-token-requires-clause-ready : goal.found_at-token-requires-clause-ready
 found_at-token-requires-clause-ready g c =
@@ -107,7 +108,8 @@ remember-requires g c =
     let doc = c.terms-terms.ensures.document in
     let tokens = doc.limits.tokens in
     let same = ap length c.terms-terms.ensures.terms in
-    (omega (arith, c.loop-at-test.true, c.len-at-end.ensures), omega (arith, tokens, same), c.loop-at.invariant.1, c.bucket_of-bucket.ensures)
+    let bucket = bucket_by_hash c.terms-terms.result.now c.loop-at.at _ _ c.hash_at-hashed.ensures c.bucket_of-bucket.ensures in
+    (omega (arith, c.loop-at-test.true, c.len-at-end.ensures), omega (arith, tokens, same), c.loop-at.invariant.1, bucket)
 
 pub loop-at-preserved : goal.loop-at-preserved
 loop-at-preserved g c = (

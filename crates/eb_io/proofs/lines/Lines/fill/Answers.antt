@@ -1,6 +1,7 @@
 use Rattle.std.proofs.Common.{◌≡◌, ap, ◌∙◌, false, arith}
 use Rattle.std.proofs.lemmas.Grind.{common_steps}
 use Rattle.eb_io.specs.Held.{Held}
+use Rattle.eb_io.proofs.Ends.{end_of_front}
 use Rattle.eb_io.proofs.lines.Lines.fill.Goals as goal
 
 pub invariant_of-self : goal.invariant_of-self
@@ -11,6 +12,7 @@ invariant_of-self g c =
       order = omega arith;
       within = grind (arith, common_steps);
       piece = grind (arith, common_steps);
+      end = end_of_front _ c.deref.result.now c.in-Bytes.count c.find_end-self-inside.result c.deref.ensures.value c.find_end-self-inside.ensures;
       part = i.part;
       part_room = i.part_room;
       given_room = i.given_room;

@@ -6,6 +6,7 @@ invariant_of-result c = record {
   order = search rules;
   within = search rules;
   piece = search rules;
+  end = λ k d few at. omega (arith, few);
   part = search rules;
   part_room = search rules;
   given_room = search rules;

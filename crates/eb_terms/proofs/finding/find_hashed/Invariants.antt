@@ -3,7 +3,7 @@ use Rattle.eb_place.specs.declared.moment.Moment.{Moment}
 use Rattle.eb_place.specs.Room.{text_words}
 use Rattle.eb_place.specs.Later.{IsNotBefore}
 use Rattle.eb_terms.proofs.Probing.{ArePassed}
-use Rattle.eb_terms.proofs.finding.find.Given as goal
+use Rattle.eb_terms.proofs.finding.find_hashed.Given as goal
 
 abbrev pub invariant-loop-step : goal.invariant-loop-step
 invariant-loop-step g l =
