@@ -18,7 +18,8 @@ pub(crate) fn number_in<P: Port, L: Ledger>(
     steps: &mut Steps<L>,
 ) -> Option<u32>
     requires { (m : Moment) × P.stands port.old m × (places ≡ m.setting) × (segment < m.setting.segments) × (cell < cells_in m) }
-    ensures told { Told P.stands P.keeps port.old port.new (λ m. (places ≡ m.setting) × (segment < m.setting.segments) × (cell < cells_in m)) (λ n. CellHolds n segment cell result) }
+    ensures told { Told P.stands P.keeps port.old port.new (λ m. (places ≡ m.setting) × (segment < m.setting.segments) × (cell < cells_in m))
+        (λ n. CellHolds n segment cell result) }
     ensures step { steps.new ≡ steps.old + 1 }
 {
     let word = port.load(places.cell(segment, cell), steps);
@@ -53,8 +54,10 @@ pub(crate) fn word_of_text<P: Port, L: Ledger>(
     at: usize,
     steps: &mut Steps<L>,
 ) -> u64
-    requires { (m : Moment) × (number : ℕ) × P.stands port.old m × (places ≡ m.setting) × IsText m segment number start × (at < text_words (term_at m segment number)) }
-    ensures told { (number : ℕ) → Told P.stands P.keeps port.old port.new (λ m. (places ≡ m.setting) × IsText m segment number start × (at < text_words (term_at m segment number)))
+    requires { (m : Moment) × (number : ℕ) × P.stands port.old m × (places ≡ m.setting) × IsText m segment number start
+        × (at < text_words (term_at m segment number)) }
+    ensures told { (number : ℕ) → Told P.stands P.keeps port.old port.new
+        (λ m. (places ≡ m.setting) × IsText m segment number start × (at < text_words (term_at m segment number)))
         (λ n. result ≡ get_or (text_of (term_at n segment number)) at 0) }
     ensures step { steps.new ≡ steps.old + 1 }
 {
