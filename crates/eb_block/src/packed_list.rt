@@ -4,7 +4,7 @@
 //! relation. It tells how many postings it has left, which its directory word says, at no load. A `seek` of few
 //! postings makes few loads, a clause of its own beside that of one load a block, so that the bound between two
 //! starts stays what it was over live slices alone.
-ghost use Rattle.std.specs.Prelude.{◌≡◌, ℕ, List, [], ◌+◌, ◌-◌, ◌*◌, ◌≤◌, ◌<◌, ◌/◌, ◌%◌, ◌^◌, length, true, false};
+ghost use Rattle.std.specs.Prelude.{◌≡◌, ℕ, List, [], ◌+◌, ◌-◌, ◌*◌, ◌≤◌, ◌<◌, ◌/◌, ◌%◌, ◌^◌, length, true, false, IsTrue, ◌↔◌};
 ghost use Rattle.std.specs.Bool.{MatchBool};
 ghost use Rattle.eb_base.specs.Term.{Term};
 ghost use Rattle.eb_place.specs.declared.moment.Moment.{Moment};
@@ -71,6 +71,7 @@ impl PackedList {
     /// The newest posting that wasn't given yet; `None` exactly after the oldest. The port's moment isn't
     /// before that of the opening. One load at most, and all calls of `next` and `seek` on one list load
     /// together at most as many words as the packed list has. Takes no memory.
+    #[inline(always)]
     pub fn next<P: Port, L: Ledger>(
         &mut self,
         port: &mut P,
@@ -121,6 +122,14 @@ impl PackedList {
             → ListStands m s t self.now rest budget → result ≡ length rest }
     {
         u64::from(self.held) + u64::from(self.inside) + u64::from(self.left)
+    }
+
+    /// Whether no posting stands after the block that is read. Loads nothing.
+    #[inline(always)]
+    pub fn is_last(&self) -> bool
+        ensures { IsTrue result ↔ (self.now.left ≡ 0) }
+    {
+        self.left == 0
     }
 
     /// Passes over exactly the postings above `most` that weren't given yet: whole blocks by their headers

@@ -22,3 +22,4 @@ pub mod LoadsLeft
 pub mod AndLoads
 pub mod Turns
 pub mod Terms
+pub mod Pairs

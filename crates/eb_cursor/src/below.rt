@@ -3,9 +3,10 @@
 //! Where a part has ended, the other parts of an And and of a phrase aren't asked again. An Or asks each part at each
 //! call: one whose greatest match is known answers from what its cursors keep, at no load. A Not asks its part
 //! document by document, where nothing can be leapt over.
-ghost use Rattle.std.specs.Prelude.{◌≡◌, ℕ, ◌+◌, ◌<◌, ◌≤◌, ◌^◌, List, [], ◌∷◌, length};
+ghost use Rattle.std.specs.Prelude.{◌≡◌, ℕ, ◌+◌, ◌<◌, ◌≤◌, ◌^◌, List, [], ◌∷◌, length, true};
 ghost use Rattle.std.specs.List.{Contains};
 ghost use Rattle.eb_base.specs.Query.{tree, word, conjunction};
+ghost use Rattle.eb_base.specs.Term.{Term};
 ghost use Rattle.eb_place.specs.Told.{Told};
 ghost use Rattle.eb_cursor.specs.Loads.{loads_left};
 ghost use Rattle.eb_cursor.specs.Costs.{FirstCosts, IsPaid, Pays, PaysSpans, look_loads, round_loads};
@@ -15,6 +16,7 @@ ghost use Rattle.eb_cursor.specs.Finds.{FindsMatch, FindsWord, FindsNot, FindsAl
 
 use crate::bound::bound_below;
 use crate::cursor::{Cursor, leaf_below, walk_below};
+use crate::pair::pair_below;
 use crate::phrase::{phrase_below, to_document_end};
 use crate::size::{part_size, size};
 use crate::window::window_below;
@@ -281,10 +283,43 @@ fn all_below<P: Port, L: Ledger>(
     }
 }
 
-// One such turn. The first part is most often a word, which is asked here, without a call.
+// One such turn. Two words whose lists are packed and in their last blocks are walked together.
 #[inline(always)]
 #[cycle(below)]
 fn turn_below<P: Port, L: Ledger>(
+    parts: &[Query],
+    cursors: &mut [Cursor],
+    port: &mut P,
+    steps: &mut Steps<L>,
+    end: u64,
+) -> u64
+    requires small { (end ≤ 2 ^ 32) × (length cursors.old ≤ 64) }
+    requires ready { CanAskAll P.stands port.old (trees_in parts.now) cursors.old end }
+    ensures found { GoesRound P.stands P.keeps port.old port.new (trees_in parts.now) cursors.old cursors.new end result }
+    ensures loads { steps.new + loads_left cursors.new ≤ steps.old + loads_left cursors.old }
+    ensures spans { (ts : List (List ℕ)) → trees_in parts.now ≡ word_parts ts
+        → PaysSpans P.stands P.keeps port.old port.new ts cursors.old cursors.new (round_loads ts) steps.old steps.new }
+{
+    if are_two_words(parts) {
+        if let Some(found) = pair_below(cursors, port, steps, end) {
+            return found;
+        }
+    }
+    first_below(parts, cursors, port, steps, end)
+}
+
+// Whether the parts are two words.
+#[inline(always)]
+fn are_two_words(parts: &[Query]) -> bool
+    ensures { result ≡ true → (u : Term) × (v : Term) × (trees_in parts.now ≡ word_parts (u ∷ v ∷ [])) }
+{
+    matches!(parts, [Query::Word(_), Query::Word(_)])
+}
+
+// A turn over all parts. The first part is most often a word, which is asked here, without a call.
+#[inline(always)]
+#[cycle(below)]
+fn first_below<P: Port, L: Ledger>(
     parts: &[Query],
     cursors: &mut [Cursor],
     port: &mut P,

@@ -9,6 +9,7 @@ mod bound;
 mod cursor;
 mod frame;
 mod likely;
+mod pair;
 mod phrase;
 mod posting_list;
 mod rarest;

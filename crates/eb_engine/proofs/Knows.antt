@@ -1,8 +1,9 @@
 -- What seats know of the history.
-use Rattle.std.proofs.Common.{◌≡◌, ℕ, ◌+◌, ◌<◌, ◌≤◌, ⊎_elim, List, length, take, drop, Option, None, Some, append-nil, ap, sym, ◌∙◌, subst, arith}
+use Rattle.std.proofs.Common.{◌≡◌, ℕ, Bool, ◌+◌, ◌<◌, ◌≤◌, ⊎_elim, List, length, take, drop, Option, None, Some, append-nil, ap, sym, ◌∙◌, subst, arith}
 use Rattle.std.proofs.lemmas.List.{take-append-drop, take-append-le, length-take-le, length-take}
 use mathlib.Core.List.{IsPrefix}
 use Rattle.eb_base.specs.Document.{Doc}
+use Rattle.eb_base.specs.Match.{answer}
 use Rattle.eb_base.specs.Query.{Tree}
 use Rattle.eb_base.specs.Setting.{Setting}
 use Rattle.eb_place.specs.declared.moment.Conversions.{Conversions}
@@ -12,7 +13,9 @@ use Rattle.eb_place.specs.Moments.{with_current, IsMoment}
 use Rattle.eb_place.specs.Later.{ReachesPacked, IsNotBefore}
 use Rattle.eb_place.proofs.Prefixes.{prefix_length, prefix_shorter, prefix_whole}
 use Rattle.eb_place.proofs.LaterMoments.{later_on}
-use Rattle.eb_search.specs.Searched.{Searched}
+use Rattle.eb_search.specs.Searched.{Searched, SearchedLikely}
+use Rattle.eb_search.specs.Visible.{AreNone}
+use Rattle.eb_search.proofs.Bounded.{front_is}
 use Rattle.eb_table.specs.Known.{Known}
 use Rattle.eb_writer.specs.Progress.{PlacerProgress, PlacerStands}
 use Rattle.eb_writer.proofs.Adding.{stands_same}
@@ -42,12 +45,30 @@ knows_more k l a b h le later =
         → length (take a l.moment.documents.accepted) ≤ length (take b l.moment.documents.accepted)
     by_length p = grind (arith, length-take)
 
+-- who loads the count of accepted documents between two moments knows those that it knew
+counts_more : (k l : Known) (seen counted : ℕ) (loaded : Moment) → seen ≤ length k.moment.documents.accepted
+    → IsNotBefore loaded k.moment → IsNotBefore l.moment loaded → counted ≡ length loaded.documents.accepted → IsPrefix (first_of seen k) (first_of counted l)
+counts_more k l seen counted loaded h after before count =
+    let n = prefix_length _ _ after.documents.accepted in
+    knows_more k l seen counted h (omega arith) (later_on _ _ _ after before)
+
 pub finds_more : (k l : Known) (seen counted most : ℕ) (q : Tree) (found : List ℕ) → seen ≤ length k.moment.documents.accepted
     → Searched k.moment l.moment q most counted found → IsPrefix (first_of seen k) (first_of counted l)
-finds_more k l seen counted most q found h s =
-    let n = prefix_length _ _ s.after.documents.accepted in
-    let c = s.count in
-    knows_more k l seen counted h (omega arith) (later_on _ _ _ s.after s.before)
+finds_more k l seen counted most q found h s = counts_more k l seen counted s.loaded h s.after s.before s.count
+
+pub finds_more_likely : (k l : Known) (seen counted most : ℕ) (q : Tree) (likely : List Bool) (found : List ℕ) → seen ≤ length k.moment.documents.accepted
+    → SearchedLikely k.moment l.moment q most likely counted found → IsPrefix (first_of seen k) (first_of counted l)
+finds_more_likely k l seen counted most q likely found h s = counts_more k l seen counted s.loaded h s.after s.before s.count
+
+-- and those that it then knows are those that were accepted when it loaded the count
+pub finds_likely : (k : Moment) (l : Known) (σ : Setting) (counted most : ℕ) (q : Tree) (likely : List Bool) (found : List ℕ) → l.moment.setting ≡ σ
+    → SearchedLikely k l.moment q most likely counted found → AreNone q (cut σ (first_of counted l)) likely → found ≡ answer q most (first_of counted l)
+finds_likely k l σ counted most q likely found e s none =
+    let accepted = s.loaded.documents.accepted in
+    let later = l.moment.documents.accepted in
+    let same : take counted later ≡ accepted = ap (λ n. take n later) s.count ∙ front_is accepted later s.before.documents.accepted in
+    let setting : σ ≡ s.loaded.setting = sym (s.before.setting ∙ e) in
+    s.ids (subst (λ (x : Setting × List Doc). AreNone q (cut x.0 x.1) likely) (λ i. (setting i, same i)) none) ∙ ap (answer q most) (sym same)
 
 -- a writer stands at a later moment of the same documents
 pub stays : (p : PlacerProgress) (m n : Moment) → IsMoment n → IsNotBefore n m → n.documents ≡ m.documents → PlacerStands p m → IsMoment n × PlacerStands p n

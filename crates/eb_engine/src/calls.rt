@@ -8,16 +8,16 @@ ghost use Rattle.eb_cursor.specs.Frames.{query_of, k_of, ids_of};
 ghost use Rattle.eb_place.specs.Later.{IsNotBefore};
 ghost use Rattle.eb_place.specs.Room.{HasRoom};
 ghost use Rattle.eb_engine.specs.Loads.{IsWithinBound, IsWithinAndBound};
-ghost use Rattle.eb_search.specs.Searched.{Searched};
+ghost use Rattle.eb_search.specs.Searched.{Searched, SearchedLikely};
 ghost use Rattle.eb_table.specs.Known.{MadeWith};
 ghost use Rattle.eb_writer.specs.Progress.{PlacerStands, HasNoRoom};
 ghost use Rattle.eb_writer.specs.Storing.{IsAccepted};
 
-use eb_base::{Document, Gate};
+use eb_base::{Document, Gate, MAX_SEGMENTS};
 use eb_convert::{Converted, convert_next};
 use eb_cursor::Frame;
 use eb_place::Steps;
-use eb_search::{search, search_first};
+use eb_search::{search, search_first, search_likely};
 use eb_table::{
     ConverterPort, ConverterSeat, ReaderPort, ReaderSeat, SharedWords, WriterPort, WriterSeat,
 };
@@ -44,6 +44,29 @@ pub(crate) fn search_words<G: Gate, L: Ledger>(
 {
     let mut port = ReaderPort { seat, words };
     search(&mut port, frame, gate, steps)
+}
+
+// The same, over all segments but those of which `likely` says false.
+pub(crate) fn search_words_likely<G: Gate, L: Ledger>(
+    seat: &mut ReaderSeat,
+    words: &SharedWords,
+    frame: &mut Frame,
+    gate: &G,
+    likely: &[bool; MAX_SEGMENTS as usize],
+    steps: &mut Steps<L>,
+) -> u64
+    requires made { MadeWith seat.old words.now }
+    ensures made { MadeWith seat.new words.now }
+    ensures query { query_of frame.new ≡ query_of frame.old }
+    ensures k { k_of frame.new ≡ k_of frame.old }
+    ensures answer { SearchedLikely seat.old.moment seat.new.moment (query_of frame.old) (k_of frame.old) likely.now result (ids_of frame.new) }
+    ensures loads { (t : List ℕ) → query_of frame.old ≡ word t
+        → IsWithinBound seat.old.moment seat.new.moment t result (length (ids_of frame.new)) steps.old steps.new }
+    ensures rounds { (ts : List (List ℕ)) → query_of frame.old ≡ conjunction (word_parts ts)
+        → IsWithinAndBound seat.new.moment ts result (length (ids_of frame.new)) steps.old steps.new }
+{
+    let mut port = ReaderPort { seat, words };
+    search_likely(&mut port, frame, gate, likely, steps)
 }
 
 // A search by a reader's seat of exactly the first `count` documents that it knows, after what the frame holds.

@@ -5,12 +5,14 @@ ghost use Rattle.eb_base.specs.Query.{word, conjunction};
 ghost use Rattle.eb_cursor.specs.AndCosts.{word_parts};
 ghost use Rattle.eb_cursor.specs.Frames.{query_of, k_of, ids_of};
 ghost use Rattle.eb_place.specs.Moments.{IsMoment};
+ghost use Rattle.eb_place.specs.Room.{cut};
+ghost use Rattle.eb_search.specs.Visible.{AreNone};
 ghost use Rattle.eb_engine.specs.Loads.{IsBounded, IsAndBounded};
 ghost use Rattle.eb_engine.specs.Tokens.{index_of, first_of};
 
-use crate::calls::{search_known_words, search_words};
+use crate::calls::{search_known_words, search_words, search_words_likely};
 use crate::index::Index;
-use eb_base::Gate;
+use eb_base::{Gate, MAX_SEGMENTS};
 use eb_cursor::Frame;
 use eb_place::Steps;
 use eb_table::ReaderSeat;
@@ -110,6 +112,38 @@ impl Reader {
             → IsAndBounded index.now.setting self.new.docs ts (length (ids_of frame.new)) steps.old steps.new }
     {
         let count = search_words(&mut self.seat, &index.words, frame, gate, steps);
+        self.seen = count;
+        count
+    }
+
+    /// Searches as [`Reader::search`] does, over all segments but those of which `likely` says false: the answer is that
+    /// over all documents where none of the documents of those matches. So a caller that keeps a Bloom filter of each
+    /// segment passes over those that its filter excludes. It knows all documents that it counted from then on, also
+    /// those of the segments that it passed over, and makes no more loads than the bounds of [`Reader::search`]. The
+    /// reader must have been made with this index. Takes no memory.
+    pub fn search_likely<G: Gate, L: Ledger>(
+        &mut self,
+        index: &Index,
+        frame: &mut Frame,
+        gate: &G,
+        likely: &[bool; MAX_SEGMENTS as usize],
+        steps: &mut Steps<L>,
+    ) -> u64
+        requires { self.old.index ≡ index.now }
+        ensures index { self.new.index ≡ self.old.index }
+        ensures known { IsPrefix self.old.docs self.new.docs }
+        ensures converted { self.new.converted ≡ self.old.converted }
+        ensures count { result ≡ length self.new.docs }
+        ensures query { query_of frame.new ≡ query_of frame.old }
+        ensures k { k_of frame.new ≡ k_of frame.old }
+        ensures ids { AreNone (query_of frame.old) (cut index.now.setting self.new.docs) likely.now
+            → ids_of frame.new ≡ answer (query_of frame.old) (k_of frame.old) self.new.docs }
+        ensures loads { (t : List ℕ) → query_of frame.old ≡ word t
+            → IsBounded index.now.setting self.old.docs self.old.converted self.new.docs t (length (ids_of frame.new)) steps.old steps.new }
+        ensures rounds { (ts : List (List ℕ)) → query_of frame.old ≡ conjunction (word_parts ts)
+            → IsAndBounded index.now.setting self.new.docs ts (length (ids_of frame.new)) steps.old steps.new }
+    {
+        let count = search_words_likely(&mut self.seat, &index.words, frame, gate, likely, steps);
         self.seen = count;
         count
     }

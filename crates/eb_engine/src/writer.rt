@@ -1,4 +1,4 @@
-ghost use Rattle.std.specs.Prelude.{◌≡◌, ℕ, List, ◌++◌, ◌∷◌, [], false, length, max, IfOk, OnErr};
+ghost use Rattle.std.specs.Prelude.{◌≡◌, ℕ, List, ◌++◌, ◌∷◌, [], ◌≤◌, false, length, max, IfOk, OnErr};
 ghost use mathlib.Core.List.{IsPrefix};
 ghost use Rattle.eb_base.specs.Match.{answer};
 ghost use Rattle.eb_base.specs.Query.{word, conjunction};
@@ -6,6 +6,7 @@ ghost use Rattle.eb_cursor.specs.AndCosts.{word_parts};
 ghost use Rattle.eb_cursor.specs.Frames.{query_of, k_of, ids_of};
 ghost use Rattle.eb_place.specs.Moments.{IsMoment, empty_moment};
 ghost use Rattle.eb_place.specs.Room.{cut, HasRoom, has_room};
+ghost use Rattle.eb_search.specs.Visible.{AreNone};
 ghost use Rattle.eb_engine.specs.Loads.{IsBounded, IsAndBounded};
 ghost use Rattle.eb_engine.specs.Tokens.{index_of, AreClosed};
 
@@ -13,7 +14,7 @@ use crate::calls::add_to_words;
 use crate::converter::Converter;
 use crate::index::Index;
 use crate::reader::Reader;
-use eb_base::{Config, Document, Gate, Point};
+use eb_base::{Config, Document, Gate, MAX_SEGMENTS, Point};
 use eb_cursor::Frame;
 use eb_place::Steps;
 use eb_table::WriterSeat;
@@ -84,9 +85,10 @@ impl Writer {
         self.placer.documents()
     }
 
-    /// The number of segments of the cut of the history.
+    /// The number of segments of the cut of the history, at most those of the index.
     pub fn segments(&self) -> u32
-        ensures { result ≡ length (cut self.now.index.setting self.now.docs) }
+        ensures cut { result ≡ length (cut self.now.index.setting self.now.docs) }
+        ensures few { result ≤ self.now.index.setting.segments }
     {
         self.placer.segments()
     }
@@ -137,6 +139,35 @@ impl Writer {
     {
         let mut reader = self.reader(index);
         let count = reader.search(index, frame, gate, steps);
+        self.meet(index, reader);
+        count
+    }
+
+    /// Searches as [`Writer::search`] does, over all segments but those of which `likely` says false: the answer is that
+    /// over the whole history where none of the documents of those matches. The writer must have been made with this
+    /// index. Takes no memory.
+    pub fn search_likely<G: Gate, L: Ledger>(
+        &mut self,
+        index: &Index,
+        frame: &mut Frame,
+        gate: &G,
+        likely: &[bool; MAX_SEGMENTS as usize],
+        steps: &mut Steps<L>,
+    ) -> u64
+        requires { self.old.index ≡ index.now }
+        ensures this { self.new ≡ self.old }
+        ensures count { result ≡ length self.new.docs }
+        ensures query { query_of frame.new ≡ query_of frame.old }
+        ensures k { k_of frame.new ≡ k_of frame.old }
+        ensures ids { AreNone (query_of frame.old) (cut index.now.setting self.new.docs) likely.now
+            → ids_of frame.new ≡ answer (query_of frame.old) (k_of frame.old) self.new.docs }
+        ensures loads { (t : List ℕ) → query_of frame.old ≡ word t
+            → IsBounded index.now.setting self.new.docs self.new.converted self.new.docs t (length (ids_of frame.new)) steps.old steps.new }
+        ensures rounds { (ts : List (List ℕ)) → query_of frame.old ≡ conjunction (word_parts ts)
+            → IsAndBounded index.now.setting self.new.docs ts (length (ids_of frame.new)) steps.old steps.new }
+    {
+        let mut reader = self.reader(index);
+        let count = reader.search_likely(index, frame, gate, likely, steps);
         self.meet(index, reader);
         count
     }

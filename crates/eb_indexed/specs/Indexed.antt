@@ -3,13 +3,14 @@ use Rattle.std.specs.Prelude.{◌≡◌, ℕ, Bool, true, false, List, [], ◌�
 use Rattle.eb_answer.specs.Rules.{Rules}
 use Rattle.eb_base.specs.Document.{Doc}
 use Rattle.eb_base.specs.Setting.{Setting}
+use Rattle.eb_bloom.specs.Covers.{Covers}
 use Rattle.eb_place.specs.Room.{has_room, HasRoom}
 use Rattle.eb_table.specs.Known.{Words}
 use Rattle.eb_indexed.specs.declared.indexed.Indexed.{Indexed}
 use Rattle.eb_indexed.specs.Conversions.{AreConverted}
 use Rattle.eb_indexed.specs.IndexRules.{index_rules}
 
--- an index of this setting holds these documents, and each segment that is closed is converted
+-- an index of this setting holds these documents, each segment that is closed is converted, and the filters cover the documents
 pub record Holds (s : Indexed) (σ : Setting) (docs : List Doc) : Type 0 where
   pub words : Words
   pub index : s.index ≡ words
@@ -18,6 +19,7 @@ pub record Holds (s : Indexed) (σ : Setting) (docs : List Doc) : Type 0 where
   pub documents : s.writer.docs ≡ docs
   pub converter : s.converter.index ≡ words
   pub converted : AreConverted σ docs s.converter.converted
+  pub filters : Covers s.filters σ docs
 
 -- it goes by the rules of an index that held some of them at first
 pub record IsIndexed (s : Indexed) (rules : Rules (Unit {0})) (docs : List Doc) (none : Unit {0}) : Type 0 where

@@ -12,6 +12,7 @@ use crate::ending::tell_segments;
 use crate::searching::search_all;
 use eb_answer::Store;
 use eb_base::{Config, Document, Gate, NoMemory, Query};
+use eb_bloom::Filters;
 use eb_cursor::Frame;
 use eb_engine::{Converter, Index, Writer};
 use eb_fields::Fields;
@@ -19,12 +20,15 @@ use eb_lines::{Form, Refusal, Tail, line_room, put_answer};
 use eb_writer::Full;
 use std::alloc::Global;
 
-/// An index with its writer and its converter, and how what is printed of it is written.
+/// An index with its writer, its converter and the filters of its segments, and how what is printed of it is written. The
+/// frame of the last query is kept, whose memory serves the next one.
 #[derive(Drop)]
 pub struct Indexed {
     index: Index,
     writer: Writer,
     converter: Converter,
+    filters: Filters,
+    frame: Option<Frame>,
     form: Form,
 }
 
@@ -35,10 +39,13 @@ impl Indexed {
         ensures form { IfOk result (λ s. s.form ≡ form) }
     {
         let (index, writer, converter) = Index::open(alloc, config)?;
+        let filters = Filters::new(alloc, config)?;
         Ok(Indexed {
             index,
             writer,
             converter,
+            filters,
+            frame: None,
             form,
         })
     }
@@ -52,12 +59,16 @@ impl Indexed {
             index,
             writer,
             converter,
+            filters,
+            frame,
             form: _,
         } = self;
         Indexed {
             index,
             writer,
             converter,
+            filters,
+            frame,
             form,
         }
     }
@@ -71,6 +82,7 @@ impl Indexed {
     {
         match self.writer.add(&self.index, document, gate) {
             Ok(_) => {
+                self.filters.note(self.writer.segments() - 1, document);
                 catch_up(&self.index, &mut self.writer, &mut self.converter);
                 true
             }
@@ -86,7 +98,7 @@ impl Indexed {
         ensures ids { (σ : Setting) (docs : List Doc) → Holds self.old σ docs → ids_of frame.new ≡ answer (query_of frame.old) (k_of frame.old) docs }
         ensures few { length (ids_of frame.new) ≤ k_of frame.old }
     {
-        search_all(&self.index, &mut self.writer, frame, gate)
+        search_all(&self.index, &self.filters, &mut self.writer, frame, gate)
     }
 
     /// The number of documents.
@@ -124,12 +136,10 @@ impl Store for Indexed {
     ghost holds = { IsIndexed };
 
     fn place<G: Gate>(&mut self, document: &Document, gate: &G) -> Option<Refusal> {
-        match self.writer.add(&self.index, document, gate) {
-            Ok(_) => {
-                catch_up(&self.index, &mut self.writer, &mut self.converter);
-                None
-            }
-            Err(Full) => Some(Refusal::Full),
+        if self.add(document, gate) {
+            None
+        } else {
+            Some(Refusal::Full)
         }
     }
 
@@ -155,10 +165,20 @@ impl Store for Indexed {
         gate: &G,
         text: &mut Vec<u8>,
     ) -> Result<(), NoMemory> {
-        let mut frame = Frame::new(alloc, query, k)?;
+        let mut frame = match self.frame.take() {
+            Some(frame) => frame.again(query, k)?,
+            None => Frame::new(alloc, query, k)?,
+        };
         text.reserve(line_room(k as usize))?;
-        let seen = search_all(&self.index, &mut self.writer, &mut frame, gate);
+        let seen = search_all(
+            &self.index,
+            &self.filters,
+            &mut self.writer,
+            &mut frame,
+            gate,
+        );
         put_answer(text, self.form, number, seen, frame.ids());
+        self.frame = Some(frame);
         Ok(())
     }
 

@@ -1,6 +1,6 @@
 -- What the values of the reader stand for in its machine.
-use Rattle.std.specs.Prelude.{◌≡◌, ℕ, ◌≤◌, true, false, List, map, reverse, Some, None, Result, Ok, Err}
-use Rattle.eb_base.specs.Query.{tree, parts_of}
+use Rattle.std.specs.Prelude.{◌≡◌, ℕ, ◌≤◌, true, false, List, [], ◌∷◌, map, reverse, Some, None, Result, Ok, Err}
+use Rattle.eb_base.specs.Query.{Tree, tree, parts_of}
 use Rattle.eb_base.specs.declared.query.Query.{Query}
 use Rattle.eb_query.specs.Grammar.{Lexeme, opening, closing, minus, or_word, leaf, broken}
 use Rattle.eb_query.specs.Number.{number_in_line}
@@ -8,6 +8,8 @@ use Rattle.eb_query.specs.Reading.{Outcome, asks, bad_query, too_deep, too_many_
 use Rattle.eb_query.specs.Machine.{Level, level, State, state, step, nest, is_deep}
 use Rattle.eb_query.specs.declared.lexeme.Lexeme as found
 use Rattle.eb_query.specs.declared.lexeme.Lexeme.TheVariants as variants
+use Rattle.eb_query.specs.declared.operands.Operands.{Operands}
+use Rattle.eb_query.specs.declared.operands.Operands.TheVariants as operands
 use Rattle.eb_query.specs.declared.reader.Group.{Group}
 use Rattle.eb_query.specs.declared.reader.Reader.{Reader}
 use Rattle.eb_query.specs.declared.reader.Step.{Step}
@@ -25,9 +27,14 @@ lexeme_of variants.OrWord = or_word
 lexeme_of (variants.Leaf q) = leaf (tree q)
 lexeme_of variants.Broken = broken
 
+-- the operands of the part that is read now
+abbrev pub operands_of : Operands → List Tree
+operands_of (operands.One q) = tree q ∷ []
+operands_of (operands.Listed qs) = parts_of qs
+
 -- the group of the machine
 abbrev pub level_of : Group → Level
-level_of g = level (parts_of g.ors) (parts_of g.ands) g.minuses
+level_of g = level (parts_of g.ors) (operands_of g.ands) g.minuses
 
 -- the state of the machine
 abbrev pub state_of : Reader → State

@@ -14,6 +14,7 @@ mod digits;
 mod laws;
 mod lexeme;
 mod number;
+mod operands;
 mod quoted;
 mod read;
 mod reader;

@@ -2,9 +2,10 @@ ghost use Rattle.std.specs.Prelude.{◌≡◌, [], IfOk, OnOk, Some, option_map}
 ghost use Rattle.eb_base.specs.Query.{tree, parts_of, or_of};
 ghost use Rattle.eb_query.specs.Machine.{level, step, start, parts, negated, finish};
 ghost use Rattle.eb_query.specs.Grammar as grammar;
-ghost use Rattle.eb_query.specs.Views.{lexeme_of, level_of, state_of, IsCounted, Steps};
+ghost use Rattle.eb_query.specs.Views.{lexeme_of, operands_of, level_of, state_of, IsCounted, Steps};
 
 use crate::lexeme::Lexeme;
+use crate::operands::Operands;
 use eb_base::{NoMemory, Queries, Query};
 use std::alloc::Global;
 use std::mem;
@@ -19,7 +20,7 @@ pub struct Group {
     /// The parts that an `OR` has ended.
     pub ors: Queries,
     /// The operands of the part that is read now.
-    pub ands: Queries,
+    pub ands: Operands,
     /// The minuses before the next operand.
     pub minuses: u32,
 }
@@ -53,7 +54,7 @@ impl Group {
     {
         Group {
             ors: Queries::new(alloc),
-            ands: Queries::new(alloc),
+            ands: Operands::new(alloc),
             minuses: 0,
         }
     }
@@ -61,7 +62,7 @@ impl Group {
     // What the group asks where it ends now.
     fn into_query(self) -> Result<Query, NoMemory>
         ensures { IfOk result (λ query.
-            tree query ≡ or_of (parts (parts_of self.ors) (parts_of self.ands))) }
+            tree query ≡ or_of (parts (parts_of self.ors) (operands_of self.ands))) }
     {
         let Group {
             ors,
@@ -69,10 +70,10 @@ impl Group {
             minuses: _,
         } = self;
         if ors.is_empty() {
-            return Ok(Query::all_of(ands));
+            return Ok(ands.into_query());
         }
         let mut ors = ors;
-        ors.push(Query::all_of(ands))?;
+        ors.push(ands.into_query())?;
         Ok(Query::any_of(ors))
     }
 }
@@ -161,11 +162,11 @@ impl Reader {
             Steps went grammar.or_word (state_of self.old) (state_of self.new)) }
         ensures counted { IfOk result (λ went. went ≡ Step.Stood → IsCounted self.new) }
     {
-        if self.group.ands.len() == 0 || self.group.minuses > 0 {
+        if self.group.ands.is_empty() || self.group.minuses > 0 {
             return Ok(Step::Misplaced);
         }
-        let ands = mem::replace(&mut self.group.ands, Queries::new(alloc));
-        self.group.ors.push(Query::all_of(ands))?;
+        let ands = mem::replace(&mut self.group.ands, Operands::new(alloc));
+        self.group.ors.push(ands.into_query())?;
         Ok(Step::Stood)
     }
 
@@ -176,7 +177,7 @@ impl Reader {
             Steps went grammar.closing (state_of self.old) (state_of self.new)) }
         ensures counted { IfOk result (λ went. went ≡ Step.Stood → IsCounted self.new) }
     {
-        if self.group.ands.len() == 0 || self.group.minuses > 0 {
+        if self.group.ands.is_empty() || self.group.minuses > 0 {
             return Ok(Step::Misplaced);
         }
         let Some(outer) = self.outer.pop() else {
@@ -196,7 +197,7 @@ impl Reader {
         ensures counted { OnOk result (IsCounted self.new) }
     {
         let query = negate(alloc, self.group.minuses, query)?;
-        self.group.ands.push(query)?;
+        self.group.ands.push(alloc, query)?;
         self.nesting -= self.group.minuses;
         self.group.minuses = 0;
         Ok(())
@@ -211,7 +212,7 @@ impl Reader {
             group,
             nesting: _,
         } = self;
-        if !outer.is_empty() || group.ands.len() == 0 || group.minuses > 0 {
+        if !outer.is_empty() || group.ands.is_empty() || group.minuses > 0 {
             return Ok(None);
         }
         Ok(Some(group.into_query()?))

@@ -3,10 +3,12 @@
 #![tactic(auto)]
 
 mod known;
+mod likely;
 mod searching;
 mod segment;
 mod visible;
 mod walking;
 
 pub use known::search_first;
+pub use likely::search_likely;
 pub use searching::{search, search_on};

@@ -3,6 +3,7 @@ use Rattle.eb_base.specs.Query.{Tree, tree, word, phrase, window, since, negatio
 use Rattle.eb_base.specs.declared.query.Query.{Query}
 use Rattle.eb_cursor.specs.AndCosts.{word_parts, rounds_cost, AndOwes}
 use Rattle.eb_cursor.specs.Asked.{weight, weights, trees_in}
+use Rattle.eb_cursor.specs.Costs.{PaysSpans, round_loads}
 use Rattle.eb_cursor.specs.Lists.{gives}
 use Rattle.eb_cursor.specs.Ready.{Ready, AllReady}
 use Rattle.eb_cursor.specs.Tops.{top}
@@ -15,6 +16,7 @@ use Rattle.eb_place.proofs.LaterMoments.{later_on}
 use Rattle.eb_cursor.proofs.AndLoads.{words_split, spans_front, spans_join, cost_low, cost_falls, under_at}
 use Rattle.eb_cursor.proofs.Owing.{all_span_later}
 use Rattle.eb_cursor.proofs.Turns.{word_front, part_alone, others_can, turn_found, turn_paid, single_can, single_found, single_paid}
+use Rattle.eb_cursor.proofs.Pairs.{two_words}
 use Rattle.eb_cursor.proofs.LoadsLeft.{loads_split, loads_split_back}
 use Rattle.eb_cursor.proofs.Tellings.{IsLater, gives_later, later_same, told_itself, told_as, told_on}
 use Rattle.eb_cursor.proofs.below.+below.Goals as goal
@@ -580,10 +582,19 @@ round_below-returns-then-is_bound-clause-spans g t c = λ ts e s most. record {
       );
 }
 
+-- ---- a turn over two words
+
+pub turn_below-returns-in-Some-clause-spans : goal.turn_below-returns-in-Some-clause-spans
+turn_below-returns-in-Some-clause-spans g t c = λ ts e.
+    let k = c.are_two_words.ensures c.if-are_two_words.true in
+    let words : ts ≡ k.0 ∷ k.1 ∷ [] = two_words ts k.0 k.1 (sym e ∙ k.2) in
+    subst (λ z. PaysSpans g.P.Port.stands g.P.Port.keeps c.args.port.now c.pair_below.new.port z c.args.cursors.now c.pair_below.new.cursors
+    (round_loads z) c.args.steps.now c.pair_below.new.steps) (sym words) (c.pair_below.ensures.spans c.in-Some.found c.in-Some.is k.0 k.1)
+
 -- ---- a turn that begins with a word
 
-pub turn_below-last_below-requires : goal.turn_below-last_below-requires
-turn_below-last_below-requires g t c = λ κs lv.
+pub first_below-last_below-requires : goal.first_below-last_below-requires
+first_below-last_below-requires g t c = λ κs lv.
     let w = c.in-Some-Word-default in
     let e = word_front c.args.parts.now w.field-0-0.now w.others.now w.field-0-0-0 c.args.cursors.now c.split_at_mut-own.result.0.now c.split_at_mut-own.result.1.now
     w.ensures.cases.0 w.field-0-0-is c.split_at_mut-own.ensures.front c.split_at_mut-own.ensures.back in
@@ -592,8 +603,8 @@ turn_below-last_below-requires g t c = λ κs lv.
     g.met.P.Port.lawful e c.requires.ready (λ docs. c.word_below-found.ensures.found docs w.field-0-0-0) in
     (search rules, (search rules, (search rules, ((omega (arith, more.0, c.requires.small.0), search rules), more.1))))
 
-pub turn_below-returns-clause-found : goal.turn_below-returns-clause-found
-turn_below-returns-clause-found g t c =
+pub first_below-returns-clause-found : goal.first_below-returns-clause-found
+first_below-returns-clause-found g t c =
     let w = c.in-Some-Word-default in
     let e = word_front c.args.parts.now w.field-0-0.now w.others.now w.field-0-0-0 c.args.cursors.now c.split_at_mut-own.result.0.now c.split_at_mut-own.result.1.now
     w.ensures.cases.0 w.field-0-0-is c.split_at_mut-own.ensures.front c.split_at_mut-own.ensures.back in
@@ -601,13 +612,13 @@ turn_below-returns-clause-found g t c =
     c.word_below-found.new.cursors c.last_below.new.cursors c.args.end c.word_below-found.result c.last_below.result g.met.P.Port.lawful g.met.P.Port.keeps_on e
     c.requires.ready (λ docs. c.word_below-found.ensures.found docs w.field-0-0-0) c.last_below.ensures.found
 
-pub turn_below-returns-clause-loads : goal.turn_below-returns-clause-loads
-turn_below-returns-clause-loads g t c = loads_split c.args.cursors.now c.split_at_mut-own.result.0.now c.split_at_mut-own.result.1.now
+pub first_below-returns-clause-loads : goal.first_below-returns-clause-loads
+first_below-returns-clause-loads g t c = loads_split c.args.cursors.now c.split_at_mut-own.result.0.now c.split_at_mut-own.result.1.now
     c.word_below-found.new.cursors c.last_below.new.cursors c.args.steps.now c.word_below-found.new.steps c.last_below.new.steps
     c.split_at_mut-own.ensures.value c.word_below-found.ensures.loads c.last_below.ensures.loads
 
-pub turn_below-returns-clause-spans : goal.turn_below-returns-clause-spans
-turn_below-returns-clause-spans g t c =
+pub first_below-returns-clause-spans : goal.first_below-returns-clause-spans
+first_below-returns-clause-spans g t c =
     let w = c.in-Some-Word-default in
     let e = word_front c.args.parts.now w.field-0-0.now w.others.now w.field-0-0-0 c.args.cursors.now c.split_at_mut-own.result.0.now c.split_at_mut-own.result.1.now
     w.ensures.cases.0 w.field-0-0-is c.split_at_mut-own.ensures.front c.split_at_mut-own.ensures.back in

@@ -13,37 +13,40 @@ use Rattle.eb_cursor.specs.Asked.{weight, weights, trees_in}
 use Rattle.eb_cursor.proofs.below.+below.Given as goal
 
 abbrev pub decreases-below : goal.decreases-below
-decreases-below g l = 5 * weight (tree l.query.now)
+decreases-below g l = 6 * weight (tree l.query.now)
 
 abbrev pub decreases-part_below : goal.decreases-part_below
-decreases-part_below g l = 5 * weight (tree l.query.now) + 1
+decreases-part_below g l = 6 * weight (tree l.query.now) + 1
 
 abbrev pub decreases-not_below : goal.decreases-not_below
-decreases-not_below g l = 5 * weight (tree l.query.now) + 1
+decreases-not_below g l = 6 * weight (tree l.query.now) + 1
 
 abbrev pub decreases-and_below : goal.decreases-and_below
-decreases-and_below g l = 5 * weights (trees_in l.parts.now) + 4
+decreases-and_below g l = 6 * weights (trees_in l.parts.now) + 5
 
 abbrev pub decreases-led_below : goal.decreases-led_below
-decreases-led_below g l = 5 * weights (trees_in l.parts.now) + 3
+decreases-led_below g l = 6 * weights (trees_in l.parts.now) + 4
 
 abbrev pub decreases-lead_below : goal.decreases-lead_below
-decreases-lead_below g l = 5 * weights (trees_in l.parts.now)
+decreases-lead_below g l = 6 * weights (trees_in l.parts.now)
 
 abbrev pub decreases-all_below : goal.decreases-all_below
-decreases-all_below g l = 5 * weights (trees_in l.parts.now) + 2
+decreases-all_below g l = 6 * weights (trees_in l.parts.now) + 3
 
 abbrev pub decreases-turn_below : goal.decreases-turn_below
-decreases-turn_below g l = 5 * weights (trees_in l.parts.now) + 1
+decreases-turn_below g l = 6 * weights (trees_in l.parts.now) + 2
+
+abbrev pub decreases-first_below : goal.decreases-first_below
+decreases-first_below g l = 6 * weights (trees_in l.parts.now) + 1
 
 abbrev pub decreases-last_below : goal.decreases-last_below
-decreases-last_below g l = 5 * weights (trees_in l.parts.now) + 1
+decreases-last_below g l = 6 * weights (trees_in l.parts.now) + 1
 
 abbrev pub decreases-round_below : goal.decreases-round_below
-decreases-round_below g l = 5 * weights (trees_in l.parts.now)
+decreases-round_below g l = 6 * weights (trees_in l.parts.now)
 
 abbrev pub decreases-some_below : goal.decreases-some_below
-decreases-some_below g l = 5 * weights (trees_in l.parts.now)
+decreases-some_below g l = 6 * weights (trees_in l.parts.now)
 
 abbrev pub invariant-all_below-loop-place : goal.invariant-all_below-loop-place
 invariant-all_below-loop-place g l = record {

@@ -54,6 +54,16 @@ returns-then-is_full-clause-ids g c = λ docs same. record {
       );
 }
 
+pub returns-then-is_full-clause-stands : goal.returns-then-is_full-clause-stands
+returns-then-is_full-clause-stands g c = λ docs same. record {
+  told = λ m st v. let x = (c.loop-segment.invariant.told docs same).told m st v in (x.0, x.1, x.2, x.3, x.4.0);
+}
+
+pub returns-clause-stands : goal.returns-clause-stands
+returns-clause-stands g c = λ docs same. record {
+  told = λ m st v. let x = (c.loop-segment.invariant.told docs same).told m st v in (x.0, x.1, x.2, x.3, x.4.0);
+}
+
 pub bounds-firsts-segment : goal.bounds-firsts-segment
 bounds-firsts-segment g c =
     let r = c.requires in

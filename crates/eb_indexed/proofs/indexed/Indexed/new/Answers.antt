@@ -21,4 +21,5 @@ returns-clause-holds c =
       documents = ap (λ (w : HistoryToken). w.docs) made.writer;
       converter = ap (λ (w : ConverterToken). w.index) made.converter;
       converted = none_closed c.args.config _;
+      filters = c.in_ok-filters.ensures.covers;
     }

@@ -1,0 +1,4 @@
+pub mod SingleBits
+pub mod Sizes
+pub mod Covered
+pub mod VectorsBits

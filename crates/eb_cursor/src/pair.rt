@@ -1,0 +1,157 @@
+//! A turn over two words whose lists are packed and in their last blocks.
+//!
+//! Both lists are walked together in locals, posting by posting. What is left of a list is less than a block then, so
+//! that the loads of a turn stay within those of a leap in each list.
+ghost use Rattle.std.specs.Prelude.{◌≡◌, ℕ, suc, List, [], ◌∷◌, ◌+◌, ◌*◌, ◌/◌, ◌<◌, ◌≤◌, ◌^◌, true, false, Some, None, MatchOption, ⊤};
+ghost use Rattle.eb_base.specs.Term.{Term};
+ghost use Rattle.eb_place.specs.Postings.{places};
+ghost use Rattle.eb_cursor.specs.AndCosts.{word_parts};
+ghost use Rattle.eb_cursor.specs.Asked.{CanAskAll};
+ghost use Rattle.eb_cursor.specs.Costs.{PaysSpans, round_loads};
+ghost use Rattle.eb_cursor.specs.Finds.{GoesRound};
+ghost use Rattle.eb_cursor.specs.Loads.{loads_left};
+ghost use Rattle.eb_cursor.specs.Pairs.{AreTogether, CanPass, GoesPast, IsPairOf, PaysPair, both_ahead, meeting_end};
+
+use crate::cursor::Cursor;
+use crate::posting_list::PostingList;
+use eb_block::PackedList;
+use eb_place::{PLACES, Port, Posting, Steps};
+use std::sync::ledger::Ledger;
+
+// Two packed lists, and the posting of each that was given last.
+#[derive(Drop)]
+struct Pair {
+    left: Option<Posting>,
+    right: Option<Posting>,
+    one: PackedList,
+    two: PackedList,
+}
+
+impl Pair {
+    // Passes over the posting that stands in a later document than that of the other list; false where there is none.
+    #[inline(always)]
+    fn pass<P: Port, L: Ledger>(&mut self, port: &mut P, steps: &mut Steps<L>) -> bool
+        requires { CanPass P.stands port.old self.old }
+        ensures told { GoesPast P.stands P.keeps port.old port.new self.old self.new }
+        ensures costs { PaysPair P.stands P.keeps port.old port.new self.old self.new steps.old steps.new }
+        ensures loads { steps.new + 4 * both_ahead self.new ≤ steps.old + 4 * both_ahead self.old }
+        ensures less { result ≡ true → both_ahead self.new < both_ahead self.old }
+        ensures together { result ≡ false → AreTogether self.new }
+    {
+        let Some(left) = self.left else {
+            return false;
+        };
+        let Some(right) = self.right else {
+            return false;
+        };
+        if right / PLACES < left / PLACES {
+            self.left = self.one.next(port, steps);
+            return true;
+        }
+        if left / PLACES < right / PLACES {
+            self.right = self.two.next(port, steps);
+            return true;
+        }
+        false
+    }
+
+    // Passes until both stand in one document, or one has ended.
+    #[inline(always)]
+    fn pass_apart<P: Port, L: Ledger>(&mut self, port: &mut P, steps: &mut Steps<L>)
+        requires { CanPass P.stands port.old self.old }
+        ensures told { GoesPast P.stands P.keeps port.old port.new self.old self.new }
+        ensures costs { PaysPair P.stands P.keeps port.old port.new self.old self.new steps.old steps.new }
+        ensures loads { steps.new + 4 * both_ahead self.new ≤ steps.old + 4 * both_ahead self.old }
+        ensures together { AreTogether self.new }
+    {
+        'apart: while self.pass(port, steps) {}
+    }
+
+    // One more than the document where both stand, or 0 where a list has ended.
+    #[inline(always)]
+    fn end(&self) -> u64
+        ensures { result ≡ meeting_end self.now.left self.now.right }
+    {
+        let Some(left) = self.left else {
+            return 0;
+        };
+        let Some(_right) = self.right else {
+            return 0;
+        };
+        after_document(left)
+    }
+}
+
+// One more than the document of a posting.
+#[inline(always)]
+fn after_document(posting: Posting) -> u64
+    ensures { result ≡ suc (posting / places) }
+{
+    posting / PLACES + 1
+}
+
+// The pair of two cursors, where their lists are packed and in their last blocks, and the lower posting is in a document
+// below `end`.
+#[inline(always)]
+fn pair_of(own: &Cursor, other: &Cursor, end: u64) -> Option<Pair>
+    requires { end ≤ 2 ^ 32 }
+    ensures { MatchOption result ⊤ (IsPairOf own.now other.now end) }
+{
+    let Some(left) = own.current else {
+        return None;
+    };
+    let Some(right) = other.current else {
+        return None;
+    };
+    let PostingList::Packed(one) = &own.list else {
+        return None;
+    };
+    let PostingList::Packed(two) = &other.list else {
+        return None;
+    };
+    if !one.is_last() || !two.is_last() || PLACES * end <= left.min(right) {
+        return None;
+    }
+    Some(Pair {
+        left: Some(left),
+        right: Some(right),
+        one: *one,
+        two: *two,
+    })
+}
+
+/// A turn over two words whose lists are packed and in their last blocks, and the lower of whose postings is in a document
+/// below `end`; `None` where they aren't, and then nothing is done.
+#[inline(always)]
+pub fn pair_below<P: Port, L: Ledger>(
+    cursors: &mut [Cursor],
+    port: &mut P,
+    steps: &mut Steps<L>,
+    end: u64,
+) -> Option<u64>
+    requires small { end ≤ 2 ^ 32 }
+    requires ready { (u : Term) × (v : Term) × CanAskAll P.stands port.old (word_parts (u ∷ v ∷ [])) cursors.old end }
+    ensures stays { result ≡ None → (port.new ≡ port.old) × (cursors.new ≡ cursors.old) × (steps.new ≡ steps.old) }
+    ensures found { (found : ℕ) → result ≡ Some found → (u v : Term)
+        → GoesRound P.stands P.keeps port.old port.new (word_parts (u ∷ v ∷ [])) cursors.old cursors.new end found }
+    ensures loads { steps.new + loads_left cursors.new ≤ steps.old + loads_left cursors.old }
+    ensures spans { (found : ℕ) → result ≡ Some found → (u v : Term)
+        → PaysSpans P.stands P.keeps port.old port.new (u ∷ v ∷ []) cursors.old cursors.new (round_loads (u ∷ v ∷ [])) steps.old steps.new }
+{
+    let Some((own, rest)) = cursors.split_first_mut() else {
+        return None;
+    };
+    let Some((other, _more)) = rest.split_first_mut() else {
+        return None;
+    };
+    let Some(mut pair) = pair_of(own, other, end) else {
+        return None;
+    };
+    pair.pass_apart(port, steps);
+    let found = pair.end();
+    own.current = pair.left;
+    own.list = PostingList::Packed(pair.one);
+    other.current = pair.right;
+    other.list = PostingList::Packed(pair.two);
+    Some(found)
+}
