@@ -10,6 +10,7 @@ ghost use Rattle.eb_cursor.specs.Frames.{query_of, k_of, ids_of};
 use crate::converting::{catch_up, close};
 use crate::ending::tell_segments;
 use crate::searching::search_all;
+use crate::spare::Spare;
 use eb_answer::Store;
 use eb_base::{Config, Document, Gate, NoMemory, Query};
 use eb_bloom::Filters;
@@ -21,14 +22,14 @@ use eb_writer::Full;
 use std::alloc::Global;
 
 /// An index with its writer, its converter and the filters of its segments, and how what is printed of it is written. The
-/// frame of the last query is kept, whose memory serves the next one.
+/// memory of the last query serves the next one.
 #[derive(Drop)]
 pub struct Indexed {
     index: Index,
     writer: Writer,
     converter: Converter,
     filters: Filters,
-    frame: Option<Frame>,
+    spare: Spare,
     form: Form,
 }
 
@@ -45,7 +46,7 @@ impl Indexed {
             writer,
             converter,
             filters,
-            frame: None,
+            spare: Spare::new(),
             form,
         })
     }
@@ -60,7 +61,7 @@ impl Indexed {
             writer,
             converter,
             filters,
-            frame,
+            spare,
             form: _,
         } = self;
         Indexed {
@@ -68,7 +69,7 @@ impl Indexed {
             writer,
             converter,
             filters,
-            frame,
+            spare,
             form,
         }
     }
@@ -165,10 +166,7 @@ impl Store for Indexed {
         gate: &G,
         text: &mut Vec<u8>,
     ) -> Result<(), NoMemory> {
-        let mut frame = match self.frame.take() {
-            Some(frame) => frame.again(query, k)?,
-            None => Frame::new(alloc, query, k)?,
-        };
+        let mut frame = self.spare.frame(alloc, query, k)?;
         text.reserve(line_room(k as usize))?;
         let seen = search_all(
             &self.index,
@@ -178,7 +176,7 @@ impl Store for Indexed {
             gate,
         );
         put_answer(text, self.form, number, seen, frame.ids());
-        self.frame = Some(frame);
+        self.spare.keep(frame);
         Ok(())
     }
 

@@ -5,6 +5,7 @@ mod converting;
 mod ending;
 mod indexed;
 mod searching;
+mod spare;
 
 pub use converting::{SegmentCounts, catch_up, close, convert_all, has_waiting};
 pub use ending::{Counts, put_end, tell_segments};

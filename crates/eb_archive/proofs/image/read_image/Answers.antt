@@ -19,3 +19,9 @@ returns-in_err-read_parts-clause-all g c =
     let head = c.in-Ok.ensures.ok in
     let σ = c.in-Ok.read.0 in
     rw (p.1, p.2) (c.in_err-read_parts.ensures.all σ (g.S.Source.left c.args.source.now) head.0 (takes_head c.in-Ok-new.store σ _ _ head.1 c.in-Ok-new.ensures.holds))
+
+pub returns-clause-all : goal.returns-clause-all
+returns-clause-all g c =
+    let head = c.in-Ok.ensures.ok in
+    let σ = c.in-Ok.read.0 in
+    c.in_ok-read_parts.ensures.all σ (g.S.Source.left c.args.source.now) head.0 (takes_head c.in-Ok-new.store σ _ _ head.1 c.in-Ok-new.ensures.holds)
