@@ -1,15 +1,10 @@
--- Hashes and text words.
-use Rattle.std.proofs.Common.{◌≡◌, ℕ, zero, suc, ◌+◌, ◌-◌, ◌*◌, ◌/◌, ◌<◌, ◌≤◌, List, [], ◌∷◌, ◌++◌, length, take, drop, get_or, replicate, min, inl, inr, refl, ap, sym, ◌∙◌, arith}
+-- Text words.
+use Rattle.std.proofs.Common.{◌≡◌, ℕ, zero, suc, ◌+◌, ◌-◌, ◌*◌, ◌/◌, ◌<◌, ◌≤◌, List, [], ◌∷◌, length, take, drop, get_or, min, inl, inr, refl, ap, sym, ◌∙◌, arith}
 use Rattle.std.proofs.lemmas.Bool.{cases_lt}
 use Rattle.std.proofs.lemmas.List.{drop-drop, take_all, length-drop}
-use Rattle.std.specs.Int.{from_le_bytes, w64}
 use Rattle.eb_base.specs.Term.{Term}
 use Rattle.eb_place.specs.Room.{text_words}
 use Rattle.eb_place.specs.Placing.{little_endian, eights, text_of}
-
--- ---- hashes
-
--- ---- text words
 
 -- a word of the bytes
 pub eights_at : (n : ℕ) (bs : List ℕ) (i : ℕ) → i < n → get_or (eights n bs) i 0 ≡ little_endian (take 8 (drop (8 * i) bs))
@@ -23,19 +18,6 @@ eights_at (suc n) bs (suc i) h =
 pub text_word_at : (t : Term) (i : ℕ) → 1 ≤ i → i < text_words t → get_or (text_of t) i 0 ≡ little_endian (take 8 (drop ((i - 1) * 8) t))
 text_word_at t zero h l = absurd (omega arith)
 text_word_at t (suc i) h l = eights_at ((length t + 7) / 8) t i (omega arith) ∙ ap (λ k. little_endian (take 8 (drop k t))) (let e : 8 * i ≡ (suc i - 1) * 8 = omega arith in e)
-
--- eight bytes, the last of which are 0
-pub filled_word : (bs : List ℕ) → length bs ≤ 8 → from_le_bytes w64 (bs ++ replicate (8 - length bs) 0) ≡ little_endian bs
-filled_word [] h = omega arith
-filled_word (a ∷ []) h = omega arith
-filled_word (a ∷ b ∷ []) h = omega arith
-filled_word (a ∷ b ∷ c ∷ []) h = omega arith
-filled_word (a ∷ b ∷ c ∷ d ∷ []) h = omega arith
-filled_word (a ∷ b ∷ c ∷ d ∷ e ∷ []) h = omega arith
-filled_word (a ∷ b ∷ c ∷ d ∷ e ∷ f ∷ []) h = omega arith
-filled_word (a ∷ b ∷ c ∷ d ∷ e ∷ f ∷ g ∷ []) h = omega arith
-filled_word (a ∷ b ∷ c ∷ d ∷ e ∷ f ∷ g ∷ i ∷ []) h = omega arith
-filled_word (a ∷ b ∷ c ∷ d ∷ e ∷ f ∷ g ∷ i ∷ j ∷ xs) h = absurd (omega arith)
 
 -- the bytes of a text word after the length, as the rest of the bytes from there on and no more than eight
 pub word_from : (t bs : List ℕ) (i n w : ℕ) → bs ≡ t → (i ≡ 0 → ⊥) → i < text_words t → n ≡ min (length (take (length bs - (i - 1) * 8) (drop ((i - 1) * 8) bs))) 8

@@ -1,4 +1,4 @@
-ghost use Rattle.std.specs.Prelude.{◌≡◌, ◌-◌, ◌<◌, ◌≤◌, ◌++◌, get_or, length, replicate};
+ghost use Rattle.std.specs.Prelude.{◌≡◌, ◌<◌, ◌≤◌, ◌^◌, [], ◌∷◌, get_or, length};
 ghost use Rattle.eb_base.specs.Term.{AreBytes};
 ghost use Rattle.eb_place.specs.Room.{text_words};
 ghost use Rattle.eb_place.specs.Placing.{text_of, little_endian};
@@ -30,16 +30,39 @@ pub(crate) fn text_word(term: &Term, at: usize) -> u64
     lowest_first(&rest[..rest.len().min(WORD_BYTES)])
 }
 
-// Up to eight bytes as a number, the first lowest.
+// Up to eight bytes as a number, the first lowest: the first four at once, where there are so many.
+#[inline(always)]
 fn lowest_first(bytes: &[u8]) -> u64
     requires { length bytes.now ≤ 8 }
     ensures { result ≡ little_endian bytes.now }
 {
-    let mut at = bytes.len();
-    let mut word = 0u64;
-    'bytes: while at > 0 {
-        at -= 1;
-        word = word * 256 + u64::from(bytes[at]);
+    match bytes {
+        [a, b, c, d, rest @ ..] => four_bytes(*a, *b, *c, *d) + (1 << 32) * up_to_four(rest),
+        _ => up_to_four(bytes),
     }
-    word
+}
+
+// Up to four bytes as a number, the first lowest.
+#[inline(always)]
+fn up_to_four(bytes: &[u8]) -> u64
+    requires { length bytes.now ≤ 4 }
+    ensures number { result ≡ little_endian bytes.now }
+    ensures small { result < 2 ^ 32 }
+{
+    match bytes {
+        [a, b, c, d] => four_bytes(*a, *b, *c, *d),
+        [a, b, c] => four_bytes(*a, *b, *c, 0),
+        [a, b] => four_bytes(*a, *b, 0, 0),
+        [a] => u64::from(*a),
+        _ => 0,
+    }
+}
+
+// Four bytes as a number, the first lowest.
+#[inline(always)]
+fn four_bytes(a: u8, b: u8, c: u8, d: u8) -> u64
+    ensures number { result ≡ little_endian (a ∷ b ∷ c ∷ d ∷ []) }
+    ensures small { result < 2 ^ 32 }
+{
+    u64::from(u32::from_le_bytes([a, b, c, d]))
 }
