@@ -14,9 +14,9 @@ use Rattle.eb_block.specs.Reading.{ListStands, ListGives}
 use Rattle.eb_block.specs.declared.packed_list.PackedList.{PackedList}
 use Rattle.eb_block.proofs.Standing.{list_stands_later}
 use Rattle.eb_cursor.specs.AndCosts.{word_parts}
-use Rattle.eb_cursor.specs.Asked.{CanAskAll, IsRound}
+use Rattle.eb_cursor.specs.Asked.{CanAskAll}
 use Rattle.eb_cursor.specs.Costs.{AllSpan, PaysSpans, Spans, round_loads}
-use Rattle.eb_cursor.specs.Finds.{GoesRound}
+use Rattle.eb_cursor.specs.Finds.{FindsAll}
 use Rattle.eb_cursor.specs.Lists.{Gives, from_below, gives}
 use Rattle.eb_cursor.specs.Loads.{ahead, loads_left}
 use Rattle.eb_cursor.specs.Pairs.{packed_leaf, AreTogether, IsAbreast, IsPast, CanPass, GoesPast, PaysPair, both_ahead, meeting_end, IsPairOf}
@@ -25,14 +25,13 @@ use Rattle.eb_cursor.specs.Ready.{AllReady, AreStillGiven, IsLeaf}
 use Rattle.eb_cursor.specs.Tops.{top}
 use Rattle.eb_cursor.specs.declared.cursor.Cursor.{Cursor}
 use Rattle.eb_cursor.specs.declared.pair.Pair.{Pair}
-use Rattle.eb_cursor.specs.declared.posting_list.PostingList.{PostingList}
 use Rattle.eb_cursor.specs.declared.posting_list.PostingList.TheVariants.{Packed}
 use Rattle.eb_cursor.proofs.Documents.{word_top}
 use Rattle.eb_cursor.proofs.Leaves.{Given, leaf_ahead, leaf_found, leaf_later, leaf_left, leaf_lower, leaf_next, leaf_none}
 use Rattle.eb_cursor.proofs.Owing.{gave_packed}
 use Rattle.eb_cursor.proofs.Steps.{top_all}
 use Rattle.eb_cursor.proofs.Tellings.{IsLater, IsLawfulPort, KeepsItself, KeepsOn, Later, gives_later, told_as, told_itself}
-use Rattle.eb_cursor.proofs.Tops.{from_below-below, from_below_twice, top_and, top_implied, top_le, top_skips, top_up}
+use Rattle.eb_cursor.proofs.Tops.{from_below-below, from_below_twice, top_and, top_implied, top_le, top_skips}
 
 -- ---- the documents that have both words
 
@@ -271,43 +270,42 @@ pub two_can : {S : Type 0} (stands : S → Moment → Type 0) (s : S) (u v : Ter
 two_can stands s u v cursors own rest other more p end e i is r =
     (r.0, r.1, u, v, end, r.3, abreast_of (gives r.0) r.1 u v cursors own rest other more p end r.2 e i is r.4 r.5)
 
--- where both words' last documents aren't before what was found
-round_at : (g : Gives) (docs : List Doc) (u v : Term) (c d : Cursor) (end low found : ℕ) → low ≤ end → top (both docs u v) end ≡ top (both docs u v) low → Narrow docs
-    → IsLeaf g (is_posting docs u) c (places * low) → IsLeaf g (is_posting docs v) d (places * low)
-    → found ≤ top (match_at docs (word u)) low → found ≤ top (match_at docs (word v)) low → top (both docs u v) low ≡ top (both docs u v) found
-    → IsRound g docs (word_parts (u ∷ v ∷ [])) (c ∷ d ∷ []) end found
-round_at g docs u v c d end low found h same narrow first second a b here =
+-- the greatest document that has both words, below which the cursors are ready
+abbrev FoundOf : Gives → List Doc → Term → Term → List Cursor → ℕ → ℕ → Type 0
+FoundOf g docs u v cursors end found = (found ≡ top (both docs u v) end) × AllReady g docs (word_parts (u ∷ v ∷ [])) cursors found
+
+-- both leaves are ready for each lower end
+ready_at : (g : Gives) (docs : List Doc) (u v : Term) (c d : Cursor) (low found : ℕ) → found ≤ low → Narrow docs
+    → IsLeaf g (is_posting docs u) c (places * low) → IsLeaf g (is_posting docs v) d (places * low) → AllReady g docs (word_parts (u ∷ v ∷ [])) (c ∷ d ∷ []) found
+ready_at g docs u v c d low found falls narrow first second =
+    let under : places * found ≤ places * low = omega (arith, falls) in (
+      (refl, narrow, leaf_lower g (is_posting docs u) c (places * found) (places * low) under first),
+      ((refl, narrow, leaf_lower g (is_posting docs v) d (places * found) (places * low) under second), refl),
+    )
+
+-- a document that is the last one of both words is the last that has both
+last_of_both : (docs : List Doc) (u v : Term) (low found : ℕ) → top (match_at docs (word u)) low ≡ found → top (match_at docs (word v)) low ≡ found
+    → top (both docs u v) low ≡ found
+last_of_both docs u v low found a b =
     let f : ℕ → Bool = match_at docs (word u) in
     let k : ℕ → Bool = match_at docs (word v) in
-    let falls : found ≤ low = omega (arith, a, top_le (match_at docs (word u)) low) in
-    let under : places * found ≤ places * low = omega (arith, falls) in
-    record {
-      falls = omega (arith, falls, h);
-      same = same ∙ here;
-      all = λ i.
-          let full : low ≡ end = omega (arith, i, falls, h) in
-          let p : top (match_at docs (word u)) low ≡ low = omega (arith, i, falls, h, a, top_le (match_at docs (word u)) low) in
-          let q : top (match_at docs (word v)) low ≡ low = omega (arith, i, falls, h, b, top_le (match_at docs (word v)) low) in
-          let q1 = top_and k (each_at docs no_trees) low q (top_all (each_at docs no_trees) (λ n. refl) low) in
-          subst (λ z. top (both docs u v) z ≡ z) full (top_and f (each_at docs (word_parts (v ∷ []))) low p q1);
-      under = (omega (arith, a, top_up (match_at docs (word u)) low end h), (omega (arith, b, top_up (match_at docs (word v)) low end h), tt));
-      ready = (
-        (refl, narrow, leaf_lower g (is_posting docs u) c (places * found) (places * low) under first),
-        ((refl, narrow, leaf_lower g (is_posting docs v) d (places * found) (places * low) under second), refl),
-      );
-    }
+    let p : top f found ≡ found = ap (top f) (sym a) ∙ sym (top_skips f f (λ n q. q) low) ∙ a in
+    let q : top k found ≡ found = ap (top k) (sym b) ∙ sym (top_skips k k (λ n r. r) low) ∙ b in
+    let q1 = top_and k (each_at docs no_trees) found q (top_all (each_at docs no_trees) (λ n. refl) found) in
+    top_skips f (both docs u v) (both_first docs u v) low ∙ ap (top (both docs u v)) a ∙ top_and f (each_at docs (word_parts (v ∷ []))) found p q1
 
 -- where one has no document left
-round_none : (g : Gives) (docs : List Doc) (u v : Term) (c d : Cursor) (end low : ℕ) → low ≤ end → top (both docs u v) end ≡ top (both docs u v) low → Narrow docs
+found_none : (g : Gives) (docs : List Doc) (u v : Term) (c d : Cursor) (end low : ℕ) → top (both docs u v) end ≡ top (both docs u v) low → Narrow docs
     → IsLeaf g (is_posting docs u) c (places * low) → IsLeaf g (is_posting docs v) d (places * low) → (f : ℕ → Bool) → ((n : ℕ) → both docs u v n ≡ true → f n ≡ true)
-    → top f low ≡ 0 → IsRound g docs (word_parts (u ∷ v ∷ [])) (c ∷ d ∷ []) end 0
-round_none g docs u v c d end low h same narrow first second f implied none =
-    let here : top (both docs u v) low ≡ 0 = omega (arith, none, top_implied f (both docs u v) implied low) in
-    round_at g docs u v c d end low 0 h same narrow first second (omega arith) (omega arith) here
+    → top f low ≡ 0 → FoundOf g docs u v (c ∷ d ∷ []) end 0
+found_none g docs u v c d end low same narrow first second f implied none = (
+  omega (arith, same, none, top_implied f (both docs u v) implied low),
+  ready_at g docs u v c d low 0 (omega arith) narrow first second,
+)
 
-pair_round : (g : Gives) (docs : List Doc) (u v : Term) (p : Pair) (c d : Cursor) (end : ℕ) → c.current ≡ p.left → c.list ≡ Packed p.one → d.current ≡ p.right → d.list ≡ Packed p.two
-    → IsPast g docs u v p end → AreTogether p → IsRound g docs (word_parts (u ∷ v ∷ [])) (c ∷ d ∷ []) end (meeting_end p.left p.right)
-pair_round g docs u v p c d end cl cp dl dp past met = go p.left p.right refl refl
+pair_found : (g : Gives) (docs : List Doc) (u v : Term) (p : Pair) (c d : Cursor) (end : ℕ) → c.current ≡ p.left → c.list ≡ Packed p.one → d.current ≡ p.right → d.list ≡ Packed p.two
+    → IsPast g docs u v p end → AreTogether p → FoundOf g docs u v (c ∷ d ∷ []) end (meeting_end p.left p.right)
+pair_found g docs u v p c d end cl cp dl dp past met = go p.left p.right refl refl
   where
     first : IsLeaf g (is_posting docs u) c (places * past.lower)
     first = leaf_as g (is_posting docs u) (packed_leaf p.left p.one) c (places * past.lower) (sym cl) (sym cp) past.abreast.first
@@ -315,10 +313,10 @@ pair_round g docs u v p c d end cl cp dl dp past met = go p.left p.right refl re
     second : IsLeaf g (is_posting docs v) d (places * past.lower)
     second = leaf_as g (is_posting docs v) (packed_leaf p.right p.two) d (places * past.lower) (sym dl) (sym dp) past.abreast.second
 
-    go : (l r : Option ℕ) → p.left ≡ l → p.right ≡ r → IsRound g docs (word_parts (u ∷ v ∷ [])) (c ∷ d ∷ []) end (meeting_end l r)
-    go None r i j = round_none g docs u v c d end past.lower past.falls past.same past.abreast.narrow first second (match_at docs (word u)) (both_first docs u v)
+    go : (l r : Option ℕ) → p.left ≡ l → p.right ≡ r → FoundOf g docs u v (c ∷ d ∷ []) end (meeting_end l r)
+    go None r i j = found_none g docs u v c d end past.lower past.same past.abreast.narrow first second (match_at docs (word u)) (both_first docs u v)
         (word_none g docs past.abreast.narrow u c past.lower (cl ∙ i) first)
-    go (Some x) None i j = round_none g docs u v c d end past.lower past.falls past.same past.abreast.narrow first second (match_at docs (word v)) (both_second docs u v)
+    go (Some x) None i j = found_none g docs u v c d end past.lower past.same past.abreast.narrow first second (match_at docs (word v)) (both_second docs u v)
         (word_none g docs past.abreast.narrow v d past.lower (dl ∙ j) second)
     go (Some x) (Some y) i j =
         let one : x / places ≡ y / places = met x y i j in
@@ -326,22 +324,23 @@ pair_round g docs u v p c d end cl cp dl dp past met = go p.left p.right refl re
         let lowx : x < places * past.lower = omega (arith, one, least) in
         let lowy : y < places * past.lower = omega (arith, one, least) in
         let a : top (match_at docs (word u)) past.lower ≡ suc (x / places) = word_end g docs past.abreast.narrow u c x past.lower (cl ∙ i) lowx first in
-        let b : top (match_at docs (word v)) past.lower ≡ suc (y / places) = word_end g docs past.abreast.narrow v d y past.lower (dl ∙ j) lowy second in
-        round_at g docs u v c d end past.lower (suc (x / places)) past.falls past.same past.abreast.narrow first second (omega (arith, a)) (omega (arith, b, one))
-        (top_skips (match_at docs (word u)) (both docs u v) (both_first docs u v) past.lower ∙ ap (top (both docs u v)) a)
+        let b : top (match_at docs (word v)) past.lower ≡ suc (y / places) = word_end g docs past.abreast.narrow v d y past.lower (dl ∙ j) lowy second in (
+          sym (past.same ∙ last_of_both docs u v past.lower (suc (x / places)) a (omega (arith, b, one))),
+          ready_at g docs u v c d past.lower (suc (x / places)) (omega (arith, a, top_le (match_at docs (word u)) past.lower)) past.abreast.narrow first second,
+        )
 
-pub pair_goes : {S : Type 0} {stands : S → Moment → Type 0} {keeps : S → Moment → S → Moment → Type 0} {s t : S} (u v : Term)
+pub pair_finds : {S : Type 0} {stands : S → Moment → Type 0} {keeps : S → Moment → S → Moment → Type 0} {s t : S} (u v : Term)
     (cursors : List Cursor) (own : Cursor) (rest : List Cursor) (other : Cursor) (more : List Cursor) (c d : Cursor) (p q : Pair) (end found : ℕ)
     → IsLawfulPort stands → cursors ≡ own ∷ rest → rest ≡ other ∷ more → IsPairOf own other end p → GoesPast stands keeps s t p q → AreTogether q
     → c.current ≡ q.left → c.list ≡ Packed q.one → d.current ≡ q.right → d.list ≡ Packed q.two → found ≡ meeting_end q.left q.right
-    → GoesRound stands keeps s t (word_parts (u ∷ v ∷ [])) cursors (c ∷ d ∷ more) end found
-pair_goes u v cursors own rest other more c d p q end found lawful e i is goes met cl cp dl dp at docs last h = told_as lawful (goes docs u v end)
+    → FindsAll stands keeps s t (word_parts (u ∷ v ∷ [])) cursors (c ∷ d ∷ more) end found
+pair_finds u v cursors own rest other more c d p q end found lawful e i is goes met cl cp dl dp at docs last h = told_as lawful (goes docs u v end)
     (λ m r. abreast_of (gives m) docs u v cursors own rest other more p end last e i is h r)
     (λ m n later r past.
     let none : more ≡ [] = (two_ask (gives m) docs u v cursors own rest other more last e i r).3 in
-    let round = pair_round (gives n) docs u v q c d end cl cp dl dp past met in
-    subst (λ z. IsRound (gives n) docs (word_parts (u ∷ v ∷ [])) (c ∷ d ∷ z) end found) (sym none)
-    (subst (λ z. IsRound (gives n) docs (word_parts (u ∷ v ∷ [])) (c ∷ d ∷ []) end z) (sym at) round))
+    let found_both = pair_found (gives n) docs u v q c d end cl cp dl dp past met in
+    subst (λ z. FoundOf (gives n) docs u v (c ∷ d ∷ z) end found) (sym none)
+    (subst (λ z. FoundOf (gives n) docs u v (c ∷ d ∷ []) end z) (sym at) found_both))
 
 -- ---- what two cursors owe
 

@@ -257,7 +257,8 @@ fn is_bound(query: &Query) -> bool {
     matches!(query, Query::Since(_))
 }
 
-// Asks all parts in turn, each from where the one before it stopped, until none of them falls.
+// One more than the greatest document below `end` that all parts match, or 0. Two words whose lists are packed and in their
+// last blocks are walked together.
 #[cycle(below)]
 fn all_below<P: Port, L: Ledger>(
     parts: &[Query],
@@ -273,39 +274,12 @@ fn all_below<P: Port, L: Ledger>(
     ensures rounds { (ts : List (List ℕ)) (t : List ℕ) → trees_in parts.now ≡ word_parts ts → Contains ts t
         → PaysRounds P.stands P.keeps port.old port.new ts t cursors.old cursors.new end result (round_loads ts) steps.old steps.new }
 {
-    let mut place = end;
-    loop {
-        let found = turn_below(parts, cursors, port, steps, place);
-        if found == place {
-            return place;
-        }
-        place = found;
-    }
-}
-
-// One such turn. Two words whose lists are packed and in their last blocks are walked together.
-#[inline(always)]
-#[cycle(below)]
-fn turn_below<P: Port, L: Ledger>(
-    parts: &[Query],
-    cursors: &mut [Cursor],
-    port: &mut P,
-    steps: &mut Steps<L>,
-    end: u64,
-) -> u64
-    requires small { (end ≤ 2 ^ 32) × (length cursors.old ≤ 64) }
-    requires ready { CanAskAll P.stands port.old (trees_in parts.now) cursors.old end }
-    ensures found { GoesRound P.stands P.keeps port.old port.new (trees_in parts.now) cursors.old cursors.new end result }
-    ensures loads { steps.new + loads_left cursors.new ≤ steps.old + loads_left cursors.old }
-    ensures spans { (ts : List (List ℕ)) → trees_in parts.now ≡ word_parts ts
-        → PaysSpans P.stands P.keeps port.old port.new ts cursors.old cursors.new (round_loads ts) steps.old steps.new }
-{
     if are_two_words(parts) {
         if let Some(found) = pair_below(cursors, port, steps, end) {
             return found;
         }
     }
-    first_below(parts, cursors, port, steps, end)
+    turns_below(parts, cursors, port, steps, end)
 }
 
 // Whether the parts are two words.
@@ -314,6 +288,33 @@ fn are_two_words(parts: &[Query]) -> bool
     ensures { result ≡ true → (u : Term) × (v : Term) × (trees_in parts.now ≡ word_parts (u ∷ v ∷ [])) }
 {
     matches!(parts, [Query::Word(_), Query::Word(_)])
+}
+
+// Asks all parts in turn, each from where the one before it stopped, until none of them falls.
+#[inline(always)]
+#[cycle(below)]
+fn turns_below<P: Port, L: Ledger>(
+    parts: &[Query],
+    cursors: &mut [Cursor],
+    port: &mut P,
+    steps: &mut Steps<L>,
+    end: u64,
+) -> u64
+    requires small { (end ≤ 2 ^ 32) × (length cursors.old ≤ 64) }
+    requires ready { CanAskAll P.stands port.old (trees_in parts.now) cursors.old end }
+    ensures found { FindsAll P.stands P.keeps port.old port.new (trees_in parts.now) cursors.old cursors.new end result }
+    ensures loads { steps.new + loads_left cursors.new ≤ steps.old + loads_left cursors.old }
+    ensures rounds { (ts : List (List ℕ)) (t : List ℕ) → trees_in parts.now ≡ word_parts ts → Contains ts t
+        → PaysRounds P.stands P.keeps port.old port.new ts t cursors.old cursors.new end result (round_loads ts) steps.old steps.new }
+{
+    let mut place = end;
+    loop {
+        let found = first_below(parts, cursors, port, steps, place);
+        if found == place {
+            return place;
+        }
+        place = found;
+    }
 }
 
 // A turn over all parts. The first part is most often a word, which is asked here, without a call.

@@ -1,14 +1,14 @@
-//! A turn over two words whose lists are packed and in their last blocks.
+//! Two words whose lists are packed and in their last blocks.
 //!
-//! Both lists are walked together in locals, posting by posting. What is left of a list is less than a block then, so
-//! that the loads of a turn stay within those of a leap in each list.
+//! Both lists are walked together in locals, posting by posting, until both stand in one document. What is left of a list is
+//! less than a block then, so that this loads no more than a turn, which leaps in each list.
 ghost use Rattle.std.specs.Prelude.{◌≡◌, ℕ, suc, List, [], ◌∷◌, ◌+◌, ◌*◌, ◌/◌, ◌<◌, ◌≤◌, ◌^◌, true, false, Some, None, MatchOption, ⊤};
 ghost use Rattle.eb_base.specs.Term.{Term};
 ghost use Rattle.eb_place.specs.Postings.{places};
 ghost use Rattle.eb_cursor.specs.AndCosts.{word_parts};
 ghost use Rattle.eb_cursor.specs.Asked.{CanAskAll};
 ghost use Rattle.eb_cursor.specs.Costs.{PaysSpans, round_loads};
-ghost use Rattle.eb_cursor.specs.Finds.{GoesRound};
+ghost use Rattle.eb_cursor.specs.Finds.{FindsAll};
 ghost use Rattle.eb_cursor.specs.Loads.{loads_left};
 ghost use Rattle.eb_cursor.specs.Pairs.{AreTogether, CanPass, GoesPast, IsPairOf, PaysPair, both_ahead, meeting_end};
 
@@ -120,8 +120,8 @@ fn pair_of(own: &Cursor, other: &Cursor, end: u64) -> Option<Pair>
     })
 }
 
-/// A turn over two words whose lists are packed and in their last blocks, and the lower of whose postings is in a document
-/// below `end`; `None` where they aren't, and then nothing is done.
+/// One more than the greatest document below `end` that has both of two words, or 0, where their lists are packed and in
+/// their last blocks, and the lower of their postings is in a document below `end`; else `None`, and then nothing is done.
 #[inline(always)]
 pub fn pair_below<P: Port, L: Ledger>(
     cursors: &mut [Cursor],
@@ -133,7 +133,7 @@ pub fn pair_below<P: Port, L: Ledger>(
     requires ready { (u : Term) × (v : Term) × CanAskAll P.stands port.old (word_parts (u ∷ v ∷ [])) cursors.old end }
     ensures stays { result ≡ None → (port.new ≡ port.old) × (cursors.new ≡ cursors.old) × (steps.new ≡ steps.old) }
     ensures found { (found : ℕ) → result ≡ Some found → (u v : Term)
-        → GoesRound P.stands P.keeps port.old port.new (word_parts (u ∷ v ∷ [])) cursors.old cursors.new end found }
+        → FindsAll P.stands P.keeps port.old port.new (word_parts (u ∷ v ∷ [])) cursors.old cursors.new end found }
     ensures loads { steps.new + loads_left cursors.new ≤ steps.old + loads_left cursors.old }
     ensures spans { (found : ℕ) → result ≡ Some found → (u v : Term)
         → PaysSpans P.stands P.keeps port.old port.new (u ∷ v ∷ []) cursors.old cursors.new (round_loads (u ∷ v ∷ [])) steps.old steps.new }

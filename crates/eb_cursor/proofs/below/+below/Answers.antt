@@ -1,13 +1,16 @@
 use Rattle.std.proofs.Common.{◌≡◌, ◌≢◌, ℕ, zero, suc, ◌+◌, ◌-◌, ◌<◌, ◌≤◌, List, [], ◌∷◌, length, not, Bool, arith, ap, ◌∙◌, sym, subst, refl, rules}
-use Rattle.eb_base.specs.Query.{Tree, tree, word, phrase, window, since, negation, conjunction, disjunction}
+use Rattle.std.specs.List.{Contains}
+use Rattle.eb_base.specs.Term.{Term}
+use Rattle.eb_place.specs.declared.moment.Moment.{Moment}
+use Rattle.eb_base.specs.Query.{Tree, Trees, tree, word, phrase, window, since, negation, conjunction, disjunction}
 use Rattle.eb_base.specs.declared.query.Query.{Query}
-use Rattle.eb_cursor.specs.AndCosts.{word_parts, rounds_cost, AndOwes}
+use Rattle.eb_cursor.specs.AndCosts.{word_parts, rounds_cost, AndOwes, PaysRounds}
 use Rattle.eb_cursor.specs.Asked.{weight, weights, trees_in}
 use Rattle.eb_cursor.specs.Costs.{PaysSpans, round_loads}
 use Rattle.eb_cursor.specs.Lists.{gives}
 use Rattle.eb_cursor.specs.Ready.{Ready, AllReady}
 use Rattle.eb_cursor.specs.Tops.{top}
-use Rattle.eb_cursor.specs.Posted.{match_at}
+use Rattle.eb_cursor.specs.Posted.{match_at, each_at}
 use Rattle.eb_cursor.specs.declared.cursor.Cursor.{Cursor}
 use Rattle.eb_cursor.proofs.Readies.{ready_lower, ready_later, all_lower, all_size}
 use Rattle.eb_cursor.proofs.Steps.{tree_Word, tree_Phrase, tree_Window, tree_Since, tree_Not, tree_And, tree_Or, not_asks, not_told, not_here, not_past, each_told, each_asks, led_none}
@@ -18,7 +21,9 @@ use Rattle.eb_cursor.proofs.Owing.{all_span_later}
 use Rattle.eb_cursor.proofs.Turns.{word_front, part_alone, others_can, turn_found, turn_paid, single_can, single_found, single_paid}
 use Rattle.eb_cursor.proofs.Pairs.{two_words}
 use Rattle.eb_cursor.proofs.LoadsLeft.{loads_split, loads_split_back}
+use Rattle.eb_cursor.proofs.Tops.{top_le}
 use Rattle.eb_cursor.proofs.Tellings.{IsLater, gives_later, later_same, told_itself, told_as, told_on}
+use Rattle.eb_cursor.proofs.below.+below.Goals.{all_below-then-are_two_words+in_default, all_below-else-are_two_words}
 use Rattle.eb_cursor.proofs.below.+below.Goals as goal
 
 -- ---- each kind of query
@@ -175,16 +180,16 @@ and_below-returns-clause-found g t c = λ docs last h.
     (trees_in c.args.parts.now) c.args.cursors.now s fell c.in-Some.rest.now c.led_below-found.new.cursors c.min-start.result c.args.end last c.led_below-found.result
     refl c.in-Some.ensures.cases.0 refl h c.min-start.ensures w r)
 
-pub all_below-loop-place-init : goal.all_below-loop-place-init
-all_below-loop-place-init g t c = record {
+pub turns_below-loop-place-init : goal.turns_below-loop-place-init
+turns_below-loop-place-init g t c = record {
   falls = omega arith;
   loads = omega arith;
   found = λ docs last h. told_itself g.met.P.Port.keeps_itself (λ m r. (refl, all_lower (gives m) docs (trees_in c.args.parts.now) c.args.cursors.now c.args.end last h r));
   rounds = λ ts t e i docs r last s most h st ready. told_itself g.met.P.Port.keeps_itself (λ m p. (most, p, omega arith));
 }
 
-pub all_below-turn_below-found-requires : goal.all_below-turn_below-found-requires
-all_below-turn_below-found-requires g t c = λ κs lv.
+pub turns_below-first_below-found-requires : goal.turns_below-first_below-found-requires
+turns_below-first_below-found-requires g t c = λ κs lv.
     let r = c.requires.ready in
     let i = (c.loop-place.invariant.found r.1 r.2 r.4).told r.0 r.3 r.5 in (
       search rules,
@@ -194,47 +199,47 @@ all_below-turn_below-found-requires g t c = λ κs lv.
       ),
     )
 
-pub all_below-returns-then-found-place-clause-found : goal.all_below-returns-then-found-place-clause-found
-all_below-returns-then-found-place-clause-found g t c = λ docs last h.
-    told_on g.met.P.Port.lawful g.met.P.Port.keeps_on (c.loop-place.invariant.found docs last h) (c.turn_below-found.ensures.found docs c.loop-place.place (omega arith))
+pub turns_below-returns-then-found-place-clause-found : goal.turns_below-returns-then-found-place-clause-found
+turns_below-returns-then-found-place-clause-found g t c = λ docs last h.
+    told_on g.met.P.Port.lawful g.met.P.Port.keeps_on (c.loop-place.invariant.found docs last h) (c.first_below-found.ensures.found docs c.loop-place.place (omega arith))
     (λ l r. r) (λ l m w r i. i.1)
     (λ l m n w1 w2 r i round.
-    (sym (i.0 ∙ round.all c.if-found-place.true), subst (λ y. AllReady (gives n) docs (trees_in c.args.parts.now) c.turn_below-found.new.cursors y) c.if-found-place.true round.ready))
+    (sym (i.0 ∙ round.all c.if-found-place.true), subst (λ y. AllReady (gives n) docs (trees_in c.args.parts.now) c.first_below-found.new.cursors y) c.if-found-place.true round.ready))
 
-pub all_below-loop-place-smaller : goal.all_below-loop-place-smaller
-all_below-loop-place-smaller g t c =
+pub turns_below-loop-place-smaller : goal.turns_below-loop-place-smaller
+turns_below-loop-place-smaller g t c =
     let r = c.requires.ready in
     let i = (c.loop-place.invariant.found r.1 r.2 r.4).told r.0 r.3 r.5 in
-    let x = (c.turn_below-found.ensures.found r.1 c.loop-place.place (omega arith)).told i.0 i.1 i.4.1 in
-    let le : c.turn_below-found.result ≤ c.loop-place.place = x.4.falls in
-    let ne : c.turn_below-found.result ≢ c.loop-place.place = c.if-found-place.false in
+    let x = (c.first_below-found.ensures.found r.1 c.loop-place.place (omega arith)).told i.0 i.1 i.4.1 in
+    let le : c.first_below-found.result ≤ c.loop-place.place = x.4.falls in
+    let ne : c.first_below-found.result ≢ c.loop-place.place = c.if-found-place.false in
     omega arith
 
-pub all_below-loop-place-preserved : goal.all_below-loop-place-preserved
-all_below-loop-place-preserved g t c =
+pub turns_below-loop-place-preserved : goal.turns_below-loop-place-preserved
+turns_below-loop-place-preserved g t c =
     let r = c.requires.ready in
     let i = (c.loop-place.invariant.found r.1 r.2 r.4).told r.0 r.3 r.5 in
-    let x = (c.turn_below-found.ensures.found r.1 c.loop-place.place (omega arith)).told i.0 i.1 i.4.1 in
+    let x = (c.first_below-found.ensures.found r.1 c.loop-place.place (omega arith)).told i.0 i.1 i.4.1 in
     record {
       falls = omega (arith, x.4.falls, c.loop-place.invariant.falls);
-      loads = omega (arith, c.turn_below-found.ensures.loads, c.loop-place.invariant.loads);
+      loads = omega (arith, c.first_below-found.ensures.loads, c.loop-place.invariant.loads);
       found = λ docs last h.
-          told_on g.met.P.Port.lawful g.met.P.Port.keeps_on (c.loop-place.invariant.found docs last h) (c.turn_below-found.ensures.found docs c.loop-place.place (omega arith))
+          told_on g.met.P.Port.lawful g.met.P.Port.keeps_on (c.loop-place.invariant.found docs last h) (c.first_below-found.ensures.found docs c.loop-place.place (omega arith))
           (λ l r. r) (λ l m w r i. i.1)
           (λ l m n w1 w2 r i round. (i.0 ∙ round.same, round.ready));
       rounds = λ ts t e member docs r last s most h st ready. record {
         told = λ m at p.
             let i = (c.loop-place.invariant.found docs last h).told r st (subst (λ z. AllReady (gives r) docs z c.args.cursors.now last) (sym e) ready) in
-            let z = (c.turn_below-found.ensures.found docs c.loop-place.place (omega arith)).told i.0 i.1 i.4.1 in
-            let falls : c.turn_below-found.result < c.loop-place.place = let ne : c.turn_below-found.result ≢ c.loop-place.place = c.if-found-place.false in omega (arith, z.4.falls, ne) in
-            let pays = cost_falls docs ts t c.turn_below-found.result c.loop-place.place falls (under_at docs ts t (trees_in c.args.parts.now) _ _ member e z.4.under) in
+            let z = (c.first_below-found.ensures.found docs c.loop-place.place (omega arith)).told i.0 i.1 i.4.1 in
+            let falls : c.first_below-found.result < c.loop-place.place = let ne : c.first_below-found.result ≢ c.loop-place.place = c.if-found-place.false in omega (arith, z.4.falls, ne) in
+            let pays = cost_falls docs ts t c.first_below-found.result c.loop-place.place falls (under_at docs ts t (trees_in c.args.parts.now) _ _ member e z.4.under) in
             let x = (c.loop-place.invariant.rounds ts t e member docs r last s most h st ready).told m at p in
-            let y = (c.turn_below-found.ensures.spans ts e s x.4.1.0).told x.0 x.1 x.4.1.1 in (
+            let y = (c.first_below-found.ensures.spans ts e s x.4.1.0).told x.0 x.1 x.4.1.1 in (
               y.0,
               y.1,
               later_on m x.0 y.0 x.2 y.2,
               g.met.P.Port.keeps_on _ _ _ m x.0 y.0 x.3 y.3,
-              (y.4.0 + rounds_cost docs ts t c.turn_below-found.result, (y.4.0, y.4.1, omega arith), omega (arith, x.4.1.2, x.4.2, y.4.2, pays)),
+              (y.4.0 + rounds_cost docs ts t c.first_below-found.result, (y.4.0, y.4.1, omega arith), omega (arith, x.4.1.2, x.4.2, y.4.2, pays)),
             );
       };
     }
@@ -454,11 +459,11 @@ below-returns-in-Word-clause-spans g t c = λ u e. c.word_below.ensures.spans u
 pub below-returns-then-end-eq0-clause-spans : goal.below-returns-then-end-eq0-clause-spans
 below-returns-then-end-eq0-clause-spans g t c = λ u e s most. told_itself g.met.P.Port.keeps_itself (λ m h. (most, h, omega arith))
 
-pub all_below-returns-then-found-place-clause-rounds : goal.all_below-returns-then-found-place-clause-rounds
-all_below-returns-then-found-place-clause-rounds g t c = λ ts u e member docs r last s most h st ready. record {
+pub turns_below-returns-then-found-place-clause-rounds : goal.turns_below-returns-then-found-place-clause-rounds
+turns_below-returns-then-found-place-clause-rounds g t c = λ ts u e member docs r last s most h st ready. record {
   told = λ m at p.
       let x = (c.loop-place.invariant.rounds ts u e member docs r last s most h st ready).told m at p in
-      let y = (c.turn_below-found.ensures.spans ts e s x.4.1.0).told x.0 x.1 x.4.1.1 in (
+      let y = (c.first_below-found.ensures.spans ts e s x.4.1.0).told x.0 x.1 x.4.1.1 in (
         y.0,
         y.1,
         later_on m x.0 y.0 x.2 y.2,
@@ -582,14 +587,52 @@ round_below-returns-then-is_bound-clause-spans g t c = λ ts e s most. record {
       );
 }
 
--- ---- a turn over two words
+-- ---- two words
 
-pub turn_below-returns-in-Some-clause-spans : goal.turn_below-returns-in-Some-clause-spans
-turn_below-returns-in-Some-clause-spans g t c = λ ts e.
+pub all_below-returns-in-Some-clause-rounds : goal.all_below-returns-in-Some-clause-rounds
+all_below-returns-in-Some-clause-rounds g t c = λ ts w e member docs r last s most h st ready.
     let k = c.are_two_words.ensures c.if-are_two_words.true in
     let words : ts ≡ k.0 ∷ k.1 ∷ [] = two_words ts k.0 k.1 (sym e ∙ k.2) in
-    subst (λ z. PaysSpans g.P.Port.stands g.P.Port.keeps c.args.port.now c.pair_below.new.port z c.args.cursors.now c.pair_below.new.cursors
-    (round_loads z) c.args.steps.now c.pair_below.new.steps) (sym words) (c.pair_below.ensures.spans c.in-Some.found c.in-Some.is k.0 k.1)
+    let spans = subst (λ z. PaysSpans g.P.Port.stands g.P.Port.keeps c.args.port.now c.pair_below.new.port z c.args.cursors.now c.pair_below.new.cursors
+    (round_loads z) c.args.steps.now c.pair_below.new.steps) (sym words) (c.pair_below.ensures.spans c.in-Some.found c.in-Some.is k.0 k.1) in
+    let x = (c.pair_below.ensures.found c.in-Some.found c.in-Some.is k.0 k.1 docs last h).told r st
+    (subst (λ z. AllReady (gives r) docs (word_parts z) c.args.cursors.now last) words ready) in
+    let falls : c.in-Some.found ≤ c.args.end = omega (arith, x.4.0, top_le (each_at docs (word_parts (k.0 ∷ k.1 ∷ []))) c.args.end) in
+    let low = cost_low docs ts w c.in-Some.found c.args.end falls in
+    record {
+      told = λ m at p.
+          let y = (spans s p.0).told m at p.1 in (
+            y.0,
+            y.1,
+            y.2,
+            y.3,
+            (y.4.0 + rounds_cost docs ts w c.in-Some.found, (y.4.0, y.4.1, omega arith), omega (arith, p.2, y.4.2, low)),
+          );
+    }
+
+-- the same of equal values before
+rounds_same : {S : Type 0} {stands : S → Moment → Type 0} {keeps : S → Moment → S → Moment → Type 0} {p p' q : S} {qs : Trees} (old old' cursors : List Cursor)
+    (end found before before' after : ℕ) → p ≡ p' → old ≡ old' → before ≡ before'
+    → ((ts : List Term) (u : Term) → qs ≡ word_parts ts → Contains ts u → PaysRounds stands keeps p q ts u old cursors end found (round_loads ts) before after)
+    → (ts : List Term) (u : Term) → qs ≡ word_parts ts → Contains ts u → PaysRounds stands keeps p' q ts u old' cursors end found (round_loads ts) before' after
+rounds_same {S} {stands} {keeps} {p} {p'} {q} old old' cursors end found before before' after e i j h ts u is member =
+    subst (λ z. PaysRounds stands keeps z q ts u old' cursors end found (round_loads ts) before' after) e
+    (subst (λ z. PaysRounds stands keeps p q ts u z cursors end found (round_loads ts) before' after) i
+    (subst (λ z. PaysRounds stands keeps p q ts u old cursors end found (round_loads ts) z after) j (h ts u is member)))
+
+pub all_below-returns-clause-rounds : goal.all_below-returns-clause-rounds
+all_below-returns-clause-rounds g t c =
+    let j = c.if-are_two_words in
+    let r = c.turns_below in
+    elim j.branch [
+      | all_below-then-are_two_words+in_default w ↦
+          let stays = w.pair_below.ensures.stays (search rules) in
+          rounds_same j.cursors c.args.cursors.now r.new.cursors c.args.end r.result j.steps c.args.steps.now r.new.steps
+          (w.port-is ∙ stays.0) (w.cursors-is ∙ stays.1) (w.steps-is ∙ stays.2) r.ensures.rounds
+      | all_below-else-are_two_words w ↦
+          rounds_same j.cursors c.args.cursors.now r.new.cursors c.args.end r.result j.steps c.args.steps.now r.new.steps
+          w.port-is w.cursors-is w.steps-is r.ensures.rounds
+    ]
 
 -- ---- a turn that begins with a word
 

@@ -33,8 +33,8 @@ decreases-lead_below g l = 6 * weights (trees_in l.parts.now)
 abbrev pub decreases-all_below : goal.decreases-all_below
 decreases-all_below g l = 6 * weights (trees_in l.parts.now) + 3
 
-abbrev pub decreases-turn_below : goal.decreases-turn_below
-decreases-turn_below g l = 6 * weights (trees_in l.parts.now) + 2
+abbrev pub decreases-turns_below : goal.decreases-turns_below
+decreases-turns_below g l = 6 * weights (trees_in l.parts.now) + 2
 
 abbrev pub decreases-first_below : goal.decreases-first_below
 decreases-first_below g l = 6 * weights (trees_in l.parts.now) + 1
@@ -48,8 +48,8 @@ decreases-round_below g l = 6 * weights (trees_in l.parts.now)
 abbrev pub decreases-some_below : goal.decreases-some_below
 decreases-some_below g l = 6 * weights (trees_in l.parts.now)
 
-abbrev pub invariant-all_below-loop-place : goal.invariant-all_below-loop-place
-invariant-all_below-loop-place g l = record {
+abbrev pub invariant-turns_below-loop-place : goal.invariant-turns_below-loop-place
+invariant-turns_below-loop-place g l = record {
   falls : l.place ≤ l.initial.place;
   loads : l.steps + loads_left l.cursors ≤ l.initial.steps + loads_left l.initial.cursors;
   found : (docs : List Doc) (last : ℕ) → l.initial.place ≤ last → Told g.P.Port.stands g.P.Port.keeps l.initial.port l.port
@@ -59,8 +59,8 @@ invariant-all_below-loop-place g l = record {
       → PaysRounds g.P.Port.stands g.P.Port.keeps l.initial.port l.port ts t l.initial.cursors l.cursors l.initial.place l.place 0 l.initial.steps l.steps;
 }
 
-abbrev pub decreases-all_below-loop-place : goal.decreases-all_below-loop-place
-decreases-all_below-loop-place g l = l.place
+abbrev pub decreases-turns_below-loop-place : goal.decreases-turns_below-loop-place
+decreases-turns_below-loop-place g l = l.place
 
 abbrev pub invariant-not_below-loop-place : goal.invariant-not_below-loop-place
 invariant-not_below-loop-place g l = record {

@@ -1,4 +1,4 @@
-use Rattle.std.proofs.Common.{◌<◌, ◌+◌, ◌*◌, ◌≤◌, arith}
+use Rattle.std.proofs.Common.{◌<◌, arith}
 use Rattle.eb_cursor.specs.Loads.{ahead}
 use Rattle.eb_cursor.proofs.Pairs.{goes_left, goes_right, falls_left, falls_right, pays_left, pays_right, pays_none}
 use Rattle.eb_cursor.proofs.pair.Pair.pass.Goals as goal
