@@ -1,7 +1,7 @@
 //! Bloom filters of an index's segments: they tell in which segments a term may stand, so that a search for it passes over
 //! the others. A filter has four bits for each term that its segment has room for, and the bit of a term is its home cell
-//! among these, by one hash: at most a quarter of a filter's bits is set. They are for the one writer of an index, which
-//! notes each document that it adds. `specs/Covers.antt` says what they cover.
+//! among these, by one hash. They are for the one writer of an index, which notes each document that it adds.
+//! `specs/Covers.antt` says what they cover.
 #![tactic(auto)]
 
 mod bits;

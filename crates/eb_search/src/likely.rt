@@ -15,9 +15,8 @@ use eb_cursor::Frame;
 use eb_place::{Port, Steps};
 use std::sync::ledger::Ledger;
 
-/// Searches as [`search`] does, and passes over each segment of which `likely` says false, where it loads no more than
-/// its first-document word: the answer is the same where none of the documents of these segments matches. It makes no
-/// more loads than the bounds of [`search`]. Takes no memory.
+/// Searches as [`search`] does, over all segments but those of which `likely` says false: the answer is the same where
+/// none of the documents of these segments matches. It makes no more loads than the bounds of [`search`]. Takes no memory.
 ///
 /// [`search`]: crate::search
 pub fn search_likely<P: Port, G: Gate, L: Ledger>(
