@@ -12,7 +12,9 @@ It times 200,000 documents of each corpus of bench/instructions.py, and 100,000 
 documents: the processor time from the first line that is given to the last answer, without the start and the end of the process.
 The process waits for input before, and again after: for the lines that are timed end with a query that nothing matches, of which
 the answer tells that all of them were taken; and so do the documents that come before queries. Documents are told once more less
-the start: by the processor time of whole runs, less that of runs over an empty input.
+the start: by the processor time of whole runs, less that of runs over an empty input. A system clears the pages that a start takes
+sooner where another start has just given them back, so each run over an empty input follows a run of the other program over the
+documents, as each whole run does.
 
 Each program runs N times (10), in turn with the other. Both have to print the same answers. The result has the seconds of each run;
 the table tells how many a second the least of them makes, and the ratio of the two programs by the least and by the middle run.
@@ -118,11 +120,17 @@ def in_turn(commands, times, timed):
 
 
 def whole_runs(commands, times, text):
-    """The seconds of each whole run of each command over this text."""
+    """The seconds of each whole run of each command over this text, and of each over an empty input."""
     with tempfile.NamedTemporaryFile() as file:
         file.write(text.encode())
         file.flush()
-        return in_turn(commands, times, lambda command: of_whole_run(command, file.name))
+        own, plain = commands
+        turn = [(own, file.name), (plain, file.name), (own, os.devnull), (plain, file.name), (plain, os.devnull)]
+        runs = [[of_whole_run(*it) for it in turn] for _ in range(times)]
+    if len({it[at][1] for it in runs for at in (0, 1, 3)}) > 1:
+        raise SystemExit("turns: they print different answers")
+    seconds = [[it[at][0] for it in runs] for at in range(len(turn))]
+    return {"runs": [seconds[0], seconds[1]], "starts": [seconds[2], seconds[4]]}
 
 
 def row(name, told):
@@ -163,11 +171,10 @@ def main():
         told["seconds"][name] = {"count": count, **runs}
         print(row(name, told["seconds"][name]), file=sys.stderr)
 
-    starts = whole_runs(both(SETTINGS), given.times, "")
     for name, make in (("Zipf documents", zipf_lines), ("made documents", made_lines)):
         text = make(DOCUMENTS)
         tell(name, DOCUMENTS, runs=timed(SETTINGS, [], text.splitlines(keepends=True)))
-        tell(name + " less the start", DOCUMENTS, runs=whole_runs(both(SETTINGS), given.times, text), starts=starts)
+        tell(name + " less the start", DOCUMENTS, **whole_runs(both(SETTINGS), given.times, text))
     held = zipf_lines(QUERIED_DOCUMENTS).splitlines(keepends=True)
     for kind in KINDS:
         tell(kind, QUERIES, runs=timed(QUERIED, held, queries(kind, QUERIES).splitlines(keepends=True)))
