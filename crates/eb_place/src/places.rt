@@ -157,12 +157,7 @@ impl Places {
         ensures start { result ≡ start self.now (pool_region pool) }
         ensures small { result < 2 ^ 40 }
     {
-        match pool {
-            0 => 2 + 8 * self.terms() + self.docs(),
-            1 => 2 + 10 * self.terms() + self.docs(),
-            2 => 2 + 18 * self.terms() + self.docs(),
-            _ => 2 + 26 * self.terms() + self.docs(),
-        }
+        2 + words_before(pool) * self.terms() + self.docs()
     }
 
     fn terms(&self) -> u64
@@ -178,4 +173,17 @@ impl Places {
     {
         u64::from(self.config.docs())
     }
+}
+
+// How many words for each term stand before a pool in its segment. They are the bytes of one number, so that it isn't
+// branched by the pool, which changes from one posting to the next.
+#[inline(always)]
+fn words_before(pool: u32) -> u64
+    requires { pool < 4 }
+    ensures first { pool ≡ 0 → result ≡ 8 }
+    ensures second { pool ≡ 1 → result ≡ 10 }
+    ensures third { pool ≡ 2 → result ≡ 18 }
+    ensures last { pool ≡ 3 → result ≡ 26 }
+{
+    u64::from((u32::from_le_bytes([8, 10, 18, 26]) >> (8 * pool)) % 256)
 }

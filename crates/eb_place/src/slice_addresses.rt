@@ -29,15 +29,11 @@ pub fn offset_of(address: u32) -> u32
     address % (1 << bits_of(pool_of(address)))
 }
 
-// A slice of the pool has 2 to this power places.
+// A slice of the pool has 2 to this power places. The powers are the bytes of one number, so that it isn't branched by the
+// pool, which changes from one posting to the next.
 fn bits_of(pool: u32) -> u32
     requires { pool < 4 }
     ensures { result ≡ slice_bits pool }
 {
-    match pool {
-        0 => 1,
-        1 => 4,
-        2 => 7,
-        _ => 11,
-    }
+    (u32::from_le_bytes([1, 4, 7, 11]) >> (8 * pool)) % 256
 }
