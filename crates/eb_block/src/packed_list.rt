@@ -124,12 +124,13 @@ impl PackedList {
         u64::from(self.held) + u64::from(self.inside) + u64::from(self.left)
     }
 
-    /// Whether no posting stands after the block that is read. Loads nothing.
+    /// Whether all postings that it has still to give stand in the block that is read, and none of them was looked at. Loads
+    /// nothing.
     #[inline(always)]
     pub fn is_last(&self) -> bool
-        ensures { IsTrue result ↔ (self.now.left ≡ 0) }
+        ensures { IsTrue result ↔ ((self.now.left ≡ 0) × (self.now.held ≡ false)) }
     {
-        self.left == 0
+        self.left == 0 && !self.held
     }
 
     /// Passes over exactly the postings above `most` that weren't given yet: whole blocks by their headers

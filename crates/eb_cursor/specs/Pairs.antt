@@ -30,6 +30,10 @@ IsOneBelow p end = (x y : ℕ) → p.left ≡ Some x → p.right ≡ Some y → 
 abbrev pub AreTogether : Pair → Type 0
 AreTogether p = (x y : ℕ) → p.left ≡ Some x → p.right ≡ Some y → x / places ≡ y / places
 
+-- a posting stands in no later document than another one, where neither list has ended
+abbrev pub IsNotLater : Option ℕ → Option ℕ → Type 0
+IsNotLater one other = (x y : ℕ) → one ≡ Some x → other ≡ Some y → x / places ≤ y / places
+
 -- of two words the lists have passed no posting in a document below the end, and the lower posting is below it
 pub record IsAbreast (g : Gives) (docs : List Doc) (u v : Term) (p : Pair) (end : ℕ) : Type 0 where
   pub narrow : Narrow docs

@@ -19,7 +19,7 @@ ghost use Rattle.eb_cursor.specs.Begun.{AreClear, CanBegin, Begun, BegunLeaves, 
 
 use crate::cursor::{Cursor, last_before};
 use crate::posting_list::PostingList;
-use crate::rarest::{rarest, rarest_leaf};
+use crate::rarest::{rarest_leaf, rarest_number};
 use crate::size::size;
 use eb_base::{Query, Term};
 use eb_place::{PLACES, Port, Steps};
@@ -288,7 +288,7 @@ fn begin_and<P: Port, L: Ledger>(
     let end = u64::from(documents);
     let all = begin_each(parts, rest, segment, packed, documents, port, steps);
     own.upto = end_if(all, end);
-    own.lead = rarest(parts, rest).number;
+    own.lead = rarest_number(parts, rest);
     all
 }
 

@@ -247,7 +247,7 @@ fn lead_below<P: Port, L: Ledger>(
     };
     let (own, rest) = cursors.split_at_mut(size(part));
     if lead == 0 {
-        return below(part, own, port, steps, end);
+        return part_below(part, own, port, steps, end);
     }
     lead_below(others, rest, lead - 1, port, steps, end)
 }

@@ -10,7 +10,7 @@ ghost use Rattle.eb_cursor.specs.Asked.{CanAskAll};
 ghost use Rattle.eb_cursor.specs.Costs.{PaysSpans, round_loads};
 ghost use Rattle.eb_cursor.specs.Finds.{FindsAll};
 ghost use Rattle.eb_cursor.specs.Loads.{loads_left};
-ghost use Rattle.eb_cursor.specs.Pairs.{AreTogether, CanPass, GoesPast, IsPairOf, PaysPair, both_ahead, meeting_end};
+ghost use Rattle.eb_cursor.specs.Pairs.{AreTogether, CanPass, GoesPast, IsNotLater, IsPairOf, PaysPair, both_ahead, meeting_end};
 
 use crate::cursor::Cursor;
 use crate::posting_list::PostingList;
@@ -28,7 +28,69 @@ struct Pair {
 }
 
 impl Pair {
-    // Passes over the posting that stands in a later document than that of the other list; false where there is none.
+    // Passes over the posting of the first list, where it stands in a later document than that of the other one.
+    #[inline(always)]
+    fn pass_left<P: Port, L: Ledger>(&mut self, port: &mut P, steps: &mut Steps<L>) -> bool
+        requires { CanPass P.stands port.old self.old }
+        ensures told { GoesPast P.stands P.keeps port.old port.new self.old self.new }
+        ensures costs { PaysPair P.stands P.keeps port.old port.new self.old self.new steps.old steps.new }
+        ensures loads { steps.new + 4 * both_ahead self.new ≤ steps.old + 4 * both_ahead self.old }
+        ensures falls { both_ahead self.new ≤ both_ahead self.old }
+        ensures less { result ≡ true → both_ahead self.new < both_ahead self.old }
+        ensures not_later { result ≡ false → IsNotLater self.new.left self.new.right }
+    {
+        let Some(left) = self.left else {
+            return false;
+        };
+        let Some(right) = self.right else {
+            return false;
+        };
+        if left / PLACES <= right / PLACES {
+            return false;
+        }
+        self.left = self.one.next(port, steps);
+        true
+    }
+
+    // Passes over each posting of the first list that does.
+    #[inline(always)]
+    fn pass_lefts<P: Port, L: Ledger>(&mut self, port: &mut P, steps: &mut Steps<L>)
+        requires { CanPass P.stands port.old self.old }
+        ensures told { GoesPast P.stands P.keeps port.old port.new self.old self.new }
+        ensures costs { PaysPair P.stands P.keeps port.old port.new self.old self.new steps.old steps.new }
+        ensures loads { steps.new + 4 * both_ahead self.new ≤ steps.old + 4 * both_ahead self.old }
+        ensures falls { both_ahead self.new ≤ both_ahead self.old }
+        ensures not_later { IsNotLater self.new.left self.new.right }
+    {
+        'later: while self.pass_left(port, steps) {}
+    }
+
+    // Passes over the posting of the second list, where it stands in a later document than that of the first one.
+    #[inline(always)]
+    fn pass_right<P: Port, L: Ledger>(&mut self, port: &mut P, steps: &mut Steps<L>) -> bool
+        requires { CanPass P.stands port.old self.old }
+        ensures told { GoesPast P.stands P.keeps port.old port.new self.old self.new }
+        ensures costs { PaysPair P.stands P.keeps port.old port.new self.old self.new steps.old steps.new }
+        ensures loads { steps.new + 4 * both_ahead self.new ≤ steps.old + 4 * both_ahead self.old }
+        ensures less { result ≡ true → both_ahead self.new < both_ahead self.old }
+        ensures stays { result ≡ false → self.new ≡ self.old }
+        ensures not_later { result ≡ false → IsNotLater self.new.right self.new.left }
+    {
+        let Some(left) = self.left else {
+            return false;
+        };
+        let Some(right) = self.right else {
+            return false;
+        };
+        if right / PLACES <= left / PLACES {
+            return false;
+        }
+        self.right = self.two.next(port, steps);
+        true
+    }
+
+    // Passes over what stands in a later document than that of the other list: each such posting of the first one, and then one of
+    // the second; false where that has none.
     #[inline(always)]
     fn pass<P: Port, L: Ledger>(&mut self, port: &mut P, steps: &mut Steps<L>) -> bool
         requires { CanPass P.stands port.old self.old }
@@ -38,21 +100,8 @@ impl Pair {
         ensures less { result ≡ true → both_ahead self.new < both_ahead self.old }
         ensures together { result ≡ false → AreTogether self.new }
     {
-        let Some(left) = self.left else {
-            return false;
-        };
-        let Some(right) = self.right else {
-            return false;
-        };
-        if right / PLACES < left / PLACES {
-            self.left = self.one.next(port, steps);
-            return true;
-        }
-        if left / PLACES < right / PLACES {
-            self.right = self.two.next(port, steps);
-            return true;
-        }
-        false
+        self.pass_lefts(port, steps);
+        self.pass_right(port, steps)
     }
 
     // Passes until both stand in one document, or one has ended.

@@ -105,6 +105,26 @@ pub fn rarest(parts: &[Query], cursors: &[Cursor]) -> Part
     rarer(commonness_of_part(part, own), rarest(others, rest))
 }
 
+/// The number of the part of an and that is likely the rarest, 0 where all are bounds on the id. Loads nothing.
+pub fn rarest_number(parts: &[Query], cursors: &[Cursor]) -> u32
+    requires fits { length cursors.now ≡ sizes (trees_in parts.now) }
+    requires small { length cursors.now ≤ 64 }
+{
+    match parts {
+        [Query::Word(_), Query::Word(_)] => rarer_of_two(cursors),
+        _ => rarest(parts, cursors).number,
+    }
+}
+
+// The same of two words.
+#[inline(always)]
+fn rarer_of_two(cursors: &[Cursor]) -> u32 {
+    let [one, other] = cursors else {
+        return 0;
+    };
+    u32::from(is_rarer(commonness_of_leaf(other), commonness_of_leaf(one)))
+}
+
 // How common the most common of the parts likely is.
 #[cycle(common)]
 fn commonness_of_some(parts: &[Query], cursors: &[Cursor]) -> Commonness

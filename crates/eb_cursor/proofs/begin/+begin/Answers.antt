@@ -90,7 +90,7 @@ begin-returns-in-Some-clause-begun g t c = λ docs same.
 pub begin_and-returns-clause-begun : goal.begin_and-returns-clause-begun
 begin_and-returns-clause-begun g t c = λ docs same.
     let own = c.in-Some.own.now in
-    let begins : Cursor = record { upto = c.end_if-own.result; lead = c.rarest.result.number; segment = own.segment; current = own.current; list = own.list } in
+    let begins : Cursor = record { upto = c.end_if-own.result; lead = c.rarest_number-own.result; segment = own.segment; current = own.current; list = own.list } in
     told_as g.met.P.Port.lawful (c.begin_each-all.ensures.begun docs same) (λ m a. a)
     (λ m n w a begun. begun_and n docs (conjunction (trees_in c.args.parts.now)) (trees_in c.args.parts.now)
     begins c.begin_each-all.new.cursors c.from-end.result c.begin_each-all.result refl (c.from-end.ensures ∙ sym same) c.end_if-own.ensures begun)

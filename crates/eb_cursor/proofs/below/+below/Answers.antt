@@ -264,11 +264,11 @@ pub lead_below-returns-then-lead-eq0-clause-found : goal.lead_below-returns-then
 lead_below-returns-then-lead-eq0-clause-found g t c = λ docs last h.
     let e = front_of c.args.parts.now c.in-Some.part.now c.in-Some.others.now c.args.cursors.now c.split_at_mut-own.result.0.now c.split_at_mut-own.result.1.now
     c.size.result c.in-Some.ensures.cases.0 c.size.ensures c.split_at_mut-own.ensures.front c.split_at_mut-own.ensures.back in
-    told_as g.met.P.Port.lawful (c.below.ensures.found docs last h)
+    told_as g.met.P.Port.lawful (c.part_below.ensures.found docs last h)
     (λ m r. front_asks (gives m) docs (trees_in c.args.parts.now) (tree c.in-Some.part.now)
     (trees_in c.in-Some.others.now) c.args.cursors.now c.split_at_mut-own.result.0.now c.split_at_mut-own.result.1.now last e r)
     (λ m n later r w. led_here (gives n) docs (trees_in c.args.parts.now) (tree c.in-Some.part.now)
-    (trees_in c.in-Some.others.now) c.below.new.cursors c.split_at_mut-own.result.1.now c.args.end c.below.result e.parts w.0 w.1
+    (trees_in c.in-Some.others.now) c.part_below.new.cursors c.split_at_mut-own.result.1.now c.args.end c.part_below.result e.parts w.0 w.1
     (others_ask (gives m) (gives n) docs (trees_in c.args.parts.now) (tree c.in-Some.part.now)
     (trees_in c.in-Some.others.now) c.args.cursors.now c.split_at_mut-own.result.0.now c.split_at_mut-own.result.1.now c.args.end last e (gives_later m n later) h r))
 
@@ -433,8 +433,8 @@ some_below-returns-clause-found g t c = λ docs last h.
 
 pub lead_below-returns-then-lead-eq0-clause-loads : goal.lead_below-returns-then-lead-eq0-clause-loads
 lead_below-returns-then-lead-eq0-clause-loads g t c = loads_split c.args.cursors.now c.split_at_mut-own.result.0.now
-    c.split_at_mut-own.result.1.now c.below.new.cursors c.split_at_mut-own.result.1.now c.args.steps.now c.below.new.steps c.below.new.steps
-    c.split_at_mut-own.ensures.value c.below.ensures.loads (omega arith)
+    c.split_at_mut-own.result.1.now c.part_below.new.cursors c.split_at_mut-own.result.1.now c.args.steps.now c.part_below.new.steps c.part_below.new.steps
+    c.split_at_mut-own.ensures.value c.part_below.ensures.loads (omega arith)
 
 pub lead_below-returns-clause-loads : goal.lead_below-returns-clause-loads
 lead_below-returns-clause-loads g t c = loads_split c.args.cursors.now c.split_at_mut-own.result.0.now c.split_at_mut-own.result.1.now
@@ -516,14 +516,14 @@ lead_below-returns-then-lead-eq0-clause-spans g t c = λ ts e s most. record {
       let k = words_split ts (tree c.in-Some.part.now) (trees_in c.in-Some.others.now) (sym f.parts ∙ e) in
       let o = spans_front m s ts k.0 k.1 (trees_in c.args.parts.now) (tree c.in-Some.part.now) (trees_in c.in-Some.others.now)
       c.args.cursors.now c.split_at_mut-own.result.0.now c.split_at_mut-own.result.1.now most f k.2 k.3 h in
-      let x = (c.below.ensures.spans k.0 k.3 s o.0).told m at o.2 in (
+      let x = (c.part_below.ensures.spans k.0 k.3 s o.0).told m at o.2 in (
         x.0,
         x.1,
         x.2,
         x.3,
         (
           x.4.0 + o.1,
-          spans_join x.0 s ts k.0 k.1 c.below.new.cursors c.split_at_mut-own.result.1.now x.4.0 o.1 k.2 x.4.1
+          spans_join x.0 s ts k.0 k.1 c.part_below.new.cursors c.split_at_mut-own.result.1.now x.4.0 o.1 k.2 x.4.1
               (all_span_later m x.0 s k.1 c.split_at_mut-own.result.1.now o.1 (g.met.P.Port.lawful _ m at) x.2 o.3),
           omega (arith, x.4.2, o.4),
         ),
