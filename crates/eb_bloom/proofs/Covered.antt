@@ -1,8 +1,8 @@
 -- What the filters cover, with one document more, and what they tell of a term.
-use Rattle.std.proofs.Common.{◌≡◌, ℕ, zero, suc, ◌+◌, ◌==◌, ◌||◌, ◌⊎◌, true, false, List, [], ◌∷◌, ◌++◌, length, get_or, map, take, reverse, replicate}
+use Rattle.std.proofs.Common.{◌≡◌, ℕ, zero, suc, ◌+◌, ◌==◌, ◌||◌, ◌&&◌, ◌⊎◌, Bool, true, false, List, [], ◌∷◌, ◌++◌, length, get_or, map, take, reverse, replicate}
 use Rattle.std.proofs.Common.{refl, ap, sym, ◌∙◌, subst, arith, inl, inr, eq-eqb}
 use Rattle.std.specs.List.{Contains, list_any, filter}
-use Rattle.std.proofs.lemmas.Bool.{cases_Bool, false≢true}
+use Rattle.std.proofs.lemmas.Bool.{cases_Bool, false≢true, and_from, and_parts}
 use Rattle.std.proofs.lemmas.List.Elements.{Contains-push_cases, Contains-append_right}
 use Rattle.std.proofs.lemmas.List.Folds.{list_any_at}
 use Rattle.eb_base.specs.Term.{Term}
@@ -13,7 +13,7 @@ use Rattle.eb_base.specs.Setting.{Setting}
 use Rattle.eb_base.proofs.Matching.{match_decides}
 use Rattle.eb_place.specs.Room.{cut, with_doc, fits}
 use Rattle.eb_place.proofs.CutSegments.{cut_push}
-use Rattle.eb_bloom.specs.Bits.{Bits, bit_of, is_set, is_noted}
+use Rattle.eb_bloom.specs.Bits.{Bits, first_bit, second_bit, is_set, is_noted}
 use Rattle.eb_bloom.specs.Covers.{Covers}
 use Rattle.eb_bloom.proofs.SingleBits.{or_true}
 
@@ -57,35 +57,53 @@ pub covers_nothing : (b : Bits) (σ : Setting) → b.setting ≡ σ → Covers b
 unfolding cut
 covers_nothing b σ e = record { setting = e; noted = λ s d t h. absurd (none_of_nothing d h) }
 
+-- whether it is one of the bits of the term
+abbrev pub is_bit_of : Setting → ℕ → Term → ℕ → Bool
+is_bit_of σ s t i = first_bit σ s t == i || second_bit σ s t == i
+
 -- the bits of the terms of a document are set beside the old ones
 abbrev pub AreNoted : Bits → Bits → ℕ → Doc → Type 0
-AreNoted b new s d = (i : ℕ) → is_set new.words i ≡ (is_set b.words i || list_any (λ t. bit_of b.setting s t == i) d.terms)
+AreNoted b new s d = (i : ℕ) → is_set new.words i ≡ (is_set b.words i || list_any (λ t. is_bit_of b.setting s t i) d.terms)
 
--- a term of the document
-has_bit_set : (σ : Setting) (s : ℕ) (d : Doc) (t : Term) → Contains d.terms t → list_any (λ u. bit_of σ s u == bit_of σ s t) d.terms ≡ true
-has_bit_set σ s d t h = list_any_at (λ u. bit_of σ s u == bit_of σ s t) d.terms h.0 t h.1 (eq-eqb _ _ (ap (bit_of σ s) h.2))
+-- a bit of a term of the document
+is_bit_of_one : (σ : Setting) (s : ℕ) (d : Doc) (t : Term) (i : ℕ) → Contains d.terms t → is_bit_of σ s t i ≡ true → list_any (λ u. is_bit_of σ s u i) d.terms ≡ true
+is_bit_of_one σ s d t i h e = list_any_at (λ u. is_bit_of σ s u i) d.terms h.0 t h.1 (ap (λ u. is_bit_of σ s u i) h.2 ∙ e)
 
-covers_on : (b new : Bits) (s : ℕ) (docs : List Doc) (d : Doc) → AreNoted b new s d → new.setting ≡ b.setting → s + 1 ≡ length (cut b.setting (docs ++ d ∷ [])) → Covers b b.setting docs
-    → (q : ℕ) (x : Doc) (t : Term) → Contains (get_or (cut b.setting (docs ++ d ∷ [])) q []) x → Contains x.terms t → is_set new.words (bit_of b.setting q t) ≡ true
-covers_on b new s docs d more same last h q x t stands has =
+-- a bit of a term of a document is set, where it was set for the documents before
+set_on : (b new : Bits) (s : ℕ) (docs : List Doc) (d : Doc) → AreNoted b new s d → s + 1 ≡ length (cut b.setting (docs ++ d ∷ []))
+    → (q : ℕ) (x : Doc) (t : Term) → Contains (get_or (cut b.setting (docs ++ d ∷ [])) q []) x → Contains x.terms t
+    → (i : ℕ) → is_bit_of b.setting q t i ≡ true → (Contains (get_or (cut b.setting docs) q []) x → is_set b.words i ≡ true) → is_set new.words i ≡ true
+set_on b new s docs d more last q x t stands has i one old =
     let σ : Setting = b.setting in
     let p = cut_push σ docs d in
-    let i : ℕ = bit_of σ q t in
     elim (stood_or_last σ (cut σ docs) d q x (subst (λ (z : List (List Doc)). Contains (get_or z q []) x) p stands)) [
-      | inl c ↦ more i ∙ ap (λ z. z || list_any (λ u. bit_of σ s u == i) d.terms) (h.noted q x t c has)
+      | inl c ↦ more i ∙ ap (λ z. z || list_any (λ u. is_bit_of σ s u i) d.terms) (old c)
       | inr e ↦
           let there : s ≡ q = omega (arith, e.0, last, ap length p) in
-          let any : list_any (λ u. bit_of σ s u == i) d.terms ≡ true
-          = ap (λ z. list_any (λ u. bit_of σ z u == i) d.terms) there ∙ has_bit_set σ q d t (subst (λ (z : Doc). Contains z.terms t) (sym e.1) has) in
+          let any : list_any (λ u. is_bit_of σ s u i) d.terms ≡ true
+          = ap (λ z. list_any (λ u. is_bit_of σ z u i) d.terms) there ∙ is_bit_of_one σ q d t i (subst (λ (z : Doc). Contains z.terms t) (sym e.1) has) one in
           more i ∙ ap (λ z. is_set b.words i || z) any ∙ or_true (is_set b.words i)
     ]
+
+covers_on : (b new : Bits) (s : ℕ) (docs : List Doc) (d : Doc) → AreNoted b new s d → s + 1 ≡ length (cut b.setting (docs ++ d ∷ [])) → Covers b b.setting docs
+    → (q : ℕ) (x : Doc) (t : Term) → Contains (get_or (cut b.setting (docs ++ d ∷ [])) q []) x → Contains x.terms t
+    → (is_set new.words (first_bit b.setting q t) && is_set new.words (second_bit b.setting q t)) ≡ true
+covers_on b new s docs d more last h q x t stands has =
+    let one : ℕ = first_bit b.setting q t in
+    let two : ℕ = second_bit b.setting q t in
+    and_from (is_set new.words one) (is_set new.words two)
+    (set_on b new s docs d more last q x t stands has one (ap (λ z. z || two == one) (eq-eqb one one refl))
+    (λ c. (and_parts (is_set b.words one) (is_set b.words two) (h.noted q x t c has)).0))
+    (set_on b new s docs d more last q x t stands has two (ap (λ z. one == two || z) (eq-eqb two two refl) ∙ or_true (one == two))
+    (λ c. (and_parts (is_set b.words one) (is_set b.words two) (h.noted q x t c has)).1))
 
 covers_whole : (b new : Bits) (s : ℕ) (docs : List Doc) (d : Doc) → AreNoted b new s d → new.setting ≡ b.setting → s + 1 ≡ length (cut b.setting (docs ++ d ∷ [])) → Covers b b.setting docs
     → Covers new new.setting (docs ++ d ∷ [])
 covers_whole b new s docs d more same last h = record {
   setting = refl;
-  noted = subst (λ (τ : Setting). (q : ℕ) (x : Doc) (t : Term) → Contains (get_or (cut τ (docs ++ d ∷ [])) q []) x → Contains x.terms t → is_set new.words (bit_of τ q t) ≡ true)
-      (sym same) (covers_on b new s docs d more same last h);
+  noted = subst (λ (τ : Setting). (q : ℕ) (x : Doc) (t : Term) → Contains (get_or (cut τ (docs ++ d ∷ [])) q []) x → Contains x.terms t
+      → (is_set new.words (first_bit τ q t) && is_set new.words (second_bit τ q t)) ≡ true)
+      (sym same) (covers_on b new s docs d more last h);
 }
 
 -- the filters of a setting are those of their own

@@ -1,7 +1,7 @@
 -- The sizes of the filters.
 use Rattle.std.proofs.Common.{◌≡◌, ℕ, ◌+◌, ◌-◌, ◌*◌, ◌/◌, ◌^◌, ◌<◌, ◌≤◌, ap, ◌∙◌, arith}
 use Rattle.std.proofs.Math.Nat.{pow-le-pow_right, mul_left_comm}
-use Rattle.std.proofs.lemmas.Nat.{pow-add, mul-add-lt}
+use Rattle.std.proofs.lemmas.Nat.{pow-add, mul-add-lt, mul-le}
 use Rattle.eb_base.specs.Setting.{Setting, IsSetting, AreTerms}
 use Rattle.eb_bloom.specs.Bits.{filter_bits, filter_words}
 
@@ -30,12 +30,25 @@ filled n p t e =
     ap (λ z. n * z) four ∙ mul_left_comm n 64 t
 
 -- the bit of a segment's filter is one of the words
-pub bit_within : (σ : Setting) (s h : ℕ) → IsSetting σ → s < σ.segments → h < filter_bits σ → s * filter_bits σ + h < 64 * filter_words σ
+bit_within : (σ : Setting) (s h : ℕ) → IsSetting σ → s < σ.segments → h < filter_bits σ → s * filter_bits σ + h < 64 * filter_words σ
 bit_within σ s h is low small =
     let w = (are_sixteens σ.terms is.terms).whole in
     let all = filled σ.segments σ.terms (σ.terms / 16) w in
     let inside = mul-add-lt s (filter_bits σ) h σ.segments low small in
     omega (arith, all, inside)
 
-pub bits_some : (σ : Setting) → IsSetting σ → 1 ≤ filter_bits σ
-bits_some σ is = let t = are_sixteens σ.terms is.terms in omega (arith, t.some)
+-- as far into n as the higher half of a number of 64 bits is into 2^32
+scaled_low : (m n : ℕ) → m < 2 ^ 64 → 1 ≤ n → m / 2 ^ 32 * n / 2 ^ 32 < n
+scaled_low m n low some =
+    let h : m / 2 ^ 32 ≤ 2 ^ 32 - 1 = omega (arith, low) in
+    let p : m / 2 ^ 32 * n ≤ (2 ^ 32 - 1) * n = mul-le (m / 2 ^ 32) n (2 ^ 32 - 1) n h (omega arith) in
+    omega (arith, p, some)
+
+-- the first bit of a term in a segment's filter is one of the words
+pub first_within : (σ : Setting) (s mixed place terms : ℕ) → IsSetting σ → s < σ.segments → mixed < 2 ^ 64 → terms ≡ σ.terms → place ≡ mixed / 2 ^ 32 * (4 * terms) / 2 ^ 32
+    → s * (4 * terms) + place < 64 * filter_words σ
+first_within σ s mixed place terms is low small same e =
+    let t = are_sixteens σ.terms is.terms in
+    let bits : 4 * terms ≡ filter_bits σ = ap (λ z. 4 * z) same in
+    let inside : place < 4 * terms = omega (arith, e, scaled_low mixed (4 * terms) small (omega (arith, t.some, same))) in
+    omega (arith, bit_within σ s place is low (omega (arith, inside, bits)), ap (λ z. s * z) bits)

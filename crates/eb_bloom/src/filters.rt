@@ -5,17 +5,17 @@ ghost use Rattle.eb_base.specs.Match.{answer};
 ghost use Rattle.eb_base.specs.Query.{word};
 ghost use Rattle.eb_base.specs.Setting.{Setting};
 ghost use Rattle.eb_place.specs.Room.{cut};
-ghost use Rattle.eb_bloom.specs.Bits.{filter_words, bit_of, is_set, is_noted};
+ghost use Rattle.eb_bloom.specs.Bits.{filter_words, first_bit, second_bit, is_set, is_noted};
 ghost use Rattle.eb_bloom.specs.Covers.{Covers};
 
-use crate::bits::{has_bit, set_bit};
+use crate::bits::{has_bits, set_bits};
+use crate::hashing::{first_of, mixed_hash_of, second_of};
 use eb_base::{Config, Document, MAX_SEGMENTS, NoMemory, Term};
-use eb_terms::{hash_of, home_of};
 use std::alloc::Global;
 use std::marker::Model;
 
-/// A Bloom filter for each segment of a setting, with one hash: the bit of a term is its home cell among four cells for each
-/// term that a segment has room for.
+/// A Bloom filter for each segment of a setting: four bits for each term that a segment has room for, of which a term has
+/// two, in one word of 64. A mixed hash of the term chooses them (Knuth's multiplicative hashing).
 #[derive(Debug, Drop)]
 pub struct Filters {
     config: Config,
@@ -50,15 +50,17 @@ impl Filters {
         requires { segment < self.old.setting.segments }
         ensures setting { self.new.setting ≡ self.old.setting }
         ensures bits { (i : ℕ) → is_set self.new.words i
-            ≡ (is_set self.old.words i || list_any (λ t. bit_of self.old.setting segment t == i) document.now.terms) }
+            ≡ (is_set self.old.words i
+            || list_any (λ t. first_bit self.old.setting segment t == i || second_bit self.old.setting segment t == i) document.now.terms) }
         ensures covers { (σ : Setting) (docs : List Doc) → Covers self.old σ docs
             → segment + 1 ≡ length (cut σ (docs ++ document.now ∷ [])) → Covers self.new σ (docs ++ document.now ∷ []) }
     {
-        let cells = 4 * self.config.terms();
-        let first = segment as usize * cells as usize;
+        let bits = 4 * self.config.terms();
+        let base = segment as usize * bits as usize;
         let words = self.words.as_mut_slice();
         for term in document.terms().as_slice() {
-            set_bit(words, first + home_of(hash_of(term), cells) as usize);
+            let mixed = mixed_hash_of(term);
+            set_bits(words, base + first_of(mixed, bits), second_of(mixed));
         }
     }
 
@@ -72,12 +74,15 @@ impl Filters {
         ensures none { (σ : Setting) (docs : List Doc) → Covers self.now σ docs
             → (s k : ℕ) → get_or result s true ≡ false → answer (word term.now) k (get_or (cut σ docs) s []) ≡ [] }
     {
-        let cells = 4 * self.config.terms();
-        let home = home_of(hash_of(term), cells) as usize;
+        let bits = 4 * self.config.terms();
+        let mixed = mixed_hash_of(term);
+        let first = first_of(mixed, bits);
+        let second = second_of(mixed);
         let words = self.words.as_slice();
         let mut likely = [true; MAX_SEGMENTS as usize];
         for segment in 0..begun {
-            likely[segment as usize] = has_bit(words, segment as usize * cells as usize + home);
+            let base = segment as usize * bits as usize;
+            likely[segment as usize] = has_bits(words, base + first, second);
         }
         likely
     }
