@@ -8,7 +8,7 @@ use Rattle.eb_place.specs.Falling.{IsFalling, AllBelow}
 use Rattle.eb_block.specs.Fields.{IsHeld, IsField, HoldsFields}
 use Rattle.std.proofs.lemmas.Nat.{mul-le}
 use Rattle.eb_block.specs.Blocks.{IsPackable}
-use Rattle.eb_block.specs.Reading.{ReadsWords, loaded, up_to, HasPassed}
+use Rattle.eb_block.specs.Reading.{ReadsWords, BoundsNext, loaded, up_to, HasPassed}
 use Rattle.eb_block.specs.declared.packed_list.PackedList.{PackedList}
 use Rattle.eb_place.specs.Postings.{posting_bits}
 use Rattle.eb_place.proofs.BlockFields.{length-lowest_words}
@@ -94,6 +94,17 @@ first_packable x xs f b =
 
 -- ---- where the reading stands
 
+-- the bound of the next block stays
+bounds_same : (p q : PackedList) → q.left ≡ p.left → q.header ≡ p.header → q.near ≡ p.near → BoundsNext p → BoundsNext q
+bounds_same p q left header near (inl none) = inl (left ∙ none)
+bounds_same p q left header near (inr (inl w)) = inr (inl (omega (arith, header, w.0), omega (arith, ap (λ z. z / 2 ^ 16) header, near, w.1)))
+bounds_same p q left header near (inr (inr most)) = inr (inr (omega (arith, near, most)))
+
+-- and is not known where a block was entered
+after_entry : (q : PackedList) → (q.left ≡ 0) ⊎ (2 ^ 64 ≤ q.near + 1) → BoundsNext q
+after_entry q (inl none) = inl none
+after_entry q (inr most) = inr (inr most)
+
 module _ (W : List ℕ) (start : ℕ) where
   -- no header is loaded, or there is a block for it
   loaded_room : (p : PackedList) (rest : List ℕ) (b : ℕ) (r : ReadsWords W start p rest b) → loaded p.header ≤ length (packed_list r.later)
@@ -121,6 +132,7 @@ module _ (W : List ℕ) (start : ℕ) where
     pub next : q.next ≡ p.next
     pub header : q.header ≡ p.header
     pub left : q.left ≡ p.left
+    pub near : q.near ≡ p.near
 
   -- the difference that is next: what is left of the block, by its first
   pub record IsAhead (p : PackedList) (rest : List ℕ) (b : ℕ) (r : ReadsWords W start p rest b) : Type 0 where
@@ -183,6 +195,7 @@ module _ (W : List ℕ) (start : ℕ) where
           small = r.small;
           are = rest_is ∙ ap (λ z. z ∷ (a.ns ++ r.later)) (sym is) ∙ ap (λ (c : Bool). if c then (q.last ∷ (a.ns ++ r.later)) else (a.ns ++ r.later)) (sym s.held);
           header = subst (λ z. (z ≡ 0) ⊎ ((1 ≤ length r.later) × (z ≡ get_or (packed_list r.later) 0 0))) (sym s.header) r.header;
+          bounds = bounds_same p q s.left s.header s.near r.bounds;
           budget_is = ap (λ z. b + loaded z) s.header ∙ r.budget_is;
         },
       )
@@ -243,6 +256,7 @@ module _ (W : List ℕ) (start : ℕ) where
                 small = r.small;
                 are = rest_is ∙ ap (λ z. z ∷ (a.ns ++ r.later)) (sym is) ∙ ap (λ (c : Bool). if c then (q.last ∷ (a.ns ++ r.later)) else (a.ns ++ r.later)) (sym s.held);
                 header = subst (λ z. (z ≡ 0) ⊎ ((1 ≤ length r.later) × (z ≡ get_or (packed_list r.later) 0 0))) (sym s.header) r.header;
+                bounds = bounds_same p q s.left s.header s.near r.bounds;
                 budget_is = ap (λ z. (b - 1) + loaded z) s.header ∙ omega (arith, some, bi, lb);
               },
             ));
@@ -254,7 +268,7 @@ module _ (W : List ℕ) (start : ℕ) where
     pub inside : index < length W
     pub place : p.next ≡ start + index
     pub some : 1 ≤ b
-    pub gives : (x : ℕ) → x ≡ get_or W index 0 → (1 ≤ x) × ReadsWords W start record p { header = x } rest (b - 1)
+    pub gives : (x : ℕ) → x ≡ get_or W index 0 → (1 ≤ x) × ReadsWords W start record p { header = x; near = x / 2 ^ 16 } rest (b - 1)
 
   header_some : (later : List ℕ) → 1 ≤ length later → 1 ≤ get_or (packed_list later) 0 0
   header_some [] h = absurd (omega arith)
@@ -303,6 +317,7 @@ module _ (W : List ℕ) (start : ℕ) where
                 small = r.small;
                 are = r.are;
                 header = inr (some, ex ∙ here);
+                bounds = inr (inl (big, omega arith));
                 budget_is = omega (arith, lx, lz, bi, one);
               },
             ));
@@ -321,6 +336,7 @@ module _ (W : List ℕ) (start : ℕ) where
     pub next : q.next ≡ p.next + 1 + 2 * (p.header / 2 ^ 8 % 2 ^ 8)
     pub header : q.header ≡ 0
     pub left : q.left ≡ p.left - p.header % 2 ^ 8
+    pub near : (q.left ≡ 0) ⊎ (2 ^ 64 ≤ q.near + 1)
 
   pub record CanEnter (p : PackedList) (rest : List ℕ) (b : ℕ) : Type 0 where
     pub small : p.header < 2 ^ (16 + posting_bits)
@@ -418,6 +434,7 @@ module _ (W : List ℕ) (start : ℕ) where
                 are = sym (ap (λ zs. x ∷ zs) (take-append-drop 127 xs)) ∙ ap (λ z. z ∷ (take 127 xs ++ back)) (sym (s.last ∙ ih.posting))
                     ∙ ap (λ (c : Bool). if c then (q.last ∷ (take 127 xs ++ back)) else (take 127 xs ++ back)) (sym s.held);
                 header = inl s.header;
+                bounds = after_entry q s.near;
                 budget_is = omega (arith, ap loaded s.header);
               },
               omega (arith, lone, bi),
@@ -455,6 +472,7 @@ module _ (W : List ℕ) (start : ℕ) where
           small = r.small;
           are = refl;
           header = r.header;
+          bounds = r.bounds;
           budget_is = r.budget_is;
         },
       )

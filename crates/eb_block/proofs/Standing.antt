@@ -1,7 +1,7 @@
 -- A packed list at a moment: what each load of it gives, also where words grew before it.
-use Rattle.std.proofs.Common.{◌≡◌, ℕ, suc, ◌+◌, ◌-◌, ◌*◌, ◌/◌, ◌%◌, ◌^◌, ◌<◌, ◌≤◌, true, false, List, [], ◌∷◌, length, get_or, refl, ap, sym, ◌∙◌, subst, arith}
-use Rattle.std.proofs.Common.{inl, inr, Some, None, Bool, if◌then◌else◌}
-use Rattle.std.proofs.lemmas.Bool.{cases_Bool, lt-ltb, le-ltb}
+use Rattle.std.proofs.Common.{◌≡◌, ℕ, suc, ◌+◌, ◌-◌, ◌*◌, ◌/◌, ◌%◌, ◌^◌, ◌<◌, ◌≤◌, true, false, List, [], ◌∷◌, ◌++◌, length, get_or, refl, ap, sym, ◌∙◌, subst, arith}
+use Rattle.std.proofs.Common.{inl, inr, Some, None, Bool, leb, if◌then◌else◌}
+use Rattle.std.proofs.lemmas.Bool.{cases_Bool, cases_lt, false≢true, lt-ltb, le-ltb, lt-leb, le-leb}
 use Rattle.std.proofs.lemmas.List.{length-reverse}
 use Rattle.std.proofs.lemmas.Nat.{mul-le}
 use Rattle.eb_base.specs.Term.{Term}
@@ -23,12 +23,12 @@ use Rattle.eb_place.proofs.EnoughPackedWords.{postings_few, length-postings}
 use Rattle.eb_place.proofs.WordsAtMoment.{setting_terms}
 use Rattle.eb_block.specs.Fields.{IsHeld, IsField}
 use Rattle.eb_place.specs.PackedLists.{IsConverted, list_start, newest_first, packed_words}
-use Rattle.eb_block.specs.Reading.{packed_start, IsPackedAt, ReadsWords, ListStands, ListGives, loaded, HasPassed, IsNear, up_to}
+use Rattle.eb_block.specs.Reading.{packed_start, IsPackedAt, ReadsWords, ListStands, ListGives, BoundsNext, loaded, HasPassed, IsNear, remaining, up_to}
 use Rattle.eb_block.specs.declared.packed_list.PackedList.{PackedList}
 use Rattle.eb_place.proofs.ConverterWords.{word_packed_list, word_directory, list_fits, later_converted, converted_segment, closed_room, segment_inside}
 use Rattle.eb_place.proofs.PlacesOfSlots.{place_in}
 use Rattle.eb_place.proofs.PostingsFall.{newest_falls, newest_small}
-use Rattle.eb_block.proofs.Reading.{peek_at, step_over, step_first, HasStepped, can_enter, IsIn, given, next_first}
+use Rattle.eb_block.proofs.Reading.{peek_at, ahead, step_over, step_first, HasStepped, can_enter, IsIn, given, next_first}
 
 -- ---- packed words
 
@@ -116,7 +116,7 @@ pub record IsNextHeader (m : Moment) (s : ℕ) (t : Term) (p : PackedList) (rest
   pub value : ℕ
   pub is_packed : IsPackedAt m s p.next value
   pub some : 1 ≤ b
-  pub gives : (n : Moment) (x : ℕ) → IsNotBefore n m → x ≡ value → (1 ≤ x) × ListStands n s t record p { header = x } rest (b - 1)
+  pub gives : (n : Moment) (x : ℕ) → IsNotBefore n m → x ≡ value → (1 ≤ x) × ListStands n s t record p { header = x; near = x / 2 ^ 16 } rest (b - 1)
 
 pub next_header : (m : Moment) (s : ℕ) (t : Term) (p : PackedList) (rest : List ℕ) (b : ℕ) → IsMoment m → ListStands m s t p rest b → p.header ≡ 0 → 1 ≤ p.left → IsNextHeader m s t p rest b
 next_header m s t p rest b is h z l =
@@ -128,9 +128,18 @@ next_header m s t p rest b is h z l =
       some = k.some;
       gives = λ n x later e. (let r = k.gives x e in (
         r.0,
-        list_stands_later m n s t record p { header = x } rest (b - 1) is later (stands_with m s t p record p { header = x } rest rest b (b - 1) h r.1),
+        list_stands_later m n s t record p { header = x; near = x / 2 ^ 16 } rest (b - 1) is later (stands_with m s t p record p { header = x; near = x / 2 ^ 16 } rest rest b (b - 1) h r.1),
       ));
     }
+
+-- its posting fits
+pub header_small : (m : Moment) (s : ℕ) (t : Term) (p : PackedList) (rest : List ℕ) (b : ℕ) → ListStands m s t p rest b → 1 ≤ p.header → p.header < 2 ^ (16 + posting_bits)
+header_small m s t p rest b h l = (can_enter (packed t (segment m s)) (packed_start m s h.number) p rest b h.reads l).small
+
+-- and bounds the next block
+pub with_near : (m : Moment) (s : ℕ) (t : Term) (p : PackedList) (rest : List ℕ) (b x y : ℕ) → y ≡ x / 2 ^ 16
+    → ListStands m s t record p { header = x; near = x / 2 ^ 16 } rest b → ListStands m s t record p { header = x; near = y } rest b
+with_near m s t p rest b x y e h = subst (λ z. ListStands m s t record p { header = x; near = z } rest b) (sym e) h
 
 -- ---- the next word of the block
 
@@ -144,7 +153,7 @@ pub record IsNextWord (m : Moment) (s : ℕ) (t : Term) (p : PackedList) (rest :
       → (field ≤ p.last) × (field < 2 ^ posting_bits) × ListStands n s t q rest (b - 1)
 
 restep : (W V : List ℕ) (a c : ℕ) (p q : PackedList) → HasStepped W a p q → HasStepped V c p q
-restep W V a c p q h = record { width = h.width; inside = h.inside; held = h.held; next = h.next; header = h.header; left = h.left }
+restep W V a c p q h = record { width = h.width; inside = h.inside; held = h.held; next = h.next; header = h.header; left = h.left; near = h.near }
 
 pub next_word : (m : Moment) (s : ℕ) (t : Term) (p : PackedList) (rest : List ℕ) (b : ℕ) → IsMoment m → ListStands m s t p rest b → 1 ≤ p.inside → p.held ≡ false → p.bits.count < p.width
     → IsNextWord m s t p rest b
@@ -193,6 +202,7 @@ pub record IsOpen (p : PackedList) (base word : ℕ) : Type 0 where
   pub next : p.next ≡ base + word / 2 ^ 32
   pub header : p.header ≡ 0
   pub left : p.left ≡ word % 2 ^ 32
+  pub near : 2 ^ 64 ≤ p.near + 1
 
 pub start_small : (m : Moment) (s : ℕ) (t : Term) (k : ℕ) → IsMoment m → IsConverted m s → IsTerm m s t k
     → (packed_start m s k + length (packed t (segment m s)) ≤ 2 ^ 27) × (frequency t (segment m s) < 2 ^ 32) × (list_start (segment m s) k ≤ 34 * m.setting.terms)
@@ -256,13 +266,14 @@ opens m s t k word' p is c h e o =
         small = newest_small m s t is;
         are = ap (λ (c : Bool). if c then (p.last ∷ newest_first m s t) else (newest_first m s t)) (sym o.held);
         header = inl o.header;
+        bounds = inr (inr o.near);
         budget_is = omega (arith, ap loaded o.header);
       };
     }
 
 pub stepped : (W : List ℕ) (a : ℕ) (p : PackedList) (at last : ℕ) (b : Rattle.eb_block.specs.declared.bits.Bits.Bits) → 1 ≤ p.inside
     → HasStepped W a p record p { at = at; bits = b; inside = p.inside - 1; last = last; held = true }
-stepped W a p at last b h = record { width = refl; inside = omega arith; held = refl; next = refl; header = refl; left = refl }
+stepped W a p at last b h = record { width = refl; inside = omega arith; held = refl; next = refl; header = refl; left = refl; near = refl }
 
 -- ---- what a call of `next` gives
 
@@ -319,6 +330,12 @@ at_it m s t p rest b most h held l =
     let g = given (packed t (segment m s)) (packed_start m s h.number) p rest b h.reads held in
     ap (up_to most) g.1 ∙ ap (λ (c : Bool). if c then up_to most g.0 else (p.last ∷ g.0)) (le-ltb most p.last l) ∙ sym g.1
 
+-- no block after it is passed over for a bound above `near`
+pub near_below : (p : PackedList) (most : ℕ) → BoundsNext p → p.near < most → most < 2 ^ 64 → IsNear most p
+near_below p most (inl none) l fits = inl none
+near_below p most (inr (inl w)) l fits = inr (inl (w.0, omega (arith, w.1)))
+near_below p most (inr (inr top)) l fits = absurd (omega (arith, top))
+
 -- nor where the block is read to its end and the next one begins below
 pub at_end : (m : Moment) (s : ℕ) (t : Term) (p q : PackedList) (rest : List ℕ) (b most : ℕ) → (h : ListStands m s t q rest b) → q.held ≡ false → q.inside ≡ 0 → q.left ≡ p.left
     → q.header ≡ p.header → (p.held ≡ true → most < p.last) → IsNear most p → up_to most rest ≡ rest
@@ -333,3 +350,37 @@ at_end m s t p q rest b most h free none left header o near =
         let low : k.0 ≤ most = omega (arith, k.3, header, ap (λ z. z / 2 ^ 16) header, w.1) in
         ap (up_to most) k.2 ∙ ap (λ (c : Bool). if c then up_to most k.1 else (k.0 ∷ k.1)) (le-ltb most k.0 low) ∙ sym k.2
     at (inr (inr w)) r = let above = o w.0 in absurd (omega (arith, w.1))
+
+-- nor where the last posting that was read isn't above and no block after it is passed over
+pub at_low : (m : Moment) (s : ℕ) (t : Term) (p : PackedList) (rest : List ℕ) (b most : ℕ) → ListStands m s t p rest b → p.last ≤ most → IsNear most p → up_to most rest ≡ rest
+at_low m s t p rest b most h low near = elim (cases_Bool p.held) [
+  | inl held ↦ at_it m s t p rest b most h held low
+  | inr free ↦ elim (cases_lt 0 p.inside) [
+    | inl some ↦
+        let a = ahead (packed t (segment m s)) (packed_start m s h.number) p rest b h.reads some in
+        let below = a.low in
+        let after = a.ns ++ h.reads.later in
+        ap (up_to most) (a.rest_is free) ∙ ap (λ (c : Bool). if c then up_to most after else (a.n ∷ after)) (le-ltb most a.n (omega (arith, below, low))) ∙ sym (a.rest_is free)
+    | inr none ↦ at_end m s t p p rest b most h free (omega arith) refl refl (λ held. absurd (false≢true (sym free ∙ held))) near
+  ]
+]
+
+-- a walk over a block that passed only what is above stops at a posting that isn't, or where the block is read to its end
+pub stopped : (m : Moment) (s : ℕ) (t : Term) (p q : PackedList) (rest after : List ℕ) (b most : ℕ) → ListStands m s t q after b → up_to most after ≡ up_to most rest → q.held ≡ true
+    → (most < q.last → q.inside ≡ 0) → q.left ≡ p.left → q.header ≡ p.header → most < p.last → IsNear most p
+    → ListStands m s t record q { held = leb q.last most } (up_to most rest) b
+stopped m s t p q rest after b most h same held ends left header above near = elim (cases_lt most q.last) [
+  | inl over ↦
+      let d = drop_held m s t q after b most h (λ z. over) in
+      let end = at_end m s t p record q { held = false } d.0 b most d.1 refl (ends over) left header (λ z. above) near in
+      let none = subst (λ zs. ListStands m s t record q { held = false } zs b) (sym end ∙ d.2 ∙ same) d.1 in
+      subst (λ (c : Bool). ListStands m s t record q { held = c } (up_to most rest) b) (sym (lt-leb q.last most over)) none
+  | inr on ↦
+      let it = at_it m s t q after b most h held on in
+      subst (λ (c : Bool). ListStands m s t record q { held = c } (up_to most rest) b) (held ∙ sym (le-leb q.last most on)) (subst (λ zs. ListStands m s t q zs b) (sym it ∙ same) h)
+]
+
+-- and then less is left
+pub stopped_fewer : (p q : PackedList) (c : Bool) → q.inside + 1 ≤ p.inside → q.left ≡ p.left → remaining record q { held = c } ≤ remaining p
+stopped_fewer p q true less left = omega (arith, less, left)
+stopped_fewer p q false less left = omega (arith, less, left)

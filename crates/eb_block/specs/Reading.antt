@@ -34,6 +34,11 @@ pub record IsPackedAt (m : Moment) (s at value : ℕ) : Type 0 where
 abbrev pub loaded : ℕ → ℕ
 loaded header = if nat_lt 0 header then 1 else 0
 
+-- no block after the one that is read is passed over for a bound above `near`: there is none, or the next one is known to begin
+-- no higher, or no bound is above it
+abbrev pub BoundsNext : PackedList → Type 0
+BoundsNext p = (p.left ≡ 0) ⊎ (((1 ≤ p.header) × (p.header / 2 ^ 16 ≤ p.near)) ⊎ (2 ^ 64 ≤ p.near + 1))
+
 -- the list reads these words, which begin at `start`: it has still to give `rest`, and may load as many
 -- words as the budget says
 pub record ReadsWords (words : List ℕ) (start : ℕ) (p : PackedList) (rest : List ℕ) (budget : ℕ) : Type 0 where
@@ -56,6 +61,7 @@ pub record ReadsWords (words : List ℕ) (start : ℕ) (p : PackedList) (rest : 
   pub small : AllBelow (2 ^ posting_bits) later
   pub are : rest ≡ (if p.held then (p.last ∷ (now ++ later)) else (now ++ later))
   pub header : (p.header ≡ 0) ⊎ ((1 ≤ length later) × (p.header ≡ get_or (packed_list later) 0 0))
+  pub bounds : BoundsNext p
   pub budget_is : budget + loaded p.header ≡ length body + length (packed_list later)
 
 -- how many postings the list has still to give

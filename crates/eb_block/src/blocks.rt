@@ -156,11 +156,12 @@ fn draw(words: &[u64], spot: Spot, width: u32) -> (u64, Spot)
     ensures { (n : ℕ) (ns : List ℕ) → DrawsFrom width words.now spot.at spot.bits (n ∷ ns)
         → (result.0 ≡ n) × DrawsFrom width words.now result.1.at result.1.bits ns }
 {
-    if width <= spot.bits.count {
-        let (field, bits) = spot.bits.first(width);
+    let mut bits = spot.bits;
+    if width <= bits.count {
+        let field = bits.take(width);
         return (field, Spot { at: spot.at, bits });
     }
-    let (field, bits) = spot.bits.first_over(words[spot.at], width);
+    let field = bits.take_over(words[spot.at], width);
     (
         field,
         Spot {

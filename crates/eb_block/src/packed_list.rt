@@ -31,10 +31,12 @@ pub struct PackedList {
     last: Posting,
     held: bool,
     // Of the blocks after it: the place where they begin, the header there if it is loaded, else 0, and how
-    // many postings they have.
+    // many postings they have. None of them is passed over for a bound above `near`: 0 where there are none, the first
+    // posting of the next one where its header is loaded, else the greatest number.
     next: u32,
     header: u64,
     left: u32,
+    near: Posting,
 }
 
 impl PackedList {
@@ -65,6 +67,7 @@ impl PackedList {
             next: start,
             header: 0,
             left: (word % (1 << 32)) as u32,
+            near: u64::MAX,
         }
     }
 
@@ -108,9 +111,13 @@ impl PackedList {
             → P.stands port.old m → ListStands m s t self.old rest budget
             → steps.new ≤ steps.old + (length rest - length (up_to most rest)) + 4 }
     {
-        self.seek(port, most, steps);
-        if self.held {
-            self.held = false;
+        self.seek_near(port, most, steps);
+        if self.last <= most {
+            return self.give(port, steps);
+        }
+        let found = self.seek_inside(port, most, steps);
+        self.held = false;
+        if found {
             return Some(self.last);
         }
         self.give(port, steps)
@@ -151,10 +158,12 @@ impl PackedList {
             → steps.new ≤ steps.old + (length rest - length (up_to most rest)) + 3 }
     {
         self.seek_near(port, most, steps);
-        self.seek_inside(port, most, steps);
+        if self.last > most {
+            self.held = self.seek_inside(port, most, steps);
+        }
     }
 
-    // Passes over the blocks that are all above, in locals, where there may be one.
+    // Passes over the blocks that are all above, where there may be one.
     #[inline(always)]
     fn seek_near<P: Port, L: Ledger>(&mut self, port: &mut P, most: Posting, steps: &mut Steps<L>)
         requires { (m : Moment) × (s : ℕ) × (t : Term) × (rest : List ℕ) × (budget : ℕ)
@@ -167,48 +176,74 @@ impl PackedList {
             (λ n. (after : List ℕ) × (b : ℕ) × ListStands n s t self.new after b × (steps.new + b ≤ steps.old + budget)
             × (up_to most after ≡ up_to most rest)) }
     {
-        if self.is_near(most) {
+        if self.near < most {
             return;
         }
-        let mut list = *self;
-        list.seek_block(port, most, steps);
-        *self = list;
+        self.seek_block(port, most, steps);
     }
 
-    // Whether it is known, without a load, that no block after this one is passed over.
+    // Passes over the postings of the block that are above, in locals for what this changes; true where one that isn't is
+    // read then, and is to be held.
     #[inline(always)]
-    fn is_near(&self, most: Posting) -> bool
-        ensures { result ≡ true → IsNear most self.now }
-    {
-        if self.left == 0 {
-            return true;
-        }
-        if self.is_at(most) {
-            return true;
-        }
-        self.header > 0 && self.header >> 16 < most
-    }
-
-    // Passes over the postings of the block that are above, in locals for what this changes.
-    #[inline(always)]
-    fn seek_inside<P: Port, L: Ledger>(&mut self, port: &mut P, most: Posting, steps: &mut Steps<L>)
+    fn seek_inside<P: Port, L: Ledger>(
+        &mut self,
+        port: &mut P,
+        most: Posting,
+        steps: &mut Steps<L>,
+    ) -> bool
         requires reads { (m : Moment) × (s : ℕ) × (t : Term) × (rest : List ℕ) × (budget : ℕ)
             × P.stands port.old m × ListStands m s t self.old rest budget }
         requires near { IsNear most self.old }
+        requires above { most < self.old.last }
         ensures next { self.new.next ≡ self.old.next }
         ensures loads { steps.new + self.old.at ≡ steps.old + self.new.at }
-        ensures fewer { remaining self.new ≤ remaining self.old }
+        ensures fewer { remaining (record self.new { held = result }) ≤ remaining self.old }
         ensures few { steps.new + self.new.inside + self.new.left ≤ steps.old + self.old.inside + self.old.left }
         ensures told { (s : ℕ) (t : Term) (rest : List ℕ) (budget : ℕ) → Told P.stands P.keeps port.old port.new
-            (λ m. ListStands m s t self.old rest budget) (λ n. (b : ℕ) × ListStands n s t self.new (up_to most rest) b × (steps.new + b ≤ steps.old + budget)) }
+            (λ m. ListStands m s t self.old rest budget)
+            (λ n. (b : ℕ) × ListStands n s t (record self.new { held = result }) (up_to most rest) b × (steps.new + b ≤ steps.old + budget)) }
     {
+        if self.inside == 0 {
+            return false;
+        }
         let mut list = *self;
-        list.seek_posting(port, most, steps);
+        'above: while list.pass_above(port, most, steps) {}
         self.at = list.at;
-        self.bits = list.bits;
+        self.bits.low = list.bits.low;
+        self.bits.count = list.bits.count;
         self.inside = list.inside;
         self.last = list.last;
-        self.held = list.held;
+        list.last <= most
+    }
+
+    // Reads the next posting of the block; true where it is above and more are left in the block.
+    #[inline(always)]
+    fn pass_above<P: Port, L: Ledger>(
+        &mut self,
+        port: &mut P,
+        most: Posting,
+        steps: &mut Steps<L>,
+    ) -> bool
+        requires reads { (m : Moment) × (s : ℕ) × (t : Term) × (rest : List ℕ) × (budget : ℕ)
+            × P.stands port.old m × ListStands m s t self.old rest budget }
+        requires inside { 1 ≤ self.old.inside }
+        requires above { most < self.old.last }
+        ensures held { self.new.held ≡ true }
+        ensures same { self.new ≡ record self.old
+            { at = self.new.at; bits = self.new.bits; inside = self.new.inside; last = self.new.last; held = self.new.held } }
+        ensures loads { steps.new + self.old.at ≡ steps.old + self.new.at }
+        ensures less { self.new.inside + 1 ≡ self.old.inside }
+        ensures one { steps.new ≤ steps.old + 1 }
+        ensures goes { result ≡ true → (1 ≤ self.new.inside) × (most < self.new.last) }
+        ensures ends { result ≡ false → most < self.new.last → self.new.inside ≡ 0 }
+        ensures told { (s : ℕ) (t : Term) (rest : List ℕ) (budget : ℕ) → Told P.stands P.keeps port.old port.new
+            (λ m. ListStands m s t self.old rest budget)
+            (λ n. (after : List ℕ) × (b : ℕ) × ListStands n s t self.new after b × (steps.new + b ≤ steps.old + budget)
+            × (up_to most after ≡ up_to most rest)) }
+    {
+        self.held = false;
+        self.step(port, steps);
+        self.inside > 0 && self.last > most
     }
 
     // The newest posting that wasn't given yet.
@@ -227,8 +262,8 @@ impl PackedList {
         Some(self.last)
     }
 
-    // Passes over the blocks that are all above.
-    #[inline(always)]
+    // Passes over the blocks that are all above, by a call, since it is seldom that there are any.
+    #[inline(never)]
     fn seek_block<P: Port, L: Ledger>(&mut self, port: &mut P, most: Posting, steps: &mut Steps<L>)
         requires { (m : Moment) × (s : ℕ) × (t : Term) × (rest : List ℕ) × (budget : ℕ)
             × P.stands port.old m × ListStands m s t self.old rest budget }
@@ -241,29 +276,6 @@ impl PackedList {
             × (up_to most after ≡ up_to most rest)) }
     {
         'whole: while self.pass_block(port, most, steps) {}
-    }
-
-    // Passes over the postings of the block that are above.
-    #[inline(always)]
-    fn seek_posting<P: Port, L: Ledger>(
-        &mut self,
-        port: &mut P,
-        most: Posting,
-        steps: &mut Steps<L>,
-    )
-        requires reads { (m : Moment) × (s : ℕ) × (t : Term) × (rest : List ℕ) × (budget : ℕ)
-            × P.stands port.old m × ListStands m s t self.old rest budget }
-        requires near { IsNear most self.old }
-        ensures same { self.new ≡ record self.old
-            { at = self.new.at; bits = self.new.bits; inside = self.new.inside; last = self.new.last; held = self.new.held } }
-        ensures next { self.new.next ≡ self.old.next }
-        ensures loads { steps.new + self.old.at ≡ steps.old + self.new.at }
-        ensures fewer { remaining self.new ≤ remaining self.old }
-        ensures few { steps.new + self.new.inside + self.new.left ≤ steps.old + self.old.inside + self.old.left }
-        ensures told { (s : ℕ) (t : Term) (rest : List ℕ) (budget : ℕ) → Told P.stands P.keeps port.old port.new
-            (λ m. ListStands m s t self.old rest budget) (λ n. (b : ℕ) × ListStands n s t self.new (up_to most rest) b × (steps.new + b ≤ steps.old + budget)) }
-    {
-        'postings: while self.pass_one(port, most, steps) {}
     }
 
     // Whether a posting is held that isn't above.
@@ -344,7 +356,7 @@ impl PackedList {
     ) -> bool
         requires { (m : Moment) × (s : ℕ) × (t : Term) × (rest : List ℕ) × (budget : ℕ)
             × P.stands port.old m × ListStands m s t self.old rest budget }
-        ensures stays { result ≡ false → self.new ≡ record self.old { header = self.new.header } }
+        ensures stays { result ≡ false → self.new ≡ record self.old { header = self.new.header; near = self.new.near } }
         ensures waits { result ≡ false → steps.new + loaded self.old.header ≤ steps.old + loaded self.new.header }
         ensures held { result ≡ true → self.new.held ≡ true }
         ensures full { result ≡ true → self.new.inside ≡ 127 }
@@ -367,41 +379,6 @@ impl PackedList {
             return false;
         }
         self.enter_like();
-        true
-    }
-
-    // Passes over one posting of the block, where it is above.
-    #[inline(always)]
-    fn pass_one<P: Port, L: Ledger>(
-        &mut self,
-        port: &mut P,
-        most: Posting,
-        steps: &mut Steps<L>,
-    ) -> bool
-        requires { (m : Moment) × (s : ℕ) × (t : Term) × (rest : List ℕ) × (budget : ℕ)
-            × P.stands port.old m × ListStands m s t self.old rest budget }
-        ensures near { IsNear most self.old → IsNear most self.new }
-        ensures same { self.new ≡ record self.old
-            { at = self.new.at; bits = self.new.bits; inside = self.new.inside; last = self.new.last; held = self.new.held } }
-        ensures next { self.new.next ≡ self.old.next }
-        ensures loads { steps.new + self.old.at ≡ steps.old + self.new.at }
-        ensures fewer { remaining self.new ≤ remaining self.old }
-        ensures few { steps.new + self.new.inside + self.new.left ≤ steps.old + self.old.inside + self.old.left }
-        ensures less { result ≡ true → self.new.inside < self.old.inside }
-        ensures told { (s : ℕ) (t : Term) (rest : List ℕ) (budget : ℕ) → Told P.stands P.keeps port.old port.new
-            (λ m. ListStands m s t self.old rest budget)
-            (λ n. (after : List ℕ) × (b : ℕ) × ListStands n s t self.new after b × (steps.new + b ≤ steps.old + budget)
-            × (up_to most after ≡ up_to most rest)
-            × (result ≡ false → IsNear most self.old → up_to most after ≡ after)) }
-    {
-        if self.is_at(most) {
-            return false;
-        }
-        self.held = false;
-        if self.inside == 0 {
-            return false;
-        }
-        self.step(port, steps);
         true
     }
 
@@ -452,15 +429,13 @@ impl PackedList {
         self.inside -= 1;
         self.held = true;
         if self.width <= self.bits.count {
-            let (field, bits) = self.bits.first(self.width);
-            self.bits = bits;
+            let field = self.bits.take(self.width);
             self.last -= field;
             return;
         }
         let word = packed_word(port, self.at, steps);
-        let (field, bits) = self.bits.first_over(word, self.width);
+        let field = self.bits.take_over(word, self.width);
         self.at += 1;
-        self.bits = bits;
         self.last -= field;
     }
 
@@ -471,7 +446,7 @@ impl PackedList {
             × P.stands port.old m × ListStands m s t self.old rest budget }
         requires left { 1 ≤ self.old.left }
         ensures loaded { 1 ≤ self.new.header }
-        ensures same { self.new ≡ record self.old { header = self.new.header } }
+        ensures same { self.new ≡ record self.old { header = self.new.header; near = self.new.near } }
         ensures one { steps.new ≤ steps.old + 1 }
         ensures paid { steps.new + loaded self.old.header ≡ steps.old + 1 }
         ensures told { (s : ℕ) (t : Term) (rest : List ℕ) (budget : ℕ) → Told P.stands P.keeps port.old port.new
@@ -481,6 +456,7 @@ impl PackedList {
             return;
         }
         self.header = packed_word(port, self.next, steps);
+        self.near = posting_in(self.header);
     }
 
     // Goes to the next block, whose header is loaded, and holds its first posting.
@@ -509,6 +485,7 @@ impl PackedList {
         self.next = self.at + 2 * width;
         self.header = 0;
         self.left -= count;
+        self.near = if self.left == 0 { 0 } else { u64::MAX };
     }
 
     // The same where it is a whole one of the width of this block.
@@ -534,6 +511,7 @@ impl PackedList {
         self.next = self.at + 2 * self.width;
         self.header = 0;
         self.left -= 128;
+        self.near = u64::MAX;
     }
 }
 

@@ -1,10 +1,11 @@
-use Rattle.std.proofs.Common.{◌-◌, refl, ap, arith}
+use Rattle.std.proofs.Common.{◌≡◌, ◌⊎◌, ◌+◌, ◌-◌, ◌^◌, ◌≤◌, refl, ap, arith, inl, inr}
 use Rattle.eb_place.specs.Packed.{packed}
 use Rattle.eb_place.specs.Seen.{segment}
 use Rattle.eb_block.specs.Reading.{packed_start}
 use Rattle.eb_block.proofs.Reading.{can_enter, CanEnter}
 use Rattle.eb_block.proofs.Standing.{stands_in}
 use Rattle.eb_block.proofs.packed_list.PackedList.enter.Goals.{After-width_in-width}
+use Rattle.eb_block.proofs.packed_list.PackedList.enter.Goals.{then-self-eq0, else-self-eq0}
 use Rattle.eb_block.proofs.packed_list.PackedList.enter.Goals as goal
 
 can : (c : After-width_in-width) → CanEnter (packed c.requires.reads.2 (segment c.requires.reads.0 c.requires.reads.1))
@@ -43,6 +44,10 @@ returns-clause-told c m s t rest b h =
       next = omega (arith, c.width_in-width.ensures);
       header = refl;
       left = ap (λ n. p.left - n) c.count_in-count.ensures;
+      near = elim c.if-self-eq0.branch as (λ w. (p.left - c.count_in-count.result ≡ 0) ⊎ (2 ^ 64 ≤ c.if-self-eq0.self + 1)) [
+        | then-self-eq0 w ↦ inl w.if-self-eq0.true
+        | else-self-eq0 w ↦ inr (omega (arith, w.self-is))
+      ];
     })
 
 pub returns-clause-less : goal.returns-clause-less

@@ -1,4 +1,4 @@
-use Rattle.std.proofs.Common.{◌≡◌, ◌-◌, ◌%◌, ◌^◌, ◌≤◌, ℕ, List, refl, ap, sym, arith}
+use Rattle.std.proofs.Common.{◌≡◌, ◌-◌, ◌%◌, ◌^◌, ◌≤◌, ℕ, List, refl, ap, sym, arith, inr}
 use Rattle.eb_base.specs.Term.{Term}
 use Rattle.eb_place.specs.declared.moment.Moment.{Moment}
 use Rattle.eb_place.specs.Packed.{packed}
@@ -42,4 +42,5 @@ returns-clause-told c m s t rest b h =
       next = omega (arith, c.requires.alike);
       header = refl;
       left = sym (ap (λ n. p.left - n) whole);
+      near = inr (omega arith);
     })

@@ -1,6 +1,10 @@
 use Rattle.std.proofs.Common.{◌≡◌, ◌≤◌, false, ap, ◌∙◌, subst, arith}
+use Rattle.eb_place.proofs.LaterMoments.{later_self}
 use Rattle.eb_block.specs.Reading.{ListStands}
 use Rattle.eb_block.proofs.packed_list.PackedList.hold.Goals as goal
+
+pub returns-then-self-clause-told : goal.returns-then-self-clause-told
+returns-then-self-clause-told g c = λ s t rest b. record { told = λ m st h. (m, st, later_self m, g.met.P.Port.keeps_itself c.args.port.now m st, (b, h, omega arith, c.if-self.true)) }
 
 pub returns-then-self-gt0 : goal.returns-then-self-gt0
 returns-then-self-gt0 g c = record {

@@ -66,6 +66,7 @@ returns-clause-told g c = λ t. record {
           next = start;
           header = refl;
           left = refl;
+          near = omega arith;
         }),
       ));
 }
