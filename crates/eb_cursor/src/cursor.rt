@@ -93,8 +93,12 @@ pub fn leaf_below<P: Port, L: Ledger>(
     if end == 0 {
         return 0;
     }
-    cursor.current = cursor.list.next_at_most(port, end - 1, steps);
-    place_after(cursor.current)
+    let Some(next) = cursor.list.next_at_most(port, end - 1, steps) else {
+        cursor.current = None;
+        return 0;
+    };
+    cursor.current = Some(next);
+    next + 1
 }
 
 /// One more than a posting, 0 where there is none.

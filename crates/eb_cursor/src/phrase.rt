@@ -155,6 +155,8 @@ fn led_starts_below<P: Port, L: Ledger>(
 }
 
 /// One more than the greatest document below `end` that has the phrase, or 0.
+// A call, so that the walk over a query's other parts takes none of its registers.
+#[inline(never)]
 pub fn phrase_below<P: Port, L: Ledger>(
     cursors: &mut [Cursor],
     port: &mut P,

@@ -136,6 +136,8 @@ fn windows_below<P: Port, L: Ledger>(
 }
 
 /// One more than the greatest document below `end` that has the window of this reach, or 0.
+// A call, so that the walk over a query's other parts takes none of its registers.
+#[inline(never)]
 pub fn window_below<P: Port, L: Ledger>(
     reach: u32,
     cursors: &mut [Cursor],
