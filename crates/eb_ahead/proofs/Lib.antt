@@ -5,3 +5,4 @@ pub mod Waitings
 pub mod Pieces
 pub mod HeldLines
 pub mod VectorsLines
+pub mod VectorsPlaced

@@ -8,3 +8,4 @@ pub mod Reading
 pub mod Standing
 pub mod Loads
 pub mod Copies
+pub mod VectorsReading

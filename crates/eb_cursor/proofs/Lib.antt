@@ -23,3 +23,4 @@ pub mod AndLoads
 pub mod Turns
 pub mod Terms
 pub mod Pairs
+pub mod VectorsPairs
