@@ -1,5 +1,5 @@
 -- That a query is well formed has one proof at most.
-use Rattle.std.proofs.Common.{ℕ, List, [], ◌∷◌, length, ◌≤◌}
+use Rattle.std.proofs.Common.{ℕ, ◌≤◌}
 use Rattle.std.proofs.Props.{props}
 use mathlib.Core.HLevel.{Unit-prop, ⊥_prop, ×_prop}
 use Rattle.eb_base.specs.Query.{Tree, word, phrase, window, since, negation, conjunction, disjunction, Trees, no_trees, trees, size, IsFormed, AreFormed, AreSeveral, IsWellFormed, most_size}

@@ -1,6 +1,6 @@
 -- Fields as numbers, and words as fields of 64 bits.
 use Rattle.std.proofs.Common.{◌≡◌, ℕ, zero, suc, ◌+◌, ◌*◌, ◌/◌, ◌%◌, ◌^◌, ◌<◌, List, [], ◌∷◌, length, refl, ap, sym, ◌∙◌, arith}
-use Rattle.std.proofs.lemmas.Nat.{pow_pos, pow-add, mul-le, same_from_place, mul-add-lt, div-mul-add, mod-mul-add}
+use Rattle.std.proofs.lemmas.Nat.{pow_pos, pow-add, same_from_place, mul-add-lt, div-mul-add, mod-mul-add}
 use Rattle.eb_place.specs.Packed.{fields, lowest_words}
 use Rattle.eb_place.specs.Falling.{AllBelow}
 

@@ -2,7 +2,7 @@
 use Rattle.std.proofs.Common.{◌≡◌, ℕ, zero, suc, ◌+◌, ◌-◌, ◌*◌, ◌/◌, ◌%◌, ◌^◌, ◌<◌, ◌≤◌, ◌⊎◌, Bool, true, false, List, [], ◌∷◌, ◌++◌, take, drop, length, get_or, refl, ap, sym, ◌∙◌, subst, arith, inl}
 use Rattle.std.proofs.Common.{inr, if◌then◌else◌}
 use Rattle.std.proofs.lemmas.Bool.{cases_lt, cases_Bool, lt-ltb, le-ltb, false≢true}
-use Rattle.std.proofs.lemmas.List.{append-nil, length-append, length-drop, length-take, drop_more, drop-drop, take-append-drop, drop_at}
+use Rattle.std.proofs.lemmas.List.{length-append, length-drop, length-take, drop_more, drop-drop, take-append-drop, drop_at}
 use Rattle.eb_place.specs.Packed.{differences, fields, block, blocks, packed_list}
 use Rattle.eb_place.specs.Falling.{IsFalling, AllBelow}
 use Rattle.eb_block.specs.Fields.{IsHeld, IsField, HoldsFields}

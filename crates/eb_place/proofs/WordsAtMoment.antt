@@ -13,7 +13,7 @@ use Rattle.eb_place.specs.declared.moment.Documents.{Documents}
 use Rattle.eb_place.specs.Postings.{count_of, distinct, terms_of}
 use Rattle.eb_place.specs.Room.{fits, with_doc, cut, last_of, has_room, IsLawful}
 use Rattle.eb_place.specs.Layout.{pool_slices}
-use Rattle.eb_place.specs.Address.{begins, address_of, begun_after}
+use Rattle.eb_place.specs.Address.{begun_after}
 use Rattle.eb_place.specs.Placing.{Store, stores_in, doc_stores}
 use Rattle.eb_place.specs.Moments.{placings, placings_after, value_after, with_current, current_of, document_stores}
 use Rattle.eb_place.proofs.LawfulHistories.{rooms_at, rooms_by}

@@ -4,7 +4,7 @@ use Rattle.eb_base.specs.Query.{Tree, word, phrase, window, since, negation, con
 use Rattle.eb_base.specs.Query.{trees, trees_of, and_of, or_of, size, IsFormed, AreFormed, AreSeveral, most_size}
 use Rattle.eb_query.specs.Grammar.{Lexeme, opening, closing, minus, or_word, leaf, broken, IsUnary, a_leaf, a_minus, a_group, IsAnd, last, beside, IsOr, final, either, GivesTree}
 use Rattle.eb_query.specs.Lexemes.{Placed}
-use Rattle.eb_query.specs.Nesting.{Open, group, completed, closed, open_after, nesting, IsOpener, NestsWithin}
+use Rattle.eb_query.specs.Nesting.{Open, group, completed, closed, open_after, IsOpener, NestsWithin}
 use Rattle.eb_query.specs.Number.{number_in_line}
 use Rattle.eb_query.specs.Reading.{asks, IsOutcome, stands, complete}
 use Rattle.eb_query.specs.Nesting as nestings

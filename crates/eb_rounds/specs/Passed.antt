@@ -1,5 +1,5 @@
 -- What a line that is passed to a round is.
-use Rattle.std.specs.Prelude.{◌≡◌, ℕ, List, Some, slice_get}
+use Rattle.std.specs.Prelude.{◌≡◌, Some, slice_get}
 use Rattle.eb_rounds.specs.declared.input.Input.{Input}
 use Rattle.eb_rounds.specs.declared.input.Input.TheVariants as passed
 use Rattle.eb_rounds.specs.declared.input.Kind.{Kind}

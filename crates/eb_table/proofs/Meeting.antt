@@ -22,7 +22,7 @@ use Rattle.eb_table.specs.declared.view.View.{View}
 use Rattle.eb_table.specs.declared.view.View.TheVariants.{Writer, Converter, Reader}
 use Rattle.eb_table.specs.Rule.{moment_of}
 use Rattle.eb_table.specs.InLine.{reaches, in_line, reaches_packed, unreal}
-use Rattle.eb_table.specs.Steps.{at_moment, Confirmed, met, met_moment}
+use Rattle.eb_table.specs.Steps.{Confirmed, met, met_moment}
 use Rattle.eb_table.specs.Known.{Known, Words, MadeWith}
 use Rattle.eb_table.proofs.InLine.{reaches_decides, in_line_decides, packed_decides, not_unreal}
 use Rattle.atomic_table.specs.Seated.{TableId}

@@ -1,5 +1,5 @@
 -- Texts that are one word, and spaces that part words.
-use Rattle.std.proofs.Common.{◌≡◌, true, false, [], ◌∷◌, sym, refl, arith}
+use Rattle.std.proofs.Common.{[], ◌∷◌, refl, arith}
 use Rattle.std.specs.Prelude.{codes}
 use Rattle.std.proofs.lemmas.Bool.{false≢true}
 use Rattle.std.proofs.lemmas.List.Elements.{All-nil, All-cons}

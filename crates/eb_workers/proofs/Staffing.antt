@@ -1,15 +1,10 @@
 -- An office that is staffed on.
-use Rattle.std.proofs.Common.{◌≡◌, ℕ, List, length, ap, sym, subst, ◌∙◌, arith}
+use Rattle.std.proofs.Common.{◌≡◌, ℕ, List, length, arith}
 use Rattle.eb_base.specs.Document.{Doc}
 use Rattle.eb_base.specs.Setting.{Setting}
 use Rattle.eb_place.specs.Room.{cut}
-use Rattle.eb_table.specs.Known.{Words}
-use Rattle.eb_engine.specs.Tokens.{HistoryToken, ConverterToken}
 use Rattle.eb_indexed.specs.Conversions.{AreConverted, most_converted}
 use Rattle.eb_indexed.proofs.Conversions.{none_waits}
-use Rattle.eb_serve.specs.Desk.{IsOpen}
-use Rattle.eb_workers.specs.declared.office.Office.{Office}
-use Rattle.eb_workers.specs.Offices.{IsStaffed, Keeps}
 
 -- all segments but the last one are converted
 pub closed_converted : (σ : Setting) (docs : List Doc) (n m : ℕ) → m ≡ n → n ≡ most_converted (length (cut σ docs)) → AreConverted σ docs m

@@ -1,7 +1,7 @@
 -- What a run with workers prints for the lines of an input.
 use Rattle.std.specs.Prelude.{◌≡◌, ℕ, ◌≤◌, List, ◌++◌, length, Option}
 use Rattle.eb_base.specs.Setting.{Setting}
-use Rattle.eb_io.specs.Lines.{Line, lines_of}
+use Rattle.eb_io.specs.Lines.{Line}
 use Rattle.eb_lines.specs.declared.form.Form.{Form}
 use Rattle.eb_lines.specs.Outcomes.{Wrote, Means}
 use Rattle.eb_lines.specs.declared.status.Status.{Status}

@@ -1,6 +1,6 @@
 -- Counting what a document needs, token by token.
 use Rattle.std.proofs.Common.{◌≡◌, ℕ, zero, suc, ◌+◌, ◌-◌, ◌<◌, ◌≤◌, Bool, true, false, List, [], ◌∷◌, ◌++◌, length}
-use Rattle.std.proofs.Common.{drop, sum_by, refl, ap, sym, ◌∙◌, arith, inl, inr, slice_get, slice_set, Some, lit<}
+use Rattle.std.proofs.Common.{drop, sum_by, refl, ap, sym, ◌∙◌, arith, inl, inr, slice_get, slice_set, Some}
 use Rattle.std.proofs.lemmas.Bool.{cases_lt}
 use Rattle.std.proofs.lemmas.List.{length_push}
 use Rattle.std.proofs.lemmas.List.Sums.{sum_by_push, sum_by-cons}
@@ -8,9 +8,9 @@ use Rattle.eb_base.specs.Term.{Term}
 use Rattle.eb_base.specs.Document.{most_bytes}
 use Rattle.eb_place.specs.declared.used.Used.{Used}
 use Rattle.eb_place.specs.Postings.{distinct, count_of, number_of}
-use Rattle.eb_place.specs.Room.{text_words, slices}
+use Rattle.eb_place.specs.Room.{text_words}
 use Rattle.eb_place.specs.Address.{begins_in, slices_begun}
-use Rattle.eb_place.proofs.TermCounts.{one_if, begun_push, slices_more, with_term_cases, once, distinct_push}
+use Rattle.eb_place.proofs.TermCounts.{one_if, begun_push, with_term_cases, once, distinct_push}
 use Rattle.eb_place.proofs.TermNumbersStay.{number_absent, number_low}
 use Rattle.eb_writer.specs.Counting.{IsUsedBy, IsSmall}
 

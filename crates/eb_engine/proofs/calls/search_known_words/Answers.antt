@@ -1,5 +1,5 @@
-use Rattle.std.proofs.Common.{◌≡◌, length, take, drop, rules, refl, sym, ◌∙◌, arith}
-use Rattle.std.proofs.lemmas.List.{take-append-drop, length-take-le}
+use Rattle.std.proofs.Common.{take, rules, refl, sym, arith}
+use Rattle.std.proofs.lemmas.List.{length-take-le}
 use Rattle.eb_engine.proofs.Knows.{front_of}
 use Rattle.eb_engine.proofs.calls.search_known_words.Goals as goal
 

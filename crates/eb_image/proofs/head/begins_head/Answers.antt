@@ -1,5 +1,4 @@
-use Rattle.std.proofs.Common.{ℕ, false, List, ap, length, take, sym, ◌∙◌, subst}
-use Rattle.std.specs.Prelude.{bytes_eq}
+use Rattle.std.proofs.Common.{ap, length, take, sym, ◌∙◌, subst}
 use Rattle.std.proofs.lemmas.Slice.Eq.{bytes_eq-Decides}
 use Rattle.eb_base.specs.Setting.{Setting, IsSetting}
 use Rattle.eb_image.specs.Image.{head_of}

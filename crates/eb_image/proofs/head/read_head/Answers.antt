@@ -1,6 +1,5 @@
-use Rattle.std.proofs.Common.{ℕ, ◌+◌, List, inr, take, ap, sym, subst, ◌∙◌, arith}
-use Rattle.std.proofs.lemmas.List.{length-take, length-take-le}
-use Rattle.eb_io.specs.Source.{after}
+use Rattle.std.proofs.Common.{ℕ, ◌+◌, List, inr, take, sym, subst, arith}
+use Rattle.std.proofs.lemmas.List.{length-take}
 use Rattle.eb_image.proofs.Taken.{left_same, risen_within}
 use Rattle.eb_image.proofs.Taken.{after-nil}
 use Rattle.eb_image.proofs.Beginnings.{nothing_begins, whole_head}

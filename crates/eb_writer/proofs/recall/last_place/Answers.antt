@@ -1,4 +1,4 @@
-use Rattle.std.proofs.Common.{[], ◌≡◌, ◌-◌, sym, ◌∙◌, ap, subst, arith, get_or}
+use Rattle.std.proofs.Common.{[], ◌≡◌, ◌-◌, sym, ◌∙◌, subst, arith, get_or}
 use Rattle.std.proofs.lemmas.Slice.Eq.{bytes_eq-Decides}
 use Rattle.std.proofs.lemmas.Bool.{false≢true}
 use Rattle.eb_writer.specs.Recall.{bucket, token_at, LeadsBack}

@@ -1,10 +1,9 @@
-use Rattle.std.proofs.Common.{◌≡◌, List, Bool, true, false, Option, None, Some, append-nil, ap, sym, ◌∙◌, subst, if◌then◌else◌}
+use Rattle.std.proofs.Common.{List, Bool, true, false, Option, None, Some, append-nil, ap, sym, ◌∙◌, subst, if◌then◌else◌}
 use Rattle.eb_answer.specs.Rules.{Rules}
 use Rattle.eb_base.specs.Document.{Doc}
 use Rattle.eb_lines.specs.declared.form.Form.{Form}
 use Rattle.eb_lines.specs.declared.refusal.Refusal.{Refusal}
 use Rattle.eb_lines.specs.declared.refusal.Refusal.TheVariants.{Full}
-use Rattle.eb_place.specs.Room.{has_room}
 use Rattle.eb_indexed.specs.IndexRules.{index_rules}
 use Rattle.eb_indexed.specs.Indexed.{Holds, WithPlaced}
 use Rattle.eb_indexed.proofs.indexed.IndexedStore.place.Goals as goal

@@ -1,11 +1,11 @@
-use Rattle.std.proofs.Common.{◌≡◌, ◌==◌, Bool, true, false, not, ◌&&◌, is_some, List, refl, sym, ap, ◌∙◌, subst, arith}
+use Rattle.std.proofs.Common.{◌≡◌, ◌==◌, Bool, true, false, not, ◌&&◌, is_some, refl, sym, ap, ◌∙◌, subst, arith}
 use Rattle.std.specs.Option.{is_none}
 use Rattle.std.specs.Map.{keys_of}
 use Rattle.std.proofs.lemmas.Map.Keys.{IsStrictlyIncreasing-from_sorted}
 use Rattle.eb_base.specs.Query.{Tree}
 use Rattle.eb_watch.specs.Key.{watch_key, is_keyless, key_has}
 use Rattle.eb_watch.specs.Terms.{key_terms}
-use Rattle.eb_watch.specs.Watches.{Watched, is_set, without_watch}
+use Rattle.eb_watch.specs.Watches.{is_set, without_watch}
 use Rattle.eb_watch.specs.Index.{finds}
 use Rattle.eb_watch.specs.Held.{watched, AllWellFormed}
 use Rattle.eb_watch.proofs.Lists.{rises_from, set_watched, watched_remove, formed_without}

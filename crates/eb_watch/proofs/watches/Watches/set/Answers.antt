@@ -10,7 +10,7 @@ use Rattle.eb_base.specs.Query.{Tree, tree}
 use Rattle.eb_watch.specs.declared.watch.Watch.{Watch}
 use Rattle.eb_watch.specs.Key.{watch_key, is_keyless, key_has}
 use Rattle.eb_watch.specs.Terms.{key_terms}
-use Rattle.eb_watch.specs.Watches.{Watched, is_set, with_watch}
+use Rattle.eb_watch.specs.Watches.{is_set, with_watch}
 use Rattle.eb_watch.specs.Index.{leads, finds}
 use Rattle.eb_watch.specs.Held.{watched, AllWellFormed}
 use Rattle.eb_watch.proofs.Lists.{set_watched, finds_none, watched_insert, formed_with}
