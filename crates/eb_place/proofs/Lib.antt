@@ -60,6 +60,7 @@ pub mod NextPuts
 pub mod VectorsHashes
 pub mod VectorsBlocks
 pub mod VectorsSlices
+pub mod VectorsAddresses
 pub mod VectorsPlacing
 pub mod VectorsFit
 pub mod VectorsMoments

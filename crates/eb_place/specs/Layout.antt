@@ -79,6 +79,10 @@ address_number pool slice offset = pool * 2 ^ 30 + slice * 2 ^ slice_bits pool +
 abbrev pub address_pool : ℕ → ℕ
 address_pool at = at / 2 ^ 30
 
+-- the slice of that pool, by its number
+abbrev pub address_slice : ℕ → ℕ
+address_slice at = (at % 2 ^ 30) / 2 ^ slice_bits (address_pool at)
+
 -- the offset in the slice of that pool
 abbrev pub address_offset : ℕ → ℕ
 address_offset at = at % 2 ^ slice_bits (address_pool at)

@@ -24,9 +24,10 @@ pub use moment::{Conversions, Documents, Moment};
 pub use places::Places;
 pub use port::{PackPen, Pen, Port};
 pub use posting_numbers::{
-    PLACES, POSITION_BITS, POSTING_BITS, Posting, document_of, posting, posting_in_word,
+    PLACES, POSITION_BITS, POSTING_BITS, Posting, document_of, position_of, posting,
+    posting_in_word,
 };
-pub use slice_addresses::{address, offset_of, pool_of};
+pub use slice_addresses::{address, offset_of, pool_of, slice_of};
 pub use steps::Steps;
 pub use storing_laws::{
     entered_with_the_cell, packing_fits, reached_words_stay, stored_once, stores_lie_in_regions,

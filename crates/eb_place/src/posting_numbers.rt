@@ -5,6 +5,7 @@ ghost use Rattle.eb_place.specs.Postings.{
   places,
   posting_of,
   posting_document,
+  posting_position,
 };
 
 /// A posting: where a term stands in a segment, the document's number in the segment above the position in
@@ -44,4 +45,12 @@ pub fn document_of(posting: Posting) -> u32
     ensures { result ≡ posting_document posting }
 {
     (posting >> POSITION_BITS) as u32
+}
+
+/// The position in its document that a posting is of.
+pub fn position_of(posting: Posting) -> u32
+    requires { posting < 2 ^ posting_bits }
+    ensures { result ≡ posting_position posting }
+{
+    (posting % (1 << POSITION_BITS)) as u32
 }

@@ -1,5 +1,5 @@
 ghost use Rattle.std.specs.Prelude.{◌≡◌, ◌+◌, ◌*◌, ◌^◌, ◌<◌};
-ghost use Rattle.eb_place.specs.Layout.{address_number, address_pool, address_offset, slice_bits};
+ghost use Rattle.eb_place.specs.Layout.{address_number, address_pool, address_slice, address_offset, slice_bits};
 
 // The bits of an address below its pool.
 const POOL_BITS: u32 = 30;
@@ -20,6 +20,13 @@ pub fn pool_of(address: u32) -> u32
     ensures { result ≡ address_pool address }
 {
     address >> POOL_BITS
+}
+
+/// The slice of an address, by its number in the pool.
+pub fn slice_of(address: u32) -> u32
+    ensures { result ≡ address_slice address }
+{
+    (address % (1 << POOL_BITS)) >> bits_of(pool_of(address))
 }
 
 /// The offset of an address in its slice.
