@@ -5,7 +5,9 @@ use Rattle.serde_json.specs.Data.{Data}
 use Rattle.serde_json.specs.Read.{read}
 use Rattle.serde_json.specs.Find.{get, as_number, as_u64, as_str}
 use Rattle.eb_base.specs.Document.{Doc, bytes_of, most_tokens, most_bytes}
-use Rattle.eb_text.specs.Tokens.{tokens_of}
+use Rattle.eb_text.specs.Pieces.{tokens_by}
+use Rattle.eb_text.specs.declared.cutting.Cut.{Cut}
+use Rattle.eb_text.specs.declared.cutting.Cut.TheVariants.{Words}
 use Rattle.eb_doc.specs.declared.LineFault.{LineFault}
 use Rattle.eb_doc.specs.declared.LineFault.TheVariants.{BadJson, BadDocument, TooLong}
 
@@ -25,16 +27,17 @@ text_in value = option_and_then as_str (get (codes "text") value)
 abbrev pub message : ℕ → List (List ℕ) → Result Doc LineFault
 message id terms = if nat_lt most_tokens (length terms) || nat_lt most_bytes (bytes_of terms) then Err TooLong else Ok (record { id = id; terms = terms })
 
-abbrev pub with_members : Option ℕ → Option (List ℕ) → Result Doc LineFault
-with_members (Some id) (Some text) = message id (tokens_of text)
-with_members (Some id) None = Err BadDocument
-with_members None text = Err BadDocument
+-- by how texts are cut
+abbrev pub with_members : Cut → Option ℕ → Option (List ℕ) → Result Doc LineFault
+with_members cut (Some id) (Some text) = message id (tokens_by cut text)
+with_members cut (Some id) None = Err BadDocument
+with_members cut None text = Err BadDocument
 
-abbrev pub with_value : Option Data → Result Doc LineFault
-with_value None = Err BadJson
-with_value (Some value) = with_members (id_in value) (text_in value)
+abbrev pub with_value : Cut → Option Data → Result Doc LineFault
+with_value cut None = Err BadJson
+with_value cut (Some value) = with_members cut (id_in value) (text_in value)
 
 -- the document that the line is, with the tokens of its text as terms, or the first refusal:
 --   BadJson without a value, BadDocument where a member is missing or of another kind, TooLong
 unfoldable pub document_of : List ℕ → Result Doc LineFault
-document_of line = with_value (value_of line)
+document_of line = with_value Words (value_of line)

@@ -1,7 +1,7 @@
-ghost use Rattle.eb_doc.specs.Laws.{WithoutFields};
+ghost use Rattle.eb_doc.specs.Laws.{InPlain};
 
-/// A law: without fields a line gives the document, or the refusal, that it gives where nothing of
-/// fields is known. The call does nothing.
-pub fn without_fields()
-    ensures { WithoutFields }
+/// A law: where no option says otherwise a line gives the document, or the refusal, that it gives where nothing of
+/// options is known. The call does nothing.
+pub fn in_plain()
+    ensures { InPlain }
 {}

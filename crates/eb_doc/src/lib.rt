@@ -6,11 +6,11 @@
 ghost use Rattle.std.specs.Prelude.{◌≡◌, ◌⊎◌, Ok, Err, IfOk, IfErr, Some, None, option_map};
 ghost use Rattle.serde_json.specs.Data.{Data};
 ghost use Rattle.serde_json.specs.View.{view};
-ghost use Rattle.eb_text.specs.Tokens.{tokens_of};
+ghost use Rattle.eb_text.specs.Pieces.{tokens_by as spec_tokens};
 ghost use Rattle.eb_doc.specs.DocumentLine.{document_of, value_of, message, with_value};
 ghost use Rattle.eb_doc.specs.DocumentLine as spec;
 ghost use Rattle.eb_doc.specs.WithFields.{document_with};
-ghost use Rattle.eb_fields.specs.Fields.{names};
+ghost use Rattle.eb_fields.specs.Dialect.{dialect_of};
 ghost use Rattle.eb_doc.specs.Seen.{Tells};
 ghost use Rattle.eb_doc.specs.declared.LineFault.TheVariants.{NoMemory as out_of_memory};
 
@@ -25,12 +25,12 @@ mod seen;
 
 use crate::fielded::read_with_fields;
 pub use crate::fields::MAX_ITEMS;
-pub use crate::laws::without_fields;
+pub use crate::laws::in_plain;
 use crate::look::{Look, look_at};
 use crate::seen::Members;
 use eb_base::{Document, NoMemory, Terms};
-use eb_fields::Fields;
-use eb_text::tokens;
+use eb_fields::Dialect;
+use eb_text::{Cut, tokens_by};
 use json::Scratch;
 use serde_json::Value;
 use std::alloc::Global;
@@ -95,32 +95,42 @@ impl DocumentReader {
     }
 
     /// The document that a line is, as [`read_document`] says.
+    #[tactic(auto, unfolding(crate::specs::DocumentLine::document_of))]
     pub fn read(&mut self, line: &[u8]) -> Result<Document, LineFault>
         ensures document { IfOk result (λ document. document_of line.now ≡ Ok document) }
         ensures refused { IfErr result (λ fault. (fault ≡ LineFault.NoMemory) ⊎ (document_of line.now ≡ Err fault)) }
     {
+        self.read_cut(Cut::Words, line)
+    }
+
+    // The document that a line is without fields, where texts are cut so.
+    fn read_cut(&mut self, cut: Cut, line: &[u8]) -> Result<Document, LineFault>
+        ensures document { IfOk result (λ document. with_value cut (value_of line.now) ≡ Ok document) }
+        ensures refused { IfErr result (λ fault. (fault ≡ LineFault.NoMemory) ⊎ (with_value cut (value_of line.now) ≡ Err fault)) }
+    {
         match look_at(line, &mut self.scratch) {
-            Ok(Look::Object(found)) => document_by(self.alloc, found),
+            Ok(Look::Object(found)) => document_by(self.alloc, cut, found),
             Ok(Look::NoJson) => Err(LineFault::BadJson),
-            Ok(Look::Other) => read_by_value(self.alloc, line),
+            Ok(Look::Other) => read_by_value(self.alloc, cut, line),
             Err(NoMemory) => Err(LineFault::NoMemory),
         }
     }
 
-    /// The document that a line is with the terms of these fields behind those of its text, name by name: of a
+    /// The document that a line is where lines are read so: with the tokens of its text, cut as the dialect says, and the terms of its
+    /// fields behind them, name by name: of a
     /// member of such a name that is a string, a whole number or a boolean, the term of the name and the value; of an
     /// array of at most [`MAX_ITEMS`] of these, the terms of all. A number stands in decimal, and a boolean as `true` or
     /// `false`. A member that is missing or anything else gives no term. Else as [`read_document`] says; a value of
     /// more than 128 folded bytes is `TooLong`.
-    pub fn read_with(&mut self, fields: Fields<'_>, line: &[u8]) -> Result<Document, LineFault>
-        ensures document { IfOk result (λ document. document_with (names fields.entry) line.now ≡ Ok document) }
+    pub fn read_with(&mut self, dialect: Dialect<'_>, line: &[u8]) -> Result<Document, LineFault>
+        ensures document { IfOk result (λ document. document_with (dialect_of dialect.entry) line.now ≡ Ok document) }
         ensures refused { IfErr result (λ fault.
-            (fault ≡ LineFault.NoMemory) ⊎ (document_with (names fields.entry) line.now ≡ Err fault)) }
+            (fault ≡ LineFault.NoMemory) ⊎ (document_with (dialect_of dialect.entry) line.now ≡ Err fault)) }
     {
-        if fields.is_none() {
-            return self.read(line);
+        if dialect.fields.is_none() {
+            return self.read_cut(dialect.cut, line);
         }
-        read_with_fields(self.alloc, fields, line)
+        read_with_fields(self.alloc, dialect, line)
     }
 }
 
@@ -138,20 +148,20 @@ pub fn read_document(alloc: Global, line: &[u8]) -> Result<Document, LineFault>
 }
 
 // The document that a line is, by its value.
-fn read_by_value(alloc: Global, line: &[u8]) -> Result<Document, LineFault>
-    ensures document { IfOk result (λ document. document_of line.now ≡ Ok document) }
-    ensures refused { IfErr result (λ fault. (fault ≡ LineFault.NoMemory) ⊎ (document_of line.now ≡ Err fault)) }
+fn read_by_value(alloc: Global, cut: Cut, line: &[u8]) -> Result<Document, LineFault>
+    ensures document { IfOk result (λ document. with_value cut (value_of line.now) ≡ Ok document) }
+    ensures refused { IfErr result (λ fault. (fault ≡ LineFault.NoMemory) ⊎ (with_value cut (value_of line.now) ≡ Err fault)) }
 {
     match read_value(alloc, line) {
-        Ok(value) => document_in(alloc, &value),
+        Ok(value) => document_in(alloc, cut, &value),
         Err(fault) => Err(fault),
     }
 }
 
 // The document of an object of which this is seen.
-fn document_by(alloc: Global, found: Members<'_>) -> Result<Document, LineFault>
-    ensures document { IfOk result (λ document. (d : Data) → Tells found.entry d → with_value (Some d) ≡ Ok document) }
-    ensures refused { IfErr result (λ fault. (fault ≡ LineFault.NoMemory) ⊎ ((d : Data) → Tells found.entry d → with_value (Some d) ≡ Err fault)) }
+fn document_by(alloc: Global, cut: Cut, found: Members<'_>) -> Result<Document, LineFault>
+    ensures document { IfOk result (λ document. (d : Data) → Tells found.entry d → with_value cut (Some d) ≡ Ok document) }
+    ensures refused { IfErr result (λ fault. (fault ≡ LineFault.NoMemory) ⊎ ((d : Data) → Tells found.entry d → with_value cut (Some d) ≡ Err fault)) }
 {
     let Some(id) = found.id else {
         return Err(LineFault::BadDocument);
@@ -159,7 +169,7 @@ fn document_by(alloc: Global, found: Members<'_>) -> Result<Document, LineFault>
     let Some(text) = found.text else {
         return Err(LineFault::BadDocument);
     };
-    make_document(alloc, id, text)
+    make_document(alloc, cut, id, text)
 }
 
 // The JSON value that the line is.
@@ -193,21 +203,21 @@ fn text_in(value: &Value) -> Option<&str>
 }
 
 // The document that a value is.
-fn document_in(alloc: Global, value: &Value) -> Result<Document, LineFault>
-    ensures document { IfOk result (λ document. with_value (Some (view value.now)) ≡ Ok document) }
-    ensures refused { IfErr result (λ fault. (fault ≡ LineFault.NoMemory) ⊎ (with_value (Some (view value.now)) ≡ Err fault)) }
+fn document_in(alloc: Global, cut: Cut, value: &Value) -> Result<Document, LineFault>
+    ensures document { IfOk result (λ document. with_value cut (Some (view value.now)) ≡ Ok document) }
+    ensures refused { IfErr result (λ fault. (fault ≡ LineFault.NoMemory) ⊎ (with_value cut (Some (view value.now)) ≡ Err fault)) }
 {
     let id = id_in(value).ok_or(LineFault::BadDocument)?;
     let text = text_in(value).ok_or(LineFault::BadDocument)?;
-    make_document(alloc, id, text)
+    make_document(alloc, cut, id, text)
 }
 
 // The document with this id and the tokens of this text.
-fn make_document(alloc: Global, id: u64, text: &str) -> Result<Document, LineFault>
-    ensures document { IfOk result (λ document. message id (tokens_of text.now) ≡ Ok document) }
-    ensures refused { IfErr result (λ fault. (fault ≡ LineFault.NoMemory) ⊎ (message id (tokens_of text.now) ≡ Err fault)) }
+fn make_document(alloc: Global, cut: Cut, id: u64, text: &str) -> Result<Document, LineFault>
+    ensures document { IfOk result (λ document. message id (spec_tokens cut text.now) ≡ Ok document) }
+    ensures refused { IfErr result (λ fault. (fault ≡ LineFault.NoMemory) ⊎ (message id (spec_tokens cut text.now) ≡ Err fault)) }
 {
-    let terms = tokens(alloc, text)?;
+    let terms = tokens_by(alloc, cut, text)?;
     message_of(id, terms)
 }
 

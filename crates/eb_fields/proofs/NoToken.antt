@@ -2,7 +2,7 @@
 use Rattle.std.proofs.Common.{◌≡◌, ℕ, ◌+◌, ◌/◌, ◌<◌, ◌≤◌, inl, inr, List, [], ◌∷◌, ◌++◌, IsUtf8, arith, lt-ltb, le-ltb, true}
 use Rattle.std.proofs.Math.Utf8.{scalar, scalars, scalar_cases, encode, encodes}
 use Rattle.std.proofs.lemmas.Bool.{and_parts, cases_lt}
-use Rattle.eb_text.proofs.Encoded.{token_utf8}
+use Rattle.eb_text.proofs.Encoded.{token_by_utf8}
 use Rattle.eb_fields.specs.Laws.{IsNoToken}
 
 below : (c : ℕ) → scalar c ≡ true → c < 1114112
@@ -46,4 +46,4 @@ pub is_no_text : (rest : List ℕ) → IsUtf8 (255 ∷ rest) → ⊥
 is_no_text rest u = no_text u.0 rest u.1.0 u.1.1
 
 pub is_no_token : IsNoToken
-is_no_token text name value u c = is_no_text _ (token_utf8 text _ u c)
+is_no_token cut text name value u c = is_no_text _ (token_by_utf8 cut text _ u c)

@@ -5,11 +5,13 @@
 //! [`names_apart`].
 #![tactic(auto)]
 
+mod dialect;
 mod fields;
 mod laws;
 mod names;
 mod term;
 
+pub use dialect::Dialect;
 pub use fields::Fields;
 pub use laws::{is_no_token, names_apart};
 pub use names::{MAX_NAME_BYTES, MAX_NAMES};

@@ -1,4 +1,5 @@
 -- Phrases and windows are of texts.
+use Rattle.eb_fields.specs.Dialect.{Dialect}
 use Rattle.std.proofs.Common.{◌≡◌, ℕ, zero, suc, ◌+◌, ◌<◌, ◌≤◌, nat_lt, eqb, inl, inr, Bool, true, false, cond, List, [], ◌∷◌, ◌++◌, length, take, drop, codes}
 use Rattle.std.proofs.Common.{Option, Some, None, option_map, option_and_then, refl, sym, arith, subst, zero-add}
 use Rattle.std.proofs.lemmas.Bool.{ltb-true, eqb-true}
@@ -7,7 +8,7 @@ use Rattle.std.proofs.lemmas.Str.{IsCharBoundary-after_ascii, IsCharBoundary-sta
 use Rattle.std.specs.List.{position_or_len, starts_with}
 use Rattle.std.specs.Str.{IsUtf8, IsCharBoundary, bytes_eq}
 use Rattle.eb_base.specs.Query.{Tree, trees_of, and_of, or_of, leaf_of, window_of, since}
-use Rattle.eb_text.specs.Tokens.{tokens_of}
+use Rattle.eb_text.specs.Pieces.{tokens_by}
 use Rattle.eb_fields.specs.Fields.{begun_name}
 use Rattle.eb_fields.proofs.Listed.{begun_colon}
 use Rattle.eb_query.specs.Digits.{is_no_digit}
@@ -114,35 +115,35 @@ digits_text bs u =
     let b = subst (IsCharBoundary bs) (zero-add (position_or_len is_no_digit bs)) (digits_boundary bs 0 (position_or_len is_no_digit bs) u (IsCharBoundary-start bs u) (omega arith) refl) in
     IsUtf8-drop bs _ u b
 
-text_own : (text : List ℕ) → IsUtf8 text → IsOwn (text_lexeme text)
+text_own : (how : Dialect) (text : List ℕ) → IsUtf8 text → IsOwn (text_lexeme how text)
 unfolding text_lexeme
-text_own text u = go (tokens_of text) refl
+text_own how text u = go (tokens_by how.cut text) refl
   where
-    go : (ts : List (List ℕ)) → tokens_of text ≡ ts → IsOwn (of_leaf (leaf_of ts))
+    go : (ts : List (List ℕ)) → tokens_by how.cut text ≡ ts → IsOwn (of_leaf (leaf_of ts))
     go [] e = tt
     go (t ∷ []) e = tt
-    go (t ∷ s ∷ ts) e = (text, u, sym e)
+    go (t ∷ s ∷ ts) e = (how.cut, text, u, sym e)
 
-window_own : (text bs : List ℕ) → IsUtf8 text → IsOwn (window_lexeme text bs)
+window_own : (how : Dialect) (text bs : List ℕ) → IsUtf8 text → IsOwn (window_lexeme how text bs)
 unfolding window_lexeme
-window_own text bs u = go (reach_of bs) (tokens_of text) refl
+window_own how text bs u = go (reach_of bs) (tokens_by how.cut text) refl
   where
-    some : (w : ℕ) (ts : List (List ℕ)) → tokens_of text ≡ ts → IsOwn (of_leaf (window_of ts w))
+    some : (w : ℕ) (ts : List (List ℕ)) → tokens_by how.cut text ≡ ts → IsOwn (of_leaf (window_of ts w))
     some w [] e = tt
     some w (t ∷ []) e = tt
-    some w (t ∷ s ∷ ts) e = (text, u, sym e)
+    some w (t ∷ s ∷ ts) e = (how.cut, text, u, sym e)
 
-    go : (r : Option ℕ) (ts : List (List ℕ)) → tokens_of text ≡ ts → IsOwn (of_leaf (option_and_then (window_of ts) r))
+    go : (r : Option ℕ) (ts : List (List ℕ)) → tokens_by how.cut text ≡ ts → IsOwn (of_leaf (option_and_then (window_of ts) r))
     go None ts e = tt
     go (Some w) ts e = some w ts e
 
-closed_own : (text bs : List ℕ) → IsUtf8 text → IsOwn (quoted_lexeme text bs)
+closed_own : (how : Dialect) (text bs : List ℕ) → IsUtf8 text → IsOwn (quoted_lexeme how text bs)
 unfolding quoted_lexeme
-closed_own text bs u = go (has_tilde bs)
+closed_own how text bs u = go (has_tilde bs)
   where
-    go : (b : Bool) → IsOwn (cond b (window_lexeme text (drop 1 bs)) (text_lexeme text))
-    go true = window_own text (drop 1 bs) u
-    go false = text_own text u
+    go : (b : Bool) → IsOwn (cond b (window_lexeme how text (drop 1 bs)) (text_lexeme how text))
+    go true = window_own how text (drop 1 bs) u
+    go false = text_own how text u
 
 tilde_text : (bs : List ℕ) → IsUtf8 bs → IsUtf8 (drop (tilde_len bs) bs)
 unfolding tilde_len
@@ -159,14 +160,14 @@ bound_own : (id : Option ℕ) → IsOwn (of_leaf (option_map since id))
 bound_own None = tt
 bound_own (Some x) = tt
 
-run_own : (run : List ℕ) → IsUtf8 run → IsOwn (run_lexeme run)
+run_own : (how : Dialect) (run : List ℕ) → IsUtf8 run → IsOwn (run_lexeme how run)
 unfolding run_lexeme
-run_own run u = go (bytes_eq run (codes "OR")) (starts_with eqb run (codes "since:"))
+run_own how run u = go (bytes_eq run (codes "OR")) (starts_with eqb run (codes "since:"))
   where
-    go : (a b : Bool) → IsOwn (cond a or_word (cond b (of_leaf (option_map since (id_of (drop 6 run)))) (text_lexeme run)))
+    go : (a b : Bool) → IsOwn (cond a or_word (cond b (of_leaf (option_map since (id_of (drop 6 run)))) (text_lexeme how run)))
     go true b = tt
     go false true = bound_own (id_of (drop 6 run))
-    go false false = text_own run u
+    go false false = text_own how run u
 
 -- a lexeme is apart, and what follows it is a text
 abbrev IsKept : List ℕ → Lexeme × ℕ → Type 0
@@ -176,31 +177,31 @@ chosen : (bs : List ℕ) (p q : Lexeme × ℕ) (b : Bool) → (b ≡ true → Is
 chosen bs p q true h k = h refl
 chosen bs p q false h k = k refl
 
-quoted_kept : (bs : List ℕ) → IsUtf8 bs → IsKept bs (quoted bs)
+quoted_kept : (how : Dialect) (bs : List ℕ) → IsUtf8 bs → IsKept bs (quoted how bs)
 unfolding quoted
-quoted_kept bs u =
+quoted_kept how bs u =
     let n = position_or_len is_quote bs in
     chosen bs _ _ (nat_lt n (length bs))
     (λ e.
     let behind = behind_text bs u (ltb-true _ _ e) in
-    (closed_own (take n bs) (drop (n + 1) bs) (cut_text is_quote bs is_quote_small u).0, subst IsUtf8 (drop-drop (tilde_len (drop (n + 1) bs)) (n + 1) bs) (tilde_text _ behind)))
+    (closed_own how (take n bs) (drop (n + 1) bs) (cut_text is_quote bs is_quote_small u).0, subst IsUtf8 (drop-drop (tilde_len (drop (n + 1) bs)) (n + 1) bs) (tilde_text _ behind)))
     (λ e. (tt, end_text bs))
 
-bare_kept : (b : ℕ) (bs : List ℕ) → IsUtf8 (b ∷ bs) → IsKept bs (bare b bs)
+bare_kept : (how : Dialect) (b : ℕ) (bs : List ℕ) → IsUtf8 (b ∷ bs) → IsKept bs (bare how b bs)
 unfolding bare
-bare_kept b bs u =
+bare_kept how b bs u =
     let n = position_or_len ends_run bs in
     let one : 1 + n ≡ suc n = omega arith in
     let c = subst (IsCharBoundary (b ∷ bs)) one (boundary_from ends_run (b ∷ bs) 1 n ends_run_small (omega arith) refl) in
-    (run_own (b ∷ take n bs) (IsUtf8-take (b ∷ bs) (suc n) u c), IsUtf8-drop (b ∷ bs) (suc n) u c)
+    (run_own how (b ∷ take n bs) (IsUtf8-take (b ∷ bs) (suc n) u c), IsUtf8-drop (b ∷ bs) (suc n) u c)
 
-first_kept : (b : ℕ) (bs : List ℕ) → IsUtf8 (b ∷ bs) → IsKept bs (first b bs)
+first_kept : (how : Dialect) (b : ℕ) (bs : List ℕ) → IsUtf8 (b ∷ bs) → IsKept bs (first how b bs)
 unfolding first
-first_kept b bs u =
+first_kept how b bs u =
     chosen bs _ _ (eqb b 40) (λ e. let i = eqb-true b 40 e in (tt, tail_text b bs (omega arith) u))
     (λ _. chosen bs _ _ (eqb b 41) (λ e. let i = eqb-true b 41 e in (tt, tail_text b bs (omega arith) u))
     (λ _. chosen bs _ _ (eqb b 45) (λ e. let i = eqb-true b 45 e in (tt, tail_text b bs (omega arith) u))
-    (λ _. chosen bs _ _ (eqb b 34) (λ e. let i = eqb-true b 34 e in quoted_kept bs (tail_text b bs (omega arith) u)) (λ _. bare_kept b bs u))))
+    (λ _. chosen bs _ _ (eqb b 34) (λ e. let i = eqb-true b 34 e in quoted_kept how bs (tail_text b bs (omega arith) u)) (λ _. bare_kept how b bs u))))
 
 bare_value_kept : (name bs : List ℕ) → IsUtf8 bs → IsKept bs (bare_value name bs)
 unfolding bare_value
@@ -221,52 +222,52 @@ value_kept name (b ∷ bs) u =
     (q.0, subst (λ (n : ℕ). IsUtf8 (drop n (b ∷ bs))) (sym one) q.1))
     (λ _. bare_value_kept name (b ∷ bs) u)
 
-named_kept : (names : List (List ℕ)) (name : Option (List ℕ)) (b : ℕ) (bs : List ℕ) → begun_name names (b ∷ bs) ≡ name → IsUtf8 (b ∷ bs) → IsKept bs (named_lexeme name b bs)
-named_kept names None b bs e u = first_kept b bs u
-named_kept names (Some name) b bs e u =
-    let p = begun_colon names (b ∷ bs) name e in let is = p.1 in
+named_kept : (how : Dialect) (name : Option (List ℕ)) (b : ℕ) (bs : List ℕ) → begun_name how.names (b ∷ bs) ≡ name → IsUtf8 (b ∷ bs) → IsKept bs (named_lexeme how name b bs)
+named_kept how None b bs e u = first_kept how b bs u
+named_kept how (Some name) b bs e u =
+    let p = begun_colon how.names (b ∷ bs) name e in let is = p.1 in
     let one : length name + 1 ≡ suc (length name) = omega arith in
     let rest : IsUtf8 (drop (length name) bs) =
     IsUtf8-drop (b ∷ bs) (suc (length name)) u (subst (IsCharBoundary (b ∷ bs)) one (IsCharBoundary-after_ascii (b ∷ bs) (length name) u p.0 (omega arith))) in
     let v = value_kept name (drop (length name) bs) rest in
     (v.0, subst IsUtf8 (drop-drop (value_lexeme name (drop (length name) bs)).1 (length name) bs) v.1)
 
-first_with_kept : (names : List (List ℕ)) (b : ℕ) (bs : List ℕ) → IsUtf8 (b ∷ bs) → IsKept bs (first_with names b bs)
+first_with_kept : (how : Dialect) (b : ℕ) (bs : List ℕ) → IsUtf8 (b ∷ bs) → IsKept bs (first_with how b bs)
 unfolding first_with
-first_with_kept names b bs u = named_kept names (begun_name names (b ∷ bs)) b bs refl u
+first_with_kept how b bs u = named_kept how (begun_name how.names (b ∷ bs)) b bs refl u
 
-lexemes_own : (names : List (List ℕ)) (k c : ℕ) (bs : List ℕ) → IsUtf8 (drop k bs) → ArePlacedOwn (lexemes names k c bs)
+lexemes_own : (how : Dialect) (k c : ℕ) (bs : List ℕ) → IsUtf8 (drop k bs) → ArePlacedOwn (lexemes how k c bs)
 unfolding lexemes
-lexemes_own names k c [] u = tt
-lexemes_own names (suc k) c (b ∷ bs) u = lexemes_own names k (suc c) bs u
-lexemes_own names zero c (b ∷ bs) u =
-    go (is_blank b) refl (λ v. lexemes_own names zero (suc c) bs v) (lexemes_own names (first_with names b bs).1 (suc c) bs (first_with_kept names b bs u).1)
+lexemes_own how k c [] u = tt
+lexemes_own how (suc k) c (b ∷ bs) u = lexemes_own how k (suc c) bs u
+lexemes_own how zero c (b ∷ bs) u =
+    go (is_blank b) refl (λ v. lexemes_own how zero (suc c) bs v) (lexemes_own how (first_with how b bs).1 (suc c) bs (first_with_kept how b bs u).1)
   where
-    go : (x : Bool) → is_blank b ≡ x → (IsUtf8 bs → ArePlacedOwn (lexemes names zero (suc c) bs)) → ArePlacedOwn (lexemes names (first_with names b bs).1 (suc c) bs)
-        → ArePlacedOwn (cond x (lexemes names zero (suc c) bs) (record { column = c; lexeme = (first_with names b bs).0 } ∷ lexemes names (first_with names b bs).1 (suc c) bs))
+    go : (x : Bool) → is_blank b ≡ x → (IsUtf8 bs → ArePlacedOwn (lexemes how zero (suc c) bs)) → ArePlacedOwn (lexemes how (first_with how b bs).1 (suc c) bs)
+        → ArePlacedOwn (cond x (lexemes how zero (suc c) bs) (record { column = c; lexeme = (first_with how b bs).0 } ∷ lexemes how (first_with how b bs).1 (suc c) bs))
     go true e h i = h (tail_text b bs (blank_small b e) u)
-    go false e h i = ((first_with_kept names b bs u).0, i)
+    go false e h i = ((first_with_kept how b bs u).0, i)
 
 line_within : (line : List ℕ) → 1 ≤ digits_len line → 1 + digits_len line ≤ length line
 unfolding digits_len
 line_within [] h = absurd (omega arith)
 line_within (b ∷ bs) h = let w = digits_within (b ∷ bs) (omega arith) in omega arith
 
-line_own : (names : List (List ℕ)) (line : List ℕ) (digits most : ℕ) → IsUtf8 line → HasNumberUpTo digits most line → ArePlacedOwn (lexemes_of_line names line)
+line_own : (how : Dialect) (line : List ℕ) (digits most : ℕ) → IsUtf8 line → HasNumberUpTo digits most line → ArePlacedOwn (lexemes_of_line how line)
 unfolding lexemes_of_line
-line_own names line digits most u h =
+line_own how line digits most u h =
     let b = apart_boundary line (1 + digits_len line) (line_within line h.some) h.apart in
-    lexemes_own names 0 (2 + digits_len line) (drop (1 + digits_len line) line) (IsUtf8-drop line (1 + digits_len line) u b)
+    lexemes_own how 0 (2 + digits_len line) (drop (1 + digits_len line) line) (IsUtf8-drop line (1 + digits_len line) u b)
 
-query_apart : {names : List (List ℕ)} {line : List ℕ} {o : Outcome} → ReadsWith names line o → (k : ℕ) (t : Tree) → o ≡ asks k t → IsUtf8 line → IsApart t
+query_apart : {how : Dialect} {line : List ℕ} {o : Outcome} → ReadsWith how line o → (k : ℕ) (t : Tree) → o ≡ asks k t → IsUtf8 line → IsApart t
 query_apart (without_number n) k t e u = cc
-query_apart {names} {line} (with_number h r) k t e u = outcome_apart r k t e tt (line_own names line _ _ u h.up_to)
+query_apart {how} {line} (with_number h r) k t e u = outcome_apart r k t e tt (line_own how line _ _ u h.up_to)
 
-watch_apart : {names : List (List ℕ)} {line : List ℕ} {o : WatchOutcome} → ReadsWatchWith names line o → (k : ℕ) (t : Tree) → o ≡ reads (asks k t) → IsUtf8 line → IsApart t
+watch_apart : {how : Dialect} {line : List ℕ} {o : WatchOutcome} → ReadsWatchWith how line o → (k : ℕ) (t : Tree) → o ≡ reads (asks k t) → IsUtf8 line → IsApart t
 watch_apart (watch.without_number n) k t e u = cc
 watch_apart (alone h n) k t e u = cc
-watch_apart {names} {line} (with_text {o} h n r) k t e u = let same : o ≡ asks k t = cc in outcome_apart r k t same tt (line_own names line _ _ u h)
+watch_apart {how} {line} (with_text {o} h n r) k t e u = let same : o ≡ asks k t = cc in outcome_apart r k t same tt (line_own how line _ _ u h)
 
 pub fields_are_apart : FieldsApart
-fields_are_apart names line k t u (inl r) = query_apart r k t refl u
-fields_are_apart names line k t u (inr r) = watch_apart r k t refl u
+fields_are_apart how line k t u (inl r) = query_apart r k t refl u
+fields_are_apart how line k t u (inr r) = watch_apart r k t refl u

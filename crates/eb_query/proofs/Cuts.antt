@@ -1,4 +1,5 @@
 -- Where lexemes begin and end in a line.
+use Rattle.eb_fields.specs.Dialect.{Dialect, plain}
 use Rattle.std.proofs.Common.{◌≡◌, ℕ, zero, suc, ◌+◌, ◌-◌, ◌<◌, ◌≤◌, nat_lt, eqb, ◌||◌, Bool, true, false, not, List, [], ◌∷◌, length, take}
 use Rattle.std.proofs.Common.{drop, get_or, Option, Some, None, refl, sym, ap, ◌∙◌, arith, subst, inl, inr, ◌⊎◌, ne_eqb, lt-ltb, le-ltb, ltb-false, drop-cons, length-drop}
 use Rattle.std.proofs.lemmas.Bool.{ltb-true, eqb-true, or_cases}
@@ -21,41 +22,42 @@ found_at p xs i h below here = sym (position_or_len_is p xs i 0 (omega arith) be
 pub found_none : (p : ℕ → Bool) (xs : List ℕ) (i : ℕ) → length xs ≤ i → ((k : ℕ) → k < i → p (get_or xs k 0) ≡ false) → length xs ≡ position_or_len p xs
 found_none p xs i h below = sym (position_or_len_is p xs (length xs) 0 (omega arith) (λ k l. below k (omega arith)) (λ l. absurd (omega arith)))
 
-pub first_opening : (b : ℕ) (bs : List ℕ) → b ≡ 40 → first b bs ≡ (opening, 0)
+pub first_opening : (how : Dialect) (b : ℕ) (bs : List ℕ) → b ≡ 40 → first how b bs ≡ (opening, 0)
 unfolding first
-first_opening b bs e = rw e refl
+first_opening how b bs e = rw e refl
 
-pub first_closing : (b : ℕ) (bs : List ℕ) → b ≡ 41 → first b bs ≡ (closing, 0)
+pub first_closing : (how : Dialect) (b : ℕ) (bs : List ℕ) → b ≡ 41 → first how b bs ≡ (closing, 0)
 unfolding first
-first_closing b bs e = rw e refl
+first_closing how b bs e = rw e refl
 
-pub first_minus : (b : ℕ) (bs : List ℕ) → b ≡ 45 → first b bs ≡ (minus, 0)
+pub first_minus : (how : Dialect) (b : ℕ) (bs : List ℕ) → b ≡ 45 → first how b bs ≡ (minus, 0)
 unfolding first
-first_minus b bs e = rw e refl
+first_minus how b bs e = rw e refl
 
-pub first_quoted : (b : ℕ) (bs : List ℕ) → b ≡ 34 → first b bs ≡ quoted bs
+pub first_quoted : (how : Dialect) (b : ℕ) (bs : List ℕ) → b ≡ 34 → first how b bs ≡ quoted how bs
 unfolding first
-first_quoted b bs e = rw e refl
+first_quoted how b bs e = rw e refl
 
-pub first_bare : (b : ℕ) (bs : List ℕ) → (b ≡ 40 → ⊥) → (b ≡ 41 → ⊥) → (b ≡ 45 → ⊥) → (b ≡ 34 → ⊥) → first b bs ≡ bare b bs
+pub first_bare : (how : Dialect) (b : ℕ) (bs : List ℕ) → (b ≡ 40 → ⊥) → (b ≡ 41 → ⊥) → (b ≡ 45 → ⊥) → (b ≡ 34 → ⊥) → first how b bs ≡ bare how b bs
 unfolding first
-first_bare b bs h i j k = rw (ne_eqb b 40 h, ne_eqb b 41 i, ne_eqb b 45 j, ne_eqb b 34 k) refl
+first_bare how b bs h i j k = rw (ne_eqb b 40 h, ne_eqb b 41 i, ne_eqb b 45 j, ne_eqb b 34 k) refl
 
-pub first_none : (b : ℕ) (bs : List ℕ) → first_with [] b bs ≡ first b bs
+pub first_none : (b : ℕ) (bs : List ℕ) → first_with plain b bs ≡ first plain b bs
 unfolding first_with
 first_none b bs = refl
 
-pub quoted_none : (bs : List ℕ) (n : ℕ) → n ≡ position_or_len is_quote bs → n ≡ length bs → quoted bs ≡ (broken, length bs)
+pub quoted_none : (how : Dialect) (bs : List ℕ) (n : ℕ) → n ≡ position_or_len is_quote bs → n ≡ length bs → quoted how bs ≡ (broken, length bs)
 unfolding quoted
-quoted_none bs n e h = rw (le-ltb (position_or_len is_quote bs) (length bs) (omega arith)) refl
+quoted_none how bs n e h = rw (le-ltb (position_or_len is_quote bs) (length bs) (omega arith)) refl
 
-pub quoted_some : (bs : List ℕ) (n : ℕ) → n ≡ position_or_len is_quote bs → n < length bs → quoted bs ≡ (quoted_lexeme (take n bs) (drop (n + 1) bs), n + 1 + tilde_len (drop (n + 1) bs))
+pub quoted_some : (how : Dialect) (bs : List ℕ) (n : ℕ) → n ≡ position_or_len is_quote bs → n < length bs
+    → quoted how bs ≡ (quoted_lexeme how (take n bs) (drop (n + 1) bs), n + 1 + tilde_len (drop (n + 1) bs))
 unfolding quoted
-quoted_some bs n e h = rw (← e) (rw (lt-ltb n (length bs) h) refl)
+quoted_some how bs n e h = rw (← e) (rw (lt-ltb n (length bs) h) refl)
 
-pub bare_is : (b : ℕ) (bs : List ℕ) (n : ℕ) → n ≡ position_or_len ends_run bs → bare b bs ≡ (run_lexeme (b ∷ take n bs), n)
+pub bare_is : (how : Dialect) (b : ℕ) (bs : List ℕ) (n : ℕ) → n ≡ position_or_len ends_run bs → bare how b bs ≡ (run_lexeme how (b ∷ take n bs), n)
 unfolding bare
-bare_is b bs n e = rw (← e) refl
+bare_is how b bs n e = rw (← e) refl
 
 pub blank_small : (b : ℕ) → is_blank b ≡ true → b < 128
 blank_small b k = elim (or_cases _ _ k) [ inl e ↦ (let i = eqb-true b 32 e in omega arith) | inr e ↦ (let i = eqb-true b 9 e in omega arith) ]
@@ -88,13 +90,13 @@ pub end_no_tilde : (bs : List ℕ) → is_run_end bs ≡ true → has_tilde bs �
 end_no_tilde [] h = refl
 end_no_tilde (b ∷ bs) h = ends_run_by (λ n. eqb n 126 ≡ false) b h refl refl refl refl refl
 
-pub quoted_text : (text bs : List ℕ) → has_tilde bs ≡ false → quoted_lexeme text bs ≡ text_lexeme text
+pub quoted_text : (how : Dialect) (text bs : List ℕ) → has_tilde bs ≡ false → quoted_lexeme how text bs ≡ text_lexeme how text
 unfolding quoted_lexeme
-quoted_text text bs h = rw h refl
+quoted_text how text bs h = rw h refl
 
-pub quoted_window : (text bs : List ℕ) → has_tilde bs ≡ true → quoted_lexeme text bs ≡ window_lexeme text (drop 1 bs)
+pub quoted_window : (how : Dialect) (text bs : List ℕ) → has_tilde bs ≡ true → quoted_lexeme how text bs ≡ window_lexeme how text (drop 1 bs)
 unfolding quoted_lexeme
-quoted_window text bs h = rw h refl
+quoted_window how text bs h = rw h refl
 
 pub no_tilde_len : (bs : List ℕ) → has_tilde bs ≡ false → tilde_len bs ≡ 0
 unfolding tilde_len
@@ -136,61 +138,61 @@ quote_boundary line at n u h e k =
     let s2 : get_or line (at + 1 + n) 0 < 128 = rw get_or-drop at s in
     IsCharBoundary-after_ascii line (at + 1 + n) u (omega (arith, length-drop (at + 1) line)) s2
 
-pub skip : (names : List (List ℕ)) (k c : ℕ) (bs : List ℕ) → lexemes names k c bs ≡ lexemes names 0 (c + k) (drop k bs)
+pub skip : (how : Dialect) (k c : ℕ) (bs : List ℕ) → lexemes how k c bs ≡ lexemes how 0 (c + k) (drop k bs)
 unfolding lexemes
-skip names zero c bs = let e : c ≡ c + 0 = omega arith in ap (λ (d : ℕ). lexemes names 0 d bs) e
-skip names (suc k) c [] = refl
-skip names (suc k) c (b ∷ bs) = let e : suc c + k ≡ c + suc k = omega arith in skip names k (suc c) bs ∙ ap (λ (d : ℕ). lexemes names 0 d (drop k bs)) e
+skip how zero c bs = let e : c ≡ c + 0 = omega arith in ap (λ (d : ℕ). lexemes how 0 d bs) e
+skip how (suc k) c [] = refl
+skip how (suc k) c (b ∷ bs) = let e : suc c + k ≡ c + suc k = omega arith in skip how k (suc c) bs ∙ ap (λ (d : ℕ). lexemes how 0 d (drop k bs)) e
 
-pub at_blank : (names : List (List ℕ)) (c b : ℕ) (bs : List ℕ) → is_blank b ≡ true → lexemes names 0 c (b ∷ bs) ≡ lexemes names 0 (suc c) bs
+pub at_blank : (how : Dialect) (c b : ℕ) (bs : List ℕ) → is_blank b ≡ true → lexemes how 0 c (b ∷ bs) ≡ lexemes how 0 (suc c) bs
 unfolding lexemes
-at_blank names c b bs e = rw e refl
+at_blank how c b bs e = rw e refl
 
-pub at_lexeme : (names : List (List ℕ)) (c b : ℕ) (bs : List ℕ) → is_blank b ≡ false
-    → lexemes names 0 c (b ∷ bs) ≡ record { column = c; lexeme = (first_with names b bs).0 } ∷ lexemes names (first_with names b bs).1 (suc c) bs
+pub at_lexeme : (how : Dialect) (c b : ℕ) (bs : List ℕ) → is_blank b ≡ false
+    → lexemes how 0 c (b ∷ bs) ≡ record { column = c; lexeme = (first_with how b bs).0 } ∷ lexemes how (first_with how b bs).1 (suc c) bs
 unfolding lexemes
-at_lexeme names c b bs e = rw e refl
+at_lexeme how c b bs e = rw e refl
 
 pub placed_at : (line : List ℕ) (at : ℕ) → at < length line → drop at line ≡ get_or line at 0 ∷ drop (at + 1) line
 placed_at line at h = let e : suc at ≡ at + 1 = omega arith in drop-cons line at 0 h ∙ ap (λ (k : ℕ). get_or line at 0 ∷ drop k line) e
 
-pub lexemes_blank : (names : List (List ℕ)) (line : List ℕ) (at : ℕ) → at < length line → is_blank (get_or line at 0) ≡ true
-    → lexemes names 0 (at + 1) (drop at line) ≡ lexemes names 0 (at + 1 + 1) (drop (at + 1) line)
-lexemes_blank names line at h b =
+pub lexemes_blank : (how : Dialect) (line : List ℕ) (at : ℕ) → at < length line → is_blank (get_or line at 0) ≡ true
+    → lexemes how 0 (at + 1) (drop at line) ≡ lexemes how 0 (at + 1 + 1) (drop (at + 1) line)
+lexemes_blank how line at h b =
     let e : suc (at + 1) ≡ at + 1 + 1 = omega arith in
-    ap (lexemes names 0 (at + 1)) (placed_at line at h) ∙ at_blank names (at + 1) (get_or line at 0) (drop (at + 1) line) b
-    ∙ ap (λ (c : ℕ). lexemes names 0 c (drop (at + 1) line)) e
+    ap (lexemes how 0 (at + 1)) (placed_at line at h) ∙ at_blank how (at + 1) (get_or line at 0) (drop (at + 1) line) b
+    ∙ ap (λ (c : ℕ). lexemes how 0 c (drop (at + 1) line)) e
 
-pub lexemes_next : (names : List (List ℕ)) (line : List ℕ) (at end : ℕ) → at < length line → is_blank (get_or line at 0) ≡ false
-    → end ≡ at + 1 + (first_with names (get_or line at 0) (drop (at + 1) line)).1
-    → lexemes names 0 (at + 1) (drop at line) ≡ record { column = at + 1; lexeme = (first_with names (get_or line at 0) (drop (at + 1) line)).0 } ∷ lexemes names 0 (end + 1) (drop end line)
-lexemes_next names line at end h b e =
+pub lexemes_next : (how : Dialect) (line : List ℕ) (at end : ℕ) → at < length line → is_blank (get_or line at 0) ≡ false
+    → end ≡ at + 1 + (first_with how (get_or line at 0) (drop (at + 1) line)).1
+    → lexemes how 0 (at + 1) (drop at line) ≡ record { column = at + 1; lexeme = (first_with how (get_or line at 0) (drop (at + 1) line)).0 } ∷ lexemes how 0 (end + 1) (drop end line)
+lexemes_next how line at end h b e =
     let b0 = get_or line at 0 in
     let bs = drop (at + 1) line in
-    let k = (first_with names b0 bs).1 in
+    let k = (first_with how b0 bs).1 in
     let f : suc (at + 1) + k ≡ end + 1 = omega (arith, e) in
-    ap (lexemes names 0 (at + 1)) (placed_at line at h) ∙ at_lexeme names (at + 1) b0 bs b
-    ∙ ap (λ (ps : List Placed). record { column = at + 1; lexeme = (first_with names b0 bs).0 } ∷ ps)
-    (skip names k (suc (at + 1)) bs ∙ ap (lexemes names 0 (suc (at + 1) + k)) (drop-drop k (at + 1) line ∙ ap (λ (d : ℕ). drop d line) (sym e))
-    ∙ ap (λ (c : ℕ). lexemes names 0 c (drop end line)) f)
+    ap (lexemes how 0 (at + 1)) (placed_at line at h) ∙ at_lexeme how (at + 1) b0 bs b
+    ∙ ap (λ (ps : List Placed). record { column = at + 1; lexeme = (first_with how b0 bs).0 } ∷ ps)
+    (skip how k (suc (at + 1)) bs ∙ ap (lexemes how 0 (suc (at + 1) + k)) (drop-drop k (at + 1) line ∙ ap (λ (d : ℕ). drop d line) (sym e))
+    ∙ ap (λ (c : ℕ). lexemes how 0 c (drop end line)) f)
 
-pub lexemes_end : (names : List (List ℕ)) (line : List ℕ) (at : ℕ) → length line ≤ at → lexemes names 0 (at + 1) (drop at line) ≡ []
+pub lexemes_end : (how : Dialect) (line : List ℕ) (at : ℕ) → length line ≤ at → lexemes how 0 (at + 1) (drop at line) ≡ []
 unfolding lexemes
-lexemes_end names line at h = ap (lexemes names 0 (at + 1)) (drop_all at line h)
+lexemes_end how line at h = ap (lexemes how 0 (at + 1)) (drop_all at line h)
 
 -- what a step of the reader says of the outcome
-pub stood : (names : List (List ℕ)) (line : List ℕ) (at end : ℕ) (l : Lexeme) (s t : State) → at < length line → is_blank (get_or line at 0) ≡ false
-    → l ≡ (first_with names (get_or line at 0) (drop (at + 1) line)).0 → end ≡ at + 1 + (first_with names (get_or line at 0) (drop (at + 1) line)).1
-    → step l s ≡ Some t → is_deep l s ≡ false → outcome line (lexemes names 0 (at + 1) (drop at line)) s ≡ outcome line (lexemes names 0 (end + 1) (drop end line)) t
-stood names line at end l s t h b i e p q = rw (lexemes_next names line at end h b e, ← i, p, q) refl
+pub stood : (how : Dialect) (line : List ℕ) (at end : ℕ) (l : Lexeme) (s t : State) → at < length line → is_blank (get_or line at 0) ≡ false
+    → l ≡ (first_with how (get_or line at 0) (drop (at + 1) line)).0 → end ≡ at + 1 + (first_with how (get_or line at 0) (drop (at + 1) line)).1
+    → step l s ≡ Some t → is_deep l s ≡ false → outcome line (lexemes how 0 (at + 1) (drop at line)) s ≡ outcome line (lexemes how 0 (end + 1) (drop end line)) t
+stood how line at end l s t h b i e p q = rw (lexemes_next how line at end h b e, ← i, p, q) refl
 
-pub misplaced : (names : List (List ℕ)) (line : List ℕ) (at : ℕ) (l : Lexeme) (s : State) → at < length line → is_blank (get_or line at 0) ≡ false
-    → l ≡ (first_with names (get_or line at 0) (drop (at + 1) line)).0 → step l s ≡ None → outcome line (lexemes names 0 (at + 1) (drop at line)) s ≡ bad_query (at + 1)
-misplaced names line at l s h b i p = rw (lexemes_next names line at _ h b refl, ← i, p) refl
+pub misplaced : (how : Dialect) (line : List ℕ) (at : ℕ) (l : Lexeme) (s : State) → at < length line → is_blank (get_or line at 0) ≡ false
+    → l ≡ (first_with how (get_or line at 0) (drop (at + 1) line)).0 → step l s ≡ None → outcome line (lexemes how 0 (at + 1) (drop at line)) s ≡ bad_query (at + 1)
+misplaced how line at l s h b i p = rw (lexemes_next how line at _ h b refl, ← i, p) refl
 
-pub deep : (names : List (List ℕ)) (line : List ℕ) (at : ℕ) (l : Lexeme) (s t : State) → at < length line → is_blank (get_or line at 0) ≡ false
-    → l ≡ (first_with names (get_or line at 0) (drop (at + 1) line)).0 → step l s ≡ Some t → is_deep l s ≡ true → outcome line (lexemes names 0 (at + 1) (drop at line)) s ≡ too_deep
-deep names line at l s t h b i p q = rw (lexemes_next names line at _ h b refl, ← i, p, q) refl
+pub deep : (how : Dialect) (line : List ℕ) (at : ℕ) (l : Lexeme) (s t : State) → at < length line → is_blank (get_or line at 0) ≡ false
+    → l ≡ (first_with how (get_or line at 0) (drop (at + 1) line)).0 → step l s ≡ Some t → is_deep l s ≡ true → outcome line (lexemes how 0 (at + 1) (drop at line)) s ≡ too_deep
+deep how line at l s t h b i p q = rw (lexemes_next how line at _ h b refl, ← i, p, q) refl
 
 -- what a range of the line reads
 pub rest_is : (line : List ℕ) (k : ℕ) → take (length line - k) (drop k line) ≡ drop k line
@@ -208,9 +210,9 @@ bare_part line part at n l h =
     let e : at + 1 + n - at ≡ suc n = omega arith in
     h ∙ ap (λ (k : ℕ). take k (drop at line)) e ∙ ap (take (suc n)) (placed_at line at l)
 
-pub at_end : (names : List (List ℕ)) (line : List ℕ) (at : ℕ) (s : State) (o : Option Tree) → length line ≤ at → finish s ≡ o → outcome line (lexemes names 0 (at + 1) (drop at line)) s ≡ ending line o
-at_end names line at s o h e = ap (λ (ps : List Placed). outcome line ps s) (lexemes_end names line at h) ∙ ap (ending line) e
+pub at_end : (how : Dialect) (line : List ℕ) (at : ℕ) (s : State) (o : Option Tree) → length line ≤ at → finish s ≡ o → outcome line (lexemes how 0 (at + 1) (drop at line)) s ≡ ending line o
+at_end how line at s o h e = ap (λ (ps : List Placed). outcome line ps s) (lexemes_end how line at h) ∙ ap (ending line) e
 
-pub nothing_left : (names : List (List ℕ)) (d : ℕ) → lexemes names 0 d [] ≡ []
+pub nothing_left : (how : Dialect) (d : ℕ) → lexemes how 0 d [] ≡ []
 unfolding lexemes
-nothing_left names d = refl
+nothing_left how d = refl

@@ -1,4 +1,5 @@
 -- Where the values of fields begin and end in a line.
+use Rattle.eb_fields.specs.Dialect.{Dialect}
 use Rattle.std.proofs.Common.{◌≡◌, ℕ, ◌+◌, ◌-◌, ◌<◌, ◌≤◌, nat_lt, Bool, true, false, true≢false, List, ◌∷◌, length, take, drop, get_or, Some, None, refl, sym}
 use Rattle.std.proofs.Common.{ap, ◌∙◌, arith, ne_eqb, lt-ltb, le-ltb, ltb-false, length-drop}
 use Rattle.std.proofs.lemmas.Bool.{ltb-true, eqb-true}
@@ -90,25 +91,25 @@ unfolding value_lexeme
 value_bare name bs h = rw h refl
 
 -- the field that the line names at a place
-module _ (names : List (List ℕ)) (line part : List ℕ) (at : ℕ) (w : at < length line) (r : part ≡ drop at line) where
-  begun_is : begun_name names part ≡ begun_name names (get_or line at 0 ∷ drop (at + 1) line)
-  begun_is = ap (begun_name names) (r ∙ placed_at line at w)
+module _ (how : Dialect) (line part : List ℕ) (at : ℕ) (w : at < length line) (r : part ≡ drop at line) where
+  begun_is : begun_name how.names part ≡ begun_name how.names (get_or line at 0 ∷ drop (at + 1) line)
+  begun_is = ap (begun_name how.names) (r ∙ placed_at line at w)
 
-  pub first_unnamed : None ≡ begun_name names part → first_with names (get_or line at 0) (drop (at + 1) line) ≡ first (get_or line at 0) (drop (at + 1) line)
+  pub first_unnamed : None ≡ begun_name how.names part → first_with how (get_or line at 0) (drop (at + 1) line) ≡ first how (get_or line at 0) (drop (at + 1) line)
   unfolding first_with
   first_unnamed e = rw (← begun_is, ← e) refl
 
-  pub first_named : (name : List ℕ) → Some name ≡ begun_name names part
-      → first_with names (get_or line at 0) (drop (at + 1) line)
+  pub first_named : (name : List ℕ) → Some name ≡ begun_name how.names part
+      → first_with how (get_or line at 0) (drop (at + 1) line)
       ≡ ((value_lexeme name (drop (at + length name + 1) line)).0, length name + (value_lexeme name (drop (at + length name + 1) line)).1)
   unfolding first_with
   first_named name e =
       let d : at + 1 + length name ≡ at + length name + 1 = omega arith in
       rw (← begun_is, ← e, drop-drop (length name) (at + 1) line, d) refl
 
-  pub named_within : (name : List ℕ) → Some name ≡ begun_name names part → (at + length name < length line) × (get_or line (at + length name) 0 < 128)
+  pub named_within : (name : List ℕ) → Some name ≡ begun_name how.names part → (at + length name < length line) × (get_or line (at + length name) 0 < 128)
   named_within name e =
-      let p = begun_colon names (drop at line) name (sym (ap (begun_name names) r) ∙ sym e) in
+      let p = begun_colon how.names (drop at line) name (sym (ap (begun_name how.names) r) ∙ sym e) in
       let l = p.0 in
       let b : get_or line (at + length name) 0 ≡ 58 = rw get_or-drop at p.1 in
       (omega (arith, length-drop at line), omega arith)

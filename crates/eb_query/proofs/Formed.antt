@@ -1,8 +1,9 @@
 -- What is read is formed well.
+use Rattle.eb_fields.specs.Dialect.{Dialect}
 use Rattle.std.proofs.Common.{◌≡◌, ℕ, zero, suc, ◌+◌, nat_lt, Bool, true, false, cond, List, [], ◌∷◌, ◌++◌, length, refl, sym, ap, ◌∙◌, arith, subst}
 use Rattle.std.proofs.lemmas.Bool.{ltb-true, and_parts}
 use Rattle.eb_base.specs.Query.{Tree, trees_of, and_of, or_of, size, IsFormed, AreFormed, IsWellFormed, leaf_of, window_of, most_size, most_reach, since}
-use Rattle.eb_text.specs.Tokens.{tokens_of}
+use Rattle.eb_text.specs.Pieces.{tokens_by}
 use Rattle.eb_query.specs.Digits.{is_no_digit, decimal_after}
 use Rattle.eb_fields.specs.Fields.{begun_name}
 use Rattle.eb_query.specs.Grammar.{Lexeme, opening, closing, minus, or_word, leaf, broken, IsUnary, a_leaf, a_minus, a_group, IsAnd, last, beside, IsOr, final, either, GivesTree}
@@ -89,9 +90,9 @@ leaf_sound [] = tt
 leaf_sound (t ∷ []) = tt
 leaf_sound (t ∷ u ∷ ts) = omega arith
 
-text_sound : (text : List ℕ) → IsSound (text_lexeme text)
+text_sound : (how : Dialect) (text : List ℕ) → IsSound (text_lexeme how text)
 unfolding text_lexeme
-text_sound text = leaf_sound (tokens_of text)
+text_sound how text = leaf_sound (tokens_by how.cut text)
 
 -- a window of a reach that a window may have
 window_sound : (ts : List (List ℕ)) (w : ℕ) → 1 ≤ w → w ≤ most_reach → IsSound (of_leaf (window_of ts w))
@@ -99,67 +100,67 @@ window_sound [] w low high = tt
 window_sound (t ∷ []) w low high = tt
 window_sound (t ∷ u ∷ ts) w low high = (omega arith, low, high)
 
-reach_sound : (text : List ℕ) (n : ℕ) (bs : List ℕ) → IsSound (of_leaf (option_and_then (window_of (tokens_of text)) (reach_by n bs)))
-reach_sound text n bs = go (is_reach n bs) refl
+reach_sound : (how : Dialect) (text : List ℕ) (n : ℕ) (bs : List ℕ) → IsSound (of_leaf (option_and_then (window_of (tokens_by how.cut text)) (reach_by n bs)))
+reach_sound how text n bs = go (is_reach n bs) refl
   where
-    go : (b : Bool) → is_reach n bs ≡ b → IsSound (of_leaf (option_and_then (window_of (tokens_of text)) (cond b (Some (decimal_after 0 (take n bs))) None)))
+    go : (b : Bool) → is_reach n bs ≡ b → IsSound (of_leaf (option_and_then (window_of (tokens_by how.cut text)) (cond b (Some (decimal_after 0 (take n bs))) None)))
     go false e = tt
     go true e =
         let values = (and_parts _ _ (and_parts _ _ e).1).0 in
         let within = and_parts _ _ values in
-        window_sound (tokens_of text) (decimal_after 0 (take n bs)) (leb-true _ _ within.0) (leb-true _ _ within.1)
+        window_sound (tokens_by how.cut text) (decimal_after 0 (take n bs)) (leb-true _ _ within.0) (leb-true _ _ within.1)
 
-behind_sound : (text bs : List ℕ) → IsSound (window_lexeme text bs)
+behind_sound : (how : Dialect) (text bs : List ℕ) → IsSound (window_lexeme how text bs)
 unfolding window_lexeme reach_of
-behind_sound text bs = reach_sound text (position_or_len is_no_digit bs) bs
+behind_sound how text bs = reach_sound how text (position_or_len is_no_digit bs) bs
 
-closed_sound : (text bs : List ℕ) → IsSound (quoted_lexeme text bs)
+closed_sound : (how : Dialect) (text bs : List ℕ) → IsSound (quoted_lexeme how text bs)
 unfolding quoted_lexeme
-closed_sound text bs = go (has_tilde bs)
+closed_sound how text bs = go (has_tilde bs)
   where
-    go : (b : Bool) → IsSound (cond b (window_lexeme text (drop 1 bs)) (text_lexeme text))
-    go true = behind_sound text (drop 1 bs)
-    go false = text_sound text
+    go : (b : Bool) → IsSound (cond b (window_lexeme how text (drop 1 bs)) (text_lexeme how text))
+    go true = behind_sound how text (drop 1 bs)
+    go false = text_sound how text
 
 bound_sound : (id : Option ℕ) → IsSound (of_leaf (option_map since id))
 bound_sound None = tt
 bound_sound (Some x) = tt
 
-run_sound : (run : List ℕ) → IsSound (run_lexeme run)
+run_sound : (how : Dialect) (run : List ℕ) → IsSound (run_lexeme how run)
 unfolding run_lexeme
-run_sound run = go (bytes_eq run (codes "OR")) (starts_with eqb run (codes "since:"))
+run_sound how run = go (bytes_eq run (codes "OR")) (starts_with eqb run (codes "since:"))
   where
-    go : (a b : Bool) → IsSound (cond a or_word (cond b (of_leaf (option_map since (id_of (drop 6 run)))) (text_lexeme run)))
+    go : (a b : Bool) → IsSound (cond a or_word (cond b (of_leaf (option_map since (id_of (drop 6 run)))) (text_lexeme how run)))
     go true b = tt
     go false true = bound_sound (id_of (drop 6 run))
-    go false false = text_sound run
+    go false false = text_sound how run
 
-quoted_sound : (bs : List ℕ) → IsSound (quoted bs).0
+quoted_sound : (how : Dialect) (bs : List ℕ) → IsSound (quoted how bs).0
 unfolding quoted
-quoted_sound bs =
+quoted_sound how bs =
     let n = position_or_len is_quote bs in
     let text = take n bs in
     let behind = drop (n + 1) bs in
-    go (quoted_lexeme text behind) (n + 1 + tilde_len behind) (closed_sound text behind) (nat_lt n (length bs))
+    go (quoted_lexeme how text behind) (n + 1 + tilde_len behind) (closed_sound how text behind) (nat_lt n (length bs))
   where
     go : (l : Lexeme) (len : ℕ) → IsSound l → (b : Bool) → IsSound (cond {A = Lexeme × ℕ} b (l, len) (broken, length bs)).0
     go l len h true = h
     go l len h false = tt
 
-bare_sound : (b : ℕ) (bs : List ℕ) → IsSound (bare b bs).0
+bare_sound : (how : Dialect) (b : ℕ) (bs : List ℕ) → IsSound (bare how b bs).0
 unfolding bare
-bare_sound b bs = run_sound (b ∷ take (position_or_len ends_run bs) bs)
+bare_sound how b bs = run_sound how (b ∷ take (position_or_len ends_run bs) bs)
 
-first_sound : (b : ℕ) (bs : List ℕ) → IsSound (first b bs).0
+first_sound : (how : Dialect) (b : ℕ) (bs : List ℕ) → IsSound (first how b bs).0
 unfolding first
-first_sound b bs = go (eqb b 40) (eqb b 41) (eqb b 45) (eqb b 34)
+first_sound how b bs = go (eqb b 40) (eqb b 41) (eqb b 45) (eqb b 34)
   where
-    go : (i j k l : Bool) → IsSound (cond {A = Lexeme × ℕ} i (opening, 0) (cond j (closing, 0) (cond k (minus, 0) (cond l (quoted bs) (bare b bs))))).0
+    go : (i j k l : Bool) → IsSound (cond {A = Lexeme × ℕ} i (opening, 0) (cond j (closing, 0) (cond k (minus, 0) (cond l (quoted how bs) (bare how b bs))))).0
     go true j k l = tt
     go false true k l = tt
     go false false true l = tt
-    go false false false true = quoted_sound bs
-    go false false false false = bare_sound b bs
+    go false false false true = quoted_sound how bs
+    go false false false false = bare_sound how b bs
 
 either_sound : (l m : Lexeme × ℕ) → IsSound l.0 → IsSound m.0 → (b : Bool) → IsSound (cond {A = Lexeme × ℕ} b l m).0
 either_sound l m h k true = h
@@ -177,28 +178,28 @@ value_sound : (name bs : List ℕ) → IsSound (value_lexeme name bs).0
 unfolding value_lexeme
 value_sound name bs = either_sound _ _ (quoted_value_sound name (drop 1 bs)) (bare_value_sound name bs) (has_quote bs)
 
-named_sound : (name : Option (List ℕ)) (b : ℕ) (bs : List ℕ) → IsSound (named_lexeme name b bs).0
-named_sound None b bs = first_sound b bs
-named_sound (Some name) b bs = value_sound name (drop (length name) bs)
+named_sound : (how : Dialect) (name : Option (List ℕ)) (b : ℕ) (bs : List ℕ) → IsSound (named_lexeme how name b bs).0
+named_sound how None b bs = first_sound how b bs
+named_sound how (Some name) b bs = value_sound name (drop (length name) bs)
 
-first_with_sound : (names : List (List ℕ)) (b : ℕ) (bs : List ℕ) → IsSound (first_with names b bs).0
+first_with_sound : (how : Dialect) (b : ℕ) (bs : List ℕ) → IsSound (first_with how b bs).0
 unfolding first_with
-first_with_sound names b bs = named_sound (begun_name names (b ∷ bs)) b bs
+first_with_sound how b bs = named_sound how (begun_name how.names (b ∷ bs)) b bs
 
-lexemes_sound : (names : List (List ℕ)) (k c : ℕ) (bs : List ℕ) → ArePlacedSound (lexemes names k c bs)
+lexemes_sound : (how : Dialect) (k c : ℕ) (bs : List ℕ) → ArePlacedSound (lexemes how k c bs)
 unfolding lexemes
-lexemes_sound names k c [] = tt
-lexemes_sound names (suc k) c (b ∷ bs) = lexemes_sound names k (suc c) bs
-lexemes_sound names zero c (b ∷ bs) = go (is_blank b) (lexemes_sound names zero (suc c) bs) (lexemes_sound names (first_with names b bs).1 (suc c) bs)
+lexemes_sound how k c [] = tt
+lexemes_sound how (suc k) c (b ∷ bs) = lexemes_sound how k (suc c) bs
+lexemes_sound how zero c (b ∷ bs) = go (is_blank b) (lexemes_sound how zero (suc c) bs) (lexemes_sound how (first_with how b bs).1 (suc c) bs)
   where
-    go : (x : Bool) → ArePlacedSound (lexemes names zero (suc c) bs) → ArePlacedSound (lexemes names (first_with names b bs).1 (suc c) bs)
-        → ArePlacedSound (cond x (lexemes names zero (suc c) bs) (record { column = c; lexeme = (first_with names b bs).0 } ∷ lexemes names (first_with names b bs).1 (suc c) bs))
+    go : (x : Bool) → ArePlacedSound (lexemes how zero (suc c) bs) → ArePlacedSound (lexemes how (first_with how b bs).1 (suc c) bs)
+        → ArePlacedSound (cond x (lexemes how zero (suc c) bs) (record { column = c; lexeme = (first_with how b bs).0 } ∷ lexemes how (first_with how b bs).1 (suc c) bs))
     go true h i = h
-    go false h i = (first_with_sound names b bs, i)
+    go false h i = (first_with_sound how b bs, i)
 
 -- what the reader gives is formed well
-pub given_formed : (names : List (List ℕ)) (line : List ℕ) (c : ℕ) (bs : List ℕ) (t : Tree) → outcome line (lexemes names 0 c bs) start ≡ asks (number_in_line line) t → IsWellFormed t
-given_formed names line c bs t e = outcome_formed (found line [] (lexemes names 0 c bs) start refl) t e tt (lexemes_sound names 0 c bs)
+pub given_formed : (how : Dialect) (line : List ℕ) (c : ℕ) (bs : List ℕ) (t : Tree) → outcome line (lexemes how 0 c bs) start ≡ asks (number_in_line line) t → IsWellFormed t
+given_formed how line c bs t e = outcome_formed (found line [] (lexemes how 0 c bs) start refl) t e tt (lexemes_sound how 0 c bs)
 
 pub sized_fits : (line : List ℕ) (t : Tree) → IsWellFormed t → sized line t ≡ asks (number_in_line line) t
 sized_fits line t w = go (nat_lt most_size (size t)) refl
@@ -207,10 +208,10 @@ sized_fits line t w = go (nat_lt most_size (size t)) refl
     go true h = let k = ltb-true _ _ h in let l = w.within in absurd (omega arith)
     go false h = refl
 
-pub sized_large : (names : List (List ℕ)) (line : List ℕ) (c : ℕ) (bs : List ℕ) (t : Tree) → outcome line (lexemes names 0 c bs) start ≡ sized line t
-    → (IsWellFormed t → ⊥) → outcome line (lexemes names 0 c bs) start ≡ too_many_nodes
-sized_large names line c bs t e n = go (nat_lt most_size (size t)) refl
+pub sized_large : (how : Dialect) (line : List ℕ) (c : ℕ) (bs : List ℕ) (t : Tree) → outcome line (lexemes how 0 c bs) start ≡ sized line t
+    → (IsWellFormed t → ⊥) → outcome line (lexemes how 0 c bs) start ≡ too_many_nodes
+sized_large how line c bs t e n = go (nat_lt most_size (size t)) refl
   where
-    go : (b : Bool) → nat_lt most_size (size t) ≡ b → outcome line (lexemes names 0 c bs) start ≡ too_many_nodes
+    go : (b : Bool) → nat_lt most_size (size t) ≡ b → outcome line (lexemes how 0 c bs) start ≡ too_many_nodes
     go true h = e ∙ ap (λ (b : Bool). cond b too_many_nodes (asks (number_in_line line) t)) h
-    go false h = absurd (n (given_formed names line c bs t (e ∙ ap (λ (b : Bool). cond b too_many_nodes (asks (number_in_line line) t)) h)))
+    go false h = absurd (n (given_formed how line c bs t (e ∙ ap (λ (b : Bool). cond b too_many_nodes (asks (number_in_line line) t)) h)))

@@ -1,4 +1,5 @@
 -- Where window texts end, and what window texts and bounds write.
+use Rattle.eb_fields.specs.Dialect.{Dialect}
 use Rattle.std.proofs.Common.{◌≡◌, ℕ, zero, suc, ◌+◌, ◌-◌, ◌<◌, ◌≤◌, ◌^◌, nat_lt, nat_le, not, Bool, true, false, true≢false, List, length, take, drop}
 use Rattle.std.proofs.Common.{get_or, Option, Some, None, cond, option_and_then, Result, Ok, Err, refl, sym, ap, ◌∙◌, arith, subst, le-leb, ltb-false, eq-eqb, leb-true, length-drop}
 use Rattle.std.proofs.lemmas.Bool.{ltb-true, eqb-true}
@@ -11,7 +12,7 @@ use Rattle.std.specs.Result.{OkIff, result_ok}
 use Rattle.std.specs.Str.{IsUtf8, IsCharBoundary}
 use Rattle.std.specs.Str.Parse.{ParsesUnsigned}
 use Rattle.eb_base.specs.Query.{window_of}
-use Rattle.eb_text.specs.Tokens.{tokens_of}
+use Rattle.eb_text.specs.Pieces.{tokens_by}
 use Rattle.eb_query.specs.Digits.{is_no_digit, decimal_after}
 use Rattle.eb_query.specs.Grammar.{Lexeme}
 use Rattle.eb_query.specs.Lexemes.{is_quote, of_leaf, reach_by, reach_of, window_lexeme, has_tilde, quoted_lexeme, tilde_len, quoted, most_id, id_of}
@@ -26,13 +27,13 @@ pub bytes_rest : (bytes line : List ℕ) (from : ℕ) → bytes ≡ line → tak
 bytes_rest bytes line from e = ap (λ (xs : List ℕ). take (length xs - from) (drop from xs)) e ∙ rest_is line from
 
 -- the window text whose digits begin at a place
-pub window_is : (text bytes line : List ℕ) (from n : ℕ) (r : Option ℕ) → bytes ≡ line → n ≡ position_or_len is_no_digit (take (length bytes - from) (drop from bytes))
-    → r ≡ reach_by n (take (length bytes - from) (drop from bytes)) → of_leaf (option_and_then (window_of (tokens_of text)) r) ≡ window_lexeme text (drop from line)
+pub window_is : (how : Dialect) (text bytes line : List ℕ) (from n : ℕ) (r : Option ℕ) → bytes ≡ line → n ≡ position_or_len is_no_digit (take (length bytes - from) (drop from bytes))
+    → r ≡ reach_by n (take (length bytes - from) (drop from bytes)) → of_leaf (option_and_then (window_of (tokens_by how.cut text)) r) ≡ window_lexeme how text (drop from line)
 unfolding window_lexeme reach_of
-window_is text bytes line from n r e digits reach =
+window_is how text bytes line from n r e digits reach =
     let whole = bytes_rest bytes line from e in
     let count : n ≡ position_or_len is_no_digit (drop from line) = digits ∙ ap (position_or_len is_no_digit) whole in
-    ap (λ (o : Option ℕ). of_leaf (option_and_then (window_of (tokens_of text)) o)) (reach ∙ ap (reach_by n) whole ∙ ap (λ (k : ℕ). reach_by k (drop from line)) count)
+    ap (λ (o : Option ℕ). of_leaf (option_and_then (window_of (tokens_by how.cut text)) o)) (reach ∙ ap (reach_by n) whole ∙ ap (λ (k : ℕ). reach_by k (drop from line)) count)
 
 -- after digits
 pub digits_boundary : (line : List ℕ) (from n : ℕ) → IsUtf8 line → IsCharBoundary line from → from ≤ length line → n ≡ position_or_len is_no_digit (drop from line) → IsCharBoundary line (from + n)
@@ -59,8 +60,8 @@ tilde_at line k w h = go (nat_lt k (length line)) refl
 pub tilde_boundary : (line : List ℕ) (k : ℕ) → IsUtf8 line → k ≤ length line → has_tilde (drop k line) ≡ true → IsCharBoundary line (k + 1)
 tilde_boundary line k u w h = let t = tilde_at line k w h in IsCharBoundary-after_ascii line k u t.0 t.1
 
-pub closed_window : (text line : List ℕ) (k : ℕ) → has_tilde (drop k line) ≡ true → quoted_lexeme text (drop k line) ≡ window_lexeme text (drop (k + 1) line)
-closed_window text line k h = quoted_window text (drop k line) h ∙ ap (window_lexeme text) (drop-drop 1 k line)
+pub closed_window : (how : Dialect) (text line : List ℕ) (k : ℕ) → has_tilde (drop k line) ≡ true → quoted_lexeme how text (drop k line) ≡ window_lexeme how text (drop (k + 1) line)
+closed_window how text line k h = quoted_window how text (drop k line) h ∙ ap (window_lexeme how text) (drop-drop 1 k line)
 
 pub closed_end : (line : List ℕ) (k : ℕ) → has_tilde (drop k line) ≡ true → k + tilde_len (drop k line) ≡ k + 1 + position_or_len is_no_digit (drop (k + 1) line)
 closed_end line k h =
@@ -69,17 +70,18 @@ closed_end line k h =
     omega (arith, e)
 
 -- the quoted text after a first quotation mark at a place
-pub quoted_is : (line part : List ℕ) (at n : ℕ) → n ≡ position_or_len is_quote (drop (at + 1) line) → n < length (drop (at + 1) line) → part ≡ take (at + 1 + n - (at + 1)) (drop (at + 1) line)
-    → quoted (drop (at + 1) line) ≡ (quoted_lexeme part (drop (at + 1 + n + 1) line), n + 1 + tilde_len (drop (at + 1 + n + 1) line))
-quoted_is line part at n e less is =
+pub quoted_is : (how : Dialect) (line part : List ℕ) (at n : ℕ) → n ≡ position_or_len is_quote (drop (at + 1) line) → n < length (drop (at + 1) line)
+    → part ≡ take (at + 1 + n - (at + 1)) (drop (at + 1) line)
+    → quoted how (drop (at + 1) line) ≡ (quoted_lexeme how part (drop (at + 1 + n + 1) line), n + 1 + tilde_len (drop (at + 1 + n + 1) line))
+quoted_is how line part at n e less is =
     let bs = drop (at + 1) line in
     let k : at + 1 + (n + 1) ≡ at + 1 + n + 1 = omega arith in
-    quoted_some bs n e less ∙ ap (λ (xs : List ℕ). (quoted_lexeme xs (drop (n + 1) bs), n + 1 + tilde_len (drop (n + 1) bs))) (sym (quoted_part line part at n is))
-    ∙ ap (λ (xs : List ℕ). (quoted_lexeme part xs, n + 1 + tilde_len xs)) (drop-drop (n + 1) (at + 1) line ∙ ap (λ (j : ℕ). drop j line) k)
+    quoted_some how bs n e less ∙ ap (λ (xs : List ℕ). (quoted_lexeme how xs (drop (n + 1) bs), n + 1 + tilde_len (drop (n + 1) bs))) (sym (quoted_part line part at n is))
+    ∙ ap (λ (xs : List ℕ). (quoted_lexeme how part xs, n + 1 + tilde_len xs)) (drop-drop (n + 1) (at + 1) line ∙ ap (λ (j : ℕ). drop j line) k)
 
-pub quoted_end : (line : List ℕ) (at n : ℕ) (l : Lexeme) → quoted (drop (at + 1) line) ≡ (l, n + 1 + tilde_len (drop (at + 1 + n + 1) line))
-    → at + 1 + (quoted (drop (at + 1) line)).1 ≡ at + 1 + n + 1 + tilde_len (drop (at + 1 + n + 1) line)
-quoted_end line at n l e = let k = ap (λ (p : Lexeme × ℕ). p.1) e in omega (arith, k)
+pub quoted_end : (how : Dialect) (line : List ℕ) (at n : ℕ) (l : Lexeme) → quoted how (drop (at + 1) line) ≡ (l, n + 1 + tilde_len (drop (at + 1 + n + 1) line))
+    → at + 1 + (quoted how (drop (at + 1) line)).1 ≡ at + 1 + n + 1 + tilde_len (drop (at + 1 + n + 1) line)
+quoted_end how line at n l e = let k = ap (λ (p : Lexeme × ℕ). p.1) e in omega (arith, k)
 
 -- what `parse` gives of one to twenty digits
 pub parsed : {E : Type 0} (ds : List ℕ) (r : Result ℕ E) → 1 ≤ length ds → length ds ≤ 20 → length ds ≤ position_or_len is_no_digit ds → ParsesUnsigned 64 10 ds r → result_ok r ≡ id_of ds

@@ -1,4 +1,5 @@
 -- A line has one reading.
+use Rattle.eb_fields.specs.Dialect.{Dialect}
 use Rattle.std.proofs.Common.{◌≡◌, ℕ, ◌+◌, length, ◌<◌, ◌≤◌, ◌⊎◌, inl, inr, List, [], ◌∷◌, ◌++◌, refl, sym, ap, ◌∙◌, arith}
 use Rattle.eb_base.specs.Query.{Tree, size, most_size}
 use Rattle.eb_query.specs.Grammar.{Lexeme, GivesTree, Continues}
@@ -68,45 +69,45 @@ same line (p ∷ ps) before a b h k = go (λ i j. same line ps (before ++ p.lexe
     go m (inr x) (inr y) = deep x.1 y.1 m
 
 -- what the rules say of the whole line
-Read : List (List ℕ) → List ℕ → Outcome → Type 0
-Read names line o = ((o ≡ bad_number) × (HasQueryNumber line → ⊥)) ⊎ (HasQueryNumber line × IsOutcome line [] (lexemes_of_line names line) o)
+Read : Dialect → List ℕ → Outcome → Type 0
+Read how line o = ((o ≡ bad_number) × (HasQueryNumber line → ⊥)) ⊎ (HasQueryNumber line × IsOutcome line [] (lexemes_of_line how line) o)
 
-read_as : {names : List (List ℕ)} {line : List ℕ} {o : Outcome} → ReadsWith names line o → Read names line o
+read_as : {how : Dialect} {line : List ℕ} {o : Outcome} → ReadsWith how line o → Read how line o
 unfolding Read
 read_as (without_number n) = inl (refl, n)
 read_as (with_number h r) = inr (h, r)
 
-one_read : (names : List (List ℕ)) (line : List ℕ) (a b : Outcome) → Read names line a → Read names line b → a ≡ b
+one_read : (how : Dialect) (line : List ℕ) (a b : Outcome) → Read how line a → Read how line b → a ≡ b
 unfolding Read
-one_read names line a b (inl x) (inl y) = x.0 ∙ sym y.0
-one_read names line a b (inl x) (inr y) = absurd (x.1 y.0)
-one_read names line a b (inr x) (inl y) = absurd (y.1 x.0)
-one_read names line a b (inr x) (inr y) = same line (lexemes_of_line names line) [] a b x.1 y.1
+one_read how line a b (inl x) (inl y) = x.0 ∙ sym y.0
+one_read how line a b (inl x) (inr y) = absurd (x.1 y.0)
+one_read how line a b (inr x) (inl y) = absurd (y.1 x.0)
+one_read how line a b (inr x) (inr y) = same line (lexemes_of_line how line) [] a b x.1 y.1
 
-pub one_outcome : (names : List (List ℕ)) (line : List ℕ) (a b : Outcome) → ReadsWith names line a → ReadsWith names line b → a ≡ b
-one_outcome names line a b h k = one_read names line a b (read_as h) (read_as k)
+pub one_outcome : (how : Dialect) (line : List ℕ) (a b : Outcome) → ReadsWith how line a → ReadsWith how line b → a ≡ b
+one_outcome how line a b h k = one_read how line a b (read_as h) (read_as k)
 
 -- what the rules say of a watch line
-WatchRead : List (List ℕ) → List ℕ → WatchOutcome → Type 0
-WatchRead names line o = ((o ≡ reads bad_number) × (HasWatchNumber line → ⊥))
-    ⊎ (HasWatchNumber line × (((lexemes_of_line names line ≡ []) × (o ≡ removes (number_in_line line)))
-    ⊎ ((q : Outcome) × (lexemes_of_line names line ≡ [] → ⊥) × IsOutcome line [] (lexemes_of_line names line) q × (o ≡ reads q))))
+WatchRead : Dialect → List ℕ → WatchOutcome → Type 0
+WatchRead how line o = ((o ≡ reads bad_number) × (HasWatchNumber line → ⊥))
+    ⊎ (HasWatchNumber line × (((lexemes_of_line how line ≡ []) × (o ≡ removes (number_in_line line)))
+    ⊎ ((q : Outcome) × (lexemes_of_line how line ≡ [] → ⊥) × IsOutcome line [] (lexemes_of_line how line) q × (o ≡ reads q))))
 
-watch_read_as : {names : List (List ℕ)} {line : List ℕ} {o : WatchOutcome} → ReadsWatchWith names line o → WatchRead names line o
+watch_read_as : {how : Dialect} {line : List ℕ} {o : WatchOutcome} → ReadsWatchWith how line o → WatchRead how line o
 unfolding WatchRead
 watch_read_as (watch.without_number n) = inl (refl, n)
 watch_read_as (alone h e) = inr (h, inl (e, refl))
 watch_read_as (with_text {o} h n r) = inr (h, inr (o, n, r, refl))
 
-one_watch_read : (names : List (List ℕ)) (line : List ℕ) (a b : WatchOutcome) → WatchRead names line a → WatchRead names line b → a ≡ b
+one_watch_read : (how : Dialect) (line : List ℕ) (a b : WatchOutcome) → WatchRead how line a → WatchRead how line b → a ≡ b
 unfolding WatchRead
-one_watch_read names line a b (inl x) (inl y) = x.0 ∙ sym y.0
-one_watch_read names line a b (inl x) (inr y) = absurd (x.1 y.0)
-one_watch_read names line a b (inr x) (inl y) = absurd (y.1 x.0)
-one_watch_read names line a b (inr (h, inl x)) (inr (k, inl y)) = x.1 ∙ sym y.1
-one_watch_read names line a b (inr (h, inl x)) (inr (k, inr y)) = absurd (y.1 x.0)
-one_watch_read names line a b (inr (h, inr x)) (inr (k, inl y)) = absurd (x.1 y.0)
-one_watch_read names line a b (inr (h, inr x)) (inr (k, inr y)) = x.3 ∙ ap reads (same line (lexemes_of_line names line) [] x.0 y.0 x.2 y.2) ∙ sym y.3
+one_watch_read how line a b (inl x) (inl y) = x.0 ∙ sym y.0
+one_watch_read how line a b (inl x) (inr y) = absurd (x.1 y.0)
+one_watch_read how line a b (inr x) (inl y) = absurd (y.1 x.0)
+one_watch_read how line a b (inr (h, inl x)) (inr (k, inl y)) = x.1 ∙ sym y.1
+one_watch_read how line a b (inr (h, inl x)) (inr (k, inr y)) = absurd (y.1 x.0)
+one_watch_read how line a b (inr (h, inr x)) (inr (k, inl y)) = absurd (x.1 y.0)
+one_watch_read how line a b (inr (h, inr x)) (inr (k, inr y)) = x.3 ∙ ap reads (same line (lexemes_of_line how line) [] x.0 y.0 x.2 y.2) ∙ sym y.3
 
-pub one_watch_outcome : (names : List (List ℕ)) (line : List ℕ) (a b : WatchOutcome) → ReadsWatchWith names line a → ReadsWatchWith names line b → a ≡ b
-one_watch_outcome names line a b h k = one_watch_read names line a b (watch_read_as h) (watch_read_as k)
+pub one_watch_outcome : (how : Dialect) (line : List ℕ) (a b : WatchOutcome) → ReadsWatchWith how line a → ReadsWatchWith how line b → a ≡ b
+one_watch_outcome how line a b h k = one_watch_read how line a b (watch_read_as h) (watch_read_as k)

@@ -1,4 +1,5 @@
 -- The line of a number and a query reads back.
+use Rattle.eb_fields.specs.Dialect.{plain}
 use Rattle.std.proofs.Common.{◌≡◌, ℕ, suc, ◌+◌, ◌≤◌, List, [], ◌∷◌, ◌++◌, length, take, drop, refl, sym, ap, ◌∙◌, arith, subst, decimal}
 use Rattle.eb_base.specs.Query.{Tree, IsWellFormed}
 use Rattle.eb_query.specs.Grammar.{Lexeme, GivesTree}
@@ -37,11 +38,11 @@ module _ (k : ℕ) (ds text : List ℕ) (d : IsDecimal 4 k ds) where
         positive = omega arith;
       }
 
-  line_lexemes : (c : ℕ) × (lexemes_of_line [] (63 ∷ ds ++ 32 ∷ text) ≡ lexemes [] 0 c text)
+  line_lexemes : (c : ℕ) × (lexemes_of_line plain (63 ∷ ds ++ 32 ∷ text) ≡ lexemes plain 0 c text)
   unfolding lexemes_of_line
   line_lexemes =
       let c = 2 + digits_len (63 ∷ ds ++ 32 ∷ text) in
-      (suc c, ap (lexemes [] 0 c) line_rest ∙ at_blank [] c 32 text refl)
+      (suc c, ap (lexemes plain 0 c) line_rest ∙ at_blank plain c 32 text refl)
 
 pub read_back : (k : ℕ) (t : Tree) → 1 ≤ k → k ≤ most_matches → IsWellFormed t → AreNamed t → NestsWithin (kinds_of_line (line_text k t)) → ReadsAs (line_text k t) (asks k t)
 read_back k t low high w named nests =
@@ -50,6 +51,6 @@ read_back k t low high w named nests =
     let line = line_text k t in
     let d = decimal_is 4 k (omega arith) (omega arith) (omega arith) in
     let l = line_lexemes k ds text d in
-    let e : kinds (lexemes_of_line [] line) ≡ query_lexemes t = ap kinds l.1 ∙ written_lexemes t l.0 w.formed named in
-    let r = reads line t w.within [] (lexemes_of_line [] line) (subst (λ (ks : List Lexeme). GivesTree ks t) (sym e) (query_derives t w.formed)) nests in
-    with_number (line_has k ds text d low high) (subst (λ (n : ℕ). IsOutcome line [] (lexemes_of_line [] line) (asks n t)) (line_number k ds text d) r)
+    let e : kinds (lexemes_of_line plain line) ≡ query_lexemes t = ap kinds l.1 ∙ written_lexemes t l.0 w.formed named in
+    let r = reads line t w.within [] (lexemes_of_line plain line) (subst (λ (ks : List Lexeme). GivesTree ks t) (sym e) (query_derives t w.formed)) nests in
+    with_number (line_has k ds text d low high) (subst (λ (n : ℕ). IsOutcome line [] (lexemes_of_line plain line) (asks n t)) (line_number k ds text d) r)

@@ -1,4 +1,5 @@
 -- Each line has a reading.
+use Rattle.eb_fields.specs.Dialect.{Dialect}
 use Rattle.std.proofs.Common.{◌≡◌, ℕ, ◌+◌, nat_lt, Bool, true, false, true≢false, ◌⊎◌, inl, inr, List, [], ◌∷◌, drop, refl, sym, ◌∙◌, arith, ltb-false}
 use Rattle.std.proofs.lemmas.Bool.{ltb-true}
 use Rattle.eb_base.specs.Match.{most_matches}
@@ -30,19 +31,19 @@ has_number line = go (has_number_up_to 4 most_matches line) (nat_lt 0 (number_in
     go (inl u) true e = inl (record { up_to = u; positive = ltb-true _ _ e })
     go (inl u) false e = inr (λ h. let i = ltb-false _ _ e in let j = h.positive in omega arith)
 
-pub some_outcome : (names : List (List ℕ)) (line : List ℕ) → (o : Outcome) × ReadsWith names line o
-some_outcome names line =
+pub some_outcome : (how : Dialect) (line : List ℕ) → (o : Outcome) × ReadsWith how line o
+some_outcome how line =
     elim (has_number line) [
-      | inl h ↦ (outcome line (lexemes_of_line names line) start, with_number h (found line [] (lexemes_of_line names line) start refl))
+      | inl h ↦ (outcome line (lexemes_of_line how line) start, with_number h (found line [] (lexemes_of_line how line) start refl))
       | inr n ↦ (bad_number, without_number n)
     ]
 
-pub some_watch_outcome : (names : List (List ℕ)) (line : List ℕ) → (o : WatchOutcome) × ReadsWatchWith names line o
-some_watch_outcome names line = go (has_number_up_to 10 4294967295 line) (lexemes_of_line names line) refl
+pub some_watch_outcome : (how : Dialect) (line : List ℕ) → (o : WatchOutcome) × ReadsWatchWith how line o
+some_watch_outcome how line = go (has_number_up_to 10 4294967295 line) (lexemes_of_line how line) refl
   where
-    go : HasWatchNumber line ⊎ (HasWatchNumber line → ⊥) → (ps : List Placed) → lexemes_of_line names line ≡ ps → (o : WatchOutcome) × ReadsWatchWith names line o
+    go : HasWatchNumber line ⊎ (HasWatchNumber line → ⊥) → (ps : List Placed) → lexemes_of_line how line ≡ ps → (o : WatchOutcome) × ReadsWatchWith how line o
     go (inr n) ps e = (reads bad_number, watch.without_number n)
     go (inl h) [] e = (removes (number_in_line line), alone h e)
     go (inl h) (p ∷ ps) e =
-        let some : lexemes_of_line names line ≡ [] → ⊥ = λ none. cc in
-        (reads (outcome line (lexemes_of_line names line) start), with_text h some (found line [] (lexemes_of_line names line) start refl))
+        let some : lexemes_of_line how line ≡ [] → ⊥ = λ none. cc in
+        (reads (outcome line (lexemes_of_line how line) start), with_text h some (found line [] (lexemes_of_line how line) start refl))

@@ -1,4 +1,5 @@
 -- What is written reads back: the lexemes of the text, and the grammar over them.
+use Rattle.eb_fields.specs.Dialect.{plain}
 use Rattle.std.proofs.Common.{◌≡◌, ℕ, suc, ◌+◌, ◌<◌, ◌≤◌, ◌≢◌, true, false, codes, decimal, Option, option_and_then, List, []}
 use Rattle.std.proofs.Common.{◌∷◌, ◌++◌, length, map, take, drop, refl, sym, ap, ◌∙◌, arith, subst, append_assoc, append-nil, ne_eqb, length-append}
 use Rattle.std.proofs.lemmas.List.{drop-drop}
@@ -20,7 +21,7 @@ kinds ps = map (λ (p : Placed). p.lexeme) ps
 
 -- the text begins with these lexemes, and rest follows
 Cuts : List ℕ → List Lexeme → List ℕ → Type 0
-Cuts bs ls rest = (c : ℕ) → (d : ℕ) × (kinds (lexemes [] 0 c bs) ≡ ls ++ kinds (lexemes [] 0 d rest))
+Cuts bs ls rest = (c : ℕ) → (d : ℕ) × (kinds (lexemes plain 0 c bs) ≡ ls ++ kinds (lexemes plain 0 d rest))
 
 nothing_cut : (bs : List ℕ) → Cuts bs [] bs
 unfolding Cuts
@@ -28,30 +29,30 @@ nothing_cut bs c = (c, refl)
 
 then_cut : (xs bs cs : List ℕ) (ls ms : List Lexeme) → Cuts xs ls bs → Cuts bs ms cs → Cuts xs (ls ++ ms) cs
 unfolding Cuts
-then_cut xs bs cs ls ms h k c = let p = h c in let q = k p.0 in (q.0, p.1 ∙ ap (λ (ks : List Lexeme). ls ++ ks) q.1 ∙ sym (append_assoc ls ms (kinds (lexemes [] 0 q.0 cs))))
+then_cut xs bs cs ls ms h k c = let p = h c in let q = k p.0 in (q.0, p.1 ∙ ap (λ (ks : List Lexeme). ls ++ ks) q.1 ∙ sym (append_assoc ls ms (kinds (lexemes plain 0 q.0 cs))))
 
 blank_cut : (bs : List ℕ) → Cuts (32 ∷ bs) [] bs
 unfolding Cuts
-blank_cut bs c = (suc c, ap kinds (at_blank [] c 32 bs refl))
+blank_cut bs c = (suc c, ap kinds (at_blank plain c 32 bs refl))
 
-one_cut : (b : ℕ) (bs rest : List ℕ) (l : Lexeme) (k : ℕ) → is_blank b ≡ false → first b bs ≡ (l, k) → drop k bs ≡ rest → Cuts (b ∷ bs) (l ∷ []) rest
+one_cut : (b : ℕ) (bs rest : List ℕ) (l : Lexeme) (k : ℕ) → is_blank b ≡ false → first plain b bs ≡ (l, k) → drop k bs ≡ rest → Cuts (b ∷ bs) (l ∷ []) rest
 unfolding Cuts
 one_cut b bs rest l k n f r c = (
   suc c + k,
-  ap kinds (at_lexeme [] c b bs n ∙ ap (λ (p : Lexeme × ℕ). record { column = c; lexeme = p.0 } ∷ lexemes [] p.1 (suc c) bs) (first_none b bs ∙ f))
-      ∙ ap (λ (ps : List Placed). l ∷ kinds ps) (skip [] k (suc c) bs ∙ ap (lexemes [] 0 (suc c + k)) r),
+  ap kinds (at_lexeme plain c b bs n ∙ ap (λ (p : Lexeme × ℕ). record { column = c; lexeme = p.0 } ∷ lexemes plain p.1 (suc c) bs) (first_none b bs ∙ f))
+      ∙ ap (λ (ps : List Placed). l ∷ kinds ps) (skip plain k (suc c) bs ∙ ap (lexemes plain 0 (suc c + k)) r),
 )
 
 open_cut : (bs : List ℕ) → Cuts (40 ∷ bs) (opening ∷ []) bs
-open_cut bs = one_cut 40 bs bs opening 0 refl (first_opening 40 bs refl) refl
+open_cut bs = one_cut 40 bs bs opening 0 refl (first_opening plain 40 bs refl) refl
 
 close_cut : (bs : List ℕ) → Cuts (41 ∷ bs) (closing ∷ []) bs
-close_cut bs = one_cut 41 bs bs closing 0 refl (first_closing 41 bs refl) refl
+close_cut bs = one_cut 41 bs bs closing 0 refl (first_closing plain 41 bs refl) refl
 
 minus_cut : (bs : List ℕ) → Cuts (45 ∷ bs) (minus ∷ []) bs
-minus_cut bs = one_cut 45 bs bs minus 0 refl (first_minus 45 bs refl) refl
+minus_cut bs = one_cut 45 bs bs minus 0 refl (first_minus plain 45 bs refl) refl
 
-or_first : (bs : List ℕ) → first 79 (82 ∷ 32 ∷ bs) ≡ (or_word, 1)
+or_first : (bs : List ℕ) → first plain 79 (82 ∷ 32 ∷ bs) ≡ (or_word, 1)
 unfolding first bare run_lexeme
 or_first bs = refl
 
@@ -69,15 +70,15 @@ drop_front (x ∷ xs) ys y =
     ap (λ (k : ℕ). drop k (x ∷ (xs ++ y ∷ ys))) e ∙ drop_front xs ys y
 
 -- a text between quotation marks, of which so many bytes after the second one belong to the lexeme
-quote_cut : (text behind rest : List ℕ) (l : Lexeme) (k : ℕ) → AllByRecursion (λ b. b ≢ 34) text → quoted_lexeme text behind ≡ l → tilde_len behind ≡ k → drop k behind ≡ rest
+quote_cut : (text behind rest : List ℕ) (l : Lexeme) (k : ℕ) → AllByRecursion (λ b. b ≢ 34) text → quoted_lexeme plain text behind ≡ l → tilde_len behind ≡ k → drop k behind ≡ rest
     → Cuts (34 ∷ text ++ 34 ∷ behind) (l ∷ []) rest
 quote_cut text behind rest l k h e f r =
     let some : length text < length (text ++ 34 ∷ behind) = simp length-append (omega arith) in
     let n = length text + 1 in
     one_cut 34 (text ++ 34 ∷ behind) rest l (n + k) refl
-    (first_quoted 34 (text ++ 34 ∷ behind) refl ∙ quoted_some (text ++ 34 ∷ behind) (length text) (sym (first_quote text behind h)) some
-    ∙ ap (λ (xs : List ℕ). (quoted_lexeme (take (length text) (text ++ 34 ∷ behind)) xs, n + tilde_len xs)) (drop_front text behind 34)
-    ∙ ap (λ (xs : List ℕ). (quoted_lexeme xs behind, n + tilde_len behind)) (front_taken text (34 ∷ behind))
+    (first_quoted plain 34 (text ++ 34 ∷ behind) refl ∙ quoted_some plain (text ++ 34 ∷ behind) (length text) (sym (first_quote text behind h)) some
+    ∙ ap (λ (xs : List ℕ). (quoted_lexeme plain (take (length text) (text ++ 34 ∷ behind)) xs, n + tilde_len xs)) (drop_front text behind 34)
+    ∙ ap (λ (xs : List ℕ). (quoted_lexeme plain xs behind, n + tilde_len behind)) (front_taken text (34 ∷ behind))
     ∙ ap (λ (x : Lexeme). (x, n + tilde_len behind)) e ∙ ap (λ (j : ℕ). (l, n + j)) f)
     (skipped ∙ r)
   where
@@ -91,9 +92,9 @@ leaf_cut : (text rest : List ℕ) (terms : List (List ℕ)) (t : Tree) → IsNam
     → Cuts (in_quotes text ++ rest) (leaf t ∷ []) rest
 unfolding text_lexeme
 leaf_cut text rest terms t h e end =
-    let plain = end_no_tilde rest end in
+    let bare_end = end_no_tilde rest end in
     same_cut (in_quotes text ++ rest) (34 ∷ text ++ 34 ∷ rest) (leaf t ∷ []) rest (ap (λ (zs : List ℕ). 34 ∷ zs) (append_assoc text (34 ∷ []) rest))
-    (quote_cut text rest rest (leaf t) 0 h.unquoted (quoted_text text rest plain ∙ ap (λ (ts : List (List ℕ)). of_leaf (leaf_of ts)) h.tokens ∙ e) (no_tilde_len rest plain) refl)
+    (quote_cut text rest rest (leaf t) 0 h.unquoted (quoted_text plain text rest bare_end ∙ ap (λ (ts : List (List ℕ)). of_leaf (leaf_of ts)) h.tokens ∙ e) (no_tilde_len rest bare_end) refl)
 
 window_leaf : (ts : List (List ℕ)) (w : ℕ) → 2 ≤ length ts → of_leaf (window_of ts w) ≡ leaf (window ts w)
 window_leaf [] w h = absurd (omega arith)
@@ -111,7 +112,7 @@ window_cut ts w ds rest several low high d h end =
     let e : (in_quotes text ++ 126 ∷ ds) ++ rest ≡ 34 ∷ text ++ 34 ∷ behind = simp append_assoc in
     same_cut ((in_quotes text ++ 126 ∷ ds) ++ rest) (34 ∷ text ++ 34 ∷ behind) (leaf (window ts w) ∷ []) rest e
     (quote_cut text behind rest (leaf (window ts w)) (1 + length ds) h.unquoted
-    (quoted_window text behind refl ∙ ap (λ (r : Option ℕ). of_leaf (option_and_then (window_of (tokens_of text)) r)) (reach_written w ds rest d low high end)
+    (quoted_window plain text behind refl ∙ ap (λ (r : Option ℕ). of_leaf (option_and_then (window_of (tokens_of text)) r)) (reach_written w ds rest d low high end)
     ∙ ap (λ (us : List (List ℕ)). of_leaf (window_of us w)) h.tokens ∙ window_leaf ts w several)
     (tilde_digits behind refl ∙ ap (λ (j : ℕ). 1 + j) (digits_first ds rest d.digits (end_no_digit rest end)))
     (ap (λ (j : ℕ). drop j behind) n ∙ front_dropped ds rest))
@@ -212,11 +213,11 @@ query_cut (negation t) rest f h end = unary_cut (negation t) rest f h end
 query_cut (conjunction ts) rest f h end = and_cut ts rest f.1 h end
 query_cut (disjunction ts) rest f h end = or_text_cut ts rest f.1 h end
 
-pub written_lexemes : (t : Tree) (c : ℕ) → IsFormed t → AreNamed t → kinds (lexemes [] 0 c (query_text t)) ≡ query_lexemes t
+pub written_lexemes : (t : Tree) (c : ℕ) → IsFormed t → AreNamed t → kinds (lexemes plain 0 c (query_text t)) ≡ query_lexemes t
 unfolding Cuts
 written_lexemes t c f h =
     let p = query_cut t [] f h refl c in
-    ap (λ (zs : List ℕ). kinds (lexemes [] 0 c zs)) (sym (append-nil (query_text t))) ∙ p.1 ∙ ap (λ (ks : List Lexeme). query_lexemes t ++ ks) (no_lexemes p.0) ∙ append-nil (query_lexemes t)
+    ap (λ (zs : List ℕ). kinds (lexemes plain 0 c zs)) (sym (append-nil (query_text t))) ∙ p.1 ∙ ap (λ (ks : List Lexeme). query_lexemes t ++ ks) (no_lexemes p.0) ∙ append-nil (query_lexemes t)
   where
-    no_lexemes : (d : ℕ) → kinds (lexemes [] 0 d []) ≡ []
-    no_lexemes d = ap kinds (nothing_left [] d)
+    no_lexemes : (d : ℕ) → kinds (lexemes plain 0 d []) ≡ []
+    no_lexemes d = ap kinds (nothing_left plain d)

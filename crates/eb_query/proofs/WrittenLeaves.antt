@@ -1,4 +1,5 @@
 -- The digits of a written window and of a written bound read back.
+use Rattle.eb_fields.specs.Dialect.{plain}
 use Rattle.std.proofs.Common.{◌≡◌, ℕ, suc, ◌+◌, ◌≤◌, true, false, List, [], ◌∷◌, ◌++◌, length, take, Some, refl, ap, ◌∙◌, arith, le-leb, eq-eqb, ne_eqb}
 use Rattle.std.specs.List.{position_or_len}
 use Rattle.eb_base.specs.Query.{since, most_reach}
@@ -38,17 +39,17 @@ digits_run : (ds rest : List ℕ) → AreDigits ds → is_run_end rest ≡ true 
 digits_run [] rest h end = run_ends rest end
 digits_run (d ∷ ds) rest h end = rw (digit_runs d h.0, digits_run ds rest h.1 end) (omega arith)
 
-since_run : (x : ℕ) (ds : List ℕ) → id_of ds ≡ Some x → run_lexeme (115 ∷ 105 ∷ 110 ∷ 99 ∷ 101 ∷ 58 ∷ ds) ≡ leaf (since x)
+since_run : (x : ℕ) (ds : List ℕ) → id_of ds ≡ Some x → run_lexeme plain (115 ∷ 105 ∷ 110 ∷ 99 ∷ 101 ∷ 58 ∷ ds) ≡ leaf (since x)
 unfolding run_lexeme
 since_run x ds e = rw e refl
 
 pub since_first : (x : ℕ) (ds rest : List ℕ) → x ≤ most_id → IsDecimal 20 x ds → is_run_end rest ≡ true
-    → first 115 (105 ∷ 110 ∷ 99 ∷ 101 ∷ 58 ∷ ds ++ rest) ≡ (leaf (since x), 5 + length ds)
+    → first plain 115 (105 ∷ 110 ∷ 99 ∷ 101 ∷ 58 ∷ ds ++ rest) ≡ (leaf (since x), 5 + length ds)
 since_first x ds rest high d end =
     let bs = 105 ∷ 110 ∷ 99 ∷ 101 ∷ 58 ∷ ds ++ rest in
     let ends : 5 + length ds ≡ position_or_len ends_run bs = rw (digits_run ds rest d.digits end) (omega arith) in
     let front : take (5 + length ds) bs ≡ 105 ∷ 110 ∷ 99 ∷ 101 ∷ 58 ∷ ds =
     (let five : 5 + length ds ≡ suc (suc (suc (suc (suc (length ds))))) = omega arith in
     ap (λ (j : ℕ). take j bs) five ∙ ap (λ (zs : List ℕ). 105 ∷ 110 ∷ 99 ∷ 101 ∷ 58 ∷ zs) (front_taken ds rest)) in
-    first_bare 115 bs (λ e. omega arith) (λ e. omega arith) (λ e. omega arith) (λ e. omega arith) ∙ bare_is 115 bs (5 + length ds) ends
-    ∙ ap (λ (zs : List ℕ). (run_lexeme (115 ∷ zs), 5 + length ds)) front ∙ ap (λ (l : Lexeme). (l, 5 + length ds)) (since_run x ds (id_written x ds high d))
+    first_bare plain 115 bs (λ e. omega arith) (λ e. omega arith) (λ e. omega arith) (λ e. omega arith) ∙ bare_is plain 115 bs (5 + length ds) ends
+    ∙ ap (λ (zs : List ℕ). (run_lexeme plain (115 ∷ zs), 5 + length ds)) front ∙ ap (λ (l : Lexeme). (l, 5 + length ds)) (since_run x ds (id_written x ds high d))

@@ -2,11 +2,12 @@
 use Rattle.std.specs.Prelude.{◌≡◌, ℕ, List}
 use Rattle.std.specs.Str.{IsUtf8}
 use Rattle.eb_base.specs.Query.{Tree, word, phrase, window, since, negation, conjunction, disjunction, Trees, no_trees, trees}
-use Rattle.eb_text.specs.Tokens.{tokens_of}
+use Rattle.eb_text.specs.Pieces.{tokens_by}
+use Rattle.eb_text.specs.declared.cutting.Cut.{Cut}
 
--- the terms are the tokens of some text
+-- the terms are the tokens of some text, however it is cut
 abbrev pub AreOfText : List (List ℕ) → Type 0
-AreOfText terms = (text : List ℕ) × IsUtf8 text × (terms ≡ tokens_of text)
+AreOfText terms = (cut : Cut) × (text : List ℕ) × IsUtf8 text × (terms ≡ tokens_by cut text)
 
 abbrev mutual
   -- the terms of each phrase and each window of the query are

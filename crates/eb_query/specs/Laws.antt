@@ -1,5 +1,6 @@
 -- What holds of reading and writing, over the definitions alone.
-use Rattle.std.specs.Prelude.{◌≡◌, ◌⊎◌, ℕ, ◌≤◌, List, [], map}
+use Rattle.eb_fields.specs.Dialect.{Dialect, plain}
+use Rattle.std.specs.Prelude.{◌≡◌, ◌⊎◌, ℕ, ◌≤◌, List, map}
 use Rattle.std.specs.Str.{IsUtf8}
 use Rattle.eb_base.specs.Query.{Tree, IsWellFormed}
 use Rattle.eb_query.specs.Grammar.{Lexeme}
@@ -14,24 +15,24 @@ use Rattle.eb_base.specs.Match.{most_matches}
 
 -- the rules leave no line out, whatever fields are read: each asks something or is refused
 abbrev pub SomeReading : Type 0
-SomeReading = (names : List (List ℕ)) (line : List ℕ) → (o : Outcome) × ReadsWith names line o
+SomeReading = (how : Dialect) (line : List ℕ) → (o : Outcome) × ReadsWith how line o
 
 -- a line has one reading: what it asks, and where and why it is refused, is settled by the rules
 abbrev pub OneReading : Type 0
-OneReading = (names : List (List ℕ)) (line : List ℕ) (a b : Outcome) → ReadsWith names line a → ReadsWith names line b → a ≡ b
+OneReading = (how : Dialect) (line : List ℕ) (a b : Outcome) → ReadsWith how line a → ReadsWith how line b → a ≡ b
 
 -- and so of watch lines: none is left out
 abbrev pub SomeWatchReading : Type 0
-SomeWatchReading = (names : List (List ℕ)) (line : List ℕ) → (o : WatchOutcome) × ReadsWatchWith names line o
+SomeWatchReading = (how : Dialect) (line : List ℕ) → (o : WatchOutcome) × ReadsWatchWith how line o
 
 -- and each has one reading
 abbrev pub OneWatchReading : Type 0
 OneWatchReading =
-    (names : List (List ℕ)) (line : List ℕ) (a b : WatchOutcome) → ReadsWatchWith names line a → ReadsWatchWith names line b → a ≡ b
+    (how : Dialect) (line : List ℕ) (a b : WatchOutcome) → ReadsWatchWith how line a → ReadsWatchWith how line b → a ≡ b
 
 -- the lexemes of a line's query text, in order, without fields
 abbrev pub kinds_of_line : List ℕ → List Lexeme
-kinds_of_line line = map (λ (p : Placed). p.lexeme) (lexemes_of_line [] line)
+kinds_of_line line = map (λ (p : Placed). p.lexeme) (lexemes_of_line plain line)
 
 -- what is written for a number and a query asks for that number of matches of that query, where
 -- the texts of its leaves can be named and the written text doesn't nest too deep
@@ -40,10 +41,10 @@ ReadsBack = (k : ℕ) (t : Tree) → 1 ≤ k → k ≤ most_matches → IsWellFo
     → NestsWithin (kinds_of_line (line_text k t)) → ReadsAs (line_text k t) (asks k t)
 
 -- without fields a lexeme is what it is where nothing of fields is known
-abbrev pub WithoutFields : Type 0
-WithoutFields = (b : ℕ) (bs : List ℕ) → first_with [] b bs ≡ first b bs
+abbrev pub InPlain : Type 0
+InPlain = (b : ℕ) (bs : List ℕ) → first_with plain b bs ≡ first plain b bs
 
 -- whatever fields are read, a query's phrases and windows are of texts, so that no field's term stands in them
 abbrev pub FieldsApart : Type 0
-FieldsApart = (names : List (List ℕ)) (line : List ℕ) (k : ℕ) (t : Tree) → IsUtf8 line
-    → ReadsWith names line (asks k t) ⊎ ReadsWatchWith names line (reads (asks k t)) → IsApart t
+FieldsApart = (how : Dialect) (line : List ℕ) (k : ℕ) (t : Tree) → IsUtf8 line
+    → ReadsWith how line (asks k t) ⊎ ReadsWatchWith how line (reads (asks k t)) → IsApart t

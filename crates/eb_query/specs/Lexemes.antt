@@ -1,11 +1,12 @@
 -- The lexemes of a query text. Text is its UTF-8 bytes: 32 is a space, 9 a tab, 40 and 41 the
 -- parentheses, 34 the quotation mark, 45 the minus, 126 the tilde.
+use Rattle.eb_fields.specs.Dialect.{Dialect}
 use Rattle.std.specs.Prelude.{ℕ, zero, suc, ◌+◌, nat_lt, nat_le, eqb, ◌&&◌, ◌||◌, Bool, true, false, if◌then◌else◌}
 use Rattle.std.specs.Prelude.{List, [], ◌∷◌, length, take, drop, codes, Option, Some, None, option_map, option_and_then}
 use Rattle.std.specs.List.{position_or_len, starts_with}
 use Rattle.std.specs.Str.{bytes_eq}
 use Rattle.eb_base.specs.Query.{Tree, word, since, leaf_of, window_of, most_reach}
-use Rattle.eb_text.specs.Tokens.{tokens_of}
+use Rattle.eb_text.specs.Pieces.{tokens_by}
 use Rattle.eb_fields.specs.Fields.{begun_name, field_term}
 use Rattle.eb_query.specs.Digits.{is_no_digit, decimal_after}
 use Rattle.eb_query.specs.Grammar.{Lexeme, opening, closing, minus, or_word, leaf, broken}
@@ -32,9 +33,9 @@ abbrev pub of_leaf : Option Tree → Lexeme
 of_leaf None = broken
 of_leaf (Some t) = leaf t
 
--- a text, by its tokens: one is a word, several are a phrase
-unfoldable pub text_lexeme : List ℕ → Lexeme
-text_lexeme text = of_leaf (leaf_of (tokens_of text))
+-- a text, by its tokens: one is a word, several are a phrase; here and below it is said how lines are read
+unfoldable pub text_lexeme : Dialect → List ℕ → Lexeme
+text_lexeme how text = of_leaf (leaf_of (tokens_by how.cut text))
 
 -- what ends a run comes first, or there is no byte
 abbrev pub is_run_end : List ℕ → Bool
@@ -56,8 +57,8 @@ unfoldable pub reach_of : List ℕ → Option ℕ
 reach_of bs = reach_by (position_or_len is_no_digit bs) bs
 
 -- a text, and the bytes after the tilde after it: with a reach it is a window, or a word where it is one token
-unfoldable pub window_lexeme : List ℕ → List ℕ → Lexeme
-window_lexeme text bs = of_leaf (option_and_then (window_of (tokens_of text)) (reach_of bs))
+unfoldable pub window_lexeme : Dialect → List ℕ → List ℕ → Lexeme
+window_lexeme how text bs = of_leaf (option_and_then (window_of (tokens_by how.cut text)) (reach_of bs))
 
 -- a tilde comes first
 abbrev pub has_tilde : List ℕ → Bool
@@ -65,8 +66,8 @@ has_tilde [] = false
 has_tilde (b ∷ bs) = eqb b 126
 
 -- a text between quotation marks, and the bytes after the second one: a tilde there makes it a window text
-unfoldable pub quoted_lexeme : List ℕ → List ℕ → Lexeme
-quoted_lexeme text bs = if has_tilde bs then window_lexeme text (drop 1 bs) else text_lexeme text
+unfoldable pub quoted_lexeme : Dialect → List ℕ → List ℕ → Lexeme
+quoted_lexeme how text bs = if has_tilde bs then window_lexeme how text (drop 1 bs) else text_lexeme how text
 
 -- how many bytes after the second quotation mark belong to the lexeme: a tilde, and the digits after it
 unfoldable pub tilde_len : List ℕ → ℕ
@@ -74,11 +75,11 @@ tilde_len bs = if has_tilde bs then 1 + position_or_len is_no_digit (drop 1 bs) 
 
 -- after a quotation mark: all up to the next one and what goes on after that, and how many bytes belong to the
 -- lexeme
-unfoldable pub quoted : List ℕ → Lexeme × ℕ
-quoted bs =
+unfoldable pub quoted : Dialect → List ℕ → Lexeme × ℕ
+quoted how bs =
     if nat_lt (position_or_len is_quote bs) (length bs)
     then (
-      quoted_lexeme (take (position_or_len is_quote bs) bs) (drop (position_or_len is_quote bs + 1) bs),
+      quoted_lexeme how (take (position_or_len is_quote bs) bs) (drop (position_or_len is_quote bs + 1) bs),
       position_or_len is_quote bs + 1 + tilde_len (drop (position_or_len is_quote bs + 1) bs),
     )
     else (broken, length bs)
@@ -97,24 +98,24 @@ unfoldable pub id_of : List ℕ → Option ℕ
 id_of ds = if is_id ds then Some (decimal_after 0 ds) else None
 
 -- a run: `OR` is the operator, one that begins with `since:` is a bound, any other is a text
-unfoldable pub run_lexeme : List ℕ → Lexeme
-run_lexeme run =
+unfoldable pub run_lexeme : Dialect → List ℕ → Lexeme
+run_lexeme how run =
     if bytes_eq run (codes "OR") then or_word
     else if starts_with eqb run (codes "since:") then of_leaf (option_map since (id_of (drop 6 run)))
-    else text_lexeme run
+    else text_lexeme how run
 
 -- the longest run that begins with b, and how many of the bytes bs after it belong to it
-unfoldable pub bare : ℕ → List ℕ → Lexeme × ℕ
-bare b bs = (run_lexeme (b ∷ take (position_or_len ends_run bs) bs), position_or_len ends_run bs)
+unfoldable pub bare : Dialect → ℕ → List ℕ → Lexeme × ℕ
+bare how b bs = (run_lexeme how (b ∷ take (position_or_len ends_run bs) bs), position_or_len ends_run bs)
 
--- the lexeme that begins with b, and how many of the bytes bs after it belong to it, where there are no fields
-unfoldable pub first : ℕ → List ℕ → Lexeme × ℕ
-first b bs =
+-- the lexeme that begins with b, and how many of the bytes bs after it belong to it, where no field is named
+unfoldable pub first : Dialect → ℕ → List ℕ → Lexeme × ℕ
+first how b bs =
     if eqb b 40 then (opening, 0)
     else if eqb b 41 then (closing, 0)
     else if eqb b 45 then (minus, 0)
-    else if eqb b 34 then quoted bs
-    else bare b bs
+    else if eqb b 34 then quoted how bs
+    else bare how b bs
 
 -- what asks for a field's value: its term, as a word
 abbrev pub field_leaf : List ℕ → List ℕ → Lexeme
@@ -142,20 +143,20 @@ value_lexeme name bs =
     if has_quote bs then ((quoted_value name (drop 1 bs)).0, 1 + (quoted_value name (drop 1 bs)).1) else bare_value name bs
 
 -- the lexeme that begins with b, where this field is named there
-abbrev pub named_lexeme : Option (List ℕ) → ℕ → List ℕ → Lexeme × ℕ
-named_lexeme None b bs = first b bs
-named_lexeme (Some name) b bs =
+abbrev pub named_lexeme : Dialect → Option (List ℕ) → ℕ → List ℕ → Lexeme × ℕ
+named_lexeme how None b bs = first how b bs
+named_lexeme how (Some name) b bs =
     ((value_lexeme name (drop (length name) bs)).0, length name + (value_lexeme name (drop (length name) bs)).1)
 
--- the lexeme that begins with b, and how many of the bytes bs after it belong to it: a field's, where one of these names and a
--- colon come first, else as without fields
-unfoldable pub first_with : List (List ℕ) → ℕ → List ℕ → Lexeme × ℕ
-first_with names b bs = named_lexeme (begun_name names (b ∷ bs)) b bs
+-- the lexeme that begins with b, and how many of the bytes bs after it belong to it: a field's, where the name of one and a
+-- colon come first
+unfoldable pub first_with : Dialect → ℕ → List ℕ → Lexeme × ℕ
+first_with how b bs = named_lexeme how (begun_name how.names (b ∷ bs)) b bs
 
 -- the lexemes from the column c on, where the first k bytes belong to an earlier one
-unfoldable pub lexemes : List (List ℕ) → ℕ → ℕ → List ℕ → List Placed
-lexemes names k c [] = []
-lexemes names (suc k) c (b ∷ bs) = lexemes names k (suc c) bs
-lexemes names zero c (b ∷ bs) =
-    if is_blank b then lexemes names zero (suc c) bs
-    else record { column = c; lexeme = (first_with names b bs).0 } ∷ lexemes names (first_with names b bs).1 (suc c) bs
+unfoldable pub lexemes : Dialect → ℕ → ℕ → List ℕ → List Placed
+lexemes how k c [] = []
+lexemes how (suc k) c (b ∷ bs) = lexemes how k (suc c) bs
+lexemes how zero c (b ∷ bs) =
+    if is_blank b then lexemes how zero (suc c) bs
+    else record { column = c; lexeme = (first_with how b bs).0 } ∷ lexemes how (first_with how b bs).1 (suc c) bs

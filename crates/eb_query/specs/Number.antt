@@ -1,6 +1,7 @@
 -- The number of a line, which follows its first byte.
 use Rattle.std.specs.Prelude.{◌≡◌, ℕ, ◌+◌, ◌≤◌, Bool, true, List, [], ◌∷◌, take, drop}
 use Rattle.std.specs.List.{position_or_len}
+use Rattle.eb_fields.specs.Dialect.{Dialect}
 use Rattle.eb_query.specs.Digits.{is_no_digit, decimal_after}
 use Rattle.eb_query.specs.Lexemes.{Placed, is_blank, lexemes}
 use Rattle.eb_base.specs.Match.{most_matches}
@@ -34,6 +35,6 @@ pub record HasQueryNumber (line : List ℕ) : Type 0 where
 abbrev pub HasWatchNumber : List ℕ → Type 0
 HasWatchNumber line = HasNumberUpTo 10 4294967295 line
 
--- the lexemes of the query text, which is all after the digits, where the fields of these names are read
-unfoldable pub lexemes_of_line : List (List ℕ) → List ℕ → List Placed
-lexemes_of_line names line = lexemes names 0 (2 + digits_len line) (drop (1 + digits_len line) line)
+-- the lexemes of the query text, which is all after the digits, by the dialect
+unfoldable pub lexemes_of_line : Dialect → List ℕ → List Placed
+lexemes_of_line how line = lexemes how 0 (2 + digits_len line) (drop (1 + digits_len line) line)

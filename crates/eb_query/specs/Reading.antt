@@ -1,4 +1,5 @@
 -- What a query line asks, or why it is refused.
+use Rattle.eb_fields.specs.Dialect.{Dialect, plain}
 use Rattle.std.specs.Prelude.{ℕ, ◌+◌, ◌<◌, ◌≤◌, List, [], ◌∷◌, ◌++◌, length}
 use Rattle.eb_base.specs.Query.{Tree, size, most_size}
 use Rattle.eb_query.specs.Grammar.{Lexeme, GivesTree, Continues}
@@ -38,13 +39,13 @@ pub data IsOutcome (line : List ℕ) : List Lexeme → List Placed → Outcome �
   complete : {before : List Lexeme} {t : Tree}
       → GivesTree before t → size t ≤ most_size → IsOutcome line before [] (asks (number_in_line line) t)
 
--- The line, which begins with a question mark, reads as this outcome, where the fields of these names are read.
-pub data ReadsWith (names : List (List ℕ)) (line : List ℕ) : Outcome → Type 0 where
+-- The line, which begins with a question mark, reads as this outcome, by the dialect.
+pub data ReadsWith (how : Dialect) (line : List ℕ) : Outcome → Type 0 where
   -- it has no number
-  without_number : (HasQueryNumber line → ⊥) → ReadsWith names line bad_number
+  without_number : (HasQueryNumber line → ⊥) → ReadsWith how line bad_number
   -- it has one, and its query text decides
-  with_number : {o : Outcome} → HasQueryNumber line → IsOutcome line [] (lexemes_of_line names line) o → ReadsWith names line o
+  with_number : {o : Outcome} → HasQueryNumber line → IsOutcome line [] (lexemes_of_line how line) o → ReadsWith how line o
 
--- and so without fields
+-- and so where no option says otherwise
 abbrev pub ReadsAs : List ℕ → Outcome → Type 0
-ReadsAs = ReadsWith []
+ReadsAs = ReadsWith plain

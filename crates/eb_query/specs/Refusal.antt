@@ -1,5 +1,6 @@
 -- What each fault of the reader says of the line.
-use Rattle.std.specs.Prelude.{ℕ, List, []}
+use Rattle.eb_fields.specs.Dialect.{Dialect, plain}
+use Rattle.std.specs.Prelude.{ℕ, List}
 use Rattle.eb_query.specs.Reading.{Outcome, bad_number, bad_query, too_deep, too_many_nodes, ReadsWith}
 use Rattle.eb_query.specs.WatchLine.{reads, ReadsWatchWith}
 use Rattle.eb_query.specs.declared.read.QueryFault.{QueryFault}
@@ -13,17 +14,17 @@ IsFaultOf Holds faults.TooDeep = Holds too_deep
 IsFaultOf Holds faults.TooManyNodes = Holds too_many_nodes
 IsFaultOf Holds faults.NoMemory = Unit {0}
 
--- the query line is refused with this fault, where the fields of these names are read
-abbrev pub IsRefusedWith : List (List ℕ) → List ℕ → QueryFault → Type 0
-IsRefusedWith names line fault = IsFaultOf (ReadsWith names line) fault
+-- the query line is refused with this fault, by the dialect
+abbrev pub IsRefusedWith : Dialect → List ℕ → QueryFault → Type 0
+IsRefusedWith how line fault = IsFaultOf (ReadsWith how line) fault
 
--- the watch line is refused with this fault, where the fields of these names are read
-abbrev pub IsWatchRefusedWith : List (List ℕ) → List ℕ → QueryFault → Type 0
-IsWatchRefusedWith names line fault = IsFaultOf (λ o. ReadsWatchWith names line (reads o)) fault
+-- the watch line is refused with this fault, by the dialect
+abbrev pub IsWatchRefusedWith : Dialect → List ℕ → QueryFault → Type 0
+IsWatchRefusedWith how line fault = IsFaultOf (λ o. ReadsWatchWith how line (reads o)) fault
 
--- and so without fields
+-- and so where no option says otherwise
 abbrev pub IsRefused : List ℕ → QueryFault → Type 0
-IsRefused = IsRefusedWith []
+IsRefused = IsRefusedWith plain
 
 abbrev pub IsWatchRefused : List ℕ → QueryFault → Type 0
-IsWatchRefused = IsWatchRefusedWith []
+IsWatchRefused = IsWatchRefusedWith plain

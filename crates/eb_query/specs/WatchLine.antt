@@ -1,4 +1,5 @@
 -- What a watch line asks, or why it is refused.
+use Rattle.eb_fields.specs.Dialect.{Dialect, plain}
 use Rattle.std.specs.Prelude.{◌≡◌, ℕ, List, [], Option, Some, None}
 use Rattle.eb_base.specs.Query.{Tree}
 use Rattle.eb_query.specs.Number.{number_in_line, HasWatchNumber, lexemes_of_line}
@@ -10,19 +11,19 @@ pub data WatchOutcome : Type 0 where
   removes : (number : ℕ) → WatchOutcome
   reads : Outcome → WatchOutcome
 
--- The line, which begins with an exclamation mark, reads as this outcome, where the fields of these names are read.
-pub data ReadsWatchWith (names : List (List ℕ)) (line : List ℕ) : WatchOutcome → Type 0 where
+-- The line, which begins with an exclamation mark, reads as this outcome, by the dialect.
+pub data ReadsWatchWith (how : Dialect) (line : List ℕ) : WatchOutcome → Type 0 where
   -- it has no number
-  without_number : (HasWatchNumber line → ⊥) → ReadsWatchWith names line (reads bad_number)
+  without_number : (HasWatchNumber line → ⊥) → ReadsWatchWith how line (reads bad_number)
   -- it has one, and nothing but blanks after it
-  alone : HasWatchNumber line → lexemes_of_line names line ≡ [] → ReadsWatchWith names line (removes (number_in_line line))
+  alone : HasWatchNumber line → lexemes_of_line how line ≡ [] → ReadsWatchWith how line (removes (number_in_line line))
   -- it has one, and the query text after it decides
-  with_text : {o : Outcome} → HasWatchNumber line → (lexemes_of_line names line ≡ [] → ⊥)
-      → IsOutcome line [] (lexemes_of_line names line) o → ReadsWatchWith names line (reads o)
+  with_text : {o : Outcome} → HasWatchNumber line → (lexemes_of_line how line ≡ [] → ⊥)
+      → IsOutcome line [] (lexemes_of_line how line) o → ReadsWatchWith how line (reads o)
 
--- and so without fields
+-- and so where no option says otherwise
 abbrev pub ReadsWatchAs : List ℕ → WatchOutcome → Type 0
-ReadsWatchAs = ReadsWatchWith []
+ReadsWatchAs = ReadsWatchWith plain
 
 -- the outcome of a watch line by its number, and by its query if it has one
 abbrev pub watch_asked : ℕ → Option Tree → WatchOutcome

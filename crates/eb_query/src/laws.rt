@@ -1,4 +1,4 @@
-ghost use Rattle.eb_query.specs.Laws.{SomeReading, OneReading, SomeWatchReading, OneWatchReading, ReadsBack, WithoutFields, FieldsApart};
+ghost use Rattle.eb_query.specs.Laws.{SomeReading, OneReading, SomeWatchReading, OneWatchReading, ReadsBack, InPlain, FieldsApart};
 
 /// The rules of reading leave no line out, whatever fields are read: each has an outcome, which asks
 /// something or is a refusal. The call does nothing.
@@ -44,8 +44,8 @@ pub fn reads_back()
 ///
 /// [`read_query`]: crate::read_query
 /// [`read_watch`]: crate::read_watch
-pub fn without_fields()
-    ensures { WithoutFields }
+pub fn in_plain()
+    ensures { InPlain }
 {}
 
 /// A law: whatever fields are read, the terms of each phrase and each window that a line asks for are the

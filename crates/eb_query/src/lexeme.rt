@@ -1,7 +1,7 @@
 ghost use Rattle.std.specs.Prelude.{◌≡◌, ◌+◌, ◌<◌, length, drop, slice_index, IfOk};
 ghost use Rattle.std.specs.List.{position_or_len};
 ghost use Rattle.std.specs.Str.{IsCharBoundary};
-ghost use Rattle.eb_fields.specs.Fields.{names};
+ghost use Rattle.eb_fields.specs.Dialect.{dialect_of};
 ghost use Rattle.eb_query.specs.Lexemes.{is_blank, ends_run, text_lexeme, run_lexeme, bare, first, first_with};
 ghost use Rattle.eb_query.specs.Views.{lexeme_of};
 
@@ -9,8 +9,8 @@ use crate::bound::read_id;
 use crate::quoted::quoted_at;
 use crate::value::value_at;
 use eb_base::{NoMemory, Query};
-use eb_fields::Fields;
-use eb_text::{plain_token, tokens};
+use eb_fields::Dialect;
+use eb_text::{plain_token, tokens_by};
 use std::alloc::Global;
 
 /// A lexeme of a query text.
@@ -68,13 +68,13 @@ pub fn run_len(bytes: &[u8]) -> usize
 
 /// The lexeme of a text, by its tokens.
 #[tactic(auto, unfolding(crate::specs::Lexemes::text_lexeme))]
-pub fn text_of(alloc: Global, text: &str) -> Result<Lexeme, NoMemory>
-    ensures { IfOk result (λ lexeme. lexeme_of lexeme ≡ text_lexeme text.now) }
+pub fn text_of(alloc: Global, dialect: Dialect<'_>, text: &str) -> Result<Lexeme, NoMemory>
+    ensures { IfOk result (λ lexeme. lexeme_of lexeme ≡ text_lexeme (dialect_of dialect.entry) text.now) }
 {
     if let Some(term) = plain_token(alloc, text)? {
         return Ok(Lexeme::Leaf(Query::Word(term)));
     }
-    match Query::of_terms(tokens(alloc, text)?) {
+    match Query::of_terms(tokens_by(alloc, dialect.cut, text)?) {
         Some(query) => Ok(Lexeme::Leaf(query)),
         None => Ok(Lexeme::Broken),
     }
@@ -82,8 +82,8 @@ pub fn text_of(alloc: Global, text: &str) -> Result<Lexeme, NoMemory>
 
 // The lexeme of a run.
 #[tactic(auto, unfolding(crate::specs::Lexemes::run_lexeme))]
-fn run_of(alloc: Global, run: &str) -> Result<Lexeme, NoMemory>
-    ensures { IfOk result (λ lexeme. lexeme_of lexeme ≡ run_lexeme run.now) }
+fn run_of(alloc: Global, dialect: Dialect<'_>, run: &str) -> Result<Lexeme, NoMemory>
+    ensures { IfOk result (λ lexeme. lexeme_of lexeme ≡ run_lexeme (dialect_of dialect.entry) run.now) }
 {
     if run == "OR" {
         return Ok(Lexeme::OrWord);
@@ -94,33 +94,33 @@ fn run_of(alloc: Global, run: &str) -> Result<Lexeme, NoMemory>
             None => Lexeme::Broken,
         });
     }
-    text_of(alloc, run)
+    text_of(alloc, dialect, run)
 }
 
 // The run that begins at this place.
-fn bare_at(alloc: Global, line: &str, at: usize) -> Result<Found, NoMemory>
+fn bare_at(alloc: Global, dialect: Dialect<'_>, line: &str, at: usize) -> Result<Found, NoMemory>
     requires boundary { IsCharBoundary line.now at }
     requires within { at < length line.now }
     ensures lexeme { IfOk result (λ found.
-        lexeme_of found.lexeme ≡ (bare (slice_index line.now at) (drop (at + 1) line.now)).0) }
+        lexeme_of found.lexeme ≡ (bare (dialect_of dialect.entry) (slice_index line.now at) (drop (at + 1) line.now)).0) }
     ensures end { IfOk result (λ found.
-        found.end ≡ at + 1 + (bare (slice_index line.now at) (drop (at + 1) line.now)).1) }
+        found.end ≡ at + 1 + (bare (dialect_of dialect.entry) (slice_index line.now at) (drop (at + 1) line.now)).1) }
     ensures boundary { IfOk result (λ found. IsCharBoundary line.now found.end) }
 {
     let len = run_len(&line.as_bytes()[at + 1..]);
     let end = at + 1 + len;
-    let lexeme = run_of(alloc, &line[at..end])?;
+    let lexeme = run_of(alloc, dialect, &line[at..end])?;
     Ok(Found { lexeme, end })
 }
 
 // The lexeme that begins at this place of the line, where no blank stands and no field is named.
-fn first_at(alloc: Global, line: &str, at: usize) -> Result<Found, NoMemory>
+fn first_at(alloc: Global, dialect: Dialect<'_>, line: &str, at: usize) -> Result<Found, NoMemory>
     requires boundary { IsCharBoundary line.now at }
     requires within { at < length line.now }
     ensures lexeme { IfOk result (λ found.
-        lexeme_of found.lexeme ≡ (first (slice_index line.now at) (drop (at + 1) line.now)).0) }
+        lexeme_of found.lexeme ≡ (first (dialect_of dialect.entry) (slice_index line.now at) (drop (at + 1) line.now)).0) }
     ensures end { IfOk result (λ found.
-        found.end ≡ at + 1 + (first (slice_index line.now at) (drop (at + 1) line.now)).1) }
+        found.end ≡ at + 1 + (first (dialect_of dialect.entry) (slice_index line.now at) (drop (at + 1) line.now)).1) }
     ensures boundary { IfOk result (λ found. IsCharBoundary line.now found.end) }
 {
     let byte = line.as_bytes()[at];
@@ -143,28 +143,28 @@ fn first_at(alloc: Global, line: &str, at: usize) -> Result<Found, NoMemory>
         });
     }
     if byte == b'"' {
-        return quoted_at(alloc, line, at);
+        return quoted_at(alloc, dialect, line, at);
     }
-    bare_at(alloc, line, at)
+    bare_at(alloc, dialect, line, at)
 }
 
 /// The lexeme that begins at this place of the line, where no blank stands.
 pub fn lexeme_at(
     alloc: Global,
-    fields: Fields<'_>,
+    dialect: Dialect<'_>,
     line: &str,
     at: usize,
 ) -> Result<Found, NoMemory>
     requires boundary { IsCharBoundary line.now at }
     requires within { at < length line.now }
     ensures lexeme { IfOk result (λ found.
-        lexeme_of found.lexeme ≡ (first_with (names fields.entry) (slice_index line.now at) (drop (at + 1) line.now)).0) }
+        lexeme_of found.lexeme ≡ (first_with (dialect_of dialect.entry) (slice_index line.now at) (drop (at + 1) line.now)).0) }
     ensures end { IfOk result (λ found.
-        found.end ≡ at + 1 + (first_with (names fields.entry) (slice_index line.now at) (drop (at + 1) line.now)).1) }
+        found.end ≡ at + 1 + (first_with (dialect_of dialect.entry) (slice_index line.now at) (drop (at + 1) line.now)).1) }
     ensures boundary { IfOk result (λ found. IsCharBoundary line.now found.end) }
 {
-    match fields.begun_by(&line[at..]) {
+    match dialect.fields.begun_by(&line[at..]) {
         Some(name) => value_at(alloc, name, line, at + name.len() + 1),
-        None => first_at(alloc, line, at),
+        None => first_at(alloc, dialect, line, at),
     }
 }

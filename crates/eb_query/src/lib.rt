@@ -6,7 +6,7 @@
 //! the same lines, where a field's name and value ask for the documents that have them. That they give each line a reading, and one alone, and
 //! that what is written reads back, are the laws [`some_reading`], [`one_reading`], [`some_watch_reading`],
 //! [`one_watch_reading`] and [`reads_back`]; that without fields nothing of
-//! them is read is [`without_fields`], and that a field's term stands in no phrase or window is [`fields_apart`].
+//! them is read is [`in_plain`], and that a field's term stands in no phrase or window is [`fields_apart`].
 #![tactic(auto)]
 
 mod bound;
@@ -23,8 +23,8 @@ mod watch;
 mod write;
 
 pub use laws::{
-    fields_apart, one_reading, one_watch_reading, reads_back, some_reading, some_watch_reading,
-    without_fields,
+    fields_apart, in_plain, one_reading, one_watch_reading, reads_back, some_reading,
+    some_watch_reading,
 };
 pub use number::MAX_NUMBER;
 pub use read::{QueryFault, read_query, read_query_with};

@@ -2,7 +2,8 @@ ghost use Rattle.std.specs.Prelude.{◌≡◌, ◌+◌, ◌<◌, ◌≤◌, leng
 ghost use Rattle.std.specs.List.{position_or_len};
 ghost use Rattle.std.specs.Str.{IsCharBoundary};
 ghost use Rattle.eb_base.specs.Query.{window_of};
-ghost use Rattle.eb_text.specs.Tokens.{tokens_of};
+ghost use Rattle.eb_fields.specs.Dialect.{dialect_of};
+ghost use Rattle.eb_text.specs.Pieces as spec;
 ghost use Rattle.eb_query.specs.Digits.{is_no_digit};
 ghost use Rattle.eb_query.specs.Lexemes.{is_quote, of_leaf, is_run_end, reach_by, has_tilde, window_lexeme, quoted_lexeme, tilde_len, quoted};
 ghost use Rattle.eb_query.specs.Views.{lexeme_of};
@@ -10,7 +11,8 @@ ghost use Rattle.eb_query.specs.Views.{lexeme_of};
 use crate::digits::{digits_at, value_of};
 use crate::lexeme::{Found, Lexeme, ends_run_byte, text_of};
 use eb_base::{MAX_REACH, NoMemory, Query};
-use eb_text::tokens;
+use eb_fields::Dialect;
+use eb_text::{Cut, tokens_by};
 use std::alloc::Global;
 
 /// How many bytes stand before the first quotation mark; all, if there is none.
@@ -58,32 +60,38 @@ fn reach_at(bytes: &[u8], digits: usize) -> Option<u32>
 }
 
 // The leaf of a window text, by its tokens and its reach.
-fn window_leaf(alloc: Global, text: &str, reach: Option<u32>) -> Result<Lexeme, NoMemory>
+fn window_leaf(alloc: Global, cut: Cut, text: &str, reach: Option<u32>) -> Result<Lexeme, NoMemory>
     ensures { IfOk result (λ lexeme.
-        lexeme_of lexeme ≡ of_leaf (option_and_then (window_of (tokens_of text.now)) reach)) }
+        lexeme_of lexeme ≡ of_leaf (option_and_then (window_of (spec.tokens_by cut text.now)) reach)) }
 {
     let Some(reach) = reach else {
         return Ok(Lexeme::Broken);
     };
-    match Query::of_window(tokens(alloc, text)?, reach) {
+    match Query::of_window(tokens_by(alloc, cut, text)?, reach) {
         Some(query) => Ok(Lexeme::Leaf(query)),
         None => Ok(Lexeme::Broken),
     }
 }
 
 // The window text of this text, after whose tilde the digits begin at this place of the line.
-fn window_at(alloc: Global, text: &str, line: &str, from: usize) -> Result<Found, NoMemory>
+fn window_at(
+    alloc: Global,
+    dialect: Dialect<'_>,
+    text: &str,
+    line: &str,
+    from: usize,
+) -> Result<Found, NoMemory>
     requires within { from ≤ length line.now }
     requires boundary { IsCharBoundary line.now from }
     ensures lexeme { IfOk result (λ found.
-        lexeme_of found.lexeme ≡ window_lexeme text.now (drop from line.now)) }
+        lexeme_of found.lexeme ≡ window_lexeme (dialect_of dialect.entry) text.now (drop from line.now)) }
     ensures end { IfOk result (λ found.
         found.end ≡ from + position_or_len is_no_digit (drop from line.now)) }
     ensures boundary { IfOk result (λ found. IsCharBoundary line.now found.end) }
 {
     let rest = &line.as_bytes()[from..];
     let digits = digits_at(rest);
-    let lexeme = window_leaf(alloc, text, reach_at(rest, digits))?;
+    let lexeme = window_leaf(alloc, dialect.cut, text, reach_at(rest, digits))?;
     Ok(Found {
         lexeme,
         end: from + digits,
@@ -92,18 +100,24 @@ fn window_at(alloc: Global, text: &str, line: &str, from: usize) -> Result<Found
 
 // The lexeme of this text between quotation marks, of which the second stands right before this
 // place of the line.
-fn closed_at(alloc: Global, text: &str, line: &str, behind: usize) -> Result<Found, NoMemory>
+fn closed_at(
+    alloc: Global,
+    dialect: Dialect<'_>,
+    text: &str,
+    line: &str,
+    behind: usize,
+) -> Result<Found, NoMemory>
     requires within { behind ≤ length line.now }
     requires boundary { IsCharBoundary line.now behind }
     ensures lexeme { IfOk result (λ found.
-        lexeme_of found.lexeme ≡ quoted_lexeme text.now (drop behind line.now)) }
+        lexeme_of found.lexeme ≡ quoted_lexeme (dialect_of dialect.entry) text.now (drop behind line.now)) }
     ensures end { IfOk result (λ found. found.end ≡ behind + tilde_len (drop behind line.now)) }
     ensures boundary { IfOk result (λ found. IsCharBoundary line.now found.end) }
 {
     if has_tilde_at(line.as_bytes(), behind) {
-        return window_at(alloc, text, line, behind + 1);
+        return window_at(alloc, dialect, text, line, behind + 1);
     }
-    let lexeme = text_of(alloc, text)?;
+    let lexeme = text_of(alloc, dialect, text)?;
     Ok(Found {
         lexeme,
         end: behind,
@@ -111,13 +125,18 @@ fn closed_at(alloc: Global, text: &str, line: &str, behind: usize) -> Result<Fou
 }
 
 /// The quoted text or the window text whose first quotation mark stands at this place.
-pub fn quoted_at(alloc: Global, line: &str, at: usize) -> Result<Found, NoMemory>
+pub fn quoted_at(
+    alloc: Global,
+    dialect: Dialect<'_>,
+    line: &str,
+    at: usize,
+) -> Result<Found, NoMemory>
     requires within { at < length line.now }
     requires quote { slice_index line.now at ≡ 34 }
     ensures lexeme { IfOk result (λ found.
-        lexeme_of found.lexeme ≡ (quoted (drop (at + 1) line.now)).0) }
+        lexeme_of found.lexeme ≡ (quoted (dialect_of dialect.entry) (drop (at + 1) line.now)).0) }
     ensures end { IfOk result (λ found.
-        found.end ≡ at + 1 + (quoted (drop (at + 1) line.now)).1) }
+        found.end ≡ at + 1 + (quoted (dialect_of dialect.entry) (drop (at + 1) line.now)).1) }
     ensures boundary { IfOk result (λ found. IsCharBoundary line.now found.end) }
 {
     let start = at + 1;
@@ -129,5 +148,5 @@ pub fn quoted_at(alloc: Global, line: &str, at: usize) -> Result<Found, NoMemory
         });
     }
     let quote = start + len;
-    closed_at(alloc, &line[start..quote], line, quote + 1)
+    closed_at(alloc, dialect, &line[start..quote], line, quote + 1)
 }

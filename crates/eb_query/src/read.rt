@@ -2,7 +2,7 @@ ghost use Rattle.std.specs.Prelude.{◌≡◌, ◌+◌, ◌≤◌, length, drop,
 ghost use Rattle.std.specs.Str.{IsCharBoundary};
 ghost use Rattle.eb_base.specs.Query.{tree, IsWellFormed};
 ghost use Rattle.eb_query.specs.Lexemes.{lexemes};
-ghost use Rattle.eb_fields.specs.Fields.{names};
+ghost use Rattle.eb_fields.specs.Dialect.{dialect_of};
 ghost use Rattle.eb_query.specs.Reading.{asks, ReadsAs, ReadsWith};
 ghost use Rattle.eb_query.specs.Refusal.{IsRefused, IsRefusedWith};
 ghost use Rattle.eb_query.specs.Machine.{start, outcome};
@@ -13,7 +13,7 @@ use crate::lexeme::{is_blank_byte, lexeme_at};
 use crate::number::number_at;
 use crate::reader::{Reader, Step};
 use eb_base::{NoMemory, Query};
-use eb_fields::Fields;
+use eb_fields::Dialect;
 use std::alloc::Global;
 use std::error::Error;
 use std::fmt;
@@ -75,14 +75,14 @@ impl From<NoMemory> for QueryFault {
 // What the text that begins at this place asks.
 pub(crate) fn read_text(
     alloc: Global,
-    fields: Fields<'_>,
+    dialect: Dialect<'_>,
     line: &str,
     from: usize,
 ) -> Result<Query, QueryFault>
     requires boundary { IsCharBoundary line.now from }
     requires within { from ≤ length line.now }
     ensures { Finds line.now
-        (outcome line.now (lexemes (names fields.entry) 0 (from + 1) (drop from line.now)) start) result }
+        (outcome line.now (lexemes (dialect_of dialect.entry) 0 (from + 1) (drop from line.now)) start) result }
 {
     let mut reader = Reader::new(alloc);
     let mut at = from;
@@ -90,7 +90,7 @@ pub(crate) fn read_text(
         if is_blank_byte(line.as_bytes()[at]) {
             at += 1;
         } else {
-            let found = lexeme_at(alloc, fields, line, at)?;
+            let found = lexeme_at(alloc, dialect, line, at)?;
             match reader.read(alloc, found.lexeme)? {
                 Step::Stood => {}
                 Step::Misplaced => {
@@ -143,7 +143,7 @@ pub fn read_query(alloc: Global, line: &str) -> Result<(u32, Query), QueryFault>
     ensures within { IfOk result (λ asked. asked.0 ≤ most_matches) }
     ensures well_formed { IfOk result (λ asked. IsWellFormed (tree asked.1)) }
 {
-    read_query_with(alloc, Fields::none(), line)
+    read_query_with(alloc, Dialect::plain(), line)
 }
 
 /// What a line that begins with `?` asks, where fields are read, as [`read_query`] says. Where a part
@@ -156,12 +156,12 @@ pub fn read_query(alloc: Global, line: &str) -> Result<(u32, Query), QueryFault>
 /// A field without a value, and one whose quote isn't closed, are a `BadQuery` at the name.
 pub fn read_query_with(
     alloc: Global,
-    fields: Fields<'_>,
+    dialect: Dialect<'_>,
     line: &str,
 ) -> Result<(u32, Query), QueryFault>
     requires question_mark { slice_get line.now 0 ≡ Some 63 }
-    ensures asks { IfOk result (λ asked. ReadsWith (names fields.entry) line.now (asks asked.0 (tree asked.1))) }
-    ensures refused { IfErr result (IsRefusedWith (names fields.entry) line.now) }
+    ensures asks { IfOk result (λ asked. ReadsWith (dialect_of dialect.entry) line.now (asks asked.0 (tree asked.1))) }
+    ensures refused { IfErr result (IsRefusedWith (dialect_of dialect.entry) line.now) }
     ensures some { IfOk result (λ asked. 1 ≤ asked.0) }
     ensures within { IfOk result (λ asked. asked.0 ≤ most_matches) }
     ensures well_formed { IfOk result (λ asked. IsWellFormed (tree asked.1)) }
@@ -169,6 +169,6 @@ pub fn read_query_with(
     let Some(number) = number_at(line.as_bytes()) else {
         return Err(QueryFault::BadNumber);
     };
-    let query = read_text(alloc, fields, line, number.end)?;
+    let query = read_text(alloc, dialect, line, number.end)?;
     Ok((number.value, query))
 }

@@ -2,7 +2,7 @@ ghost use Rattle.std.specs.Prelude.{◌≡◌, ◌≤◌, length, drop, Some, sl
 ghost use Rattle.std.specs.List.{list_all};
 ghost use Rattle.eb_base.specs.Query.{tree, IsWellFormed};
 ghost use Rattle.eb_query.specs.Lexemes.{is_blank};
-ghost use Rattle.eb_fields.specs.Fields.{names};
+ghost use Rattle.eb_fields.specs.Dialect.{dialect_of};
 ghost use Rattle.eb_query.specs.WatchLine.{watch_asked, ReadsWatchAs, ReadsWatchWith};
 ghost use Rattle.eb_query.specs.Refusal.{IsWatchRefused, IsWatchRefusedWith};
 
@@ -10,7 +10,7 @@ use crate::lexeme::is_blank_byte;
 use crate::number::number_up_to;
 use crate::read::{QueryFault, read_text};
 use eb_base::Query;
-use eb_fields::Fields;
+use eb_fields::Dialect;
 use std::alloc::Global;
 
 // Whether each of these bytes is a blank.
@@ -41,19 +41,19 @@ pub fn read_watch(alloc: Global, line: &str) -> Result<(u32, Option<Query>), Que
     ensures refused { IfErr result (IsWatchRefused line.now) }
     ensures well_formed { IfOk result (λ asked. IfSome asked.1 (λ query. IsWellFormed (tree query))) }
 {
-    read_watch_with(alloc, Fields::none(), line)
+    read_watch_with(alloc, Dialect::plain(), line)
 }
 
 /// What a line that begins with `!` asks, where fields are read: [`read_watch`] says it, and
 /// [`read_query_with`](crate::read_query_with) what a field in the query is.
 pub fn read_watch_with(
     alloc: Global,
-    fields: Fields<'_>,
+    dialect: Dialect<'_>,
     line: &str,
 ) -> Result<(u32, Option<Query>), QueryFault>
     requires exclamation_mark { slice_get line.now 0 ≡ Some 33 }
-    ensures asks { IfOk result (λ asked. ReadsWatchWith (names fields.entry) line.now (watch_asked asked.0 (option_map tree asked.1))) }
-    ensures refused { IfErr result (IsWatchRefusedWith (names fields.entry) line.now) }
+    ensures asks { IfOk result (λ asked. ReadsWatchWith (dialect_of dialect.entry) line.now (watch_asked asked.0 (option_map tree asked.1))) }
+    ensures refused { IfErr result (IsWatchRefusedWith (dialect_of dialect.entry) line.now) }
     ensures well_formed { IfOk result (λ asked. IfSome asked.1 (λ query. IsWellFormed (tree query))) }
 {
     let Some(number) = number_up_to(line.as_bytes(), 10, u32::MAX) else {
@@ -62,6 +62,6 @@ pub fn read_watch_with(
     if is_blank_from(line.as_bytes(), number.end) {
         return Ok((number.value, None));
     }
-    let query = read_text(alloc, fields, line, number.end)?;
+    let query = read_text(alloc, dialect, line, number.end)?;
     Ok((number.value, Some(query)))
 }

@@ -12,7 +12,17 @@ use Rattle.caseless.specs.Caseless.{default_case_fold}
 use Rattle.caseless.proofs.CaselessLemmas.{default_case_fold-cons, default_case_fold-nil}
 use Rattle.unicode_segmentation.specs.Segments.{Rule, cut, prepend, segments, has_alphanumeric}
 use Rattle.unicode_segmentation.specs.Word.{words, is_word_break}
+use Rattle.std.proofs.Common.{◌+◌, ◌≤◌, slice_index, take, drop, inl, inr, sym, length-drop}
+use Rattle.std.specs.List.{flat_map, position_or_len}
+use Rattle.std.proofs.lemmas.Bool.{cases_lt}
+use Rattle.std.proofs.lemmas.Bool.Decides.{nat_tests}
+use Rattle.std.proofs.lemmas.List.Sums.{passes_at_first, prefix_len-le-length}
+use Rattle.std.proofs.lemmas.Str.{IsUtf8-take, IsUtf8-drop, IsCharBoundary-before_ascii, IsCharBoundary-after_ascii}
 use Rattle.eb_text.specs.Tokens.{folded, tokens_of}
+use Rattle.eb_text.specs.Pieces.{is_mark, has_byte, pieces, in_cut, tokens_by}
+use Rattle.eb_text.specs.declared.cutting.Cut.{Cut}
+use Rattle.eb_text.specs.declared.cutting.Cut.TheVariants.{Words, Pieces}
+use Rattle.eb_text.proofs.InPieces.{pieces_first, pieces_last}
 
 both : (a b : Bool) → a ≡ true → b ≡ true → (a && b) ≡ true
 both a b p q = ap₂ ◌&&◌ p q
@@ -86,3 +96,50 @@ among (s ∷ ts) t h (suc k) lt e = among ts t h.1 k (omega arith) e
 -- each token of a text is a text
 pub token_utf8 : (text token : List ℕ) → IsUtf8 text → Contains (tokens_of text) token → IsUtf8 token
 token_utf8 text token u c = among (tokens_of text) token (tokens_utf8 text u) c.0 c.1 c.2
+
+-- ---- in pieces
+
+append_utf8 : (xs ys : List (List ℕ)) → AreUtf8 xs → AreUtf8 ys → AreUtf8 (xs ++ ys)
+append_utf8 [] ys h k = k
+append_utf8 (x ∷ xs) ys h k = (h.0, append_utf8 xs ys h.1 k)
+
+-- up to an ASCII character, and behind it
+module _ (text : List ℕ) (u : IsUtf8 text) (at : ℕ) (lt : at < length text) (low : slice_index text at < 128) where
+  front_utf8 : IsUtf8 (take at text)
+  front_utf8 = IsUtf8-take text at u (IsCharBoundary-before_ascii text at lt low)
+
+  back_utf8 : IsUtf8 (drop (at + 1) text)
+  back_utf8 = IsUtf8-drop text (at + 1) u (IsCharBoundary-after_ascii text at u lt low)
+
+mark_low : (b : ℕ) → is_mark b ≡ true → b < 128
+mark_low b h = grind (arith, nat_tests)
+
+pieces_utf8 : (n : ℕ) (text : List ℕ) → length text ≤ n → IsUtf8 text → AreUtf8 (pieces text)
+pieces_utf8 zero [] le u = tt
+pieces_utf8 zero (c ∷ cs) le u = absurd (omega arith)
+pieces_utf8 (suc n) text le u = elim (cases_lt (position_or_len is_mark text) (length text)) [ inl lt ↦ go lt (pieces_utf8 n) | inr end ↦ last end ]
+  where
+    last : length text ≤ position_or_len is_mark text → AreUtf8 (pieces text)
+    last end =
+        let whole : position_or_len is_mark text ≡ length text = omega (arith, prefix_len-le-length) in
+        subst AreUtf8 (sym (pieces_last text whole)) (kept has_byte (text ∷ []) (u, tt))
+
+    go : position_or_len is_mark text < length text → ((t : List ℕ) → length t ≤ n → IsUtf8 t → AreUtf8 (pieces t)) → AreUtf8 (pieces text)
+    go lt more =
+        let at = position_or_len is_mark text in
+        let low = mark_low (slice_index text at) (passes_at_first is_mark text 0 lt) in
+        let short : length (drop (at + 1) text) ≤ n = omega (arith, length-drop (at + 1) text) in
+        subst AreUtf8 (sym (pieces_first text lt))
+        (append_utf8 _ _ (kept has_byte (take at text ∷ []) (front_utf8 text u at lt low, tt)) (more (drop (at + 1) text) short (back_utf8 text u at lt low)))
+
+all_pieces_utf8 : (ts : List (List ℕ)) → AreUtf8 ts → AreUtf8 (flat_map pieces ts)
+all_pieces_utf8 [] h = tt
+all_pieces_utf8 (t ∷ ts) h = append_utf8 (pieces t) (flat_map pieces ts) (pieces_utf8 (length t) t (omega arith) h.0) (all_pieces_utf8 ts h.1)
+
+by_cut : (w : Cut) (ts : List (List ℕ)) → AreUtf8 ts → AreUtf8 (in_cut w ts)
+by_cut Words ts h = h
+by_cut Pieces ts h = all_pieces_utf8 ts h
+
+-- each token of a text is a text, however it is cut
+pub token_by_utf8 : (w : Cut) (text token : List ℕ) → IsUtf8 text → Contains (tokens_by w text) token → IsUtf8 token
+token_by_utf8 w text token u c = among (tokens_by w text) token (by_cut w (tokens_of text) (tokens_utf8 text u)) c.0 c.1 c.2

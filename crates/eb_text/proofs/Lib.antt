@@ -3,3 +3,8 @@ pub mod Folding
 pub mod Parting
 pub mod Words
 pub mod VectorsParting
+pub mod InPieces
+pub mod Runs
+pub mod ByCut
+pub mod PieceLaws
+pub mod VectorsPieces

@@ -134,7 +134,7 @@ head_letter : (c : ℕ) (before : List ℕ) → is_ignored (word_break c) ≡ fa
 head_letter c before h = ap (λ vs. value_at vs 0) (significant-kept c before h)
 
 -- letters and digits are joined
-rule_letters : (c : ℕ) (before : List ℕ) (d : ℕ) (after : List ℕ) → is_letter (word_break c) ≡ true → is_letter (word_break d) ≡ true → is_word_break (c ∷ before) (d ∷ after) ≡ false
+pub rule_letters : (c : ℕ) (before : List ℕ) (d : ℕ) (after : List ℕ) → is_letter (word_break c) ≡ true → is_letter (word_break d) ≡ true → is_word_break (c ∷ before) (d ∷ after) ≡ false
 rule_letters c before d after h k =
     rule_is c before d after
     ∙ ap (λ z. breaks (word_break c) (word_break d) (is_extended_pictographic d) (value_at (significant (c ∷ before)) 1) z (value_at (significant after) 0)

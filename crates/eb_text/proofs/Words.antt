@@ -17,10 +17,10 @@ use Rattle.eb_text.specs.Parting.{IsAlphanumeric, IsParting}
 use Rattle.eb_text.proofs.Parting.{is_letter, letter_value, other_value, parted, whole}
 
 -- the words of the characters
-abbrev words_of : List ℕ → List (List ℕ)
+abbrev pub words_of : List ℕ → List (List ℕ)
 words_of cs = filter has_alphanumeric (map encode_utf8_all (cut is_word_break [] cs []))
 
-words_by_chars : (text : List ℕ) → words text ≡ words_of (chars text)
+pub words_by_chars : (text : List ℕ) → words text ≡ words_of (chars text)
 unfolding segments
 words_by_chars text = refl
 

@@ -12,7 +12,16 @@ ghost use Rattle.ucd_case.specs.CaseFolding.{full_fold};
 ghost use Rattle.unicode_segmentation.specs.Word.{words};
 ghost use Rattle.eb_text.specs.Parting.{IsAlphanumeric, IsPlain, IsParting};
 ghost use Rattle.eb_text.specs.Tokens.{IsFoldedByte, folded, tokens_of};
+ghost use Rattle.eb_text.specs.Pieces as spec;
+ghost use Rattle.eb_text.specs.declared.cutting.Cut.{Cut as How};
 
+mod cutting;
+mod laws;
+mod pieces;
+
+pub use crate::cutting::Cut;
+pub use crate::laws::pieces_of_tokens;
+use crate::pieces::{push_pieces, push_token};
 use caseless::default_case_fold_str;
 use eb_base::{NoMemory, Term, Terms};
 use std::alloc::Global;
@@ -20,7 +29,7 @@ use ucd_case::full_folding;
 use unicode_segmentation::UnicodeSegmentation;
 
 // The most bytes of a text of ASCII that is folded in place.
-const SHORT: usize = 64;
+pub(crate) const SHORT: usize = 64;
 
 /// The tokens of the text, in order: its words by the word boundaries of UAX #29, each under the
 /// default case folding of Unicode. A piece without a letter or a number is no word, so a text of
@@ -29,12 +38,19 @@ const SHORT: usize = 64;
 pub fn tokens(alloc: Global, text: &str) -> Result<Terms, NoMemory>
     ensures { IfOk result (λ terms. terms ≡ tokens_of text.now) }
 {
+    tokens_by(alloc, Cut::Words, text)
+}
+
+/// The same tokens, each whole or in pieces.
+pub fn tokens_by(alloc: Global, cut: Cut, text: &str) -> Result<Terms, NoMemory>
+    ensures { IfOk result (λ terms. terms ≡ spec.tokens_by cut text.now) }
+{
     let mut terms = Terms::with_capacity(alloc, text.len() / 4 + 1)?;
     let mut rest = text;
     loop {
         let plain = plain_front(rest);
         let end = parting_space(rest, plain);
-        push_tokens(alloc, &rest[..end], plain, &mut terms)?;
+        push_tokens(alloc, cut, &rest[..end], plain, &mut terms)?;
         if end == rest.len() {
             return Ok(terms);
         }
@@ -45,7 +61,7 @@ pub fn tokens(alloc: Global, text: &str) -> Result<Terms, NoMemory>
 /// The token of a text that is one word of letters and digits of ASCII, and `None` of any other text, whose tokens
 /// [`tokens`] gives. Takes memory for a long token alone, and answers `NoMemory` where there is none.
 pub fn plain_token(alloc: Global, text: &str) -> Result<Option<Term>, NoMemory>
-    ensures { IfOk result (λ found. MatchOption found (IsPlain text.now → ⊥) (λ term. tokens_of text.now ≡ term ∷ [])) }
+    ensures { IfOk result (λ found. MatchOption found (IsPlain text.now → ⊥) (λ term. (cut : How) → spec.tokens_by cut text.now ≡ term ∷ [])) }
 {
     let plain = plain_front(text);
     if plain == 0 || plain != text.len() {
@@ -58,12 +74,21 @@ pub fn plain_token(alloc: Global, text: &str) -> Result<Option<Term>, NoMemory>
 // Puts the tokens of a text at the end, of which so many bytes at its front are letters and digits of ASCII: where
 // all are, the text is one word.
 #[inline(always)]
-fn push_tokens(alloc: Global, text: &str, plain: usize, terms: &mut Terms) -> Result<(), NoMemory>
+fn push_tokens(
+    alloc: Global,
+    cut: Cut,
+    text: &str,
+    plain: usize,
+    terms: &mut Terms,
+) -> Result<(), NoMemory>
     requires { All IsAlphanumeric (take plain text.now) }
-    ensures { IfOk result (λ _. terms.new ≡ terms.old ++ tokens_of text.now) }
+    ensures { IfOk result (λ _. terms.new ≡ terms.old ++ spec.tokens_by cut text.now) }
 {
     if plain == 0 || plain != text.len() {
-        return push_words(alloc, text, terms);
+        return match cut {
+            Cut::Words => push_words(alloc, cut, text, terms),
+            Cut::Pieces => push_pieces(alloc, text, terms),
+        };
     }
     let term = folded_term(alloc, text)?;
     terms.push(term)?;
@@ -71,19 +96,24 @@ fn push_tokens(alloc: Global, text: &str, plain: usize, terms: &mut Terms) -> Re
 }
 
 // The same of any text.
-fn push_words(alloc: Global, text: &str, terms: &mut Terms) -> Result<(), NoMemory>
-    ensures { IfOk result (λ _. terms.new ≡ terms.old ++ tokens_of text.now) }
+pub(crate) fn push_words(
+    alloc: Global,
+    cut: Cut,
+    text: &str,
+    terms: &mut Terms,
+) -> Result<(), NoMemory>
+    ensures { IfOk result (λ _. terms.new ≡ terms.old ++ spec.tokens_by cut text.now) }
 {
     for word in text.unicode_words() {
         let term = folded_term(alloc, word)?;
-        terms.push(term)?;
+        push_token(alloc, cut, term, terms)?;
     }
     Ok(())
 }
 
 // How many bytes at the front are letters and digits of ASCII.
 #[inline(always)]
-fn plain_front(text: &str) -> usize
+pub(crate) fn plain_front(text: &str) -> usize
     ensures within { result ≤ length text.now }
     ensures plain { All IsAlphanumeric (take result text.now) }
     ensures most { result < length text.now → IsAlphanumeric (slice_index text.now result) → ⊥ }
@@ -173,7 +203,7 @@ fn short_folded_term(alloc: Global, text: &str) -> Result<Term, NoMemory>
 }
 
 // Whether all bytes of a text are ASCII, byte by byte, since words are short.
-fn is_ascii(text: &str) -> bool
+pub(crate) fn is_ascii(text: &str) -> bool
     ensures { IsTrue result → IsAscii text.now }
 {
     for byte in text.as_bytes() {

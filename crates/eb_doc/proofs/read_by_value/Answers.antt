@@ -4,23 +4,23 @@ use Rattle.serde_json.specs.View.{view}
 use Rattle.eb_base.specs.Document.{Doc}
 use Rattle.eb_doc.specs.declared.LineFault.{LineFault}
 use Rattle.eb_doc.specs.declared.LineFault.TheVariants.{NoMemory as out_of_memory, BadJson}
-use Rattle.eb_doc.proofs.Reading.{document_by_value}
+use Rattle.eb_doc.proofs.Reading.{by_value}
 use Rattle.eb_doc.proofs.read_by_value.Goals as goal
 
 pub returns-in-Ok-clause-document : goal.returns-in-Ok-clause-document
 returns-in-Ok-clause-document c =
-    let is = document_by_value c.args.line.now (Some (view c.in-Ok.value)) c.in-Ok.ensures.value in
+    let is = by_value c.args.cut c.args.line.now (Some (view c.in-Ok.value)) c.in-Ok.ensures.value in
     let P : Result Doc LineFault → Type 0 = λ r. IfOk c.document_in.result (λ d. r ≡ Ok d) in
     subst P (sym is) c.document_in.ensures.document
 
 pub returns-in-Ok-clause-refused : goal.returns-in-Ok-clause-refused
 returns-in-Ok-clause-refused c =
-    let is = document_by_value c.args.line.now (Some (view c.in-Ok.value)) c.in-Ok.ensures.value in
+    let is = by_value c.args.cut c.args.line.now (Some (view c.in-Ok.value)) c.in-Ok.ensures.value in
     let P : Result Doc LineFault → Type 0 = λ r. IfErr c.document_in.result (λ fault. (fault ≡ out_of_memory) ⊎ (r ≡ Err fault)) in
     subst P (sym is) c.document_in.ensures.refused
 
 pub returns-in-Err-clause-refused : goal.returns-in-Err-clause-refused
 returns-in-Err-clause-refused c = elim c.in-Err.ensures.refused [
   | inl memory ↦ inl memory
-  | inr bad ↦ inr (document_by_value c.args.line.now None bad.1 ∙ (let same : Err BadJson ≡ Err c.in-Err.fault = cc in same))
+  | inr bad ↦ inr (by_value c.args.cut c.args.line.now None bad.1 ∙ (let same : Err BadJson ≡ Err c.in-Err.fault = cc in same))
 ]

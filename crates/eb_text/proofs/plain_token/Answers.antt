@@ -1,8 +1,8 @@
-use Rattle.std.proofs.Common.{refl}
-use Rattle.eb_text.proofs.Words.{words_plain}
+use Rattle.std.proofs.Common.{◌∙◌, sym, ap, ◌∷◌, []}
+use Rattle.eb_text.proofs.ByCut.{plain_by}
 use Rattle.eb_text.proofs.plain_token.Goals as goal
 
 pub returns : goal.returns
 returns c =
-    let one = words_plain c.args.text.now c.plain_front-plain.result c.if-plain-eq0.false c.if-plain-text.false c.plain_front-plain.ensures.plain in
-    rw (one, ← c.in_ok-term.ensures) refl
+    λ w. plain_by w c.args.text.now c.plain_front-plain.result c.if-plain-eq0.false c.if-plain-text.false c.plain_front-plain.ensures.plain
+    ∙ ap (λ t. t ∷ []) (sym c.in_ok-term.ensures)

@@ -2,8 +2,9 @@
 use super::queries::fault_text;
 use eb_base::{Document, NoMemory, Query};
 use eb_doc::{DocumentReader, LineFault};
-use eb_fields::Fields;
+use eb_fields::{Dialect, Fields};
 use eb_query::{read_query_with, write_query};
+use eb_text::Cut;
 use std::alloc::{AllocError, Global};
 use std::test::Fail;
 
@@ -63,9 +64,17 @@ fn terms_of(alloc: Global, document: &Document) -> Result<String, AllocError> {
     shown(alloc, bytes.as_slice())
 }
 
+// How lines with these fields are read, where each word is a token.
+fn by(fields: Fields<'_>) -> Dialect<'_> {
+    Dialect {
+        fields,
+        cut: Cut::Words,
+    }
+}
+
 // What the line is with the fields: its terms, or its fault.
 fn told(alloc: Global, fields: Fields<'_>, line: &str) -> Result<String, AllocError> {
-    match DocumentReader::new(alloc).read_with(fields, line.as_bytes()) {
+    match DocumentReader::new(alloc).read_with(by(fields), line.as_bytes()) {
         Ok(document) => terms_of(alloc, &document),
         Err(fault) => format!(in alloc; "{fault}"),
     }
@@ -145,7 +154,7 @@ fn counted(alloc: Global, line: &str) -> Result<usize, LineFault> {
     let Some(fields) = Fields::read("from") else {
         return Ok(0);
     };
-    match DocumentReader::new(alloc).read_with(fields, line.as_bytes()) {
+    match DocumentReader::new(alloc).read_with(by(fields), line.as_bytes()) {
         Ok(document) => Ok(document.terms().len()),
         Err(fault) => Err(fault),
     }
@@ -189,7 +198,7 @@ fn reading(alloc: Global, fields: Fields<'_>, line: &str) -> Result<String, NoMe
     if !line.starts_with('?') {
         return Ok(String::from_str(alloc, "no query line")?);
     }
-    match read_query_with(alloc, fields, line) {
+    match read_query_with(alloc, by(fields), line) {
         Ok((k, query)) => written(alloc, k, &query),
         Err(fault) => Ok(fault_text(alloc, fault)?),
     }

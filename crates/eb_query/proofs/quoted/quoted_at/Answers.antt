@@ -1,3 +1,4 @@
+use Rattle.eb_fields.specs.Dialect.{dialect_of}
 use Rattle.std.proofs.Common.{ℕ, ◌+◌, drop, ap, sym, arith, length-drop}
 use Rattle.std.proofs.lemmas.Str.{IsCharBoundary-after_ascii}
 use Rattle.eb_query.specs.Grammar.{Lexeme}
@@ -9,12 +10,13 @@ use Rattle.eb_query.proofs.quoted.quoted_at.Goals as goal
 pub returns-then-len-line-clause-lexeme : goal.returns-then-len-line-clause-lexeme
 returns-then-len-line-clause-lexeme c =
     let e = found_len is_quote c.as_bytes.result.now c.args.line.now c.args.at c.quote_at-len.result c.as_bytes.ensures.value c.quote_at-len.ensures in let h = c.if-len-line.true in
-    sym (ap (λ (p : Lexeme × ℕ). p.0) (quoted_none (drop (c.args.at + 1) c.args.line.now) c.quote_at-len.result e (omega (arith, length-drop (c.args.at + 1) c.args.line.now))))
+    sym (ap (λ (p : Lexeme × ℕ). p.0) (quoted_none (dialect_of c.args.dialect) (drop (c.args.at + 1) c.args.line.now) c.quote_at-len.result e
+    (omega (arith, length-drop (c.args.at + 1) c.args.line.now))))
 
 pub returns-then-len-line-clause-end : goal.returns-then-len-line-clause-end
 returns-then-len-line-clause-end c =
     let e = found_len is_quote c.as_bytes.result.now c.args.line.now c.args.at c.quote_at-len.result c.as_bytes.ensures.value c.quote_at-len.ensures in let h = c.if-len-line.true in
-    rw (quoted_none (drop (c.args.at + 1) c.args.line.now) c.quote_at-len.result e (omega (arith, length-drop (c.args.at + 1) c.args.line.now)))
+    rw (quoted_none (dialect_of c.args.dialect) (drop (c.args.at + 1) c.args.line.now) c.quote_at-len.result e (omega (arith, length-drop (c.args.at + 1) c.args.line.now)))
     (omega (arith, length-drop (c.args.at + 1) c.args.line.now))
 
 pub overflow_add-quote : goal.overflow_add-quote
@@ -41,12 +43,14 @@ pub returns-clause-lexeme : goal.returns-clause-lexeme
 returns-clause-lexeme c =
     let e = found_len is_quote c.as_bytes.result.now c.args.line.now c.args.at c.quote_at-len.result c.as_bytes.ensures.value c.quote_at-len.ensures in
     let h = c.if-len-line.false in let w = cut_within is_quote c.args.line.now c.args.at c.quote_at-len.result c.requires.within e in
-    let q = quoted_is c.args.line.now c.range.result.now c.args.at c.quote_at-len.result e (omega (arith, length-drop (c.args.at + 1) c.args.line.now)) c.range.ensures.value in
+    let q = quoted_is (dialect_of c.args.dialect) c.args.line.now c.range.result.now c.args.at c.quote_at-len.result e
+    (omega (arith, length-drop (c.args.at + 1) c.args.line.now)) c.range.ensures.value in
     rw q c.closed_at.ensures.lexeme
 
 pub returns-clause-end : goal.returns-clause-end
 returns-clause-end c =
     let e = found_len is_quote c.as_bytes.result.now c.args.line.now c.args.at c.quote_at-len.result c.as_bytes.ensures.value c.quote_at-len.ensures in
     let h = c.if-len-line.false in let w = cut_within is_quote c.args.line.now c.args.at c.quote_at-len.result c.requires.within e in
-    let q = quoted_is c.args.line.now c.range.result.now c.args.at c.quote_at-len.result e (omega (arith, length-drop (c.args.at + 1) c.args.line.now)) c.range.ensures.value in
-    rw (quoted_end c.args.line.now c.args.at c.quote_at-len.result _ q) c.closed_at.ensures.end
+    let q = quoted_is (dialect_of c.args.dialect) c.args.line.now c.range.result.now c.args.at c.quote_at-len.result e
+    (omega (arith, length-drop (c.args.at + 1) c.args.line.now)) c.range.ensures.value in
+    rw (quoted_end (dialect_of c.args.dialect) c.args.line.now c.args.at c.quote_at-len.result _ q) c.closed_at.ensures.end

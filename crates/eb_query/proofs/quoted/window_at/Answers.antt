@@ -1,3 +1,4 @@
+use Rattle.eb_fields.specs.Dialect.{dialect_of}
 use Rattle.std.proofs.Common.{◌≡◌, ◌∙◌, drop, ap}
 use Rattle.std.specs.List.{position_or_len}
 use Rattle.eb_query.specs.Digits.{is_no_digit}
@@ -10,7 +11,8 @@ reach_at-requires c = found_within is_no_digit _ _ c.digits_at-digits.ensures
 pub returns-clause-lexeme : goal.returns-clause-lexeme
 returns-clause-lexeme c =
     c.in_ok-lexeme.ensures
-    ∙ window_is c.args.text.now c.as_bytes.result.now c.args.line.now c.args.from c.digits_at-digits.result c.reach_at.result c.as_bytes.ensures.value c.digits_at-digits.ensures c.reach_at.ensures
+    ∙ window_is (dialect_of c.args.dialect) c.args.text.now c.as_bytes.result.now c.args.line.now c.args.from c.digits_at-digits.result c.reach_at.result c.as_bytes.ensures.value
+    c.digits_at-digits.ensures c.reach_at.ensures
 
 pub returns-clause-boundary : goal.returns-clause-boundary
 returns-clause-boundary c =

@@ -1,7 +1,7 @@
+use Rattle.eb_fields.specs.Dialect.{dialect_of}
 use Rattle.std.proofs.Common.{◌+◌, ℕ, arith, ◌∙◌, ap, drop}
 use Rattle.std.proofs.lemmas.Option.{slice_get_within}
 use Rattle.eb_base.specs.Query.{tree}
-use Rattle.eb_fields.specs.Fields.{names}
 use Rattle.eb_query.specs.Number.{is_blank_or_end}
 use Rattle.eb_query.specs.Reading.{without_number}
 use Rattle.eb_query.specs.Refusal.{IsRefusedWith}
@@ -29,16 +29,16 @@ pub returns-in_err-query-clause-refused : goal.returns-in_err-query-clause-refus
 returns-in_err-query-clause-refused c =
     let h = rw c.as_bytes.ensures.value at c.in-Some.ensures.some in
     let e = rw c.as_bytes.ensures.value at c.in-Some.ensures.end in
-    handed_on (IsRefusedWith (names c.args.fields) c.args.line.now) c.in_err-query.field-0.0 c.from_residual.result c.from_residual.ensures.1
-    (faulted (names c.args.fields) c.args.line.now c.in-Some.number.end h e c.in_err-query.field-0.0 c.in_err-query.ensures)
+    handed_on (IsRefusedWith (dialect_of c.args.dialect) c.args.line.now) c.in_err-query.field-0.0 c.from_residual.result c.from_residual.ensures.1
+    (faulted (dialect_of c.args.dialect) c.args.line.now c.in-Some.number.end h e c.in_err-query.field-0.0 c.in_err-query.ensures)
 
 pub returns-clause-asks : goal.returns-clause-asks
 returns-clause-asks c =
     let h = rw c.as_bytes.ensures.value at c.in-Some.ensures.some in
     let v = rw c.as_bytes.ensures.value at c.in-Some.ensures.value in
     let e = rw c.as_bytes.ensures.value at c.in-Some.ensures.end in
-    asked (names c.args.fields) c.args.line.now c.in-Some.number.end c.in-Some.number.value c.in_ok-query.query h e v c.in_ok-query.ensures
+    asked (dialect_of c.args.dialect) c.args.line.now c.in-Some.number.end c.in-Some.number.value c.in_ok-query.query h e v c.in_ok-query.ensures
 
 pub returns-clause-well_formed : goal.returns-clause-well_formed
 returns-clause-well_formed c =
-    given_formed (names c.args.fields) c.args.line.now (c.in-Some.number.end + 1) (drop c.in-Some.number.end c.args.line.now) (tree c.in_ok-query.query) c.in_ok-query.ensures
+    given_formed (dialect_of c.args.dialect) c.args.line.now (c.in-Some.number.end + 1) (drop c.in-Some.number.end c.args.line.now) (tree c.in_ok-query.query) c.in_ok-query.ensures

@@ -1,6 +1,6 @@
+use Rattle.eb_fields.specs.Dialect.{dialect_of}
 use Rattle.std.proofs.Common.{◌≡◌, ◌+◌, ◌-◌, length, drop}
 use Rattle.std.specs.Str.{IsCharBoundary}
-use Rattle.eb_fields.specs.Fields.{names}
 use Rattle.eb_query.specs.Machine.{start, outcome}
 use Rattle.eb_query.specs.Lexemes.{lexemes}
 use Rattle.eb_query.specs.Views.{state_of, IsCounted}
@@ -8,7 +8,8 @@ use Rattle.eb_query.proofs.read.read_text.Given as goal
 
 abbrev pub invariant-loop-at : goal.invariant-loop-at
 invariant-loop-at l = record {
-  told : outcome l.line (lexemes (names l.fields) 0 (l.at + 1) (drop l.at l.line)) (state_of l.reader) ≡ outcome l.line (lexemes (names l.fields) 0 (l.fn.from + 1) (drop l.fn.from l.line)) start;
+  told : outcome l.line (lexemes (dialect_of l.dialect) 0 (l.at + 1) (drop l.at l.line)) (state_of l.reader) ≡ outcome l.line
+      (lexemes (dialect_of l.dialect) 0 (l.fn.from + 1) (drop l.fn.from l.line)) start;
   counted : IsCounted l.reader;
   boundary : IsCharBoundary l.line l.at;
 }

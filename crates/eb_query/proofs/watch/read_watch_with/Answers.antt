@@ -1,7 +1,7 @@
+use Rattle.eb_fields.specs.Dialect.{dialect_of}
 use Rattle.std.proofs.Common.{◌+◌, ℕ, arith, ◌∙◌, ap, sym, drop}
 use Rattle.std.proofs.lemmas.Option.{slice_get_within}
 use Rattle.eb_base.specs.Query.{tree}
-use Rattle.eb_fields.specs.Fields.{names}
 use Rattle.eb_query.specs.Number.{is_blank_or_end}
 use Rattle.eb_query.specs.WatchLine.{without_number}
 use Rattle.eb_query.specs.Refusal.{IsWatchRefusedWith}
@@ -24,7 +24,7 @@ returns-then-is_blank_from-clause-asks c =
     let v = rw c.as_bytes.ensures.value at c.in-Some.ensures.value in
     let e = rw c.as_bytes.ensures.value at c.in-Some.ensures.end in
     let b = rw c.as_bytes-2.ensures.value at (sym c.is_blank_from.ensures ∙ c.if-is_blank_from.true) in
-    removed (names c.args.fields) c.args.line.now c.in-Some.number.end c.in-Some.number.value h e v b
+    removed (dialect_of c.args.dialect) c.args.line.now c.in-Some.number.end c.in-Some.number.value h e v b
 
 pub read_text-requires-clause-within : goal.read_text-requires-clause-within
 read_text-requires-clause-within c =
@@ -43,8 +43,8 @@ returns-in_err-query-clause-refused c =
     let h = rw c.as_bytes.ensures.value at c.in-Some.ensures.some in
     let e = rw c.as_bytes.ensures.value at c.in-Some.ensures.end in
     let b = rw c.as_bytes-2.ensures.value at (sym c.is_blank_from.ensures ∙ c.if-is_blank_from.false) in
-    handed_on (IsWatchRefusedWith (names c.args.fields) c.args.line.now) c.in_err-query.field-0.0 c.from_residual.result c.from_residual.ensures.1
-    (watch_faulted (names c.args.fields) c.args.line.now c.in-Some.number.end h e b c.in_err-query.field-0.0 c.in_err-query.ensures)
+    handed_on (IsWatchRefusedWith (dialect_of c.args.dialect) c.args.line.now) c.in_err-query.field-0.0 c.from_residual.result c.from_residual.ensures.1
+    (watch_faulted (dialect_of c.args.dialect) c.args.line.now c.in-Some.number.end h e b c.in_err-query.field-0.0 c.in_err-query.ensures)
 
 pub returns-clause-asks : goal.returns-clause-asks
 returns-clause-asks c =
@@ -52,8 +52,8 @@ returns-clause-asks c =
     let v = rw c.as_bytes.ensures.value at c.in-Some.ensures.value in
     let e = rw c.as_bytes.ensures.value at c.in-Some.ensures.end in
     let b = rw c.as_bytes-2.ensures.value at (sym c.is_blank_from.ensures ∙ c.if-is_blank_from.false) in
-    watch_set (names c.args.fields) c.args.line.now c.in-Some.number.end c.in-Some.number.value c.in_ok-query.query h e v b c.in_ok-query.ensures
+    watch_set (dialect_of c.args.dialect) c.args.line.now c.in-Some.number.end c.in-Some.number.value c.in_ok-query.query h e v b c.in_ok-query.ensures
 
 pub returns-clause-well_formed : goal.returns-clause-well_formed
 returns-clause-well_formed c =
-    given_formed (names c.args.fields) c.args.line.now (c.in-Some.number.end + 1) (drop c.in-Some.number.end c.args.line.now) (tree c.in_ok-query.query) c.in_ok-query.ensures
+    given_formed (dialect_of c.args.dialect) c.args.line.now (c.in-Some.number.end + 1) (drop c.in-Some.number.end c.args.line.now) (tree c.in_ok-query.query) c.in_ok-query.ensures

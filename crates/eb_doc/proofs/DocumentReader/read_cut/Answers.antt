@@ -3,13 +3,13 @@ use Rattle.std.proofs.lemmas.Result.{IfOk-weaker, IfErr-weaker}
 use Rattle.eb_doc.specs.declared.look.Look.{Look}
 use Rattle.eb_doc.specs.DocumentLine.{value_of}
 use Rattle.eb_doc.specs.Looked.{IsLook}
-use Rattle.eb_doc.proofs.Reading.{document_by_value}
-use Rattle.eb_doc.proofs.DocumentReader.read.Goals as goal
+use Rattle.eb_doc.proofs.Reading.{by_value}
+use Rattle.eb_doc.proofs.DocumentReader.read_cut.Goals as goal
 
 pub returns-in-Ok-Object-clause-document : goal.returns-in-Ok-Object-clause-document
 returns-in-Ok-Object-clause-document c =
     let look : IsLook (Look.Object c.in-Ok-Object.found) (value_of c.args.line.now) = subst (λ k. IsLook k (value_of c.args.line.now)) c.in-Ok-Object.field-0-is c.in-Ok-Object.ensures in
-    IfOk-weaker c.document_by.result _ _ (λ document told. document_by_value c.args.line.now (Some look.0) look.1 ∙ told look.0 look.2) c.document_by.ensures.document
+    IfOk-weaker c.document_by.result _ _ (λ document told. by_value c.args.cut c.args.line.now (Some look.0) look.1 ∙ told look.0 look.2) c.document_by.ensures.document
 
 pub returns-in-Ok-Object-clause-refused : goal.returns-in-Ok-Object-clause-refused
 returns-in-Ok-Object-clause-refused c =
@@ -17,8 +17,8 @@ returns-in-Ok-Object-clause-refused c =
     IfErr-weaker c.document_by.result _ _
     (λ fault told. elim told [
       | inl memory ↦ inl memory
-      | inr other ↦ inr (document_by_value c.args.line.now (Some look.0) look.1 ∙ other look.0 look.2)
+      | inr other ↦ inr (by_value c.args.cut c.args.line.now (Some look.0) look.1 ∙ other look.0 look.2)
     ]) c.document_by.ensures.refused
 
 pub returns-in-Ok-NoJson-clause-refused : goal.returns-in-Ok-NoJson-clause-refused
-returns-in-Ok-NoJson-clause-refused c = inr (document_by_value c.args.line.now None (subst (λ k. IsLook k (value_of c.args.line.now)) c.in-Ok-NoJson.field-0-is c.in-Ok-NoJson.ensures))
+returns-in-Ok-NoJson-clause-refused c = inr (by_value c.args.cut c.args.line.now None (subst (λ k. IsLook k (value_of c.args.line.now)) c.in-Ok-NoJson.field-0-is c.in-Ok-NoJson.ensures))
