@@ -1,6 +1,7 @@
 -- The converters of all parts convert, each by itself.
-use Rattle.std.proofs.Common.{◌≡◌, ℕ, ◌+◌, ◌<◌, List, [], ◌∷◌, length, get_or, ap, sym, ◌∙◌, subst, arith}
-use Rattle.std.proofs.lemmas.List.{get_or-map}
+use Rattle.std.proofs.Common.{◌≡◌, ℕ, ◌+◌, ◌<◌, ◌≤◌, List, [], ◌∷◌, length, get_or, ap, sym, ◌∙◌, subst, arith, inl, inr}
+use Rattle.std.proofs.lemmas.Bool.{cases_lt}
+use Rattle.std.proofs.lemmas.List.{get_or-map, get_or_past}
 use Rattle.std.specs.List.{All}
 use Rattle.std.proofs.lemmas.List.Elements.{All-get_or}
 use mathlib.Core.List.{IsPrefix}
@@ -54,6 +55,19 @@ module _ (ws : List Words) (old new : List ConverterToken) (some : 0 < length ol
       let n : p < length new = omega (arith, o, long) in
       let there : history (converter_histories_of new) p ≡ (get_or new p any).docs = get_or-map (λ (x : ConverterToken). x.docs) new p any [] n in
       subst (λ (z : List Doc × List Doc). IsPrefix z.0 z.1) (λ i. (sym (docs_old p o) i, sym there i)) (done p o).known)
+
+  pub rising_more : (p : ℕ) → get_or (converted_of old) p 0 ≤ get_or (converted_of new) p 0
+  rising_more p = elim (cases_lt p (length old)) [
+    | inl lt ↦
+        let n : p < length new = omega (arith, lt, long) in
+        omega (
+          arith,
+          (done p lt).grown,
+          get_or-map (λ (x : ConverterToken). x.converted) old p any 0 lt,
+          get_or-map (λ (x : ConverterToken). x.converted) new p any 0 n,
+        )
+    | inr ge ↦ omega (arith, get_or_past (converted_of old) p 0 (omega (arith, ge, length_map (λ (x : ConverterToken). x.converted) old)))
+  ]
 
   pub all_converted : (σ : Setting) (hs : List (List Doc)) → All (λ w. w.setting ≡ σ) ws → AreFronts hs (converter_histories_of old) → AllConverted σ hs (converted_of new)
   all_converted σ hs all fronts = record {

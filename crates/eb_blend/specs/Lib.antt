@@ -1,4 +1,5 @@
 pub mod Blended
+pub mod Counted
 pub mod Parts
 pub mod Refused
 pub mod Frames

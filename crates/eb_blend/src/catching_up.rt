@@ -126,6 +126,7 @@ pub(crate) fn catch_up_each<R: Threads + Sync>(
     ensures indexes { converter_indexes_of converters.new ≡ converter_indexes_of converters.old }
     ensures known { AreFronts (converter_histories_of converters.old) (converter_histories_of converters.new) }
     ensures told { AreFronts (histories_of writers.old) (converter_histories_of converters.new) }
+    ensures rising { (p : ℕ) → get_or (converted_of converters.old) p 0 ≤ get_or (converted_of converters.new) p 0 }
     ensures converted { (σ : Setting) → All (λ w. w.setting ≡ σ) indexes.now → AllConverted σ (histories_of writers.old) (converted_of converters.new) }
 {
     let waits = tell_each(indexes, writers, converters);

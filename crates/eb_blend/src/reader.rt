@@ -5,14 +5,17 @@
 ghost use Rattle.std.specs.Prelude.{◌≡◌, ◌<◌, ℕ, map, length};
 ghost use Rattle.eb_base.specs.Query.{Tree};
 ghost use Rattle.eb_base.specs.Match.{answer};
-ghost use Rattle.eb_cursor.specs.Frames.{ids_of};
+ghost use Rattle.eb_count.specs.Tallies.{HasCounted};
+ghost use Rattle.eb_cursor.specs.Frames.{ids_of, query_of, SeenAs};
 ghost use Rattle.eb_blend.specs.Blended.{blended};
+ghost use Rattle.eb_blend.specs.Counted.{all_of};
 ghost use Rattle.eb_blend.specs.Parts.{indexes_of, histories_of, lengths_of, counted, AreFronts};
 ghost use Rattle.eb_blend.specs.Frames.{AllAsk, Asks, found_of, searched_of};
 
 use crate::blend::Blend;
 use crate::frame::BlendFrame;
 use eb_base::Gate;
+use eb_count::Tally;
 use eb_cursor::Frame;
 use eb_engine::{Index, Reader};
 use eb_place::Steps;
@@ -83,6 +86,54 @@ impl BlendReader {
         let count = count_each(self.readers.as_slice(), frame.lengths.as_mut_slice());
         frame.blend();
         count
+    }
+
+    /// Counts, in one tally, all matches among the documents of all parts, part after part, after what the tally held: of each
+    /// part those that are accepted when it loads the part's count. They begin with all documents of the part that this reader
+    /// knew before, and it knows them from then on. The frame is a plain one, and stays as it is. The reader must have been
+    /// made with this blend. Takes no memory.
+    pub fn count<G: Gate, L: Ledger>(
+        &mut self,
+        blend: &Blend,
+        frame: &mut Frame,
+        tally: &mut Tally,
+        gate: &G,
+        steps: &mut Steps<L>,
+    )
+        requires { self.old.indexes ≡ blend.now.indexes }
+        ensures indexes { self.new.indexes ≡ self.old.indexes }
+        ensures known { AreFronts self.old.histories self.new.histories }
+        ensures seen { SeenAs frame.old frame.new }
+        ensures counts { HasCounted (query_of frame.old) (all_of self.new.histories) tally.old tally.new }
+    {
+        tally_each(
+            self.readers.as_mut_slice(),
+            blend.parts.as_slice(),
+            frame,
+            tally,
+            gate,
+            steps,
+        );
+    }
+}
+
+// Counts in each part.
+fn tally_each<G: Gate, L: Ledger>(
+    readers: &mut [Reader],
+    indexes: &[Index],
+    frame: &mut Frame,
+    tally: &mut Tally,
+    gate: &G,
+    steps: &mut Steps<L>,
+)
+    requires made { indexes_of readers.old ≡ indexes.now }
+    ensures indexes { indexes_of readers.new ≡ indexes_of readers.old }
+    ensures fronts { AreFronts (histories_of readers.old) (histories_of readers.new) }
+    ensures seen { SeenAs frame.old frame.new }
+    ensures counts { HasCounted (query_of frame.old) (all_of (histories_of readers.new)) tally.old tally.new }
+{
+    for at in 0..readers.len() {
+        readers[at].count(&indexes[at], frame, tally, gate, steps);
     }
 }
 

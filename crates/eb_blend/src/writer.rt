@@ -219,6 +219,7 @@ impl BlendWriter {
         ensures parts { length converter.new.converted ≡ length converter.old.converted }
         ensures known { AreFronts converter.old.histories converter.new.histories }
         ensures told { AreFronts self.old.histories converter.new.histories }
+        ensures rising { (p : ℕ) → get_or converter.old.converted p 0 ≤ get_or converter.new.converted p 0 }
         ensures converted { AllConverted blend.now.setting self.old.histories converter.new.converted }
     {
         catch_up_each(

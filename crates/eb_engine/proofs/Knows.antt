@@ -13,6 +13,8 @@ use Rattle.eb_place.specs.Moments.{with_current, IsMoment}
 use Rattle.eb_place.specs.Later.{ReachesPacked, IsNotBefore}
 use Rattle.eb_place.proofs.Prefixes.{prefix_length, prefix_shorter, prefix_whole}
 use Rattle.eb_place.proofs.LaterMoments.{later_on}
+use Rattle.eb_count.specs.Tallies.{Numbers, HasCounted}
+use Rattle.eb_search.specs.Counted.{CountedOn, CountedLikely}
 use Rattle.eb_search.specs.Searched.{Searched, SearchedLikely}
 use Rattle.eb_search.specs.Visible.{AreNone}
 use Rattle.eb_search.proofs.Bounded.{front_is}
@@ -46,7 +48,7 @@ knows_more k l a b h le later =
     by_length p = grind (arith, length-take)
 
 -- who loads the count of accepted documents between two moments knows those that it knew
-counts_more : (k l : Known) (seen counted : ℕ) (loaded : Moment) → seen ≤ length k.moment.documents.accepted
+pub counts_more : (k l : Known) (seen counted : ℕ) (loaded : Moment) → seen ≤ length k.moment.documents.accepted
     → IsNotBefore loaded k.moment → IsNotBefore l.moment loaded → counted ≡ length loaded.documents.accepted → IsPrefix (first_of seen k) (first_of counted l)
 counts_more k l seen counted loaded h after before count =
     let n = prefix_length _ _ after.documents.accepted in
@@ -69,6 +71,24 @@ finds_likely k l σ counted most q likely found e s none =
     let same : take counted later ≡ accepted = ap (λ n. take n later) s.count ∙ front_is accepted later s.before.documents.accepted in
     let setting : σ ≡ s.loaded.setting = sym (s.before.setting ∙ e) in
     s.ids (subst (λ (x : Setting × List Doc). AreNone q (cut x.0 x.1) likely) (λ i. (setting i, same i)) none) ∙ ap (answer q most) (sym same)
+
+-- and what is counted is of those that it then knows
+pub counts_front : (k : Moment) (l : Known) (counted : ℕ) (q : Tree) (a b : Numbers) → CountedOn k l.moment q counted a b → HasCounted q (first_of counted l) a b
+counts_front k l counted q a b s =
+    let accepted = s.loaded.documents.accepted in
+    let later = l.moment.documents.accepted in
+    let same : take counted later ≡ accepted = ap (λ n. take n later) s.count ∙ front_is accepted later s.before.documents.accepted in
+    subst (λ (docs : List Doc). HasCounted q docs a b) (sym same) s.tally
+
+pub counts_front_likely : (k : Moment) (l : Known) (σ : Setting) (counted : ℕ) (q : Tree) (likely : List Bool) (a b : Numbers) → l.moment.setting ≡ σ
+    → CountedLikely k l.moment q likely counted a b → AreNone q (cut σ (first_of counted l)) likely → HasCounted q (first_of counted l) a b
+counts_front_likely k l σ counted q likely a b e s none =
+    let accepted = s.loaded.documents.accepted in
+    let later = l.moment.documents.accepted in
+    let same : take counted later ≡ accepted = ap (λ n. take n later) s.count ∙ front_is accepted later s.before.documents.accepted in
+    let setting : σ ≡ s.loaded.setting = sym (s.before.setting ∙ e) in
+    let there = subst (λ (x : Setting × List Doc). AreNone q (cut x.0 x.1) likely) (λ i. (setting i, same i)) none in
+    subst (λ (docs : List Doc). HasCounted q docs a b) (sym same) (s.tally there)
 
 -- a writer stands at a later moment of the same documents
 pub stays : (p : PlacerProgress) (m n : Moment) → IsMoment n → IsNotBefore n m → n.documents ≡ m.documents → PlacerStands p m → IsMoment n × PlacerStands p n

@@ -4,10 +4,12 @@ ghost use Rattle.eb_base.specs.Match.{answer};
 ghost use Rattle.eb_base.specs.Query.{word, conjunction};
 ghost use Rattle.eb_convert.specs.Converting.{IsConversion};
 ghost use Rattle.eb_cursor.specs.AndCosts.{word_parts};
-ghost use Rattle.eb_cursor.specs.Frames.{query_of, k_of, ids_of};
+ghost use Rattle.eb_count.specs.Tallies.{HasCounted};
+ghost use Rattle.eb_cursor.specs.Frames.{query_of, k_of, ids_of, SeenAs};
 ghost use Rattle.eb_place.specs.Later.{IsNotBefore};
 ghost use Rattle.eb_place.specs.Room.{HasRoom};
 ghost use Rattle.eb_engine.specs.Loads.{IsWithinBound, IsWithinAndBound};
+ghost use Rattle.eb_search.specs.Counted.{CountedOn, CountedLikely};
 ghost use Rattle.eb_search.specs.Searched.{Searched, SearchedLikely};
 ghost use Rattle.eb_table.specs.Known.{MadeWith};
 ghost use Rattle.eb_writer.specs.Progress.{PlacerStands, HasNoRoom};
@@ -15,9 +17,10 @@ ghost use Rattle.eb_writer.specs.Storing.{IsAccepted};
 
 use eb_base::{Document, Gate, MAX_SEGMENTS};
 use eb_convert::{Converted, convert_next};
+use eb_count::Tally;
 use eb_cursor::Frame;
 use eb_place::Steps;
-use eb_search::{search, search_first, search_likely};
+use eb_search::{count_first, count_likely, count_on, search, search_first, search_likely};
 use eb_table::{
     ConverterPort, ConverterSeat, ReaderPort, ReaderSeat, SharedWords, WriterPort, WriterSeat,
 };
@@ -88,6 +91,63 @@ pub(crate) fn search_known_words<L: Ledger>(
 {
     let mut port = ReaderPort { seat, words };
     search_first(&mut port, count, frame, steps)
+}
+
+// A count by a reader's seat.
+pub(crate) fn count_words<G: Gate, L: Ledger>(
+    seat: &mut ReaderSeat,
+    words: &SharedWords,
+    frame: &mut Frame,
+    tally: &mut Tally,
+    gate: &G,
+    steps: &mut Steps<L>,
+) -> u64
+    requires made { MadeWith seat.old words.now }
+    ensures made { MadeWith seat.new words.now }
+    ensures seen { SeenAs frame.old frame.new }
+    ensures counts { CountedOn seat.old.moment seat.new.moment (query_of frame.old) result tally.old tally.new }
+{
+    let mut port = ReaderPort { seat, words };
+    count_on(&mut port, frame, tally, gate, steps)
+}
+
+// The same, over all segments but those of which `likely` says false.
+pub(crate) fn count_words_likely<G: Gate, L: Ledger>(
+    seat: &mut ReaderSeat,
+    words: &SharedWords,
+    frame: &mut Frame,
+    tally: &mut Tally,
+    gate: &G,
+    likely: &[bool; MAX_SEGMENTS as usize],
+    steps: &mut Steps<L>,
+) -> u64
+    requires made { MadeWith seat.old words.now }
+    ensures made { MadeWith seat.new words.now }
+    ensures seen { SeenAs frame.old frame.new }
+    ensures counts { CountedLikely seat.old.moment seat.new.moment (query_of frame.old) likely.now result tally.old tally.new }
+{
+    let mut port = ReaderPort { seat, words };
+    count_likely(&mut port, frame, tally, gate, likely, steps)
+}
+
+// A count by a reader's seat of exactly the first `count` documents that it knows, after what the tally holds.
+pub(crate) fn count_known_words<L: Ledger>(
+    seat: &mut ReaderSeat,
+    words: &SharedWords,
+    count: u64,
+    frame: &mut Frame,
+    tally: &mut Tally,
+    steps: &mut Steps<L>,
+)
+    requires made { MadeWith seat.old words.now }
+    requires count { count ≤ length seat.old.moment.documents.accepted }
+    ensures made { MadeWith seat.new words.now }
+    ensures later { IsNotBefore seat.new.moment seat.old.moment }
+    ensures seen { SeenAs frame.old frame.new }
+    ensures counts { HasCounted (query_of frame.old) (take count seat.old.moment.documents.accepted) tally.old tally.new }
+{
+    let mut port = ReaderPort { seat, words };
+    count_first(&mut port, count, frame, tally, steps)
 }
 
 // An add by the writer's seat.

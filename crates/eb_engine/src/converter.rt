@@ -62,6 +62,7 @@ impl Converter {
         requires { self.old.index ≡ index.now }
         ensures index { self.new.index ≡ self.old.index }
         ensures known { IsPrefix self.old.docs self.new.docs }
+        ensures all { IsPrefix (known_to self.old) (known_to self.new) }
         ensures converts { Converts index.now.setting self.old self.new result }
         ensures lawful { IsLawful index.now.setting (known_to self.new) }
         ensures told { self.old.converted + 1 < length (cut index.now.setting (known_to self.old)) → result ≡ One self.old.converted }
@@ -73,14 +74,15 @@ impl Converter {
         done
     }
 
-    /// Takes in a reader: the converter then knows at least what the reader knew and what it knew before, which are
-    /// fronts of one history. All must have been made with this index. Takes no memory.
+    /// Takes in a reader: the converter then knows at least what the reader knew and what it knew before, the document
+    /// that is being placed too, which are prefixes of one history. All must have been made with this index. Takes no memory.
     pub fn meet(&mut self, index: &Index, reader: Reader)
         requires this { self.old.index ≡ index.now }
         requires reader { reader.index ≡ index.now }
         ensures index { self.new.index ≡ self.old.index }
         ensures converted { self.new.converted ≡ self.old.converted }
         ensures this { IsPrefix self.old.docs self.new.docs }
+        ensures all { IsPrefix (known_to self.old) (known_to self.new) }
         ensures reader { IsPrefix reader.docs self.new.docs }
     {
         let seat = reader.into_seat();

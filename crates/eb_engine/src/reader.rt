@@ -3,16 +3,21 @@ ghost use mathlib.Core.List.{IsPrefix};
 ghost use Rattle.eb_base.specs.Match.{answer};
 ghost use Rattle.eb_base.specs.Query.{word, conjunction};
 ghost use Rattle.eb_cursor.specs.AndCosts.{word_parts};
-ghost use Rattle.eb_cursor.specs.Frames.{query_of, k_of, ids_of};
+ghost use Rattle.eb_count.specs.Tallies.{HasCounted};
+ghost use Rattle.eb_cursor.specs.Frames.{query_of, k_of, ids_of, SeenAs};
 ghost use Rattle.eb_place.specs.Moments.{IsMoment};
 ghost use Rattle.eb_place.specs.Room.{cut};
 ghost use Rattle.eb_search.specs.Visible.{AreNone};
 ghost use Rattle.eb_engine.specs.Loads.{IsBounded, IsAndBounded};
 ghost use Rattle.eb_engine.specs.Tokens.{index_of, first_of};
 
-use crate::calls::{search_known_words, search_words, search_words_likely};
+use crate::calls::{
+    count_known_words, count_words, count_words_likely, search_known_words, search_words,
+    search_words_likely,
+};
 use crate::index::Index;
 use eb_base::{Gate, MAX_SEGMENTS};
+use eb_count::Tally;
 use eb_cursor::Frame;
 use eb_place::Steps;
 use eb_table::ReaderSeat;
@@ -90,7 +95,8 @@ impl Reader {
     /// segment of the setting, one for each id, and in each segment that holds one of these documents those that
     /// find the word and those of its list, which is the packed one where the segment was converted when the search
     /// began, so at least where the reader was told that it is. So does a search of an And of words
-    /// (`IsAndBounded`), by the documents that have the rarest of them in each segment. The reader must have been made with this index. Takes no memory.
+    /// (`IsAndBounded`), by the documents that have the rarest of them in each segment. Both are counted at some moments
+    /// whose documents begin with those that the reader knows then. The reader must have been made with this index. Takes no memory.
     pub fn search<G: Gate, L: Ledger>(
         &mut self,
         index: &Index,
@@ -118,9 +124,9 @@ impl Reader {
 
     /// Searches as [`Reader::search`] does, over all segments but those of which `likely` says false: the answer is that
     /// over all documents where none of the documents of those matches. So a caller that keeps a Bloom filter of each
-    /// segment passes over those that its filter excludes. It knows all documents that it counted from then on, also
-    /// those of the segments that it passed over, and makes no more loads than the bounds of [`Reader::search`]. The
-    /// reader must have been made with this index. Takes no memory.
+    /// segment passes over those that its filter excludes; that this spares loads is no clause. It knows all documents
+    /// that it counted from then on, also those of the segments that it passed over, and makes no more loads than the
+    /// bounds of [`Reader::search`]. The reader must have been made with this index. Takes no memory.
     pub fn search_likely<G: Gate, L: Ledger>(
         &mut self,
         index: &Index,
@@ -164,6 +170,84 @@ impl Reader {
         ensures ids { ids_of frame.new ≡ ids_of frame.old ++ answer (query_of frame.old) (k_of frame.old - length (ids_of frame.old)) self.old.docs }
     {
         search_known_words(&mut self.seat, &index.words, self.seen, frame, steps);
+    }
+
+    /// Counts, in the tally, all matches among the documents that are accepted when it loads their count, which is its
+    /// result: all in all, and in each of the tally's buckets, after what the tally held; all are of these documents. They
+    /// begin with all documents that this reader knew before, and it knows them from then on. Documents that are added
+    /// while the count goes on change nothing of it. The gate is told of their count directly after its load. The frame
+    /// stays as it is. The reader must have been made with this index. Takes no memory.
+    pub fn count<G: Gate, L: Ledger>(
+        &mut self,
+        index: &Index,
+        frame: &mut Frame,
+        tally: &mut Tally,
+        gate: &G,
+        steps: &mut Steps<L>,
+    ) -> u64
+        requires { self.old.index ≡ index.now }
+        ensures index { self.new.index ≡ self.old.index }
+        ensures known { IsPrefix self.old.docs self.new.docs }
+        ensures converted { self.new.converted ≡ self.old.converted }
+        ensures count { result ≡ length self.new.docs }
+        ensures seen { SeenAs frame.old frame.new }
+        ensures counts { HasCounted (query_of frame.old) self.new.docs tally.old tally.new }
+    {
+        let count = count_words(&mut self.seat, &index.words, frame, tally, gate, steps);
+        self.seen = count;
+        count
+    }
+
+    /// Counts as [`Reader::count`] does, over all segments but those of which `likely` says false: the numbers are those
+    /// over all documents where none of the documents of those matches. The reader must have been made with this index.
+    /// Takes no memory.
+    pub fn count_likely<G: Gate, L: Ledger>(
+        &mut self,
+        index: &Index,
+        frame: &mut Frame,
+        tally: &mut Tally,
+        gate: &G,
+        likely: &[bool; MAX_SEGMENTS as usize],
+        steps: &mut Steps<L>,
+    ) -> u64
+        requires { self.old.index ≡ index.now }
+        ensures index { self.new.index ≡ self.old.index }
+        ensures known { IsPrefix self.old.docs self.new.docs }
+        ensures converted { self.new.converted ≡ self.old.converted }
+        ensures count { result ≡ length self.new.docs }
+        ensures seen { SeenAs frame.old frame.new }
+        ensures counts { AreNone (query_of frame.old) (cut index.now.setting self.new.docs) likely.now
+            → HasCounted (query_of frame.old) self.new.docs tally.old tally.new }
+    {
+        let count = count_words_likely(
+            &mut self.seat,
+            &index.words,
+            frame,
+            tally,
+            gate,
+            likely,
+            steps,
+        );
+        self.seen = count;
+        count
+    }
+
+    /// Counts, in the tally, all matches among exactly the documents that this reader knows, and finds out about no others,
+    /// after what the tally held. So one tally goes through several indexes. The reader must have been made with this
+    /// index. Takes no memory.
+    pub fn count_known<L: Ledger>(
+        &mut self,
+        index: &Index,
+        frame: &mut Frame,
+        tally: &mut Tally,
+        steps: &mut Steps<L>,
+    )
+        requires { self.old.index ≡ index.now }
+        ensures same { self.new ≡ self.old }
+        ensures seen { SeenAs frame.old frame.new }
+        ensures counts { HasCounted (query_of frame.old) self.old.docs tally.old tally.new }
+    {
+        count_known_words(&mut self.seat, &index.words, self.seen, frame, tally, steps);
     }
 
     /// How many documents it knows.

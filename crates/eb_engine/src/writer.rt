@@ -3,7 +3,8 @@ ghost use mathlib.Core.List.{IsPrefix};
 ghost use Rattle.eb_base.specs.Match.{answer};
 ghost use Rattle.eb_base.specs.Query.{word, conjunction};
 ghost use Rattle.eb_cursor.specs.AndCosts.{word_parts};
-ghost use Rattle.eb_cursor.specs.Frames.{query_of, k_of, ids_of};
+ghost use Rattle.eb_count.specs.Tallies.{HasCounted};
+ghost use Rattle.eb_cursor.specs.Frames.{query_of, k_of, ids_of, SeenAs};
 ghost use Rattle.eb_place.specs.Moments.{IsMoment, empty_moment};
 ghost use Rattle.eb_place.specs.Room.{cut, HasRoom, has_room};
 ghost use Rattle.eb_search.specs.Visible.{AreNone};
@@ -15,6 +16,7 @@ use crate::converter::Converter;
 use crate::index::Index;
 use crate::reader::Reader;
 use eb_base::{Config, Document, Gate, MAX_SEGMENTS, Point};
+use eb_count::Tally;
 use eb_cursor::Frame;
 use eb_place::Steps;
 use eb_table::WriterSeat;
@@ -168,6 +170,54 @@ impl Writer {
     {
         let mut reader = self.reader(index);
         let count = reader.search_likely(index, frame, gate, likely, steps);
+        self.meet(index, reader);
+        count
+    }
+
+    /// Counts, in the tally, all matches among the whole history, after what the tally held: a reader that knows the history
+    /// counts, and is taken in again. The length of the history is the result; else as `Reader::count`. The writer must have
+    /// been made with this index. Takes no memory.
+    pub fn count<G: Gate, L: Ledger>(
+        &mut self,
+        index: &Index,
+        frame: &mut Frame,
+        tally: &mut Tally,
+        gate: &G,
+        steps: &mut Steps<L>,
+    ) -> u64
+        requires { self.old.index ≡ index.now }
+        ensures this { self.new ≡ self.old }
+        ensures count { result ≡ length self.new.docs }
+        ensures seen { SeenAs frame.old frame.new }
+        ensures counts { HasCounted (query_of frame.old) self.new.docs tally.old tally.new }
+    {
+        let mut reader = self.reader(index);
+        let count = reader.count(index, frame, tally, gate, steps);
+        self.meet(index, reader);
+        count
+    }
+
+    /// Counts as [`Writer::count`] does, over all segments but those of which `likely` says false: the numbers are those over
+    /// the whole history where none of the documents of those matches. The writer must have been made with this index.
+    /// Takes no memory.
+    pub fn count_likely<G: Gate, L: Ledger>(
+        &mut self,
+        index: &Index,
+        frame: &mut Frame,
+        tally: &mut Tally,
+        gate: &G,
+        likely: &[bool; MAX_SEGMENTS as usize],
+        steps: &mut Steps<L>,
+    ) -> u64
+        requires { self.old.index ≡ index.now }
+        ensures this { self.new ≡ self.old }
+        ensures count { result ≡ length self.new.docs }
+        ensures seen { SeenAs frame.old frame.new }
+        ensures counts { AreNone (query_of frame.old) (cut index.now.setting self.new.docs) likely.now
+            → HasCounted (query_of frame.old) self.new.docs tally.old tally.new }
+    {
+        let mut reader = self.reader(index);
+        let count = reader.count_likely(index, frame, tally, gate, likely, steps);
         self.meet(index, reader);
         count
     }

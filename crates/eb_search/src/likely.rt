@@ -16,7 +16,8 @@ use eb_place::{Port, Steps};
 use std::sync::ledger::Ledger;
 
 /// Searches as [`search`] does, over all segments but those of which `likely` says false: the answer is the same where
-/// none of the documents of these segments matches. It makes no more loads than the bounds of [`search`]. Takes no memory.
+/// none of the documents of these segments matches. It makes no more loads than the bounds of [`search`]; that it makes
+/// fewer is no clause. Takes no memory.
 ///
 /// [`search`]: crate::search
 pub fn search_likely<P: Port, G: Gate, L: Ledger>(

@@ -62,7 +62,7 @@ abbrev pub known_of_newest : FeedToken → FeedToken → List Doc
 known_of_newest one other = get_or (generations_of other.log other.docs) (length other.log - length one.log) []
 
 -- why what the one knew can't be compared with what the other one knows: the generation that was its newest is held no more; or it
--- knows more of the turns, or more of that generation, neither of which can be
+-- knows more of the turns, or more of that generation, which no clause excludes
 abbrev pub HasLapsed : FeedToken → FeedToken → Type 0
 HasLapsed one other = (other.held + length one.log ≤ length other.log) ⊎ ((length other.log < length one.log) ⊎ (length (known_of_newest one other) < length one.docs))
 

@@ -41,15 +41,16 @@ impl Model for Follower {
 }
 
 impl Follower {
-    /// Takes in what it was told last, if anything. True where all that it knew is known on; false where it had fallen
-    /// so far behind that the generation that was its newest is held no more: of that one the documents that it knew may
-    /// be unknown. Doesn't wait, and takes no memory.
+    /// Takes in what it was told last, if anything. True where all that it knew is known on; false only where the
+    /// generation that was its newest is held no more, or, after a turn, fewer of its documents are known: of that one
+    /// documents that it knew may be unknown. Where no turn is new, it forgets none of them. Doesn't wait, and takes no memory.
     pub fn hear(&mut self) -> bool
         ensures book { self.new.book ≡ self.old.book }
         ensures turns { IsPrefix self.old.log self.new.log }
         ensures known { IsTrue result → IsPrefix (history_of self.old.log self.old.docs) (history_of self.new.log self.new.docs) }
         ensures closed { IsPrefix (history_of self.old.log []) (history_of self.new.log self.new.docs) }
         ensures lapsed { IsFalse result → HasLapsed self.old self.new }
+        ensures newest { self.new.log ≡ self.old.log → IsPrefix self.old.docs self.new.docs }
     {
         match self.inbox.take() {
             Some(news) => self.reader.meet(news),

@@ -3,10 +3,12 @@ ghost use Rattle.std.specs.Prelude.{◌≡◌, ◌-◌, ◌++◌, ◌⊎◌, len
 ghost use Rattle.std.specs.Arc.{arc_value};
 ghost use mathlib.Core.List.{IsPrefix};
 ghost use Rattle.eb_base.specs.Match.{answer};
-ghost use Rattle.eb_cursor.specs.Frames.{query_of, k_of, ids_of};
+ghost use Rattle.eb_count.specs.Tallies.{HasCounted};
+ghost use Rattle.eb_cursor.specs.Frames.{query_of, k_of, ids_of, SeenAs};
 ghost use Rattle.eb_stream.specs.Turns.{piece_of};
 
 use eb_base::{Gate, NoMemory};
+use eb_count::Tally;
 use eb_cursor::Frame;
 use eb_engine::{Index, Reader};
 use eb_place::Steps;
@@ -103,6 +105,38 @@ impl Piece {
         ensures ids { ids_of frame.new ≡ ids_of frame.old ++ answer (query_of frame.old) (k_of frame.old - length (ids_of frame.old)) self.old.docs }
     {
         self.reader.search_known(&self.index, frame, steps);
+    }
+
+    // Counts all matches among the documents that are accepted when it loads their count, of which the gate is told, after
+    // what the tally holds.
+    pub(crate) fn count<G: Gate, L: Ledger>(
+        &mut self,
+        frame: &mut Frame,
+        tally: &mut Tally,
+        gate: &G,
+        steps: &mut Steps<L>,
+    ) -> u64
+        ensures index { self.new.index ≡ self.old.index }
+        ensures known { IsPrefix self.old.docs self.new.docs }
+        ensures count { result ≡ length self.new.docs }
+        ensures seen { SeenAs frame.old frame.new }
+        ensures counts { HasCounted (query_of frame.old) self.new.docs tally.old tally.new }
+    {
+        self.reader.count(&self.index, frame, tally, gate, steps)
+    }
+
+    // Counts all matches among exactly the documents that it knows, after what the tally holds.
+    pub(crate) fn count_known<L: Ledger>(
+        &mut self,
+        frame: &mut Frame,
+        tally: &mut Tally,
+        steps: &mut Steps<L>,
+    )
+        ensures same { self.new ≡ self.old }
+        ensures seen { SeenAs frame.old frame.new }
+        ensures counts { HasCounted (query_of frame.old) self.old.docs tally.old tally.new }
+    {
+        self.reader.count_known(&self.index, frame, tally, steps);
     }
 }
 

@@ -4,7 +4,8 @@ ghost use mathlib.Core.List.{IsPrefix};
 ghost use Rattle.eb_base.specs.Document.{Doc};
 ghost use Rattle.eb_base.specs.Match.{answer};
 ghost use Rattle.eb_base.specs.Query.{Tree};
-ghost use Rattle.eb_cursor.specs.Frames.{query_of, k_of, ids_of};
+ghost use Rattle.eb_count.specs.Tallies.{Numbers, HasCounted};
+ghost use Rattle.eb_cursor.specs.Frames.{query_of, k_of, ids_of, SeenAs};
 ghost use Rattle.eb_feed.specs.Generations.{joined_generations};
 ghost use Rattle.eb_stream.specs.Turns.{PieceToken, piece_of, AreHeld, HasLapsed, newest_docs, past_of, history_of, stretch_of, counted};
 ghost use Rattle.eb_stream.specs.declared.turn.Turn.{Turn};
@@ -12,6 +13,7 @@ ghost use Rattle.eb_stream.specs.declared.turn.Turn.{Turn};
 use crate::piece::{Piece, copy_all};
 use crate::trail::Trail;
 use eb_base::{Gate, NoMemory};
+use eb_count::Tally;
 use eb_cursor::Frame;
 use eb_engine::Reader;
 use eb_place::Steps;
@@ -120,10 +122,33 @@ impl FeedReader {
         self.before.saturating_add(count)
     }
 
+    /// Counts, in the tally, all matches among the documents that [`FeedReader::search`] would search: all in all, and in each
+    /// of the tally's buckets, after what the tally held; all are of one stretch. Gives the length of the front whose end it
+    /// is, at most 2^64 - 1. The frame stays as it is. Doesn't wait, and takes no memory.
+    pub fn count<G: Gate, L: Ledger>(
+        &mut self,
+        frame: &mut Frame,
+        tally: &mut Tally,
+        gate: &G,
+        steps: &mut Steps<L>,
+    ) -> u64
+        ensures book { self.new.book ≡ self.old.book }
+        ensures log { self.new.log ≡ self.old.log }
+        ensures held { self.new.held ≡ self.old.held }
+        ensures known { IsPrefix self.old.docs self.new.docs }
+        ensures count { result ≡ counted (history_of self.new.log self.new.docs) }
+        ensures seen { SeenAs frame.old frame.new }
+        ensures counts { HasCounted (query_of frame.old) (stretch_of self.new.held self.new.log self.new.docs) tally.old tally.new }
+    {
+        let count = count_pieces(self.pieces.as_mut_slice(), frame, tally, gate, steps);
+        self.before.saturating_add(count)
+    }
+
     /// Takes in another reader of the feed. Where that one knows as many turns or more, this one then holds what that one
     /// holds, and knows what it knows; where it knows fewer, nothing is changed. True where all that this reader knew is
-    /// known on; false where it had fallen so far behind that the other one no longer holds the generation that was its
-    /// newest: of that one the documents that it knew may be unknown. Doesn't wait, and takes no memory.
+    /// known on; false only where the other one no longer holds the generation that was its newest, or, after a turn, knows
+    /// fewer of its documents: of that one documents that it knew may be unknown. Where no turn is new, it forgets none of
+    /// them. Doesn't wait, and takes no memory.
     pub fn meet(&mut self, mut other: FeedReader) -> bool
         requires { other.book ≡ self.old.book }
         ensures book { self.new.book ≡ self.old.book }
@@ -132,6 +157,7 @@ impl FeedReader {
         ensures known { IsTrue result → IsPrefix (history_of self.old.log self.old.docs) (history_of self.new.log self.new.docs) }
         ensures closed { IsPrefix (history_of self.old.log []) (history_of self.new.log self.new.docs) }
         ensures lapsed { IsFalse result → HasLapsed self.old self.new }
+        ensures newest { self.new.log ≡ self.old.log → IsPrefix self.old.docs self.new.docs }
         ensures newer { IsPrefix self.old.log other.log
             → (self.new.log ≡ other.log) × (self.new.held ≡ other.held) × IsPrefix other.docs self.new.docs }
         ensures older { length other.log < length self.old.log → self.new ≡ self.old }
@@ -156,6 +182,7 @@ impl FeedReader {
         ensures docs { IsPrefix other.old.docs other.new.docs }
         ensures met { IsTrue result → IsPrefix (history_of self.old.log self.old.docs) (history_of other.new.log other.new.docs) }
         ensures lapsed { IsFalse result → HasLapsed self.old other.new }
+        ensures newest { other.new.log ≡ self.old.log → IsPrefix self.old.docs other.new.docs }
     {
         let behind = other.trail.count() - self.trail.count();
         if behind >= other.pieces.len() as u64 {
@@ -178,6 +205,7 @@ fn take_in(pieces: &mut [Piece], at: usize, reader: Reader) -> bool
     ensures front { IsPrefix (newest_docs pieces.old) (newest_docs pieces.new) }
     ensures met { (d : PieceToken) → IsTrue result → IsPrefix reader.docs (get_or pieces.new at d).docs }
     ensures few { (d : PieceToken) → IsFalse result → length (get_or pieces.old at d).docs < length reader.docs }
+    ensures newest { at ≡ 0 → IsTrue result }
 {
     if at > 0 && reader.seen() > pieces[at].seen() {
         return false;
@@ -239,6 +267,47 @@ fn search_older<L: Ledger>(pieces: &mut [Piece], frame: &mut Frame, steps: &mut 
             return;
         }
         pieces[at].search_known(frame, steps);
+    }
+}
+
+// Counts all matches of pieces in the tally, from the newest to the oldest, after what it holds.
+fn count_pieces<G: Gate, L: Ledger>(
+    pieces: &mut [Piece],
+    frame: &mut Frame,
+    tally: &mut Tally,
+    gate: &G,
+    steps: &mut Steps<L>,
+) -> u64
+    requires some { 1 ≤ length pieces.old }
+    requires held { (docs : List Doc) × (ts : List Turn) × AreHeld pieces.old docs ts }
+    ensures number { length pieces.new ≡ length pieces.old }
+    ensures held { (docs : List Doc) (ts : List Turn) → AreHeld pieces.old docs ts → AreHeld pieces.new (newest_docs pieces.new) ts }
+    ensures known { IsPrefix (newest_docs pieces.old) (newest_docs pieces.new) }
+    ensures count { result ≡ length (newest_docs pieces.new) }
+    ensures seen { SeenAs frame.old frame.new }
+    ensures counts { (docs : List Doc) (ts : List Turn) → AreHeld pieces.old docs ts
+        → HasCounted (query_of frame.old) (joined_generations (take (length pieces.old) (past_of (newest_docs pieces.new) ts))) tally.old tally.new }
+{
+    let count = pieces[0].count(frame, tally, gate, steps);
+    count_older(pieces, frame, tally, steps);
+    count
+}
+
+// Goes on after the newest piece.
+fn count_older<L: Ledger>(
+    pieces: &mut [Piece],
+    frame: &mut Frame,
+    tally: &mut Tally,
+    steps: &mut Steps<L>,
+)
+    requires some { 1 ≤ length pieces.old }
+    ensures same { pieces.new ≡ pieces.old }
+    ensures seen { SeenAs frame.old frame.new }
+    ensures counts { (docs : List Doc) (ts : List Turn) (before : Numbers) → AreHeld pieces.old docs ts → HasCounted (query_of frame.old) docs before tally.old
+        → HasCounted (query_of frame.old) (joined_generations (take (length pieces.old) (past_of docs ts))) before tally.new }
+{
+    for at in 1..pieces.len() {
+        pieces[at].count_known(frame, tally, steps);
     }
 }
 

@@ -260,8 +260,8 @@ impl FeedWriter {
         Ok(FeedReader::new(self.trail.again(), pieces, self.before))
     }
 
-    /// Takes in a reader: all that it knew is a front of the history. False where the generation is held no more that is
-    /// the newest that it knew. Takes no memory.
+    /// Takes in a reader. True where all that it knew is a front of the history; false only where the generation that is
+    /// the newest that it knew is held no more, or the writer knows fewer of its documents, or fewer turns. Takes no memory.
     pub fn meet(&mut self, reader: FeedReader) -> bool
         requires { reader.book ≡ self.old.feed.book }
         ensures this { self.new ≡ self.old }

@@ -5,6 +5,7 @@ ghost use Rattle.eb_base.specs.Setting.{Setting};
 ghost use Rattle.eb_feed.specs.Held.{IsFedWith};
 
 use eb_base::{Config, Document, OpenGate, Query, Term, Terms};
+use eb_count::Tally;
 use eb_cursor::Frame;
 use eb_feed::Feed;
 use eb_place::Steps;
@@ -45,7 +46,29 @@ pub(super) fn searched(feed: &mut Feed, frame: &mut Frame) -> u64
     search_alone::<Brand>(feed, frame, Blank::new(1))
 }
 
-// Adds a document of the term `a`, and looks at what is found then.
+// Counts with a counter of its own.
+fn count_alone<L: Ledger>(
+    feed: &mut Feed,
+    frame: &mut Frame,
+    tally: &mut Tally,
+    blank: Blank,
+) -> u64
+    requires blank { (blank.name ≡ L.name) × (blank.parts ≡ L.parts) × (0 < blank.parts) }
+    requires feed { (σ : Setting) × (keep : ℕ) × (history : List Doc) × IsFedWith feed.old σ keep history }
+    ensures { (σ : Setting) × (keep : ℕ) × (history : List Doc) × IsFedWith feed.new σ keep history }
+{
+    let mut steps = Steps::<L>::new(blank);
+    feed.count(frame, tally, &OpenGate, &mut steps)
+}
+
+fn counted(feed: &mut Feed, frame: &mut Frame, tally: &mut Tally) -> u64
+    requires { (σ : Setting) × (keep : ℕ) × (history : List Doc) × IsFedWith feed.old σ keep history }
+    ensures { (σ : Setting) × (keep : ℕ) × (history : List Doc) × IsFedWith feed.new σ keep history }
+{
+    count_alone::<Brand>(feed, frame, tally, Blank::new(1))
+}
+
+// Adds a document of the term `a`, and looks at what is found and counted then.
 fn step(
     rt: &impl Abort,
     alloc: Global,
@@ -60,6 +83,11 @@ fn step(
 {
     let count = added(alloc, feed, id, b"a")?;
     let seen = searched(feed, frame);
+    let mut tally = Tally::with_buckets(alloc, 4, 2, 1)?;
+    assert_eq!(rt; counted(feed, frame, &mut tally), id);
+    assert_eq!(rt; tally.total(), found.len() as u64);
+    let fours = found.iter().filter(|at| **at / 2 == 2).count();
+    assert_eq!(rt; tally.buckets(), [fours as u64].as_slice());
     let kept = feed.kept();
     let (begun, segments) = (feed.begun(), feed.segments());
     assert_eq!(rt; count, id);

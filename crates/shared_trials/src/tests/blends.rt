@@ -1,5 +1,6 @@
 //! Blends beside rows that were worked by hand, beside the plain scan of one history, and while threads add and convert.
 mod beside;
+mod counting;
 mod made;
 mod rows;
 mod table;

@@ -2,6 +2,7 @@
 ghost use Rattle.std.specs.Prelude.{◌≡◌, ◌<◌, IfOk};
 
 use eb_base::{Document, Gate, OpenGate, Queries, Query, Term, Terms};
+use eb_count::Tally;
 use eb_cursor::Frame;
 use eb_place::Steps;
 use eb_plain::newest;
@@ -139,6 +140,26 @@ pub(super) fn searched<G: Gate>(reader: &mut FeedReader, frame: &mut Frame, gate
     ensures { reader.new.book ≡ reader.old.book }
 {
     search_alone::<G, Brand>(reader, frame, gate, Blank::new(1))
+}
+
+fn count_alone<L: Ledger>(
+    reader: &mut FeedReader,
+    frame: &mut Frame,
+    tally: &mut Tally,
+    blank: Blank,
+) -> u64
+    requires blank { (blank.name ≡ L.name) × (blank.parts ≡ L.parts) × (0 < blank.parts) }
+    ensures { reader.new.book ≡ reader.old.book }
+{
+    let mut steps = Steps::<L>::new(blank);
+    reader.count(frame, tally, &OpenGate, &mut steps)
+}
+
+// A count with a counter of its own.
+pub(super) fn counted(reader: &mut FeedReader, frame: &mut Frame, tally: &mut Tally) -> u64
+    ensures { reader.new.book ≡ reader.old.book }
+{
+    count_alone::<Brand>(reader, frame, tally, Blank::new(1))
 }
 
 fn write_search_alone<L: Ledger>(feed: &mut FeedWriter, frame: &mut Frame, blank: Blank) -> u64

@@ -1,8 +1,9 @@
 //! Rows of documents, each generation of two: which of them readers find that wake, and that sleep.
 ghost use Rattle.std.specs.Prelude.{◌≡◌, IfOk};
 
-use super::made::{add, document, frame, own_search, renewed, searched, word};
+use super::made::{add, counted, document, frame, own_search, renewed, searched, word};
 use eb_base::{Config, OpenGate};
+use eb_count::Tally;
 use eb_cursor::Frame;
 use eb_stream::{FeedReader, FeedWriter};
 use std::alloc::Global;
@@ -34,6 +35,25 @@ fn finds(rt: &impl Abort, reader: &mut FeedReader, frame: &mut Frame, seen: u64,
     let count = searched(reader, frame, &OpenGate);
     assert_eq!(rt; count, seen);
     assert_eq!(rt; frame.ids(), ids);
+}
+
+// Looks that a count finds so many, and of the ids 4 and 5 these, over so many documents of the history.
+fn counts(
+    rt: &impl Abort,
+    alloc: Global,
+    reader: &mut FeedReader,
+    frame: &mut Frame,
+    seen: u64,
+    total: u64,
+    newest: [u64; 2],
+) -> Result<(), Fail>
+    ensures { reader.new.book ≡ reader.old.book }
+{
+    let mut tally = Tally::with_buckets(alloc, 4, 1, 2)?;
+    let count = counted(reader, frame, &mut tally);
+    assert_eq!(rt; (count, tally.total()), (seen, total));
+    assert_eq!(rt; tally.buckets(), newest.as_slice());
+    Ok(())
 }
 
 // A reader meets one that is made now; whether it knows all on that it knew is this.
@@ -98,8 +118,10 @@ fn forgets(
     let mut reader = reader;
     add_ids(alloc, feed, 4, 5)?;
     finds(rt, &mut reader, frame, 4, [4, 3, 2, 1].as_slice());
+    counts(rt, alloc, &mut reader, frame, 4, 4, [1, 0])?;
     meets(rt, feed, &mut reader, true)?;
     finds(rt, &mut reader, frame, 5, [5, 4, 3].as_slice());
+    counts(rt, alloc, &mut reader, frame, 5, 3, [1, 1])?;
     assert!(rt; feed.meet(reader));
     Ok(())
 }

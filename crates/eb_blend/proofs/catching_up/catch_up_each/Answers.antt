@@ -1,7 +1,7 @@
-use Rattle.std.proofs.Common.{◌≡◌, ◌<◌, length, ◌∙◌, arith}
-use Rattle.eb_blend.specs.Parts.{converter_indexes_of, histories_of}
+use Rattle.std.proofs.Common.{◌≡◌, ◌<◌, ◌≤◌, ℕ, List, length, get_or, sym, subst, ◌∙◌, arith}
+use Rattle.eb_blend.specs.Parts.{converter_indexes_of, converted_of, histories_of}
 use Rattle.eb_blend.proofs.Each.{as_many_converters, fronts_trans}
-use Rattle.eb_blend.proofs.Convertings.{kept_indexes, known_more, all_converted}
+use Rattle.eb_blend.proofs.Convertings.{kept_indexes, known_more, rising_more, all_converted}
 use Rattle.eb_blend.proofs.catching_up.catch_up_each.Goals as goal
 
 pub returns : goal.returns
@@ -21,5 +21,6 @@ returns g c =
       indexes = kept_indexes ws mid new some made long each ∙ tell.indexes;
       known = fronts_trans _ _ _ tell.known more;
       told = fronts_trans _ _ _ tell.told more;
+      rising = subst (λ (z : List ℕ). (p : ℕ) → get_or z p 0 ≤ get_or (converted_of new) p 0) tell.converted (rising_more ws mid new some made long each);
       converted = λ σ all. all_converted ws mid new some made long each σ (histories_of c.args.writers.now) all tell.told;
     }

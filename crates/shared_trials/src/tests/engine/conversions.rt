@@ -44,7 +44,7 @@ fn are_answered(
 }
 
 // Adds the documents.
-fn add_all(index: &Index, writer: &mut Writer, documents: &[Document])
+pub(super) fn add_all(index: &Index, writer: &mut Writer, documents: &[Document])
     requires { writer.old.index ≡ index.now }
     ensures { writer.new.index ≡ index.now }
 {

@@ -42,10 +42,20 @@ returns-in-One-clause-converts c =
     subst (λ (d : Converted). Converts σ c.args.self.now new d) (sym c.in-One.is)
     (k.0 ∙ count, ap (λ (s : ℕ). s + 1) count, subst (λ (s : ℕ). s + 1 < length (cut σ (known_at n))) (sym k.0) closed)
 
+pub returns-in-One-clause-all : goal.returns-in-One-clause-all
+returns-in-One-clause-all c =
+    let n = c.convert_in_words-done.new.seat.moment in
+    subst (λ (docs : List Doc). IsPrefix docs (known_at n)) (ap known_to c.self.view_is) (knows_on c.self.inside.seat.moment n c.convert_in_words-done.ensures.later)
+
 pub returns-in-One-clause-lawful : goal.returns-in-One-clause-lawful
 returns-in-One-clause-lawful c =
     let made = c.convert_in_words-done.ensures.made in
     known_lawful c.convert_in_words-done.new.seat.moment c.args.index.now.setting made.moment (made.setting ∙ ap (λ (w : Words). w.setting) c.index.view_is)
+
+pub returns-in_default-clause-all : goal.returns-in_default-clause-all
+returns-in_default-clause-all c =
+    let n = c.convert_in_words-done.new.seat.moment in
+    subst (λ (docs : List Doc). IsPrefix docs (known_at n)) (ap known_to c.self.view_is) (knows_on c.self.inside.seat.moment n c.convert_in_words-done.ensures.later)
 
 pub returns-in_default-clause-lawful : goal.returns-in_default-clause-lawful
 returns-in_default-clause-lawful c =

@@ -1,4 +1,4 @@
-use Rattle.std.proofs.Common.{◌≡◌, ◌<◌, ◌-◌, List, length, get_or, reverse, ap, sym, ◌∙◌, subst, arith, length-append, inr, []}
+use Rattle.std.proofs.Common.{◌≡◌, ◌<◌, ◌≤◌, ◌-◌, List, length, get_or, reverse, ap, sym, ◌∙◌, subst, arith, length-append, inr, []}
 use Rattle.std.proofs.lemmas.List.{with_items_is}
 use mathlib.Core.List.{IsPrefix}
 use Rattle.eb_base.specs.Document.{Doc}
@@ -62,3 +62,18 @@ returns-clause-lapsed c = λ no.
     rw (items, ← c.self.view_is)
     (inr (inr (subst (λ (z : List Doc). length (get_or (generations_of c.other.inside.trail.log (newest_docs new)) (length c.other.inside.trail.log - length c.self.inside.trail.log)
     []) < length z) own less)))
+
+pub returns-clause-newest : goal.returns-clause-newest
+returns-clause-newest c = λ same.
+    let behind = c.count.result - c.count-2.result in
+    let turns : c.other.inside.trail.log ≡ c.self.inside.trail.log = same ∙ sym (ap (λ (t : FeedToken). t.log) c.self.view_is) in
+    let none : behind ≡ 0 = omega (arith, c.count.ensures, c.count-2.ensures, ap length turns) in
+    let lt : behind < length c.as_mut_slice.result.now = omega (arith, c.if-behind-len.false, c.len.ensures, ap length c.as_mut_slice.ensures.value, c.other.inside.pieces.ok) in
+    let new = c.take_in.new.pieces in
+    let items = with_items_is c.other.inside.pieces new (c.take_in.ensures.number ∙ c.as_mut_slice.ensures.len) in
+    let mine : PieceToken = piece_of c.reader-newest.result in
+    let own : mine.docs ≡ newest_docs c.self.inside.pieces.items = ap (λ (t : PieceToken). t.docs) (c.reader-newest.ensures.reader ∙ c.index_mut.ensures.value) ∙ newest_get
+    c.self.inside.pieces.items c.index_mut.result.now c.self.invariant.0 in
+    let there : (get_or new behind mine).docs ≡ newest_docs new = ap (λ z. (get_or new z mine).docs) none ∙ newest_get new mine (omega (arith, lt, c.take_in.ensures.number)) in
+    rw (items, ← c.self.view_is)
+    (subst (λ (x : List Doc × List Doc). IsPrefix x.0 x.1) (λ i. (own i, there i)) (c.take_in.ensures.met mine (c.take_in.ensures.newest none)))

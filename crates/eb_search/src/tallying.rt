@@ -1,0 +1,116 @@
+//! The counting of the matches of one segment, and the walk over all segments.
+ghost use Rattle.std.specs.Prelude.{◌≡◌, ℕ, ◌+◌, ◌<◌, ◌≤◌, List, length, slice_get, Some};
+ghost use mathlib.Core.List.{IsPrefix};
+ghost use Rattle.eb_base.specs.Document.{Doc};
+ghost use Rattle.eb_count.specs.Tallies.{HasAdded, HasCounted};
+ghost use Rattle.eb_place.specs.declared.moment.Moment.{Moment};
+ghost use Rattle.eb_place.specs.Room.{cut};
+ghost use Rattle.eb_place.specs.Told.{Told};
+ghost use Rattle.eb_cursor.specs.Accepted.{accepted_in};
+ghost use Rattle.eb_cursor.specs.Frames.{query_of, SeenAs};
+ghost use Rattle.eb_search.specs.Visible.{AreVisible, AreNone, CanWalk};
+
+use eb_base::MAX_SEGMENTS;
+use eb_count::Tally;
+use eb_cursor::Frame;
+use eb_place::{Places, Port, Steps};
+use std::sync::ledger::Ledger;
+
+// Counts a match, the document with this number of a segment. Loads its id only where the tally has buckets.
+fn tally_document<P: Port, L: Ledger>(
+    port: &mut P,
+    tally: &mut Tally,
+    segment: u32,
+    document: u32,
+    steps: &mut Steps<L>,
+)
+    requires { (m : Moment) × (docs : List Doc) × P.stands port.old m × IsPrefix docs (accepted_in m segment) × (document < length docs) }
+    ensures { (docs : List Doc) (d : Doc) → slice_get docs document ≡ Some d → document < length docs
+        → Told P.stands P.keeps port.old port.new (λ m. IsPrefix docs (accepted_in m segment)) (λ n. HasAdded d.id tally.old tally.new) }
+{
+    if !tally.wants_ids() {
+        tally.add(0);
+        return;
+    }
+    let places = Places::new(port.config());
+    let id = port.load(places.id(segment, document), steps);
+    tally.add(id);
+}
+
+/// Counts all matches among the first `documents` documents of a segment. At least that many of its documents are
+/// accepted.
+pub(crate) fn tally_matches<P: Port, L: Ledger>(
+    port: &mut P,
+    frame: &mut Frame,
+    tally: &mut Tally,
+    segment: u32,
+    documents: u32,
+    steps: &mut Steps<L>,
+)
+    requires { (m : Moment) × P.stands port.old m × (1 ≤ documents) × (documents ≤ length (accepted_in m segment)) }
+    ensures seen { SeenAs frame.old frame.new }
+    ensures counted { (docs : List Doc) → length docs ≡ documents → Told P.stands P.keeps port.old port.new
+        (λ m. IsPrefix docs (accepted_in m segment)) (λ n. HasCounted (query_of frame.old) docs tally.old tally.new) }
+{
+    frame.start(port, segment, documents, steps);
+    let mut end = documents;
+    while end > 0 {
+        let Some(document) = frame.at_most(port, end - 1, steps) else {
+            return;
+        };
+        tally_document(port, tally, segment, document, steps);
+        end = document;
+    }
+}
+
+/// Counts all matches among the first `count` accepted documents, from the newest of their `begun` segments to the
+/// oldest. `firsts` has the first-document word of each of these segments. It passes over those that can't have a match.
+pub(crate) fn tally_walk<P: Port, L: Ledger>(
+    port: &mut P,
+    frame: &mut Frame,
+    tally: &mut Tally,
+    count: u64,
+    firsts: &[u64; MAX_SEGMENTS as usize],
+    begun: u32,
+    steps: &mut Steps<L>,
+)
+    requires { CanWalk P.stands port.old count firsts.now begun }
+    ensures seen { SeenAs frame.old frame.new }
+    ensures counted { (docs : List Doc) → length docs ≡ count → Told P.stands P.keeps port.old port.new
+        (λ m. AreVisible m docs firsts.now begun) (λ n. HasCounted (query_of frame.old) docs tally.old tally.new) }
+{
+    let likely = frame.likely(port, begun, steps);
+    tally_walk_likely(port, frame, tally, count, firsts, &likely, begun, steps);
+}
+
+/// The same, passing over each segment of which `likely` says that none of these documents of it matches. Whatever it
+/// says, the documents stay visible.
+pub(crate) fn tally_walk_likely<P: Port, L: Ledger>(
+    port: &mut P,
+    frame: &mut Frame,
+    tally: &mut Tally,
+    count: u64,
+    firsts: &[u64; MAX_SEGMENTS as usize],
+    likely: &[bool; MAX_SEGMENTS as usize],
+    begun: u32,
+    steps: &mut Steps<L>,
+)
+    requires { CanWalk P.stands port.old count firsts.now begun }
+    ensures seen { SeenAs frame.old frame.new }
+    ensures stands { (docs : List Doc) → length docs ≡ count → Told P.stands P.keeps port.old port.new
+        (λ m. AreVisible m docs firsts.now begun) (λ n. AreVisible n docs firsts.now begun) }
+    ensures counted { (docs : List Doc) → length docs ≡ count → Told P.stands P.keeps port.old port.new
+        (λ m. AreVisible m docs firsts.now begun × AreNone (query_of frame.old) (cut m.setting docs) likely.now)
+        (λ n. HasCounted (query_of frame.old) docs tally.old tally.new) }
+{
+    let mut end = count;
+    let mut segment = begun;
+    while segment > 0 {
+        segment -= 1;
+        let start = firsts[segment as usize] - 1;
+        if likely[segment as usize] {
+            tally_matches(port, frame, tally, segment, (end - start) as u32, steps);
+        }
+        end = start;
+    }
+}
