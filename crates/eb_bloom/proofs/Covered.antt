@@ -2,15 +2,14 @@
 use Rattle.std.proofs.Common.{◌≡◌, ℕ, zero, suc, ◌+◌, ◌==◌, ◌||◌, ◌&&◌, ◌⊎◌, Bool, true, false, List, [], ◌∷◌, ◌++◌, length, get_or, map, take, reverse, replicate}
 use Rattle.std.proofs.Common.{refl, ap, sym, ◌∙◌, subst, arith, inl, inr, eq-eqb}
 use Rattle.std.specs.List.{Contains, list_any, filter}
-use Rattle.std.proofs.lemmas.Bool.{cases_Bool, false≢true, and_from, and_parts}
+use Rattle.std.proofs.lemmas.Bool.{cases_Bool, and_from, and_parts}
 use Rattle.std.proofs.lemmas.List.Elements.{Contains-push_cases, Contains-append_right}
 use Rattle.std.proofs.lemmas.List.Folds.{list_any_at}
 use Rattle.eb_base.specs.Term.{Term}
 use Rattle.eb_base.specs.Document.{Doc}
-use Rattle.eb_base.specs.Query.{Tree, word}
+use Rattle.eb_base.specs.Query.{Tree}
 use Rattle.eb_base.specs.Match.{is_match, answer}
 use Rattle.eb_base.specs.Setting.{Setting}
-use Rattle.eb_base.proofs.Matching.{match_decides}
 use Rattle.eb_place.specs.Room.{cut, with_doc, fits}
 use Rattle.eb_place.proofs.CutSegments.{cut_push}
 use Rattle.eb_bloom.specs.Bits.{Bits, first_bit, second_bit, is_set, is_noted}
@@ -124,17 +123,10 @@ filter_nothing q (d ∷ ds) h =
     let off : is_match q d ≡ false = h d (0, omega arith, refl) in
     rw off (filter_nothing q ds (λ x c. h x (Contains-append_right (d ∷ []) ds x c)))
 
-no_answer : (q : Tree) (k : ℕ) (docs : List Doc) → ((d : Doc) → Contains docs d → is_match q d ≡ false) → answer q k docs ≡ []
+pub no_answer : (q : Tree) (k : ℕ) (docs : List Doc) → ((d : Doc) → Contains docs d → is_match q d ≡ false) → answer q k docs ≡ []
 unfolding answer
 no_answer q zero docs h = refl
 no_answer q (suc k) docs h = ap (λ (z : List Doc). map (λ (d : Doc). d.id) (take (suc k) (reverse z))) (filter_nothing q docs h)
-
--- a term is in no document of a segment in whose filter it isn't noted
-pub none_unnoted : (b : Bits) (t : Term) (σ : Setting) (docs : List Doc) (s k : ℕ) → Covers b σ docs → is_noted b s t ≡ false → answer (word t) k (get_or (cut σ docs) s []) ≡ []
-none_unnoted b t σ docs s k h off = no_answer (word t) k (get_or (cut σ docs) s []) (λ d c. elim (cases_Bool (is_match (word t) d)) [
-  | inl y ↦ absurd (false≢true (sym off ∙ h.noted s d t c ((match_decides (word t) d).0 y)))
-  | inr n ↦ n
-])
 
 -- a list of true alone
 pub all_true : (n s : ℕ) → get_or (replicate n true) s true ≡ true

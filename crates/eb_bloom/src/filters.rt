@@ -2,15 +2,18 @@ ghost use Rattle.std.specs.Prelude.{◌≡◌, ℕ, ◌+◌, ◌<◌, ◌≤◌,
 ghost use Rattle.std.specs.List.{list_any};
 ghost use Rattle.eb_base.specs.Document.{Doc};
 ghost use Rattle.eb_base.specs.Match.{answer};
-ghost use Rattle.eb_base.specs.Query.{word};
+ghost use Rattle.eb_base.specs.Query.{tree};
 ghost use Rattle.eb_base.specs.Setting.{Setting};
+ghost use Rattle.eb_base.specs.Term.{Term};
 ghost use Rattle.eb_place.specs.Room.{cut};
-ghost use Rattle.eb_bloom.specs.Bits.{filter_words, first_bit, second_bit, is_set, is_noted};
+ghost use Rattle.eb_bloom.specs.Bits.{filter_words, mixed_hash, first_bit, second_bit, is_set, is_noted};
 ghost use Rattle.eb_bloom.specs.Covers.{Covers};
+ghost use Rattle.eb_bloom.specs.Likely.{has_mark, may_match};
 
 use crate::bits::{has_bits, set_bits};
 use crate::hashing::{first_of, mixed_hash_of, second_of};
-use eb_base::{Config, Document, MAX_SEGMENTS, NoMemory, Term};
+use crate::marks::marks_of;
+use eb_base::{Config, Document, MAX_SEGMENTS, NoMemory, Query, Term};
 use std::alloc::Global;
 use std::marker::Model;
 
@@ -64,26 +67,54 @@ impl Filters {
         }
     }
 
-    /// In which of the first `begun` segments a term may stand: those in whose filter it is noted. It is true of each
-    /// further one. Where the filters cover an index, no document of a segment of which it is false has the term. Takes no
-    /// memory.
-    pub fn likely(&self, term: &Term, begun: u32) -> [bool; MAX_SEGMENTS as usize]
+    /// In which of the first `begun` segments a query may match, by what is noted in their filters: a word, a phrase and a
+    /// window in those where all their terms are noted, an And where each part may match, an Or where some part may, and a
+    /// bound and a Not in all. It is true of each further one. Where the filters cover an index, no document of a segment of
+    /// which it is false matches the query. Takes no memory.
+    pub fn likely(&self, query: &Query, begun: u32) -> [bool; MAX_SEGMENTS as usize]
         requires { begun ≤ self.now.setting.segments }
-        ensures noted { (s : ℕ) → s < begun → get_or result s true ≡ is_noted self.now s term.now }
+        ensures noted { (s : ℕ) → s < begun → get_or result s true ≡ may_match self.now s (tree query.now) }
         ensures further { (s : ℕ) → begun ≤ s → get_or result s true ≡ true }
         ensures none { (σ : Setting) (docs : List Doc) → Covers self.now σ docs
-            → (s k : ℕ) → get_or result s true ≡ false → answer (word term.now) k (get_or (cut σ docs) s []) ≡ [] }
+            → (s k : ℕ) → get_or result s true ≡ false → answer (tree query.now) k (get_or (cut σ docs) s []) ≡ [] }
     {
-        let bits = 4 * self.config.terms();
-        let mixed = mixed_hash_of(term);
-        let first = first_of(mixed, bits);
-        let second = second_of(mixed);
-        let words = self.words.as_slice();
+        // (a setting has at most 64 segments)
+        let _segments = self.config.segments();
+        let marks = marks_of(self, query, begun);
         let mut likely = [true; MAX_SEGMENTS as usize];
         for segment in 0..begun {
-            let base = segment as usize * bits as usize;
-            likely[segment as usize] = has_bits(words, base + first, second);
+            likely[segment as usize] = (marks >> segment) & 1 == 1;
         }
         likely
+    }
+
+    // The marks of those of the first `begun` segments in whose filter the term is noted.
+    pub(crate) fn marks(&self, term: &Term, begun: u32) -> u64
+        requires begun { begun ≤ self.now.setting.segments }
+        requires few { begun ≤ 64 }
+        ensures { (s : ℕ) → s < begun → has_mark result s ≡ is_noted self.now s term.now }
+    {
+        let mixed = mixed_hash_of(term);
+        let mut marks = 0u64;
+        for segment in 0..begun {
+            if self.has_noted(segment, mixed) {
+                marks |= 1 << segment;
+            }
+        }
+        marks
+    }
+
+    // Whether a term with this mixed hash is noted in the filter of the segment.
+    fn has_noted(&self, segment: u32, mixed: u64) -> bool
+        requires { segment < self.now.setting.segments }
+        ensures { (t : Term) → mixed ≡ mixed_hash t → result ≡ is_noted self.now segment t }
+    {
+        let bits = 4 * self.config.terms();
+        let base = segment as usize * bits as usize;
+        has_bits(
+            self.words.as_slice(),
+            base + first_of(mixed, bits),
+            second_of(mixed),
+        )
     }
 }

@@ -13,6 +13,7 @@ pub mod Documents
 pub mod Steps
 pub mod Phrases
 pub mod Windows
+pub mod ShortWindows
 pub mod Bounds
 pub mod Begins
 pub mod Owing

@@ -2,7 +2,8 @@
 //!
 //! A window takes for the greatest place of its last term the greatest place of each term before it below the one
 //! after it; where the first is too far away or in another document, the last term leaps to the end of its reach. All
-//! places only fall, and no list of places is kept. It holds for any number of position bits, since the document's
+//! places only fall, and no list of places is kept. A window whose reach is too short for its terms is asked of no
+//! list. It holds for any number of position bits, since the document's
 //! end bounds the reach.
 ghost use Rattle.std.specs.Prelude.{◌≡◌, ◌+◌, ◌*◌, ◌<◌, ◌≤◌, ◌^◌, length};
 ghost use Rattle.eb_cursor.specs.Loads.{loads_left};
@@ -150,6 +151,10 @@ pub fn window_below<P: Port, L: Ledger>(
     ensures found { FindsWindow P.stands P.keeps port.old port.new reach cursors.old cursors.new end result }
     ensures loads { steps.new + loads_left cursors.new ≤ steps.old + loads_left cursors.old }
 {
+    // (a reach that is too short for the terms)
+    if cursors.len() > reach as usize + 1 {
+        return 0;
+    }
     let start = (PLACES * end).min(cursors[0].upto);
     if start == 0 {
         return 0;

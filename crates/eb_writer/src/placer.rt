@@ -1,7 +1,7 @@
 //! The placer: it plans a document, and then stores it.
 //!
-//! What a document needs is counted by differences of `needs` on a copy of what is used, so that a term that stands
-//! several times counts once. Earlier tokens of the same document are found by hash chains of 512 buckets in fixed
+//! What a document needs is counted posting by posting (`needs_next`) on a copy of what is used, where a term that stands
+//! several times is entered once. Earlier tokens of the same document are found by hash chains of 512 buckets in fixed
 //! arrays, in numbers of 16 bits, which are kept and not made anew: an add that made them set 73 KB to 0 and moved 50
 //! KB for each document of 15 words.
 //!

@@ -1,8 +1,18 @@
-use Rattle.std.proofs.Common.{◌≡◌, ℕ, ◌≤◌, min, arith, ◌∙◌}
+use Rattle.std.proofs.Common.{◌≡◌, ℕ, ◌+◌, ◌<◌, ◌≤◌, length, min, arith, ◌∙◌}
+use Rattle.eb_base.specs.Query.{window}
 use Rattle.eb_cursor.specs.Lists.{gives}
+use Rattle.eb_cursor.proofs.Readies.{ready_lower}
+use Rattle.eb_cursor.proofs.ShortWindows.{short_none}
 use Rattle.eb_cursor.proofs.Windows.{window_asks, window_past, window_told}
 use Rattle.eb_cursor.proofs.Tellings.{told_itself, told_as}
 use Rattle.eb_cursor.proofs.window.window_below.Goals as goal
+
+pub returns-then-cursors-reach-clause-found : goal.returns-then-cursors-reach-clause-found
+returns-then-cursors-reach-clause-found g c = λ docs ts last h. told_itself g.met.P.Port.keeps_itself
+    (λ m r. (
+      short_none docs ts c.args.reach c.args.end (omega (arith, c.if-cursors-reach.true, r.3)),
+      ready_lower (gives m) docs (window ts c.args.reach) c.args.cursors.now c.args.end last h r,
+    ))
 
 pub returns-then-start-eq0-clause-found : goal.returns-then-start-eq0-clause-found
 returns-then-start-eq0-clause-found g c = λ docs ts last h. told_itself g.met.P.Port.keeps_itself (λ m r.

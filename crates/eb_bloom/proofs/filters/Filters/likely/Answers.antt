@@ -1,23 +1,48 @@
-use Rattle.std.proofs.Common.{◌<◌, ◌≤◌, length, refl, ap, sym, ◌∙◌, subst, arith, inl, inr}
+use Rattle.std.proofs.Common.{◌≡◌, ◌<◌, ◌≤◌, ◌==◌, true, length, get_or, refl, ap, sym, ◌∙◌, subst, arith, inl, inr}
 use Rattle.std.proofs.lemmas.Bool.{cases_lt, false≢true}
+use Rattle.std.proofs.lemmas.List.{length-set}
+use Rattle.eb_base.specs.Query.{tree}
 use Rattle.eb_bloom.specs.Bits.{Bits}
-use Rattle.eb_bloom.proofs.Sizes.{first_within}
-use Rattle.eb_bloom.proofs.Covered.{all_true, none_unnoted}
+use Rattle.eb_bloom.proofs.Covered.{all_true}
+use Rattle.eb_bloom.proofs.Likely.{none_unlikely}
+use Rattle.eb_bloom.proofs.MarkBits.{told_set, told_beyond}
 use Rattle.eb_bloom.proofs.filters.Filters.likely.Goals as goal
 
-pub loop-segment-init : goal.loop-segment-init
-loop-segment-init c = record { long = refl; noted = λ s low. absurd (omega (arith, low)); further = λ s low. all_true 64 s }
-
-pub has_bits-requires-clause-within : goal.has_bits-requires-clause-within
-has_bits-requires-clause-within c =
+pub marks_of-marks-requires-clause-few : goal.marks_of-marks-requires-clause-few
+marks_of-marks-requires-clause-few c =
     let most = subst (λ (b : Bits). c.args.begun ≤ b.setting.segments) (sym c.self.view_is) c.requires in
-    let low : c.loop-segment.segment < c.self.inside.config.segments = omega (arith, most, c.loop-segment-test.true) in
-    let inside = first_within c.self.inside.config c.loop-segment.segment c.mixed_hash_of-mixed.result c.first_of-first.result c.terms-bits.result
-    c.self.invariant.setting low c.mixed_hash_of-mixed.type_inv c.terms-bits.ensures c.first_of-first.ensures in
-    omega (arith, inside, c.self.invariant.number, ap length c.as_slice-words.ensures.value)
+    omega (arith, most, c.self.invariant.setting.segments.1)
+
+pub overflow_shr-likely : goal.overflow_shr-likely
+overflow_shr-likely c =
+    let most = subst (λ (b : Bits). c.args.begun ≤ b.setting.segments) (sym c.self.view_is) c.requires in
+    omega (arith, most, c.self.invariant.setting.segments.1, c.loop-segment-test.true)
+
+pub bounds-likely-segment : goal.bounds-likely-segment
+bounds-likely-segment c =
+    let most = subst (λ (b : Bits). c.args.begun ≤ b.setting.segments) (sym c.self.view_is) c.requires in
+    omega (arith, most, c.self.invariant.setting.segments.1, c.loop-segment-test.true)
+
+pub loop-segment-init : goal.loop-segment-init
+loop-segment-init c = record { long = refl; marked = λ s low. absurd (omega (arith, low)); further = λ s low. all_true 64 s }
+
+pub loop-segment-preserved : goal.loop-segment-preserved
+loop-segment-preserved c =
+    let inv = c.loop-segment.invariant in
+    let most = subst (λ (b : Bits). c.args.begun ≤ b.setting.segments) (sym c.self.view_is) c.requires in
+    let low : c.loop-segment.segment < length c.loop-segment.likely = omega (arith, most, c.self.invariant.setting.segments.1, c.loop-segment-test.true, inv.long) in
+    record {
+      long = length-set c.loop-segment.likely c.loop-segment.segment _ ∙ inv.long;
+      marked = told_set c.loop-segment.likely c.marks_of-marks.result c.loop-segment.segment low inv.marked;
+      further = told_beyond c.loop-segment.likely c.marks_of-marks.result c.loop-segment.segment inv.further;
+    }
+
+pub returns-clause-noted : goal.returns-clause-noted
+returns-clause-noted c s low = c.loop-segment.invariant.marked s (omega (arith, low, c.loop-segment-test.false)) ∙ c.marks_of-marks.ensures s low
 
 pub returns-clause-none : goal.returns-clause-none
 returns-clause-none c σ docs h s k off = elim (cases_lt s c.args.begun) [
-  | inl low ↦ none_unnoted c.args.self.now c.args.term.now σ docs s k h (sym (c.loop-segment.invariant.noted s (omega (arith, low, c.loop-segment-test.false))) ∙ off)
+  | inl low ↦ none_unlikely c.args.self.now (tree c.args.query.now) σ docs s k h
+      (sym (c.loop-segment.invariant.marked s (omega (arith, low, c.loop-segment-test.false)) ∙ c.marks_of-marks.ensures s low) ∙ off)
   | inr high ↦ absurd (false≢true (sym off ∙ c.loop-segment.invariant.further s (omega (arith, high, c.loop-segment.auto))))
 ]
