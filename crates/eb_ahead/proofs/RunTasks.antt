@@ -1,4 +1,5 @@
 -- Lines that are read, and those whose documents are added many at once.
+use Rattle.eb_fields.specs.Dialect.{Dialect}
 use Rattle.std.proofs.Common.{◌≡◌, ℕ, ◌+◌, ◌<◌, ◌≤◌, suc, true, List, [], ◌∷◌, ◌++◌, length, take, drop, get_or, Option, Some, None, Result, Ok, Err, sym, ap, ap₂, subst, ◌∙◌, arith, append_assoc}
 use Rattle.std.proofs.lemmas.List.{take_more, drop_all}
 use Rattle.std.proofs.Math.Seq.{drop-cons}
@@ -36,24 +37,24 @@ raw_reading (Err (Ask q)) = query q.k (tree q.query)
 raw_reading (Err (Refuse x)) = refused x
 raw_reading (Err Leave) = blank
 
-of_kind : (names : List (List ℕ)) (k : Kind) (bytes : List ℕ) (task : Result Doc Other) → IsTaskOfKind names k bytes task → ReadsByKind names k bytes (raw_reading task)
-of_kind names k bytes (Ok d) h = h
-of_kind names k bytes (Err Blank) h = h
-of_kind names k bytes (Err (Ask q)) h = h.1
-of_kind names k bytes (Err (Refuse x)) h = h
-of_kind names k bytes (Err Leave) h = absurd h
+of_kind : (how : Dialect) (k : Kind) (bytes : List ℕ) (task : Result Doc Other) → IsTaskOfKind how k bytes task → ReadsByKind how k bytes (raw_reading task)
+of_kind how k bytes (Ok d) h = h
+of_kind how k bytes (Err Blank) h = h
+of_kind how k bytes (Err (Ask q)) h = h.1
+of_kind how k bytes (Err (Refuse x)) h = h
+of_kind how k bytes (Err Leave) h = absurd h
 
-by_kind : (other : List (List ℕ) → List ℕ → Reading → Type 0) (names : List (List ℕ)) (k : Kind) (bytes : List ℕ) (task : Result Doc Other) → (IsLeft task → ⊥)
-    → IsTaskBy names k bytes task → ReadsKind other names k bytes (raw_reading task)
-by_kind other names blank_line bytes task kept h = of_kind names blank_line bytes task h
-by_kind other names document_line bytes task kept h = of_kind names document_line bytes task h
-by_kind other names query_line bytes task kept h = of_kind names query_line bytes task h
-by_kind other names bad_line bytes task kept h = absurd (kept h)
+by_kind : (other : Dialect → List ℕ → Reading → Type 0) (how : Dialect) (k : Kind) (bytes : List ℕ) (task : Result Doc Other) → (IsLeft task → ⊥)
+    → IsTaskBy how k bytes task → ReadsKind other how k bytes (raw_reading task)
+by_kind other how blank_line bytes task kept h = of_kind how blank_line bytes task h
+by_kind other how document_line bytes task kept h = of_kind how document_line bytes task h
+by_kind other how query_line bytes task kept h = of_kind how query_line bytes task h
+by_kind other how bad_line bytes task kept h = absurd (kept h)
 
-pub reads_raw : (other : List (List ℕ) → List ℕ → Reading → Type 0) (names : List (List ℕ)) (l : Line) (task : Result Doc Other) → (IsLeft task → ⊥) → IsTaskOf names l task
-    → ReadsWith other names l (raw_reading task)
-reads_raw other names (line bytes) task kept h = by_kind other names (kind_of bytes) bytes task kept h
-reads_raw other names long_line task kept h = ap raw_reading h
+pub reads_raw : (other : Dialect → List ℕ → Reading → Type 0) (how : Dialect) (l : Line) (task : Result Doc Other) → (IsLeft task → ⊥) → IsTaskOf how l task
+    → ReadsWith other how l (raw_reading task)
+reads_raw other how (line bytes) task kept h = by_kind other how (kind_of bytes) bytes task kept h
+reads_raw other how long_line task kept h = ap raw_reading h
 
 -- ---- what lines print, from one of them on
 

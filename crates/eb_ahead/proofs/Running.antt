@@ -1,4 +1,5 @@
 -- A run over a store takes many lines at once.
+use Rattle.eb_fields.specs.Dialect.{Dialect, dialect_of}
 use Rattle.std.proofs.Common.{◌≡◌, ℕ, ◌+◌, ◌≤◌, true, List, [], ◌∷◌, ◌++◌, length, Option, Some, None, Result, Ok, Err, refl, sym, ap, ap₂, subst, ◌∙◌, arith, append_assoc, append-nil, length-append}
 use Rattle.std.specs.Prelude.{◌^◌}
 use Rattle.std.specs.List.{AllZip}
@@ -9,7 +10,6 @@ use Rattle.eb_answer.specs.Stores.{HasForm}
 use Rattle.eb_answer.proofs.Coming.{read_long}
 use Rattle.eb_answer.proofs.Taking.{one_more, few_refused}
 use Rattle.eb_base.specs.Document.{Doc}
-use Rattle.eb_fields.specs.Fields.{names}
 use Rattle.eb_io.specs.Lines.{Line}
 use Rattle.eb_lines.specs.declared.form.Form.{Form}
 use Rattle.eb_lines.specs.declared.refusal.Refusal.{Refusal}
@@ -40,14 +40,14 @@ counting s docs ws number failed = record {
   alloc = s.alloc;
   gate = s.gate;
   store = (docs, ws);
-  fields = s.fields;
+  dialect = s.dialect;
   documents = s.documents;
   number = number;
   queries = s.queries;
   refused = failed;
 }
 
-module _ {G S W : Type 0} (other : List (List ℕ) → List ℕ → Reading → Type 0) (s : Answering G S) (rules : Rules W) where
+module _ {G S W : Type 0} (other : Dialect → List ℕ → Reading → Type 0) (s : Answering G S) (rules : Rules W) where
   abbrev Counts : List Doc → W → ℕ → ℕ → List Line → List ℕ → Type 0
   Counts docs ws number failed given so_far = HasAnswered other stands (counting s docs ws number failed) rules given so_far
 
@@ -57,14 +57,14 @@ module _ {G S W : Type 0} (other : List (List ℕ) → List ℕ → Reading → 
       subst (λ x. Counts docs ws m e more x) t (subst (λ x. Counts docs ws m e x so_far) r (subst (λ x. Counts docs ws m x given so_far) q (subst (λ x. Counts docs ws x f given so_far) p h)))
 
   module _ (ws : W) (none : (d : Doc) → rules.tells ws d ≡ []) (n f : ℕ) (given : List Line) (so_far : List ℕ) (l : Line) (few : n ≤ 2 ^ 40) where
-    document_more : (docs : List Doc) (d : Doc) (o : Option Refusal) → rules.refusal docs d ≡ o → IsTaskOf (names s.fields) l (Ok d) → Counts docs ws n f given so_far
+    document_more : (docs : List Doc) (d : Doc) (o : Option Refusal) → rules.refusal docs d ≡ o → IsTaskOf (dialect_of s.dialect) l (Ok d) → Counts docs ws n f given so_far
         → Counts (docs ++ documents_in (document_outcome d o)) ws (n + 1) (f + one_cause o) (given ++ l ∷ []) (so_far ++ cause_line rules.form (n + 1) o)
     document_more docs d None e is h =
         let old = counting s docs ws n f in
         let new = counting s (docs ++ d ∷ []) ws (n + 1) (f + 0) in
         let came : document d ≡ comes rules (held_behind rules h.readings) (watches_behind rules h.readings) (document d) =
         ap (document_outcome d) (sym e ∙ ap (λ ds. rules.refusal ds d) h.store.0) in
-        let more = one_more other stands old new rules given so_far l (document d) h (reads_raw other (names s.fields) l (Ok d) (λ x. x) is) refl (document d) came
+        let more = one_more other stands old new rules given so_far l (document d) h (reads_raw other (dialect_of s.dialect) l (Ok d) (λ x. x) is) refl (document d) came
         (ap (λ ds. ds ++ d ∷ []) h.store.0, h.store.1) refl few (omega arith) refl in
         subst (λ x. Counts (docs ++ d ∷ []) ws (n + 1) (f + 0) (given ++ l ∷ []) (so_far ++ x)) (ap (watch_line rules.form (n + 1)) (ap (λ w. rules.tells w d) (sym h.store.1) ∙ none d)) more
     document_more docs d (Some x) e is h =
@@ -72,24 +72,26 @@ module _ {G S W : Type 0} (other : List (List ℕ) → List ℕ → Reading → 
         let new = counting s (docs ++ []) ws (n + 1) (f + 1) in
         let came : refused x ≡ comes rules (held_behind rules h.readings) (watches_behind rules h.readings) (document d) =
         ap (document_outcome d) (sym e ∙ ap (λ ds. rules.refusal ds d) h.store.0) in
-        one_more other stands old new rules given so_far l (document d) h (reads_raw other (names s.fields) l (Ok d) (λ x. x) is) refl (refused x) came
+        one_more other stands old new rules given so_far l (document d) h (reads_raw other (dialect_of s.dialect) l (Ok d) (λ x. x) is) refl (refused x) came
         (ap (λ ds. ds ++ []) h.store.0, h.store.1) refl few (omega arith) refl
 
-    pub line_more : (docs : List Doc) (task : Result Doc Other) → IsTaskOf (names s.fields) l task → is_run_task task ≡ true → Counts docs ws n f given so_far
+    pub line_more : (docs : List Doc) (task : Result Doc Other) → IsTaskOf (dialect_of s.dialect) l task → is_run_task task ≡ true → Counts docs ws n f given so_far
         → Counts (docs_with rules docs task) ws (n + 1) (f + one_cause (cause task (item_refusal rules docs task))) (given ++ l ∷ [])
         (so_far ++ cause_line rules.form (n + 1) (cause task (item_refusal rules docs task)))
     line_more docs (Ok d) is run h = document_more docs d (rules.refusal docs d) refl is h
     line_more docs (Err Blank) is run h =
-        one_more other stands (counting s docs ws n f) (counting s docs ws (n + 1) (f + 0)) rules given so_far l blank h (reads_raw other (names s.fields) l (Err Blank) (λ x. x) is) refl blank refl
+        one_more other stands (counting s docs ws n f) (counting s docs ws (n + 1) (f + 0)) rules given so_far l blank h
+        (reads_raw other (dialect_of s.dialect) l (Err Blank) (λ x. x) is) refl blank refl
         (h.store.0 ∙ sym (append-nil (held_behind rules h.readings)), h.store.1) refl few (omega arith) refl
     line_more docs (Err (Refuse x)) is run h =
-        one_more other stands (counting s docs ws n f) (counting s docs ws (n + 1) (f + 1)) rules given so_far l (refused x) h (reads_raw other (names s.fields) l (Err (Refuse x)) (λ x. x) is) refl
+        one_more other stands (counting s docs ws n f) (counting s docs ws (n + 1) (f + 1)) rules given so_far l (refused x) h
+        (reads_raw other (dialect_of s.dialect) l (Err (Refuse x)) (λ x. x) is) refl
         (refused x) refl (h.store.0 ∙ sym (append-nil (held_behind rules h.readings)), h.store.1) refl few (omega arith) refl
     line_more docs (Err (Ask q)) is run h = absurd (cc run)
     line_more docs (Err Leave) is run h = absurd (cc run)
 
   lines_more : (ws : W) (none : (d : Doc) → rules.tells ws d ≡ []) (docs : List Doc) (n f : ℕ) (given : List Line) (so_far : List ℕ) (lines : List Line) (tasks : List (Result Doc Other))
-      → AllZip (IsTaskOf (names s.fields)) lines tasks → AreRun tasks → n + length tasks ≤ 2 ^ 40 + 1 → Counts docs ws n f given so_far
+      → AllZip (IsTaskOf (dialect_of s.dialect)) lines tasks → AreRun tasks → n + length tasks ≤ 2 ^ 40 + 1 → Counts docs ws n f given so_far
       → Counts (docs_after rules docs tasks) ws (n + length tasks) (f + run_refused tasks (item_refusals rules docs tasks)) (given ++ lines)
       (so_far ++ run_text rules.form n tasks (item_refusals rules docs tasks))
   unfolding docs_after item_refusals run_text run_refused
@@ -109,10 +111,10 @@ module _ {G S W : Type 0} (other : List (List ℕ) → List ℕ → Reading → 
       counts_as (docs_after rules next ts) ws (n + 1 + length ts) (n + length (t ∷ ts)) (f + one + more) (f + (one + more))
       ((given ++ l ∷ []) ++ ls) (given ++ l ∷ ls) ((so_far ++ own) ++ rest) (so_far ++ (own ++ rest)) (omega arith) (omega arith) (append_assoc given (l ∷ []) ls) (append_assoc so_far own rest) all
 
-module _ {G S W : Type 0} (other : List (List ℕ) → List ℕ → Reading → Type 0) (holds : S → Rules W → List Doc → W → Type 0) where
+module _ {G S W : Type 0} (other : Dialect → List ℕ → Reading → Type 0) (holds : S → Rules W → List Doc → W → Type 0) where
   pub takes_run : (old new : Answering G S) (form : Form) → HasForm holds old.store form
       → ((rules : Rules W) (docs : List Doc) (ws : W) → holds old.store rules docs ws → (d : Doc) → rules.tells ws d ≡ []) → (tasks : List (Result Doc Other)) (rs : List (Option Refusal))
-      → PlacesAll holds old.store new.store tasks rs → AreRun tasks → old.number + length tasks ≤ 2 ^ 40 + 1 → names new.fields ≡ names old.fields → new.number ≡ old.number + length tasks
+      → PlacesAll holds old.store new.store tasks rs → AreRun tasks → old.number + length tasks ≤ 2 ^ 40 + 1 → dialect_of new.dialect ≡ dialect_of old.dialect → new.number ≡ old.number + length tasks
       → new.queries ≡ old.queries → new.refused ≡ old.refused + run_refused tasks rs → (t0 t1 : List ℕ) → t1 ≡ t0 ++ run_text form old.number tasks rs → TakesRun other holds old new t0 t1 tasks
   takes_run old new form written none tasks rs places run few same number asked failed t0 t1 text = λ lines zip rules given so_far h.
       let docs = held_behind rules h.readings in
@@ -120,7 +122,7 @@ module _ {G S W : Type 0} (other : List (List ℕ) → List ℕ → Reading → 
       let placed = places rules docs ws h.store in
       let before : Counts other old rules docs ws old.number old.refused given so_far = record {
         readings = h.readings;
-        fields = h.fields;
+        dialect = h.dialect;
         read = h.read;
         store = (refl, refl);
         number = h.number;
@@ -133,7 +135,7 @@ module _ {G S W : Type 0} (other : List (List ℕ) → List ℕ → Reading → 
         run_text rules.form old.number tasks (item_refusals rules docs tasks),
         record {
           readings = after.readings;
-          fields = same ∙ after.fields;
+          dialect = same ∙ after.dialect;
           read = after.read;
           store = subst (λ w. holds new.store rules (held_behind rules after.readings) w) after.store.1 (subst (λ ds. holds new.store rules ds ws) after.store.0 placed.1);
           number = number ∙ after.number;

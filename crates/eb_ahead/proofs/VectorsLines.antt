@@ -1,4 +1,5 @@
 -- Which lines wait in a buffer, and what a piece of some lines is read as.
+use Rattle.eb_fields.specs.Dialect.{plain}
 use Rattle.std.proofs.Common.{◌≡◌, ℕ, List, [], ◌∷◌, refl, sym, subst, arith}
 use Rattle.std.specs.Prelude.{None, Some, Result, Ok, Err}
 use Rattle.std.specs.List.{AllZip}
@@ -36,14 +37,14 @@ abbrev lines : List Line
 lines = line [] ∷ long_line ∷ line [] ∷ []
 
 module _ {A : Type 0} (E : Type 0) (piece : Vec (Result Doc Other) A) where
-  first_piece : piece.items ≡ Err Blank ∷ Err (Refuse LongLine) ∷ [] → IsPiece {A = A} {E = E} [] lines 2 0 (Ok piece)
-  first_piece is = subst (AllZip (IsTaskOf []) (line [] ∷ long_line ∷ [])) (sym is) (refl, (refl, tt))
+  first_piece : piece.items ≡ Err Blank ∷ Err (Refuse LongLine) ∷ [] → IsPiece {A = A} {E = E} plain lines 2 0 (Ok piece)
+  first_piece is = subst (AllZip (IsTaskOf plain) (line [] ∷ long_line ∷ [])) (sym is) (refl, (refl, tt))
 
-  last_piece : piece.items ≡ Err Blank ∷ [] → IsPiece {A = A} {E = E} [] lines 2 1 (Ok piece)
-  last_piece is = subst (AllZip (IsTaskOf []) (line [] ∷ [])) (sym is) (refl, tt)
+  last_piece : piece.items ≡ Err Blank ∷ [] → IsPiece {A = A} {E = E} plain lines 2 1 (Ok piece)
+  last_piece is = subst (AllZip (IsTaskOf plain) (line [] ∷ [])) (sym is) (refl, tt)
 
-  no_line_left_out : piece.items ≡ Err Blank ∷ [] → IsPiece {A = A} {E = E} [] lines 2 0 (Ok piece) → ⊥
-  no_line_left_out is h = (subst (AllZip (IsTaskOf []) (line [] ∷ long_line ∷ [])) is h).1
+  no_line_left_out : piece.items ≡ Err Blank ∷ [] → IsPiece {A = A} {E = E} plain lines 2 0 (Ok piece) → ⊥
+  no_line_left_out is h = (subst (AllZip (IsTaskOf plain) (line [] ∷ long_line ∷ [])) is h).1
 
-  not_the_piece_before : piece.items ≡ Err Blank ∷ Err (Refuse LongLine) ∷ [] → IsPiece {A = A} {E = E} [] lines 2 1 (Ok piece) → ⊥
-  not_the_piece_before is h = (subst (AllZip (IsTaskOf []) (line [] ∷ [])) is h).1
+  not_the_piece_before : piece.items ≡ Err Blank ∷ Err (Refuse LongLine) ∷ [] → IsPiece {A = A} {E = E} plain lines 2 1 (Ok piece) → ⊥
+  not_the_piece_before is h = (subst (AllZip (IsTaskOf plain) (line [] ∷ [])) is h).1

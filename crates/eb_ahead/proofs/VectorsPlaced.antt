@@ -1,4 +1,5 @@
 -- What comes of three items, of which two are documents, in a store that has room for one more.
+use Rattle.eb_fields.specs.Dialect.{plain}
 use Rattle.std.proofs.Common.{◌≡◌, ℕ, false, List, [], ◌∷◌, length, Option, None, Some, refl}
 use Rattle.std.specs.Prelude.{Result, Ok, Err, nat_lt, if◌then◌else◌}
 use Rattle.eb_answer.specs.Rules.{Rules, plain_rules}
@@ -20,7 +21,7 @@ abbrev words : Form
 words = record { json = false; stats = false }
 
 abbrev rules : Rules (Unit {0})
-rules = plain_rules [] [] room_for_two (λ docs. docs) words (λ docs. Nothing)
+rules = plain_rules plain [] room_for_two (λ docs. docs) words (λ docs. Nothing)
 
 -- a document, what is none, and a document, after one that is held
 abbrev items : List (Result Doc ℕ)

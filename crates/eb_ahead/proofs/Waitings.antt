@@ -1,4 +1,5 @@
 -- Lines wait, and are processed.
+use Rattle.eb_fields.specs.Dialect.{Dialect, dialect_of}
 use Rattle.std.proofs.Common.{◌≡◌, ℕ, ◌+◌, ◌≤◌, ◌<◌, suc, List, [], ◌∷◌, ◌++◌, length, take, drop, get_or, Result, refl, sym, ap, subst, ◌∙◌, arith}
 use Rattle.std.proofs.Common.{append_assoc, append-nil, length-append, length-drop, length-take-le, take-append-drop}
 use Rattle.std.specs.Prelude.{◌^◌, IfOk, MatchResult, ⊤, Some, slice_get}
@@ -11,7 +12,6 @@ use Rattle.eb_answer.specs.declared.answering.Answering.{Answering}
 use Rattle.eb_answer.specs.Answering.{HasAnswered}
 use Rattle.eb_answer.specs.Rules.{Rules, IsBody, IsText, HasRefusal, HasNoRefusal}
 use Rattle.eb_base.specs.Document.{Doc}
-use Rattle.eb_fields.specs.Fields.{names}
 use Rattle.eb_io.specs.Lines.{Line}
 use Rattle.eb_lines.specs.Programs.{IsRunning, WorksOn, WorksOnGiven, Finishes}
 use Rattle.eb_lines.proofs.Results.{ok_match}
@@ -62,7 +62,7 @@ module _ {P A : Type 0} (has_run : P → A → List Line → List ℕ → Type 0
 
 -- ---- lines that wait
 
-module _ {G S W : Type 0} (other : List (List ℕ) → List ℕ → Reading → Type 0) (holds : S → Rules W → List Doc → W → Type 0) where
+module _ {G S W : Type 0} (other : Dialect → List ℕ → Reading → Type 0) (holds : S → Rules W → List Doc → W → Type 0) where
   -- these lines were taken by the run
   abbrev Takes : Answering G S → Answering G S → List ℕ → List ℕ → List Line → Type 0
   Takes old new t0 t1 ls = (rules : Rules W) (given : List Line) (so_far : List ℕ) → HasAnswered other holds old rules given so_far
@@ -101,7 +101,7 @@ module _ {G S W : Type 0} (other : List (List ℕ) → List ℕ → Reading → 
     -- as many lines wait as are read
     pub waits_long : length tasks + length more + old.worked ≡ length old.held
     waits_long =
-        let long = AllZip-long (IsTaskOf (names old.answering.fields)) (waiting_in old) (tasks ++ more) waits in
+        let long = AllZip-long (IsTaskOf (dialect_of old.answering.dialect)) (waiting_in old) (tasks ++ more) waits in
         omega (arith, long, length-append tasks more, length-drop old.worked old.held, r.3.within)
 
     pub waits_few : old.answering.number + length tasks ≤ 2 ^ 40 + 1
@@ -127,7 +127,7 @@ module _ {G S W : Type 0} (other : List (List ℕ) → List ℕ → Reading → 
       pub run_worked : new.number ≡ old.number → TakesRun other holds old.answering new.answering t0 t1 tasks → WorksOn (HasHeld other holds) old new t0 t1
       run_worked number takes =
           let ls = take (length tasks) (waiting_in old) in
-          let front = zip_front (IsTaskOf (names old.answering.fields)) (waiting_in old) tasks more waits in
+          let front = zip_front (IsTaskOf (dialect_of old.answering.dialect)) (waiting_in old) tasks more waits in
           let few : length tasks ≤ length (waiting_in old) = omega (arith, waits_long, length-drop old.worked old.held, r.3.within) in
           worked_on old new t0 t1 number ls cut_is (omega (arith, worked.1, ap length worked.0, waits_long))
           (omega (arith, worked.1, length-take-le (length tasks) (waiting_in old) few)) (takes ls front)
@@ -135,10 +135,10 @@ module _ {G S W : Type 0} (other : List (List ℕ) → List ℕ → Reading → 
       pub waits_still : WorksOn (HasHeld other holds) old new t0 t1 → AreWaiting new more
       waits_still on =
           let w = on r.0 r.1 r.2 r.3 in
-          let same : names old.answering.fields ≡ names new.answering.fields = r.3.answered.fields ∙ sym w.1.answered.fields in
-          subst (λ (ns : List (List ℕ)). AllZip (IsTaskOf ns) (waiting_in new) more) same
-          (subst (λ xs. AllZip (IsTaskOf (names old.answering.fields)) xs more) (sym rest_is)
-          (zip_back (IsTaskOf (names old.answering.fields)) (waiting_in old) tasks more waits))
+          let same : dialect_of old.answering.dialect ≡ dialect_of new.answering.dialect = r.3.answered.dialect ∙ sym w.1.answered.dialect in
+          subst (λ (how : Dialect). AllZip (IsTaskOf how) (waiting_in new) more) same
+          (subst (λ xs. AllZip (IsTaskOf (dialect_of old.answering.dialect)) xs more) (sym rest_is)
+          (zip_back (IsTaskOf (dialect_of old.answering.dialect)) (waiting_in old) tasks more waits))
 
   pub rest_waits : (old new : Ahead G S) (r : IsRunning (HasHeld other holds) old) (tasks : List (Result Doc Other)) (n : ℕ) → n ≤ length tasks → AreWaiting old tasks → HasWorked old new n
       → (t0 t1 : List ℕ) → WorksOn (HasHeld other holds) old new t0 t1 → AreWaiting new (drop n tasks)
@@ -152,11 +152,11 @@ module _ {G S W : Type 0} (other : List (List ℕ) → List ℕ → Reading → 
 
   -- the first line that waits is read so
   pub first_task : (old : Ahead G S) (r : IsRunning (HasHeld other holds) old) (task : Result Doc Other) (more : List (Result Doc Other)) → AreWaiting old (task ∷ more)
-      → (l : Line) → slice_get old.held old.worked ≡ Some l → IsTaskOf (names old.answering.fields) l task
+      → (l : Line) → slice_get old.held old.worked ≡ Some l → IsTaskOf (dialect_of old.answering.dialect) l task
   first_task old r task more waits l is =
       let l_is : get_or old.held old.worked l ≡ l = get_or_from_slice_get old.held old.worked l l is in
       let first : waiting_in old ≡ l ∷ drop (suc old.worked) old.held = drop-cons old.held old.worked l (low old r task more waits) ∙ ap (λ x. x ∷ drop (suc old.worked) old.held) l_is in
-      (subst (λ xs. AllZip (IsTaskOf (names old.answering.fields)) xs (task ∷ more)) first waits).0
+      (subst (λ xs. AllZip (IsTaskOf (dialect_of old.answering.dialect)) xs (task ∷ more)) first waits).0
 
   -- the first line that waits is taken
   module _ (old new : Ahead G S) (r : IsRunning (HasHeld other holds) old) (task : Result Doc Other) (more : List (Result Doc Other)) (waits : AreWaiting old (task ∷ more))

@@ -1,4 +1,5 @@
 -- What lines that wait are read as, and what those print whose documents are added many at once.
+use Rattle.eb_fields.specs.Dialect.{Dialect}
 use Rattle.std.specs.Prelude.{◌≡◌, ℕ, ◌+◌, ◌++◌, Bool, true, false, List, [], ◌∷◌, Option, Some, None, Result, Ok, Err}
 use Rattle.eb_answer.specs.Questions.{MayAsk}
 use Rattle.eb_base.specs.Document.{Doc}
@@ -22,12 +23,12 @@ line_of (held.Line bytes) = line bytes.now
 line_of held.Long = long_line
 
 -- this is to be done for a line of a kind other than the last one, with these fields; one of the last kind is left to the store
-abbrev pub IsTaskOfKind : List (List ℕ) → Kind → List ℕ → Result Doc Other → Type 0
-IsTaskOfKind names kind bytes (Ok d) = ReadsByKind names kind bytes (document d)
-IsTaskOfKind names kind bytes (Err Blank) = ReadsByKind names kind bytes blank
-IsTaskOfKind names kind bytes (Err (Ask q)) = MayAsk q.k q.query × ReadsByKind names kind bytes (query q.k (tree q.query))
-IsTaskOfKind names kind bytes (Err (Refuse x)) = ReadsByKind names kind bytes (refused x)
-IsTaskOfKind names kind bytes (Err Leave) = ⊥
+abbrev pub IsTaskOfKind : Dialect → Kind → List ℕ → Result Doc Other → Type 0
+IsTaskOfKind how kind bytes (Ok d) = ReadsByKind how kind bytes (document d)
+IsTaskOfKind how kind bytes (Err Blank) = ReadsByKind how kind bytes blank
+IsTaskOfKind how kind bytes (Err (Ask q)) = MayAsk q.k q.query × ReadsByKind how kind bytes (query q.k (tree q.query))
+IsTaskOfKind how kind bytes (Err (Refuse x)) = ReadsByKind how kind bytes (refused x)
+IsTaskOfKind how kind bytes (Err Leave) = ⊥
 
 abbrev pub IsLeft : Result Doc Other → Type 0
 IsLeft (Ok d) = ⊥
@@ -36,16 +37,16 @@ IsLeft (Err (Ask q)) = ⊥
 IsLeft (Err (Refuse x)) = ⊥
 IsLeft (Err Leave) = Unit {0}
 
-abbrev pub IsTaskBy : List (List ℕ) → Kind → List ℕ → Result Doc Other → Type 0
-IsTaskBy names blank_line bytes task = IsTaskOfKind names blank_line bytes task
-IsTaskBy names document_line bytes task = IsTaskOfKind names document_line bytes task
-IsTaskBy names query_line bytes task = IsTaskOfKind names query_line bytes task
-IsTaskBy names bad_line bytes task = IsLeft task
+abbrev pub IsTaskBy : Dialect → Kind → List ℕ → Result Doc Other → Type 0
+IsTaskBy how blank_line bytes task = IsTaskOfKind how blank_line bytes task
+IsTaskBy how document_line bytes task = IsTaskOfKind how document_line bytes task
+IsTaskBy how query_line bytes task = IsTaskOfKind how query_line bytes task
+IsTaskBy how bad_line bytes task = IsLeft task
 
 -- this is to be done for a line
-abbrev pub IsTaskOf : List (List ℕ) → Line → Result Doc Other → Type 0
-IsTaskOf names (line bytes) task = IsTaskBy names (kind_of bytes) bytes task
-IsTaskOf names long_line task = task ≡ Err (Refuse LongLine)
+abbrev pub IsTaskOf : Dialect → Line → Result Doc Other → Type 0
+IsTaskOf how (line bytes) task = IsTaskBy how (kind_of bytes) bytes task
+IsTaskOf how long_line task = task ≡ Err (Refuse LongLine)
 
 -- a line may be among those whose documents are added many at once
 abbrev pub is_run_task : Result Doc Other → Bool

@@ -4,7 +4,7 @@ ghost use Rattle.eb_ahead.specs.Placing.{PlacesTogether, TellsNone};
 ghost use Rattle.eb_ahead.specs.Runs.{TakesRun};
 ghost use Rattle.eb_ahead.specs.Tasks.{line_of, IsTaskOf, AreRun, cause, cause_line, one_cause, run_text, run_refused};
 ghost use Rattle.eb_answer.specs.Answering.{HasAnswered};
-ghost use Rattle.eb_fields.specs.Fields.{names};
+ghost use Rattle.eb_fields.specs.Dialect.{dialect_of};
 ghost use Rattle.eb_lines.specs.Programs.{IsRunning, WorksOn, WorksOnGiven};
 ghost use Rattle.eb_lines.specs.Text.{room_of};
 
@@ -104,7 +104,7 @@ fn work_other<P: Store, G: Gate>(
 ) -> Result<(), NoMemory>
     requires state { IsRunning (HasAnswered P.other P.holds) answering.old }
     requires number { answering.old.number ≤ 2 ^ 40 }
-    requires task { IsTaskOf (names answering.old.fields) (line_of line) (Err other.now) }
+    requires task { IsTaskOf (dialect_of answering.old.dialect) (line_of line) (Err other.now) }
     ensures ok { OnOk result (WorksOnGiven (HasAnswered P.other P.holds) answering.old answering.new text.old.items text.new.items (line_of line.entry)) }
     ensures err { OnErr result (WorksOn (HasAnswered P.other P.holds) answering.old answering.new text.old.items text.new.items) }
 {
@@ -135,7 +135,7 @@ pub(crate) fn work_line<P: Store, G: Gate>(
 ) -> Result<(), NoMemory>
     requires state { IsRunning (HasAnswered P.other P.holds) answering.old }
     requires number { answering.old.number ≤ 2 ^ 40 }
-    requires task { IsTaskOf (names answering.old.fields) (line_of line) task.now }
+    requires task { IsTaskOf (dialect_of answering.old.dialect) (line_of line) task.now }
     ensures ok { OnOk result (WorksOnGiven (HasAnswered P.other P.holds) answering.old answering.new text.old.items text.new.items (line_of line.entry)) }
     ensures err { OnErr result (WorksOn (HasAnswered P.other P.holds) answering.old answering.new text.old.items text.new.items) }
 {

@@ -6,7 +6,7 @@ ghost use Rattle.eb_ahead.specs.Placing.{PlacesTogether, TellsNone};
 ghost use Rattle.eb_ahead.specs.Tasks.{line_of, AreRun};
 ghost use Rattle.eb_answer.specs.Answering.{HasAnswered};
 ghost use Rattle.eb_answer.specs.Rules.{Rules};
-ghost use Rattle.eb_fields.specs.Fields.{names};
+ghost use Rattle.eb_fields.specs.Dialect.{dialect_of};
 ghost use Rattle.eb_lines.specs.Programs.{IsRunning, WorksOn, WorksOnGiven};
 
 use crate::adding::{work_line, work_run};
@@ -251,7 +251,13 @@ pub(crate) fn work_held<
     ensures none { OnOk result (HoldsNone ahead.new) }
     ensures number { ahead.new.number ≡ ahead.old.number }
 {
-    let mut tasks = read_lines(rt, alloc, ahead.answering.fields, &ahead.held, ahead.worked)?;
+    let mut tasks = read_lines(
+        rt,
+        alloc,
+        ahead.answering.dialect,
+        &ahead.held,
+        ahead.worked,
+    )?;
     work_all(ahead, alloc, place_all, tasks.as_slice(), text)?;
     let_go(rt, tasks.as_mut_slice());
     ahead.held.clear();

@@ -2,7 +2,7 @@
 ghost use Rattle.std.specs.Prelude.{◌≡◌, ℕ, ◌+◌, ◌*◌, ◌<◌, ◌≤◌, ◌^◌, ◌++◌, List, IfOk, OnOk, Ok, Some, length, vec_len, take, drop, slice_get};
 ghost use Rattle.std.specs.List.{AllZip};
 ghost use Rattle.eb_ahead.specs.Tasks.{line_of, IsTaskOf, IsTaskOfKind, is_run_task, AreRun};
-ghost use Rattle.eb_fields.specs.Fields.{names};
+ghost use Rattle.eb_fields.specs.Dialect.{Dialect as Spoken, dialect_of};
 ghost use Rattle.eb_ahead.specs.Pieces.{IsPiece, ArePieces};
 ghost use Rattle.eb_io.specs.Lines.{Line, line};
 ghost use Rattle.eb_lines.specs.Kinds.{document_line, query_line};
@@ -12,7 +12,7 @@ use eb_answer::read_question;
 use eb_base::{Document, NoMemory, Query};
 use eb_beside::each_place;
 use eb_doc::DocumentReader;
-use eb_fields::Fields;
+use eb_fields::Dialect;
 use eb_lines::{LineKind, Refusal, line_kind, read_document_line_by};
 use rayon::current_num_threads;
 use std::alloc::Global;
@@ -48,12 +48,12 @@ type Piece = Result<Vec<Result<Document, Other>>, NoMemory>;
 // Reads a document line.
 fn read_document(
     reader: &mut DocumentReader,
-    fields: Fields<'_>,
+    dialect: Dialect<'_>,
     bytes: &[u8],
 ) -> Result<Result<Document, Other>, NoMemory>
-    ensures { IfOk result (IsTaskOfKind (names fields.entry) document_line bytes.now) }
+    ensures { IfOk result (IsTaskOfKind (dialect_of dialect.entry) document_line bytes.now) }
 {
-    match read_document_line_by(reader, fields, bytes)? {
+    match read_document_line_by(reader, dialect, bytes)? {
         Ok(document) => Ok(Ok(document)),
         Err(refusal) => Ok(Err(Other::Refuse(refusal))),
     }
@@ -62,13 +62,13 @@ fn read_document(
 // Reads a query line.
 fn read_query(
     alloc: Global,
-    fields: Fields<'_>,
+    dialect: Dialect<'_>,
     text: &str,
 ) -> Result<Result<Document, Other>, NoMemory>
     requires { slice_get text.now 0 ≡ Some 63 }
-    ensures { IfOk result (IsTaskOfKind (names fields.entry) query_line text.now) }
+    ensures { IfOk result (IsTaskOfKind (dialect_of dialect.entry) query_line text.now) }
 {
-    match read_question(alloc, fields, text)? {
+    match read_question(alloc, dialect, text)? {
         Ok((k, query)) => Ok(Err(Other::Ask(Question { k, query }))),
         Err(refusal) => Ok(Err(Other::Refuse(refusal))),
     }
@@ -78,15 +78,15 @@ fn read_query(
 fn read_bytes(
     reader: &mut DocumentReader,
     alloc: Global,
-    fields: Fields<'_>,
+    dialect: Dialect<'_>,
     bytes: &[u8],
 ) -> Result<Result<Document, Other>, NoMemory>
-    ensures { IfOk result (IsTaskOf (names fields.entry) (line bytes.now)) }
+    ensures { IfOk result (IsTaskOf (dialect_of dialect.entry) (line bytes.now)) }
 {
     match line_kind(bytes) {
         LineKind::Blank => Ok(Err(Other::Blank)),
-        LineKind::Document => read_document(reader, fields, bytes),
-        LineKind::Query(text) => read_query(alloc, fields, text),
+        LineKind::Document => read_document(reader, dialect, bytes),
+        LineKind::Query(text) => read_query(alloc, dialect, text),
         LineKind::Bad => Ok(Err(Other::Leave)),
     }
 }
@@ -95,13 +95,13 @@ fn read_bytes(
 fn read_line(
     reader: &mut DocumentReader,
     alloc: Global,
-    fields: Fields<'_>,
+    dialect: Dialect<'_>,
     line: HeldLine<'_>,
 ) -> Result<Result<Document, Other>, NoMemory>
-    ensures { IfOk result (IsTaskOf (names fields.entry) (line_of line.entry)) }
+    ensures { IfOk result (IsTaskOf (dialect_of dialect.entry) (line_of line.entry)) }
 {
     match line {
-        HeldLine::Line(bytes) => read_bytes(reader, alloc, fields, bytes),
+        HeldLine::Line(bytes) => read_bytes(reader, alloc, dialect, bytes),
         HeldLine::Long => Ok(Err(Other::Refuse(Refusal::LongLine))),
     }
 }
@@ -109,19 +109,19 @@ fn read_line(
 // Reads the lines from this place on, at most so many, one after the other by one reader.
 fn read_some(
     alloc: Global,
-    fields: Fields<'_>,
+    dialect: Dialect<'_>,
     lines: &HeldLines,
     from: usize,
     most: usize,
 ) -> Piece
     requires { from ≤ length lines.now }
-    ensures { IfOk result (λ tasks. AllZip (IsTaskOf (names fields.entry)) (take most (drop from lines.now)) tasks.items) }
+    ensures { IfOk result (λ tasks. AllZip (IsTaskOf (dialect_of dialect.entry)) (take most (drop from lines.now)) tasks.items) }
 {
     let mut reader = DocumentReader::new(alloc);
     let count = most.min(lines.len() - from);
     let mut tasks = Vec::with_capacity(alloc, count)?;
     for at in from..from + count {
-        let task = read_line(&mut reader, alloc, fields, lines.get(at))?;
+        let task = read_line(&mut reader, alloc, dialect, lines.get(at))?;
         tasks.push_reserved(task);
     }
     Ok(tasks)
@@ -142,7 +142,7 @@ fn no_pieces(alloc: Global, count: usize) -> Result<Vec<Piece>, NoMemory>
 fn read_pieces<R: Threads + Sync>(
     rt: &R,
     alloc: Global,
-    fields: Fields<'_>,
+    dialect: Dialect<'_>,
     lines: &HeldLines,
     from: usize,
     size: usize,
@@ -150,7 +150,7 @@ fn read_pieces<R: Threads + Sync>(
 )
     requires starts { (i : ℕ) → i < length pieces.old → from + i * size < length lines.now }
     requires fits { length lines.now < 2 ^ 64 }
-    ensures pieces { ArePieces (names fields.entry) (drop from lines.now) size pieces.new }
+    ensures pieces { ArePieces (dialect_of dialect.entry) (drop from lines.now) size pieces.new }
     ensures count { length pieces.new ≡ length pieces.old }
 {
     each_place(
@@ -159,8 +159,8 @@ fn read_pieces<R: Threads + Sync>(
         true,
         &|at: usize, piece: &mut Piece|
             requires { (from + at * size < length lines.now) × (length lines.now < 2 ^ 64) }
-            ensures { IsPiece (names fields.entry) (drop from lines.entry.now) size at piece.exit.now }
-        { *piece = read_some(alloc, fields, lines, from + at * size, size) },
+            ensures { IsPiece (dialect_of dialect.entry) (drop from lines.entry.now) size at piece.exit.now }
+        { *piece = read_some(alloc, dialect, lines, from + at * size, size) },
     );
 }
 
@@ -179,8 +179,8 @@ fn join_piece(tasks: &mut Vec<Result<Document, Other>>, piece: &mut Piece) -> Re
 
 // Puts the pieces together, which hold at most so many lines.
 fn join_pieces(alloc: Global, count: usize, pieces: &mut [Piece]) -> Piece
-    ensures { (names : List (List ℕ)) (lines : List Line) (size : ℕ) → ArePieces names lines size pieces.old
-        → IfOk result (λ tasks. AllZip (IsTaskOf names) (take (length pieces.old * size) lines) tasks.items) }
+    ensures { (how : Spoken) (lines : List Line) (size : ℕ) → ArePieces how lines size pieces.old
+        → IfOk result (λ tasks. AllZip (IsTaskOf how) (take (length pieces.old * size) lines) tasks.items) }
 {
     let mut tasks = Vec::with_capacity(alloc, count)?;
     for at in 0..pieces.len() {
@@ -193,7 +193,7 @@ fn join_pieces(alloc: Global, count: usize, pieces: &mut [Piece]) -> Piece
 fn read_in_pieces<R: Threads + Sync>(
     rt: &R,
     alloc: Global,
-    fields: Fields<'_>,
+    dialect: Dialect<'_>,
     lines: &HeldLines,
     from: usize,
     size: usize,
@@ -202,9 +202,9 @@ fn read_in_pieces<R: Threads + Sync>(
     requires starts { (i : ℕ) → i < length pieces.old → from + i * size < length lines.now }
     requires fits { (from ≤ length lines.now) × (length lines.now < 2 ^ 64) }
     requires enough { length lines.now ≤ from + length pieces.old * size }
-    ensures { IfOk result (λ tasks. AllZip (IsTaskOf (names fields.entry)) (drop from lines.now) tasks.items) }
+    ensures { IfOk result (λ tasks. AllZip (IsTaskOf (dialect_of dialect.entry)) (drop from lines.now) tasks.items) }
 {
-    read_pieces(rt, alloc, fields, lines, from, size, pieces);
+    read_pieces(rt, alloc, dialect, lines, from, size, pieces);
     join_pieces(alloc, lines.len() - from, pieces)
 }
 
@@ -212,17 +212,17 @@ fn read_in_pieces<R: Threads + Sync>(
 pub(crate) fn read_lines<R: Threads + Sync>(
     rt: &R,
     alloc: Global,
-    fields: Fields<'_>,
+    dialect: Dialect<'_>,
     lines: &HeldLines,
     from: usize,
 ) -> Piece
     requires { from ≤ length lines.now }
-    ensures { IfOk result (λ tasks. AllZip (IsTaskOf (names fields.entry)) (drop from lines.now) tasks.items) }
+    ensures { IfOk result (λ tasks. AllZip (IsTaskOf (dialect_of dialect.entry)) (drop from lines.now) tasks.items) }
 {
     let count = lines.len() - from;
     let size = count.div_ceil(current_num_threads(rt)).max(LEAST_LINES);
     let mut pieces = no_pieces(alloc, count.div_ceil(size))?;
-    read_in_pieces(rt, alloc, fields, lines, from, size, pieces.as_mut_slice())
+    read_in_pieces(rt, alloc, dialect, lines, from, size, pieces.as_mut_slice())
 }
 
 // Gives the memory of what lines were read as back, by several threads where they are many.

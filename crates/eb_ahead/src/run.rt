@@ -2,7 +2,7 @@ ghost use Rattle.std.specs.Prelude.{◌≡◌, OnOk};
 ghost use Rattle.eb_ahead.specs.Ahead.{HasHeld, HoldsNone};
 ghost use Rattle.eb_ahead.specs.Placing.{PlacesTogether, TellsNone};
 ghost use Rattle.eb_answer.specs.Rules.{Rules, IsBody, IsText, HasRefusal, HasNoRefusal};
-ghost use Rattle.eb_fields.specs.Fields.{names};
+ghost use Rattle.eb_fields.specs.Dialect.{dialect_of};
 ghost use Rattle.eb_io.specs.Faults.{HasRisen};
 ghost use Rattle.eb_lines.specs.Passing.{Ends};
 ghost use Rattle.eb_lines.specs.Programs.{IsRunning, WorksOn};
@@ -12,7 +12,7 @@ use crate::program::AheadProgram;
 use crate::reading::Other;
 use eb_answer::{Answering, Store};
 use eb_base::{Document, Gate, NoMemory};
-use eb_fields::Fields;
+use eb_fields::Dialect;
 use eb_io::{Sink, Source};
 use eb_lines::{Refusal, Status, pass_lines};
 use std::alloc::Global;
@@ -33,15 +33,15 @@ pub fn answer_lines_ahead<
     alloc: Global,
     store: P,
     place_all: &W,
-    fields: Fields<'_>,
+    dialect: Dialect<'_>,
     source: &mut S,
     out: &mut K,
     gate: &G,
 ) -> Status
-    requires store { (rules : Rules P.Watches) × (names fields ≡ rules.fields) × P.holds store rules rules.start rules.watches }
+    requires store { (rules : Rules P.Watches) × (dialect_of dialect ≡ rules.dialect) × P.holds store rules rules.start rules.watches }
     requires placing { PlacesTogether P.holds W.pre W.post place_all.now }
     requires tells { TellsNone P.holds }
-    ensures ends { (rules : Rules P.Watches) → names fields.entry ≡ rules.fields → P.holds store rules rules.start rules.watches
+    ensures ends { (rules : Rules P.Watches) → dialect_of dialect.entry ≡ rules.dialect → P.holds store rules rules.start rules.watches
         → Ends (IsBody P.other rules) (IsText P.other rules) (HasRefusal P.other rules) (HasNoRefusal P.other rules)
         result (S.left source.old) (S.left source.new) (K.taken out.old) (K.taken out.new) }
     ensures read_fault { result ≡ Status.ReadFault → HasRisen (S.faults source.old) (S.faults source.new) }
@@ -57,7 +57,7 @@ pub fn answer_lines_ahead<
             ensures none { OnOk result (HoldsNone ahead.new) }
             ensures same { ahead.new.number ≡ ahead.old.number }
         { work_held(ahead, rt, alloc, place_all, text) },
-        ahead: Ahead::new(alloc, Answering::new(alloc, gate, store, fields)),
+        ahead: Ahead::new(alloc, Answering::new(alloc, gate, store, dialect)),
     };
     pass_lines(alloc, &mut program, Vec::new(alloc), source, out)
 }

@@ -1,4 +1,5 @@
 -- What lines come to and print, with one line more.
+use Rattle.eb_fields.specs.Dialect.{Dialect}
 use Rattle.std.proofs.Common.{◌≡◌, ℕ, ◌+◌, suc, List, [], ◌∷◌, ◌++◌, length, refl, sym, ap, ◌∙◌, arith, append_assoc, append-nil}
 use Rattle.std.proofs.lemmas.Slice.Zip.{AllZip-long}
 use Rattle.eb_base.specs.Document.{Doc}
@@ -35,21 +36,21 @@ module _ {W : Type 0} (rules : Rules W) where
   unfolding watches_from
   watches-nil ws = refl
 
-  module _ (other : List (List ℕ) → List ℕ → Reading → Type 0) where
+  module _ (other : Dialect → List ℕ → Reading → Type 0) where
     pub read_none : AreRead other rules [] []
     unfolding come_behind
     read_none = ([], tt, refl)
 
-    pub read_push : (ls : List Line) (rs : List Reading) (l : Line) (r : Reading) → AreRead other rules ls rs → ReadsWith other rules.fields l r
+    pub read_push : (ls : List Line) (rs : List Reading) (l : Line) (r : Reading) → AreRead other rules ls rs → ReadsWith other rules.dialect l r
         → AreRead other rules (ls ++ l ∷ []) (rs ++ comes rules (held_behind rules rs) (watches_behind rules rs) r ∷ [])
     read_push ls rs l r h e = (
       h.0 ++ r ∷ [],
-      raw_push (ReadsWith other rules.fields) ls h.0 l r h.1 e,
+      raw_push (ReadsWith other rules.dialect) ls h.0 l r h.1 e,
       ap (λ xs. xs ++ comes rules (held_behind rules xs) (watches_behind rules xs) r ∷ []) h.2 ∙ sym (come-push rules.start rules.watches h.0 r),
     )
 
     pub read_long : (ls : List Line) (rs : List Reading) → AreRead other rules ls rs → length rs ≡ length ls
-    read_long ls rs h = ap length h.2 ∙ come_long rules.start rules.watches h.0 ∙ AllZip-long (ReadsWith other rules.fields) ls h.0 h.1
+    read_long ls rs h = ap length h.2 ∙ come_long rules.start rules.watches h.0 ∙ AllZip-long (ReadsWith other rules.dialect) ls h.0 h.1
 
   from-push : (j : ℕ) (docs : List Doc) (ws : W) (rs : List Reading) (r : Reading) (number : ℕ) → number ≡ j + length rs + 1
       → body_from rules j docs ws (rs ++ r ∷ []) ≡ body_from rules j docs ws rs ++ says rules number (docs ++ accepted rs) (watches_from rules ws rs) r

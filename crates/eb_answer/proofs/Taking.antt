@@ -1,11 +1,11 @@
 -- A run over a store takes a line more, and ends.
+use Rattle.eb_fields.specs.Dialect.{Dialect, dialect_of}
 use Rattle.std.proofs.Common.{◌≡◌, ℕ, ◌+◌, ◌≤◌, List, [], ◌∷◌, ◌++◌, length, Option, Some, None, refl, sym, ap, ap₂, subst, ◌∙◌, arith, append_assoc, append-nil, length-append}
 use Rattle.std.specs.Prelude.{◌^◌}
 use Rattle.std.proofs.lemmas.List.Sums.{count_by-le-length}
 use Rattle.eb_base.specs.Document.{Doc}
 use Rattle.eb_base.specs.Match.{answer}
 use Rattle.eb_base.specs.Query.{Tree}
-use Rattle.eb_fields.specs.Fields.{names}
 use Rattle.eb_io.specs.Lines.{Line}
 use Rattle.eb_lines.specs.declared.form.Form.{Form}
 use Rattle.eb_lines.specs.declared.form.Tail.{Tail}
@@ -35,7 +35,7 @@ refusals_few rs = count_by-le-length is_refused rs
 holds_more : {S W : Type 0} (holds : S → Rules W → List Doc → W → Type 0) (s : S) (rules : Rules W) (docs : List Doc) (ws : W) → holds s rules docs ws → holds s rules (docs ++ []) ws
 holds_more holds s rules docs ws h = subst (λ ds. holds s rules ds ws) (sym (append-nil docs)) h
 
-module _ {G S W : Type 0} (other : List (List ℕ) → List ℕ → Reading → Type 0) (holds : S → Rules W → List Doc → W → Type 0) where
+module _ {G S W : Type 0} (other : Dialect → List ℕ → Reading → Type 0) (holds : S → Rules W → List Doc → W → Type 0) where
   -- ---- few lines
 
   module _ (s : Answering G S) (rules : Rules W) (given : List Line) (so_far : List ℕ) (h : HasAnswered other holds s rules given so_far) where
@@ -59,12 +59,12 @@ module _ {G S W : Type 0} (other : List (List ℕ) → List ℕ → Reading → 
 
   -- ---- before the first line
 
-  pub answered_none : (s : Answering G S) (rules : Rules W) → names s.fields ≡ rules.fields → holds s.store rules rules.start rules.watches → s.number ≡ 0 → s.queries ≡ 0 → s.refused ≡ 0
+  pub answered_none : (s : Answering G S) (rules : Rules W) → dialect_of s.dialect ≡ rules.dialect → holds s.store rules rules.start rules.watches → s.number ≡ 0 → s.queries ≡ 0 → s.refused ≡ 0
       → HasAnswered other holds s rules [] []
   unfolding accepted queries refusals
-  answered_none s rules fields store number asked failed = record {
+  answered_none s rules how store number asked failed = record {
     readings = [];
-    fields = fields;
+    dialect = how;
     read = read_none rules other;
     store = subst (λ ws. holds s.store rules (rules.start ++ []) ws) (sym (watches-nil rules rules.watches)) (subst (λ ds. holds s.store rules ds rules.watches) (sym (append-nil rules.start)) store);
     number = number;
@@ -77,7 +77,7 @@ module _ {G S W : Type 0} (other : List (List ℕ) → List ℕ → Reading → 
   -- ---- a line that came to this was taken
 
   module _ (old new : Answering G S) (rules : Rules W) (given : List Line) (so_far : List ℕ) (l : Line) (raw : Reading)
-      (h : HasAnswered other holds old rules given so_far) (reads : ReadsWith other (names old.fields) l raw) (same : names new.fields ≡ names old.fields) where
+      (h : HasAnswered other holds old rules given so_far) (reads : ReadsWith other (dialect_of old.dialect) l raw) (same : dialect_of new.dialect ≡ dialect_of old.dialect) where
     pub one_more : (r : Reading) → r ≡ comes rules (held_behind rules h.readings) (watches_behind rules h.readings) raw
         → holds new.store rules (held_behind rules h.readings ++ documents_in r) (watches_after rules (watches_behind rules h.readings) r)
         → new.number ≡ old.number + 1 → old.number ≤ 2 ^ 40 → new.queries ≡ old.queries + one_if (is_query r) → new.refused ≡ old.refused + one_if (is_refused r)
@@ -91,9 +91,9 @@ module _ {G S W : Type 0} (other : List (List ℕ) → List ℕ → Reading → 
         append_assoc rules.start (accepted rs) (documents_in r) ∙ ap (λ ds. rules.start ++ ds) (sym (accepted-push rs r)) in
         record {
           readings = rs ++ r ∷ [];
-          fields = same ∙ h.fields;
+          dialect = same ∙ h.dialect;
           read = subst (λ (x : Reading). AreRead other rules (given ++ l ∷ []) (rs ++ x ∷ [])) (sym is)
-              (read_push rules other given rs l raw h.read (subst (λ ns. ReadsWith other ns l raw) h.fields reads));
+              (read_push rules other given rs l raw h.read (subst (λ ns. ReadsWith other ns l raw) h.dialect reads));
           store = subst (λ w. holds new.store rules (held_behind rules (rs ++ r ∷ [])) w) (sym (watches-push rules rules.watches rs r))
               (subst (λ ds. holds new.store rules ds (watches_after rules ws r)) all store);
           number = number ∙ ap (λ n. n + 1) h.number ∙ sym (length-append given (l ∷ []));
@@ -105,7 +105,7 @@ module _ {G S W : Type 0} (other : List (List ℕ) → List ℕ → Reading → 
 
   -- ---- the kinds of lines
 
-  pub takes_blank : (old new : Answering G S) → names new.fields ≡ names old.fields → new.store ≡ old.store → new.number ≡ old.number + 1 → old.number ≤ 2 ^ 40 → new.queries ≡ old.queries
+  pub takes_blank : (old new : Answering G S) → dialect_of new.dialect ≡ dialect_of old.dialect → new.store ≡ old.store → new.number ≡ old.number + 1 → old.number ≤ 2 ^ 40 → new.queries ≡ old.queries
       → new.refused ≡ old.refused
       → (text : List ℕ) → TakesLine other holds old new text text blank
   takes_blank old new same store number few asked failed text = λ l reads rules given so_far h.
@@ -117,7 +117,8 @@ module _ {G S W : Type 0} (other : List (List ℕ) → List ℕ → Reading → 
         sym (append-nil text),
       )
 
-  pub takes_refused : (old new : Answering G S) → names new.fields ≡ names old.fields → (form : Form) → HasForm holds old.store form → (x : Refusal) (t0 t1 : List ℕ) → new.store ≡ old.store
+  pub takes_refused : (old new : Answering G S) → dialect_of new.dialect ≡ dialect_of old.dialect → (form : Form) → HasForm holds old.store form → (x : Refusal) (t0 t1 : List ℕ)
+      → new.store ≡ old.store
       → new.number ≡ old.number + 1
       → old.number ≤ 2 ^ 40
       → new.queries ≡ old.queries → new.refused ≡ old.refused + 1 → t1 ≡ t0 ++ refusal_line form (old.number + 1) x → TakesLine other holds old new t0 t1 (refused x)
@@ -131,7 +132,7 @@ module _ {G S W : Type 0} (other : List (List ℕ) → List ℕ → Reading → 
         text ∙ ap (λ (f : Form). t0 ++ refusal_line f (old.number + 1) x) (written rules docs ws h.store),
       )
 
-  pub takes_query : (old new : Answering G S) → names new.fields ≡ names old.fields → (k : ℕ) (q : Tree) (t0 t1 : List ℕ) → PutsAnswer holds old.store new.store (old.number + 1) k q t0 t1
+  pub takes_query : (old new : Answering G S) → dialect_of new.dialect ≡ dialect_of old.dialect → (k : ℕ) (q : Tree) (t0 t1 : List ℕ) → PutsAnswer holds old.store new.store (old.number + 1) k q t0 t1
       → new.number ≡ old.number + 1 → old.number ≤ 2 ^ 40 → new.queries ≡ old.queries + 1 → new.refused ≡ old.refused → TakesLine other holds old new t0 t1 (query k q)
   takes_query old new same k q t0 t1 puts number few asked failed = λ l reads rules given so_far h.
       let docs = held_behind rules h.readings in
@@ -142,7 +143,7 @@ module _ {G S W : Type 0} (other : List (List ℕ) → List ℕ → Reading → 
         put.1,
       )
 
-  pub takes_document : (old new : Answering G S) → names new.fields ≡ names old.fields → (form : Form) → HasForm holds old.store form → (d : Doc) (ns t0 t1 : List ℕ)
+  pub takes_document : (old new : Answering G S) → dialect_of new.dialect ≡ dialect_of old.dialect → (form : Form) → HasForm holds old.store form → (d : Doc) (ns t0 t1 : List ℕ)
       → Places holds old.store new.store d None → Tells holds old.store d ns
       → new.number ≡ old.number + 1 → old.number ≤ 2 ^ 40 → new.queries ≡ old.queries → new.refused ≡ old.refused
       → t1 ≡ t0 ++ watch_line form (old.number + 1) ns → TakesLine other holds old new t0 t1 (document d)
@@ -155,7 +156,7 @@ module _ {G S W : Type 0} (other : List (List ℕ) → List ℕ → Reading → 
         text ∙ ap₂ (λ (f : Form) xs. t0 ++ watch_line f (old.number + 1) xs) (written rules docs ws h.store) (tells rules docs ws h.store),
       )
 
-  pub takes_unplaced : (old new : Answering G S) → names new.fields ≡ names old.fields → (form : Form) → HasForm holds old.store form → (d : Doc) (x : Refusal) (t0 t1 : List ℕ)
+  pub takes_unplaced : (old new : Answering G S) → dialect_of new.dialect ≡ dialect_of old.dialect → (form : Form) → HasForm holds old.store form → (d : Doc) (x : Refusal) (t0 t1 : List ℕ)
       → Places holds old.store new.store d (Some x)
       → new.number ≡ old.number + 1 → old.number ≤ 2 ^ 40 → new.queries ≡ old.queries → new.refused ≡ old.refused + 1
       → t1 ≡ t0 ++ refusal_line form (old.number + 1) x → TakesLine other holds old new t0 t1 (document d)
@@ -168,7 +169,7 @@ module _ {G S W : Type 0} (other : List (List ℕ) → List ℕ → Reading → 
 
   -- a line that is neither blank, nor a document or query line, that comes to this
   module _ (old new : Answering G S) (rules : Rules W) (given : List Line) (so_far : List ℕ) (l : Line) (raw : Reading)
-      (h : HasAnswered other holds old rules given so_far) (reads : ReadsWith other (names old.fields) l raw) (same : names new.fields ≡ names old.fields)
+      (h : HasAnswered other holds old rules given so_far) (reads : ReadsWith other (dialect_of old.dialect) l raw) (same : dialect_of new.dialect ≡ dialect_of old.dialect)
       (number : new.number ≡ old.number + 1) (few : old.number ≤ 2 ^ 40) (asked : new.queries ≡ old.queries) (t0 t1 : List ℕ) where
     taken_other : (r : Reading) → r ≡ comes rules (held_behind rules h.readings) (watches_behind rules h.readings) raw → IsOutcome r None
         → holds new.store rules (held_behind rules h.readings) (watches_after rules (watches_behind rules h.readings) r) → new.refused ≡ old.refused → t1 ≡ t0
@@ -197,13 +198,13 @@ module _ {G S W : Type 0} (other : List (List ℕ) → List ℕ → Reading → 
     refused_other (document d) x is o store failed text = absurd o
     refused_other (query k q) x is o store failed text = absurd o
 
-  pub takes_other : (old new : Answering G S) → names new.fields ≡ names old.fields → (raw : Reading) (t0 t1 : List ℕ) → TakesOther holds old.store new.store raw None
+  pub takes_other : (old new : Answering G S) → dialect_of new.dialect ≡ dialect_of old.dialect → (raw : Reading) (t0 t1 : List ℕ) → TakesOther holds old.store new.store raw None
       → new.number ≡ old.number + 1 → old.number ≤ 2 ^ 40 → new.queries ≡ old.queries → new.refused ≡ old.refused → t1 ≡ t0 → TakesLine other holds old new t0 t1 raw
   takes_other old new same raw t0 t1 takes number few asked failed text = λ l reads rules given so_far h.
       let taken = takes rules (held_behind rules h.readings) (watches_behind rules h.readings) h.store in
       taken_other old new rules given so_far l raw h reads same number few asked t0 t1 _ refl taken.0 taken.1 failed text
 
-  pub refuses_other : (old new : Answering G S) → names new.fields ≡ names old.fields → (form : Form) → HasForm holds old.store form → (raw : Reading) (x : Refusal) (t0 t1 : List ℕ)
+  pub refuses_other : (old new : Answering G S) → dialect_of new.dialect ≡ dialect_of old.dialect → (form : Form) → HasForm holds old.store form → (raw : Reading) (x : Refusal) (t0 t1 : List ℕ)
       → TakesOther holds old.store new.store raw (Some x)
       → new.number ≡ old.number + 1 → old.number ≤ 2 ^ 40 → new.queries ≡ old.queries → new.refused ≡ old.refused + 1
       → t1 ≡ t0 ++ refusal_line form (old.number + 1) x → TakesLine other holds old new t0 t1 raw
@@ -213,11 +214,12 @@ module _ {G S W : Type 0} (other : List (List ℕ) → List ℕ → Reading → 
       (text ∙ ap (λ (f : Form). t0 ++ refusal_line f (old.number + 1) x) (written rules _ _ h.store))
 
   -- nothing was done but that the store holds what it held
-  pub kept : (old new : Answering G S) → names new.fields ≡ names old.fields → Keeps holds old.store new.store → new.number ≡ old.number → new.queries ≡ old.queries → new.refused ≡ old.refused
+  pub kept : (old new : Answering G S) → dialect_of new.dialect ≡ dialect_of old.dialect → Keeps holds old.store new.store → new.number ≡ old.number → new.queries ≡ old.queries
+      → new.refused ≡ old.refused
       → (rules : Rules W) (given : List Line) (so_far : List ℕ) → HasAnswered other holds old rules given so_far → HasAnswered other holds new rules given so_far
   kept old new same keeps number asked failed rules given so_far h = record {
     readings = h.readings;
-    fields = same ∙ h.fields;
+    dialect = same ∙ h.dialect;
     read = h.read;
     store = keeps rules (held_behind rules h.readings) (watches_behind rules h.readings) h.store;
     number = number ∙ h.number;
@@ -227,7 +229,7 @@ module _ {G S W : Type 0} (other : List (List ℕ) → List ℕ → Reading → 
     printed = h.printed;
   }
 
-  pub keeps_on : (old new : Answering G S) (t0 t1 : List ℕ) → names new.fields ≡ names old.fields → Keeps holds old.store new.store → new.number ≡ old.number → new.queries ≡ old.queries
+  pub keeps_on : (old new : Answering G S) (t0 t1 : List ℕ) → dialect_of new.dialect ≡ dialect_of old.dialect → Keeps holds old.store new.store → new.number ≡ old.number → new.queries ≡ old.queries
       → new.refused ≡ old.refused → t1 ≡ t0
       → WorksOn (HasAnswered other holds) old new t0 t1
   keeps_on old new t0 t1 same keeps number asked failed text = λ rules given so_far h.
@@ -253,7 +255,7 @@ module _ {G S W : Type 0} (other : List (List ℕ) → List ℕ → Reading → 
 
 -- ---- where nothing was read
 
-pub ends_none : {W : Type 0} (other : List (List ℕ) → List ℕ → Reading → Type 0) (rules : Rules W) (left printed : Option (List ℕ))
+pub ends_none : {W : Type 0} (other : Dialect → List ℕ → Reading → Type 0) (rules : Rules W) (left printed : Option (List ℕ))
     → Ends (IsBody other rules) (IsText other rules) (HasRefusal other rules) (HasNoRefusal other rules) NoMemory left left printed printed
 ends_none other rules left printed =
     ends_at_once (IsBody other rules) (IsText other rules) (HasRefusal other rules) (HasNoRefusal other rules) (body_first other rules) left printed []

@@ -1,8 +1,8 @@
 -- How far a run over a store has come between two lines, and that what it printed is a front of a whole text.
+use Rattle.eb_fields.specs.Dialect.{Dialect, dialect_of}
 use Rattle.std.specs.Prelude.{◌≡◌, ℕ, ◌+◌, ◌^◌, ◌≤◌, List, ◌++◌, length}
 use Rattle.std.proofs.Common.{ap}
 use Rattle.eb_base.specs.Document.{Doc}
-use Rattle.eb_fields.specs.Fields.{names}
 use Rattle.eb_io.specs.Lines.{Line}
 use Rattle.eb_lines.specs.Programs.{WorksOnGiven, PrintsFront, prints_all}
 use Rattle.eb_lines.specs.Progress.{queries, refusals}
@@ -11,10 +11,10 @@ use Rattle.eb_answer.specs.declared.answering.Answering.{Answering}
 use Rattle.eb_answer.specs.Rules.{Rules, ReadsWith, AreRead, held_behind, watches_behind, IsBody, IsText, body, end_of}
 
 -- these lines were taken, and they printed this
-pub record HasAnswered {G S W : Type 0} (other : List (List ℕ) → List ℕ → Reading → Type 0) (holds : S → Rules W → List Doc → W → Type 0)
+pub record HasAnswered {G S W : Type 0} (other : Dialect → List ℕ → Reading → Type 0) (holds : S → Rules W → List Doc → W → Type 0)
     (s : Answering G S) (rules : Rules W) (given : List Line) (so_far : List ℕ) : Type 0 where
   pub readings : List Reading
-  pub fields : names s.fields ≡ rules.fields
+  pub dialect : dialect_of s.dialect ≡ rules.dialect
   pub read : AreRead other rules given readings
   pub store : holds s.store rules (held_behind rules readings) (watches_behind rules readings)
   pub number : s.number ≡ length given
@@ -24,17 +24,17 @@ pub record HasAnswered {G S W : Type 0} (other : List (List ℕ) → List ℕ �
   pub printed : so_far ≡ body rules readings
 
 -- a line of this reading was taken, and what it prints was put after the text
-abbrev pub TakesLine : {G S W : Type 0} → (List (List ℕ) → List ℕ → Reading → Type 0) → (S → Rules W → List Doc → W → Type 0) → Answering G S → Answering G S → List ℕ → List ℕ → Reading → Type 0
-TakesLine other holds old new text_old text_new r = (l : Line) → ReadsWith other (names old.fields) l r → WorksOnGiven (HasAnswered other holds) old new text_old text_new l
+abbrev pub TakesLine : {G S W : Type 0} → (Dialect → List ℕ → Reading → Type 0) → (S → Rules W → List Doc → W → Type 0) → Answering G S → Answering G S → List ℕ → List ℕ → Reading → Type 0
+TakesLine other holds old new text_old text_new r = (l : Line) → ReadsWith other (dialect_of old.dialect) l r → WorksOnGiven (HasAnswered other holds) old new text_old text_new l
 
 -- the lines given are those that printed
-pub answered_first : {G S W : Type 0} (other : List (List ℕ) → List ℕ → Reading → Type 0) (holds : S → Rules W → List Doc → W → Type 0)
+pub answered_first : {G S W : Type 0} (other : Dialect → List ℕ → Reading → Type 0) (holds : S → Rules W → List Doc → W → Type 0)
     (s : Answering G S) (rules : Rules W) (given : List Line) (so_far : List ℕ)
     → HasAnswered other holds s rules given so_far → PrintsFront (IsBody other) rules given so_far
 answered_first other holds s rules given so_far h = prints_all (IsBody other) rules given so_far (record { readings = h.readings; read = h.read; bytes = h.printed })
 
 -- what lines print comes first in their whole text
-pub body_first : {W : Type 0} (other : List (List ℕ) → List ℕ → Reading → Type 0) (rules : Rules W) (lines : List Line) (printed : List ℕ) → IsBody other rules lines printed
+pub body_first : {W : Type 0} (other : Dialect → List ℕ → Reading → Type 0) (rules : Rules W) (lines : List Line) (printed : List ℕ) → IsBody other rules lines printed
     → (more : List ℕ) × IsText other rules lines (printed ++ more)
 body_first other rules lines printed b =
     (end_of rules b.readings, record { readings = b.readings; read = b.read; bytes = ap (λ x. x ++ end_of rules b.readings) b.bytes })

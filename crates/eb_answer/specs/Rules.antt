@@ -1,4 +1,5 @@
 -- What a store makes of the lines of an input.
+use Rattle.eb_fields.specs.Dialect.{Dialect}
 use Rattle.std.specs.Prelude.{◌≡◌, ℕ, ◌+◌, ◌<◌, List, [], ◌∷◌, ◌++◌, length, Option, Some, None}
 use Rattle.std.specs.List.{AllZip}
 use Rattle.eb_base.specs.Document.{Doc}
@@ -15,12 +16,12 @@ use Rattle.eb_lines.specs.Reading.{Reading, blank, document, query, refused, wat
 use Rattle.eb_lines.specs.Reads.{ReadsByKind}
 use Rattle.eb_lines.specs.Text.{answer_line, refusal_line, watch_line, summary_with}
 
--- by which rules a store takes lines, where W is what it holds beside documents: the names of the fields by which lines are read; what it holds before the first line; why it
+-- by which rules a store takes lines, where W is what it holds beside documents: how lines are read; what it holds before the first line; why it
 -- refuses a document after those that it has accepted, if it does, and which watches it tells else; over which of them a query is
 -- answered; why it refuses a watch line, and what it holds after one that it doesn't refuse; how what is printed is written, and what is
 -- told beside the counts of the summary
 pub record Rules (W : Type 0) : Type 0 where
-  pub fields : List (List ℕ)
+  pub dialect : Dialect
   pub start : List Doc
   pub watches : W
   pub refusal : List Doc → Doc → Option Refusal
@@ -66,20 +67,20 @@ come_behind rules docs ws [] = []
 come_behind rules docs ws (r ∷ rs) =
     comes rules docs ws r ∷ come_behind rules (docs ++ documents_in (comes rules docs ws r)) (watches_after rules ws (comes rules docs ws r)) rs
 
--- how a line is read by the names of the fields, where it is said how one is read that is neither blank, nor a document or query line
-abbrev pub ReadsKind : (List (List ℕ) → List ℕ → Reading → Type 0) → List (List ℕ) → Kind → List ℕ → Reading → Type 0
-ReadsKind other names blank_line bytes r = ReadsByKind names blank_line bytes r
-ReadsKind other names document_line bytes r = ReadsByKind names document_line bytes r
-ReadsKind other names query_line bytes r = ReadsByKind names query_line bytes r
-ReadsKind other names bad_line bytes r = other names bytes r
+-- how a line is read by a dialect, where it is said how one is read that is neither blank, nor a document or query line
+abbrev pub ReadsKind : (Dialect → List ℕ → Reading → Type 0) → Dialect → Kind → List ℕ → Reading → Type 0
+ReadsKind other how blank_line bytes r = ReadsByKind how blank_line bytes r
+ReadsKind other how document_line bytes r = ReadsByKind how document_line bytes r
+ReadsKind other how query_line bytes r = ReadsByKind how query_line bytes r
+ReadsKind other how bad_line bytes r = other how bytes r
 
-abbrev pub ReadsWith : (List (List ℕ) → List ℕ → Reading → Type 0) → List (List ℕ) → Line → Reading → Type 0
-ReadsWith other names (line bytes) r = ReadsKind other names (kind_of bytes) bytes r
-ReadsWith other names long_line r = r ≡ refused LongLine
+abbrev pub ReadsWith : (Dialect → List ℕ → Reading → Type 0) → Dialect → Line → Reading → Type 0
+ReadsWith other how (line bytes) r = ReadsKind other how (kind_of bytes) bytes r
+ReadsWith other how long_line r = r ≡ refused LongLine
 
 -- the lines are read one by one, and come to these
-abbrev pub AreRead : {W : Type 0} → (List (List ℕ) → List ℕ → Reading → Type 0) → Rules W → List Line → List Reading → Type 0
-AreRead other rules lines rs = (raw : List Reading) × AllZip (ReadsWith other rules.fields) lines raw × (rs ≡ come_behind rules rules.start rules.watches raw)
+abbrev pub AreRead : {W : Type 0} → (Dialect → List ℕ → Reading → Type 0) → Rules W → List Line → List Reading → Type 0
+AreRead other rules lines rs = (raw : List Reading) × AllZip (ReadsWith other rules.dialect) lines raw × (rs ≡ come_behind rules rules.start rules.watches raw)
 
 -- what a store holds after lines that came to these
 abbrev pub held_behind : {W : Type 0} → Rules W → List Reading → List Doc
@@ -109,29 +110,29 @@ abbrev pub end_of : {W : Type 0} → Rules W → List Reading → List ℕ
 end_of rules rs = summary_with rules.form (length (held_behind rules rs)) (queries rs) (refusals rs) (rules.tail (held_behind rules rs))
 
 -- what these lines print
-pub record IsBody {W : Type 0} (other : List (List ℕ) → List ℕ → Reading → Type 0) (rules : Rules W) (lines : List Line) (printed : List ℕ) : Type 0 where
+pub record IsBody {W : Type 0} (other : Dialect → List ℕ → Reading → Type 0) (rules : Rules W) (lines : List Line) (printed : List ℕ) : Type 0 where
   pub readings : List Reading
   pub read : AreRead other rules lines readings
   pub bytes : printed ≡ body rules readings
 
 -- their whole text
-pub record IsText {W : Type 0} (other : List (List ℕ) → List ℕ → Reading → Type 0) (rules : Rules W) (lines : List Line) (printed : List ℕ) : Type 0 where
+pub record IsText {W : Type 0} (other : Dialect → List ℕ → Reading → Type 0) (rules : Rules W) (lines : List Line) (printed : List ℕ) : Type 0 where
   pub readings : List Reading
   pub read : AreRead other rules lines readings
   pub bytes : printed ≡ body rules readings ++ end_of rules readings
 
 -- some line is refused; none is
-abbrev pub HasRefusal : {W : Type 0} → (List (List ℕ) → List ℕ → Reading → Type 0) → Rules W → List Line → Type 0
+abbrev pub HasRefusal : {W : Type 0} → (Dialect → List ℕ → Reading → Type 0) → Rules W → List Line → Type 0
 HasRefusal other rules lines = (rs : List Reading) × AreRead other rules lines rs × (0 < refusals rs)
 
-abbrev pub HasNoRefusal : {W : Type 0} → (List (List ℕ) → List ℕ → Reading → Type 0) → Rules W → List Line → Type 0
+abbrev pub HasNoRefusal : {W : Type 0} → (Dialect → List ℕ → Reading → Type 0) → Rules W → List Line → Type 0
 HasNoRefusal other rules lines = (rs : List Reading) × AreRead other rules lines rs × (refusals rs ≡ 0)
 
 -- ---- of a store without watches
 
-abbrev pub plain_rules : List (List ℕ) → List Doc → (List Doc → Doc → Option Refusal) → (List Doc → List Doc) → Form → (List Doc → Tail) → Rules (Unit {0})
-plain_rules fields start refusal sees form tail = record {
-  fields = fields;
+abbrev pub plain_rules : Dialect → List Doc → (List Doc → Doc → Option Refusal) → (List Doc → List Doc) → Form → (List Doc → Tail) → Rules (Unit {0})
+plain_rules how start refusal sees form tail = record {
+  dialect = how;
   start = start;
   watches = tt;
   refusal = refusal;
@@ -144,5 +145,5 @@ plain_rules fields start refusal sees form tail = record {
 }
 
 -- another line is a bad line
-abbrev pub is_bad : List (List ℕ) → List ℕ → Reading → Type 0
-is_bad names bytes r = r ≡ refused BadLine
+abbrev pub is_bad : Dialect → List ℕ → Reading → Type 0
+is_bad how bytes r = r ≡ refused BadLine

@@ -3,7 +3,7 @@ ghost use Rattle.eb_answer.specs.Answering.{HasAnswered, TakesLine};
 ghost use Rattle.eb_answer.specs.Questions.{MayAsk};
 ghost use Rattle.eb_answer.specs.Rules.{Rules};
 ghost use Rattle.eb_base.specs.Query.{tree};
-ghost use Rattle.eb_fields.specs.Fields.{names};
+ghost use Rattle.eb_fields.specs.Dialect.{dialect_of};
 ghost use Rattle.eb_io.specs.Lines.{line};
 ghost use Rattle.eb_lines.specs.Kinds.{document_line, query_line, bad_line, kind_of};
 ghost use Rattle.eb_lines.specs.Programs.{IsRunning, WorksOn, WorksOnGiven};
@@ -14,7 +14,7 @@ use crate::question::read_question;
 use crate::store::Store;
 use eb_base::{Document, Gate, NoMemory, Query};
 use eb_doc::DocumentReader;
-use eb_fields::Fields;
+use eb_fields::Dialect;
 use eb_lines::{
     LineKind, LineProgram, Refusal, line_kind, line_room, put_refusal, put_summary, put_watches,
     read_document_line_by,
@@ -29,8 +29,8 @@ pub struct Answering<'a, G, S> {
     pub gate: &'a G,
     /// What the lines fill and ask.
     pub store: S,
-    /// The fields by which lines are read.
-    pub fields: Fields<'a>,
+    /// How lines are read.
+    pub dialect: Dialect<'a>,
     // What reads document lines, with its room.
     documents: DocumentReader,
     /// The number of the last line.
@@ -42,16 +42,16 @@ pub struct Answering<'a, G, S> {
 }
 
 impl<'a, G: Gate, S: Store> Answering<'a, G, S> {
-    /// A run before the first line, over this store, which reads lines with these fields. The gate is told what the store does.
-    pub fn new(alloc: Global, gate: &'a G, store: S, fields: Fields<'a>) -> Answering<'a, G, S>
-        ensures { (rules : Rules S.Watches) → names fields.entry ≡ rules.fields → S.holds store rules rules.start rules.watches
+    /// A run before the first line, over this store, which reads lines by this dialect. The gate is told what the store does.
+    pub fn new(alloc: Global, gate: &'a G, store: S, dialect: Dialect<'a>) -> Answering<'a, G, S>
+        ensures { (rules : Rules S.Watches) → dialect_of dialect.entry ≡ rules.dialect → S.holds store rules rules.start rules.watches
             → HasAnswered S.other S.holds result rules [] [] }
     {
         Answering {
             alloc,
             gate,
             store,
-            fields,
+            dialect,
             documents: DocumentReader::new(alloc),
             number: 0,
             queries: 0,
@@ -130,7 +130,7 @@ impl<'a, G: Gate, S: Store> Answering<'a, G, S> {
     {
         let form = self.store.form();
         text.reserve(line_room(0))?;
-        match self.store.take_other(self.alloc, self.fields, bytes)? {
+        match self.store.take_other(self.alloc, self.dialect, bytes)? {
             None => self.number += 1,
             Some(refusal) => {
                 self.number += 1;
@@ -149,7 +149,7 @@ impl<'a, G: Gate, S: Store> Answering<'a, G, S> {
         ensures ok { OnOk result (WorksOnGiven (HasAnswered S.other S.holds) self.old self.new text.old.items text.new.items (line bytes.now)) }
         ensures err { OnErr result (WorksOn (HasAnswered S.other S.holds) self.old self.new text.old.items text.new.items) }
     {
-        match read_document_line_by(&mut self.documents, self.fields, bytes)? {
+        match read_document_line_by(&mut self.documents, self.dialect, bytes)? {
             Ok(document) => self.add(&document, text),
             Err(refusal) => self.refuse(refusal, text),
         }
@@ -160,11 +160,11 @@ impl<'a, G: Gate, S: Store> Answering<'a, G, S> {
         requires state { IsRunning (HasAnswered S.other S.holds) self.old }
         requires number { self.old.number ≤ 2 ^ 40 }
         requires mark { slice_get query.now 0 ≡ Some 63 }
-        ensures ok { OnOk result ((r : Reading) × ReadsByKind (names self.old.fields) query_line query.now r
+        ensures ok { OnOk result ((r : Reading) × ReadsByKind (dialect_of self.old.dialect) query_line query.now r
             × TakesLine S.other S.holds self.old self.new text.old.items text.new.items r) }
         ensures err { OnErr result ((self.new ≡ self.old) × (text.new.items ≡ text.old.items)) }
     {
-        match read_question(self.alloc, self.fields, query)? {
+        match read_question(self.alloc, self.dialect, query)? {
             Ok((k, query)) => self.answer(k, query, text),
             Err(refusal) => self.refuse(refusal, text),
         }

@@ -6,10 +6,10 @@ ghost use Rattle.eb_answer.specs.Rules.{Rules};
 ghost use Rattle.eb_answer.specs.Stores.{IsHolding, HasForm, Places, Tells, PutsAnswer, TakesOther, Keeps};
 ghost use Rattle.eb_base.specs.Document.{Doc};
 ghost use Rattle.eb_base.specs.Query.{tree};
-ghost use Rattle.eb_fields.specs.Fields.{names};
+ghost use Rattle.eb_fields.specs.Dialect.{Dialect as Spoken, dialect_of};
 
 use eb_base::{Document, Gate, NoMemory, Query};
-use eb_fields::Fields;
+use eb_fields::Dialect;
 use eb_lines::{Form, Refusal, Tail};
 use std::alloc::Global;
 
@@ -18,8 +18,8 @@ pub trait Store {
     // What it holds beside documents.
     ghost Watches: { Type 0 };
 
-    // How a line is read, by the names of the fields, that is neither blank, nor a document or query line, nor long.
-    ghost other: { List (List ℕ) → List ℕ → Reading → Type 0 };
+    // How a line is read, by the dialect, that is neither blank, nor a document or query line, nor long.
+    ghost other: { Spoken → List ℕ → Reading → Type 0 };
 
     // It holds these, and goes by these rules.
     ghost holds: { Self → Rules Watches → List Doc → Watches → Type 0 };
@@ -40,12 +40,12 @@ pub trait Store {
     fn take_other(
         &mut self,
         alloc: Global,
-        fields: Fields<'_>,
+        dialect: Dialect<'_>,
         bytes: &[u8],
     ) -> Result<Option<Refusal>, NoMemory>
         requires state { IsHolding holds self.old }
         requires kind { kind_of bytes.now ≡ bad_line }
-        ensures ok { IfOk result (λ refusal. (r : Reading) × other (names fields.entry) bytes.now r × TakesOther holds self.old self.new r refusal) }
+        ensures ok { IfOk result (λ refusal. (r : Reading) × other (dialect_of dialect.entry) bytes.now r × TakesOther holds self.old self.new r refusal) }
         ensures err { OnErr result (Keeps holds self.old self.new) };
 
     /// Answers the query of line `number`: puts the ids of the newest `k` matches after the text. Where memory doesn't

@@ -1,4 +1,5 @@
 -- A load of an image and of lines after it ends in time.
+use Rattle.eb_fields.specs.Dialect.{Dialect}
 use Rattle.std.proofs.Common.{◌≡◌, ℕ, ◌<◌, ◌⊎◌, inl, inr, List, [], ◌++◌, length, Option, Some, None, refl, sym, ap, ap₂, subst, ◌∙◌, arith, append-nil, length-append}
 use Rattle.std.proofs.lemmas.Bool.{cases_lt}
 use Rattle.std.proofs.lemmas.List.{append_cancel_left}
@@ -59,16 +60,16 @@ module _ (σ : Setting) (docs : List Doc) (rest : List ℕ) (allowed : IsSetting
         let same : image_of a.setting a.documents ≡ image_of σ docs = ap (λ s. image_of s a.documents) same_both.0 ∙ ap (image_of σ) same_both.1 in
         d.1 ∙ ap Some (append_cancel_left (image_of σ docs) d.0 rest (ap (λ b. b ++ d.0) (sym same) ∙ d.2))
 
-    pub same_loaded : (fields : List (List ℕ)) (form : Form) → a.fields ≡ fields → a.form ≡ form → a ≡ (let b : Loaded = record { fields = fields; setting = σ; documents = docs; form = form } in b)
-    same_loaded fields form n f =
-        ap (λ s. let b : Loaded = record { fields = a.fields; setting = s; documents = a.documents; form = a.form } in b) same_both.0
-        ∙ ap (λ ds. let b : Loaded = record { fields = a.fields; setting = σ; documents = ds; form = a.form } in b) same_both.1
-        ∙ ap₂ (λ ns t. let b : Loaded = record { fields = ns; setting = σ; documents = docs; form = t } in b) n f
+    pub same_loaded : (how : Dialect) (form : Form) → a.dialect ≡ how → a.form ≡ form → a ≡ (let b : Loaded = record { dialect = how; setting = σ; documents = docs; form = form } in b)
+    same_loaded how form n f =
+        ap (λ s. let b : Loaded = record { dialect = a.dialect; setting = s; documents = a.documents; form = a.form } in b) same_both.0
+        ∙ ap (λ ds. let b : Loaded = record { dialect = a.dialect; setting = σ; documents = ds; form = a.form } in b) same_both.1
+        ∙ ap₂ (λ ns t. let b : Loaded = record { dialect = ns; setting = σ; documents = docs; form = t } in b) n f
 
-  pub load_completes : (fields : List (List ℕ)) (form : Form) (status : Status) (l0 l1 p0 p1 : Option (List ℕ)) (read_rose write_rose : Type 0) → EndsLoad fields form status l0 l1 p0 p1
+  pub load_completes : (how : Dialect) (form : Form) (status : Status) (l0 l1 p0 p1 : Option (List ℕ)) (read_rose write_rose : Type 0) → EndsLoad how form status l0 l1 p0 p1
       → (status ≡ ReadFault → read_rose)
       → (status ≡ WriteFault → write_rose) → (read_rose → ⊥) → (write_rose → ⊥) → l0 ≡ Some (image_of σ docs ++ rest) → length rest < longest_input → IsWorkedOff status
-  load_completes fields form status l0 l1 p0 p1 read_rose write_rose e f g no_read no_write source short = elim e [
+  load_completes how form status l0 l1 p0 p1 read_rose write_rose e f g no_read no_write source short = elim e [
     | inl unread ↦ of_unread status unread f
     | inr r ↦
         let lines = same_lines r.loaded r.lines r.loadable (sym r.image ∙ source) in
@@ -86,7 +87,7 @@ module _ (σ : Setting) (docs : List Doc) (rest : List ℕ) (allowed : IsSetting
     of_unread InputTooLong u f = absurd u.why
 
   -- what is told of the lines
-  module _ (fields : List (List ℕ)) (form : Form) (status : Status) (l0 l1 p0 p1 : Option (List ℕ)) (e : EndsLoad fields form status l0 l1 p0 p1) (source : l0 ≡ Some (image_of σ docs ++ rest)) where
+  module _ (how : Dialect) (form : Form) (status : Status) (l0 l1 p0 p1 : Option (List ℕ)) (e : EndsLoad how form status l0 l1 p0 p1) (source : l0 ≡ Some (image_of σ docs ++ rest)) where
     maybe_unread : (s : Status) → IsUnread s l0 l1 p0 p1 → (s ≡ ReadFault) ⊎ (s ≡ NoMemory)
     maybe_unread ReadFault u = inl refl
     maybe_unread NoMemory u = inr refl
@@ -98,7 +99,7 @@ module _ (σ : Setting) (docs : List Doc) (rest : List ℕ) (allowed : IsSetting
     maybe_unread InputTooLong u = absurd u.why
 
     pub load_told : (before : List ℕ) → p0 ≡ Some before
-        → (printed : List ℕ) × (p1 ≡ Some (before ++ printed)) × WroteLoaded (let b : Loaded = record { fields = fields; setting = σ; documents = docs; form = form } in b) status rest l1 printed
+        → (printed : List ℕ) × (p1 ≡ Some (before ++ printed)) × WroteLoaded (let b : Loaded = record { dialect = how; setting = σ; documents = docs; form = form } in b) status rest l1 printed
     load_told before sink = elim e [
       | inl unread ↦ ([], unread.printed ∙ sink ∙ ap Some (sym (append-nil before)), inl (maybe_unread status unread, refl))
       | inr r ↦
@@ -106,16 +107,16 @@ module _ (σ : Setting) (docs : List Doc) (rest : List ℕ) (allowed : IsSetting
           let wrote = ends_told (IsBodyBehind r.loaded) (IsTextBehind r.loaded) (HasRefusalBehind r.loaded) (HasNoRefusalBehind r.loaded) status r.lines l1 p0 p1 rest r.ends
           (same_lines r.loaded r.lines r.loadable at) before sink in
           let W : Loaded → Type 0 = λ a. WroteLoaded a status rest l1 wrote.0 in
-          (wrote.0, wrote.1, subst W (same_loaded r.loaded r.lines r.loadable at fields form r.fields r.same) (inr wrote.2))
+          (wrote.0, wrote.1, subst W (same_loaded r.loaded r.lines r.loadable at how form r.dialect r.same) (inr wrote.2))
     ]
 
-    pub load_means : MeansLoaded (let b : Loaded = record { fields = fields; setting = σ; documents = docs; form = form } in b) status rest l1
+    pub load_means : MeansLoaded (let b : Loaded = record { dialect = how; setting = σ; documents = docs; form = form } in b) status rest l1
     load_means = elim e [
       | inl unread ↦ inl (maybe_unread status unread)
       | inr r ↦
           let at = sym r.image ∙ source in
           let M : Loaded → Type 0 = λ a. MeansLoaded a status rest l1 in
-          subst M (same_loaded r.loaded r.lines r.loadable at fields form r.fields r.same)
+          subst M (same_loaded r.loaded r.lines r.loadable at how form r.dialect r.same)
           (inr (ends_mean (IsBodyBehind r.loaded) (IsTextBehind r.loaded) (HasRefusalBehind r.loaded) (HasNoRefusalBehind r.loaded) status r.lines l1 p0 p1 rest r.ends
           (same_lines r.loaded r.lines r.loadable at)))
     ]

@@ -1,4 +1,5 @@
 -- `save` takes a line more.
+use Rattle.eb_fields.specs.Dialect.{Dialect, dialect_of}
 use Rattle.std.proofs.Common.{◌≡◌, ℕ, ◌+◌, ◌≤◌, true, false, List, [], ◌∷◌, ◌++◌, refl}
 use Rattle.std.proofs.Common.{sym, ap, subst, ◌∙◌, arith, append_assoc, append-nil, length-append}
 use Rattle.std.specs.Prelude.{if◌then◌else◌}
@@ -6,7 +7,6 @@ use Rattle.std.specs.List.{flat_map}
 use Rattle.std.proofs.lemmas.Grind.{flat_map-append}
 use Rattle.eb_base.specs.Document.{Doc}
 use Rattle.eb_base.specs.Setting.{Setting}
-use Rattle.eb_fields.specs.Fields.{names}
 use Rattle.eb_image.specs.Image.{head_of, document_part, image_of, last_byte}
 use Rattle.eb_io.specs.Lines.{Line, line}
 use Rattle.eb_place.specs.Room.{has_room, HasRoom}
@@ -27,7 +27,7 @@ use Rattle.eb_archive.specs.Saving.{HasSaved, TakesLine}
 
 -- a line of this reading is taken: what it comes to, a, is that of the documents before it
 module _ {G : Type 0} (old new : Saving G) (q : Asked) (given : List Line) (so_far : List ℕ) (l : Line) (r a : Reading) (h : HasSaved old q given so_far)
-    (reads : ReadsToSave (names old.fields) l r) (fields : names new.fields ≡ names old.fields) (is : a ≡ admit q.setting old.writer.docs r) (index : new.index ≡ old.index)
+    (reads : ReadsToSave (dialect_of old.dialect) l r) (how : dialect_of new.dialect ≡ dialect_of old.dialect) (is : a ≡ admit q.setting old.writer.docs r) (index : new.index ≡ old.index)
     (writer : new.writer.index ≡ old.writer.index) (docs : new.writer.docs ≡ old.writer.docs ++ documents_in a)
     (number : new.number ≡ old.number + 1) (refused_more : new.refused ≡ old.refused + one_if (is_refused a)) (low : one_if (is_refused a) ≤ 1) where
   a_is : admit q.setting (accepted h.readings) r ≡ a
@@ -35,14 +35,14 @@ module _ {G : Type 0} (old new : Saving G) (q : Asked) (given : List Line) (so_f
 
   pub one_more : HasSaved new q (given ++ l ∷ []) (so_far ++ flat_map document_part (documents_in a))
   one_more = record {
-    fields = fields ∙ h.fields;
+    dialect = how ∙ h.dialect;
     words = h.words;
     index = index ∙ h.index;
     setting = h.setting;
     writer = writer ∙ h.writer;
     readings = h.readings ++ a ∷ [];
-    read = subst (λ (x : Reading). AreReadToSave q (given ++ l ∷ []) (h.readings ++ x ∷ [])) a_is (read_push (ReadsToSave q.fields) q.setting [] given h.readings l r h.read
-        (subst (λ ns. ReadsToSave ns l r) h.fields reads));
+    read = subst (λ (x : Reading). AreReadToSave q (given ++ l ∷ []) (h.readings ++ x ∷ [])) a_is (read_push (ReadsToSave q.dialect) q.setting [] given h.readings l r h.read
+        (subst (λ ns. ReadsToSave ns l r) h.dialect reads));
     documents = docs ∙ ap (λ ds. ds ++ documents_in a) h.documents ∙ sym (accepted-push h.readings a);
     number = number ∙ omega (arith, h.number, length-append given (l ∷ []));
     refused = refused_more ∙ ap (λ n. n + one_if (is_refused a)) h.refused ∙ sym (refusals-push h.readings a);
@@ -54,54 +54,55 @@ module _ {G : Type 0} (old new : Saving G) (q : Asked) (given : List Line) (so_f
 
 -- a line that adds nothing
 pub takes_quiet : {G : Type 0} (old new : Saving G) (r a : Reading) → ((σ : Setting) → old.index.setting ≡ σ → admit σ old.writer.docs r ≡ a) → documents_in a ≡ []
-    → names new.fields ≡ names old.fields → new.index ≡ old.index → new.writer ≡ old.writer → new.number ≡ old.number + 1 → new.refused ≡ old.refused + one_if (is_refused a)
+    → dialect_of new.dialect ≡ dialect_of old.dialect → new.index ≡ old.index → new.writer ≡ old.writer → new.number ≡ old.number + 1 → new.refused ≡ old.refused + one_if (is_refused a)
     → one_if (is_refused a) ≤ 1 → (text : List ℕ) → TakesLine old new text text r
-takes_quiet old new r a is none fields index writer number more low text = λ l reads q given so_far h.
+takes_quiet old new r a is none how index writer number more low text = λ l reads q given so_far h.
     let setting : old.index.setting ≡ q.setting = ap (λ (w : Words). w.setting) h.index ∙ h.setting in
     let docs : new.writer.docs ≡ old.writer.docs ++ documents_in a =
     ap (λ (t : HistoryToken). t.docs) writer ∙ sym (append-nil old.writer.docs) ∙ ap (λ ds. old.writer.docs ++ ds) (sym none) in (
       flat_map document_part (documents_in a),
-      one_more old new q given so_far l r a h reads fields (sym (is q.setting setting)) index (ap (λ (t : HistoryToken). t.index) writer) docs number more low,
+      one_more old new q given so_far l r a h reads how (sym (is q.setting setting)) index (ap (λ (t : HistoryToken). t.index) writer) docs number more low,
       sym (append-nil text) ∙ ap (λ ds. text ++ flat_map document_part ds) (sym none),
     )
 
 -- a document line whose document is added
-pub takes_document : {G : Type 0} (old new : Saving G) (d : Doc) (text part text_new : List ℕ) → HasRoom old.index.setting old.writer.docs d → names new.fields ≡ names old.fields
+pub takes_document : {G : Type 0} (old new : Saving G) (d : Doc) (text part text_new : List ℕ) → HasRoom old.index.setting old.writer.docs d → dialect_of new.dialect ≡ dialect_of old.dialect
     → new.index ≡ old.index
     → new.writer ≡ (let t : HistoryToken = record { index = old.writer.index; docs = old.writer.docs ++ d ∷ []; converted = old.writer.converted } in t)
     → new.number ≡ old.number + 1 → new.refused ≡ old.refused → part ≡ document_part d → text_new ≡ text ++ part → TakesLine old new text text_new (document d)
-takes_document old new d text part text_new room fields index writer number refused_same is put = λ l reads q given so_far h.
+takes_document old new d text part text_new room how index writer number refused_same is put = λ l reads q given so_far h.
     let setting : old.index.setting ≡ q.setting = ap (λ (w : Words). w.setting) h.index ∙ h.setting in
     let fits : has_room q.setting old.writer.docs d ≡ true = subst (λ (s : Setting). HasRoom s old.writer.docs d) setting room in
     let admitted : document d ≡ admit q.setting old.writer.docs (document d) = sym (ap (λ b. if b then document d else refused Full) fits) in (
       flat_map document_part (d ∷ []),
-      one_more old new q given so_far l (document d) (document d) h reads fields admitted index (ap (λ (t : HistoryToken). t.index) writer)
+      one_more old new q given so_far l (document d) (document d) h reads how admitted index (ap (λ (t : HistoryToken). t.index) writer)
           (ap (λ (t : HistoryToken). t.docs) writer) number (omega (arith, refused_same)) (omega arith),
       put ∙ ap (λ b. text ++ b) (is ∙ sym (append-nil (document_part d))),
     )
 
 -- a document line whose document has no room
-pub takes_full : {G : Type 0} (old new : Saving G) (d : Doc) (text : List ℕ) → has_room old.index.setting old.writer.docs d ≡ false → names new.fields ≡ names old.fields → new.index ≡ old.index
+pub takes_full : {G : Type 0} (old new : Saving G) (d : Doc) (text : List ℕ) → has_room old.index.setting old.writer.docs d ≡ false → dialect_of new.dialect ≡ dialect_of old.dialect
+    → new.index ≡ old.index
     → new.writer ≡ old.writer
     → new.number ≡ old.number + 1 → new.refused ≡ old.refused + 1 → TakesLine old new text text (document d)
-takes_full old new d text room fields index writer number refused_more =
+takes_full old new d text room how index writer number refused_more =
     takes_quiet old new (document d) (refused Full)
     (λ σ setting. ap (λ b. if b then document d else refused Full) (subst (λ (s : Setting). has_room s old.writer.docs d ≡ false) setting room))
-    refl fields index writer number refused_more (omega arith) text
+    refl how index writer number refused_more (omega arith) text
 
 -- before the first line
-pub saved_none : {G : Type 0} (s : Saving G) (w : Words) (q : Asked) → names s.fields ≡ q.fields → s.index ≡ w → w.setting ≡ q.setting
+pub saved_none : {G : Type 0} (s : Saving G) (w : Words) (q : Asked) → dialect_of s.dialect ≡ q.dialect → s.index ≡ w → w.setting ≡ q.setting
     → s.writer ≡ (let t : HistoryToken = record { index = w; docs = []; converted = 0 } in t) → s.number ≡ 0
     → s.refused ≡ 0 → HasSaved s q [] (head_of q.setting)
 unfolding accepted refusals
-saved_none s w q fields index setting writer number refused_none = record {
-  fields = fields;
+saved_none s w q how index setting writer number refused_none = record {
+  dialect = how;
   words = w;
   index = index;
   setting = setting;
   writer = ap (λ (t : HistoryToken). t.index) writer;
   readings = [];
-  read = read_none (ReadsToSave q.fields) q.setting [];
+  read = read_none (ReadsToSave q.dialect) q.setting [];
   documents = ap (λ (t : HistoryToken). t.docs) writer;
   number = number;
   refused = refused_none;
@@ -110,14 +111,14 @@ saved_none s w q fields index setting writer number refused_none = record {
 }
 
 -- a line is read by its kind
-pub reads_to_save : (names : List (List ℕ)) (bytes : List ℕ) (k : Kind) (r : Reading) → kind_of bytes ≡ k → ReadsByKind names (kind_to_save k) bytes r → ReadsToSave names (line bytes) r
-reads_to_save names bytes k r is h = subst (λ (x : Kind). ReadsByKind names (kind_to_save x) bytes r) (sym is) h
+pub reads_to_save : (how : Dialect) (bytes : List ℕ) (k : Kind) (r : Reading) → kind_of bytes ≡ k → ReadsByKind how (kind_to_save k) bytes r → ReadsToSave how (line bytes) r
+reads_to_save how bytes k r is h = subst (λ (x : Kind). ReadsByKind how (kind_to_save x) bytes r) (sym is) h
 
 -- ---- the end
 
 pub parts_none : (q : Asked) → AreParts q [] (head_of q.setting)
 unfolding accepted
-parts_none q = record { readings = []; read = read_none (ReadsToSave q.fields) q.setting []; bytes = sym (append-nil (head_of q.setting)) }
+parts_none q = record { readings = []; read = read_none (ReadsToSave q.dialect) q.setting []; bytes = sym (append-nil (head_of q.setting)) }
 
 pub saving_ends : {G : Type 0} (s : Saving G) (t0 t1 : List ℕ) (q : Asked) (given : List Line) (so_far : List ℕ) → t1 ≡ t0 ++ 0 ∷ [] → HasSaved s q given so_far
     → Finishes HasSaved IsSaved HasUnsaved HasNoUnsaved s t0 t1 s.refused q given so_far

@@ -1,4 +1,5 @@
 -- What `load` makes of an image and of the lines after it.
+use Rattle.eb_fields.specs.Dialect.{Dialect}
 use Rattle.std.specs.Prelude.{◌≡◌, ℕ, ◌⊎◌, List, [], Option}
 use Rattle.eb_answer.specs.Rules.{Rules, is_bad, IsBody, IsText, HasRefusal, HasNoRefusal}
 use Rattle.eb_base.specs.Document.{Doc}
@@ -15,9 +16,9 @@ use Rattle.eb_lines.specs.Outcomes.{Wrote, Means}
 use Rattle.eb_lines.specs.Passing.{Ends}
 use Rattle.eb_place.specs.Room.{IsLawful}
 
--- an index of this setting is loaded with these documents; lines are read by the names of the fields, and what is printed is written in this form
+-- an index of this setting is loaded with these documents; lines are read by this dialect, and what is printed is written in this form
 pub record Loaded : Type 0 where
-  pub fields : List (List ℕ)
+  pub dialect : Dialect
   pub setting : Setting
   pub documents : List Doc
   pub form : Form
@@ -37,7 +38,7 @@ pub record IsImage (bytes : List ℕ) : Type 0 where
 
 -- an index that holds them at first: a query sees these and all that the lines before it added
 abbrev pub rules_of : Loaded → Rules (Unit {0})
-rules_of a = index_rules a.fields a.setting a.form a.documents
+rules_of a = index_rules a.dialect a.setting a.form a.documents
 
 -- the answers and refusals of these lines; their whole text
 abbrev pub IsBodyBehind : Loaded → List Line → List ℕ → Type 0
@@ -73,18 +74,18 @@ pub record IsUnread (status : Status) (left_old left_new printed_old printed_new
   pub printed : printed_new ≡ printed_old
 
 -- an image was read, exactly its bytes, and then lines
-pub record IsRead (names : List (List ℕ)) (form : Form) (status : Status) (left_old left_new printed_old printed_new : Option (List ℕ)) : Type 0 where
+pub record IsRead (how : Dialect) (form : Form) (status : Status) (left_old left_new printed_old printed_new : Option (List ℕ)) : Type 0 where
   pub loaded : Loaded
   pub loadable : IsLoadable loaded
-  pub fields : loaded.fields ≡ names
+  pub dialect : loaded.dialect ≡ how
   pub same : loaded.form ≡ form
   pub lines : Option (List ℕ)
   pub image : left_old ≡ after (image_of loaded.setting loaded.documents) lines
   pub ends : Ends (IsBodyBehind loaded) (IsTextBehind loaded) (HasRefusalBehind loaded) (HasNoRefusalBehind loaded) status lines left_new printed_old printed_new
 
 -- how a load ends
-abbrev pub EndsLoad : List (List ℕ) → Form → Status → Option (List ℕ) → Option (List ℕ) → Option (List ℕ) → Option (List ℕ) → Type 0
-EndsLoad names form status l0 l1 p0 p1 = IsUnread status l0 l1 p0 p1 ⊎ IsRead names form status l0 l1 p0 p1
+abbrev pub EndsLoad : Dialect → Form → Status → Option (List ℕ) → Option (List ℕ) → Option (List ℕ) → Option (List ℕ) → Type 0
+EndsLoad how form status l0 l1 p0 p1 = IsUnread status l0 l1 p0 p1 ⊎ IsRead how form status l0 l1 p0 p1
 
 -- what a load that ends so has printed, of these bytes of lines after the image of the loaded documents, of which this is
 -- left: nothing where the image wasn't read to its end, for a read fault or want of memory

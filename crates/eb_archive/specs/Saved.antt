@@ -1,4 +1,5 @@
 -- What `save` makes of the lines of an input: the image of the documents that they add.
+use Rattle.eb_fields.specs.Dialect.{Dialect}
 use Rattle.std.specs.Prelude.{◌≡◌, ℕ, List, [], ◌++◌, Option}
 use Rattle.std.specs.List.{flat_map}
 use Rattle.eb_base.specs.Setting.{Setting}
@@ -13,13 +14,13 @@ use Rattle.eb_lines.specs.Reading.{Reading, refused}
 use Rattle.eb_lines.specs.Reads.{ReadsByKind}
 use Rattle.eb_indexed.specs.LinesRead.{AreReadBehind, SomeRefused, NoneRefused}
 
--- what is asked of `save`: the names of the fields by which lines are read, and the setting of the index
+-- what is asked of `save`: how lines are read, and the setting of the index
 pub record Asked : Type 0 where
-  pub fields : List (List ℕ)
+  pub dialect : Dialect
   pub setting : Setting
 
-abbrev pub asked : List (List ℕ) → Setting → Asked
-asked names σ = record { fields = names; setting = σ }
+abbrev pub asked : Dialect → Setting → Asked
+asked how σ = record { dialect = how; setting = σ }
 
 -- a query line is a bad line to `save`
 abbrev pub kind_to_save : Kind → Kind
@@ -29,13 +30,13 @@ kind_to_save query_line = bad_line
 kind_to_save bad_line = bad_line
 
 -- the line is read as this, to be saved
-abbrev pub ReadsToSave : List (List ℕ) → Line → Reading → Type 0
-ReadsToSave names (line bytes) r = ReadsByKind names (kind_to_save (kind_of bytes)) bytes r
-ReadsToSave names long_line r = r ≡ refused LongLine
+abbrev pub ReadsToSave : Dialect → Line → Reading → Type 0
+ReadsToSave how (line bytes) r = ReadsByKind how (kind_to_save (kind_of bytes)) bytes r
+ReadsToSave how long_line r = r ≡ refused LongLine
 
 -- the lines come to these in an index of this setting
 abbrev pub AreReadToSave : Asked → List Line → List Reading → Type 0
-AreReadToSave a = AreReadBehind (ReadsToSave a.fields) a.setting []
+AreReadToSave a = AreReadBehind (ReadsToSave a.dialect) a.setting []
 
 -- the head, and the parts of the documents that these lines add
 pub record AreParts (a : Asked) (lines : List Line) (printed : List ℕ) : Type 0 where

@@ -1,7 +1,7 @@
 -- How far `save` has come between two lines.
+use Rattle.eb_fields.specs.Dialect.{dialect_of}
 use Rattle.std.specs.Prelude.{◌≡◌, ℕ, ◌≤◌, List, ◌++◌, length}
 use Rattle.std.specs.List.{flat_map}
-use Rattle.eb_fields.specs.Fields.{names}
 use Rattle.eb_image.specs.Image.{head_of, document_part}
 use Rattle.eb_io.specs.Lines.{Line}
 use Rattle.eb_lines.specs.Programs.{WorksOnGiven}
@@ -14,7 +14,7 @@ use Rattle.eb_archive.specs.Saved.{Asked, ReadsToSave, AreReadToSave}
 -- these lines were taken as it was asked, and the head and the parts of their documents were written: the
 -- history of the index's writer is these documents
 pub record HasSaved {G : Type 0} (s : Saving G) (a : Asked) (given : List Line) (so_far : List ℕ) : Type 0 where
-  pub fields : names s.fields ≡ a.fields
+  pub dialect : dialect_of s.dialect ≡ a.dialect
   pub words : Words
   pub index : s.index ≡ words
   pub setting : words.setting ≡ a.setting
@@ -29,4 +29,4 @@ pub record HasSaved {G : Type 0} (s : Saving G) (a : Asked) (given : List Line) 
 
 -- a line of this reading was taken, and its part was put after the text
 abbrev pub TakesLine : {G : Type 0} → Saving G → Saving G → List ℕ → List ℕ → Reading → Type 0
-TakesLine old new text_old text_new r = (l : Line) → ReadsToSave (names old.fields) l r → WorksOnGiven HasSaved old new text_old text_new l
+TakesLine old new text_old text_new r = (l : Line) → ReadsToSave (dialect_of old.dialect) l r → WorksOnGiven HasSaved old new text_old text_new l

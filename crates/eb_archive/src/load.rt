@@ -1,7 +1,7 @@
 ghost use Rattle.std.specs.Prelude.{◌≡◌, ◌<◌, ◌++◌, ℕ, List, Some, length};
 ghost use Rattle.eb_base.specs.Document.{Doc};
 ghost use Rattle.eb_base.specs.Setting.{Setting, IsSetting};
-ghost use Rattle.eb_fields.specs.Fields.{names};
+ghost use Rattle.eb_fields.specs.Dialect.{dialect_of};
 ghost use Rattle.eb_image.specs.Image.{image_of};
 ghost use Rattle.eb_image.specs.Reading.{IsBad};
 ghost use Rattle.eb_io.specs.Faults.{HasRisen};
@@ -14,7 +14,7 @@ ghost use Rattle.eb_archive.specs.Loaded.{EndsLoad, IsImage, WroteLoaded, MeansL
 use crate::image::read_image;
 use eb_answer::answer_lines;
 use eb_base::Gate;
-use eb_fields::Fields;
+use eb_fields::Dialect;
 use eb_image::ImageFault;
 use eb_io::{Sink, Source};
 use eb_lines::{Form, Status};
@@ -23,21 +23,21 @@ use std::alloc::Global;
 /// Loads an image and processes the lines after it, which come from the same source: reads the image, exactly its bytes,
 /// into an index of its setting, and then document lines and query lines in order; prints answers, refusals and the
 /// summary on `out`. Lines are numbered from 1. A query sees the documents of the image and those of the lines before it.
-/// Lines are read with these fields; the form says how what is printed is written, and whether the segments are told after the summary.
+/// Lines are read by this dialect; the form says how what is printed is written, and whether the segments are told after the summary.
 ///
 /// `BadImage` says that what was read begins no image of documents that an index of its setting has room for, or that
 /// the source ended in it; then nothing was printed, as wherever the image wasn't read to its end. A source that gives
 /// few bytes a call is slow here. Takes the memory of the index at once.
 pub fn load_lines<S: Source, K: Sink, G: Gate>(
     alloc: Global,
-    fields: Fields<'_>,
+    dialect: Dialect<'_>,
     form: Form,
     source: &mut S,
     out: &mut K,
     gate: &G,
 ) -> Status
     // No image was read and nothing was printed; or an image was read, and the lines after it as the status says.
-    ensures ends { EndsLoad (names fields.entry) form result (S.left source.old) (S.left source.new) (K.taken out.old) (K.taken out.new) }
+    ensures ends { EndsLoad (dialect_of dialect.entry) form result (S.left source.old) (S.left source.new) (K.taken out.old) (K.taken out.new) }
     // What was read begins no image, and nothing was printed.
     ensures bad_image { result ≡ Status.BadImage → (K.taken out.new ≡ K.taken out.old)
         × ((taken : List ℕ) × (S.left source.old ≡ after taken (S.left source.new)) × IsBad IsImage taken (S.left source.new)) }
@@ -45,11 +45,11 @@ pub fn load_lines<S: Source, K: Sink, G: Gate>(
     ensures output { (σ : Setting) (docs : List Doc) (rest before : List ℕ) → IsSetting σ → IsLawful σ docs
         → S.left source.old ≡ Some (image_of σ docs ++ rest) → K.taken out.old ≡ Some before
         → (printed : List ℕ) × (K.taken out.new ≡ Some (before ++ printed))
-        × WroteLoaded (record { fields = names fields.entry; setting = σ; documents = docs; form = form }) result rest (S.left source.new) printed }
+        × WroteLoaded (record { dialect = dialect_of dialect.entry; setting = σ; documents = docs; form = form }) result rest (S.left source.new) printed }
     // What the status says of the lines holds whatever becomes of the output.
     ensures means { (σ : Setting) (docs : List Doc) (rest : List ℕ) → IsSetting σ → IsLawful σ docs
         → S.left source.old ≡ Some (image_of σ docs ++ rest)
-        → MeansLoaded (record { fields = names fields.entry; setting = σ; documents = docs; form = form }) result rest (S.left source.new) }
+        → MeansLoaded (record { dialect = dialect_of dialect.entry; setting = σ; documents = docs; form = form }) result rest (S.left source.new) }
     // Faults come only from outside.
     ensures read_fault { result ≡ Status.ReadFault → HasRisen (S.faults source.old) (S.faults source.new) }
     ensures write_fault { result ≡ Status.WriteFault → HasRisen (K.faults out.old) (K.faults out.new) }
@@ -58,18 +58,18 @@ pub fn load_lines<S: Source, K: Sink, G: Gate>(
         → (σ : Setting) (docs : List Doc) (rest : List ℕ) → IsSetting σ → IsLawful σ docs → S.left source.old ≡ Some (image_of σ docs ++ rest)
         → length rest < longest_input → IsWorkedOff result }
 {
-    pass_loaded(alloc, fields, form, source, out, gate)
+    pass_loaded(alloc, dialect, form, source, out, gate)
 }
 
 fn pass_loaded<S: Source, K: Sink, G: Gate>(
     alloc: Global,
-    fields: Fields<'_>,
+    dialect: Dialect<'_>,
     form: Form,
     source: &mut S,
     out: &mut K,
     gate: &G,
 ) -> Status
-    ensures ends { EndsLoad (names fields.entry) form result (S.left source.old) (S.left source.new) (K.taken out.old) (K.taken out.new) }
+    ensures ends { EndsLoad (dialect_of dialect.entry) form result (S.left source.old) (S.left source.new) (K.taken out.old) (K.taken out.new) }
     ensures read_fault { result ≡ Status.ReadFault → HasRisen (S.faults source.old) (S.faults source.new) }
     ensures write_fault { result ≡ Status.WriteFault → HasRisen (K.faults out.old) (K.faults out.new) }
 {
@@ -79,5 +79,5 @@ fn pass_loaded<S: Source, K: Sink, G: Gate>(
         Err(ImageFault::ReadFault) => return Status::ReadFault,
         Err(ImageFault::NoMemory) => return Status::NoMemory,
     };
-    answer_lines(alloc, indexed.telling(form), fields, source, out, gate)
+    answer_lines(alloc, indexed.telling(form), dialect, source, out, gate)
 }

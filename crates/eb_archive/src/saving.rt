@@ -1,6 +1,6 @@
 //! What `save` does with each line, and at the end.
 ghost use Rattle.std.specs.Prelude.{◌≡◌, ◌+◌, ◌≤◌, ◌^◌, ◌++◌, ℕ, List, [], length, vec_len, vec_capacity, IfOk, OnErr, OnOk};
-ghost use Rattle.eb_fields.specs.Fields.{names};
+ghost use Rattle.eb_fields.specs.Dialect.{dialect_of};
 ghost use Rattle.eb_image.specs.Image.{head_of};
 ghost use Rattle.eb_io.specs.Lines.{line};
 ghost use Rattle.eb_lines.specs.Kinds.{document_line, kind_of};
@@ -11,7 +11,7 @@ ghost use Rattle.eb_archive.specs.Saving.{HasSaved, TakesLine};
 
 use eb_base::{Config, Document, Gate, NoMemory};
 use eb_engine::{Index, Writer};
-use eb_fields::Fields;
+use eb_fields::Dialect;
 use eb_image::write_part;
 use eb_lines::{LineKind, LineProgram, Refusal, line_kind, read_document_line};
 use eb_writer::Full;
@@ -23,8 +23,8 @@ pub(crate) struct Saving<'a, G> {
     alloc: Global,
     // It is told what the writer does.
     gate: &'a G,
-    // The fields by which lines are read.
-    fields: Fields<'a>,
+    // How lines are read.
+    dialect: Dialect<'a>,
     index: Index,
     writer: Writer,
     number: u64,
@@ -44,16 +44,16 @@ impl<'a, G: Gate> Saving<'a, G> {
     pub(crate) fn new(
         alloc: Global,
         gate: &'a G,
-        fields: Fields<'a>,
+        dialect: Dialect<'a>,
         config: Config,
     ) -> Result<Saving<'a, G>, NoMemory>
-        ensures { IfOk result (λ saving. HasSaved saving (asked (names fields.entry) config) [] (head_of config)) }
+        ensures { IfOk result (λ saving. HasSaved saving (asked (dialect_of dialect.entry) config) [] (head_of config)) }
     {
         let (index, writer, _converter) = Index::open(alloc, config)?;
         Ok(Saving {
             alloc,
             gate,
-            fields,
+            dialect,
             index,
             writer,
             number: 0,
@@ -111,7 +111,7 @@ impl<'a, G: Gate> Saving<'a, G> {
         ensures ok { OnOk result (WorksOnGiven HasSaved self.old self.new text.old.items text.new.items (line bytes.now)) }
         ensures err { OnErr result ((self.new ≡ self.old) × (text.new.items ≡ text.old.items)) }
     {
-        match read_document_line(self.alloc, self.fields, bytes)? {
+        match read_document_line(self.alloc, self.dialect, bytes)? {
             Ok(document) => self.save(&document, text),
             Err(refusal) => {
                 self.refuse(refusal);

@@ -52,12 +52,14 @@ LeaderAdds (Ok d) old number new =
 LeaderAdds (Err r) old number new = (number ≡ refusal_number r) × (new ≡ old)
 
 -- what a follower knows that took in what it was told: of the same feed the turns that it knew, if not more, and all that it knew of
--- the history, unless it had fallen too far behind; the closed generations that it knew at any rate
+-- the history, unless it has lapsed; the closed generations that it knew at any rate, and where no turn is new, the documents of the
+-- newest one
 pub record Hears (old new : FeedToken) : Type 0 where
   pub book : new.book ≡ old.book
   pub turns : IsPrefix old.log new.log
   pub known : IsPrefix (history_of old.log old.docs) (history_of new.log new.docs) ⊎ HasLapsed old new
   pub closed : IsPrefix (history_of old.log []) (history_of new.log new.docs)
+  pub newest : new.log ≡ old.log → IsPrefix old.docs new.docs
 
 -- what a follower knows that searched: of its newest generation the documents that it knew, if not more
 pub record Learns (old new : FeedToken) : Type 0 where

@@ -260,7 +260,8 @@ fn open_spare(alloc: Global, config: Config) -> Result<Handle, NoMemory>
 /// Gives this leader an index that was opened ahead: the add that begins the next generation takes it, and opens none. The
 /// spare's handle leads then to the one that the leader was given before and didn't begin yet, or it is closed: 0; else
 /// `BadSetting` (13) where its setting isn't that of the feed, or 16 where the one handle leads to no leader, or the other to no
-/// spare index, and both are as before. Takes no memory.
+/// spare index, and both are as before. Takes memory for the handle of the one that comes back: where there is none, that
+/// index is dropped, and the spare's handle is closed.
 #[unsafe(no_mangle)]
 pub extern "C" fn eb_leader_lend(alloc: Global, leader: &mut Handle, spare: &mut Handle) -> u32
     ensures leader { leader.new.seal.held ≡ leader.old.seal.held }

@@ -86,13 +86,13 @@ IsMadeAnswer feed a = IsReaderOf feed (answerer a)
 abbrev pub IsOpening : {T : Type 0} → List T → List View → Type 0
 IsOpening items views = (items ≡ []) × (views ≡ Opening ∷ [])
 
--- the rule of the jobs of a feed: `items` are the jobs and stops that were put and not taken, in order
+-- the rule of the jobs of a feed: `items` are the jobs and stops that were put and not taken, by their counts, in any order
 pub record JobsOf (feed : FeedName) (items : List Task) (views : List View) : Type 0 where
   pub clerk : ℕ
   pub made : All (IsMadeTask feed) items
   pub balanced : Balanced feed (IsTaker clerk) (job_pairs items) (stops_of items) views
 
--- the rule of the answers of a feed: `items` are the answers that were put and not taken, in order
+-- the rule of the answers of a feed: `items` are the answers that were put and not taken, by their counts, in any order
 pub record AnswersOf (feed : FeedName) (items : List Answer) (views : List View) : Type 0 where
   pub clerk : ℕ
   pub made : All (IsMadeAnswer feed) items

@@ -1,10 +1,10 @@
 -- Before the first line.
+use Rattle.eb_fields.specs.Dialect.{Dialect, dialect_of}
 use Rattle.std.proofs.Common.{◌≡◌, ℕ, ◌+◌, inr, List, [], ◌∷◌, length, sym, ap, subst, ◌∙◌, arith}
 use Rattle.std.specs.Prelude.{Option, Some}
 use Rattle.std.proofs.lemmas.List.Elements.{All-nil}
 use Rattle.eb_base.specs.Setting.{Setting}
 use Rattle.eb_feed.specs.Generations.{joined_generations}
-use Rattle.eb_fields.specs.Fields.{names}
 use Rattle.eb_lines.specs.Progress.{accepted, queries, refusals}
 use Rattle.eb_feed_serve.specs.Desk.{Queues, ClerkBook, new_clerk}
 use Rattle.eb_feed_serve.specs.Feeds.{feed_name}
@@ -29,11 +29,11 @@ new_side q σ keep o s h e = subst (IsNewSide q σ keep) (sym e) h
 taken_none : (w : WriterToken) → generations_of w.feed.log w.feed.docs ≡ [] ∷ [] → (taken_by w ≡ []) × HasTaken w (taken_by w)
 taken_none w e = let none : taken_by w ≡ [] = ap joined_generations e in (none, inr (none, e))
 
-pub served_none : (s : Serving) (o : Office) (fields : List (List ℕ)) (σ : Setting) (keep : ℕ) (form : _) → s.office ≡ o → o.clerk ≡ new_clerk o.desk.now.queues (feed_name o.feed)
+pub served_none : (s : Serving) (o : Office) (how : Dialect) (σ : Setting) (keep : ℕ) (form : _) → s.office ≡ o → o.clerk ≡ new_clerk o.desk.now.queues (feed_name o.feed)
     → o.feed.setting ≡ σ → o.feed.keep ≡ keep → generations_of o.feed.feed.log o.feed.feed.docs ≡ [] ∷ []
-    → names s.fields ≡ fields → s.form ≡ form → (s.number ≡ 0) × (s.queries ≡ 0) × (s.refused ≡ 0) → s.waiting.items ≡ [] → HasServed s (asked fields σ keep form) [] []
+    → dialect_of s.dialect ≡ how → s.form ≡ form → (s.number ≡ 0) × (s.queries ≡ 0) × (s.refused ≡ 0) → s.waiting.items ≡ [] → HasServed s (asked how σ keep form) [] []
 unfolding accepted queries refusals
-served_none s o fields σ keep form office clerk setting keeps empty names_told told counts items =
+served_none s o how σ keep form office clerk setting keeps empty names_told told counts items =
     let taken = taken_none o.feed empty in
     let none : docs_of s.office ≡ [] = ap docs_of office ∙ taken.0 in
     let staffed : IsStaffed o = record {
@@ -45,7 +45,7 @@ served_none s o fields σ keep form office clerk setting keeps empty names_told 
       staffed = subst (λ (x : Office). IsStaffed x) (sym office) staffed;
       setting = ap (λ (x : Office). x.feed.setting) office ∙ setting;
       keep = ap (λ (x : Office). x.feed.keep) office ∙ keeps;
-      fields = names_told;
+      dialect = names_told;
       form = told;
       done = [];
       ahead = [];
@@ -62,8 +62,8 @@ served_none s o fields σ keep form office clerk setting keeps empty names_told 
       above = subst (IsAboveEach (s.number + 1)) (sym put) (All-nil _);
       least = λ j e. (let no : ⊥ = cc (get_behind [] j (omega arith), e) in absurd no);
       most = λ j. omega arith;
-      waiting = subst (λ (xs : List Waiting). AreWaiting (asked fields σ keep form) (docs_of s.office) 0 [] xs) (sym items) tt;
-      printed = sym (body_none (asked fields σ keep form) (λ j. 0) (docs_of s.office) 0);
+      waiting = subst (λ (xs : List Waiting). AreWaiting (asked how σ keep form) (docs_of s.office) 0 [] xs) (sym items) tt;
+      printed = sym (body_none (asked how σ keep form) (λ j. 0) (docs_of s.office) 0);
     }
 
 pub body_none_given : (a : Asked) → IsFeedBody a [] []

@@ -40,7 +40,7 @@ pub served_ends : (s : Serving) (t0 t1 : List ℕ) (documents keeps : ℕ) (a : 
     → t1 ≡ t0 ++ summary_with s.form documents s.queries s.refused (Kept keeps) → documents ≡ counted (docs_of s.office)
     → keeps ≡ counted (stretch_of s.office.feed.feed.held s.office.feed.feed.log s.office.feed.feed.docs) → s.office.feed.feed.held ≡ min s.office.feed.keep (length s.office.feed.feed.log)
     → s.waiting.items ≡ [] → HasServed s a given so_far
-    → Finishes HasServed IsFeedText (λ x. HasRefusal x.fields) (λ x. HasNoRefusal x.fields) s t0 t1 s.refused a given so_far
+    → Finishes HasServed IsFeedText (λ x. HasRefusal x.dialect) (λ x. HasNoRefusal x.dialect) s t0 t1 s.refused a given so_far
 served_ends s t0 t1 documents keeps a given so_far put count held most none h =
     let rs = h.done ++ h.ahead in
     let docs = docs_of s.office in

@@ -1,4 +1,5 @@
 -- No line is refused as full.
+use Rattle.eb_fields.specs.Dialect.{Dialect}
 use Rattle.std.proofs.Common.{◌≡◌, ℕ, zero, suc, List, [], ◌∷◌, subst}
 use Rattle.std.specs.Prelude.{Result, Ok, Err}
 use Rattle.eb_base.specs.Document.{Doc}
@@ -27,19 +28,19 @@ of_outcome (bad_query column) e = cc
 of_outcome too_deep e = cc
 of_outcome too_many_nodes e = cc
 
-by_kind : (names : List (List ℕ)) (k : Kind) (bytes : List ℕ) → ReadsByKind names k bytes (refused Full) → ⊥
-by_kind names blank_line bytes e = cc
-by_kind names document_line bytes e = of_document (document_with names bytes) e
-by_kind names query_line bytes e = of_outcome e.0 e.2
-by_kind names bad_line bytes e = cc
+by_kind : (how : Dialect) (k : Kind) (bytes : List ℕ) → ReadsByKind how k bytes (refused Full) → ⊥
+by_kind how blank_line bytes e = cc
+by_kind how document_line bytes e = of_document (document_with how bytes) e
+by_kind how query_line bytes e = of_outcome e.0 e.2
+by_kind how bad_line bytes e = cc
 
-by_line : (names : List (List ℕ)) (l : Line) → Reads names l (refused Full) → ⊥
-by_line names (line bytes) e = by_kind names (kind_of bytes) bytes e
-by_line names long_line e = cc
+by_line : (how : Dialect) (l : Line) → Reads how l (refused Full) → ⊥
+by_line how (line bytes) e = by_kind how (kind_of bytes) bytes e
+by_line how long_line e = cc
 
 pub none_is_full : NoneIsFull
-none_is_full names [] [] h j e = cc
-none_is_full names [] (r ∷ rs) h j e = absurd h
-none_is_full names (l ∷ ls) [] h j e = absurd h
-none_is_full names (l ∷ ls) (r ∷ rs) h zero e = let is : r ≡ refused Full = cc in by_line names l (subst (Reads names l) is h.0)
-none_is_full names (l ∷ ls) (r ∷ rs) h (suc j) e = none_is_full names ls rs h.1 j e
+none_is_full how [] [] h j e = cc
+none_is_full how [] (r ∷ rs) h j e = absurd h
+none_is_full how (l ∷ ls) [] h j e = absurd h
+none_is_full how (l ∷ ls) (r ∷ rs) h zero e = let is : r ≡ refused Full = cc in by_line how l (subst (Reads how l) is h.0)
+none_is_full how (l ∷ ls) (r ∷ rs) h (suc j) e = none_is_full how ls rs h.1 j e

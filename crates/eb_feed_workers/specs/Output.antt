@@ -1,4 +1,5 @@
 -- What a feed with workers prints for the lines of an input.
+use Rattle.eb_fields.specs.Dialect.{Dialect}
 use Rattle.std.specs.Prelude.{◌≡◌, ℕ, ◌+◌, ◌<◌, ◌≤◌, List, [], ◌∷◌, ◌++◌, length, take, Option}
 use Rattle.std.specs.List.{AllZip}
 use Rattle.eb_base.specs.Document.{Doc}
@@ -16,27 +17,27 @@ use Rattle.eb_lines.specs.Reads.{Reads}
 use Rattle.eb_lines.specs.Text.{answer_line, refusal_line, summary_with}
 use Rattle.eb_indexed.specs.Sees.{IsAsked}
 
--- the names of the fields by which lines are read, the setting of an index and how many generations of it are kept, and how what is
+-- how lines are read, the setting of an index and how many generations of it are kept, and how what is
 -- printed is written
 pub record Asked : Type 0 where
-  pub fields : List (List ℕ)
+  pub dialect : Dialect
   pub setting : Setting
   pub keep : ℕ
   pub form : Form
 
-abbrev pub asked : List (List ℕ) → Setting → ℕ → Form → Asked
-asked names σ keep form = record { fields = names; setting = σ; keep = keep; form = form }
+abbrev pub asked : Dialect → Setting → ℕ → Form → Asked
+asked how σ keep form = record { dialect = how; setting = σ; keep = keep; form = form }
 
 -- the lines are read one by one as these; no document is refused as full
-abbrev pub AreRead : List (List ℕ) → List Line → List Reading → Type 0
-AreRead names lines rs = AllZip (Reads names) lines rs
+abbrev pub AreRead : Dialect → List Line → List Reading → Type 0
+AreRead how lines rs = AllZip (Reads how) lines rs
 
 -- some line is refused; none is
-abbrev pub HasRefusal : List (List ℕ) → List Line → Type 0
-HasRefusal names lines = (rs : List Reading) × AreRead names lines rs × (0 < refusals rs)
+abbrev pub HasRefusal : Dialect → List Line → Type 0
+HasRefusal how lines = (rs : List Reading) × AreRead how lines rs × (0 < refusals rs)
 
-abbrev pub HasNoRefusal : List (List ℕ) → List Line → Type 0
-HasNoRefusal names lines = (rs : List Reading) × AreRead names lines rs × (refusals rs ≡ 0)
+abbrev pub HasNoRefusal : Dialect → List Line → Type 0
+HasNoRefusal how lines = (rs : List Reading) × AreRead how lines rs × (refusals rs ≡ 0)
 
 -- each query sees at least the documents accepted before its line, and no more than all
 pub record SeesTold (rs : List Reading) (n : ℕ → ℕ) : Type 0 where
@@ -68,7 +69,7 @@ end_of a rs = summary_with a.form (length (accepted rs)) (queries rs) (refusals 
 pub record IsFeedBody (a : Asked) (lines : List Line) (printed : List ℕ) : Type 0 where
   pub readings : List Reading
   pub numbers : ℕ → ℕ
-  pub read : AreRead a.fields lines readings
+  pub read : AreRead a.dialect lines readings
   pub sees : SeesTold readings numbers
   pub bytes : printed ≡ body a numbers readings
 
@@ -76,14 +77,14 @@ pub record IsFeedBody (a : Asked) (lines : List Line) (printed : List ℕ) : Typ
 pub record IsFeedText (a : Asked) (lines : List Line) (printed : List ℕ) : Type 0 where
   pub readings : List Reading
   pub numbers : ℕ → ℕ
-  pub read : AreRead a.fields lines readings
+  pub read : AreRead a.dialect lines readings
   pub sees : SeesTold readings numbers
   pub bytes : printed ≡ body a numbers readings ++ end_of a readings
 
 -- what a feed with workers that ends so has printed, of an input of these bytes of which this is left
 abbrev pub WroteFeed : Asked → Status → List ℕ → Option (List ℕ) → List ℕ → Type 0
-WroteFeed a = Wrote (IsFeedBody a) (IsFeedText a) (HasRefusal a.fields) (HasNoRefusal a.fields)
+WroteFeed a = Wrote (IsFeedBody a) (IsFeedText a) (HasRefusal a.dialect) (HasNoRefusal a.dialect)
 
 -- what its status says of the input
 abbrev pub MeansFeed : Asked → Status → List ℕ → Option (List ℕ) → Type 0
-MeansFeed a = Means (HasRefusal a.fields) (HasNoRefusal a.fields)
+MeansFeed a = Means (HasRefusal a.dialect) (HasNoRefusal a.dialect)

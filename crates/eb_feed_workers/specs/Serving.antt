@@ -1,6 +1,6 @@
 -- How far a feed with workers has come between two lines.
+use Rattle.eb_fields.specs.Dialect.{dialect_of}
 use Rattle.std.specs.Prelude.{◌≡◌, ℕ, ◌+◌, ◌-◌, ◌^◌, ◌<◌, ◌≤◌, List, [], ◌∷◌, ◌++◌, length}
-use Rattle.eb_fields.specs.Fields.{names}
 use Rattle.eb_io.specs.Lines.{Line}
 use Rattle.eb_lines.specs.Progress.{accepted, queries, refusals, told}
 use Rattle.eb_lines.specs.Reading.{Reading}
@@ -17,12 +17,12 @@ pub record HasServed (s : Serving) (a : Asked) (given : List Line) (so_far : Lis
   pub staffed : IsStaffed s.office
   pub setting : s.office.feed.setting ≡ a.setting
   pub keep : s.office.feed.keep ≡ a.keep
-  pub fields : names s.fields ≡ a.fields
+  pub dialect : dialect_of s.dialect ≡ a.dialect
   pub form : s.form ≡ a.form
   pub done : List Reading
   pub ahead : List Reading
   pub numbers : ℕ → ℕ
-  pub read : AreRead a.fields given (done ++ ahead)
+  pub read : AreRead a.dialect given (done ++ ahead)
   pub documents : docs_of s.office ≡ accepted (done ++ ahead)
   pub number : s.number ≡ length given
   pub queries : s.queries ≡ queries (done ++ ahead)
@@ -42,7 +42,7 @@ pub record IsFurther (old new : Serving) : Type 0 where
   pub keeps : Keeps old.office new.office
   pub feed : new.office.feed ≡ old.office.feed
   pub put : new.office.clerk.put ≡ old.office.clerk.put
-  pub fields : names new.fields ≡ names old.fields
+  pub dialect : dialect_of new.dialect ≡ dialect_of old.dialect
   pub form : new.form ≡ old.form
   pub number : new.number ≡ old.number
   pub queries : new.queries ≡ old.queries
@@ -52,4 +52,4 @@ pub record IsFurther (old new : Serving) : Type 0 where
 
 -- a line of this reading was taken, and waits; nothing was printed
 abbrev pub TakesLine : Serving → Serving → Reading → Type 0
-TakesLine old new r = (a : Asked) (given : List Line) (so_far : List ℕ) (l : Line) → HasServed old a given so_far → Reads a.fields l r → HasServed new a (given ++ l ∷ []) so_far
+TakesLine old new r = (a : Asked) (given : List Line) (so_far : List ℕ) (l : Line) → HasServed old a given so_far → Reads a.dialect l r → HasServed new a (given ++ l ∷ []) so_far

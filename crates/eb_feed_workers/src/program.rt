@@ -29,9 +29,9 @@ impl<R: Wait, G: Gate> LineProgram for FeedProgram<'_, R, G> {
 
     ghost ends_with = { IsFeedText };
 
-    ghost refuses = { λ a. HasRefusal a.fields };
+    ghost refuses = { λ a. HasRefusal a.dialect };
 
-    ghost accepts = { λ a. HasNoRefusal a.fields };
+    ghost accepts = { λ a. HasNoRefusal a.dialect };
 
     ghost settled = { λ p. p.serving.waiting.items ≡ [] };
 

@@ -1,6 +1,6 @@
 //! Workers and the clerk's part run at once.
 ghost use Rattle.std.specs.Prelude.{◌≡◌, ◌≤◌, ◌<◌, ◌++◌, ℕ, List, [], Some, length, All};
-ghost use Rattle.eb_fields.specs.Fields.{names};
+ghost use Rattle.eb_fields.specs.Dialect.{dialect_of};
 ghost use Rattle.eb_io.specs.Faults.{HasRisen};
 ghost use Rattle.eb_io.specs.Lines.{longest_input};
 ghost use Rattle.eb_lines.specs.Outcomes.{IsWorkedOff};
@@ -15,7 +15,7 @@ use crate::program::FeedProgram;
 use crate::serving::Serving;
 use eb_base::{Config, Gate};
 use eb_feed_serve::{Clerk, Desk, Worker, work_all};
-use eb_fields::Fields;
+use eb_fields::Dialect;
 use eb_io::{Sink, Source};
 use eb_lines::{Form, Status, pass_lines};
 use eb_stream::FeedWriter;
@@ -35,7 +35,7 @@ fn pass_and_stop<R: Threads + Wait + Sync, S: Source, K: Sink, G: Gate + Sync>(
     requires { (a : Asked) × HasServed program.serving a [] [] }
     ensures stops { result.1.stops ≡ workers }
     ensures ends { (a : Asked) → HasServed program.entry.serving a [] []
-        → Ends (IsFeedBody a) (IsFeedText a) (HasRefusal a.fields) (HasNoRefusal a.fields) result.0
+        → Ends (IsFeedBody a) (IsFeedText a) (HasRefusal a.dialect) (HasNoRefusal a.dialect) result.0
         (S.left source.old) (S.left source.new) (K.taken out.old) (K.taken out.new) }
     ensures read_fault { result.0 ≡ Status.ReadFault → HasRisen (S.faults source.old) (S.faults source.new) }
     ensures write_fault { result.0 ≡ Status.WriteFault → HasRisen (K.faults out.old) (K.faults out.new) }
@@ -54,7 +54,7 @@ fn serve<'a, R: Threads + Wait + Sync, S: Source, K: Sink, G: Gate + Sync>(
     desk: &'a Desk,
     gate: &'a G,
     side: &mut Option<Side>,
-    fields: Fields<'a>,
+    dialect: Dialect<'a>,
     form: Form,
     config: Config,
     keep: u32,
@@ -64,8 +64,8 @@ fn serve<'a, R: Threads + Wait + Sync, S: Source, K: Sink, G: Gate + Sync>(
 ) -> (Status, Clerk)
     requires { IsNewSide desk.now.queues config keep side.old }
     ensures stops { result.1.stops ≡ workers }
-    ensures ends { let a = asked (names fields.entry) config keep form in
-        Ends (IsFeedBody a) (IsFeedText a) (HasRefusal a.fields) (HasNoRefusal a.fields) result.0
+    ensures ends { let a = asked (dialect_of dialect.entry) config keep form in
+        Ends (IsFeedBody a) (IsFeedText a) (HasRefusal a.dialect) (HasNoRefusal a.dialect) result.0
         (S.left source.old) (S.left source.new) (K.taken out.old) (K.taken out.new) }
     ensures read_fault { result.0 ≡ Status.ReadFault → HasRisen (S.faults source.old) (S.faults source.new) }
     ensures write_fault { result.0 ≡ Status.WriteFault → HasRisen (K.faults out.old) (K.faults out.new) }
@@ -81,7 +81,7 @@ fn serve<'a, R: Threads + Wait + Sync, S: Source, K: Sink, G: Gate + Sync>(
         rt,
         alloc,
         gate,
-        serving: Serving::new(alloc, office, fields, form),
+        serving: Serving::new(alloc, office, dialect, form),
     };
     pass_and_stop(rt, alloc, program, source, out, workers)
 }
@@ -116,7 +116,7 @@ fn serve_beside<R: Threads + Wait + Sync, S: Source, K: Sink, G: Gate + Sync>(
     gate: &G,
     workers: &mut [Worker],
     side: &mut Option<Side>,
-    fields: Fields<'_>,
+    dialect: Dialect<'_>,
     form: Form,
     config: Config,
     keep: u32,
@@ -126,8 +126,8 @@ fn serve_beside<R: Threads + Wait + Sync, S: Source, K: Sink, G: Gate + Sync>(
 ) -> Status
     requires workers { All (λ w. IsWorkerOf desk.now.queues w) workers.old }
     requires side { IsNewSide desk.now.queues config keep side.old }
-    ensures ends { let a = asked (names fields.entry) config keep form in
-        Ends (IsFeedBody a) (IsFeedText a) (HasRefusal a.fields) (HasNoRefusal a.fields) result
+    ensures ends { let a = asked (dialect_of dialect.entry) config keep form in
+        Ends (IsFeedBody a) (IsFeedText a) (HasRefusal a.dialect) (HasNoRefusal a.dialect) result
         (S.left source.old) (S.left source.new) (K.taken out.old) (K.taken out.new) }
     ensures read_fault { result ≡ Status.ReadFault → HasRisen (S.faults source.old) (S.faults source.new) }
     ensures write_fault { result ≡ Status.WriteFault → HasRisen (K.faults out.old) (K.faults out.new) }
@@ -139,14 +139,14 @@ fn serve_beside<R: Threads + Wait + Sync, S: Source, K: Sink, G: Gate + Sync>(
         workers,
         &mut ||
             requires { IsNewSide desk.now.queues config keep side.now }
-            ensures ends { let a = asked (names fields.entry) config keep form in
-                Ends (IsFeedBody a) (IsFeedText a) (HasRefusal a.fields) (HasNoRefusal a.fields) result.0
+            ensures ends { let a = asked (dialect_of dialect.entry) config keep form in
+                Ends (IsFeedBody a) (IsFeedText a) (HasRefusal a.dialect) (HasNoRefusal a.dialect) result.0
                 (S.left source.entry.now) (S.left source.exit.now) (K.taken out.entry.now) (K.taken out.exit.now) }
             ensures read_fault { result.0 ≡ Status.ReadFault → HasRisen (S.faults source.entry.now) (S.faults source.exit.now) }
             ensures write_fault { result.0 ≡ Status.WriteFault → HasRisen (K.faults out.entry.now) (K.faults out.exit.now) }
         {
             serve(
-                rt, alloc, desk, gate, side, fields, form, config, keep, source, out, count,
+                rt, alloc, desk, gate, side, dialect, form, config, keep, source, out, count,
             )
         },
     );
@@ -157,7 +157,7 @@ fn pass_at_desk<R: Threads + Wait + Sync, S: Source, K: Sink, G: Gate + Sync>(
     rt: &R,
     alloc: Global,
     workers: u32,
-    fields: Fields<'_>,
+    dialect: Dialect<'_>,
     form: Form,
     config: Config,
     keep: u32,
@@ -167,8 +167,8 @@ fn pass_at_desk<R: Threads + Wait + Sync, S: Source, K: Sink, G: Gate + Sync>(
 ) -> Status
     requires workers { (1 ≤ workers) × (workers ≤ 16) }
     requires keep { (2 ≤ keep) × (keep ≤ 64) }
-    ensures ends { let a = asked (names fields.entry) config keep form in
-        Ends (IsFeedBody a) (IsFeedText a) (HasRefusal a.fields) (HasNoRefusal a.fields) result
+    ensures ends { let a = asked (dialect_of dialect.entry) config keep form in
+        Ends (IsFeedBody a) (IsFeedText a) (HasRefusal a.dialect) (HasNoRefusal a.dialect) result
         (S.left source.old) (S.left source.new) (K.taken out.old) (K.taken out.new) }
     ensures read_fault { result ≡ Status.ReadFault → HasRisen (S.faults source.old) (S.faults source.new) }
     ensures write_fault { result ≡ Status.WriteFault → HasRisen (K.faults out.old) (K.faults out.new) }
@@ -187,7 +187,7 @@ fn pass_at_desk<R: Threads + Wait + Sync, S: Source, K: Sink, G: Gate + Sync>(
         gate,
         all.as_mut_slice(),
         &mut side,
-        fields,
+        dialect,
         form,
         config,
         keep,
@@ -201,7 +201,7 @@ fn pass_at_desk<R: Threads + Wait + Sync, S: Source, K: Sink, G: Gate + Sync>(
 /// queries beside the one writer of a feed, which keeps so many generations of an index of this setting: document lines
 /// add, query lines ask, and answers and refusals are printed on `out`, each in its line's place, and after them the
 /// summary. A query's answer is over what the feed keeps of a prefix of the accepted documents that holds at least those
-/// before its line. Lines are read with these fields. The form says how what is printed is written.
+/// before its line. Lines are read by this dialect. The form says how what is printed is written.
 ///
 /// At most 512 queries are unanswered and 4,096 lines unprinted at once: where one of these numbers is reached, and at the
 /// end of the lines, the clerk waits for answers, or answers a query itself. The call may wait, and its promise holds if its
@@ -210,7 +210,7 @@ pub fn run_feed_workers<R, S, K, G>(
     rt: &R,
     alloc: Global,
     workers: u32,
-    fields: Fields<'_>,
+    dialect: Dialect<'_>,
     form: Form,
     config: Config,
     keep: u32,
@@ -225,16 +225,16 @@ where
     G: Gate + Sync,
     requires workers { (1 ≤ workers) × (workers ≤ 16) }
     requires keep { (2 ≤ keep) × (keep ≤ 64) }
-    ensures ends { let a = asked (names fields.entry) config keep form in
-        Ends (IsFeedBody a) (IsFeedText a) (HasRefusal a.fields) (HasNoRefusal a.fields) result
+    ensures ends { let a = asked (dialect_of dialect.entry) config keep form in
+        Ends (IsFeedBody a) (IsFeedText a) (HasRefusal a.dialect) (HasNoRefusal a.dialect) result
         (S.left source.old) (S.left source.new) (K.taken out.old) (K.taken out.new) }
     // Where source and `out` tell their bytes, `out` took what the status says, of the lines of the input.
     ensures output { (bytes before : List ℕ) → S.left source.old ≡ Some bytes → K.taken out.old ≡ Some before
         → (printed : List ℕ) × (K.taken out.new ≡ Some (before ++ printed))
-        × WroteFeed (asked (names fields.entry) config keep form) result bytes (S.left source.new) printed }
+        × WroteFeed (asked (dialect_of dialect.entry) config keep form) result bytes (S.left source.new) printed }
     // What the status says of the input holds whatever becomes of the output.
     ensures means { (bytes : List ℕ) → S.left source.old ≡ Some bytes
-        → MeansFeed (asked (names fields.entry) config keep form) result bytes (S.left source.new) }
+        → MeansFeed (asked (dialect_of dialect.entry) config keep form) result bytes (S.left source.new) }
     // Faults come only from outside.
     ensures read_fault { result ≡ Status.ReadFault → HasRisen (S.faults source.old) (S.faults source.new) }
     ensures write_fault { result ≡ Status.WriteFault → HasRisen (K.faults out.old) (K.faults out.new) }
@@ -243,6 +243,6 @@ where
         → (bytes : List ℕ) → S.left source.old ≡ Some bytes → length bytes < longest_input → IsWorkedOff result }
 {
     pass_at_desk(
-        rt, alloc, workers, fields, form, config, keep, source, out, gate,
+        rt, alloc, workers, dialect, form, config, keep, source, out, gate,
     )
 }

@@ -2,7 +2,7 @@
 ghost use Rattle.std.specs.Prelude.{◌≡◌, ◌+◌, ◌<◌, ◌≤◌, ◌^◌, ℕ, List, [], true, IfOk, IfSome, OnErr, OnOk, IsTrue};
 ghost use Rattle.std.specs.VecDeque.{deque_len, deque_capacity};
 ghost use Rattle.eb_cursor.specs.Frames.{query_of, k_of};
-ghost use Rattle.eb_fields.specs.Fields.{names};
+ghost use Rattle.eb_fields.specs.Dialect.{dialect_of};
 ghost use Rattle.eb_io.specs.Lines.{Line, line, long_line};
 ghost use Rattle.eb_lines.specs.Programs.{IsRunning, WorksOn, WorksOnGiven, Finishes};
 ghost use Rattle.eb_lines.specs.Reading.{blank, document as reads_document, query as reads_query, refused as is_refused};
@@ -20,7 +20,7 @@ use crate::waiting::{Waiting, push, replace};
 use eb_base::{Document, Gate, NoMemory, Query};
 use eb_cursor::Frame;
 use eb_feed_serve::{Answer, Clerk};
-use eb_fields::Fields;
+use eb_fields::Dialect;
 use eb_lines::{Form, Refusal, Tail, Work, put_summary, read_line};
 use std::alloc::Global;
 use std::collections::VecDeque;
@@ -38,7 +38,7 @@ const UNPRINTED: usize = 4096;
 #[derive(Drop)]
 pub(crate) struct Serving<'a> {
     pub(crate) office: Office<'a>,
-    pub(crate) fields: Fields<'a>,
+    pub(crate) dialect: Dialect<'a>,
     pub(crate) form: Form,
     pub(crate) number: u64,
     pub(crate) queries: u64,
@@ -52,18 +52,18 @@ impl<'a> Serving<'a> {
     pub(crate) fn new(
         alloc: Global,
         office: Office<'a>,
-        fields: Fields<'a>,
+        dialect: Dialect<'a>,
         form: Form,
     ) -> Serving<'a>
         ensures office { result.office ≡ office.entry }
-        ensures fields { names result.fields ≡ names fields.entry }
+        ensures dialect { dialect_of result.dialect ≡ dialect_of dialect.entry }
         ensures form { result.form ≡ form }
         ensures number { (result.number ≡ 0) × (result.queries ≡ 0) × (result.refused ≡ 0) }
         ensures waiting { result.waiting.items ≡ [] }
     {
         Serving {
             office,
-            fields,
+            dialect,
             form,
             number: 0,
             queries: 0,
@@ -340,7 +340,7 @@ impl<'a> Serving<'a> {
         ensures err { OnErr result (WorksOn HasServed self.old self.new text.old.items text.new.items) }
     {
         self.make_room(rt, gate, text)?;
-        let work = read_line(alloc, self.fields, bytes)?;
+        let work = read_line(alloc, self.dialect, bytes)?;
         self.take_work(rt, alloc, work, gate)
     }
 
@@ -381,7 +381,7 @@ impl<'a> Serving<'a> {
         requires running { IsRunning HasServed self.now }
         requires settled { self.now.waiting.items ≡ [] }
         ensures ok { IfOk result (λ refused. (a : Asked) (given : List Line) (so_far : List ℕ) → HasServed self.now a given so_far
-            → Finishes HasServed IsFeedText (λ x. HasRefusal x.fields) (λ x. HasNoRefusal x.fields)
+            → Finishes HasServed IsFeedText (λ x. HasRefusal x.dialect) (λ x. HasNoRefusal x.dialect)
             self.now text.old.items text.new.items refused a given so_far) }
         ensures err { OnErr result (text.new.items ≡ text.old.items) }
     {

@@ -126,8 +126,8 @@ fn setting_of(head: &[u8]) -> Option<Config>
 /// Reads the head of an image, exactly its 20 bytes, and answers the setting and the reader of what comes after it.
 ///
 /// `BadImage` exactly where the bytes that were taken begin no head of an allowed setting, or the source ended before a
-/// whole one: it is told as soon as they begin none. After a fault the bytes taken are gone from the source. Takes no
-/// memory.
+/// whole one. That it is told as soon as they begin none is no clause. After a fault the bytes taken are gone from the
+/// source. Takes no memory.
 pub fn read_head<S: Source>(source: &mut S) -> Result<(Config, ImageReader), HeadFault>
     // the bytes taken are the head of the setting, which is allowed
     ensures ok { IfOk result (λ read. IsSetting read.0 × (S.left source.old ≡ after (head_of read.0) (S.left source.new))) }

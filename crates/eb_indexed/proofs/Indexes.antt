@@ -1,4 +1,5 @@
 -- An index before the first line.
+use Rattle.eb_fields.specs.Dialect.{Dialect}
 use Rattle.std.proofs.Common.{◌≡◌, ℕ, List, ap, sym}
 use Rattle.eb_base.specs.Document.{Doc}
 use Rattle.eb_base.specs.Setting.{Setting}
@@ -7,5 +8,5 @@ use Rattle.eb_indexed.specs.declared.indexed.Indexed.{Indexed}
 use Rattle.eb_indexed.specs.Indexed.{Holds, IsIndexed}
 use Rattle.eb_indexed.specs.IndexRules.{index_rules}
 
-pub indexed_none : (s : Indexed) (fields : List (List ℕ)) (σ : Setting) (form : Form) (docs : List Doc) → Holds s σ docs → s.form ≡ form → IsIndexed s (index_rules fields σ form docs) docs tt
-indexed_none s fields σ form docs h e = record { fields = fields; setting = σ; start = docs; by_rules = ap (λ b. index_rules fields σ b docs) (sym e); holds = h }
+pub indexed_none : (s : Indexed) (how : Dialect) (σ : Setting) (form : Form) (docs : List Doc) → Holds s σ docs → s.form ≡ form → IsIndexed s (index_rules how σ form docs) docs tt
+indexed_none s how σ form docs h e = record { dialect = how; setting = σ; start = docs; by_rules = ap (λ b. index_rules how σ b docs) (sym e); holds = h }

@@ -1,4 +1,5 @@
 -- The rules of an index.
+use Rattle.eb_fields.specs.Dialect.{Dialect}
 use Rattle.std.specs.Prelude.{ℕ, List, length, Option, None, Some, if◌then◌else◌}
 use Rattle.eb_answer.specs.Rules.{Rules, plain_rules}
 use Rattle.eb_base.specs.Document.{Doc}
@@ -24,5 +25,5 @@ segments_tail form begun converted = if form.stats then Segments begun converted
 abbrev pub index_tail : Setting → Form → List Doc → Tail
 index_tail σ form docs = segments_tail form (length (cut σ docs)) (most_converted (length (cut σ docs)))
 
-abbrev pub index_rules : List (List ℕ) → Setting → Form → List Doc → Rules (Unit {0})
-index_rules names σ form start = plain_rules names start (refusal_in σ) (λ docs. docs) form (index_tail σ form)
+abbrev pub index_rules : Dialect → Setting → Form → List Doc → Rules (Unit {0})
+index_rules how σ form start = plain_rules how start (refusal_in σ) (λ docs. docs) form (index_tail σ form)

@@ -1,4 +1,5 @@
 -- What an index holds that lines fill.
+use Rattle.eb_fields.specs.Dialect.{Dialect}
 use Rattle.std.specs.Prelude.{◌≡◌, ℕ, Bool, true, false, List, [], ◌∷◌, ◌++◌}
 use Rattle.eb_answer.specs.Rules.{Rules}
 use Rattle.eb_base.specs.Document.{Doc}
@@ -23,10 +24,10 @@ pub record Holds (s : Indexed) (σ : Setting) (docs : List Doc) : Type 0 where
 
 -- it goes by the rules of an index that held some of them at first
 pub record IsIndexed (s : Indexed) (rules : Rules (Unit {0})) (docs : List Doc) (none : Unit {0}) : Type 0 where
-  pub fields : List (List ℕ)
+  pub dialect : Dialect
   pub setting : Setting
   pub start : List Doc
-  pub by_rules : rules ≡ index_rules fields setting s.form start
+  pub by_rules : rules ≡ index_rules dialect setting s.form start
   pub holds : Holds s setting docs
 
 -- a document after these was placed, or there was no room for it and they are all

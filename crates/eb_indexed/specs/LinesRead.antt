@@ -1,4 +1,5 @@
 -- What the lines of an input come to in an index of a setting, and whether any of them is refused.
+use Rattle.eb_fields.specs.Dialect.{Dialect}
 use Rattle.std.specs.Prelude.{◌≡◌, ℕ, ◌<◌, List, []}
 use Rattle.std.specs.List.{AllZip}
 use Rattle.eb_base.specs.Document.{Doc}
@@ -17,9 +18,9 @@ ComeTo reads comes lines rs = (raw : List Reading) × AllZip reads lines raw × 
 abbrev pub AreReadBehind : (Line → Reading → Type 0) → Setting → List Doc → List Line → List Reading → Type 0
 AreReadBehind reads σ docs = ComeTo reads (admitted_from σ docs)
 
--- they come to these in an empty index, where they are read by the names of the fields
-abbrev pub AreRead : List (List ℕ) → Setting → List Line → List Reading → Type 0
-AreRead names σ = AreReadBehind (Reads names) σ []
+-- they come to these in an empty index, where they are read by this dialect
+abbrev pub AreRead : Dialect → Setting → List Line → List Reading → Type 0
+AreRead how σ = AreReadBehind (Reads how) σ []
 
 -- of lines that come to readings in this way some is refused; none is
 abbrev pub SomeRefused : (List Line → List Reading → Type 0) → List Line → Type 0
@@ -28,8 +29,8 @@ SomeRefused come lines = (rs : List Reading) × come lines rs × (0 < refusals r
 abbrev pub NoneRefused : (List Line → List Reading → Type 0) → List Line → Type 0
 NoneRefused come lines = (rs : List Reading) × come lines rs × (refusals rs ≡ 0)
 
-abbrev pub HasRefusal : List (List ℕ) → Setting → List Line → Type 0
-HasRefusal names σ = SomeRefused (AreRead names σ)
+abbrev pub HasRefusal : Dialect → Setting → List Line → Type 0
+HasRefusal how σ = SomeRefused (AreRead how σ)
 
-abbrev pub HasNoRefusal : List (List ℕ) → Setting → List Line → Type 0
-HasNoRefusal names σ = NoneRefused (AreRead names σ)
+abbrev pub HasNoRefusal : Dialect → Setting → List Line → Type 0
+HasNoRefusal how σ = NoneRefused (AreRead how σ)

@@ -5,18 +5,21 @@ ghost use Rattle.eb_base.specs.Setting.{Setting};
 ghost use Rattle.eb_indexed.specs.Indexed.{Holds, WithPlaced};
 ghost use Rattle.eb_indexed.specs.IndexRules.{index_tail};
 ghost use Rattle.eb_base.specs.Match.{answer};
-ghost use Rattle.eb_cursor.specs.Frames.{query_of, k_of, ids_of};
+ghost use Rattle.eb_count.specs.Tallies.{AreCounts};
+ghost use Rattle.eb_cursor.specs.Frames.{query_of, k_of, ids_of, SeenAs};
 
 use crate::converting::{catch_up, close};
+use crate::counting::count_all;
 use crate::ending::tell_segments;
 use crate::searching::search_all;
 use crate::spare::Spare;
 use eb_answer::Store;
 use eb_base::{Config, Document, Gate, NoMemory, Query};
 use eb_bloom::Filters;
+use eb_count::Tally;
 use eb_cursor::Frame;
 use eb_engine::{Converter, Index, Writer};
-use eb_fields::Fields;
+use eb_fields::Dialect;
 use eb_lines::{Form, Refusal, Tail, line_room, put_answer};
 use eb_writer::Full;
 use std::alloc::Global;
@@ -102,6 +105,29 @@ impl Indexed {
         search_all(&self.index, &self.filters, &mut self.writer, frame, gate)
     }
 
+    /// Clears the tally, counts in it all matches among all documents, and gives the number of documents. The frame stays as
+    /// it is. Takes no memory.
+    pub fn count<G: Gate>(&mut self, frame: &mut Frame, tally: &mut Tally, gate: &G) -> u64
+        requires { (σ : Setting) × (docs : List Doc) × Holds self.old σ docs }
+        ensures same { self.new ≡ self.old }
+        ensures count { (σ : Setting) (docs : List Doc) → Holds self.old σ docs → result ≡ length docs }
+        ensures seen { SeenAs frame.old frame.new }
+        ensures start { tally.new.start ≡ tally.old.start }
+        ensures width { tally.new.width ≡ tally.old.width }
+        ensures number { length tally.new.buckets ≡ length tally.old.buckets }
+        ensures counts { (σ : Setting) (docs : List Doc) → Holds self.old σ docs → AreCounts (query_of frame.old) docs tally.new }
+    {
+        tally.clear();
+        count_all(
+            &self.index,
+            &self.filters,
+            &mut self.writer,
+            frame,
+            tally,
+            gate,
+        )
+    }
+
     /// The number of documents.
     pub fn accepted(&self) -> u64
         ensures { (σ : Setting) (docs : List Doc) → Holds self.now σ docs → result ≡ length docs }
@@ -151,7 +177,7 @@ impl Store for Indexed {
     fn take_other(
         &mut self,
         _alloc: Global,
-        _fields: Fields<'_>,
+        _fields: Dialect<'_>,
         _bytes: &[u8],
     ) -> Result<Option<Refusal>, NoMemory> {
         Ok(Some(Refusal::BadLine))

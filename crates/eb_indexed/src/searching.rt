@@ -3,7 +3,7 @@ ghost use Rattle.eb_base.specs.Match.{answer};
 ghost use Rattle.eb_bloom.specs.Covers.{Covers};
 ghost use Rattle.eb_cursor.specs.Frames.{query_of, k_of, ids_of};
 
-use eb_base::{Gate, Query};
+use eb_base::Gate;
 use eb_bloom::Filters;
 use eb_cursor::Frame;
 use eb_engine::{Index, Writer};
@@ -28,17 +28,14 @@ fn search_with<G: Gate, L: Ledger>(
     ensures few { length (ids_of frame.new) ≤ k_of frame.old }
 {
     let mut steps = Steps::<L>::new(blank);
-    let Query::Word(term) = frame.query() else {
-        return writer.search(index, frame, gate, &mut steps);
-    };
-    let likely = filters.likely(term, writer.segments());
+    let likely = filters.likely(frame.query(), writer.segments());
     writer.search_likely(index, frame, gate, &likely, &mut steps)
 }
 
 /// Searches the whole history of an index, by its writer, where nobody asks how many loads it took: puts the ids of
-/// the newest `k` matches into the frame, newest first, and gives the number of documents. A single word is looked for
-/// in those segments alone in whose filter it is noted. The writer must have been made with this index, of which the
-/// filters cover the history, and stays as it is. Takes no memory.
+/// the newest `k` matches into the frame, newest first, and gives the number of documents. To spare loads, segments in
+/// which the query can't match by the terms that are noted in their filters aren't searched; no clause says so. The writer
+/// must have been made with this index, of which the filters cover the history, and stays as it is. Takes no memory.
 pub fn search_all<G: Gate>(
     index: &Index,
     filters: &Filters,

@@ -10,8 +10,9 @@ use Rattle.eb_lines.specs.declared.refusal.Refusal.{Refusal}
 use Rattle.eb_lines.specs.declared.refusal.Refusal.TheVariants.{BadLine, LongLine, BadJson, BadDocument, TooLong}
 use Rattle.eb_lines.specs.declared.refusal.Refusal.TheVariants.{NotRising, Full, BadNumber, BadQuery, QueryTooLarge, QueryTooDeep, NoWatch, WatchTaken, WatchesFull}
 use Rattle.eb_lines.specs.Words.{parted}
-use Rattle.eb_lines.specs.Values.{json_line, numbers, answer_value, watch_value, cause, beside_cause, refusal_value, kept_member, generations_value, summary_value, segments_lines}
-use Rattle.eb_lines.specs.JsonTexts.{listed, answer_text, watch_text, cause_text, refusal_text, segments_text, tail_text, summary_text}
+use Rattle.eb_lines.specs.Values.{json_line, numbers, answer_value, buckets_member, count_value, watch_value, cause, beside_cause, refusal_value, kept_member, generations_value}
+use Rattle.eb_lines.specs.Values.{summary_value, segments_lines}
+use Rattle.eb_lines.specs.JsonTexts.{listed, answer_text, buckets_text, count_text, watch_text, cause_text, refusal_text, segments_text, tail_text, summary_text}
 
 -- ---- numbers with commas
 
@@ -51,6 +52,25 @@ answer_json number seen ids =
     flat ∙ sym (before (codes "{\"line\":") (decimal number) (codes ",\"seen\":" ++ (decimal seen ++ list_text (codes ",\"ids\":[") ids))
     (codes ",\"seen\":" ++ (decimal seen ++ list_end (codes ",\"ids\":[") ids))
     (before (codes ",\"seen\":") (decimal seen) (list_text (codes ",\"ids\":[") ids) (list_end (codes ",\"ids\":[") ids) (before_list (codes ",\"ids\":[") ids)))
+
+buckets_json : (bs : List ℕ) → members_text true (buckets_member bs) ++ 10 ∷ [] ≡ buckets_text bs
+unfolding escape_byte
+buckets_json [] = refl
+buckets_json (b ∷ bs) = before_list (codes ",\"buckets\":[") (b ∷ bs)
+
+pub count_json : (number seen total : ℕ) (bs : List ℕ) → count_text number seen total bs ≡ json_line (count_value number seen total bs)
+unfolding escape_byte
+count_json number seen total bs =
+    let rest : List ℕ = members_text true (buckets_member bs) in
+    let flat : count_text number seen total bs ≡ codes "{\"line\":" ++ (decimal number ++ (codes ",\"seen\":" ++ (decimal seen ++ (codes ",\"count\":" ++ (decimal total ++ buckets_text bs))))) =
+    right (codes "{\"line\":") (decimal number) (codes ",\"seen\":") (decimal seen) (codes ",\"count\":") (decimal total) (buckets_text bs) in
+    flat ∙ sym (before (codes "{\"line\":") (decimal number) (codes ",\"seen\":" ++ (decimal seen ++ (codes ",\"count\":" ++ (decimal total ++ rest))))
+    (codes ",\"seen\":" ++ (decimal seen ++ (codes ",\"count\":" ++ (decimal total ++ buckets_text bs))))
+    (before (codes ",\"seen\":") (decimal seen) (codes ",\"count\":" ++ (decimal total ++ rest)) (codes ",\"count\":" ++ (decimal total ++ buckets_text bs))
+    (before (codes ",\"count\":") (decimal total) rest (buckets_text bs) (buckets_json bs))))
+  where
+    right : (a b c d e f g : List ℕ) → (((((a ++ b) ++ c) ++ d) ++ e) ++ f) ++ g ≡ a ++ (b ++ (c ++ (d ++ (e ++ (f ++ g)))))
+    right a b c d e f g = simp append_assoc
 
 pub watch_json : (number : ℕ) (ns : List ℕ) → watch_text number ns ≡ json_line (watch_value number ns)
 unfolding escape_byte

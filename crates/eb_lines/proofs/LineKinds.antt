@@ -1,4 +1,5 @@
 -- The kind of a line that begins with a question mark, and how a line is read by its kind.
+use Rattle.eb_fields.specs.Dialect.{Dialect}
 use Rattle.std.proofs.Common.{◌≡◌, ℕ, List, [], ◌∷◌, Some, refl, sym, ap, subst, ◌∙◌}
 use Rattle.std.specs.Prelude.{slice_get, IsUtf8, if◌then◌else◌}
 use Rattle.std.specs.Str.{is_utf8}
@@ -25,5 +26,5 @@ kind_bad (b ∷ bs) e other =
     by_test b bs first ∙ ap (λ t. if t then query_line else bad_line) (false_from_ne_true _ (λ h. other (IsUtf8-from_is_utf8 (b ∷ bs) h)))
 
 -- a line is read by its kind
-pub reads_as : (names : List (List ℕ)) (bytes : List ℕ) (k : Kind) (r : Reading) → kind_of bytes ≡ k → ReadsByKind names k bytes r → Reads names (line bytes) r
-reads_as names bytes k r is h = subst (λ (x : Kind). ReadsByKind names x bytes r) (sym is) h
+pub reads_as : (how : Dialect) (bytes : List ℕ) (k : Kind) (r : Reading) → kind_of bytes ≡ k → ReadsByKind how k bytes r → Reads how (line bytes) r
+reads_as how bytes k r is h = subst (λ (x : Kind). ReadsByKind how x bytes r) (sym is) h

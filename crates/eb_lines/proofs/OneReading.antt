@@ -1,4 +1,5 @@
 -- Each line has one reading, and lines are read one by one.
+use Rattle.eb_fields.specs.Dialect.{Dialect}
 use Rattle.std.proofs.Common.{◌≡◌, ℕ, List, [], ◌∷◌, ◌++◌, refl, sym, ap, ap₂, ◌∙◌}
 use Rattle.std.specs.Prelude.{Result, Ok, Err}
 use Rattle.std.specs.List.{AllZip}
@@ -24,18 +25,18 @@ one_document (Err fault.BadDocument) a b e f = e ∙ sym f
 one_document (Err fault.TooLong) a b e f = e ∙ sym f
 one_document (Err fault.NoMemory) a b e f = absurd e
 
-module _ (names : List (List ℕ)) where
-  pub one_by_kind : (k : Kind) (bytes : List ℕ) (a b : Reading) → ReadsByKind names k bytes a → ReadsByKind names k bytes b → a ≡ b
+module _ (how : Dialect) where
+  pub one_by_kind : (k : Kind) (bytes : List ℕ) (a b : Reading) → ReadsByKind how k bytes a → ReadsByKind how k bytes b → a ≡ b
   one_by_kind blank_line bytes a b e f = e ∙ sym f
-  one_by_kind document_line bytes a b e f = one_document (document_with names bytes) a b e f
-  one_by_kind query_line bytes a b e f = e.2 ∙ ap of_query (one_outcome names bytes e.0 f.0 e.1 f.1) ∙ sym f.2
+  one_by_kind document_line bytes a b e f = one_document (document_with how bytes) a b e f
+  one_by_kind query_line bytes a b e f = e.2 ∙ ap of_query (one_outcome how bytes e.0 f.0 e.1 f.1) ∙ sym f.2
   one_by_kind bad_line bytes a b e f = e ∙ sym f
 
-  pub one_reading : (l : Line) (a b : Reading) → Reads names l a → Reads names l b → a ≡ b
+  pub one_reading : (l : Line) (a b : Reading) → Reads how l a → Reads how l b → a ≡ b
   one_reading (line bytes) a b e f = one_by_kind (kind_of bytes) bytes a b e f
   one_reading long_line a b e f = e ∙ sym f
 
-  pub raw_same : (ls : List Line) (rs ss : List Reading) → AllZip (Reads names) ls rs → AllZip (Reads names) ls ss → rs ≡ ss
+  pub raw_same : (ls : List Line) (rs ss : List Reading) → AllZip (Reads how) ls rs → AllZip (Reads how) ls ss → rs ≡ ss
   raw_same [] [] [] e f = refl
   raw_same [] [] (s ∷ ss) e f = absurd f
   raw_same [] (r ∷ rs) ss e f = absurd e
@@ -52,18 +53,18 @@ some_document (Err fault.BadDocument) h = (refused BadDocument, refl)
 some_document (Err fault.TooLong) h = (refused TooLong, refl)
 some_document (Err fault.NoMemory) h = absurd (h refl)
 
-module _ (names : List (List ℕ)) where
-  pub some_by_kind : (k : Kind) (bytes : List ℕ) → (r : Reading) × ReadsByKind names k bytes r
+module _ (how : Dialect) where
+  pub some_by_kind : (k : Kind) (bytes : List ℕ) → (r : Reading) × ReadsByKind how k bytes r
   some_by_kind blank_line bytes = (blank, refl)
-  some_by_kind document_line bytes = some_document (document_with names bytes) (document_with-no_memory names bytes)
-  some_by_kind query_line bytes = let o = some_outcome names bytes in (of_query o.0, (o.0, o.1, refl))
+  some_by_kind document_line bytes = some_document (document_with how bytes) (document_with-no_memory how bytes)
+  some_by_kind query_line bytes = let o = some_outcome how bytes in (of_query o.0, (o.0, o.1, refl))
   some_by_kind bad_line bytes = (refused BadLine, refl)
 
-  pub some_reading : (l : Line) → (r : Reading) × Reads names l r
+  pub some_reading : (l : Line) → (r : Reading) × Reads how l r
   some_reading (line bytes) = some_by_kind (kind_of bytes) bytes
   some_reading long_line = (refused LongLine, refl)
 
-  pub some_read : (ls : List Line) → (rs : List Reading) × AllZip (Reads names) ls rs
+  pub some_read : (ls : List Line) → (rs : List Reading) × AllZip (Reads how) ls rs
   some_read [] = ([], tt)
   some_read (l ∷ ls) = let r = some_reading l in let rs = some_read ls in (r.0 ∷ rs.0, (r.1, rs.1))
 

@@ -15,6 +15,13 @@ listed (n ∷ ns) = decimal n ++ parted 44 ns
 abbrev pub answer_text : ℕ → ℕ → List ℕ → List ℕ
 answer_text number seen ids = codes "{\"line\":" ++ decimal number ++ codes ",\"seen\":" ++ decimal seen ++ codes ",\"ids\":[" ++ listed ids ++ codes "]}\n"
 
+abbrev pub buckets_text : List ℕ → List ℕ
+buckets_text [] = codes "}\n"
+buckets_text (n ∷ ns) = codes ",\"buckets\":[" ++ (listed (n ∷ ns) ++ codes "]}\n")
+
+abbrev pub count_text : ℕ → ℕ → ℕ → List ℕ → List ℕ
+count_text number seen total buckets = codes "{\"line\":" ++ decimal number ++ codes ",\"seen\":" ++ decimal seen ++ codes ",\"count\":" ++ decimal total ++ buckets_text buckets
+
 abbrev pub watch_text : ℕ → List ℕ → List ℕ
 watch_text number ns = codes "{\"line\":" ++ decimal number ++ codes ",\"watches\":[" ++ listed ns ++ codes "]}\n"
 

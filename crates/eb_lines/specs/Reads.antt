@@ -1,4 +1,5 @@
 -- How a line is read.
+use Rattle.eb_fields.specs.Dialect.{Dialect}
 use Rattle.std.specs.Prelude.{◌≡◌, ℕ, List, Result, Ok, Err}
 use Rattle.eb_base.specs.Document.{Doc}
 use Rattle.eb_io.specs.Lines.{Line, line, long_line}
@@ -26,14 +27,14 @@ of_query (bad_query column) = refused (BadQuery column)
 of_query too_deep = refused QueryTooDeep
 of_query too_many_nodes = refused QueryTooLarge
 
--- by the names of the fields
-abbrev pub ReadsByKind : List (List ℕ) → Kind → List ℕ → Reading → Type 0
-ReadsByKind names blank_line bytes r = r ≡ blank
-ReadsByKind names document_line bytes r = IsOfDocument (document_with names bytes) r
-ReadsByKind names query_line bytes r = (o : Outcome) × ReadsWith names bytes o × (r ≡ of_query o)
-ReadsByKind names bad_line bytes r = r ≡ refused BadLine
+-- by the dialect
+abbrev pub ReadsByKind : Dialect → Kind → List ℕ → Reading → Type 0
+ReadsByKind how blank_line bytes r = r ≡ blank
+ReadsByKind how document_line bytes r = IsOfDocument (document_with how bytes) r
+ReadsByKind how query_line bytes r = (o : Outcome) × ReadsWith how bytes o × (r ≡ of_query o)
+ReadsByKind how bad_line bytes r = r ≡ refused BadLine
 
--- the line is read as this, where fields have these names
-abbrev pub Reads : List (List ℕ) → Line → Reading → Type 0
-Reads names (line bytes) r = ReadsByKind names (kind_of bytes) bytes r
-Reads names long_line r = r ≡ refused LongLine
+-- the line is read as this
+abbrev pub Reads : Dialect → Line → Reading → Type 0
+Reads how (line bytes) r = ReadsByKind how (kind_of bytes) bytes r
+Reads how long_line r = r ≡ refused LongLine

@@ -3,8 +3,8 @@ use Rattle.std.specs.Prelude.{ℕ, ◌+◌, ◌*◌, List, [], ◌∷◌, ◌++�
 use Rattle.eb_lines.specs.declared.form.Form.{Form}
 use Rattle.eb_lines.specs.declared.form.Tail.{Tail}
 use Rattle.eb_lines.specs.declared.refusal.Refusal.{Refusal}
-use Rattle.eb_lines.specs.Words.{answer_words, watch_words, refusal_words, summary_words}
-use Rattle.eb_lines.specs.Values.{json_line, answer_value, watch_value, refusal_value, summary_value, segments_lines}
+use Rattle.eb_lines.specs.Words.{answer_words, count_words, watch_words, refusal_words, summary_words}
+use Rattle.eb_lines.specs.Values.{json_line, answer_value, count_value, watch_value, refusal_value, summary_value, segments_lines}
 
 -- the most bytes of a line that lists so many numbers
 abbrev pub room_of : ℕ → ℕ
@@ -13,6 +13,10 @@ room_of listed = 96 + 21 * listed
 -- the answer to a query in line `number`: how many accepted documents it saw, and the ids
 unfoldable pub answer_line : Form → ℕ → ℕ → List ℕ → List ℕ
 answer_line form number seen ids = if form.json then json_line (answer_value number seen ids) else answer_words number seen ids
+
+-- the count of a query in line `number`: how many accepted documents it saw, how many it matches, and how many of these lie in each bucket
+unfoldable pub count_line : Form → ℕ → ℕ → ℕ → List ℕ → List ℕ
+count_line form number seen total buckets = if form.json then json_line (count_value number seen total buckets) else count_words number seen total buckets
 
 -- the numbers of the watches that the document in line `number` matches, where there are any
 unfoldable pub some_watch_line : Form → ℕ → List ℕ → List ℕ

@@ -23,6 +23,15 @@ numbers (n ∷ ns) = item (number (unsigned n)) (numbers ns)
 abbrev pub answer_value : ℕ → ℕ → List ℕ → Data
 answer_value line seen ids = object (counted (codes "line") line (counted (codes "seen") seen (member (codes "ids") (array (numbers ids)) no_members)))
 
+-- the count of a query in line `line`: how many accepted documents it saw, how many of them it matches, and how many of these lie in each
+-- bucket, where there are any
+abbrev pub buckets_member : List ℕ → Members
+buckets_member [] = no_members
+buckets_member (n ∷ ns) = member (codes "buckets") (array (numbers (n ∷ ns))) no_members
+
+abbrev pub count_value : ℕ → ℕ → ℕ → List ℕ → Data
+count_value line seen total buckets = object (counted (codes "line") line (counted (codes "seen") seen (counted (codes "count") total (buckets_member buckets))))
+
 -- the numbers of the watches that the document in line `line` matches
 abbrev pub watch_value : ℕ → List ℕ → Data
 watch_value line ns = object (counted (codes "line") line (member (codes "watches") (array (numbers ns)) no_members))

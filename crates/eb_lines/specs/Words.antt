@@ -14,6 +14,11 @@ parted part ns = flat_map (λ n. part ∷ decimal n) ns
 abbrev pub answer_words : ℕ → ℕ → List ℕ → List ℕ
 answer_words number seen ids = decimal number ++ codes " seen " ++ decimal seen ++ codes ":" ++ parted 32 ids ++ 10 ∷ []
 
+-- the count of a query in line `number`: how many accepted documents it saw, how many of them it matches, and how many of these lie in
+-- each bucket, where there are any
+abbrev pub count_words : ℕ → ℕ → ℕ → List ℕ → List ℕ
+count_words number seen total buckets = decimal number ++ codes " count " ++ decimal seen ++ codes ": " ++ decimal total ++ parted 32 buckets ++ 10 ∷ []
+
 -- the numbers of the watches that the document in line `number` matches
 abbrev pub watch_words : ℕ → List ℕ → List ℕ
 watch_words number ns = decimal number ++ codes " watch:" ++ parted 32 ns ++ 10 ∷ []

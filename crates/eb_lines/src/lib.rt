@@ -19,7 +19,7 @@ mod writing;
 pub use form::{Form, Tail};
 pub use gathered::{write_gathered, write_much};
 pub use kind::{LineKind, line_kind};
-pub use laws::lines_without_fields;
+pub use laws::lines_in_plain;
 pub use passing::pass_lines;
 pub use program::LineProgram;
 pub use refusal::Refusal;
@@ -27,4 +27,4 @@ pub use status::{MAX_INPUT, Status};
 pub use work::{
     Work, query_refusal, read_document_line, read_document_line_by, read_line, read_query_text,
 };
-pub use writing::{line_room, put_answer, put_refusal, put_summary, put_watches};
+pub use writing::{line_room, put_answer, put_count, put_refusal, put_summary, put_watches};

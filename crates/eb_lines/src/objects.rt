@@ -1,6 +1,6 @@
 //! The lines as JSON.
 ghost use Rattle.std.specs.Prelude.{◌≡◌, ◌+◌, ◌*◌, ◌≤◌, ◌++◌, length, vec_len, vec_capacity};
-ghost use Rattle.eb_lines.specs.JsonTexts.{answer_text, watch_text, cause_text, refusal_text, summary_text, segments_text, tail_text};
+ghost use Rattle.eb_lines.specs.JsonTexts.{answer_text, buckets_text, count_text, watch_text, cause_text, refusal_text, summary_text, segments_text, tail_text};
 
 use crate::form::Tail;
 use crate::pieces::{put, put_id_list, put_number, put_number_list};
@@ -19,6 +19,43 @@ pub(crate) fn put_answer_json(text: &mut Vec<u8>, number: u64, seen: u64, ids: &
     put(text, b",\"ids\":[");
     put_id_list(text, ids);
     put(text, b"]}\n");
+}
+
+// The buckets, where there are any, and the end of the object.
+fn put_buckets(text: &mut Vec<u8>, buckets: &[u64])
+    requires { vec_len text.old + (15 + 21 * length buckets.now) ≤ vec_capacity text.old }
+    ensures text { text.new.items ≡ text.old.items ++ buckets_text buckets.now }
+    ensures len { vec_len text.new ≤ vec_len text.old + (15 + 21 * length buckets.now) }
+    ensures room { vec_capacity text.old ≤ vec_capacity text.new }
+{
+    if buckets.is_empty() {
+        put(text, b"}\n");
+        return;
+    }
+    put(text, b",\"buckets\":[");
+    put_id_list(text, buckets);
+    put(text, b"]}\n");
+}
+
+pub(crate) fn put_count_json(
+    text: &mut Vec<u8>,
+    number: u64,
+    seen: u64,
+    total: u64,
+    buckets: &[u64],
+)
+    requires { vec_len text.old + (117 + 21 * length buckets.now) ≤ vec_capacity text.old }
+    ensures text { text.new.items ≡ text.old.items ++ count_text number seen total buckets.now }
+    ensures len { vec_len text.new ≤ vec_len text.old + (117 + 21 * length buckets.now) }
+    ensures room { vec_capacity text.old ≤ vec_capacity text.new }
+{
+    put(text, b"{\"line\":");
+    put_number(text, number);
+    put(text, b",\"seen\":");
+    put_number(text, seen);
+    put(text, b",\"count\":");
+    put_number(text, total);
+    put_buckets(text, buckets);
 }
 
 pub(crate) fn put_watch_json(text: &mut Vec<u8>, number: u64, watches: &[u32])

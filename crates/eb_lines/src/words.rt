@@ -1,6 +1,6 @@
 //! The lines in words.
 ghost use Rattle.std.specs.Prelude.{◌≡◌, ◌+◌, ◌*◌, ◌≤◌, ◌++◌, length, vec_len, vec_capacity};
-ghost use Rattle.eb_lines.specs.Words.{answer_words, watch_words, refusal_words, refusal_name, summary_words, segments_words, tail_words};
+ghost use Rattle.eb_lines.specs.Words.{answer_words, count_words, watch_words, refusal_words, refusal_name, summary_words, segments_words, tail_words};
 
 use crate::form::Tail;
 use crate::pieces::{put, put_ids, put_number, put_numbers};
@@ -17,6 +17,27 @@ pub(crate) fn put_answer_words(text: &mut Vec<u8>, number: u64, seen: u64, ids: 
     put_number(text, seen);
     put(text, b":");
     put_ids(text, b' ', ids);
+    put(text, b"\n");
+}
+
+pub(crate) fn put_count_words(
+    text: &mut Vec<u8>,
+    number: u64,
+    seen: u64,
+    total: u64,
+    buckets: &[u64],
+)
+    requires { vec_len text.old + (117 + 21 * length buckets.now) ≤ vec_capacity text.old }
+    ensures text { text.new.items ≡ text.old.items ++ count_words number seen total buckets.now }
+    ensures len { vec_len text.new ≤ vec_len text.old + (117 + 21 * length buckets.now) }
+    ensures room { vec_capacity text.old ≤ vec_capacity text.new }
+{
+    put_number(text, number);
+    put(text, b" count ");
+    put_number(text, seen);
+    put(text, b": ");
+    put_number(text, total);
+    put_ids(text, b' ', buckets);
     put(text, b"\n");
 }
 

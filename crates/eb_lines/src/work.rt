@@ -1,6 +1,6 @@
 ghost use Rattle.std.specs.Prelude.{◌≡◌, Some, None, IfOk, OnErr, slice_get};
 ghost use Rattle.eb_doc.specs.WithFields.{document_with};
-ghost use Rattle.eb_fields.specs.Fields.{names};
+ghost use Rattle.eb_fields.specs.Dialect.{dialect_of};
 ghost use Rattle.eb_io.specs.Lines.{line};
 ghost use Rattle.eb_lines.specs.Kinds.{query_line};
 ghost use Rattle.eb_lines.specs.Reads.{IsOfDocument, Reads, ReadsByKind};
@@ -11,7 +11,7 @@ use crate::refusal::Refusal;
 use eb_base::{Document, NoMemory};
 use eb_cursor::Frame;
 use eb_doc::{DocumentReader, LineFault};
-use eb_fields::Fields;
+use eb_fields::Dialect;
 use eb_query::{QueryFault, read_query_with};
 use std::alloc::Global;
 
@@ -28,27 +28,27 @@ pub enum Work {
     Refuse(Refusal),
 }
 
-/// The document of a document line, with these fields, or why the line is refused. Takes the memory of its terms.
+/// The document of a document line by this dialect, or why the line is refused. Takes the memory of its terms.
 pub fn read_document_line(
     alloc: Global,
-    fields: Fields<'_>,
+    dialect: Dialect<'_>,
     bytes: &[u8],
 ) -> Result<Result<Document, Refusal>, NoMemory>
-    ensures { IfOk result (λ read. IsOfDocument (document_with (names fields.entry) bytes.now) (document_reading read)) }
+    ensures { IfOk result (λ read. IsOfDocument (document_with (dialect_of dialect.entry) bytes.now) (document_reading read)) }
 {
     let mut reader = DocumentReader::new(alloc);
-    read_document_line_by(&mut reader, fields, bytes)
+    read_document_line_by(&mut reader, dialect, bytes)
 }
 
 /// The same by a reader that is kept from line to line.
 pub fn read_document_line_by(
     reader: &mut DocumentReader,
-    fields: Fields<'_>,
+    dialect: Dialect<'_>,
     bytes: &[u8],
 ) -> Result<Result<Document, Refusal>, NoMemory>
-    ensures { IfOk result (λ read. IsOfDocument (document_with (names fields.entry) bytes.now) (document_reading read)) }
+    ensures { IfOk result (λ read. IsOfDocument (document_with (dialect_of dialect.entry) bytes.now) (document_reading read)) }
 {
-    match reader.read_with(fields, bytes) {
+    match reader.read_with(dialect, bytes) {
         Ok(document) => Ok(Ok(document)),
         Err(LineFault::BadJson) => Ok(Err(Refusal::BadJson)),
         Err(LineFault::BadDocument) => Ok(Err(Refusal::BadDocument)),
@@ -71,51 +71,51 @@ pub fn query_refusal(fault: QueryFault) -> Result<Refusal, NoMemory>
     }
 }
 
-/// A frame for the query of a query line, which begins with `?`, with these fields, or why the line is refused. Takes the memory of a
+/// A frame for the query of a query line, which begins with `?` by this dialect, or why the line is refused. Takes the memory of a
 /// search, so that the search takes none.
 pub fn read_query_text(
     alloc: Global,
-    fields: Fields<'_>,
+    dialect: Dialect<'_>,
     text: &str,
 ) -> Result<Result<Frame, Refusal>, NoMemory>
     requires { slice_get text.now 0 ≡ Some 63 }
-    ensures { IfOk result (λ read. ReadsByKind (names fields.entry) query_line text.now (query_reading read)) }
+    ensures { IfOk result (λ read. ReadsByKind (dialect_of dialect.entry) query_line text.now (query_reading read)) }
 {
-    match read_query_with(alloc, fields, text) {
+    match read_query_with(alloc, dialect, text) {
         Ok((k, query)) => Ok(Ok(Frame::new(alloc, query, k)?)),
         Err(fault) => Ok(Err(query_refusal(fault)?)),
     }
 }
 
 // The work of a document line.
-fn document_work(alloc: Global, fields: Fields<'_>, bytes: &[u8]) -> Result<Work, NoMemory>
-    ensures { IfOk result (λ work. IsOfDocument (document_with (names fields.entry) bytes.now) (reading_of work)) }
+fn document_work(alloc: Global, dialect: Dialect<'_>, bytes: &[u8]) -> Result<Work, NoMemory>
+    ensures { IfOk result (λ work. IsOfDocument (document_with (dialect_of dialect.entry) bytes.now) (reading_of work)) }
 {
-    match read_document_line(alloc, fields, bytes)? {
+    match read_document_line(alloc, dialect, bytes)? {
         Ok(document) => Ok(Work::Add(document)),
         Err(refusal) => Ok(Work::Refuse(refusal)),
     }
 }
 
 // The work of a query line that is UTF-8.
-fn text_work(alloc: Global, fields: Fields<'_>, text: &str) -> Result<Work, NoMemory>
+fn text_work(alloc: Global, dialect: Dialect<'_>, text: &str) -> Result<Work, NoMemory>
     requires { slice_get text.now 0 ≡ Some 63 }
-    ensures { IfOk result (λ work. ReadsByKind (names fields.entry) query_line text.now (reading_of work)) }
+    ensures { IfOk result (λ work. ReadsByKind (dialect_of dialect.entry) query_line text.now (reading_of work)) }
 {
-    match read_query_text(alloc, fields, text)? {
+    match read_query_text(alloc, dialect, text)? {
         Ok(frame) => Ok(Work::Answer(frame)),
         Err(refusal) => Ok(Work::Refuse(refusal)),
     }
 }
 
-/// The work of a line that isn't long, with these fields. Takes the memory that the work needs.
-pub fn read_line(alloc: Global, fields: Fields<'_>, bytes: &[u8]) -> Result<Work, NoMemory>
-    ensures { IfOk result (λ work. Reads (names fields.entry) (line bytes.now) (reading_of work)) }
+/// The work of a line that isn't long by this dialect. Takes the memory that the work needs.
+pub fn read_line(alloc: Global, dialect: Dialect<'_>, bytes: &[u8]) -> Result<Work, NoMemory>
+    ensures { IfOk result (λ work. Reads (dialect_of dialect.entry) (line bytes.now) (reading_of work)) }
 {
     match line_kind(bytes) {
         LineKind::Blank => Ok(Work::Nothing),
-        LineKind::Document => document_work(alloc, fields, bytes),
-        LineKind::Query(text) => text_work(alloc, fields, text),
+        LineKind::Document => document_work(alloc, dialect, bytes),
+        LineKind::Query(text) => text_work(alloc, dialect, text),
         LineKind::Bad => Ok(Work::Refuse(Refusal::BadLine)),
     }
 }

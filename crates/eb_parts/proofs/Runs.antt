@@ -1,4 +1,5 @@
 -- Documents that parts add side by side are those that lines add one after the other.
+use Rattle.eb_fields.specs.Dialect.{Dialect}
 use Rattle.std.proofs.Common.{◌≡◌, ℕ, suc, ◌%◌, ◌≤◌, inl, inr, Bool, true, false, List, [], ◌∷◌, ◌++◌, Option, Some, None, length, refl, ap, sym, subst, ◌∙◌, append-nil}
 use Rattle.std.specs.Prelude.{nat_le, if◌then◌else◌, map, option_map, Result, Ok, Err, min, ◌^◌, ◌-◌}
 use Rattle.std.proofs.lemmas.Bool.{cases_Bool, cases_lt, le-leb, lt-leb}
@@ -86,10 +87,10 @@ pub record Held (parts : ℕ) (σ : Setting) (docs : List Doc) : Type 0 where
   pub counts : counted (lengths_of (cut_into parts docs)) ≡ min (length docs) (2 ^ 64 - 1)
   pub short : (p : ℕ) → length (cut σ (history (cut_into parts docs) p)) ≤ 64
 
-module _ (fields : List (List ℕ)) (parts : ℕ) (σ : Setting) (form : Form) (some : 1 ≤ parts) where
+module _ (how : Dialect) (parts : ℕ) (σ : Setting) (form : Form) (some : 1 ≤ parts) where
   -- by these rules
   abbrev by_rules : Rules (Unit {0})
-  by_rules = parts_rules fields parts σ form
+  by_rules = parts_rules how parts σ form
 
   held_by : σ.segments ≤ 64 → (docs : List Doc) (d : Doc) (r : Option Refusal) → r ≡ refusal_in_parts parts σ docs d → Held parts σ docs → Held parts σ (docs ++ documents_in (document_outcome d r))
   held_by few docs d None is h =

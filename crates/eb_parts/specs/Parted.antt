@@ -1,6 +1,6 @@
 -- What parts hold that lines fill.
-use Rattle.std.specs.Prelude.{◌≡◌, ℕ, List, []}
-use Rattle.std.proofs.Common.{ap}
+use Rattle.eb_fields.specs.Dialect.{Dialect}
+use Rattle.std.specs.Prelude.{◌≡◌, ℕ, List}
 use Rattle.eb_answer.specs.Rules.{Rules}
 use Rattle.eb_base.specs.Document.{Doc}
 use Rattle.eb_base.specs.Setting.{Setting}
@@ -10,11 +10,7 @@ use Rattle.eb_parts.specs.Texts.{parts_rules}
 
 -- these documents, by the rules of so many parts of this setting
 pub record IsParted (s : Parted) (rules : Rules (Unit {0})) (docs : List Doc) (none : Unit {0}) : Type 0 where
-  pub fields : List (List ℕ)
+  pub dialect : Dialect
   pub setting : Setting
-  pub by_rules : rules ≡ parts_rules fields s.number setting s.form
+  pub by_rules : rules ≡ parts_rules dialect s.number setting s.form
   pub holds : Holds s.parts s.number setting docs
-
--- a document tells no watches
-pub none_told : (s : Parted) (rules : Rules (Unit {0})) (docs : List Doc) (none : Unit {0}) → IsParted s rules docs none → (d : Doc) → rules.tells none d ≡ []
-none_told s rules docs none h d = ap (λ (r : Rules (Unit {0})). r.tells none d) h.by_rules

@@ -1,4 +1,5 @@
 -- What a run over parts prints.
+use Rattle.eb_fields.specs.Dialect.{Dialect}
 use Rattle.std.specs.Prelude.{ℕ, List, [], map, sum, length, Option}
 use Rattle.eb_answer.specs.Rules.{Rules, plain_rules, is_bad, IsBody, IsText, HasRefusal, HasNoRefusal}
 use Rattle.eb_base.specs.Document.{Doc}
@@ -16,10 +17,10 @@ use Rattle.eb_parts.specs.AcceptedInParts.{refusal_in_parts}
 abbrev pub segments_in : ℕ → Setting → List Doc → List ℕ
 segments_in n σ docs = map (λ h. length (cut σ h)) (cut_into n docs)
 
--- so many parts of this setting, where lines are read by the names of the fields: a query sees all documents, and of each part all segments but the last one are converted at the end
-abbrev pub parts_rules : List (List ℕ) → ℕ → Setting → Form → Rules (Unit {0})
-parts_rules names n σ form =
-    plain_rules names [] (refusal_in_parts n σ) (λ docs. docs) form (λ docs. segments_tail form (sum (segments_in n σ docs)) (sum (map most_converted (segments_in n σ docs))))
+-- so many parts of this setting, where lines are read by this dialect: a query sees all documents, and of each part all segments but the last one are converted at the end
+abbrev pub parts_rules : Dialect → ℕ → Setting → Form → Rules (Unit {0})
+parts_rules how n σ form =
+    plain_rules how [] (refusal_in_parts n σ) (λ docs. docs) form (λ docs. segments_tail form (sum (segments_in n σ docs)) (sum (map most_converted (segments_in n σ docs))))
 
 -- what a run that ends so has written, of an input of these bytes of which this is left
 abbrev pub WroteInParts : Rules (Unit {0}) → Status → List ℕ → Option (List ℕ) → List ℕ → Type 0

@@ -1,4 +1,5 @@
 //! The parts that lines fill and ask.
+ghost use Rattle.eb_fields.specs.Dialect.{Dialect as Spoken};
 ghost use Rattle.std.specs.Prelude.{◌≡◌, ◌≤◌, ℕ, List, [], length, IfOk, OnErr};
 ghost use Rattle.eb_ahead.specs.Placed.{IsHoldingFor, PlacesAll};
 ghost use Rattle.eb_answer.specs.Stores.{Keeps};
@@ -9,7 +10,7 @@ use crate::store::Store as Parts;
 use eb_answer::Store;
 use eb_base::{Config, Document, Gate, NoMemory, Query};
 use eb_blend::BlendFrame;
-use eb_fields::Fields;
+use eb_fields::Dialect;
 use eb_indexed::tell_segments;
 use eb_lines::{Form, Refusal, Tail, line_room, put_answer};
 use std::alloc::Global;
@@ -32,7 +33,7 @@ impl Parted {
         config: Config,
     ) -> Result<Parted, NoMemory>
         requires { (1 ≤ number) × (number ≤ 16) }
-        ensures { IfOk result (λ parted. (fields : List (List ℕ)) → IsParted parted (parts_rules fields number config form) [] tt) }
+        ensures { IfOk result (λ parted. (how : Spoken) → IsParted parted (parts_rules how number config form) [] tt) }
     {
         let parts = Parts::new(alloc, number, config)?;
         Ok(Parted {
@@ -80,7 +81,7 @@ impl Store for Parted {
     fn take_other(
         &mut self,
         _alloc: Global,
-        _fields: Fields<'_>,
+        _dialect: Dialect<'_>,
         _bytes: &[u8],
     ) -> Result<Option<Refusal>, NoMemory> {
         Ok(Some(Refusal::BadLine))

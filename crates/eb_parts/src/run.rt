@@ -2,7 +2,7 @@ ghost use Rattle.std.specs.Prelude.{◌≡◌, ◌<◌, ◌≤◌, ◌++◌, ℕ
 ghost use Rattle.eb_ahead.specs.Placed.{IsHoldingFor, PlacesAll};
 ghost use Rattle.eb_answer.specs.Stores.{Keeps};
 ghost use Rattle.eb_parts.specs.Parted.{IsParted};
-ghost use Rattle.eb_fields.specs.Fields.{names};
+ghost use Rattle.eb_fields.specs.Dialect.{dialect_of};
 ghost use Rattle.eb_io.specs.Faults.{HasRisen};
 ghost use Rattle.eb_io.specs.Lines.{longest_input};
 ghost use Rattle.eb_lines.specs.Outcomes.{IsWorkedOff};
@@ -14,7 +14,7 @@ use crate::parted::Parted;
 use eb_ahead::{Other, answer_lines_ahead};
 use eb_answer::answer_lines;
 use eb_base::{Config, Document, Gate, NoMemory};
-use eb_fields::Fields;
+use eb_fields::Dialect;
 use eb_io::{Sink, Source};
 use eb_lines::{Form, Refusal, Status};
 use std::alloc::Global;
@@ -23,7 +23,7 @@ use std::thread::Threads;
 /// Processes the lines that the source gives, in order, over so many parts, from 1 to 16, each an index of this setting:
 /// a document goes to the part that is its id modulo their number; prints answers, refusals and the summary on
 /// `out`. Lines are numbered from 1. A query sees all documents that were accepted before its line, and its answer is that
-/// of one history of them. Lines are read with these fields. The form says how what is printed is written, and whether the segments of all parts are
+/// of one history of them. Lines are read by this dialect. The form says how what is printed is written, and whether the segments of all parts are
 /// told after the summary.
 ///
 /// A document line whose id isn't above that of the last accepted document is refused as `not rising`, and then one whose
@@ -32,7 +32,7 @@ use std::thread::Threads;
 pub fn run_parts<S: Source, K: Sink, G: Gate>(
     alloc: Global,
     parts: u32,
-    fields: Fields<'_>,
+    dialect: Dialect<'_>,
     form: Form,
     config: Config,
     source: &mut S,
@@ -40,16 +40,16 @@ pub fn run_parts<S: Source, K: Sink, G: Gate>(
     gate: &G,
 ) -> Status
     requires { (1 ≤ parts) × (parts ≤ 16) }
-    ensures ends { let rules = parts_rules (names fields.entry) parts config form in
+    ensures ends { let rules = parts_rules (dialect_of dialect.entry) parts config form in
         Ends (IsBody is_bad rules) (IsText is_bad rules) (HasRefusal is_bad rules) (HasNoRefusal is_bad rules) result
         (S.left source.old) (S.left source.new) (K.taken out.old) (K.taken out.new) }
     // Where source and `out` tell their bytes, `out` took what the status says of the input.
     ensures output { (bytes before : List ℕ) → S.left source.old ≡ Some bytes → K.taken out.old ≡ Some before
         → (printed : List ℕ) × (K.taken out.new ≡ Some (before ++ printed))
-        × WroteInParts (parts_rules (names fields.entry) parts config form) result bytes (S.left source.new) printed }
+        × WroteInParts (parts_rules (dialect_of dialect.entry) parts config form) result bytes (S.left source.new) printed }
     // What the status says of the input holds whatever becomes of the output.
     ensures means { (bytes : List ℕ) → S.left source.old ≡ Some bytes
-        → MeansInParts (parts_rules (names fields.entry) parts config form) result bytes (S.left source.new) }
+        → MeansInParts (parts_rules (dialect_of dialect.entry) parts config form) result bytes (S.left source.new) }
     // Faults come only from outside.
     ensures read_fault { result ≡ Status.ReadFault → HasRisen (S.faults source.old) (S.faults source.new) }
     ensures write_fault { result ≡ Status.WriteFault → HasRisen (K.faults out.old) (K.faults out.new) }
@@ -57,13 +57,13 @@ pub fn run_parts<S: Source, K: Sink, G: Gate>(
     ensures completes { (HasRisen (S.faults source.old) (S.faults source.new) → ⊥) → (HasRisen (K.faults out.old) (K.faults out.new) → ⊥)
         → (bytes : List ℕ) → S.left source.old ≡ Some bytes → length bytes < longest_input → IsWorkedOff result }
 {
-    pass_parts(alloc, parts, fields, form, config, source, out, gate)
+    pass_parts(alloc, parts, dialect, form, config, source, out, gate)
 }
 
 fn pass_parts<S: Source, K: Sink, G: Gate>(
     alloc: Global,
     parts: u32,
-    fields: Fields<'_>,
+    dialect: Dialect<'_>,
     form: Form,
     config: Config,
     source: &mut S,
@@ -71,7 +71,7 @@ fn pass_parts<S: Source, K: Sink, G: Gate>(
     gate: &G,
 ) -> Status
     requires { (1 ≤ parts) × (parts ≤ 16) }
-    ensures ends { let rules = parts_rules (names fields.entry) parts config form in
+    ensures ends { let rules = parts_rules (dialect_of dialect.entry) parts config form in
         Ends (IsBody is_bad rules) (IsText is_bad rules) (HasRefusal is_bad rules) (HasNoRefusal is_bad rules) result
         (S.left source.old) (S.left source.new) (K.taken out.old) (K.taken out.new) }
     ensures read_fault { result ≡ Status.ReadFault → HasRisen (S.faults source.old) (S.faults source.new) }
@@ -80,7 +80,7 @@ fn pass_parts<S: Source, K: Sink, G: Gate>(
     let Ok(parted) = Parted::new(alloc, parts, form, config) else {
         return Status::NoMemory;
     };
-    answer_lines(alloc, parted, fields, source, out, gate)
+    answer_lines(alloc, parted, dialect, source, out, gate)
 }
 
 /// As `run_parts`, and prints the same, while the parts add side by side: at most 32,768 lines wait, are read by several
@@ -90,7 +90,7 @@ pub fn run_parts_beside<R: Threads + Sync, S: Source, K: Sink, G: Gate + Sync>(
     rt: &R,
     alloc: Global,
     parts: u32,
-    fields: Fields<'_>,
+    dialect: Dialect<'_>,
     form: Form,
     config: Config,
     source: &mut S,
@@ -98,16 +98,16 @@ pub fn run_parts_beside<R: Threads + Sync, S: Source, K: Sink, G: Gate + Sync>(
     gate: &G,
 ) -> Status
     requires { (1 ≤ parts) × (parts ≤ 16) }
-    ensures ends { let rules = parts_rules (names fields.entry) parts config form in
+    ensures ends { let rules = parts_rules (dialect_of dialect.entry) parts config form in
         Ends (IsBody is_bad rules) (IsText is_bad rules) (HasRefusal is_bad rules) (HasNoRefusal is_bad rules) result
         (S.left source.old) (S.left source.new) (K.taken out.old) (K.taken out.new) }
     // Where source and `out` tell their bytes, `out` took what the status says of the input.
     ensures output { (bytes before : List ℕ) → S.left source.old ≡ Some bytes → K.taken out.old ≡ Some before
         → (printed : List ℕ) × (K.taken out.new ≡ Some (before ++ printed))
-        × WroteInParts (parts_rules (names fields.entry) parts config form) result bytes (S.left source.new) printed }
+        × WroteInParts (parts_rules (dialect_of dialect.entry) parts config form) result bytes (S.left source.new) printed }
     // What the status says of the input holds whatever becomes of the output.
     ensures means { (bytes : List ℕ) → S.left source.old ≡ Some bytes
-        → MeansInParts (parts_rules (names fields.entry) parts config form) result bytes (S.left source.new) }
+        → MeansInParts (parts_rules (dialect_of dialect.entry) parts config form) result bytes (S.left source.new) }
     // Faults come only from outside.
     ensures read_fault { result ≡ Status.ReadFault → HasRisen (S.faults source.old) (S.faults source.new) }
     ensures write_fault { result ≡ Status.WriteFault → HasRisen (K.faults out.old) (K.faults out.new) }
@@ -115,14 +115,14 @@ pub fn run_parts_beside<R: Threads + Sync, S: Source, K: Sink, G: Gate + Sync>(
     ensures completes { (HasRisen (S.faults source.old) (S.faults source.new) → ⊥) → (HasRisen (K.faults out.old) (K.faults out.new) → ⊥)
         → (bytes : List ℕ) → S.left source.old ≡ Some bytes → length bytes < longest_input → IsWorkedOff result }
 {
-    pass_beside(rt, alloc, parts, fields, form, config, source, out, gate)
+    pass_beside(rt, alloc, parts, dialect, form, config, source, out, gate)
 }
 
 fn pass_beside<R: Threads + Sync, S: Source, K: Sink, G: Gate + Sync>(
     rt: &R,
     alloc: Global,
     parts: u32,
-    fields: Fields<'_>,
+    dialect: Dialect<'_>,
     form: Form,
     config: Config,
     source: &mut S,
@@ -130,7 +130,7 @@ fn pass_beside<R: Threads + Sync, S: Source, K: Sink, G: Gate + Sync>(
     gate: &G,
 ) -> Status
     requires { (1 ≤ parts) × (parts ≤ 16) }
-    ensures ends { let rules = parts_rules (names fields.entry) parts config form in
+    ensures ends { let rules = parts_rules (dialect_of dialect.entry) parts config form in
         Ends (IsBody is_bad rules) (IsText is_bad rules) (HasRefusal is_bad rules) (HasNoRefusal is_bad rules) result
         (S.left source.old) (S.left source.new) (K.taken out.old) (K.taken out.new) }
     ensures read_fault { result ≡ Status.ReadFault → HasRisen (S.faults source.old) (S.faults source.new) }
@@ -147,5 +147,5 @@ fn pass_beside<R: Threads + Sync, S: Source, K: Sink, G: Gate + Sync>(
         ensures ok { IfOk result (λ refusals. PlacesAll IsParted parted.old parted.new items.now refusals.items) }
         ensures err { OnErr result (Keeps IsParted parted.old parted.new) }
     { parted.place_all(rt, alloc, items, gate) };
-    answer_lines_ahead(rt, alloc, parted, &place_all, fields, source, out, gate)
+    answer_lines_ahead(rt, alloc, parted, &place_all, dialect, source, out, gate)
 }

@@ -1,4 +1,5 @@
 //! The blend that a run over parts fills and asks.
+ghost use Rattle.eb_fields.specs.Dialect.{Dialect as Spoken};
 ghost use Rattle.std.specs.Prelude.{◌≡◌, ◌+◌, ◌<◌, ◌≤◌, ◌^◌, ◌++◌, ℕ, List, [], length, map, sum, vec_len, vec_capacity, option_map, IfOk, OnErr, OnOk};
 ghost use Rattle.eb_base.specs.Document.{Doc};
 ghost use Rattle.eb_base.specs.Match.{answer};
@@ -116,10 +117,10 @@ impl Store {
         gate: &G,
     ) -> Result<Vec<Option<Refusal>>, NoMemory>
         requires { (parts : ℕ) × (σ : Setting) × (docs : List Doc) × Holds self.old parts σ docs }
-        ensures outcomes { IfOk result (λ r. (fields : List (List ℕ)) (parts : ℕ) (σ : Setting) (form : Form) (docs : List Doc) → Holds self.old parts σ docs
-            → r.items ≡ item_refusals (parts_rules fields parts σ form) docs items.now) }
-        ensures holds { OnOk result ((fields : List (List ℕ)) (parts : ℕ) (σ : Setting) (form : Form) (docs : List Doc) → Holds self.old parts σ docs
-            → Holds self.new parts σ (docs_after (parts_rules fields parts σ form) docs items.now)) }
+        ensures outcomes { IfOk result (λ r. (how : Spoken) (parts : ℕ) (σ : Setting) (form : Form) (docs : List Doc) → Holds self.old parts σ docs
+            → r.items ≡ item_refusals (parts_rules how parts σ form) docs items.now) }
+        ensures holds { OnOk result ((how : Spoken) (parts : ℕ) (σ : Setting) (form : Form) (docs : List Doc) → Holds self.old parts σ docs
+            → Holds self.new parts σ (docs_after (parts_rules how parts σ form) docs items.now)) }
         ensures unchanged { OnErr result (self.new ≡ self.old) }
     {
         let mut refusals = Vec::with_capacity(alloc, items.len())?;

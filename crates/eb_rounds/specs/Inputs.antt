@@ -1,4 +1,5 @@
 -- Held lines, and how they are read.
+use Rattle.eb_fields.specs.Dialect.{Dialect}
 use Rattle.std.specs.Prelude.{◌≡◌, ℕ, ◌++◌, List, [], ◌∷◌, flat_map}
 use Rattle.eb_base.specs.Document.{Doc}
 use Rattle.eb_base.specs.Setting.{Setting}
@@ -26,16 +27,16 @@ pub record Entry : Type 0 where
   pub number : ℕ
   pub reading : Reading
 
--- how it is read, by the names of the fields
-abbrev pub ReadsInput : List (List ℕ) → HeldInput → Reading → Type 0
-ReadsInput names (document_line bytes) r = IsOfDocument (document_with names bytes) r
-ReadsInput names (query_line bytes) r = (o : Outcome) × ReadsWith names bytes o × (r ≡ of_query o)
-ReadsInput names (refused_line x) r = r ≡ refused x
+-- how it is read, by the dialect
+abbrev pub ReadsInput : Dialect → HeldInput → Reading → Type 0
+ReadsInput how (document_line bytes) r = IsOfDocument (document_with how bytes) r
+ReadsInput how (query_line bytes) r = (o : Outcome) × ReadsWith how bytes o × (r ≡ of_query o)
+ReadsInput how (refused_line x) r = r ≡ refused x
 
 -- the line is read as this, under its number
-pub record ReadsLine (names : List (List ℕ)) (h : HeldLine) (e : Entry) : Type 0 where
+pub record ReadsLine (how : Dialect) (h : HeldLine) (e : Entry) : Type 0 where
   pub number : e.number ≡ h.number
-  pub reading : ReadsInput names h.input e.reading
+  pub reading : ReadsInput how h.input e.reading
 
 -- what becomes of the lines in order, in an index of this setting that holds these documents
 unfoldable pub admitted_in : Setting → List Doc → List Entry → List Entry

@@ -1,4 +1,5 @@
 -- What a round prints.
+use Rattle.eb_fields.specs.Dialect.{Dialect}
 use Rattle.std.specs.Prelude.{◌≡◌, ℕ, ◌+◌, ◌≤◌, ◌++◌, Bool, List, [], ◌∷◌, length, flat_map, map, count_by, if◌then◌else◌}
 use Rattle.std.specs.List.{AllZip}
 use mathlib.Core.List.{IsPrefix}
@@ -47,11 +48,11 @@ asks e = is_query e.reading
 abbrev pub fails : Entry → Bool
 fails e = is_refused e.reading
 
--- these lines, read by the names of the fields, were processed over an index of this setting, whose documents were the old ones and are the new ones, and printed this text
-pub record WorkedOff (names : List (List ℕ)) (form : Form) (σ : Setting) (held : List HeldLine) (docs_old docs_new : List Doc) (counts_old counts_new : Counted) (printed : List ℕ) : Type 0 where
+-- these lines, read by this dialect, were processed over an index of this setting, whose documents were the old ones and are the new ones, and printed this text
+pub record WorkedOff (how : Dialect) (form : Form) (σ : Setting) (held : List HeldLine) (docs_old docs_new : List Doc) (counts_old counts_new : Counted) (printed : List ℕ) : Type 0 where
   pub raw : List Entry
   pub shown : List Shown
-  pub read : AllZip (ReadsLine names) held raw
+  pub read : AllZip (ReadsLine how) held raw
   pub lines : map shown_entry shown ≡ admitted_in σ docs_old raw
   pub docs : docs_new ≡ docs_old ++ added (map shown_entry shown)
   pub numbers : Rises (length docs_old) shown (length docs_new)
@@ -61,21 +62,21 @@ pub record WorkedOff (names : List (List ℕ)) (form : Form) (σ : Setting) (hel
   pub refused : counts_new.refused ≡ counts_old.refused + count_by fails (map shown_entry shown)
 
 -- two rounds were processed, one after the other
-pub record WorkedOffBoth (names : List (List ℕ)) (form : Form) (σ : Setting) (ahead held : List HeldLine) (docs_old docs_new : List Doc)
+pub record WorkedOffBoth (how : Dialect) (form : Form) (σ : Setting) (ahead held : List HeldLine) (docs_old docs_new : List Doc)
     (counts_old counts_new : Counted) (printed : List ℕ) : Type 0 where
   pub docs_between : List Doc
   pub counts_between : Counted
   pub printed_first : List ℕ
   pub printed_then : List ℕ
-  pub before : WorkedOff names form σ ahead docs_old docs_between counts_old counts_between printed_first
-  pub behind : WorkedOff names form σ held docs_between docs_new counts_between counts_new printed_then
+  pub before : WorkedOff how form σ ahead docs_old docs_between counts_old counts_between printed_first
+  pub behind : WorkedOff how form σ held docs_between docs_new counts_between counts_new printed_then
   pub text : printed ≡ printed_first ++ printed_then
 
 -- the lines were processed, whatever was counted before: with so many documents, queries and refused lines more
-abbrev pub WorksOff : List (List ℕ) → Form → Setting → List HeldLine → List Doc → List Doc → List ℕ → List ℕ → ℕ → ℕ → ℕ → Type 0
-WorksOff names form σ held docs_old docs_new text_old text_new d q r = (before after : Counted)
+abbrev pub WorksOff : Dialect → Form → Setting → List HeldLine → List Doc → List Doc → List ℕ → List ℕ → ℕ → ℕ → ℕ → Type 0
+WorksOff how form σ held docs_old docs_new text_old text_new d q r = (before after : Counted)
     → after.documents ≡ before.documents + d → after.queries ≡ before.queries + q → after.refused ≡ before.refused + r
-    → (printed : List ℕ) × WorkedOff names form σ held docs_old docs_new before after printed × (text_new ≡ text_old ++ printed)
+    → (printed : List ℕ) × WorkedOff how form σ held docs_old docs_new before after printed × (text_new ≡ text_old ++ printed)
 
 -- the most bytes that a line prints
 abbrev pub need : Reading → ℕ

@@ -1,4 +1,5 @@
 -- The work of a held line stands for what the line is.
+use Rattle.eb_fields.specs.Dialect.{Dialect}
 use Rattle.std.specs.Prelude.{◌≡◌, ℕ, ◌+◌, ◌*◌, ◌≤◌, ◌++◌, Bool, true, false, List, [], length, map, string_bytes, sum_by, vec_len, vec_capacity}
 use Rattle.std.specs.List.{AllZip}
 use Rattle.eb_rounds.specs.Shown.{need}
@@ -84,9 +85,9 @@ HasRoomForRefusals t = (t.refusals.items ≡ []) × (vec_len t.refusals ≡ 0) �
 abbrev pub count_of_tasks : Tasks → ℕ
 count_of_tasks t = length t.asked.items + length t.given.items
 
--- the lines of the round are read as these by the names of the fields, each under its number, and room was taken
-pub record IsReadAs (names : List (List ℕ)) (h : Held) (t : Tasks) : Type 0 where
-  pub read : AllZip (ReadsLine names) (lines_of_round h) (entries_of t)
+-- the lines of the round are read as these by the dialect, each under its number, and room was taken
+pub record IsReadAs (how : Dialect) (h : Held) (t : Tasks) : Type 0 where
+  pub read : AllZip (ReadsLine how) (lines_of_round h) (entries_of t)
   pub refusals : HasRoomForRefusals t
   pub asked : length t.asked.items ≡ length h.first.items
   pub given : length t.given.items ≡ length h.last.items

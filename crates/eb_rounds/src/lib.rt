@@ -13,5 +13,7 @@ mod rounds;
 mod tasks;
 mod working;
 
+pub use eb_indexed::Counts;
+pub use eb_lines::Refusal;
 pub use input::{Input, Kind};
 pub use rounds::Rounds;

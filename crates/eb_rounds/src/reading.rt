@@ -1,7 +1,7 @@
 ghost use Rattle.std.specs.Prelude.{◌≡◌, ◌≤◌, ◌^◌, length, IfOk, Some, slice_get};
 ghost use Rattle.std.specs.List.{AllZip};
 ghost use Rattle.eb_doc.specs.WithFields.{document_with};
-ghost use Rattle.eb_fields.specs.Fields.{names};
+ghost use Rattle.eb_fields.specs.Dialect.{dialect_of};
 ghost use Rattle.eb_rounds.specs.Inputs.{ReadsInput, ReadsLine, query_line};
 ghost use Rattle.eb_lines.specs.Reads.{IsOfDocument};
 ghost use Rattle.eb_rounds.specs.Works.{first_line, then_line, asked_reading, given_reading, asked_entry, given_entry, IsReadAs};
@@ -9,39 +9,39 @@ ghost use Rattle.eb_rounds.specs.Works.{first_line, then_line, asked_reading, gi
 use crate::held::{FirstInput, FirstLine, Held, ThenInput, ThenLine};
 use crate::tasks::{Asked, AskedWork, Given, GivenWork, Tasks};
 use eb_base::NoMemory;
-use eb_fields::Fields;
+use eb_fields::Dialect;
 use eb_lines::{line_room, read_document_line, read_query_text};
 use rayon::prelude::*;
 use std::alloc::{AllocError, Global};
 use std::thread::{Threads, join_mut};
 
-// What is to be done for a document line, with these fields.
-fn document_work(alloc: Global, fields: Fields<'_>, bytes: &[u8]) -> Result<GivenWork, NoMemory>
-    ensures { IfOk result (λ work. IsOfDocument (document_with (names fields.entry) bytes.now) (given_reading work)) }
+// What is to be done for a document line by this dialect.
+fn document_work(alloc: Global, dialect: Dialect<'_>, bytes: &[u8]) -> Result<GivenWork, NoMemory>
+    ensures { IfOk result (λ work. IsOfDocument (document_with (dialect_of dialect.entry) bytes.now) (given_reading work)) }
 {
-    match read_document_line(alloc, fields, bytes)? {
+    match read_document_line(alloc, dialect, bytes)? {
         Ok(document) => Ok(GivenWork::Add(document)),
         Err(refusal) => Ok(GivenWork::Refuse(refusal)),
     }
 }
 
-// What is to be done for a query line, with these fields.
-fn query_work(alloc: Global, fields: Fields<'_>, text: &str) -> Result<AskedWork, NoMemory>
+// What is to be done for a query line by this dialect.
+fn query_work(alloc: Global, dialect: Dialect<'_>, text: &str) -> Result<AskedWork, NoMemory>
     requires { slice_get text.now 0 ≡ Some 63 }
-    ensures { IfOk result (λ work. ReadsInput (names fields.entry) (query_line text.now) (asked_reading work)) }
+    ensures { IfOk result (λ work. ReadsInput (dialect_of dialect.entry) (query_line text.now) (asked_reading work)) }
 {
-    match read_query_text(alloc, fields, text)? {
+    match read_query_text(alloc, dialect, text)? {
         Ok(frame) => Ok(AskedWork::Answer(frame)),
         Err(refusal) => Ok(AskedWork::Refuse(refusal)),
     }
 }
 
 // Reads a document line, or a line after it.
-fn read_then(alloc: Global, fields: Fields<'_>, line: &ThenLine) -> Result<Given, NoMemory>
-    ensures { IfOk result (λ task. ReadsLine (names fields.entry) (then_line line.now) (given_entry task)) }
+fn read_then(alloc: Global, dialect: Dialect<'_>, line: &ThenLine) -> Result<Given, NoMemory>
+    ensures { IfOk result (λ task. ReadsLine (dialect_of dialect.entry) (then_line line.now) (given_entry task)) }
 {
     let work = match &line.input {
-        ThenInput::Document(bytes) => document_work(alloc, fields, bytes.as_slice())?,
+        ThenInput::Document(bytes) => document_work(alloc, dialect, bytes.as_slice())?,
         ThenInput::Refused(refusal) => GivenWork::Refuse(*refusal),
     };
     Ok(Given {
@@ -51,11 +51,11 @@ fn read_then(alloc: Global, fields: Fields<'_>, line: &ThenLine) -> Result<Given
 }
 
 // Reads a line before the first document line.
-fn read_first(alloc: Global, fields: Fields<'_>, line: &FirstLine) -> Result<Asked, NoMemory>
-    ensures { IfOk result (λ task. ReadsLine (names fields.entry) (first_line line.now) (asked_entry task)) }
+fn read_first(alloc: Global, dialect: Dialect<'_>, line: &FirstLine) -> Result<Asked, NoMemory>
+    ensures { IfOk result (λ task. ReadsLine (dialect_of dialect.entry) (first_line line.now) (asked_entry task)) }
 {
     let work = match &line.input {
-        FirstInput::Query(line) => query_work(alloc, fields, line.text.as_str())?,
+        FirstInput::Query(line) => query_work(alloc, dialect, line.text.as_str())?,
         FirstInput::Refused(refusal) => AskedWork::Refuse(*refusal),
     };
     Ok(Asked {
@@ -71,19 +71,19 @@ const LEAST_LINES: usize = 128;
 fn read_all_then<R: Threads + Sync>(
     rt: &R,
     alloc: Global,
-    fields: Fields<'_>,
+    dialect: Dialect<'_>,
     lines: &[ThenLine],
 ) -> Result<Result<Vec<Given>, NoMemory>, AllocError>
     ensures { IfOk result (λ all. IfOk all (λ tasks.
-        AllZip (λ line task. ReadsLine (names fields.entry) (then_line line) (given_entry task)) lines.now tasks.items)) }
+        AllZip (λ line task. ReadsLine (dialect_of dialect.entry) (then_line line) (given_entry task)) lines.now tasks.items)) }
 {
     lines
         .par_iter()
         .with_min_len(LEAST_LINES)
         .map(
             |line: &ThenLine| -> Result<Given, NoMemory>
-                ensures { IfOk result (λ task. ReadsLine (names fields.entry) (then_line line.now) (given_entry task)) }
-            { read_then(alloc, fields, line) },
+                ensures { IfOk result (λ task. ReadsLine (dialect_of dialect.entry) (then_line line.now) (given_entry task)) }
+            { read_then(alloc, dialect, line) },
         )
         .collect::<Result<Vec<_>, NoMemory>>(rt, alloc)
 }
@@ -91,18 +91,18 @@ fn read_all_then<R: Threads + Sync>(
 fn read_all_first<R: Threads + Sync>(
     rt: &R,
     alloc: Global,
-    fields: Fields<'_>,
+    dialect: Dialect<'_>,
     lines: &[FirstLine],
 ) -> Result<Result<Vec<Asked>, NoMemory>, AllocError>
     ensures { IfOk result (λ all. IfOk all (λ tasks.
-        AllZip (λ line task. ReadsLine (names fields.entry) (first_line line) (asked_entry task)) lines.now tasks.items)) }
+        AllZip (λ line task. ReadsLine (dialect_of dialect.entry) (first_line line) (asked_entry task)) lines.now tasks.items)) }
 {
     lines
         .par_iter()
         .map(
             |line: &FirstLine| -> Result<Asked, NoMemory>
-                ensures { IfOk result (λ task. ReadsLine (names fields.entry) (first_line line.now) (asked_entry task)) }
-            { read_first(alloc, fields, line) },
+                ensures { IfOk result (λ task. ReadsLine (dialect_of dialect.entry) (first_line line.now) (asked_entry task)) }
+            { read_first(alloc, dialect, line) },
         )
         .collect::<Result<Vec<_>, NoMemory>>(rt, alloc)
 }
@@ -111,17 +111,17 @@ fn read_all_first<R: Threads + Sync>(
 fn read_lines<R: Threads + Sync>(
     rt: &R,
     alloc: Global,
-    fields: Fields<'_>,
+    dialect: Dialect<'_>,
     first: &[FirstLine],
     then: &[ThenLine],
 ) -> Result<(Vec<Asked>, Vec<Given>), NoMemory>
-    ensures first { IfOk result (λ r. AllZip (λ line task. ReadsLine (names fields.entry) (first_line line) (asked_entry task)) first.now r.0.items) }
-    ensures then { IfOk result (λ r. AllZip (λ line task. ReadsLine (names fields.entry) (then_line line) (given_entry task)) then.now r.1.items) }
+    ensures first { IfOk result (λ r. AllZip (λ line task. ReadsLine (dialect_of dialect.entry) (first_line line) (asked_entry task)) first.now r.0.items) }
+    ensures then { IfOk result (λ r. AllZip (λ line task. ReadsLine (dialect_of dialect.entry) (then_line line) (given_entry task)) then.now r.1.items) }
 {
-    let Ok(Ok(asked)) = read_all_first(rt, alloc, fields, first) else {
+    let Ok(Ok(asked)) = read_all_first(rt, alloc, dialect, first) else {
         return Err(NoMemory);
     };
-    let Ok(Ok(given)) = read_all_then(rt, alloc, fields, then) else {
+    let Ok(Ok(given)) = read_all_then(rt, alloc, dialect, then) else {
         return Err(NoMemory);
     };
     Ok((asked, given))
@@ -131,16 +131,16 @@ fn read_lines<R: Threads + Sync>(
 fn read_round<R: Threads + Sync>(
     rt: &R,
     alloc: Global,
-    fields: Fields<'_>,
+    dialect: Dialect<'_>,
     round: &Held,
 ) -> Result<Tasks, NoMemory>
     requires { length round.now.last.items ≤ 2 ^ 16 }
-    ensures { IfOk result (IsReadAs (names fields.entry) round.now) }
+    ensures { IfOk result (IsReadAs (dialect_of dialect.entry) round.now) }
 {
     let (asked, given) = read_lines(
         rt,
         alloc,
-        fields,
+        dialect,
         round.first.as_slice(),
         round.last.as_slice(),
     )?;
@@ -156,30 +156,30 @@ fn read_round<R: Threads + Sync>(
 pub(crate) fn read_rounds<R: Threads + Sync>(
     rt: &R,
     alloc: Global,
-    fields: Fields<'_>,
+    dialect: Dialect<'_>,
     ahead: &Held,
     held: &Held,
 ) -> Result<(Tasks, Tasks), NoMemory>
     requires ahead { length ahead.now.last.items ≤ 2 ^ 16 }
     requires held { length held.now.last.items ≤ 2 ^ 16 }
-    ensures ahead { IfOk result (λ r. IsReadAs (names fields.entry) ahead.now r.0) }
-    ensures held { IfOk result (λ r. IsReadAs (names fields.entry) held.now r.1) }
+    ensures ahead { IfOk result (λ r. IsReadAs (dialect_of dialect.entry) ahead.now r.0) }
+    ensures held { IfOk result (λ r. IsReadAs (dialect_of dialect.entry) held.now r.1) }
 {
     if ahead.last.len() < LEAST_LINES || held.last.len() < LEAST_LINES {
-        let first = read_round(rt, alloc, fields, ahead)?;
-        let then = read_round(rt, alloc, fields, held)?;
+        let first = read_round(rt, alloc, dialect, ahead)?;
+        let then = read_round(rt, alloc, dialect, held)?;
         return Ok((first, then));
     }
     let (first, then) = join_mut(
         rt,
         &mut || -> Result<Tasks, NoMemory>
             requires { length ahead.now.last.items ≤ 2 ^ 16 }
-            ensures { IfOk result (IsReadAs (names fields.entry) ahead.entry.now) }
-        { read_round(rt, alloc, fields, ahead) },
+            ensures { IfOk result (IsReadAs (dialect_of dialect.entry) ahead.entry.now) }
+        { read_round(rt, alloc, dialect, ahead) },
         &mut || -> Result<Tasks, NoMemory>
             requires { length held.now.last.items ≤ 2 ^ 16 }
-            ensures { IfOk result (IsReadAs (names fields.entry) held.entry.now) }
-        { read_round(rt, alloc, fields, held) },
+            ensures { IfOk result (IsReadAs (dialect_of dialect.entry) held.entry.now) }
+        { read_round(rt, alloc, dialect, held) },
     );
     Ok((first?, then?))
 }

@@ -13,7 +13,7 @@ ghost use Rattle.std.specs.Prelude.{◌≡◌, ◌+◌, ◌<◌, ◌≤◌, ◌^
 ghost use Rattle.std.specs.Prelude.{length, vec_len, vec_capacity, IfOk, OnErr, OnOk, IsTrue, ◌↔◌};
 ghost use Rattle.std.specs.List.{AllZip};
 ghost use mathlib.Core.List.{IsPrefix};
-ghost use Rattle.eb_fields.specs.Fields.{names};
+ghost use Rattle.eb_fields.specs.Dialect.{dialect_of};
 ghost use Rattle.eb_indexed.specs.Conversions.{AreConverted};
 ghost use Rattle.eb_rounds.specs.Inputs.{ReadsLine, document_line, query_line, refused_line};
 ghost use Rattle.eb_rounds.specs.Passed.{input_of, input_kind, HasMark};
@@ -29,7 +29,7 @@ use crate::tasks::Tasks;
 use crate::working::{needs_of, work_tasks};
 use eb_base::{Gate, NoMemory};
 use eb_engine::{Converter, Index, Reader, Writer};
-use eb_fields::Fields;
+use eb_fields::Dialect;
 use eb_indexed::Counts;
 use eb_lines::{Form, Refusal};
 use std::alloc::Global;
@@ -234,22 +234,22 @@ impl Rounds {
         }
     }
 
-    // Reads the held lines with these fields, and takes all memory that working them off needs.
+    // Reads the held lines by this dialect, and takes all memory that working them off needs.
     fn prepare<R: Threads + Sync>(
         &self,
         rt: &R,
         alloc: Global,
-        fields: Fields<'_>,
+        dialect: Dialect<'_>,
         text: &mut Vec<u8>,
     ) -> Result<(Tasks, Tasks), NoMemory>
         ensures few { (length self.now.ahead ≤ 2 ^ 14) × (length self.now.held ≤ 2 ^ 14) }
-        ensures ahead { IfOk result (λ r. AllZip (ReadsLine (names fields.entry)) self.now.ahead (entries_of r.0)) }
-        ensures held { IfOk result (λ r. AllZip (ReadsLine (names fields.entry)) self.now.held (entries_of r.1)) }
+        ensures ahead { IfOk result (λ r. AllZip (ReadsLine (dialect_of dialect.entry)) self.now.ahead (entries_of r.0)) }
+        ensures held { IfOk result (λ r. AllZip (ReadsLine (dialect_of dialect.entry)) self.now.held (entries_of r.1)) }
         ensures text { text.new.items ≡ text.old.items }
         ensures room { IfOk result (λ r. vec_len text.new + (need_of_tasks r.0 + need_of_tasks r.1) ≤ vec_capacity text.new) }
         ensures refusals { IfOk result (λ r. HasRoomForRefusals r.0 × HasRoomForRefusals r.1) }
     {
-        let (ahead, held) = read_rounds(rt, alloc, fields, &self.ahead, &self.held)?;
+        let (ahead, held) = read_rounds(rt, alloc, dialect, &self.ahead, &self.held)?;
         text.reserve(needs_of(&ahead) + needs_of(&held))?;
         Ok((ahead, held))
     }
@@ -275,7 +275,7 @@ impl Rounds {
         self.counts.refused += counts.refused;
     }
 
-    /// Processes the held lines: they are read with these fields by several threads where there are many, and then, round after round, documents
+    /// Processes the held lines: they are read by this dialect by several threads where there are many, and then, round after round, documents
     /// are added beside answering the queries, which one reader answers in order, and beside converting each segment that was
     /// closed before. The result is what they print, line for line. Afterwards no line is held, and reader and converter know the writer's
     /// history. Where memory doesn't suffice, which shows before the first document is added, nothing is done. The tokens
@@ -289,7 +289,7 @@ impl Rounds {
         reader: &mut Reader,
         converter: &mut Converter,
         gate: &G,
-        fields: Fields<'_>,
+        dialect: Dialect<'_>,
         form: Form,
     ) -> Result<Vec<u8>, NoMemory>
         requires writer { writer.old.index ≡ index.now }
@@ -299,7 +299,7 @@ impl Rounds {
         ensures reader { reader.new.index ≡ reader.old.index }
         ensures converter { converter.new.index ≡ converter.old.index }
         ensures ok { IfOk result
-            (λ text. WorkedOffBoth (names fields.entry) form index.now.setting self.old.ahead self.old.held writer.old.docs writer.new.docs
+            (λ text. WorkedOffBoth (dialect_of dialect.entry) form index.now.setting self.old.ahead self.old.held writer.old.docs writer.new.docs
             self.old.counts self.new.counts text.items) }
         ensures held { OnOk result ((self.new.ahead ≡ []) × (self.new.held ≡ []) × (self.new.greatest ≡ self.old.greatest)) }
         ensures told { OnOk result (IsPrefix writer.new.docs converter.new.docs × IsPrefix writer.new.docs reader.new.docs) }
@@ -309,7 +309,7 @@ impl Rounds {
     {
         let mut text = Vec::new(alloc);
         self.step_behind(
-            rt, alloc, index, writer, converter, gate, fields, form, &mut text,
+            rt, alloc, index, writer, converter, gate, dialect, form, &mut text,
         )?;
         reader.meet(index, writer.reader(index));
         Ok(text)
@@ -325,7 +325,7 @@ impl Rounds {
         writer: &mut Writer,
         converter: &mut Converter,
         gate: &G,
-        fields: Fields<'_>,
+        dialect: Dialect<'_>,
         form: Form,
         text: &mut Vec<u8>,
     ) -> Result<(), NoMemory>
@@ -334,7 +334,7 @@ impl Rounds {
         ensures writer { writer.new.index ≡ writer.old.index }
         ensures converter { converter.new.index ≡ converter.old.index }
         ensures ok { OnOk result ((printed : List ℕ)
-            × WorkedOffBoth (names fields.entry) form index.now.setting self.old.ahead self.old.held writer.old.docs writer.new.docs
+            × WorkedOffBoth (dialect_of dialect.entry) form index.now.setting self.old.ahead self.old.held writer.old.docs writer.new.docs
             self.old.counts self.new.counts printed
             × (text.new.items ≡ text.old.items ++ printed)) }
         ensures held { OnOk result ((self.new.ahead ≡ []) × (self.new.held ≡ []) × (self.new.greatest ≡ self.old.greatest)) }
@@ -343,7 +343,7 @@ impl Rounds {
         ensures grown { converter.old.converted ≤ converter.new.converted }
         ensures err { OnErr result ((self.new ≡ self.old) × (writer.new ≡ writer.old) × (converter.new ≡ converter.old) × (text.new.items ≡ text.old.items)) }
     {
-        let (mut ahead, mut held) = self.prepare(rt, alloc, fields, text)?;
+        let (mut ahead, mut held) = self.prepare(rt, alloc, dialect, text)?;
         let first = work_tasks(rt, index, writer, converter, &mut ahead, gate, form, text);
         let then = work_tasks(rt, index, writer, converter, &mut held, gate, form, text);
         converter.meet(index, writer.reader(index));

@@ -1,3 +1,4 @@
+ghost use Rattle.eb_fields.specs.Dialect.{Dialect as Spoken};
 ghost use Rattle.std.specs.Prelude.{◌≡◌, ◌+◌, ◌*◌, ◌≤◌, ◌^◌, ℕ, List, [], length, map, sum_by, vec_len, vec_capacity};
 ghost use Rattle.std.specs.List.{AllZip, list_any};
 ghost use mathlib.Core.List.{IsPrefix};
@@ -288,8 +289,8 @@ pub(crate) fn work_tasks<R: Threads + Sync, G: Gate + Sync>(
     ensures converted { AreConverted index.now.setting writer.old.docs converter.new.converted }
     ensures len { vec_len text.new ≤ vec_len text.old + need_of_tasks tasks.old }
     ensures room { vec_capacity text.old ≤ vec_capacity text.new }
-    ensures works { (fields : List (List ℕ)) (held : List HeldLine) → AllZip (ReadsLine fields) held (entries_of tasks.old)
-        → WorksOff fields form index.now.setting held writer.old.docs writer.new.docs text.old.items text.new.items
+    ensures works { (how : Spoken) (held : List HeldLine) → AllZip (ReadsLine how) held (entries_of tasks.old)
+        → WorksOff how form index.now.setting held writer.old.docs writer.new.docs text.old.items text.new.items
         result.documents result.queries result.refused }
     ensures few { result.documents + (result.queries + result.refused) ≤ count_of_tasks tasks.old }
 {

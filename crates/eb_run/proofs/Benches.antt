@@ -1,4 +1,5 @@
 -- The figures of some lines, with one line more.
+use Rattle.eb_fields.specs.Dialect.{plain}
 use Rattle.std.proofs.Common.{◌≡◌, ℕ, suc, ◌+◌, ◌-◌, ◌*◌, ◌<◌, ◌≤◌, ◌^◌, List, [], ◌∷◌, ◌++◌, length, take, drop, Option, Some, inl, inr}
 use Rattle.std.proofs.Common.{map, filter, refl, sym, ap, subst, ◌∙◌, arith, append_assoc, append-nil, length-append}
 use Rattle.std.specs.Prelude.{sum, true, false, if◌then◌else◌}
@@ -68,7 +69,7 @@ sum-append xs ys = sum_by-append (λ x. x) xs ys
 
 module _ (b : Bench) (lines : List Line) (h : HasCounted b lines) (few : length lines < 2 ^ 17) where
   long : length h.readings ≡ length lines
-  long = read_long (Reads []) usual [] lines h.readings h.read
+  long = read_long (Reads plain) usual [] lines h.readings h.read
 
   -- the documents so far are no more than the lines, nor are the queries or the refused lines
   documents_few : length (accepted h.readings) ≤ length lines
@@ -87,7 +88,7 @@ module _ (b : Bench) (lines : List Line) (h : HasCounted b lines) (few : length 
   answer_small k q = let n = answer_short k q (accepted h.readings) in omega (arith, n, documents_few, few)
 
   -- what a further line of this kind comes to
-  module _ (l : Line) (raw : Reading) (reads : Reads [] l raw) where
+  module _ (l : Line) (raw : Reading) (reads : Reads plain l raw) where
     abbrev next : Reading
     next = admit usual (accepted h.readings) raw
 
@@ -100,7 +101,7 @@ module _ (b : Bench) (lines : List Line) (h : HasCounted b lines) (few : length 
         let more : all_answers all ≡ all_answers h.readings ++ own = all_answers-push h.readings next ∙ ap (λ xs. all_answers h.readings ++ xs) (sym same) in
         record {
           readings = all;
-          read = read_push (Reads []) usual [] lines h.readings l raw h.read reads;
+          read = read_push (Reads plain) usual [] lines h.readings l raw h.read reads;
           holds = subst (Holds c.indexed usual) (sym (accepted-push h.readings next)) holds;
           queries = asked ∙ ap (λ n. n + one_if (is_query next)) h.queries ∙ sym (queries-push h.readings next);
           refused = failed ∙ ap (λ n. n + one_if (is_refused next)) h.refused ∙ sym (refusals-push h.readings next);
@@ -159,7 +160,7 @@ pub counted_none : (b : Bench) → b.ids ≡ 0 → b.sum ≡ 0 → b.queries ≡
 unfolding accepted queries refusals
 counted_none b ids sums asked failed holds = record {
   readings = [];
-  read = read_none (Reads []) usual [];
+  read = read_none (Reads plain) usual [];
   holds = holds;
   queries = asked;
   refused = failed;
@@ -226,7 +227,7 @@ figures_end status.BadImage lines old new rose f fault sound = absurd f.2
 
 -- memory ran out before the end
 pub figures_none : (lines : List Line) (printed : Option (List ℕ)) → PrintsFigures status.NoMemory lines printed printed
-figures_none lines printed = let raw = some_read [] lines in (admitted usual raw.0, (raw.0, raw.1, refl), refl)
+figures_none lines printed = let raw = some_read plain lines in (admitted usual raw.0, (raw.0, raw.1, refl), refl)
 
 -- five parts of a text, one after the other
 pub five_parts : (a b c d e : List ℕ) → a ++ (b ++ (c ++ (d ++ e))) ≡ a ++ b ++ c ++ d ++ e

@@ -1,4 +1,5 @@
 -- What follows from how a command ends.
+use Rattle.eb_fields.specs.Dialect.{Dialect}
 use Rattle.std.proofs.Common.{◌≡◌, ◌⊎◌, ℕ, inl, inr, List, [], ◌++◌, Option, Some, None, refl, sym, ap, subst, ◌∙◌, append-nil}
 use Rattle.std.specs.Prelude.{IfSome}
 use Rattle.eb_archive.specs.Loaded.{EndsLoad, IsUnread, IsRead, IsBodyBehind, IsTextBehind, HasRefusalBehind, HasNoRefusalBehind, Loaded}
@@ -39,13 +40,13 @@ left_told bytes taken (Some rest) e = (rest, refl, (let same : bytes ≡ taken +
 module _ (status : Status) (l0 l1 p0 p1 : Option (List ℕ)) where
   -- ---- of a load
 
-  module _ (fields : List (List ℕ)) (form : Form) where
-    image_of_read : (bytes : List ℕ) → l0 ≡ Some bytes → IsRead fields form status l0 l1 p0 p1 → HasImage bytes
+  module _ (how : Dialect) (form : Form) where
+    image_of_read : (bytes : List ℕ) → l0 ≡ Some bytes → IsRead how form status l0 l1 p0 p1 → HasImage bytes
     image_of_read bytes source r =
         let told = left_told bytes (image_of r.loaded.setting r.loaded.documents) r.lines (sym source ∙ r.image) in
         record { setting = r.loaded.setting; documents = r.loaded.documents; rest = told.0; allowed = r.loadable.allowed; lawful = r.loadable.lawful; is = told.2 }
 
-    load_prints : EndsLoad fields form status l0 l1 p0 p1 → Prints (WroteLoad fields form status) l0 l1 p0 p1
+    load_prints : EndsLoad how form status l0 l1 p0 p1 → Prints (WroteLoad how form status) l0 l1 p0 p1
     load_prints e = λ bytes before source sink. elim e [
       | inl unread ↦
           let told = left_told bytes unread.taken l1 (sym source ∙ unread.left) in
@@ -58,15 +59,15 @@ module _ (status : Status) (l0 l1 p0 p1 : Option (List ℕ)) where
             wrote.1,
             inr (
               is,
-              subst (λ (s : Form). let a : Loaded = record { fields = fields; setting = r.loaded.setting; documents = r.loaded.documents; form = s } in
+              subst (λ (s : Form). let a : Loaded = record { dialect = how; setting = r.loaded.setting; documents = r.loaded.documents; form = s } in
                   outcomes.Wrote (IsBodyBehind a) (IsTextBehind a) (HasRefusalBehind a) (HasNoRefusalBehind a) status told.0 l1 wrote.0) r.same
-                  (subst (λ (ns : List (List ℕ)). let a : Loaded = record { fields = ns; setting = r.loaded.setting; documents = r.loaded.documents; form = r.loaded.form } in
-                  outcomes.Wrote (IsBodyBehind a) (IsTextBehind a) (HasRefusalBehind a) (HasNoRefusalBehind a) status told.0 l1 wrote.0) r.fields wrote.2),
+                  (subst (λ (ns : Dialect). let a : Loaded = record { dialect = ns; setting = r.loaded.setting; documents = r.loaded.documents; form = r.loaded.form } in
+                  outcomes.Wrote (IsBodyBehind a) (IsTextBehind a) (HasRefusalBehind a) (HasNoRefusalBehind a) status told.0 l1 wrote.0) r.dialect wrote.2),
             ),
           )
     ]
 
-    load_image : EndsLoad fields form status l0 l1 p0 p1 → (status ≡ Done) ⊎ (status ≡ Refused) → (bytes : List ℕ) → l0 ≡ Some bytes → HasImage bytes
+    load_image : EndsLoad how form status l0 l1 p0 p1 → (status ≡ Done) ⊎ (status ≡ Refused) → (bytes : List ℕ) → l0 ≡ Some bytes → HasImage bytes
     load_image e ended bytes source = elim e [
       | inl unread ↦ absurd (never status unread ended)
       | inr r ↦ image_of_read bytes source r
@@ -77,58 +78,58 @@ module _ (status : Status) (l0 l1 p0 p1 : Option (List ℕ)) where
 
   -- ---- of each command
 
-  pub ran_of : (fields : List (List ℕ)) (c : Command) → EndsBy fields c status l0 l1 p0 p1 → Ran fields c status l0 l1 p0 p1
-  ran_of fields (Run overlap form σ) e = λ bytes before source sink. ends_told _ _ _ _ status _ _ _ _ bytes e source before sink
-  ran_of fields (RunWorkers n form σ) e = λ bytes before source sink. ends_told _ _ _ _ status _ _ _ _ bytes e source before sink
-  ran_of fields (RunParts n overlap form σ) e = λ bytes before source sink. ends_told _ _ _ _ status _ _ _ _ bytes e source before sink
-  ran_of fields (RunWatches form σ) e = λ bytes before source sink. ends_told _ _ _ _ status _ _ _ _ bytes e source before sink
-  ran_of fields (Bench start count) e = λ before sink. figures_told status start count p0 p1 before e sink
-  ran_of fields (Save σ) e = λ bytes before source sink. ends_told _ _ _ _ status _ _ _ _ bytes e source before sink
-  ran_of fields (Load form) e = record {
-    all = load_prints fields form e;
-    lines = λ σ docs rest before allowed lawful source sink. load_told σ docs rest allowed lawful fields form status l0 l1 p0 p1 e source before sink;
-    bad_image = λ bad. (bad_told fields form status l0 l1 p0 p1 e bad).0;
+  pub ran_of : (how : Dialect) (c : Command) → EndsBy how c status l0 l1 p0 p1 → Ran how c status l0 l1 p0 p1
+  ran_of how (Run overlap form σ) e = λ bytes before source sink. ends_told _ _ _ _ status _ _ _ _ bytes e source before sink
+  ran_of how (RunWorkers n form σ) e = λ bytes before source sink. ends_told _ _ _ _ status _ _ _ _ bytes e source before sink
+  ran_of how (RunParts n overlap form σ) e = λ bytes before source sink. ends_told _ _ _ _ status _ _ _ _ bytes e source before sink
+  ran_of how (RunWatches form σ) e = λ bytes before source sink. ends_told _ _ _ _ status _ _ _ _ bytes e source before sink
+  ran_of how (Bench start count) e = λ before sink. figures_told status start count p0 p1 before e sink
+  ran_of how (Save σ) e = λ bytes before source sink. ends_told _ _ _ _ status _ _ _ _ bytes e source before sink
+  ran_of how (Load form) e = record {
+    all = load_prints how form e;
+    lines = λ σ docs rest before allowed lawful source sink. load_told σ docs rest allowed lawful how form status l0 l1 p0 p1 e source before sink;
+    bad_image = λ bad. (bad_told how form status l0 l1 p0 p1 e bad).0;
   }
 
-  pub means_of : (fields : List (List ℕ)) (c : Command) → EndsBy fields c status l0 l1 p0 p1 → Means fields c status l0 l1
-  means_of fields (Run overlap form σ) e = λ bytes source. ends_mean _ _ _ _ status _ _ _ _ bytes e source
-  means_of fields (RunWorkers n form σ) e = λ bytes source. ends_mean _ _ _ _ status _ _ _ _ bytes e source
-  means_of fields (RunParts n overlap form σ) e = λ bytes source. ends_mean _ _ _ _ status _ _ _ _ bytes e source
-  means_of fields (RunWatches form σ) e = λ bytes source. ends_mean _ _ _ _ status _ _ _ _ bytes e source
-  means_of fields (Bench start count) e = figures_mean status start count p0 p1 e
-  means_of fields (Save σ) e = λ bytes source. ends_mean _ _ _ _ status _ _ _ _ bytes e source
-  means_of fields (Load form) e = record {
-    image = load_image fields form e;
-    lines = λ σ docs rest allowed lawful source. load_means σ docs rest allowed lawful fields form status l0 l1 p0 p1 e source;
-    bad_image = λ bad. (bad_told fields form status l0 l1 p0 p1 e bad).1;
+  pub means_of : (how : Dialect) (c : Command) → EndsBy how c status l0 l1 p0 p1 → Means how c status l0 l1
+  means_of how (Run overlap form σ) e = λ bytes source. ends_mean _ _ _ _ status _ _ _ _ bytes e source
+  means_of how (RunWorkers n form σ) e = λ bytes source. ends_mean _ _ _ _ status _ _ _ _ bytes e source
+  means_of how (RunParts n overlap form σ) e = λ bytes source. ends_mean _ _ _ _ status _ _ _ _ bytes e source
+  means_of how (RunWatches form σ) e = λ bytes source. ends_mean _ _ _ _ status _ _ _ _ bytes e source
+  means_of how (Bench start count) e = figures_mean status start count p0 p1 e
+  means_of how (Save σ) e = λ bytes source. ends_mean _ _ _ _ status _ _ _ _ bytes e source
+  means_of how (Load form) e = record {
+    image = load_image how form e;
+    lines = λ σ docs rest allowed lawful source. load_means σ docs rest allowed lawful how form status l0 l1 p0 p1 e source;
+    bad_image = λ bad. (bad_told how form status l0 l1 p0 p1 e bad).1;
   }
 
   module _ (read_risen write_risen : Type 0) (read : status ≡ ReadFault → read_risen) (write : status ≡ WriteFault → write_risen) where
-    pub completes_of : (fields : List (List ℕ)) (c : Command) → EndsBy fields c status l0 l1 p0 p1 → Completes c read_risen write_risen status l0
-    completes_of fields (Run overlap form σ) e = λ no_read no_write bytes source short. completes _ _ _ _ status _ _ _ _ _ _ bytes e read write no_read no_write source short
-    completes_of fields (RunWorkers n form σ) e = λ no_read no_write bytes source short. completes _ _ _ _ status _ _ _ _ _ _ bytes e read write no_read no_write source short
-    completes_of fields (RunParts n overlap form σ) e = λ no_read no_write bytes source short. completes _ _ _ _ status _ _ _ _ _ _ bytes e read write no_read no_write source short
-    completes_of fields (RunWatches form σ) e = λ no_read no_write bytes source short. completes _ _ _ _ status _ _ _ _ _ _ bytes e read write no_read no_write source short
-    completes_of fields (Bench start count) e = λ no_write. figures_end status _ p0 p1 write_risen e write no_write
-    completes_of fields (Save σ) e = λ no_read no_write bytes source short. completes _ _ _ _ status _ _ _ _ _ _ bytes e read write no_read no_write source short
-    completes_of fields (Load form) e = λ no_read no_write σ docs rest allowed lawful source short.
-        load_completes σ docs rest allowed lawful fields form status l0 l1 p0 p1 read_risen write_risen e read write no_read no_write source short
+    pub completes_of : (how : Dialect) (c : Command) → EndsBy how c status l0 l1 p0 p1 → Completes c read_risen write_risen status l0
+    completes_of how (Run overlap form σ) e = λ no_read no_write bytes source short. completes _ _ _ _ status _ _ _ _ _ _ bytes e read write no_read no_write source short
+    completes_of how (RunWorkers n form σ) e = λ no_read no_write bytes source short. completes _ _ _ _ status _ _ _ _ _ _ bytes e read write no_read no_write source short
+    completes_of how (RunParts n overlap form σ) e = λ no_read no_write bytes source short. completes _ _ _ _ status _ _ _ _ _ _ bytes e read write no_read no_write source short
+    completes_of how (RunWatches form σ) e = λ no_read no_write bytes source short. completes _ _ _ _ status _ _ _ _ _ _ bytes e read write no_read no_write source short
+    completes_of how (Bench start count) e = λ no_write. figures_end status _ p0 p1 write_risen e write no_write
+    completes_of how (Save σ) e = λ no_read no_write bytes source short. completes _ _ _ _ status _ _ _ _ _ _ bytes e read write no_read no_write source short
+    completes_of how (Load form) e = λ no_read no_write σ docs rest allowed lawful source short.
+        load_completes σ docs rest allowed lawful how form status l0 l1 p0 p1 read_risen write_risen e read write no_read no_write source short
 
 -- ---- words ask for one command
 
 -- the words ask for a, and for this command by these names of fields
-pub ends_asked : (o : Option Asks) (a : Asks) (fields : List (List ℕ)) (c : Command) (status : Status) (l0 l1 p0 p1 : Option (List ℕ)) → o ≡ Some a → o ≡ Some (asks fields c)
-    → EndsBy a.fields a.command status l0 l1 p0 p1 → EndsBy fields c status l0 l1 p0 p1
-ends_asked o a fields c status l0 l1 p0 p1 own is ends = subst (λ (x : Option Asks). IfSome x (λ (b : Asks). EndsBy b.fields b.command status l0 l1 p0 p1)) (sym own ∙ is) ends
+pub ends_asked : (o : Option Asks) (a : Asks) (how : Dialect) (c : Command) (status : Status) (l0 l1 p0 p1 : Option (List ℕ)) → o ≡ Some a → o ≡ Some (asks how c)
+    → EndsBy a.dialect a.command status l0 l1 p0 p1 → EndsBy how c status l0 l1 p0 p1
+ends_asked o a how c status l0 l1 p0 p1 own is ends = subst (λ (x : Option Asks). IfSome x (λ (b : Asks). EndsBy b.dialect b.command status l0 l1 p0 p1)) (sym own ∙ is) ends
 
 -- ---- where memory ran out before anything was done
 
-pub none_done : (fields : List (List ℕ)) (c : Command) (left printed : Option (List ℕ)) → EndsBy fields c NoMemory left left printed printed
-none_done fields (Run overlap form σ) left printed = let a = output.asked fields σ overlap form in passing.ends_at_once _ _ _ _ (body_first a) left printed [] (body_none a)
-none_done fields (RunWorkers n form σ) left printed =
-    passing.ends_at_once _ _ _ _ (serving.body_first (workers.asked fields σ form)) left printed [] (body_none_given (workers.asked fields σ form))
-none_done fields (RunParts n overlap form σ) left printed = ends_none is_bad (parts_rules fields n σ form) left printed
-none_done fields (RunWatches form σ) left printed = ends_none ReadsOther (watch_rules fields σ form) left printed
-none_done fields (Bench start count) left printed = figures_none _ printed
-none_done fields (Save σ) left printed = passing.ends_at_once _ _ _ _ (parts_first (saved.asked fields σ)) left printed (head_of σ) (parts_none (saved.asked fields σ))
-none_done fields (Load form) left printed = load_none fields form left printed
+pub none_done : (how : Dialect) (c : Command) (left printed : Option (List ℕ)) → EndsBy how c NoMemory left left printed printed
+none_done how (Run overlap form σ) left printed = let a = output.asked how σ overlap form in passing.ends_at_once _ _ _ _ (body_first a) left printed [] (body_none a)
+none_done how (RunWorkers n form σ) left printed =
+    passing.ends_at_once _ _ _ _ (serving.body_first (workers.asked how σ form)) left printed [] (body_none_given (workers.asked how σ form))
+none_done how (RunParts n overlap form σ) left printed = ends_none is_bad (parts_rules how n σ form) left printed
+none_done how (RunWatches form σ) left printed = ends_none ReadsOther (watch_rules how σ form) left printed
+none_done how (Bench start count) left printed = figures_none _ printed
+none_done how (Save σ) left printed = passing.ends_at_once _ _ _ _ (parts_first (saved.asked how σ)) left printed (head_of σ) (parts_none (saved.asked how σ))
+none_done how (Load form) left printed = load_none how form left printed

@@ -1,4 +1,5 @@
 -- The words ask for nothing out of range.
+use Rattle.eb_fields.specs.Dialect.{Dialect, plain}
 use Rattle.std.proofs.Common.{◌≡◌, ℕ, ◌≤◌, List, [], ◌∷◌, Option, None, Some, refl, subst}
 use Rattle.std.specs.Prelude.{◌&&◌, ◌*◌, ◌^◌, Bool, true, false, codes, nat_le, if◌then◌else◌, option_map, option_and_then}
 use Rattle.std.specs.Str.{bytes_eq}
@@ -12,7 +13,7 @@ use Rattle.eb_run.specs.declared.command.Command.{Command}
 use Rattle.eb_run.specs.declared.command.Command.TheVariants.{Run, RunWorkers, RunParts, RunWatches, Bench, Save, Load}
 use Rattle.eb_run.specs.Command.{form_of, run_flags, run_options}
 use Rattle.eb_run.specs.Command.{is_few, with_workers, over_parts, run_by, run_with, run_of, bench_docs, bench_of, save_with, save_of, load_flags}
-use Rattle.eb_run.specs.Command.{load_with, load_of, Asks, FieldsApart, asks, asked_of, fields_apart, with_fields}
+use Rattle.eb_run.specs.Command.{load_with, load_of, Asks, DialectApart, asks, asked_of, dialect_apart, with_dialect}
 
 -- what is asked for is in range: a made input of at most 40,000 documents, 1 to 16 workers, 1 to 16 parts
 abbrev IsInRange : Option Command → Type 0
@@ -99,17 +100,17 @@ bench_in (start ∷ docs ∷ more ∷ words) = tt
 abbrev command_in : Option Asks → Option Command
 command_in a = option_map (λ (a : Asks). a.command) a
 
-asks_in : (names : List (List ℕ)) (o : Option Command) → IsInRange o → IsInRange (command_in (option_map (asks names) o))
-asks_in names None h = tt
-asks_in names (Some c) h = h
+asks_in : (how : Dialect) (o : Option Command) → IsInRange o → IsInRange (command_in (option_map (asks how) o))
+asks_in how None h = tt
+asks_in how (Some c) h = h
 
-with_fields_in : (options : List (List ℕ)) (ask : List (List ℕ) → Option Command) (words : List (List ℕ)) → ((words : List (List ℕ)) → IsInRange (ask words))
-    → IsInRange (command_in (with_fields options ask words))
-with_fields_in options ask words h = go (fields_apart options words)
+with_dialect_in : (options : List (List ℕ)) (ask : List (List ℕ) → Option Command) (words : List (List ℕ)) → ((words : List (List ℕ)) → IsInRange (ask words))
+    → IsInRange (command_in (with_dialect options ask words))
+with_dialect_in options ask words h = go (dialect_apart options words)
   where
-    go : (o : Option FieldsApart) → IsInRange (command_in (option_and_then (λ (a : FieldsApart). option_map (asks a.fields) (ask a.others)) o))
+    go : (o : Option DialectApart) → IsInRange (command_in (option_and_then (λ (a : DialectApart). option_map (asks a.dialect) (ask a.others)) o))
     go None = tt
-    go (Some a) = asks_in a.fields (ask a.others) (h a.others)
+    go (Some a) = asks_in a.dialect (ask a.others) (h a.others)
 
 either_asks : (b : Bool) (x y : Option Asks) → IsInRange (command_in x) → IsInRange (command_in y) → IsInRange (command_in (if b then x else y))
 either_asks true x y h k = h
@@ -118,21 +119,21 @@ either_asks false x y h k = k
 asked_in : (words : List (List ℕ)) → IsInRange (command_in (asked_of words))
 asked_in [] = tt
 asked_in (name ∷ words) =
-    either_asks (bytes_eq name (codes "run")) _ _ (with_fields_in run_options run_of words run_in)
-    (either_asks (bytes_eq name (codes "bench")) _ _ (asks_in [] (bench_of words) (bench_in words))
-    (either_asks (bytes_eq name (codes "save")) _ _ (with_fields_in setting_options save_of words save_in)
-    (either_asks (bytes_eq name (codes "load")) _ _ (with_fields_in [] load_of words load_in) tt)))
+    either_asks (bytes_eq name (codes "run")) _ _ (with_dialect_in run_options run_of words run_in)
+    (either_asks (bytes_eq name (codes "bench")) _ _ (asks_in plain (bench_of words) (bench_in words))
+    (either_asks (bytes_eq name (codes "save")) _ _ (with_dialect_in setting_options save_of words save_in)
+    (either_asks (bytes_eq name (codes "load")) _ _ (with_dialect_in [] load_of words load_in) tt)))
 
-in_range : (words names : List (List ℕ)) (c : Command) → asked_of words ≡ Some (asks names c) → IsInRange (Some c)
-in_range words names c e = subst (λ (o : Option Asks). IsInRange (command_in o)) e (asked_in words)
+in_range : (words : List (List ℕ)) (how : Dialect) (c : Command) → asked_of words ≡ Some (asks how c) → IsInRange (Some c)
+in_range words how c e = subst (λ (o : Option Asks). IsInRange (command_in o)) e (asked_in words)
 
 -- a made input that is asked for has at most 40,000 documents
-pub few_made : (words names : List (List ℕ)) (start docs : ℕ) → asked_of words ≡ Some (asks names (Bench start docs)) → docs ≤ 40000
-few_made words names start docs e = in_range words names (Bench start docs) e
+pub few_made : (words : List (List ℕ)) (how : Dialect) (start docs : ℕ) → asked_of words ≡ Some (asks how (Bench start docs)) → docs ≤ 40000
+few_made words how start docs e = in_range words how (Bench start docs) e
 
 -- workers and parts that are asked for are 1 to 16
-pub few_workers : (words names : List (List ℕ)) (n : ℕ) (form : Form) (σ : Setting) → asked_of words ≡ Some (asks names (RunWorkers n form σ)) → (1 ≤ n) × (n ≤ 16)
-few_workers words names n form σ e = in_range words names (RunWorkers n form σ) e
+pub few_workers : (words : List (List ℕ)) (how : Dialect) (n : ℕ) (form : Form) (σ : Setting) → asked_of words ≡ Some (asks how (RunWorkers n form σ)) → (1 ≤ n) × (n ≤ 16)
+few_workers words how n form σ e = in_range words how (RunWorkers n form σ) e
 
-pub few_parts : (words names : List (List ℕ)) (n : ℕ) (overlap : Bool) (form : Form) (σ : Setting) → asked_of words ≡ Some (asks names (RunParts n overlap form σ)) → (1 ≤ n) × (n ≤ 16)
-few_parts words names n overlap form σ e = in_range words names (RunParts n overlap form σ) e
+pub few_parts : (words : List (List ℕ)) (how : Dialect) (n : ℕ) (overlap : Bool) (form : Form) (σ : Setting) → asked_of words ≡ Some (asks how (RunParts n overlap form σ)) → (1 ≤ n) × (n ≤ 16)
+few_parts words how n overlap form σ e = in_range words how (RunParts n overlap form σ) e

@@ -1,4 +1,5 @@
 -- What a feed prints whose lines are processed one after the other may be printed with workers.
+use Rattle.eb_fields.specs.Dialect.{Dialect}
 use Rattle.std.proofs.Common.{◌≡◌, ℕ, suc, ◌+◌, ◌<◌, Bool, false, List, [], ◌∷◌, ◌++◌, length, take, refl, sym, ap, ap₂, subst, ◌∙◌, arith, append_assoc, length-append}
 use Rattle.std.specs.Prelude.{if◌then◌else◌}
 use Rattle.std.proofs.Math.Seq.{take-append_seam}
@@ -22,16 +23,16 @@ pub sees_told : (rs : List Reading) → workers.SeesTold rs (told rs)
 sees_told rs = record { least = λ j e. omega arith; most = λ j e. told_within rs j }
 
 -- lines have a text with workers
-pub some_text : (names : List (List ℕ)) (c : FeedCommand) (lines : List Line) → (printed : List ℕ) × workers.IsFeedText (asked_of names c) lines printed
-some_text names c lines =
-    let a = asked_of names c in
-    let raw = some_read names lines in
+pub some_text : (how : Dialect) (c : FeedCommand) (lines : List Line) → (printed : List ℕ) × workers.IsFeedText (asked_of how c) lines printed
+some_text how c lines =
+    let a = asked_of how c in
+    let raw = some_read how lines in
     let rs = raw.0 in
     (workers.body a (told rs) rs ++ workers.end_of a rs, record { readings = rs; numbers = told rs; read = raw.1; sees = sees_told rs; bytes = refl })
 
-module _ (names : List (List ℕ)) (c : FeedCommand) where
+module _ (how : Dialect) (c : FeedCommand) where
   abbrev rules : Rules (Unit {0})
-  rules = rules_of names c
+  rules = rules_of how c
 
   comes_same : (docs : List Doc) (r : Reading) → comes rules docs tt r ≡ r
   comes_same docs blank = refl
@@ -46,10 +47,10 @@ module _ (names : List (List ℕ)) (c : FeedCommand) where
   come_same docs (r ∷ rs) =
       ap (λ x. x ∷ come_behind rules (docs ++ documents_in x) tt rs) (comes_same docs r) ∙ ap (λ xs. r ∷ xs) (come_same (docs ++ documents_in r) rs)
 
-  pub read_same : (lines : List Line) (rs : List Reading) → AreRead is_bad rules lines rs → workers.AreRead names lines rs
-  read_same lines rs h = subst (workers.AreRead names lines) (sym (h.2 ∙ come_same [] h.0)) (raw_read names lines h.0 h.1)
+  pub read_same : (lines : List Line) (rs : List Reading) → AreRead is_bad rules lines rs → workers.AreRead how lines rs
+  read_same lines rs h = subst (workers.AreRead how lines) (sym (h.2 ∙ come_same [] h.0)) (raw_read how lines h.0 h.1)
 
-  says_same : (number seen : ℕ) (all docs : List Doc) (r : Reading) → seen ≡ length docs → take seen all ≡ docs → says rules number docs tt r ≡ workers.output_of (asked_of names c) number seen all r
+  says_same : (number seen : ℕ) (all docs : List Doc) (r : Reading) → seen ≡ length docs → take seen all ≡ docs → says rules number docs tt r ≡ workers.output_of (asked_of how c) number seen all r
   says_same number seen all docs blank e f = refl
   says_same number seen all docs (document d) e f = refl
   says_same number seen all docs (query k q) e f = ap₂ (λ n ds. answer_line c.form number n (answer q k (kept c.config c.keep ds))) (sym e) (sym f)
@@ -57,7 +58,7 @@ module _ (names : List (List ℕ)) (c : FeedCommand) where
   says_same number seen all docs (watch n q) e f = refl
 
   from_same : (n : ℕ → ℕ) (all docs : List Doc) (j : ℕ) (rs : List Reading) → all ≡ docs ++ accepted rs → ((i m : ℕ) → i < length rs → m ≡ j + i → n m ≡ length docs + told rs i)
-      → body_from rules j docs tt rs ≡ workers.body_from (asked_of names c) n all j rs
+      → body_from rules j docs tt rs ≡ workers.body_from (asked_of how c) n all j rs
   unfolding body_from workers.body_from
   from_same n all docs j [] e h = refl
   from_same n all docs j (r ∷ rs) e h =
@@ -70,17 +71,17 @@ module _ (names : List (List ℕ)) (c : FeedCommand) where
       let there = h (suc i) m (omega (arith, low)) (omega (arith, is)) in
       omega (arith, there, told-cons r rs i, length-append docs (documents_in r))))
 
-  body_same : (rs : List Reading) → body rules rs ≡ workers.body (asked_of names c) (told rs) rs
+  body_same : (rs : List Reading) → body rules rs ≡ workers.body (asked_of how c) (told rs) rs
   body_same rs = from_same (told rs) (accepted rs) [] 0 rs refl (λ i m low is. (let same : m ≡ i = omega (arith, is) in ap (told rs) same ∙ omega arith))
 
-  end_same : c.form.stats ≡ false → (rs : List Reading) → end_of rules rs ≡ workers.end_of (asked_of names c) rs
+  end_same : c.form.stats ≡ false → (rs : List Reading) → end_of rules rs ≡ workers.end_of (asked_of how c) rs
   end_same plain rs =
       let docs = accepted rs in
       ap (λ (t : Bool). summary_with c.form (length docs) (queries rs) (refusals rs)
       (if t then Generations (length (kept c.config c.keep docs)) (kept_segments c.config c.keep docs) 0 (length (generations c.config docs)) else Kept (length (kept c.config c.keep docs)))) plain
 
   -- the text is one of those with workers
-  pub text_with_workers : (lines : List Line) (printed : List ℕ) → c.form.stats ≡ false → IsText is_bad rules lines printed → workers.IsFeedText (asked_of names c) lines printed
+  pub text_with_workers : (lines : List Line) (printed : List ℕ) → c.form.stats ≡ false → IsText is_bad rules lines printed → workers.IsFeedText (asked_of how c) lines printed
   text_with_workers lines printed plain t =
       let rs = t.readings in
       record {

@@ -1,4 +1,5 @@
 -- From one round to the next.
+use Rattle.eb_fields.specs.Dialect.{Dialect}
 use Rattle.std.proofs.Common.{◌≡◌, ℕ, zero, suc, ◌+◌, ◌<◌, ◌≤◌, Bool, true, false, List, [], ◌∷◌, ◌++◌, length, take, map, count_by}
 use Rattle.std.proofs.Common.{refl, sym, ap, ap₂, subst, ◌∙◌, arith, append_assoc, append-nil, length-append, le_trans, zero-add}
 use Rattle.std.specs.List.{AllZip}
@@ -135,13 +136,13 @@ counts_append rs ss c d e f g h =
 
 -- ---- the round
 
-module _ (fields : List (List ℕ)) (form : Form) (σ : Setting) (given : List Line) (docs docs_new : List Doc) (held : Standing) (counts_new : Counted) (so_far printed : List ℕ)
-    (a : HasWorkedOff fields form σ given docs held so_far) (w : WorkedOff fields form σ held.held docs docs_new held.counts counts_new printed) where
+module _ (how : Dialect) (form : Form) (σ : Setting) (given : List Line) (docs docs_new : List Doc) (held : Standing) (counts_new : Counted) (so_far printed : List ℕ)
+    (a : HasWorkedOff how form σ given docs held so_far) (w : WorkedOff how form σ held.held docs docs_new held.counts counts_new printed) where
   abbrev pub k : ℕ
   k = length a.done
 
-  abbrev pub back : (rs : List Reading) × AllZip (Reads fields) a.waiting rs × (w.raw ≡ entries_from k rs)
-  back = read_back fields k a.waiting w.raw (subst (λ hs. AllZip (ReadsLine fields) hs w.raw) a.lines w.read)
+  abbrev pub back : (rs : List Reading) × AllZip (Reads how) a.waiting rs × (w.raw ≡ entries_from k rs)
+  back = read_back how k a.waiting w.raw (subst (λ hs. AllZip (ReadsLine how) hs w.raw) a.lines w.read)
 
   -- what the waiting lines come to
   abbrev pub ss : List Reading
@@ -157,12 +158,12 @@ module _ (fields : List (List ℕ)) (form : Form) (σ : Setting) (given : List L
   docs_are = w.docs ∙ ap₂ (λ x y. x ++ y) a.adds adds_are
 
   long_is : length a.readings ≡ k
-  long_is = read_long (Reads fields) σ [] a.done a.readings a.read
+  long_is = read_long (Reads how) σ [] a.done a.readings a.read
 
-  read_on : AreRead fields σ given (a.readings ++ ss)
-  read_on = subst (λ ls. AreRead fields σ ls (a.readings ++ ss)) (sym a.parts) (
+  read_on : AreRead how σ given (a.readings ++ ss)
+  read_on = subst (λ ls. AreRead how σ ls (a.readings ++ ss)) (sym a.parts) (
     a.read.0 ++ back.0,
-    zip_append (Reads fields) a.done a.read.0 a.waiting back.0 a.read.1 back.1,
+    zip_append (Reads how) a.done a.read.0 a.waiting back.0 a.read.1 back.1,
     ap₂ (λ x ds. x ++ admitted_from σ ds back.0) a.read.2 (a.adds ∙ ap accepted a.read.2) ∙ sym (admitted-append σ [] a.read.0 back.0),
   )
 
@@ -179,7 +180,7 @@ module _ (fields : List (List ℕ)) (form : Form) (σ : Setting) (given : List L
   -- with any numbers that go on so
   pub goes_on : (n : ℕ → ℕ) → SeesBetween (a.readings ++ ss) n → ((j : ℕ) → IsAsked a.readings j → (n j ≡ a.numbers j) × (a.numbers j ≤ added_count a.readings))
       → ((i : ℕ) → IsAsked ss i → n (length a.readings + i) ≡ seen_in ss w.shown i)
-      → HasSettled fields form σ given docs_new counts_new (so_far ++ printed)
+      → HasSettled how form σ given docs_new counts_new (so_far ++ printed)
   goes_on n sees front rest = record {
     readings = a.readings ++ ss;
     numbers = n;
@@ -205,15 +206,15 @@ asked_low (r ∷ rs) zero e = omega arith
 asked_low (r ∷ rs) (suc j) e = omega (arith, asked_low rs j e)
 
 -- the round is processed
-pub overlapped : (fields : List (List ℕ)) (form : Form) (σ : Setting) (given : List Line) (docs docs_new : List Doc) (held : Standing) (counts_new : Counted) (so_far printed : List ℕ)
-    → HasWorkedOff fields form σ given docs held so_far → WorkedOff fields form σ held.held docs docs_new held.counts counts_new printed
-    → HasSettled fields form σ given docs_new counts_new (so_far ++ printed)
-overlapped fields form σ given docs docs_new held counts_new so_far printed a w =
+pub overlapped : (how : Dialect) (form : Form) (σ : Setting) (given : List Line) (docs docs_new : List Doc) (held : Standing) (counts_new : Counted) (so_far printed : List ℕ)
+    → HasWorkedOff how form σ given docs held so_far → WorkedOff how form σ held.held docs docs_new held.counts counts_new printed
+    → HasSettled how form σ given docs_new counts_new (so_far ++ printed)
+overlapped how form σ given docs docs_new held counts_new so_far printed a w =
     let rs = a.readings in
-    let more = ss fields form σ given docs docs_new held counts_new so_far printed a w in
+    let more = ss how form σ given docs docs_new held counts_new so_far printed a w in
     let m = seen_in more w.shown in
-    let h = within fields form σ given docs docs_new held counts_new so_far printed a w in
-    let q = first_is fields form σ given docs docs_new held counts_new so_far printed a w in
-    goes_on fields form σ given docs docs_new held counts_new so_far printed a w (joined_numbers (length rs) a.numbers m) (sees_on rs more a.numbers m a.sees h q)
+    let h = within how form σ given docs docs_new held counts_new so_far printed a w in
+    let q = first_is how form σ given docs docs_new held counts_new so_far printed a w in
+    goes_on how form σ given docs docs_new held counts_new so_far printed a w (joined_numbers (length rs) a.numbers m) (sees_on rs more a.numbers m a.sees h q)
     (λ j e. (front_is rs more a.numbers m a.sees h q j (asked_low rs j e), le_trans (a.sees.most j e) (next_within rs j)))
     (λ i e. back_is rs more a.numbers m a.sees h q i)

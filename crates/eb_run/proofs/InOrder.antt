@@ -1,4 +1,5 @@
 -- What lines come to and print by the rules of an index is what they come to and print in order mode.
+use Rattle.eb_fields.specs.Dialect.{Dialect}
 use Rattle.std.proofs.Common.{◌≡◌, Option, ℕ, suc, ◌+◌, ◌<◌, List, [], ◌∷◌, ◌++◌, length, take, Some, None, refl, sym, ap, ap₂, ◌∙◌, arith, append_assoc, length-append}
 use Rattle.std.specs.Prelude.{Bool, true, false, if◌then◌else◌}
 use Rattle.std.proofs.Math.Seq.{take-append_seam}
@@ -41,25 +42,25 @@ unfolding accepted
 accepted-cons r rs = refl
 
 -- a line is read in the same way
-kind_read : (fields : List (List ℕ)) (k : Kind) (bytes : List ℕ) (r : Reading) → ReadsKind is_bad fields k bytes r → ReadsByKind fields k bytes r
-kind_read fields blank_line bytes r h = h
-kind_read fields document_line bytes r h = h
-kind_read fields query_line bytes r h = h
-kind_read fields bad_line bytes r h = h
+kind_read : (how : Dialect) (k : Kind) (bytes : List ℕ) (r : Reading) → ReadsKind is_bad how k bytes r → ReadsByKind how k bytes r
+kind_read how blank_line bytes r h = h
+kind_read how document_line bytes r h = h
+kind_read how query_line bytes r h = h
+kind_read how bad_line bytes r h = h
 
-line_read : (fields : List (List ℕ)) (l : Line) (r : Reading) → ReadsWith is_bad fields l r → Reads fields l r
-line_read fields (line bytes) r h = kind_read fields (kind_of bytes) bytes r h
-line_read fields long_line r h = h
+line_read : (how : Dialect) (l : Line) (r : Reading) → ReadsWith is_bad how l r → Reads how l r
+line_read how (line bytes) r h = kind_read how (kind_of bytes) bytes r h
+line_read how long_line r h = h
 
-pub raw_read : (fields : List (List ℕ)) (ls : List Line) (rs : List Reading) → AllZip (ReadsWith is_bad fields) ls rs → AllZip (Reads fields) ls rs
-raw_read fields [] [] h = tt
-raw_read fields [] (r ∷ rs) h = absurd h
-raw_read fields (l ∷ ls) [] h = absurd h
-raw_read fields (l ∷ ls) (r ∷ rs) h = (line_read fields l r h.0, raw_read fields ls rs h.1)
+pub raw_read : (how : Dialect) (ls : List Line) (rs : List Reading) → AllZip (ReadsWith is_bad how) ls rs → AllZip (Reads how) ls rs
+raw_read how [] [] h = tt
+raw_read how [] (r ∷ rs) h = absurd h
+raw_read how (l ∷ ls) [] h = absurd h
+raw_read how (l ∷ ls) (r ∷ rs) h = (line_read how l r h.0, raw_read how ls rs h.1)
 
-module _ (fields : List (List ℕ)) (σ : Setting) (form : Form) (start : List Doc) where
+module _ (how : Dialect) (σ : Setting) (form : Form) (start : List Doc) where
   abbrev rules : Rules (Unit {0})
-  rules = index_rules fields σ form start
+  rules = index_rules how σ form start
 
   by_room : (b : Bool) (d : Doc) → document_outcome d (if b then None else Some Full) ≡ (if b then document d else refused Full)
   by_room true d = refl
@@ -78,8 +79,8 @@ module _ (fields : List (List ℕ)) (σ : Setting) (form : Form) (start : List D
   come_same docs (r ∷ rs) =
       ap (λ x. x ∷ come_behind rules (docs ++ documents_in x) tt rs) (comes_same docs r) ∙ ap (λ xs. admit σ docs r ∷ xs) (come_same (docs ++ documents_in (admit σ docs r)) rs)
 
-  pub read_same : (lines : List Line) (rs : List Reading) → answered.AreRead is_bad rules lines rs → AreReadBehind (Reads fields) σ start lines rs
-  read_same lines rs h = (h.0, raw_read fields lines h.0 h.1, h.2 ∙ come_same start h.0)
+  pub read_same : (lines : List Line) (rs : List Reading) → answered.AreRead is_bad rules lines rs → AreReadBehind (Reads how) σ start lines rs
+  read_same lines rs h = (h.0, raw_read how lines h.0 h.1, h.2 ∙ come_same start h.0)
 
   says_same : (number seen : ℕ) (all docs : List Doc) (r : Reading) → seen ≡ length docs → take seen all ≡ docs → says rules number docs tt r ≡ rounds.output_of form number seen all r
   says_same number seen all docs blank e f = refl
@@ -104,29 +105,29 @@ module _ (fields : List (List ℕ)) (σ : Setting) (form : Form) (start : List D
 
 -- ---- an index that held nothing at first
 
-module _ (fields : List (List ℕ)) (σ : Setting) (form : Form) where
+module _ (how : Dialect) (σ : Setting) (form : Form) where
   abbrev empty : Rules (Unit {0})
-  empty = index_rules fields σ form []
+  empty = index_rules how σ form []
 
   pub body_in_order : (rs : List Reading) → body empty rs ≡ rounds.body form (told rs) rs
-  body_in_order rs = from_same fields σ form [] (told rs) (accepted rs) [] 0 rs refl (λ i m low is. (let same : m ≡ i = omega (arith, is) in ap (told rs) same ∙ omega arith))
+  body_in_order rs = from_same how σ form [] (told rs) (accepted rs) [] 0 rs refl (λ i m low is. (let same : m ≡ i = omega (arith, is) in ap (told rs) same ∙ omega arith))
 
-  pub is_body : (lines : List Line) (printed : List ℕ) → IsBody is_bad empty lines printed → IsBodyOf (asked fields σ false form) lines printed
+  pub is_body : (lines : List Line) (printed : List ℕ) → IsBody is_bad empty lines printed → IsBodyOf (asked how σ false form) lines printed
   is_body lines printed b = record {
     readings = b.readings;
     numbers = told b.readings;
-    read = read_same fields σ form [] lines b.readings b.read;
+    read = read_same how σ form [] lines b.readings b.read;
     sees = λ j. refl;
     bytes = b.bytes ∙ body_in_order b.readings;
   }
 
-  pub is_text : (lines : List Line) (printed : List ℕ) → IsText is_bad empty lines printed → IsTextOf (asked fields σ false form) lines printed
+  pub is_text : (lines : List Line) (printed : List ℕ) → IsText is_bad empty lines printed → IsTextOf (asked how σ false form) lines printed
   is_text lines printed t =
       let rs = t.readings in
       record {
         readings = rs;
         numbers = told rs;
-        read = read_same fields σ form [] lines rs t.read;
+        read = read_same how σ form [] lines rs t.read;
         sees = λ j. refl;
         bytes = t.bytes ∙ ap (λ x. x ++ rounds.end_of σ form rs) (body_in_order rs);
       }
@@ -154,9 +155,9 @@ module _ (prints prints' ends_with ends_with' : List Line → List ℕ → Type 
       → passing.Ends prints' ends_with' refuses' accepts' status l0 l1 p0 p1
   ends_as status l0 l1 p0 p1 h = record { taken = h.taken; printed = h.printed; left = h.left; put = h.put; ends = each_as status h.taken l1 h.printed h.ends }
 
-pub ends_in_order : (fields : List (List ℕ)) (σ : Setting) (form : Form) (status : Status) (l0 l1 p0 p1 : Option (List ℕ))
-    → (let rules = index_rules fields σ form [] in passing.Ends (IsBody is_bad rules) (IsText is_bad rules) (answered.HasRefusal is_bad rules) (answered.HasNoRefusal is_bad rules) status l0 l1 p0 p1)
-    → Ends fields σ false form status l0 l1 p0 p1
-ends_in_order fields σ form status l0 l1 p0 p1 h =
-    ends_as _ (IsBodyOf (asked fields σ false form)) _ (IsTextOf (asked fields σ false form)) _ (HasRefusal fields σ) _ (HasNoRefusal fields σ) (is_body fields σ form) (is_text fields σ form)
-    (λ ls x. (x.0, read_same fields σ form [] ls x.0 x.1, x.2)) (λ ls x. (x.0, read_same fields σ form [] ls x.0 x.1, x.2)) status l0 l1 p0 p1 h
+pub ends_in_order : (how : Dialect) (σ : Setting) (form : Form) (status : Status) (l0 l1 p0 p1 : Option (List ℕ))
+    → (let rules = index_rules how σ form [] in passing.Ends (IsBody is_bad rules) (IsText is_bad rules) (answered.HasRefusal is_bad rules) (answered.HasNoRefusal is_bad rules) status l0 l1 p0 p1)
+    → Ends how σ false form status l0 l1 p0 p1
+ends_in_order how σ form status l0 l1 p0 p1 h =
+    ends_as _ (IsBodyOf (asked how σ false form)) _ (IsTextOf (asked how σ false form)) _ (HasRefusal how σ) _ (HasNoRefusal how σ) (is_body how σ form) (is_text how σ form)
+    (λ ls x. (x.0, read_same how σ form [] ls x.0 x.1, x.2)) (λ ls x. (x.0, read_same how σ form [] ls x.0 x.1, x.2)) status l0 l1 p0 p1 h

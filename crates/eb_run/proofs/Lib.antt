@@ -9,7 +9,6 @@ pub mod Loads
 pub mod Benches
 pub mod Commands
 pub mod Commanded
-pub mod EachCommand
 pub mod InOrder
 pub mod MadeLines
 pub mod Feeds

@@ -1,4 +1,5 @@
 -- What a line is held as tells what its reading may be.
+use Rattle.eb_fields.specs.Dialect.{Dialect}
 use Rattle.std.proofs.Common.{◌≡◌, ℕ, ◌+◌, Bool, true, false, List, [], ◌∷◌, Option, Some, None, Ok, Err, refl, sym, ap, ◌∙◌, arith, zero-add}
 use Rattle.std.specs.Prelude.{Result}
 use Rattle.std.specs.List.{AllZip, AllByRecursion}
@@ -42,26 +43,26 @@ of_query_free (bad_query column) = refl
 of_query_free too_deep = refl
 of_query_free too_many_nodes = refl
 
-quiet_by : (fields : List (List ℕ)) (k : Kind) (bytes : List ℕ) (r : Reading) → asks_query (input_by k bytes) ≡ false → ReadsByKind fields k bytes r → is_query_line r ≡ false
-quiet_by fields blank_line bytes r e h = rw h refl
-quiet_by fields kind.document_line bytes r e h = of_document_quiet (document_with fields bytes) r h
-quiet_by fields kind.query_line bytes r e h = absurd (cc e)
-quiet_by fields bad_line bytes r e h = rw h refl
+quiet_by : (how : Dialect) (k : Kind) (bytes : List ℕ) (r : Reading) → asks_query (input_by k bytes) ≡ false → ReadsByKind how k bytes r → is_query_line r ≡ false
+quiet_by how blank_line bytes r e h = rw h refl
+quiet_by how kind.document_line bytes r e h = of_document_quiet (document_with how bytes) r h
+quiet_by how kind.query_line bytes r e h = absurd (cc e)
+quiet_by how bad_line bytes r e h = rw h refl
 
-free_by : (fields : List (List ℕ)) (k : Kind) (bytes : List ℕ) (r : Reading) → gives_document (input_by k bytes) ≡ false → ReadsByKind fields k bytes r → is_document_line r ≡ false
-free_by fields blank_line bytes r e h = rw h refl
-free_by fields kind.document_line bytes r e h = absurd (cc e)
-free_by fields kind.query_line bytes r e h = ap is_document_line h.2 ∙ of_query_free h.0
-free_by fields bad_line bytes r e h = rw h refl
+free_by : (how : Dialect) (k : Kind) (bytes : List ℕ) (r : Reading) → gives_document (input_by k bytes) ≡ false → ReadsByKind how k bytes r → is_document_line r ≡ false
+free_by how blank_line bytes r e h = rw h refl
+free_by how kind.document_line bytes r e h = absurd (cc e)
+free_by how kind.query_line bytes r e h = ap is_document_line h.2 ∙ of_query_free h.0
+free_by how bad_line bytes r e h = rw h refl
 
 -- a line that isn't held as a query line
-pub reads_quiet : (fields : List (List ℕ)) (l : Line) (r : Reading) → asks_query (held_as l) ≡ false → Reads fields l r → is_query_line r ≡ false
-reads_quiet fields (line bytes) r e h = quiet_by fields (kind_of bytes) bytes r e h
-reads_quiet fields long_line r e h = rw h refl
+pub reads_quiet : (how : Dialect) (l : Line) (r : Reading) → asks_query (held_as l) ≡ false → Reads how l r → is_query_line r ≡ false
+reads_quiet how (line bytes) r e h = quiet_by how (kind_of bytes) bytes r e h
+reads_quiet how long_line r e h = rw h refl
 
-reads_free : (fields : List (List ℕ)) (l : Line) (r : Reading) → gives_document (held_as l) ≡ false → Reads fields l r → is_document_line r ≡ false
-reads_free fields (line bytes) r e h = free_by fields (kind_of bytes) bytes r e h
-reads_free fields long_line r e h = rw h refl
+reads_free : (how : Dialect) (l : Line) (r : Reading) → gives_document (held_as l) ≡ false → Reads how l r → is_document_line r ≡ false
+reads_free how (line bytes) r e h = free_by how (kind_of bytes) bytes r e h
+reads_free how long_line r e h = rw h refl
 
 documents_cons : (number : ℕ) (o : Option HeldInput) (hs : List HeldLine) → documents_held (before_held number o hs) ≡ one_if (gives_document o) + documents_held hs
 unfolding documents_held
@@ -74,11 +75,11 @@ none_given true n e = absurd (omega (arith, e))
 none_given false n e = (refl, omega (arith, e))
 
 -- lines of which none is held as a document line
-pub free_of : (fields : List (List ℕ)) (k : ℕ) (ls : List Line) → documents_held (held_from k ls) ≡ 0 → (rs : List Reading) → AllZip (Reads fields) ls rs
+pub free_of : (how : Dialect) (k : ℕ) (ls : List Line) → documents_held (held_from k ls) ≡ 0 → (rs : List Reading) → AllZip (Reads how) ls rs
     → AllByRecursion (λ x. is_document_line x ≡ false) rs
-free_of fields k [] e [] h = tt
-free_of fields k [] e (r ∷ rs) h = absurd h
-free_of fields k (l ∷ ls) e [] h = absurd h
-free_of fields k (l ∷ ls) e (r ∷ rs) h =
+free_of how k [] e [] h = tt
+free_of how k [] e (r ∷ rs) h = absurd h
+free_of how k (l ∷ ls) e [] h = absurd h
+free_of how k (l ∷ ls) e (r ∷ rs) h =
     let n = none_given (gives_document (held_as l)) (documents_held (held_from (k + 1) ls)) (sym (documents_cons (k + 1) (held_as l) (held_from (k + 1) ls)) ∙ e) in
-    (reads_free fields l r n.0 h.0, free_of fields (k + 1) ls n.1 rs h.1)
+    (reads_free how l r n.0 h.0, free_of how (k + 1) ls n.1 rs h.1)

@@ -1,4 +1,5 @@
 -- How a load ends that reads no image.
+use Rattle.eb_fields.specs.Dialect.{Dialect}
 use Rattle.std.proofs.Common.{◌≡◌, ℕ, List, [], ◌++◌, Option, inl, inr, refl, sym, ap, ◌∙◌, subst}
 use Rattle.eb_archive.specs.Loaded.{EndsLoad, IsImage}
 use Rattle.eb_archive.proofs.Images.{none_head}
@@ -17,14 +18,14 @@ no_bytes whole h f =
     let no : ⊥ = cc e in no
 
 -- no memory before anything is read
-pub load_none : (fields : List (List ℕ)) (form : Form) (left printed : Option (List ℕ)) → EndsLoad fields form NoMemory left left printed printed
-load_none fields form left printed = inl (record { taken = []; left = sym (after-nil left); why = none_head [] no_bytes; printed = refl })
+pub load_none : (how : Dialect) (form : Form) (left printed : Option (List ℕ)) → EndsLoad how form NoMemory left left printed printed
+load_none how form left printed = inl (record { taken = []; left = sym (after-nil left); why = none_head [] no_bytes; printed = refl })
 
 -- nothing was printed where no image was read
-pub bad_told : (fields : List (List ℕ)) (form : Form) (status : Status) (l0 l1 p0 p1 : Option (List ℕ)) → EndsLoad fields form status l0 l1 p0 p1 → status ≡ BadImage
+pub bad_told : (how : Dialect) (form : Form) (status : Status) (l0 l1 p0 p1 : Option (List ℕ)) → EndsLoad how form status l0 l1 p0 p1 → status ≡ BadImage
     → (p1 ≡ p0) × ((taken : List ℕ) × (l0 ≡ after taken l1) × IsBad IsImage taken l1)
-bad_told fields form status l0 l1 p0 p1 e is = go (subst (λ (s : Status). EndsLoad fields form s l0 l1 p0 p1) is e)
+bad_told how form status l0 l1 p0 p1 e is = go (subst (λ (s : Status). EndsLoad how form s l0 l1 p0 p1) is e)
   where
-    go : EndsLoad fields form BadImage l0 l1 p0 p1 → (p1 ≡ p0) × ((taken : List ℕ) × (l0 ≡ after taken l1) × IsBad IsImage taken l1)
+    go : EndsLoad how form BadImage l0 l1 p0 p1 → (p1 ≡ p0) × ((taken : List ℕ) × (l0 ≡ after taken l1) × IsBad IsImage taken l1)
     go (inl u) = (u.printed, (u.taken, u.left, u.why))
     go (inr r) = absurd r.ends.ends

@@ -1,4 +1,5 @@
 -- No line comes to one that is refused as full.
+use Rattle.eb_fields.specs.Dialect.{Dialect}
 use Rattle.std.proofs.Common.{◌≡◌, ℕ, Bool, true, false, List, [], ◌∷◌, ◌++◌, Option, Some, None, sym, ap, refl, subst}
 use Rattle.std.specs.Prelude.{◌==◌, if◌then◌else◌, length, Result, Ok, Err}
 use Rattle.std.specs.List.{AllZip, AllByRecursion}
@@ -52,32 +53,32 @@ of_watch (outcome.reads (bad_query column)) e = (cc e)
 of_watch (outcome.reads too_deep) e = (cc e)
 of_watch (outcome.reads too_many_nodes) e = (cc e)
 
-of_bad : (names : List (List ℕ)) (bytes : List ℕ) → is_bad names bytes (refused Full) → ⊥
-of_bad names bytes e = (cc e)
+of_bad : (how : Dialect) (bytes : List ℕ) → is_bad how bytes (refused Full) → ⊥
+of_bad how bytes e = (cc e)
 
-of_other : (names : List (List ℕ)) (bytes : List ℕ) → ReadsOther names bytes (refused Full) → ⊥
-of_other names bytes e = go (is_watch_line bytes) e
+of_other : (how : Dialect) (bytes : List ℕ) → ReadsOther how bytes (refused Full) → ⊥
+of_other how bytes e = go (is_watch_line bytes) e
   where
-    go : (t : Bool) → ReadsOtherBy names t bytes (refused Full) → ⊥
+    go : (t : Bool) → ReadsOtherBy how t bytes (refused Full) → ⊥
     go true e = of_watch e.0 e.2
     go false e = (cc e)
 
-module _ (other : List (List ℕ) → List ℕ → Reading → Type 0) (none : (names : List (List ℕ)) (bytes : List ℕ) → other names bytes (refused Full) → ⊥) where
-  by_kind : (names : List (List ℕ)) (k : Kind) (bytes : List ℕ) → ReadsKind other names k bytes (refused Full) → ⊥
-  by_kind names blank_line bytes e = (cc e)
-  by_kind names document_line bytes e = of_document (document_with names bytes) e
-  by_kind names query_line bytes e = of_asked e.0 e.2
-  by_kind names bad_line bytes e = none names bytes e
+module _ (other : Dialect → List ℕ → Reading → Type 0) (none : (how : Dialect) (bytes : List ℕ) → other how bytes (refused Full) → ⊥) where
+  by_kind : (how : Dialect) (k : Kind) (bytes : List ℕ) → ReadsKind other how k bytes (refused Full) → ⊥
+  by_kind how blank_line bytes e = (cc e)
+  by_kind how document_line bytes e = of_document (document_with how bytes) e
+  by_kind how query_line bytes e = of_asked e.0 e.2
+  by_kind how bad_line bytes e = none how bytes e
 
-  of_line : (names : List (List ℕ)) (l : Line) → ReadsWith other names l (refused Full) → ⊥
-  of_line names (line bytes) e = by_kind names (kind_of bytes) bytes e
-  of_line names long_line e = (cc e)
+  of_line : (how : Dialect) (l : Line) → ReadsWith other how l (refused Full) → ⊥
+  of_line how (line bytes) e = by_kind how (kind_of bytes) bytes e
+  of_line how long_line e = (cc e)
 
-  raw_none : (names : List (List ℕ)) (ls : List Line) (rs : List Reading) → AllZip (ReadsWith other names) ls rs → AllByRecursion IsNotFull rs
-  raw_none names [] [] e = tt
-  raw_none names [] (r ∷ rs) e = absurd e
-  raw_none names (l ∷ ls) [] e = absurd e
-  raw_none names (l ∷ ls) (r ∷ rs) e = (λ is. of_line names l (subst (ReadsWith other names l) is e.0), raw_none names ls rs e.1)
+  raw_none : (how : Dialect) (ls : List Line) (rs : List Reading) → AllZip (ReadsWith other how) ls rs → AllByRecursion IsNotFull rs
+  raw_none how [] [] e = tt
+  raw_none how [] (r ∷ rs) e = absurd e
+  raw_none how (l ∷ ls) [] e = absurd e
+  raw_none how (l ∷ ls) (r ∷ rs) e = (λ is. of_line how l (subst (ReadsWith other how l) is e.0), raw_none how ls rs e.1)
 
   -- ---- none comes to one by rules that refuse no document
 
@@ -102,7 +103,7 @@ module _ (other : List (List ℕ) → List ℕ → Reading → Type 0) (none : (
 
     none_full : (lines : List Line) (rs : List Reading) → AreRead other rules lines rs → AllByRecursion IsNotFull rs
     none_full lines rs read =
-        subst (AllByRecursion IsNotFull) (sym read.2) (all_come rules.start rules.watches read.0 (raw_none rules.fields lines read.0 read.1))
+        subst (AllByRecursion IsNotFull) (sym read.2) (all_come rules.start rules.watches read.0 (raw_none rules.dialect lines read.0 read.1))
 
 -- ---- what watch lines come to
 
@@ -121,29 +122,29 @@ watch_none ws n (Some q) e = sets (is_set ws n) (length ws == 10000) e
 
 -- ---- lines that are read by themselves
 
-kind_none : (names : List (List ℕ)) (k : Kind) (bytes : List ℕ) → ReadsByKind names k bytes (refused Full) → ⊥
-kind_none names blank_line bytes e = (cc e)
-kind_none names document_line bytes e = of_document (document_with names bytes) e
-kind_none names query_line bytes e = of_asked e.0 e.2
-kind_none names bad_line bytes e = (cc e)
+kind_none : (how : Dialect) (k : Kind) (bytes : List ℕ) → ReadsByKind how k bytes (refused Full) → ⊥
+kind_none how blank_line bytes e = (cc e)
+kind_none how document_line bytes e = of_document (document_with how bytes) e
+kind_none how query_line bytes e = of_asked e.0 e.2
+kind_none how bad_line bytes e = (cc e)
 
-reads_none : (names : List (List ℕ)) (l : Line) → Reads names l (refused Full) → ⊥
-reads_none names (line bytes) e = kind_none names (kind_of bytes) bytes e
-reads_none names long_line e = (cc e)
+reads_none : (how : Dialect) (l : Line) → Reads how l (refused Full) → ⊥
+reads_none how (line bytes) e = kind_none how (kind_of bytes) bytes e
+reads_none how long_line e = (cc e)
 
-all_none : (names : List (List ℕ)) (ls : List Line) (rs : List Reading) → AllZip (Reads names) ls rs → AllByRecursion IsNotFull rs
-all_none names [] [] e = tt
-all_none names [] (r ∷ rs) e = absurd e
-all_none names (l ∷ ls) [] e = absurd e
-all_none names (l ∷ ls) (r ∷ rs) e = (λ is. reads_none names l (subst (Reads names l) is e.0), all_none names ls rs e.1)
+all_none : (how : Dialect) (ls : List Line) (rs : List Reading) → AllZip (Reads how) ls rs → AllByRecursion IsNotFull rs
+all_none how [] [] e = tt
+all_none how [] (r ∷ rs) e = absurd e
+all_none how (l ∷ ls) [] e = absurd e
+all_none how (l ∷ ls) (r ∷ rs) e = (λ is. reads_none how l (subst (Reads how l) is e.0), all_none how ls rs e.1)
 
 -- ---- by the way in which the lines are processed
 
 pub never_full : NeverFull
-never_full names c lines rs read = go c.way read
+never_full how c lines rs read = go c.way read
   where
-    go : (w : FeedWay) → AreFed w names c lines rs → AllByRecursion (λ r. r ≡ refused Full → ⊥) rs
-    go InOrder read = none_full is_bad of_bad (rules_of names c) (λ docs d. refl) (λ ws n q e. (cc e)) lines rs read
-    go Watches read = none_full ReadsOther of_other (with_watches (rules_of names c)) (λ docs d. refl) watch_none lines rs read
-    go Overlap read = none_full is_bad of_bad (rules_of names c) (λ docs d. refl) (λ ws n q e. (cc e)) lines rs read
-    go (Workers n) read = all_none names lines rs read
+    go : (w : FeedWay) → AreFed w how c lines rs → AllByRecursion (λ r. r ≡ refused Full → ⊥) rs
+    go InOrder read = none_full is_bad of_bad (rules_of how c) (λ docs d. refl) (λ ws n q e. (cc e)) lines rs read
+    go Watches read = none_full ReadsOther of_other (with_watches (rules_of how c)) (λ docs d. refl) watch_none lines rs read
+    go Overlap read = none_full is_bad of_bad (rules_of how c) (λ docs d. refl) (λ ws n q e. (cc e)) lines rs read
+    go (Workers n) read = all_none how lines rs read

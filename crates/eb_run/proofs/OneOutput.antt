@@ -1,4 +1,5 @@
 -- An input has exactly one text.
+use Rattle.eb_fields.specs.Dialect.{Dialect}
 use Rattle.std.proofs.Common.{◌≡◌, ℕ, zero, suc, ◌+◌, ◌≤◌, Bool, true, false, List, [], ◌∷◌, ◌++◌, take, refl, sym, ap, ◌∙◌, arith}
 use Rattle.eb_base.specs.Setting.{Setting}
 use Rattle.eb_io.specs.Lines.{Line}
@@ -17,17 +18,17 @@ use Rattle.eb_indexed.proofs.Seeing.{told-count, count-cons}
 
 -- ---- lines have one reading
 
-all_read : (fields : List (List ℕ)) (σ : Setting) (ls : List Line) (rs ss : List Reading) → AreRead fields σ ls rs → AreRead fields σ ls ss → rs ≡ ss
-all_read fields σ ls rs ss e f = e.2 ∙ ap (admitted σ) (raw_same fields ls e.0 f.0 e.1 f.1) ∙ sym f.2
+all_read : (how : Dialect) (σ : Setting) (ls : List Line) (rs ss : List Reading) → AreRead how σ ls rs → AreRead how σ ls ss → rs ≡ ss
+all_read how σ ls rs ss e f = e.2 ∙ ap (admitted σ) (raw_same how ls e.0 f.0 e.1 f.1) ∙ sym f.2
 
 -- what is printed, by the numbers in order
 in_order : (form : Form) (n : ℕ → ℕ) (rs : List Reading) → SeesInOrder rs n → body form n rs ≡ body form (told rs) rs
 in_order form n rs order = body_same form n (told rs) (accepted rs) (accepted rs) 0 rs (λ i low high. (order i, refl))
 
-pub one_text_of : (fields : List (List ℕ)) (σ : Setting) (form : Form) (lines : List Line) (a b : List ℕ) → IsTextOf (asked fields σ false form) lines a
-    → IsTextOf (asked fields σ false form) lines b → a ≡ b
-one_text_of fields σ form lines a b p q =
-    let same = all_read fields σ lines p.readings q.readings p.read q.read in
+pub one_text_of : (how : Dialect) (σ : Setting) (form : Form) (lines : List Line) (a b : List ℕ) → IsTextOf (asked how σ false form) lines a
+    → IsTextOf (asked how σ false form) lines b → a ≡ b
+one_text_of how σ form lines a b p q =
+    let same = all_read how σ lines p.readings q.readings p.read q.read in
     let of_p = p.bytes ∙ ap (λ t. t ++ end_of σ form p.readings) (in_order form p.numbers p.readings p.sees) in
     let of_q = q.bytes ∙ ap (λ t. t ++ end_of σ form q.readings) (in_order form q.numbers q.readings q.sees) in
     of_p ∙ ap (λ rs. body form (told rs) rs ++ end_of σ form rs) same ∙ sym of_q
@@ -58,16 +59,16 @@ between rs n order = record {
   rises = λ i j le e f. omega (arith, told_next rs i j le, order i, order j);
 }
 
-pub order_text_of : (fields : List (List ℕ)) (σ : Setting) (form : Form) (lines : List Line) (printed : List ℕ) → IsTextOf (asked fields σ false form) lines printed
-    → IsTextOf (asked fields σ true form) lines printed
-order_text_of fields σ form lines printed t = record { readings = t.readings; numbers = t.numbers; read = t.read; sees = between t.readings t.numbers t.sees; bytes = t.bytes }
+pub order_text_of : (how : Dialect) (σ : Setting) (form : Form) (lines : List Line) (printed : List ℕ) → IsTextOf (asked how σ false form) lines printed
+    → IsTextOf (asked how σ true form) lines printed
+order_text_of how σ form lines printed t = record { readings = t.readings; numbers = t.numbers; read = t.read; sees = between t.readings t.numbers t.sees; bytes = t.bytes }
 
 pub sees_told : (overlap : Bool) (rs : List Reading) → Sees overlap rs (told rs)
 sees_told false rs = λ j. refl
 sees_told true rs = between rs (told rs) (λ j. refl)
 
-pub some_text_of : (fields : List (List ℕ)) (σ : Setting) (overlap : Bool) (form : Form) (lines : List Line) → (printed : List ℕ) × IsTextOf (asked fields σ overlap form) lines printed
-some_text_of fields σ overlap form lines =
-    let raw = some_read fields lines in
+pub some_text_of : (how : Dialect) (σ : Setting) (overlap : Bool) (form : Form) (lines : List Line) → (printed : List ℕ) × IsTextOf (asked how σ overlap form) lines printed
+some_text_of how σ overlap form lines =
+    let raw = some_read how lines in
     let rs = admitted σ raw.0 in
     (body form (told rs) rs ++ end_of σ form rs, record { readings = rs; numbers = told rs; read = (raw.0, raw.1, refl); sees = sees_told overlap rs; bytes = refl })

@@ -1,10 +1,10 @@
 -- A run takes lines, and processes them.
+use Rattle.eb_fields.specs.Dialect.{dialect_of, Dialect}
 use Rattle.std.proofs.Common.{◌≡◌, ℕ, ◌+◌, ◌≤◌, true, false, List, [], ◌∷◌, ◌++◌, length, Some, None, refl, sym, ap, ap₂, subst, ◌∙◌, arith, append_assoc, append-nil, length-append}
 use Rattle.std.specs.Prelude.{Result, Ok, Err, OnOk, OnErr}
 use Rattle.std.proofs.lemmas.Bool.Decides.{nat_tests}
 use Rattle.eb_base.specs.Setting.{Setting}
 use Rattle.eb_engine.specs.Tokens.{HistoryToken, ConverterToken}
-use Rattle.eb_fields.specs.Fields.{names}
 use Rattle.eb_io.specs.Lines.{Line}
 use Rattle.eb_table.specs.Known.{Words}
 use Rattle.eb_rounds.specs.declared.input.Input.{Input}
@@ -29,7 +29,7 @@ use Rattle.eb_run.proofs.Waits.{both_off, gathered_none, round_opened, one_more,
 -- the run with these in place of its own
 abbrev pub with_parts : Running → HistoryToken → ConverterToken → Standing → ℕ → Running
 with_parts r writer converter rounds number =
-    record { fields = r.fields; form = r.form; index = r.index; writer = writer; converter = converter; rounds = rounds; number = number }
+    record { dialect = r.dialect; form = r.form; index = r.index; writer = writer; converter = converter; rounds = rounds; number = number }
 
 pub takes_none : (k : Kind) → takes_kind [] k ≡ true
 unfolding documents_held queries_held refused_held
@@ -66,21 +66,21 @@ pub goes_beside : (T : Type 0) (old new : Running) (t0 t1 : List ℕ) (l : Line)
 goes_beside T old new t0 t1 l goes a given so_far h = let w = goes a given so_far h.1 in (w.0, (h.0, w.1), w.2)
 
 module _ (old new : Running) (a : Asked) (given : List Line) (so_far : List ℕ)
-    (h : HasRun old a given so_far) (fields : names new.fields ≡ names old.fields) (form : new.form ≡ old.form) (index : new.index ≡ old.index)
+    (h : HasRun old a given so_far) (how : dialect_of new.dialect ≡ dialect_of old.dialect) (form : new.form ≡ old.form) (index : new.index ≡ old.index)
     (writer : new.writer.index ≡ old.writer.index) (converter : new.converter.index ≡ old.converter.index) where
   setting_is : old.index.setting ≡ a.setting
   setting_is = ap (λ (x : Words). x.setting) h.index ∙ h.setting
 
   -- the held lines are processed
   pub run_off : (printed : List ℕ) → new.number ≡ old.number
-      → WorkedOffBoth (names old.fields) old.form old.index.setting old.rounds.ahead old.rounds.held old.writer.docs new.writer.docs old.rounds.counts new.rounds.counts printed
+      → WorkedOffBoth (dialect_of old.dialect) old.form old.index.setting old.rounds.ahead old.rounds.held old.writer.docs new.writer.docs old.rounds.counts new.rounds.counts printed
       → HoldsNone new → new.rounds.greatest ≡ old.rounds.greatest → HasRun new a given (so_far ++ printed)
   run_off printed number w none greatest =
-      let W : List (List ℕ) → Form → Setting → Type 0 = λ ns f s.
+      let W : Dialect → Form → Setting → Type 0 = λ ns f s.
       WorkedOffBoth ns f s old.rounds.ahead old.rounds.held old.writer.docs new.writer.docs old.rounds.counts new.rounds.counts printed in
-      let worked = subst (λ (ns : List (List ℕ)). W ns a.form a.setting) h.fields
-      (subst (λ (f : Form). W (names old.fields) f a.setting) h.form (subst (λ (s : Setting). W (names old.fields) old.form s) setting_is w)) in
-      let s = both_off a.fields a.form a.setting given old.writer.docs new.writer.docs old.rounds new.rounds.counts so_far printed h.worked worked in
+      let worked = subst (λ (ns : Dialect). W ns a.form a.setting) h.dialect
+      (subst (λ (f : Form). W (dialect_of old.dialect) f a.setting) h.form (subst (λ (s : Setting). W (dialect_of old.dialect) old.form s) setting_is w)) in
+      let s = both_off a.dialect a.form a.setting given old.writer.docs new.writer.docs old.rounds new.rounds.counts so_far printed h.worked worked in
       record {
         words = h.words;
         index = index ∙ h.index;
@@ -88,10 +88,10 @@ module _ (old new : Running) (a : Asked) (given : List Line) (so_far : List ℕ)
         writer = writer ∙ h.writer;
         converter = converter ∙ h.converter;
         mode = h.mode;
-        fields = fields ∙ h.fields;
+        dialect = how ∙ h.dialect;
         form = form ∙ h.form;
         number = number ∙ h.number;
-        worked = gathered_none a.fields a.form a.setting given new.writer.docs new.rounds (so_far ++ printed) s none.0 none.1 (omega (arith, greatest, h.worked.greatest));
+        worked = gathered_none a.dialect a.form a.setting given new.writer.docs new.rounds (so_far ++ printed) s none.0 none.1 (omega (arith, greatest, h.worked.greatest));
       }
 
   -- nothing is done
@@ -103,11 +103,11 @@ module _ (old new : Running) (a : Asked) (given : List Line) (so_far : List ℕ)
     writer = writer ∙ h.writer;
     converter = converter ∙ h.converter;
     mode = h.mode;
-    fields = fields ∙ h.fields;
+    dialect = how ∙ h.dialect;
     form = form ∙ h.form;
     number = number ∙ h.number;
-    worked = subst (λ s. HasGathered a.fields a.form a.setting given new.writer.docs s so_far) (sym rounds)
-        (subst (λ ds. HasGathered a.fields a.form a.setting given ds old.rounds so_far) (sym docs) h.worked);
+    worked = subst (λ s. HasGathered a.dialect a.form a.setting given new.writer.docs s so_far) (sym rounds)
+        (subst (λ ds. HasGathered a.dialect a.form a.setting given ds old.rounds so_far) (sym docs) h.worked);
   }
 
   -- a round is opened
@@ -119,11 +119,11 @@ module _ (old new : Running) (a : Asked) (given : List Line) (so_far : List ℕ)
     writer = writer ∙ h.writer;
     converter = converter ∙ h.converter;
     mode = h.mode;
-    fields = fields ∙ h.fields;
+    dialect = how ∙ h.dialect;
     form = form ∙ h.form;
     number = number ∙ h.number;
-    worked = subst (λ s. HasGathered a.fields a.form a.setting given new.writer.docs s so_far) (sym rounds)
-        (round_opened a.fields a.form a.setting given new.writer.docs old.rounds so_far (subst (λ ds. HasGathered a.fields a.form a.setting given ds old.rounds so_far) (sym docs) h.worked) ahead);
+    worked = subst (λ s. HasGathered a.dialect a.form a.setting given new.writer.docs s so_far) (sym rounds)
+        (round_opened a.dialect a.form a.setting given new.writer.docs old.rounds so_far (subst (λ ds. HasGathered a.dialect a.form a.setting given ds old.rounds so_far) (sym docs) h.worked) ahead);
   }
 
   module _ (l : Line) (number : new.number ≡ old.number + 1) where
@@ -133,18 +133,18 @@ module _ (old new : Running) (a : Asked) (given : List Line) (so_far : List ℕ)
     number_is : new.number ≡ length (given ++ l ∷ [])
     number_is = omega (arith, number, h.number, given_long)
 
-    free_round : documents_held old.rounds.held ≡ 0 → AreRound a.fields (h.worked.behind ++ l ∷ [])
-    free_round none = round_free a.fields h.worked.behind l (free_of a.fields (length h.worked.before) h.worked.behind (sym (ap documents_held h.worked.lines) ∙ none))
+    free_round : documents_held old.rounds.held ≡ 0 → AreRound a.dialect (h.worked.behind ++ l ∷ [])
+    free_round none = round_free a.dialect h.worked.behind l (free_of a.dialect (length h.worked.before) h.worked.behind (sym (ap documents_held h.worked.lines) ∙ none))
 
-    quiet_round : asks_query (held_as l) ≡ false → AreRound a.fields (h.worked.behind ++ l ∷ [])
-    quiet_round quiet = round_quiet a.fields h.worked.behind l h.worked.round (λ r reads. reads_quiet a.fields l r quiet reads)
+    quiet_round : asks_query (held_as l) ≡ false → AreRound a.dialect (h.worked.behind ++ l ∷ [])
+    quiet_round quiet = round_quiet a.dialect h.worked.behind l h.worked.round (λ r reads. reads_quiet a.dialect l r quiet reads)
 
     no_documents : documents_held [] ≡ 0
     unfolding documents_held
     no_documents = refl
 
     -- the line is held, or passed over
-    more : (docs : new.writer.docs ≡ old.writer.docs) → AreRound a.fields (h.worked.behind ++ l ∷ []) → new.rounds.ahead ≡ old.rounds.ahead
+    more : (docs : new.writer.docs ≡ old.writer.docs) → AreRound a.dialect (h.worked.behind ++ l ∷ []) → new.rounds.ahead ≡ old.rounds.ahead
         → new.rounds.held ≡ old.rounds.held ++ before_held (length given + 1) (held_as l) [] → new.rounds.counts ≡ old.rounds.counts → new.rounds.greatest ≤ length given + 1
         → HasRun new a (given ++ l ∷ []) so_far
     more docs round ahead lines counts greatest = record {
@@ -154,14 +154,14 @@ module _ (old new : Running) (a : Asked) (given : List Line) (so_far : List ℕ)
       writer = writer ∙ h.writer;
       converter = converter ∙ h.converter;
       mode = h.mode;
-      fields = fields ∙ h.fields;
+      dialect = how ∙ h.dialect;
       form = form ∙ h.form;
       number = number_is;
-      worked = subst (λ ds. HasGathered a.fields a.form a.setting (given ++ l ∷ []) ds new.rounds so_far) (sym docs)
-          (one_more a.fields a.form a.setting given l old.writer.docs old.rounds new.rounds so_far h.worked round ahead lines counts greatest);
+      worked = subst (λ ds. HasGathered a.dialect a.form a.setting (given ++ l ∷ []) ds new.rounds so_far) (sym docs)
+          (one_more a.dialect a.form a.setting given l old.writer.docs old.rounds new.rounds so_far h.worked round ahead lines counts greatest);
     }
 
-    input_round : (input : Input) → takes_kind old.rounds.held (input_kind input) ≡ true → held_as l ≡ Some (input_of input) → AreRound a.fields (h.worked.behind ++ l ∷ [])
+    input_round : (input : Input) → takes_kind old.rounds.held (input_kind input) ≡ true → held_as l ≡ Some (input_of input) → AreRound a.dialect (h.worked.behind ++ l ∷ [])
     input_round (passed.DocumentLine bytes) takes is = quiet_round (ap asks_query is)
     input_round (passed.QueryLine text) takes is = free_round (grind (arith, nat_tests))
     input_round (passed.RefusedLine r) takes is = quiet_round (ap asks_query is)
@@ -187,20 +187,21 @@ module _ (old new : Running) (a : Asked) (given : List Line) (so_far : List ℕ)
 
 -- ---- the held lines, processed or not
 
-module _ (old new : Running) (t0 t1 : List ℕ) (fields : names new.fields ≡ names old.fields) (form : new.form ≡ old.form) (index : new.index ≡ old.index) (writer : new.writer.index ≡ old.writer.index)
+module _ (old new : Running) (t0 t1 : List ℕ) (how : dialect_of new.dialect ≡ dialect_of old.dialect) (form : new.form ≡ old.form) (index : new.index ≡ old.index)
+    (writer : new.writer.index ≡ old.writer.index)
     (converter : new.converter.index ≡ old.converter.index) (number : new.number ≡ old.number) where
   pub unchanged_on : new.rounds ≡ old.rounds → new.writer.docs ≡ old.writer.docs → t1 ≡ t0 → WorksOn HasRun old new t0 t1
   unchanged_on rounds docs text = λ a given so_far h.
-      ([], subst (HasRun new a given) (sym (append-nil so_far)) (run_same old new a given so_far h fields form index writer converter number docs rounds), text ∙ sym (append-nil t0))
+      ([], subst (HasRun new a given) (sym (append-nil so_far)) (run_same old new a given so_far h how form index writer converter number docs rounds), text ∙ sym (append-nil t0))
 
   pub opened_on : new.rounds ≡ with_round old.rounds → old.rounds.ahead ≡ [] → new.writer.docs ≡ old.writer.docs → t1 ≡ t0 → WorksOn HasRun old new t0 t1
   opened_on rounds ahead docs text = λ a given so_far h.
-      ([], subst (HasRun new a given) (sym (append-nil so_far)) (run_opened old new a given so_far h fields form index writer converter number docs ahead rounds), text ∙ sym (append-nil t0))
+      ([], subst (HasRun new a given) (sym (append-nil so_far)) (run_opened old new a given so_far h how form index writer converter number docs ahead rounds), text ∙ sym (append-nil t0))
 
   pub held_on : {T E : Type 0} (r : Result T E)
       → OnOk r ((printed : List ℕ)
-      × WorkedOffBoth (names old.fields) old.form old.index.setting old.rounds.ahead old.rounds.held old.writer.docs new.writer.docs old.rounds.counts new.rounds.counts printed
+      × WorkedOffBoth (dialect_of old.dialect) old.form old.index.setting old.rounds.ahead old.rounds.held old.writer.docs new.writer.docs old.rounds.counts new.rounds.counts printed
       × (t1 ≡ t0 ++ printed))
       → OnOk r ((new.rounds.ahead ≡ []) × (new.rounds.held ≡ []) × (new.rounds.greatest ≡ old.rounds.greatest)) → OnErr r (WorksOn HasRun old new t0 t1) → WorksOn HasRun old new t0 t1
-  held_on (Ok x) done held err = λ a given so_far h. (done.0, run_off old new a given so_far h fields form index writer converter done.0 number done.1 (held.0, held.1) held.2, done.2)
+  held_on (Ok x) done held err = λ a given so_far h. (done.0, run_off old new a given so_far h how form index writer converter done.0 number done.1 (held.0, held.1) held.2, done.2)
   held_on (Err e) done held err = err

@@ -1,4 +1,5 @@
 -- A run before its first line, and at its end.
+use Rattle.eb_fields.specs.Dialect.{Dialect}
 use Rattle.std.proofs.Common.{◌≡◌, ℕ, true, List, [], ◌++◌, length, refl, sym, ap, ap₂, subst, ◌∙◌, arith}
 use Rattle.eb_base.specs.Document.{Doc}
 use Rattle.eb_base.specs.Setting.{Setting}
@@ -27,29 +28,29 @@ use Rattle.eb_run.proofs.Waits.{gathered_none, all_settled}
 
 -- ---- before the first line
 
-settled_none : (fields : List (List ℕ)) (form : Form) (σ : Setting) → HasSettled fields form σ [] [] no_counts []
+settled_none : (how : Dialect) (form : Form) (σ : Setting) → HasSettled how form σ [] [] no_counts []
 unfolding accepted queries refusals body_from
-settled_none fields form σ = record { readings = []; numbers = told []; read = read_none (Reads fields) σ []; sees = sees_told true []; adds = refl; counted = refl; printed = refl }
+settled_none how form σ = record { readings = []; numbers = told []; read = read_none (Reads how) σ []; sees = sees_told true []; adds = refl; counted = refl; printed = refl }
 
-pub worked_none : (fields : List (List ℕ)) (form : Form) (σ : Setting) (held : Standing) → held ≡ record { ahead = []; held = []; counts = no_counts; greatest = 0 }
-    → HasGathered fields form σ [] [] held []
-worked_none fields form σ held e =
-    let s = subst (λ c. HasSettled fields form σ [] [] c []) (sym (ap (λ (h : Standing). h.counts) e)) (settled_none fields form σ) in
-    gathered_none fields form σ [] [] held [] s (ap (λ (h : Standing). h.ahead) e) (ap (λ (h : Standing). h.held) e) (omega (arith, ap (λ (h : Standing). h.greatest) e))
+pub worked_none : (how : Dialect) (form : Form) (σ : Setting) (held : Standing) → held ≡ record { ahead = []; held = []; counts = no_counts; greatest = 0 }
+    → HasGathered how form σ [] [] held []
+worked_none how form σ held e =
+    let s = subst (λ c. HasSettled how form σ [] [] c []) (sym (ap (λ (h : Standing). h.counts) e)) (settled_none how form σ) in
+    gathered_none how form σ [] [] held [] s (ap (λ (h : Standing). h.ahead) e) (ap (λ (h : Standing). h.held) e) (omega (arith, ap (λ (h : Standing). h.greatest) e))
 
-abbrev body_of : (a : Asked) (given : List Line) (so_far : List ℕ) (docs : List Doc) (counts : Counted) → a.overlap ≡ true → HasSettled a.fields a.form a.setting given docs counts so_far
+abbrev body_of : (a : Asked) (given : List Line) (so_far : List ℕ) (docs : List Doc) (counts : Counted) → a.overlap ≡ true → HasSettled a.dialect a.form a.setting given docs counts so_far
     → IsBodyOf a given so_far
 body_of a given so_far docs counts mode s =
     record { readings = s.readings; numbers = s.numbers; read = s.read; sees = subst (λ b. Sees b s.readings s.numbers) (sym mode) s.sees; bytes = s.printed }
 
 pub body_none : (a : Asked) → IsBodyOf a [] []
 unfolding accepted body_from
-body_none a = record { readings = []; numbers = told []; read = read_none (Reads a.fields) a.setting []; sees = sees_told a.overlap []; bytes = refl }
+body_none a = record { readings = []; numbers = told []; read = read_none (Reads a.dialect) a.setting []; sees = sees_told a.overlap []; bytes = refl }
 
 -- ---- where no line is held
 
-abbrev last : (r : Running) (a : Asked) (given : List Line) (so_far : List ℕ) → HasRun r a given so_far → HoldsNone r → HasSettled a.fields a.form a.setting given r.writer.docs r.rounds.counts so_far
-last r a given so_far h none = all_settled a.fields a.form a.setting given r.writer.docs r.rounds so_far h.worked none.0 none.1
+abbrev last : (r : Running) (a : Asked) (given : List Line) (so_far : List ℕ) → HasRun r a given so_far → HoldsNone r → HasSettled a.dialect a.form a.setting given r.writer.docs r.rounds.counts so_far
+last r a given so_far h none = all_settled a.dialect a.form a.setting given r.writer.docs r.rounds so_far h.worked none.0 none.1
 
 -- all lines given are processed, and the run printed what they print
 pub run_body : (r : Running) (a : Asked) (given : List Line) (so_far : List ℕ) → HasRun r a given so_far → HoldsNone r → IsBodyOf a given so_far
@@ -62,7 +63,7 @@ pub run_finishes : {P : Type 0} (has_run : P → Asked → List Line → List �
     → (documents ≡ r.rounds.counts.documents) × (answers ≡ r.rounds.counts.queries) × (refused ≡ r.rounds.counts.refused)
     → begun ≡ length (cut r.index.setting r.writer.docs) → converted ≡ most_converted (length (cut r.index.setting r.writer.docs))
     → HoldsNone r → HasRun r a given so_far
-    → Finishes has_run IsTextOf (λ x. HasRefusal x.fields x.setting) (λ x. HasNoRefusal x.fields x.setting) p t0 t1 refused a given so_far
+    → Finishes has_run IsTextOf (λ x. HasRefusal x.dialect x.setting) (λ x. HasNoRefusal x.dialect x.setting) p t0 t1 refused a given so_far
 run_finishes has_run p r t0 t1 documents answers refused begun converted a given so_far put counts segments packed none h =
     let s = last r a given so_far h none in
     let rs = s.readings in

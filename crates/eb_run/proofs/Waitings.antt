@@ -1,4 +1,5 @@
 -- A round of waiting lines is processed.
+use Rattle.eb_fields.specs.Dialect.{Dialect}
 use Rattle.std.proofs.Common.{◌≡◌, ℕ, zero, suc, ◌+◌, ◌≤◌, Bool, true, false, List, [], ◌∷◌, ◌++◌, map, Option, Some}
 use Rattle.std.proofs.Common.{None, Ok, Err, refl, sym, ap, ap₂, subst, ◌∙◌, arith, append-nil, le_refl, le_trans}
 use Rattle.std.specs.Prelude.{Result}
@@ -43,51 +44,51 @@ query_not_blank (bad_query column) number es = refl
 query_not_blank too_deep number es = refl
 query_not_blank too_many_nodes number es = refl
 
-not_blank : (fields : List (List ℕ)) (i : HeldInput) (r : Reading) (number : ℕ) (es : List Entry) → ReadsInput fields i r → before_entries number r es ≡ record { number = number; reading = r } ∷ es
-not_blank fields (document_line bytes) r number es h = document_not_blank (document_with fields bytes) r number es h
-not_blank fields (query_line bytes) r number es h = subst (λ (x : Reading). before_entries number x es ≡ record { number = number; reading = x } ∷ es) (sym h.2) (query_not_blank h.0 number es)
-not_blank fields (refused_line x) r number es h = rw h refl
+not_blank : (how : Dialect) (i : HeldInput) (r : Reading) (number : ℕ) (es : List Entry) → ReadsInput how i r → before_entries number r es ≡ record { number = number; reading = r } ∷ es
+not_blank how (document_line bytes) r number es h = document_not_blank (document_with how bytes) r number es h
+not_blank how (query_line bytes) r number es h = subst (λ (x : Reading). before_entries number x es ≡ record { number = number; reading = x } ∷ es) (sym h.2) (query_not_blank h.0 number es)
+not_blank how (refused_line x) r number es h = rw h refl
 
 -- a line that isn't held is blank, and one that is held is read as its input
-blank_reads : (fields : List (List ℕ)) (l : Line) → held_as l ≡ None → Reads fields l blank
-blank_reads fields (line bytes) e = by_kind (kind_of bytes) e where
-  by_kind : (k : Kind) → input_by k bytes ≡ None → ReadsByKind fields k bytes blank
+blank_reads : (how : Dialect) (l : Line) → held_as l ≡ None → Reads how l blank
+blank_reads how (line bytes) e = by_kind (kind_of bytes) e where
+  by_kind : (k : Kind) → input_by k bytes ≡ None → ReadsByKind how k bytes blank
   by_kind blank_line e = refl
   by_kind kind.document_line e = absurd (cc e)
   by_kind kind.query_line e = absurd (cc e)
   by_kind bad_line e = absurd (cc e)
-blank_reads fields long_line e = absurd (cc e)
+blank_reads how long_line e = absurd (cc e)
 
-held_reads : (fields : List (List ℕ)) (l : Line) (i : HeldInput) (r : Reading) → held_as l ≡ Some i → ReadsInput fields i r → Reads fields l r
-held_reads fields (line bytes) i r e h = by_kind (kind_of bytes) e where
-  by_kind : (k : Kind) → input_by k bytes ≡ Some i → ReadsByKind fields k bytes r
+held_reads : (how : Dialect) (l : Line) (i : HeldInput) (r : Reading) → held_as l ≡ Some i → ReadsInput how i r → Reads how l r
+held_reads how (line bytes) i r e h = by_kind (kind_of bytes) e where
+  by_kind : (k : Kind) → input_by k bytes ≡ Some i → ReadsByKind how k bytes r
   by_kind blank_line e = absurd (cc e)
-  by_kind kind.document_line e = (let same : i ≡ document_line bytes = cc e in subst (λ x. ReadsInput fields x r) same h)
-  by_kind kind.query_line e = (let same : i ≡ query_line bytes = cc e in subst (λ x. ReadsInput fields x r) same h)
-  by_kind bad_line e = (let same : i ≡ refused_line _ = cc e in subst (λ x. ReadsInput fields x r) same h)
-held_reads fields long_line i r e h = (let same : i ≡ refused_line _ = cc e in subst (λ x. ReadsInput fields x r) same h)
+  by_kind kind.document_line e = (let same : i ≡ document_line bytes = cc e in subst (λ x. ReadsInput how x r) same h)
+  by_kind kind.query_line e = (let same : i ≡ query_line bytes = cc e in subst (λ x. ReadsInput how x r) same h)
+  by_kind bad_line e = (let same : i ≡ refused_line _ = cc e in subst (λ x. ReadsInput how x r) same h)
+held_reads how long_line i r e h = (let same : i ≡ refused_line _ = cc e in subst (λ x. ReadsInput how x r) same h)
 
 -- the readings of lines, from those of the held ones among them
-abbrev pub Back : List (List ℕ) → ℕ → List Line → List Entry → Type 0
-Back fields k ls raw = (rs : List Reading) × AllZip (Reads fields) ls rs × (raw ≡ entries_from k rs)
+abbrev pub Back : Dialect → ℕ → List Line → List Entry → Type 0
+Back how k ls raw = (rs : List Reading) × AllZip (Reads how) ls rs × (raw ≡ entries_from k rs)
 
-back_one : (fields : List (List ℕ)) (k : ℕ) (l : Line) (ls : List Line) (o : Option HeldInput) → held_as l ≡ o
-    → ((raw : List Entry) → AllZip (ReadsLine fields) (held_from (k + 1) ls) raw → Back fields (k + 1) ls raw)
-    → (raw : List Entry) → AllZip (ReadsLine fields) (before_held (k + 1) o (held_from (k + 1) ls)) raw → Back fields k (l ∷ ls) raw
-back_one fields k l ls None is more raw h = let rest = more raw h in (blank ∷ rest.0, (blank_reads fields l is, rest.1), rest.2)
-back_one fields k l ls (Some i) is more [] h = absurd h
-back_one fields k l ls (Some i) is more (e ∷ raw) h =
+back_one : (how : Dialect) (k : ℕ) (l : Line) (ls : List Line) (o : Option HeldInput) → held_as l ≡ o
+    → ((raw : List Entry) → AllZip (ReadsLine how) (held_from (k + 1) ls) raw → Back how (k + 1) ls raw)
+    → (raw : List Entry) → AllZip (ReadsLine how) (before_held (k + 1) o (held_from (k + 1) ls)) raw → Back how k (l ∷ ls) raw
+back_one how k l ls None is more raw h = let rest = more raw h in (blank ∷ rest.0, (blank_reads how l is, rest.1), rest.2)
+back_one how k l ls (Some i) is more [] h = absurd h
+back_one how k l ls (Some i) is more (e ∷ raw) h =
     let rest = more raw h.1 in
     let own : e ≡ record { number = k + 1; reading = e.reading } = ap (λ (n : ℕ). record { number = n; reading = e.reading }) h.0.number in (
       e.reading ∷ rest.0,
-      (held_reads fields l i e.reading is h.0.reading, rest.1),
-      ap₂ (λ x xs. x ∷ xs) own rest.2 ∙ sym (not_blank fields i e.reading (k + 1) (entries_from (k + 1) rest.0) h.0.reading),
+      (held_reads how l i e.reading is h.0.reading, rest.1),
+      ap₂ (λ x xs. x ∷ xs) own rest.2 ∙ sym (not_blank how i e.reading (k + 1) (entries_from (k + 1) rest.0) h.0.reading),
     )
 
-pub read_back : (fields : List (List ℕ)) (k : ℕ) (ls : List Line) (raw : List Entry) → AllZip (ReadsLine fields) (held_from k ls) raw → Back fields k ls raw
-read_back fields k [] [] h = ([], tt, refl)
-read_back fields k [] (e ∷ raw) h = absurd h
-read_back fields k (l ∷ ls) raw h = back_one fields k l ls (held_as l) refl (λ rest t. read_back fields (k + 1) ls rest t) raw h
+pub read_back : (how : Dialect) (k : ℕ) (ls : List Line) (raw : List Entry) → AllZip (ReadsLine how) (held_from k ls) raw → Back how k ls raw
+read_back how k [] [] h = ([], tt, refl)
+read_back how k [] (e ∷ raw) h = absurd h
+read_back how k (l ∷ ls) raw h = back_one how k l ls (held_as l) refl (λ rest t. read_back how (k + 1) ls rest t) raw h
 
 -- ---- entries and readings
 

@@ -1,4 +1,5 @@
 -- What `bench` prints: the figures of a made input.
+use Rattle.eb_fields.specs.Dialect.{plain}
 use Rattle.std.specs.Prelude.{◌≡◌, ℕ, zero, suc, ◌+◌, ◌*◌, ◌%◌, ◌^◌, ◌<◌, ◌≤◌, ◌==◌, ◌||◌, List, [], ◌∷◌, ◌++◌, length, sum, take, Option, codes, if◌then◌else◌}
 use Rattle.std.specs.Fmt.{decimal}
 use Rattle.eb_base.specs.Document.{Doc}
@@ -55,7 +56,7 @@ figures rs = bench_line (length (accepted rs)) (queries rs) (length (all_answers
 -- the line of figures of the made input of so many documents, processed with the usual setting
 pub record IsBenchOf (start count : ℕ) (printed : List ℕ) (refused_lines : ℕ) : Type 0 where
   pub readings : List Reading
-  pub read : AreRead [] usual (lines_of (made start count)) readings
+  pub read : AreRead plain usual (lines_of (made start count)) readings
   pub refusals : refused_lines ≡ refusals readings
   pub bytes : printed ≡ figures readings
 
@@ -73,8 +74,8 @@ WroteBench status.BadImage start count printed = ⊥
 -- what the status of a bench says of its input, whatever became of the output: at Done no line of it is refused, at
 -- Refused some line is
 abbrev pub MeansBench : Status → ℕ → ℕ → Type 0
-MeansBench status.Done start count = HasNoRefusal [] usual (lines_of (made start count))
-MeansBench status.Refused start count = HasRefusal [] usual (lines_of (made start count))
+MeansBench status.Done start count = HasNoRefusal plain usual (lines_of (made start count))
+MeansBench status.Refused start count = HasRefusal plain usual (lines_of (made start count))
 MeansBench status.WriteFault start count = Unit {0}
 MeansBench status.NoMemory start count = Unit {0}
 MeansBench status.Usage start count = ⊥
@@ -95,7 +96,7 @@ Closes status.InputTooLong count last printed_old printed_new = ⊥
 
 -- what printing the line of figures of these lines leaves
 abbrev pub PrintsFigures : Status → List Line → Option (List ℕ) → Option (List ℕ) → Type 0
-PrintsFigures status lines printed_old printed_new = (rs : List Reading) × AreRead [] usual lines rs × Closes status (refusals rs) (figures rs) printed_old printed_new
+PrintsFigures status lines printed_old printed_new = (rs : List Reading) × AreRead plain usual lines rs × Closes status (refusals rs) (figures rs) printed_old printed_new
 
 -- ---- between two lines
 
@@ -111,7 +112,7 @@ lines_until start count (suc n) = lines_until start count n ++ line (made_line s
 -- these lines are processed, and the ids in their answers are counted and summed
 pub record HasCounted (b : Bench) (lines : List Line) : Type 0 where
   pub readings : List Reading
-  pub read : AreRead [] usual lines readings
+  pub read : AreRead plain usual lines readings
   pub holds : Holds b.indexed usual (accepted readings)
   pub queries : b.queries ≡ queries readings
   pub refused : b.refused ≡ refusals readings
@@ -122,4 +123,4 @@ pub record HasCounted (b : Bench) (lines : List Line) : Type 0 where
 
 -- a line of this reading was processed
 abbrev pub Takes : Bench → Bench → Reading → Type 0
-Takes old new r = (lines : List Line) (l : Line) → Reads [] l r → HasCounted old lines → length lines < 2 ^ 17 → HasCounted new (lines ++ l ∷ [])
+Takes old new r = (lines : List Line) (l : Line) → Reads plain l r → HasCounted old lines → length lines < 2 ^ 17 → HasCounted new (lines ++ l ∷ [])

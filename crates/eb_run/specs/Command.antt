@@ -1,4 +1,5 @@
 -- What the words of a command line ask; they are without the program's name.
+use Rattle.eb_fields.specs.Dialect.{Dialect, plain}
 use Rattle.std.specs.Prelude.{◌≡◌, ℕ, ◌*◌, ◌^◌, ◌&&◌, Bool, true, false, List, [], ◌∷◌, codes, nat_le, Option, Some, None, if◌then◌else◌, option_map, option_and_then}
 use Rattle.std.specs.Str.{bytes_eq}
 use Rattle.eb_base.specs.Setting.{Setting, words_of}
@@ -8,6 +9,8 @@ use Rattle.eb_options.specs.Items.{Items, has, items_of, option_number}
 use Rattle.eb_options.specs.Settings.{setting_of, setting_options}
 use Rattle.eb_options.specs.Texts.{Apart, text_apart}
 use Rattle.eb_fields.specs.Fields.{is_field_list, names_in}
+use Rattle.eb_text.specs.declared.cutting.Cut.{Cut}
+use Rattle.eb_text.specs.declared.cutting.Cut.TheVariants.{Words, Pieces}
 use Rattle.eb_run.specs.declared.command.Command.{Command}
 use Rattle.eb_run.specs.declared.command.Command.TheVariants.{Run, RunWorkers, RunParts, RunWatches, Bench, Save, Load}
 
@@ -85,11 +88,11 @@ load_with items = Load (form_of items)
 abbrev pub load_of : List (List ℕ) → Option Command
 load_of words = option_map load_with (items_of load_flags [] words)
 
--- ---- the fields
+-- ---- how lines are read
 
--- the names of the fields by which lines are read, and the words that ask for the rest
-pub record FieldsApart : Type 0 where
-  pub fields : List (List ℕ)
+-- how lines are read, and the words that ask for the rest
+pub record DialectApart : Type 0 where
+  pub dialect : Dialect
   pub others : List (List ℕ)
 
 -- the names that a list of fields gives, if it is in the grammar; none where there is no list
@@ -97,58 +100,40 @@ abbrev pub fields_in : Option (List ℕ) → Option (List (List ℕ))
 fields_in None = Some []
 fields_in (Some text) = if is_field_list text then Some (names_in text) else None
 
--- the words after the name of a command that has these options with numbers, with `--fields` apart
-abbrev pub fields_apart : List (List ℕ) → List (List ℕ) → Option FieldsApart
-fields_apart options words =
-    option_and_then (λ (a : Apart). option_map (λ fields. record { fields = fields; others = a.others }) (fields_in a.text)) (text_apart (codes "fields") options words)
+-- how texts are cut: `pieces`, and words where nothing is said
+abbrev pub cut_in : Option (List ℕ) → Option Cut
+cut_in None = Some Words
+cut_in (Some text) = if bytes_eq text (codes "pieces") then Some Pieces else None
+
+-- how lines are read, by the texts of both options
+abbrev pub dialect_in : Option (List ℕ) → Option (List ℕ) → Option Dialect
+dialect_in fields words = option_and_then (λ names. option_map (λ cut. record { names = names; cut = cut }) (cut_in words)) (fields_in fields)
+
+-- the words after the name of a command that has these options with numbers, with `--fields` and `--words` apart
+abbrev pub dialect_apart : List (List ℕ) → List (List ℕ) → Option DialectApart
+dialect_apart options words =
+    option_and_then (λ (a : Apart). option_and_then (λ (b : Apart). option_map (λ how. record { dialect = how; others = b.others }) (dialect_in a.text b.text))
+    (text_apart (codes "words") options a.others)) (text_apart (codes "fields") (codes "words" ∷ options) words)
 
 -- ---- the command
 
--- what words ask for: the names of the fields, and a command
+-- what words ask for: how lines are read, and a command
 pub record Asks : Type 0 where
-  pub fields : List (List ℕ)
+  pub dialect : Dialect
   pub command : Command
 
-abbrev pub asks : List (List ℕ) → Command → Asks
-asks names command = record { fields = names; command = command }
+abbrev pub asks : Dialect → Command → Asks
+asks how command = record { dialect = how; command = command }
 
--- the words after a command's name, which say the fields beside what they ask else
-abbrev pub with_fields : List (List ℕ) → (List (List ℕ) → Option Command) → List (List ℕ) → Option Asks
-with_fields options ask words = option_and_then (λ (a : FieldsApart). option_map (asks a.fields) (ask a.others)) (fields_apart options words)
+-- the words after a command's name, which say how lines are read beside what they ask else
+abbrev pub with_dialect : List (List ℕ) → (List (List ℕ) → Option Command) → List (List ℕ) → Option Asks
+with_dialect options ask words = option_and_then (λ (a : DialectApart). option_map (asks a.dialect) (ask a.others)) (dialect_apart options words)
 
 -- what the words ask for, if they are in the grammar
 abbrev pub asked_of : List (List ℕ) → Option Asks
 asked_of [] = None
 asked_of (name ∷ words) =
-    if bytes_eq name (codes "run") then with_fields run_options run_of words
-    else (if bytes_eq name (codes "bench") then option_map (asks []) (bench_of words)
-    else (if bytes_eq name (codes "save") then with_fields setting_options save_of words
-    else (if bytes_eq name (codes "load") then with_fields [] load_of words else None)))
-
--- the words ask to run with an index of this setting, with or without overlap; lines are read by these names of fields, and what is
--- printed is written in this form
-abbrev pub AsksRun : List (List ℕ) → List (List ℕ) → Bool → Form → Setting → Type 0
-AsksRun words names overlap form σ = asked_of words ≡ Some (asks names (Run overlap form σ))
-
--- to run with so many workers, or over so many parts with an index of this setting each, with or without overlap
-abbrev pub AsksWorkers : List (List ℕ) → List (List ℕ) → ℕ → Form → Setting → Type 0
-AsksWorkers words names n form σ = asked_of words ≡ Some (asks names (RunWorkers n form σ))
-
-abbrev pub AsksParts : List (List ℕ) → List (List ℕ) → ℕ → Bool → Form → Setting → Type 0
-AsksParts words names n overlap form σ = asked_of words ≡ Some (asks names (RunParts n overlap form σ))
-
--- to run with watches
-abbrev pub AsksWatches : List (List ℕ) → List (List ℕ) → Form → Setting → Type 0
-AsksWatches words names form σ = asked_of words ≡ Some (asks names (RunWatches form σ))
-
--- the words ask to process a made input
-abbrev pub AsksBench : List (List ℕ) → ℕ → ℕ → Type 0
-AsksBench words start count = asked_of words ≡ Some (asks [] (Bench start count))
-
--- the words ask to save the documents of lines, for an index of this setting
-abbrev pub AsksSave : List (List ℕ) → List (List ℕ) → Setting → Type 0
-AsksSave words names σ = asked_of words ≡ Some (asks names (Save σ))
-
--- the words ask to load an image and go on with lines
-abbrev pub AsksLoad : List (List ℕ) → List (List ℕ) → Form → Type 0
-AsksLoad words names form = asked_of words ≡ Some (asks names (Load form))
+    if bytes_eq name (codes "run") then with_dialect run_options run_of words
+    else (if bytes_eq name (codes "bench") then option_map (asks plain) (bench_of words)
+    else (if bytes_eq name (codes "save") then with_dialect setting_options save_of words
+    else (if bytes_eq name (codes "load") then with_dialect [] load_of words else None)))

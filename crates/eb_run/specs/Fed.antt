@@ -1,4 +1,5 @@
 -- What a feed that lines fill holds.
+use Rattle.eb_fields.specs.Dialect.{Dialect}
 use Rattle.std.specs.Prelude.{◌≡◌, ℕ, List}
 use Rattle.eb_answer.specs.Rules.{Rules}
 use Rattle.eb_base.specs.Document.{Doc}
@@ -9,8 +10,8 @@ use Rattle.eb_run.specs.FeedOutput.{feed_rules}
 
 -- it has taken these documents, and goes by the rules of a feed
 pub record IsFed (s : Fed) (rules : Rules (Unit {0})) (docs : List Doc) (none : Unit {0}) : Type 0 where
-  pub fields : List (List ℕ)
+  pub dialect : Dialect
   pub setting : Setting
   pub keep : ℕ
-  pub by_rules : rules ≡ feed_rules fields setting keep s.form
+  pub by_rules : rules ≡ feed_rules dialect setting keep s.form
   pub fed : IsFedWith s.feed setting keep docs

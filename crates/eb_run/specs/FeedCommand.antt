@@ -1,4 +1,5 @@
 -- What the words of a command line ask of a feed; they are without the program's name and the word `feed`.
+use Rattle.eb_fields.specs.Dialect.{Dialect}
 use Rattle.std.specs.Prelude.{◌≡◌, ℕ, ◌+◌, ◌*◌, ◌^◌, ◌≤◌, ◌&&◌, Bool, true, false, List, [], ◌∷◌, codes, nat_le, Option, Some, None, unwrap_or, if◌then◌else◌, option_and_then, option_map}
 use Rattle.eb_base.specs.Setting.{Setting, words_of}
 use Rattle.eb_lines.specs.declared.form.Form.{Form}
@@ -7,7 +8,7 @@ use Rattle.eb_options.specs.Settings.{setting_of, setting_options}
 use Rattle.eb_run.specs.declared.feed.command.FeedCommand.{FeedCommand}
 use Rattle.eb_run.specs.declared.feed.command.FeedWay.{FeedWay}
 use Rattle.eb_run.specs.declared.feed.command.FeedWay.TheVariants.{InOrder, Watches, Overlap, Workers}
-use Rattle.eb_run.specs.Command.{FieldsApart, fields_apart, form_of, is_few}
+use Rattle.eb_run.specs.Command.{DialectApart, dialect_apart, form_of, is_few}
 
 -- the flags of a feed, and its options: how many workers it has, how many generations it keeps, and those of their setting
 abbrev pub feed_flags : List (List ℕ)
@@ -54,15 +55,15 @@ feed_with items = option_and_then (λ way. option_and_then (feed_of (unwrap_or (
 abbrev pub feed_command_of : List (List ℕ) → Option FeedCommand
 feed_command_of words = option_and_then feed_with (items_of feed_flags feed_options words)
 
--- what words ask for: the names of the fields by which lines are read, and a feed
+-- what words ask for: how lines are read, and a feed
 pub record FeedAsks : Type 0 where
-  pub fields : List (List ℕ)
+  pub dialect : Dialect
   pub command : FeedCommand
 
 abbrev pub feed_asked_of : List (List ℕ) → Option FeedAsks
 feed_asked_of words =
-    option_and_then (λ (a : FieldsApart). option_map (λ command. record { fields = a.fields; command = command }) (feed_command_of a.others)) (fields_apart feed_options words)
+    option_and_then (λ (a : DialectApart). option_map (λ command. record { dialect = a.dialect; command = command }) (feed_command_of a.others)) (dialect_apart feed_options words)
 
--- the words ask for this feed, of which lines are read by these names of fields
-abbrev pub AsksFeed : List (List ℕ) → List (List ℕ) → FeedCommand → Type 0
-AsksFeed words names command = feed_asked_of words ≡ Some (record { fields = names; command = command })
+-- the words ask for this feed, of which lines are read so
+abbrev pub AsksFeed : List (List ℕ) → Dialect → FeedCommand → Type 0
+AsksFeed words how command = feed_asked_of words ≡ Some (record { dialect = how; command = command })

@@ -1,4 +1,5 @@
 -- What holds of the text that a feed prints, over the definitions alone.
+use Rattle.eb_fields.specs.Dialect.{Dialect}
 use Rattle.std.specs.Prelude.{◌≡◌, ℕ, false, List}
 use Rattle.std.specs.List.{AllByRecursion}
 use Rattle.eb_io.specs.Lines.{Line}
@@ -11,7 +12,7 @@ use Rattle.eb_run.specs.FeedOutput.{AreFed, IsTextFed, IsFeedOutput}
 
 -- each input has a text, whatever the fields are and a feed is asked for
 abbrev pub SomeFeedText : Type 0
-SomeFeedText = (names : List (List ℕ)) (c : FeedCommand) (bytes : List ℕ) → (printed : List ℕ) × IsFeedOutput names c bytes printed
+SomeFeedText = (how : Dialect) (c : FeedCommand) (bytes : List ℕ) → (printed : List ℕ) × IsFeedOutput how c bytes printed
 
 -- the text doesn't turn on how fast workers answer
 abbrev pub IsSettledWay : FeedWay → Type 0
@@ -22,13 +23,13 @@ IsSettledWay (Workers n) = ⊥
 
 -- and no other without workers
 abbrev pub OneFeedText : Type 0
-OneFeedText = (names : List (List ℕ)) (c : FeedCommand) (bytes a b : List ℕ) → IsSettledWay c.way → IsFeedOutput names c bytes a → IsFeedOutput names c bytes b → a ≡ b
+OneFeedText = (how : Dialect) (c : FeedCommand) (bytes a b : List ℕ) → IsSettledWay c.way → IsFeedOutput how c bytes a → IsFeedOutput how c bytes b → a ≡ b
 
 -- the text of lines that are processed one after the other is one of those with workers
 abbrev pub OrderFeedText : Type 0
-OrderFeedText = (names : List (List ℕ)) (c : FeedCommand) (n : ℕ) (lines : List Line) (printed : List ℕ) → c.form.stats ≡ false
-    → IsTextFed InOrder names c lines printed → IsTextFed (Workers n) names c lines printed
+OrderFeedText = (how : Dialect) (c : FeedCommand) (n : ℕ) (lines : List Line) (printed : List ℕ) → c.form.stats ≡ false
+    → IsTextFed InOrder how c lines printed → IsTextFed (Workers n) how c lines printed
 
 -- no line comes to one that is refused as full
 abbrev pub NeverFull : Type 0
-NeverFull = (names : List (List ℕ)) (c : FeedCommand) (lines : List Line) (rs : List Reading) → AreFed c.way names c lines rs → AllByRecursion (λ r. r ≡ refused Full → ⊥) rs
+NeverFull = (how : Dialect) (c : FeedCommand) (lines : List Line) (rs : List Reading) → AreFed c.way how c lines rs → AllByRecursion (λ r. r ≡ refused Full → ⊥) rs

@@ -1,7 +1,7 @@
 -- What the words of a command line ask of a feed, as the code has it.
-use Rattle.eb_fields.specs.Fields.{names}
+use Rattle.eb_fields.specs.Dialect.{dialect_of}
 use Rattle.eb_run.specs.FeedCommand.{FeedAsks}
 use Rattle.eb_run.specs.declared.feed.command.FeedRequest.{FeedRequest}
 
 abbrev pub feed_request_view : FeedRequest → FeedAsks
-feed_request_view r = record { fields = names r.fields; command = r.command }
+feed_request_view r = record { dialect = dialect_of r.dialect; command = r.command }

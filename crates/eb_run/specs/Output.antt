@@ -1,4 +1,5 @@
 -- What a run prints for the bytes of an input.
+use Rattle.eb_fields.specs.Dialect.{Dialect}
 use Rattle.std.specs.Prelude.{◌≡◌, ℕ, Bool, List, ◌++◌, Option}
 use Rattle.eb_base.specs.Setting.{Setting}
 use Rattle.eb_io.specs.Lines.{Line, lines_of}
@@ -11,21 +12,21 @@ use Rattle.eb_indexed.specs.LinesRead.{AreRead, HasRefusal, HasNoRefusal}
 use Rattle.eb_indexed.specs.Sees.{Sees}
 use Rattle.eb_indexed.specs.Text.{body, end_of}
 
--- the names of the fields by which lines are read, the setting of the index, whether documents are added while queries are answered, and how what is printed is written
+-- how lines are read, the setting of the index, whether documents are added while queries are answered, and how what is printed is written
 pub record Asked : Type 0 where
-  pub fields : List (List ℕ)
+  pub dialect : Dialect
   pub setting : Setting
   pub overlap : Bool
   pub form : Form
 
-abbrev pub asked : List (List ℕ) → Setting → Bool → Form → Asked
-asked names σ overlap form = record { fields = names; setting = σ; overlap = overlap; form = form }
+abbrev pub asked : Dialect → Setting → Bool → Form → Asked
+asked how σ overlap form = record { dialect = how; setting = σ; overlap = overlap; form = form }
 
 -- what these lines print, with or without overlap: the answers and refusals, in order
 pub record IsBodyOf (a : Asked) (lines : List Line) (printed : List ℕ) : Type 0 where
   pub readings : List Reading
   pub numbers : ℕ → ℕ
-  pub read : AreRead a.fields a.setting lines readings
+  pub read : AreRead a.dialect a.setting lines readings
   pub sees : Sees a.overlap readings numbers
   pub bytes : printed ≡ body a.form numbers readings
 
@@ -33,24 +34,24 @@ pub record IsBodyOf (a : Asked) (lines : List Line) (printed : List ℕ) : Type 
 pub record IsTextOf (a : Asked) (lines : List Line) (printed : List ℕ) : Type 0 where
   pub readings : List Reading
   pub numbers : ℕ → ℕ
-  pub read : AreRead a.fields a.setting lines readings
+  pub read : AreRead a.dialect a.setting lines readings
   pub sees : Sees a.overlap readings numbers
   pub bytes : printed ≡ body a.form numbers readings ++ end_of a.setting a.form readings
 
 -- the text of an input of these bytes
-abbrev pub IsOutput : List (List ℕ) → Setting → Bool → Form → List ℕ → List ℕ → Type 0
-IsOutput names σ overlap form bytes printed = IsTextOf (asked names σ overlap form) (lines_of bytes) printed
+abbrev pub IsOutput : Dialect → Setting → Bool → Form → List ℕ → List ℕ → Type 0
+IsOutput how σ overlap form bytes printed = IsTextOf (asked how σ overlap form) (lines_of bytes) printed
 
 -- how a run over an index of this setting ends, also over a source or a sink that tells no bytes
-abbrev pub Ends : List (List ℕ) → Setting → Bool → Form → Status → Option (List ℕ) → Option (List ℕ) → Option (List ℕ) → Option (List ℕ) → Type 0
-Ends names σ overlap form =
-    let a = asked names σ overlap form in passing.Ends (IsBodyOf a) (IsTextOf a) (HasRefusal names σ) (HasNoRefusal names σ)
+abbrev pub Ends : Dialect → Setting → Bool → Form → Status → Option (List ℕ) → Option (List ℕ) → Option (List ℕ) → Option (List ℕ) → Type 0
+Ends how σ overlap form =
+    let a = asked how σ overlap form in passing.Ends (IsBodyOf a) (IsTextOf a) (HasRefusal how σ) (HasNoRefusal how σ)
 
 -- what a run that ends so has printed, of an input of these bytes of which this is left
-abbrev pub Wrote : List (List ℕ) → Setting → Bool → Form → Status → List ℕ → Option (List ℕ) → List ℕ → Type 0
-Wrote names σ overlap form =
-    let a = asked names σ overlap form in outcomes.Wrote (IsBodyOf a) (IsTextOf a) (HasRefusal names σ) (HasNoRefusal names σ)
+abbrev pub Wrote : Dialect → Setting → Bool → Form → Status → List ℕ → Option (List ℕ) → List ℕ → Type 0
+Wrote how σ overlap form =
+    let a = asked how σ overlap form in outcomes.Wrote (IsBodyOf a) (IsTextOf a) (HasRefusal how σ) (HasNoRefusal how σ)
 
 -- what its status says of the input
-abbrev pub Means : List (List ℕ) → Setting → Status → List ℕ → Option (List ℕ) → Type 0
-Means names σ = outcomes.Means (HasRefusal names σ) (HasNoRefusal names σ)
+abbrev pub Means : Dialect → Setting → Status → List ℕ → Option (List ℕ) → Type 0
+Means how σ = outcomes.Means (HasRefusal how σ) (HasNoRefusal how σ)

@@ -1,5 +1,6 @@
--- What the program leaves, by the command that the words ask for and by the names of the fields by which lines are read: `l0` and `l1` are what the source has left before and
+-- What the program leaves, by the command that the words ask for and by the dialect: `l0` and `l1` are what the source has left before and
 -- after it, and `p0` and `p1` what `out` has taken, each where that is told.
+use Rattle.eb_fields.specs.Dialect.{Dialect}
 use Rattle.std.specs.Prelude.{◌≡◌, ◌⊎◌, ℕ, ◌<◌, Bool, true, false, List, [], ◌++◌, length, Option, Some, None}
 use Rattle.eb_answer.specs.Rules.{is_bad, IsBody, IsText}
 use Rattle.eb_answer.specs.Rules as answered
@@ -31,19 +32,19 @@ use Rattle.eb_run.specs.Output as output
 
 -- ---- how a command ends, also where source and `out` tell no bytes
 
-abbrev pub EndsBy : List (List ℕ) → Command → Status → (l0 l1 p0 p1 : Option (List ℕ)) → Type 0
-EndsBy names (Run overlap form σ) status l0 l1 p0 p1 = Ends names σ overlap form status l0 l1 p0 p1
-EndsBy names (RunWorkers n form σ) status l0 l1 p0 p1 =
-    let a = workers.asked names σ form in passing.Ends (workers.IsWorkersBody a) (workers.IsWorkersText a) (HasRefusal names σ) (HasNoRefusal names σ) status l0 l1 p0 p1
-EndsBy names (RunParts n overlap form σ) status l0 l1 p0 p1 =
-    let rules = parts_rules names n σ form in passing.Ends (IsBody is_bad rules) (IsText is_bad rules) (answered.HasRefusal is_bad rules) (answered.HasNoRefusal is_bad rules) status l0 l1 p0 p1
-EndsBy names (RunWatches form σ) status l0 l1 p0 p1 =
-    let rules = watch_rules names σ form in
+abbrev pub EndsBy : Dialect → Command → Status → (l0 l1 p0 p1 : Option (List ℕ)) → Type 0
+EndsBy how (Run overlap form σ) status l0 l1 p0 p1 = Ends how σ overlap form status l0 l1 p0 p1
+EndsBy how (RunWorkers n form σ) status l0 l1 p0 p1 =
+    let a = workers.asked how σ form in passing.Ends (workers.IsWorkersBody a) (workers.IsWorkersText a) (HasRefusal how σ) (HasNoRefusal how σ) status l0 l1 p0 p1
+EndsBy how (RunParts n overlap form σ) status l0 l1 p0 p1 =
+    let rules = parts_rules how n σ form in passing.Ends (IsBody is_bad rules) (IsText is_bad rules) (answered.HasRefusal is_bad rules) (answered.HasNoRefusal is_bad rules) status l0 l1 p0 p1
+EndsBy how (RunWatches form σ) status l0 l1 p0 p1 =
+    let rules = watch_rules how σ form in
     passing.Ends (IsBody ReadsOther rules) (IsText ReadsOther rules) (answered.HasRefusal ReadsOther rules) (answered.HasNoRefusal ReadsOther rules) status l0 l1 p0 p1
-EndsBy names (Bench start count) status l0 l1 p0 p1 = PrintsFigures status (lines_of (made start count)) p0 p1
-EndsBy names (Save σ) status l0 l1 p0 p1 =
-    let a = saved.asked names σ in passing.Ends (saved.AreParts a) (saved.IsSaved a) (saved.HasUnsaved a) (saved.HasNoUnsaved a) status l0 l1 p0 p1
-EndsBy names (Load form) status l0 l1 p0 p1 = EndsLoad names form status l0 l1 p0 p1
+EndsBy how (Bench start count) status l0 l1 p0 p1 = PrintsFigures status (lines_of (made start count)) p0 p1
+EndsBy how (Save σ) status l0 l1 p0 p1 =
+    let a = saved.asked how σ in passing.Ends (saved.AreParts a) (saved.IsSaved a) (saved.HasUnsaved a) (saved.HasNoUnsaved a) status l0 l1 p0 p1
+EndsBy how (Load form) status l0 l1 p0 p1 = EndsLoad how form status l0 l1 p0 p1
 
 -- ---- what is printed
 
@@ -61,47 +62,47 @@ pub record HasImage (bytes : List ℕ) : Type 0 where
   pub is : bytes ≡ image_of setting documents ++ rest
 
 -- what a load that ends so has printed, of any bytes: nothing where no image was read to its end, and else what it says of the lines after it
-abbrev pub WroteLoad : List (List ℕ) → Form → Status → List ℕ → Option (List ℕ) → List ℕ → Type 0
-WroteLoad names form status bytes left printed = ((printed ≡ []) × ((taken : List ℕ) × outcomes.AreTaken bytes left taken × WhyUnread status taken left))
-    ⊎ ((i : HasImage bytes) × (let a : Loaded = record { fields = names; setting = i.setting; documents = i.documents; form = form } in
+abbrev pub WroteLoad : Dialect → Form → Status → List ℕ → Option (List ℕ) → List ℕ → Type 0
+WroteLoad how form status bytes left printed = ((printed ≡ []) × ((taken : List ℕ) × outcomes.AreTaken bytes left taken × WhyUnread status taken left))
+    ⊎ ((i : HasImage bytes) × (let a : Loaded = record { dialect = how; setting = i.setting; documents = i.documents; form = form } in
     outcomes.Wrote (IsBodyBehind a) (IsTextBehind a) (HasRefusalBehind a) (HasNoRefusalBehind a) status i.rest left printed))
 
 -- of bytes that are an image and a rest, it is what it says of the rest; at BadImage `out` took nothing, also where it tells no bytes
-pub record RanLoad (names : List (List ℕ)) (form : Form) (status : Status) (l0 l1 p0 p1 : Option (List ℕ)) : Type 0 where
-  pub all : Prints (WroteLoad names form status) l0 l1 p0 p1
+pub record RanLoad (how : Dialect) (form : Form) (status : Status) (l0 l1 p0 p1 : Option (List ℕ)) : Type 0 where
+  pub all : Prints (WroteLoad how form status) l0 l1 p0 p1
   pub lines : (σ : Setting) (docs : List Doc) (rest before : List ℕ) → IsSetting σ → IsLawful σ docs → l0 ≡ Some (image_of σ docs ++ rest) → p0 ≡ Some before
-      → (printed : List ℕ) × (p1 ≡ Some (before ++ printed)) × WroteLoaded (record { fields = names; setting = σ; documents = docs; form = form }) status rest l1 printed
+      → (printed : List ℕ) × (p1 ≡ Some (before ++ printed)) × WroteLoaded (record { dialect = how; setting = σ; documents = docs; form = form }) status rest l1 printed
   pub bad_image : status ≡ BadImage → p1 ≡ p0
 
-abbrev pub Ran : List (List ℕ) → Command → Status → (l0 l1 p0 p1 : Option (List ℕ)) → Type 0
-Ran names (Run overlap form σ) status l0 l1 p0 p1 = Prints (Wrote names σ overlap form status) l0 l1 p0 p1
-Ran names (RunWorkers n form σ) status l0 l1 p0 p1 = Prints (workers.WroteWorkers (workers.asked names σ form) status) l0 l1 p0 p1
-Ran names (RunParts n overlap form σ) status l0 l1 p0 p1 = Prints (WroteInParts (parts_rules names n σ form) status) l0 l1 p0 p1
-Ran names (RunWatches form σ) status l0 l1 p0 p1 = Prints (WroteWatches (watch_rules names σ form) status) l0 l1 p0 p1
-Ran names (Bench start count) status l0 l1 p0 p1 = (before : List ℕ) → p0 ≡ Some before → (printed : List ℕ) × (p1 ≡ Some (before ++ printed)) × WroteBench status start count printed
-Ran names (Save σ) status l0 l1 p0 p1 = Prints (saved.WroteSaved (saved.asked names σ) status) l0 l1 p0 p1
-Ran names (Load form) status l0 l1 p0 p1 = RanLoad names form status l0 l1 p0 p1
+abbrev pub Ran : Dialect → Command → Status → (l0 l1 p0 p1 : Option (List ℕ)) → Type 0
+Ran how (Run overlap form σ) status l0 l1 p0 p1 = Prints (Wrote how σ overlap form status) l0 l1 p0 p1
+Ran how (RunWorkers n form σ) status l0 l1 p0 p1 = Prints (workers.WroteWorkers (workers.asked how σ form) status) l0 l1 p0 p1
+Ran how (RunParts n overlap form σ) status l0 l1 p0 p1 = Prints (WroteInParts (parts_rules how n σ form) status) l0 l1 p0 p1
+Ran how (RunWatches form σ) status l0 l1 p0 p1 = Prints (WroteWatches (watch_rules how σ form) status) l0 l1 p0 p1
+Ran how (Bench start count) status l0 l1 p0 p1 = (before : List ℕ) → p0 ≡ Some before → (printed : List ℕ) × (p1 ≡ Some (before ++ printed)) × WroteBench status start count printed
+Ran how (Save σ) status l0 l1 p0 p1 = Prints (saved.WroteSaved (saved.asked how σ) status) l0 l1 p0 p1
+Ran how (Load form) status l0 l1 p0 p1 = RanLoad how form status l0 l1 p0 p1
 
 -- ---- what the status means, whatever became of the output
 
 abbrev pub Told : (List ℕ → Option (List ℕ) → Type 0) → (l0 l1 : Option (List ℕ)) → Type 0
 Told means l0 l1 = (bytes : List ℕ) → l0 ≡ Some bytes → means bytes l1
 
-pub record LoadMeans (names : List (List ℕ)) (form : Form) (status : Status) (l0 l1 : Option (List ℕ)) : Type 0 where
+pub record LoadMeans (how : Dialect) (form : Form) (status : Status) (l0 l1 : Option (List ℕ)) : Type 0 where
   -- at Done and Refused the input was an image and lines
   pub image : (status ≡ Done) ⊎ (status ≡ Refused) → (bytes : List ℕ) → l0 ≡ Some bytes → HasImage bytes
   pub lines : (σ : Setting) (docs : List Doc) (rest : List ℕ) → IsSetting σ → IsLawful σ docs → l0 ≡ Some (image_of σ docs ++ rest)
-      → MeansLoaded (record { fields = names; setting = σ; documents = docs; form = form }) status rest l1
+      → MeansLoaded (record { dialect = how; setting = σ; documents = docs; form = form }) status rest l1
   pub bad_image : status ≡ BadImage → (taken : List ℕ) × (l0 ≡ after taken l1) × IsBad IsImage taken l1
 
-abbrev pub Means : List (List ℕ) → Command → Status → (l0 l1 : Option (List ℕ)) → Type 0
-Means names (Run overlap form σ) status l0 l1 = Told (output.Means names σ status) l0 l1
-Means names (RunWorkers n form σ) status l0 l1 = Told (workers.MeansWorkers (workers.asked names σ form) status) l0 l1
-Means names (RunParts n overlap form σ) status l0 l1 = Told (MeansInParts (parts_rules names n σ form) status) l0 l1
-Means names (RunWatches form σ) status l0 l1 = Told (MeansWatches (watch_rules names σ form) status) l0 l1
-Means names (Bench start count) status l0 l1 = MeansBench status start count
-Means names (Save σ) status l0 l1 = Told (saved.MeansSaved (saved.asked names σ) status) l0 l1
-Means names (Load form) status l0 l1 = LoadMeans names form status l0 l1
+abbrev pub Means : Dialect → Command → Status → (l0 l1 : Option (List ℕ)) → Type 0
+Means how (Run overlap form σ) status l0 l1 = Told (output.Means how σ status) l0 l1
+Means how (RunWorkers n form σ) status l0 l1 = Told (workers.MeansWorkers (workers.asked how σ form) status) l0 l1
+Means how (RunParts n overlap form σ) status l0 l1 = Told (MeansInParts (parts_rules how n σ form) status) l0 l1
+Means how (RunWatches form σ) status l0 l1 = Told (MeansWatches (watch_rules how σ form) status) l0 l1
+Means how (Bench start count) status l0 l1 = MeansBench status start count
+Means how (Save σ) status l0 l1 = Told (saved.MeansSaved (saved.asked how σ) status) l0 l1
+Means how (Load form) status l0 l1 = LoadMeans how form status l0 l1
 
 -- ---- when the input is processed
 

@@ -1,9 +1,9 @@
 -- What the index of a run holds, and which lines of the input wait; and that what a run printed is a front of a whole text.
+use Rattle.eb_fields.specs.Dialect.{dialect_of}
 use Rattle.std.specs.Prelude.{◌≡◌, ℕ, true, List, [], ◌++◌, length, Result, OnOk}
 use Rattle.std.specs.declared.vec.Vec.{Vec}
 use denote.MutBor.{MutBor}
 use Rattle.std.proofs.Common.{sym, ap, subst, ◌∙◌, append_assoc, append-nil}
-use Rattle.eb_fields.specs.Fields.{names}
 use Rattle.eb_io.specs.Lines.{Line}
 use Rattle.eb_lines.specs.Programs.{IsRunning, WorksOn, PrintsFront}
 use Rattle.eb_indexed.specs.Sees.{Sees}
@@ -26,10 +26,10 @@ pub record HasRun (r : Running) (a : Asked) (given : List Line) (so_far : List �
   pub writer : r.writer.index ≡ words
   pub converter : r.converter.index ≡ words
   pub mode : a.overlap ≡ true
-  pub fields : names r.fields ≡ a.fields
+  pub dialect : dialect_of r.dialect ≡ a.dialect
   pub form : r.form ≡ a.form
   pub number : r.number ≡ length given
-  pub worked : HasGathered a.fields a.form a.setting given r.writer.docs r.rounds so_far
+  pub worked : HasGathered a.dialect a.form a.setting given r.writer.docs r.rounds so_far
 
 -- what may be called between two lines, and processes the held lines, if memory suffices
 pub record WorksOffHeld {W Z E : Type 0} (pre : W → MutBor Running → MutBor (Vec ℕ Z) → Type 0)

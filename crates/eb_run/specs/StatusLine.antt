@@ -5,9 +5,8 @@ use Rattle.eb_lines.specs.StatusLine.{line_of}
 
 -- how the program is called
 abbrev pub usage : List ℕ
-usage = codes "earlybird: usage: run [--overlap | --workers N | --parts N [--overlap] | --watch] [--fields LIST] [--stats] [--json] [--segments N] "
-    ++ codes "[--docs N] [--terms N] | bench START DOCS | save [--fields LIST] [--segments N] [--docs N] [--terms N] | "
-    ++ codes "load [--fields LIST] [--stats] [--json]\n"
+usage = codes "earlybird: usage: run [--overlap | --workers N | --parts N | --watch] [--stats] [--segments N] [--docs N] [--terms N] | "
+    ++ codes "bench START DOCS | save [--segments N] [--docs N] [--terms N] | load [--stats]\n"
 
 -- the line of a status, with its LF; Done and Refused say nothing
 abbrev pub status_line : Status → List ℕ

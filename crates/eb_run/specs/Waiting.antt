@@ -1,4 +1,5 @@
 -- How far a run with overlap has come between two lines, where some lines are held.
+use Rattle.eb_fields.specs.Dialect.{Dialect}
 use Rattle.std.specs.Prelude.{◌≡◌, ℕ, ◌≤◌, List, [], ◌++◌, length}
 use Rattle.std.specs.List.{AllZip}
 use Rattle.eb_base.specs.Document.{Doc}
@@ -16,25 +17,25 @@ use Rattle.eb_indexed.specs.LinesRead.{AreRead}
 use Rattle.eb_lines.specs.Reads.{Reads}
 use Rattle.eb_run.specs.Holding.{held_from}
 
--- whatever the lines are read as by the names of the fields, no query line among them follows a document line
-abbrev pub AreRound : List (List ℕ) → List Line → Type 0
-AreRound names lines = (rs : List Reading) → AllZip (Reads names) lines rs → QueriesFirst rs
+-- whatever the lines are read as by the dialect, no query line among them follows a document line
+abbrev pub AreRound : Dialect → List Line → Type 0
+AreRound how lines = (rs : List Reading) → AllZip (Reads how) lines rs → QueriesFirst rs
 
 abbrev pub counts_of : List Reading → Counted
 counts_of rs = record { documents = length (accepted rs); queries = queries rs; refused = refusals rs }
 
 -- of the lines given these are done, and these wait as one round; those done printed this text
-pub record HasWorkedOff (names : List (List ℕ)) (form : Form) (σ : Setting) (given : List Line) (docs : List Doc) (held : Standing) (so_far : List ℕ) : Type 0 where
+pub record HasWorkedOff (how : Dialect) (form : Form) (σ : Setting) (given : List Line) (docs : List Doc) (held : Standing) (so_far : List ℕ) : Type 0 where
   pub done : List Line
   pub waiting : List Line
   pub readings : List Reading
   pub numbers : ℕ → ℕ
   pub parts : given ≡ done ++ waiting
-  pub read : AreRead names σ done readings
+  pub read : AreRead how σ done readings
   pub sees : SeesBetween readings numbers
   pub adds : docs ≡ accepted readings
   pub lines : held.held ≡ held_from (length done) waiting
-  pub round : AreRound names waiting
+  pub round : AreRound how waiting
   pub counts : held.counts ≡ counts_of readings
   pub greatest : held.greatest ≤ length given
   pub printed : so_far ≡ body form numbers readings
@@ -44,20 +45,20 @@ abbrev pub round_ahead : Standing → Standing
 round_ahead s = record { ahead = []; held = s.ahead; counts = s.counts; greatest = 0 }
 
 -- of the lines given the first wait as the round ahead, or are done, and the others wait as the open round
-pub record HasGathered (names : List (List ℕ)) (form : Form) (σ : Setting) (given : List Line) (docs : List Doc) (s : Standing) (so_far : List ℕ) : Type 0 where
+pub record HasGathered (how : Dialect) (form : Form) (σ : Setting) (given : List Line) (docs : List Doc) (s : Standing) (so_far : List ℕ) : Type 0 where
   pub before : List Line
   pub behind : List Line
   pub parts : given ≡ before ++ behind
-  pub worked : HasWorkedOff names form σ before docs (round_ahead s) so_far
+  pub worked : HasWorkedOff how form σ before docs (round_ahead s) so_far
   pub lines : s.held ≡ held_from (length before) behind
-  pub round : AreRound names behind
+  pub round : AreRound how behind
   pub greatest : s.greatest ≤ length given
 
 -- all lines given are done, and printed this text
-pub record HasSettled (names : List (List ℕ)) (form : Form) (σ : Setting) (given : List Line) (docs : List Doc) (counts : Counted) (so_far : List ℕ) : Type 0 where
+pub record HasSettled (how : Dialect) (form : Form) (σ : Setting) (given : List Line) (docs : List Doc) (counts : Counted) (so_far : List ℕ) : Type 0 where
   pub readings : List Reading
   pub numbers : ℕ → ℕ
-  pub read : AreRead names σ given readings
+  pub read : AreRead how σ given readings
   pub sees : SeesBetween readings numbers
   pub adds : docs ≡ accepted readings
   pub counted : counts ≡ counts_of readings

@@ -11,7 +11,7 @@ use crate::figures::put_figures;
 use crate::last_line::print_last;
 use eb_base::{Config, Document, Gate, NoMemory};
 use eb_cursor::Frame;
-use eb_fields::Fields;
+use eb_fields::Dialect;
 use eb_gen::{line_of, query_of};
 use eb_indexed::Indexed;
 use eb_io::Sink;
@@ -88,7 +88,7 @@ impl Bench {
         requires { (lines : List Line) × HasCounted self.old lines × (length lines < 2 ^ 17) }
         ensures { OnOk result ((lines : List Line) → HasCounted self.old lines → length lines < 2 ^ 17 → HasCounted self.new (lines ++ line bytes.now ∷ [])) }
     {
-        match read_line(alloc, Fields::none(), bytes)? {
+        match read_line(alloc, Dialect::plain(), bytes)? {
             Work::Nothing => Ok(()),
             Work::Add(document) => {
                 self.add(&document, gate);

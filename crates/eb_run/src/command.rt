@@ -1,6 +1,6 @@
 ghost use Rattle.std.specs.Prelude.{◌≡◌, [], Some, None, IfOk, IsErrOf, map, string_bytes};
 ghost use Rattle.eb_options.specs.Items.{texts};
-ghost use Rattle.eb_run.specs.Command.{asked_of, with_fields, run_of, run_options, save_of, load_of};
+ghost use Rattle.eb_run.specs.Command.{asked_of, with_dialect, run_of, run_options, save_of, load_of};
 ghost use Rattle.eb_options.specs.Settings.{setting_options};
 ghost use Rattle.eb_run.specs.Requests.{request_view};
 
@@ -9,14 +9,14 @@ pub(crate) mod form;
 mod images;
 mod lines;
 
-use crate::fields::take_fields;
+use crate::fields::take_dialect;
 use bench::read_bench;
 use eb_base::Config;
-use eb_fields::Fields;
+use eb_fields::Dialect;
 use eb_lines::Form;
 use eb_options::SETTING_OPTIONS;
-use images::{LOAD_OPTIONS, read_load, read_save};
-use lines::{RUN_OPTIONS, read_run};
+use images::{LOAD_BESIDE, LOAD_OPTIONS, SETTING_BESIDE, read_load, read_save};
+use lines::{RUN_BESIDE, RUN_OPTIONS, read_run};
 use std::alloc::Global;
 
 /// What the words of a command line ask for.
@@ -84,7 +84,7 @@ pub struct Request<'a> {
     /// The command.
     pub command: Command,
     /// The fields by which its lines are read (`--fields`); none for `bench`.
-    pub fields: Fields<'a>,
+    pub dialect: Dialect<'a>,
 }
 
 /// Why no command is read from the words.
@@ -98,14 +98,14 @@ pub enum CommandFault {
 
 // What the words after `run` ask for.
 fn ask_run<'a>(alloc: Global, words: &'a [String]) -> Result<Request<'a>, CommandFault>
-    ensures request { IfOk result (λ request. with_fields run_options run_of (map string_bytes words.entry.now) ≡ Some (request_view request)) }
-    ensures usage { IsErrOf result CommandFault.Usage → with_fields run_options run_of (map string_bytes words.entry.now) ≡ None }
+    ensures request { IfOk result (λ request. with_dialect run_options run_of (map string_bytes words.entry.now) ≡ Some (request_view request)) }
+    ensures usage { IsErrOf result CommandFault.Usage → with_dialect run_options run_of (map string_bytes words.entry.now) ≡ None }
 {
-    match take_fields(alloc, words, &RUN_OPTIONS) {
+    match take_dialect(alloc, words, &RUN_BESIDE, &RUN_OPTIONS) {
         Ok(apart) => match read_run(alloc, apart.others.as_slice()) {
             Ok(command) => Ok(Request {
                 command,
-                fields: apart.fields,
+                dialect: apart.dialect,
             }),
             Err(fault) => Err(fault),
         },
@@ -115,14 +115,14 @@ fn ask_run<'a>(alloc: Global, words: &'a [String]) -> Result<Request<'a>, Comman
 
 // What the words after `save` ask for.
 fn ask_save<'a>(alloc: Global, words: &'a [String]) -> Result<Request<'a>, CommandFault>
-    ensures request { IfOk result (λ request. with_fields setting_options save_of (map string_bytes words.entry.now) ≡ Some (request_view request)) }
-    ensures usage { IsErrOf result CommandFault.Usage → with_fields setting_options save_of (map string_bytes words.entry.now) ≡ None }
+    ensures request { IfOk result (λ request. with_dialect setting_options save_of (map string_bytes words.entry.now) ≡ Some (request_view request)) }
+    ensures usage { IsErrOf result CommandFault.Usage → with_dialect setting_options save_of (map string_bytes words.entry.now) ≡ None }
 {
-    match take_fields(alloc, words, &SETTING_OPTIONS) {
+    match take_dialect(alloc, words, &SETTING_BESIDE, &SETTING_OPTIONS) {
         Ok(apart) => match read_save(alloc, apart.others.as_slice()) {
             Ok(command) => Ok(Request {
                 command,
-                fields: apart.fields,
+                dialect: apart.dialect,
             }),
             Err(fault) => Err(fault),
         },
@@ -132,14 +132,14 @@ fn ask_save<'a>(alloc: Global, words: &'a [String]) -> Result<Request<'a>, Comma
 
 // What the words after `load` ask for.
 fn ask_load<'a>(alloc: Global, words: &'a [String]) -> Result<Request<'a>, CommandFault>
-    ensures request { IfOk result (λ request. with_fields [] load_of (map string_bytes words.entry.now) ≡ Some (request_view request)) }
-    ensures usage { IsErrOf result CommandFault.Usage → with_fields [] load_of (map string_bytes words.entry.now) ≡ None }
+    ensures request { IfOk result (λ request. with_dialect [] load_of (map string_bytes words.entry.now) ≡ Some (request_view request)) }
+    ensures usage { IsErrOf result CommandFault.Usage → with_dialect [] load_of (map string_bytes words.entry.now) ≡ None }
 {
-    match take_fields(alloc, words, &LOAD_OPTIONS) {
+    match take_dialect(alloc, words, &LOAD_BESIDE, &LOAD_OPTIONS) {
         Ok(apart) => match read_load(alloc, apart.others.as_slice()) {
             Ok(command) => Ok(Request {
                 command,
-                fields: apart.fields,
+                dialect: apart.dialect,
             }),
             Err(fault) => Err(fault),
         },
@@ -177,7 +177,7 @@ pub fn read_command<'a>(alloc: Global, words: &'a Vec<String>) -> Result<Request
         return match read_bench(rest) {
             Some(command) => Ok(Request {
                 command,
-                fields: Fields::none(),
+                dialect: Dialect::plain(),
             }),
             None => Err(CommandFault::Usage),
         };

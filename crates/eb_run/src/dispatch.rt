@@ -1,5 +1,5 @@
 ghost use Rattle.std.specs.Prelude.{◌≡◌, ◌≤◌, ◌⊎◌, ◌++◌, true, false, List, [], ℕ, None, Some, OnOk, map, option_map, string_bytes};
-ghost use Rattle.eb_fields.specs.Fields.{names};
+ghost use Rattle.eb_fields.specs.Dialect.{Dialect as Spoken, dialect_of};
 ghost use Rattle.eb_io.specs.Faults.{HasRisen};
 ghost use Rattle.eb_lines.specs.Programs.{IsRunning, WorksOn};
 ghost use Rattle.eb_run.specs.Command.{asked_of, asks};
@@ -16,7 +16,7 @@ use crate::usage::USAGE;
 use eb_answer::answer_lines;
 use eb_archive::{load_lines, save_lines};
 use eb_base::{Config, Gate, NoMemory};
-use eb_fields::Fields;
+use eb_fields::Dialect;
 use eb_indexed::Indexed;
 use eb_io::{Sink, Source, write_all};
 use eb_lines::{Form, Status, pass_lines};
@@ -56,13 +56,13 @@ where
     // The source isn't read where they ask for no command, or to process a made input.
     ensures unread { reads_source (option_map (λ a. a.command) (asked_of (map string_bytes words.now.items))) ≡ false → source.new ≡ source.old }
     // What was printed, by the command: where source and `out` tell their bytes, a text of the input as the status says.
-    ensures ran { (fields : List (List ℕ)) (c : Command) → asked_of (map string_bytes words.now.items) ≡ Some (asks fields c)
-        → Ran fields c result (S.left source.old) (S.left source.new) (K.taken out.old) (K.taken out.new) }
+    ensures ran { (how : Spoken) (c : Command) → asked_of (map string_bytes words.now.items) ≡ Some (asks how c)
+        → Ran how c result (S.left source.old) (S.left source.new) (K.taken out.old) (K.taken out.new) }
     // What the status says of the input holds whatever becomes of the output.
-    ensures means { (fields : List (List ℕ)) (c : Command) → asked_of (map string_bytes words.now.items) ≡ Some (asks fields c)
-        → Means fields c result (S.left source.old) (S.left source.new) }
+    ensures means { (how : Spoken) (c : Command) → asked_of (map string_bytes words.now.items) ≡ Some (asks how c)
+        → Means how c result (S.left source.old) (S.left source.new) }
     // Without a fault and with an end in time, the input is processed.
-    ensures completes { (fields : List (List ℕ)) (c : Command) → asked_of (map string_bytes words.now.items) ≡ Some (asks fields c)
+    ensures completes { (how : Spoken) (c : Command) → asked_of (map string_bytes words.now.items) ≡ Some (asks how c)
         → Completes c (HasRisen (S.faults source.old) (S.faults source.new)) (HasRisen (K.faults out.old) (K.faults out.new)) result (S.left source.old) }
     // Faults come only from outside.
     ensures read_fault { result ≡ Status.ReadFault → HasRisen (S.faults source.old) (S.faults source.new) }
@@ -88,12 +88,12 @@ fn run_words<R: Threads + Wait + Sync, S: Source, K: Sink, G: Gate + Sync>(
     ensures no_command { asked_of (map string_bytes words.now.items) ≡ None → (result ≡ Status.Usage) ⊎ (result ≡ Status.NoMemory) }
     ensures unprinted { asked_of (map string_bytes words.now.items) ≡ None → out.new ≡ out.old }
     ensures unread { reads_source (option_map (λ a. a.command) (asked_of (map string_bytes words.now.items))) ≡ false → source.new ≡ source.old }
-    ensures ends { (fields : List (List ℕ)) (c : Command) → asked_of (map string_bytes words.now.items) ≡ Some (asks fields c)
-        → EndsBy fields c result (S.left source.old) (S.left source.new) (K.taken out.old) (K.taken out.new) }
+    ensures ends { (how : Spoken) (c : Command) → asked_of (map string_bytes words.now.items) ≡ Some (asks how c)
+        → EndsBy how c result (S.left source.old) (S.left source.new) (K.taken out.old) (K.taken out.new) }
     ensures read_fault { result ≡ Status.ReadFault → HasRisen (S.faults source.old) (S.faults source.new) }
     ensures write_fault { result ≡ Status.WriteFault → HasRisen (K.faults out.old) (K.faults out.new) }
 {
-    let Request { command, fields } = match read_command(alloc, words) {
+    let Request { command, dialect } = match read_command(alloc, words) {
         Ok(request) => request,
         Err(CommandFault::Usage) => return Status::Usage,
         Err(CommandFault::NoMemory) => return Status::NoMemory,
@@ -103,26 +103,26 @@ fn run_words<R: Threads + Wait + Sync, S: Source, K: Sink, G: Gate + Sync>(
             overlap,
             form,
             config,
-        } => run_lines(rt, alloc, overlap, fields, form, config, source, out, gate),
+        } => run_lines(rt, alloc, overlap, dialect, form, config, source, out, gate),
         Command::RunWorkers {
             workers,
             form,
             config,
-        } => run_workers(rt, alloc, workers, fields, form, config, source, out, gate),
+        } => run_workers(rt, alloc, workers, dialect, form, config, source, out, gate),
         Command::RunParts {
             parts,
             overlap,
             form,
             config,
         } => run_in_parts(
-            rt, alloc, parts, overlap, fields, form, config, source, out, gate,
+            rt, alloc, parts, overlap, dialect, form, config, source, out, gate,
         ),
         Command::RunWatches { form, config } => {
-            run_watches(alloc, fields, form, config, source, out, gate)
+            run_watches(alloc, dialect, form, config, source, out, gate)
         }
         Command::Bench { start, docs } => run_bench(alloc, start, docs, out, gate),
-        Command::Save { config } => save_lines(alloc, fields, config, source, out, gate),
-        Command::Load { form } => load_lines(alloc, fields, form, source, out, gate),
+        Command::Save { config } => save_lines(alloc, dialect, config, source, out, gate),
+        Command::Load { form } => load_lines(alloc, dialect, form, source, out, gate),
     }
 }
 
@@ -132,7 +132,7 @@ fn run_in_parts<R: Threads + Sync, S: Source, K: Sink, G: Gate + Sync>(
     alloc: Global,
     parts: u32,
     overlap: bool,
-    fields: Fields<'_>,
+    dialect: Dialect<'_>,
     form: Form,
     config: Config,
     source: &mut S,
@@ -140,15 +140,15 @@ fn run_in_parts<R: Threads + Sync, S: Source, K: Sink, G: Gate + Sync>(
     gate: &G,
 ) -> Status
     requires { (1 ≤ parts) × (parts ≤ 16) }
-    ensures ends { EndsBy (names fields.entry) (Command.RunParts parts overlap form config) result
+    ensures ends { EndsBy (dialect_of dialect.entry) (Command.RunParts parts overlap form config) result
         (S.left source.old) (S.left source.new) (K.taken out.old) (K.taken out.new) }
     ensures read_fault { result ≡ Status.ReadFault → HasRisen (S.faults source.old) (S.faults source.new) }
     ensures write_fault { result ≡ Status.WriteFault → HasRisen (K.faults out.old) (K.faults out.new) }
 {
     if overlap {
-        return run_parts_beside(rt, alloc, parts, fields, form, config, source, out, gate);
+        return run_parts_beside(rt, alloc, parts, dialect, form, config, source, out, gate);
     }
-    run_parts(alloc, parts, fields, form, config, source, out, gate)
+    run_parts(alloc, parts, dialect, form, config, source, out, gate)
 }
 
 // Processes the lines one after the other, or adds documents while queries are answered.
@@ -156,60 +156,60 @@ fn run_lines<R: Threads + Sync, S: Source, K: Sink, G: Gate + Sync>(
     rt: &R,
     alloc: Global,
     overlap: bool,
-    fields: Fields<'_>,
+    dialect: Dialect<'_>,
     form: Form,
     config: Config,
     source: &mut S,
     out: &mut K,
     gate: &G,
 ) -> Status
-    ensures ends { Ends (names fields.entry) config overlap form result (S.left source.old) (S.left source.new) (K.taken out.old) (K.taken out.new) }
+    ensures ends { Ends (dialect_of dialect.entry) config overlap form result (S.left source.old) (S.left source.new) (K.taken out.old) (K.taken out.new) }
     ensures read_fault { result ≡ Status.ReadFault → HasRisen (S.faults source.old) (S.faults source.new) }
     ensures write_fault { result ≡ Status.WriteFault → HasRisen (K.faults out.old) (K.faults out.new) }
 {
     if overlap {
-        run_beside(rt, alloc, fields, form, config, source, out, gate)
+        run_beside(rt, alloc, dialect, form, config, source, out, gate)
     } else {
-        run_in_order(alloc, fields, form, config, source, out, gate)
+        run_in_order(alloc, dialect, form, config, source, out, gate)
     }
 }
 
 // Processes the lines one after the other.
 fn run_in_order<S: Source, K: Sink, G: Gate>(
     alloc: Global,
-    fields: Fields<'_>,
+    dialect: Dialect<'_>,
     form: Form,
     config: Config,
     source: &mut S,
     out: &mut K,
     gate: &G,
 ) -> Status
-    ensures ends { Ends (names fields.entry) config false form result (S.left source.old) (S.left source.new) (K.taken out.old) (K.taken out.new) }
+    ensures ends { Ends (dialect_of dialect.entry) config false form result (S.left source.old) (S.left source.new) (K.taken out.old) (K.taken out.new) }
     ensures read_fault { result ≡ Status.ReadFault → HasRisen (S.faults source.old) (S.faults source.new) }
     ensures write_fault { result ≡ Status.WriteFault → HasRisen (K.faults out.old) (K.faults out.new) }
 {
     let Ok(indexed) = Indexed::new(alloc, form, config) else {
         return Status::NoMemory;
     };
-    answer_lines(alloc, indexed, fields, source, out, gate)
+    answer_lines(alloc, indexed, dialect, source, out, gate)
 }
 
 // Adds documents while queries are answered.
 fn run_beside<R: Threads + Sync, S: Source, K: Sink, G: Gate + Sync>(
     rt: &R,
     alloc: Global,
-    fields: Fields<'_>,
+    dialect: Dialect<'_>,
     form: Form,
     config: Config,
     source: &mut S,
     out: &mut K,
     gate: &G,
 ) -> Status
-    ensures ends { Ends (names fields.entry) config true form result (S.left source.old) (S.left source.new) (K.taken out.old) (K.taken out.new) }
+    ensures ends { Ends (dialect_of dialect.entry) config true form result (S.left source.old) (S.left source.new) (K.taken out.old) (K.taken out.new) }
     ensures read_fault { result ≡ Status.ReadFault → HasRisen (S.faults source.old) (S.faults source.new) }
     ensures write_fault { result ≡ Status.WriteFault → HasRisen (K.faults out.old) (K.faults out.new) }
 {
-    let Ok(running) = Running::new(alloc, fields, form, config) else {
+    let Ok(running) = Running::new(alloc, dialect, form, config) else {
         return Status::NoMemory;
     };
     let mut program = RunProgram {

@@ -2,7 +2,7 @@ ghost use Rattle.std.specs.Prelude.{◌≡◌, ◌⊎◌, ◌<◌, ◌≤◌, �
 ghost use Rattle.eb_ahead.specs.Placed.{IsHoldingFor, PlacesAll};
 ghost use Rattle.eb_answer.specs.Rules.{Rules, is_bad, IsBody, IsText, HasRefusal, HasNoRefusal};
 ghost use Rattle.eb_answer.specs.Stores.{Keeps};
-ghost use Rattle.eb_fields.specs.Fields.{names};
+ghost use Rattle.eb_fields.specs.Dialect.{Dialect as Spoken, dialect_of};
 ghost use Rattle.eb_io.specs.Faults.{HasRisen};
 ghost use Rattle.eb_io.specs.Lines.{longest_input};
 ghost use Rattle.eb_lines.specs.Outcomes.{IsWorkedOff};
@@ -23,7 +23,7 @@ use eb_ahead::{Other, answer_lines_ahead, place_each};
 use eb_answer::answer_lines;
 use eb_base::{Document, Gate, NoMemory};
 use eb_feed_workers::run_feed_workers;
-use eb_fields::Fields;
+use eb_fields::Dialect;
 use eb_io::{Sink, Source, write_all};
 use eb_lines::{Refusal, Status};
 use eb_watching::answer_watched;
@@ -57,17 +57,17 @@ where
     ensures unread { feed_asked_of (map string_bytes words.now) ≡ None → (source.new ≡ source.old) × (out.new ≡ out.old) }
     // Where the words ask for a feed, and source and `out` tell their bytes, the run printed the text of the input as the
     // status says.
-    ensures output { (fields : List (List ℕ)) (c : FeedCommand) → AsksFeed (map string_bytes words.now) fields c
+    ensures output { (how : Spoken) (c : FeedCommand) → AsksFeed (map string_bytes words.now) how c
         → (bytes before : List ℕ) → S.left source.old ≡ Some bytes → K.taken out.old ≡ Some before
-        → (printed : List ℕ) × (K.taken out.new ≡ Some (before ++ printed)) × WroteFeed fields c result bytes (S.left source.new) printed }
+        → (printed : List ℕ) × (K.taken out.new ≡ Some (before ++ printed)) × WroteFeed how c result bytes (S.left source.new) printed }
     // What the status says of the input holds whatever becomes of the output.
-    ensures means { (fields : List (List ℕ)) (c : FeedCommand) → AsksFeed (map string_bytes words.now) fields c
-        → (bytes : List ℕ) → S.left source.old ≡ Some bytes → FeedMeans fields c result bytes (S.left source.new) }
+    ensures means { (how : Spoken) (c : FeedCommand) → AsksFeed (map string_bytes words.now) how c
+        → (bytes : List ℕ) → S.left source.old ≡ Some bytes → FeedMeans how c result bytes (S.left source.new) }
     // Faults come only from outside.
     ensures read_fault { result ≡ Status.ReadFault → HasRisen (S.faults source.old) (S.faults source.new) }
     ensures write_fault { result ≡ Status.WriteFault → HasRisen (K.faults out.old) (K.faults out.new) }
     // Without a fault and with an end in time, the input is processed.
-    ensures completes { (fields : List (List ℕ)) (c : FeedCommand) → AsksFeed (map string_bytes words.now) fields c
+    ensures completes { (how : Spoken) (c : FeedCommand) → AsksFeed (map string_bytes words.now) how c
         → (HasRisen (S.faults source.old) (S.faults source.new) → ⊥) → (HasRisen (K.faults out.old) (K.faults out.new) → ⊥)
         → (bytes : List ℕ) → S.left source.old ≡ Some bytes → length bytes < longest_input → IsWorkedOff result }
     // `err` took the line of the status, unless it failed.
@@ -90,8 +90,8 @@ fn run_words<R: Threads + Wait + Sync, S: Source, K: Sink, G: Gate + Sync>(
     ensures usage { result ≡ Status.Usage → feed_asked_of (map string_bytes words.now) ≡ None }
     ensures no_command { feed_asked_of (map string_bytes words.now) ≡ None → (result ≡ Status.Usage) ⊎ (result ≡ Status.NoMemory) }
     ensures unread { feed_asked_of (map string_bytes words.now) ≡ None → (source.new ≡ source.old) × (out.new ≡ out.old) }
-    ensures ends { (fields : List (List ℕ)) (c : FeedCommand) → AsksFeed (map string_bytes words.now) fields c
-        → EndsFeed fields c result (S.left source.old) (S.left source.new) (K.taken out.old) (K.taken out.new) }
+    ensures ends { (how : Spoken) (c : FeedCommand) → AsksFeed (map string_bytes words.now) how c
+        → EndsFeed how c result (S.left source.old) (S.left source.new) (K.taken out.old) (K.taken out.new) }
     ensures read_fault { result ≡ Status.ReadFault → HasRisen (S.faults source.old) (S.faults source.new) }
     ensures write_fault { result ≡ Status.WriteFault → HasRisen (K.faults out.old) (K.faults out.new) }
 {
@@ -100,13 +100,13 @@ fn run_words<R: Threads + Wait + Sync, S: Source, K: Sink, G: Gate + Sync>(
         Err(CommandFault::Usage) => return Status::Usage,
         Err(CommandFault::NoMemory) => return Status::NoMemory,
     };
-    let FeedRequest { command, fields } = request;
+    let FeedRequest { command, dialect } = request;
     if let FeedWay::Workers(workers) = command.way {
         return run_feed_workers(
             rt,
             alloc,
             workers,
-            fields,
+            dialect,
             command.form,
             command.config,
             command.keep,
@@ -115,14 +115,14 @@ fn run_words<R: Threads + Wait + Sync, S: Source, K: Sink, G: Gate + Sync>(
             gate,
         );
     }
-    run_lines(rt, alloc, fields, command, source, out, gate)
+    run_lines(rt, alloc, dialect, command, source, out, gate)
 }
 
 // Processes an input over a feed, whose queries are answered by the thread that adds.
 fn run_lines<R: Threads + Sync, S: Source, K: Sink, G: Gate + Sync>(
     rt: &R,
     alloc: Global,
-    fields: Fields<'_>,
+    dialect: Dialect<'_>,
     command: FeedCommand,
     source: &mut S,
     out: &mut K,
@@ -130,7 +130,7 @@ fn run_lines<R: Threads + Sync, S: Source, K: Sink, G: Gate + Sync>(
 ) -> Status
     requires keep { (2 ≤ command.keep) × (command.keep ≤ 64) }
     requires way { IsSettledWay command.way }
-    ensures ends { EndsFeed (names fields.entry) command result (S.left source.old) (S.left source.new) (K.taken out.old) (K.taken out.new) }
+    ensures ends { EndsFeed (dialect_of dialect.entry) command result (S.left source.old) (S.left source.new) (K.taken out.old) (K.taken out.new) }
     ensures read_fault { result ≡ Status.ReadFault → HasRisen (S.faults source.old) (S.faults source.new) }
     ensures write_fault { result ≡ Status.WriteFault → HasRisen (K.faults out.old) (K.faults out.new) }
 {
@@ -138,9 +138,9 @@ fn run_lines<R: Threads + Sync, S: Source, K: Sink, G: Gate + Sync>(
         return Status::NoMemory;
     };
     match command.way {
-        FeedWay::Watches => answer_watched(alloc, fed, fields, source, out, gate),
-        FeedWay::Overlap => answer_ahead(rt, alloc, fed, fields, source, out, gate),
-        FeedWay::InOrder => answer_lines(alloc, fed, fields, source, out, gate),
+        FeedWay::Watches => answer_watched(alloc, fed, dialect, source, out, gate),
+        FeedWay::Overlap => answer_ahead(rt, alloc, fed, dialect, source, out, gate),
+        FeedWay::InOrder => answer_lines(alloc, fed, dialect, source, out, gate),
         FeedWay::Workers(_) => unreachable!(),
     }
 }
@@ -150,13 +150,13 @@ fn answer_ahead<R: Threads + Sync, S: Source, K: Sink, G: Gate>(
     rt: &R,
     alloc: Global,
     fed: Fed,
-    fields: Fields<'_>,
+    dialect: Dialect<'_>,
     source: &mut S,
     out: &mut K,
     gate: &G,
 ) -> Status
-    requires { (rules : Rules (Unit {0})) × (names fields ≡ rules.fields) × IsFed fed rules rules.start rules.watches }
-    ensures ends { (rules : Rules (Unit {0})) → names fields.entry ≡ rules.fields → IsFed fed rules rules.start rules.watches
+    requires { (rules : Rules (Unit {0})) × (dialect_of dialect ≡ rules.dialect) × IsFed fed rules rules.start rules.watches }
+    ensures ends { (rules : Rules (Unit {0})) → dialect_of dialect.entry ≡ rules.dialect → IsFed fed rules rules.start rules.watches
         → Ends (IsBody is_bad rules) (IsText is_bad rules) (HasRefusal is_bad rules) (HasNoRefusal is_bad rules)
         result (S.left source.old) (S.left source.new) (K.taken out.old) (K.taken out.new) }
     ensures read_fault { result ≡ Status.ReadFault → HasRisen (S.faults source.old) (S.faults source.new) }
@@ -170,5 +170,5 @@ fn answer_ahead<R: Threads + Sync, S: Source, K: Sink, G: Gate>(
         ensures ok { IfOk result (λ refusals. PlacesAll IsFed fed.old fed.new items.now refusals.items) }
         ensures err { OnErr result (Keeps IsFed fed.old fed.new) }
     { place_each(fed, alloc, items, gate) };
-    answer_lines_ahead(rt, alloc, fed, &place_all, fields, source, out, gate)
+    answer_lines_ahead(rt, alloc, fed, &place_all, dialect, source, out, gate)
 }

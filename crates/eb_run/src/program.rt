@@ -29,9 +29,9 @@ impl<'a, W: Fn(&mut Running<'a>, &mut Vec<u8>) -> Result<(), NoMemory>> LineProg
 
     ghost ends_with = { IsTextOf };
 
-    ghost refuses = { λ a. HasRefusal a.fields a.setting };
+    ghost refuses = { λ a. HasRefusal a.dialect a.setting };
 
-    ghost accepts = { λ a. HasNoRefusal a.fields a.setting };
+    ghost accepts = { λ a. HasNoRefusal a.dialect a.setting };
 
     ghost settled = { λ p. HoldsNone p.running };
 

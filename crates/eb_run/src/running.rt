@@ -1,5 +1,5 @@
 ghost use Rattle.std.specs.Prelude.{◌≡◌, ◌+◌, ◌<◌, ◌^◌, true, Some, None, ℕ, List, [], length, IfOk, OnErr, OnOk, IsTrue};
-ghost use Rattle.eb_fields.specs.Fields.{names};
+ghost use Rattle.eb_fields.specs.Dialect.{dialect_of};
 ghost use Rattle.eb_io.specs.Lines.{Line, line, long_line};
 ghost use Rattle.eb_rounds.specs.Passed.{HasMark, input_of, input_kind};
 ghost use Rattle.eb_rounds.specs.Standing.{queries_held};
@@ -13,7 +13,7 @@ ghost use Rattle.eb_run.specs.Running.{HasRun, HoldsNone, WorksOffHeld};
 
 use eb_base::{Config, Gate, NoMemory};
 use eb_engine::{Converter, Index, Writer};
-use eb_fields::Fields;
+use eb_fields::Dialect;
 use eb_indexed::{Counts, SegmentCounts, close};
 use eb_lines::{Form, LineKind, Refusal, line_kind};
 use eb_rounds::{Input, Kind, Rounds};
@@ -24,7 +24,7 @@ use std::thread::Threads;
 // accepted documents, the lines that are held, and the number of the last line given.
 #[derive(Drop)]
 pub(crate) struct Running<'a> {
-    fields: Fields<'a>,
+    dialect: Dialect<'a>,
     pub(crate) form: Form,
     index: Index,
     writer: Writer,
@@ -37,15 +37,15 @@ impl<'a> Running<'a> {
     // A run with an empty index. Takes all the memory of the index.
     pub(crate) fn new(
         alloc: Global,
-        fields: Fields<'a>,
+        dialect: Dialect<'a>,
         form: Form,
         config: Config,
     ) -> Result<Running<'a>, NoMemory>
-        ensures { IfOk result (λ running. HasRun running (asked (names fields.entry) config true form) [] []) }
+        ensures { IfOk result (λ running. HasRun running (asked (dialect_of dialect.entry) config true form) [] []) }
     {
         let (index, writer, converter) = Index::open(alloc, config)?;
         Ok(Running {
-            fields,
+            dialect,
             form,
             index,
             writer,
@@ -92,7 +92,7 @@ impl<'a> Running<'a> {
             &mut self.writer,
             &mut self.converter,
             gate,
-            self.fields,
+            self.dialect,
             self.form,
             text,
         )

@@ -1,8 +1,7 @@
-/// How the program is called, but for feeds.
+/// How the program is called, but for feeds. `--help` tells the options beyond these.
 pub const USAGE: &[u8] =
-    b"earlybird: usage: run [--overlap | --workers N | --parts N [--overlap] | --watch] [--fields LIST] [--stats] [--json] \
-      [--segments N] [--docs N] [--terms N] | bench START DOCS | save [--fields LIST] [--segments N] [--docs N] [--terms N] | \
-      load [--fields LIST] [--stats] [--json]\n";
+    b"earlybird: usage: run [--overlap | --workers N | --parts N | --watch] [--stats] [--segments N] [--docs N] [--terms N] | \
+      bench START DOCS | save [--segments N] [--docs N] [--terms N] | load [--stats]\n";
 
 /// How it is called for a feed.
 pub const FEED_USAGE: &[u8] =

@@ -86,13 +86,13 @@ IsMadeAnswer index a = (answerer a).index ≡ index
 abbrev pub IsOpening : {T : Type 0} → List T → List View → Type 0
 IsOpening items views = (items ≡ []) × (views ≡ Opening ∷ [])
 
--- the rule of the jobs of an index: `items` are the jobs and stops that were put and not taken, in order
+-- the rule of the jobs of an index: `items` are the jobs and stops that were put and not taken, by their counts, in any order
 pub record JobsOf (index : Words) (items : List Task) (views : List View) : Type 0 where
   pub clerk : ℕ
   pub made : All (IsMadeTask index) items
   pub balanced : Balanced index (IsTaker clerk) (job_pairs items) (stops_of items) views
 
--- the rule of the answers of an index: `items` are the answers that were put and not taken, in order
+-- the rule of the answers of an index: `items` are the answers that were put and not taken, by their counts, in any order
 pub record AnswersOf (index : Words) (items : List Answer) (views : List View) : Type 0 where
   pub clerk : ℕ
   pub made : All (IsMadeAnswer index) items

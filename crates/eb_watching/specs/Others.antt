@@ -1,4 +1,5 @@
 -- How a line is read that is neither blank, nor a document or query line, where some lines set watches.
+use Rattle.eb_fields.specs.Dialect.{Dialect}
 use Rattle.std.specs.Prelude.{◌≡◌, ℕ, ◌==◌, ◌&&◌, Bool, true, false, List, [], ◌∷◌, Option, Some, None, Result, Ok, Err, option_map}
 use Rattle.std.specs.Str.{is_utf8}
 use Rattle.eb_base.specs.declared.query.Query.{Query}
@@ -27,13 +28,13 @@ of_watch_line (removes n) = watch n None
 of_watch_line (reads o) = of_watch_text o
 
 -- any other line is a bad line
-abbrev pub ReadsOtherBy : List (List ℕ) → Bool → List ℕ → Reading → Type 0
-ReadsOtherBy names true bytes r = (o : WatchOutcome) × ReadsWatchWith names bytes o × (r ≡ of_watch_line o)
-ReadsOtherBy names false bytes r = r ≡ refused BadLine
+abbrev pub ReadsOtherBy : Dialect → Bool → List ℕ → Reading → Type 0
+ReadsOtherBy how true bytes r = (o : WatchOutcome) × ReadsWatchWith how bytes o × (r ≡ of_watch_line o)
+ReadsOtherBy how false bytes r = r ≡ refused BadLine
 
--- by the names of the fields
-abbrev pub ReadsOther : List (List ℕ) → List ℕ → Reading → Type 0
-ReadsOther names bytes r = ReadsOtherBy names (is_watch_line bytes) bytes r
+-- by the dialect
+abbrev pub ReadsOther : Dialect → List ℕ → Reading → Type 0
+ReadsOther how bytes r = ReadsOtherBy how (is_watch_line bytes) bytes r
 
 -- a query may be watched for
 abbrev pub IsFormed : Option Query → Type 0
@@ -41,6 +42,6 @@ IsFormed None = Unit {0}
 IsFormed (Some q) = IsWellFormed (tree q)
 
 -- the line is read as this, or it is refused
-abbrev pub IsOther : List (List ℕ) → List ℕ → Result (ℕ × Option Query) Refusal → Type 0
-IsOther names bytes (Ok x) = IsFormed x.1 × ReadsOther names bytes (watch x.0 (option_map tree x.1))
-IsOther names bytes (Err r) = ReadsOther names bytes (refused r)
+abbrev pub IsOther : Dialect → List ℕ → Result (ℕ × Option Query) Refusal → Type 0
+IsOther how bytes (Ok x) = IsFormed x.1 × ReadsOther how bytes (watch x.0 (option_map tree x.1))
+IsOther how bytes (Err r) = ReadsOther how bytes (refused r)

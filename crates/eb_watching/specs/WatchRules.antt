@@ -1,4 +1,5 @@
 -- The rules of a store whose documents tell watches.
+use Rattle.eb_fields.specs.Dialect.{Dialect}
 use Rattle.std.specs.Prelude.{ℕ, ◌==◌, List, [], length, Option, Some, None, if◌then◌else◌}
 use Rattle.eb_answer.specs.Rules.{Rules, IsBody, IsText, HasRefusal, HasNoRefusal}
 use Rattle.eb_base.specs.Query.{Tree}
@@ -24,7 +25,7 @@ watches_then ws n None = without_watch ws n
 -- the rules of a store, and watches, of which none is set at first: a document tells those that it matches, and all else is as without them
 abbrev pub with_watches : {W : Type 0} → Rules W → Rules (List Watched)
 with_watches rules = record {
-  fields = rules.fields;
+  dialect = rules.dialect;
   start = rules.start;
   watches = [];
   refusal = rules.refusal;
@@ -36,9 +37,9 @@ with_watches rules = record {
   tail = rules.tail;
 }
 
--- an index of this setting, where lines are read by the names of the fields, without documents or watches at first
-abbrev pub watch_rules : List (List ℕ) → Setting → Form → Rules (List Watched)
-watch_rules names σ form = with_watches (index_rules names σ form [])
+-- an index of this setting, where lines are read by this dialect, without documents or watches at first
+abbrev pub watch_rules : Dialect → Setting → Form → Rules (List Watched)
+watch_rules how σ form = with_watches (index_rules how σ form [])
 
 -- what a run with watches that ends so has written, of an input of these bytes of which this is left
 abbrev pub WroteWatches : Rules (List Watched) → Status → List ℕ → Option (List ℕ) → List ℕ → Type 0

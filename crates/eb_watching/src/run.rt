@@ -1,5 +1,5 @@
 ghost use Rattle.std.specs.Prelude.{◌≡◌, ◌<◌, ◌++◌, ℕ, List, Some, length};
-ghost use Rattle.eb_fields.specs.Fields.{names};
+ghost use Rattle.eb_fields.specs.Dialect.{dialect_of};
 ghost use Rattle.eb_io.specs.Faults.{HasRisen};
 ghost use Rattle.eb_io.specs.Lines.{longest_input};
 ghost use Rattle.eb_lines.specs.Outcomes.{IsWorkedOff};
@@ -11,7 +11,7 @@ ghost use Rattle.eb_watching.specs.WatchRules.{with_watches, watch_rules, WroteW
 use crate::watched::Watching;
 use eb_answer::{Store, answer_lines};
 use eb_base::{Config, Gate};
-use eb_fields::Fields;
+use eb_fields::Dialect;
 use eb_indexed::Indexed;
 use eb_io::{Sink, Source};
 use eb_lines::{Form, Status};
@@ -23,13 +23,13 @@ use std::alloc::Global;
 pub fn answer_watched<P: Store + Drop, S: Source, K: Sink, G: Gate>(
     alloc: Global,
     store: P,
-    fields: Fields<'_>,
+    dialect: Dialect<'_>,
     source: &mut S,
     out: &mut K,
     gate: &G,
 ) -> Status
-    requires { (rules : Rules P.Watches) × (names fields ≡ rules.fields) × P.holds store rules rules.start rules.watches }
-    ensures ends { (plain : Rules P.Watches) → names fields.entry ≡ plain.fields → P.holds store plain plain.start plain.watches
+    requires { (rules : Rules P.Watches) × (dialect_of dialect ≡ rules.dialect) × P.holds store rules rules.start rules.watches }
+    ensures ends { (plain : Rules P.Watches) → dialect_of dialect.entry ≡ plain.dialect → P.holds store plain plain.start plain.watches
         → let rules = with_watches plain in
         Ends (IsBody ReadsOther rules) (IsText ReadsOther rules) (HasRefusal ReadsOther rules) (HasNoRefusal ReadsOther rules) result
         (S.left source.old) (S.left source.new) (K.taken out.old) (K.taken out.new) }
@@ -39,7 +39,7 @@ pub fn answer_watched<P: Store + Drop, S: Source, K: Sink, G: Gate>(
     answer_lines(
         alloc,
         Watching::new(alloc, store),
-        fields,
+        dialect,
         source,
         out,
         gate,
@@ -49,30 +49,30 @@ pub fn answer_watched<P: Store + Drop, S: Source, K: Sink, G: Gate>(
 /// Processes the lines that the source gives, in order, with an index of this setting; prints answers, what watches are
 /// told, refusals and the summary on `out`. Lines are numbered from 1. A line `!N QUERY` sets the watch N, and `!N` takes it
 /// away (this project's profile, docs/FORMATS.md); a document that is accepted tells the numbers of the set watches whose
-/// query it matches, where there are any. A query sees all documents that were accepted before its line. Lines are read with these fields. The form says
+/// query it matches, where there are any. A query sees all documents that were accepted before its line. Lines are read by this dialect. The form says
 /// how what is printed is written, and whether the segments are told after the summary.
 ///
 /// What lines print is written before the source is asked for a line that it hasn't given yet. The gate is told of each add
 /// and each search. Takes the memory of the index at once, and that of each watch while it is set.
 pub fn run_watches<S: Source, K: Sink, G: Gate>(
     alloc: Global,
-    fields: Fields<'_>,
+    dialect: Dialect<'_>,
     form: Form,
     config: Config,
     source: &mut S,
     out: &mut K,
     gate: &G,
 ) -> Status
-    ensures ends { let rules = watch_rules (names fields.entry) config form in
+    ensures ends { let rules = watch_rules (dialect_of dialect.entry) config form in
         Ends (IsBody ReadsOther rules) (IsText ReadsOther rules) (HasRefusal ReadsOther rules) (HasNoRefusal ReadsOther rules) result
         (S.left source.old) (S.left source.new) (K.taken out.old) (K.taken out.new) }
     // Where source and `out` tell their bytes, `out` took what the status says of the input.
     ensures output { (bytes before : List ℕ) → S.left source.old ≡ Some bytes → K.taken out.old ≡ Some before
         → (printed : List ℕ) × (K.taken out.new ≡ Some (before ++ printed))
-        × WroteWatches (watch_rules (names fields.entry) config form) result bytes (S.left source.new) printed }
+        × WroteWatches (watch_rules (dialect_of dialect.entry) config form) result bytes (S.left source.new) printed }
     // What the status says of the input holds whatever becomes of the output.
     ensures means { (bytes : List ℕ) → S.left source.old ≡ Some bytes
-        → MeansWatches (watch_rules (names fields.entry) config form) result bytes (S.left source.new) }
+        → MeansWatches (watch_rules (dialect_of dialect.entry) config form) result bytes (S.left source.new) }
     // Faults come only from outside.
     ensures read_fault { result ≡ Status.ReadFault → HasRisen (S.faults source.old) (S.faults source.new) }
     ensures write_fault { result ≡ Status.WriteFault → HasRisen (K.faults out.old) (K.faults out.new) }
@@ -80,19 +80,19 @@ pub fn run_watches<S: Source, K: Sink, G: Gate>(
     ensures completes { (HasRisen (S.faults source.old) (S.faults source.new) → ⊥) → (HasRisen (K.faults out.old) (K.faults out.new) → ⊥)
         → (bytes : List ℕ) → S.left source.old ≡ Some bytes → length bytes < longest_input → IsWorkedOff result }
 {
-    pass_watched(alloc, fields, form, config, source, out, gate)
+    pass_watched(alloc, dialect, form, config, source, out, gate)
 }
 
 fn pass_watched<S: Source, K: Sink, G: Gate>(
     alloc: Global,
-    fields: Fields<'_>,
+    dialect: Dialect<'_>,
     form: Form,
     config: Config,
     source: &mut S,
     out: &mut K,
     gate: &G,
 ) -> Status
-    ensures ends { let rules = watch_rules (names fields.entry) config form in
+    ensures ends { let rules = watch_rules (dialect_of dialect.entry) config form in
         Ends (IsBody ReadsOther rules) (IsText ReadsOther rules) (HasRefusal ReadsOther rules) (HasNoRefusal ReadsOther rules) result
         (S.left source.old) (S.left source.new) (K.taken out.old) (K.taken out.new) }
     ensures read_fault { result ≡ Status.ReadFault → HasRisen (S.faults source.old) (S.faults source.new) }
@@ -101,5 +101,5 @@ fn pass_watched<S: Source, K: Sink, G: Gate>(
     let Ok(indexed) = Indexed::new(alloc, form, config) else {
         return Status::NoMemory;
     };
-    answer_watched(alloc, indexed, fields, source, out, gate)
+    answer_watched(alloc, indexed, dialect, source, out, gate)
 }

@@ -16,7 +16,7 @@ ghost use Rattle.eb_watching.specs.WatchRules.{with_watches};
 use crate::other::read_other;
 use eb_answer::Store;
 use eb_base::{Document, Gate, NoMemory, Query};
-use eb_fields::Fields;
+use eb_fields::Dialect;
 use eb_lines::{Form, Refusal, Tail};
 use eb_place::Steps;
 use eb_watch::{NoWatch, SetFault, Watches};
@@ -107,10 +107,10 @@ impl<S: Store> Store for Watching<S> {
     fn take_other(
         &mut self,
         alloc: Global,
-        fields: Fields<'_>,
+        dialect: Dialect<'_>,
         bytes: &[u8],
     ) -> Result<Option<Refusal>, NoMemory> {
-        match read_other(alloc, fields, bytes)? {
+        match read_other(alloc, dialect, bytes)? {
             Ok((number, Some(query))) => self.set(number, query),
             Ok((number, None)) => Ok(self.remove(number)),
             Err(refusal) => Ok(Some(refusal)),

@@ -1,10 +1,10 @@
 -- Before the first line.
+use Rattle.eb_fields.specs.Dialect.{Dialect, dialect_of}
 use Rattle.std.proofs.Common.{◌≡◌, ℕ, ◌+◌, List, [], sym, ap, subst, ◌∙◌, arith}
 use Rattle.std.specs.Prelude.{Option, Some}
 use Rattle.std.proofs.lemmas.List.Elements.{All-nil}
 use Rattle.eb_base.specs.Document.{Doc}
 use Rattle.eb_base.specs.Setting.{Setting}
-use Rattle.eb_fields.specs.Fields.{names}
 use Rattle.eb_lines.specs.Progress.{accepted, queries, refusals}
 use Rattle.eb_lines.specs.Reads.{Reads}
 use Rattle.eb_place.specs.Room.{cut}
@@ -33,11 +33,11 @@ none_closed : (σ : Setting) (n : ℕ) → AreConverted σ [] n
 unfolding cut
 none_closed σ n = record { each = λ s h. absurd (omega (arith, h)) }
 
-pub served_none : (s : Serving) (o : Office) (fields : List (List ℕ)) (form : _) → s.office ≡ o → o.clerk ≡ new_clerk o.desk.now.queues o.index.now
+pub served_none : (s : Serving) (o : Office) (how : Dialect) (form : _) → s.office ≡ o → o.clerk ≡ new_clerk o.desk.now.queues o.index.now
     → o.writer.index ≡ o.index.now → o.writer.docs ≡ [] → o.converter.index ≡ o.index.now
-    → names s.fields ≡ fields → s.form ≡ form → (s.number ≡ 0) × (s.queries ≡ 0) × (s.refused ≡ 0) → s.waiting.items ≡ [] → HasServed s (asked fields o.index.now.setting form) [] []
+    → dialect_of s.dialect ≡ how → s.form ≡ form → (s.number ≡ 0) × (s.queries ≡ 0) × (s.refused ≡ 0) → s.waiting.items ≡ [] → HasServed s (asked how o.index.now.setting form) [] []
 unfolding accepted queries refusals
-served_none s o fields form office clerk writer docs converter names_told told counts items =
+served_none s o how form office clerk writer docs converter names_told told counts items =
     let none : s.office.writer.docs ≡ [] = ap (λ (x : Office). x.writer.docs) office ∙ docs in
     let staffed : IsStaffed o = record {
       clerk = (ap (λ (k : ClerkBook). k.queues) clerk, ap (λ (k : ClerkBook). k.index) clerk, ap (λ (k : ClerkBook). k.stops) clerk);
@@ -49,12 +49,12 @@ served_none s o fields form office clerk writer docs converter names_told told c
     record {
       staffed = subst (λ (x : Office). IsStaffed x) (sym office) staffed;
       setting = ap (λ (x : Office). x.index.now.setting) office;
-      fields = names_told;
+      dialect = names_told;
       form = told;
       done = [];
       ahead = [];
       numbers = λ j. 0;
-      read = read_none (Reads fields) o.index.now.setting [];
+      read = read_none (Reads how) o.index.now.setting [];
       documents = none;
       number = counts.0;
       queries = counts.1;
@@ -73,7 +73,7 @@ unfolding accepted
 body_none_given a = record {
   readings = [];
   numbers = λ j. 0;
-  read = read_none (Reads a.fields) a.setting [];
+  read = read_none (Reads a.dialect) a.setting [];
   sees = record { least = λ j e. (let no : ⊥ = cc (get_behind [] j (omega arith), e) in absurd no); most = λ j e. omega arith };
   bytes = sym (body_none a.form (λ j. 0) (accepted []) 0);
 }

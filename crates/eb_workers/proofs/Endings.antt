@@ -38,7 +38,7 @@ served_body s a given so_far h none =
 pub served_ends : (s : Serving) (t0 t1 : List ℕ) (documents begun converted : ℕ) (a : Asked) (given : List Line) (so_far : List ℕ)
     → t1 ≡ t0 ++ summary_with s.form documents s.queries s.refused (segments_tail s.form begun converted) → documents ≡ length s.office.writer.docs
     → begun ≡ length (cut s.office.index.now.setting s.office.writer.docs) → converted ≡ most_converted (length (cut s.office.index.now.setting s.office.writer.docs)) → s.waiting.items ≡ []
-    → HasServed s a given so_far → Finishes HasServed IsWorkersText (λ x. HasRefusal x.fields x.setting) (λ x. HasNoRefusal x.fields x.setting) s t0 t1 s.refused a given so_far
+    → HasServed s a given so_far → Finishes HasServed IsWorkersText (λ x. HasRefusal x.dialect x.setting) (λ x. HasNoRefusal x.dialect x.setting) s t0 t1 s.refused a given so_far
 served_ends s t0 t1 documents begun converted a given so_far put count segments packed none h =
     let rs = h.done ++ h.ahead in
     let cuts : length (cut s.office.index.now.setting s.office.writer.docs) ≡ length (cut a.setting (accepted rs)) = ap₂ (λ σ ds. length (cut σ ds)) h.setting h.documents in

@@ -1,4 +1,5 @@
 -- A run with workers goes on.
+use Rattle.eb_fields.specs.Dialect.{dialect_of}
 use Rattle.std.proofs.Common.{◌≡◌, ℕ, ◌+◌, ◌-◌, ◌<◌, ◌≤◌, List, [], ◌∷◌, ◌++◌, length, take, set, sym, ap, ap₂, subst, ◌∙◌, arith, append_assoc, append-nil, length-append}
 use Rattle.std.proofs.lemmas.List.Elements.{All-weaker}
 use Rattle.std.proofs.Math.Seq.{take-append_seam}
@@ -8,7 +9,6 @@ use Rattle.eb_base.specs.Match.{answer}
 use Rattle.eb_cursor.specs.declared.frame.Frame.{Frame}
 use Rattle.eb_cursor.specs.Frames.{query_of, k_of, ids_of}
 use Rattle.eb_engine.specs.Tokens.{HistoryToken}
-use Rattle.eb_fields.specs.Fields.{names}
 use Rattle.eb_io.specs.Lines.{Line}
 use Rattle.eb_lines.specs.declared.form.Form.{Form}
 use Rattle.eb_lines.specs.Programs.{IsRunning, WorksOn, WorksOnGiven}
@@ -44,7 +44,7 @@ served_further old new a given so_far f h =
     record {
       staffed = f.keeps.staffed;
       setting = ap (λ (x : Words). x.setting) f.keeps.index ∙ h.setting;
-      fields = f.fields ∙ h.fields;
+      dialect = f.dialect ∙ h.dialect;
       form = f.form ∙ h.form;
       done = h.done;
       ahead = h.ahead;
@@ -72,10 +72,10 @@ on_on old mid new t0 t1 t2 f g = λ a given so_far h.
     let y = g a given (so_far ++ x.0) x.1 in
     (x.0 ++ y.0, subst (HasServed new a given) (append_assoc so_far x.0 y.0) y.1, y.2 ∙ ap (λ t. t ++ y.0) x.2 ∙ append_assoc t0 x.0 y.0)
 
-pub on_line : (old mid new : Serving) (t0 t1 : List ℕ) (l : Line) (r : Reading) → WorksOn HasServed old mid t0 t1 → TakesLine mid new r → Reads (names mid.fields) l r
+pub on_line : (old mid new : Serving) (t0 t1 : List ℕ) (l : Line) (r : Reading) → WorksOn HasServed old mid t0 t1 → TakesLine mid new r → Reads (dialect_of mid.dialect) l r
     → WorksOnGiven HasServed old new t0 t1 l
 on_line old mid new t0 t1 l r f g reads = λ a given so_far h.
-    let x = f a given so_far h in (x.0, g a given (so_far ++ x.0) l x.1 (subst (λ ns. Reads ns l r) x.1.fields reads), x.2)
+    let x = f a given so_far h in (x.0, g a given (so_far ++ x.0) l x.1 (subst (λ ns. Reads ns l r) x.1.dialect reads), x.2)
 
 pub goes_running : (old new : Serving) (t0 t1 : List ℕ) → IsRunning HasServed old → WorksOn HasServed old new t0 t1 → IsRunning HasServed new
 goes_running old new t0 t1 r f = let w = f r.0 r.1 r.2 r.3 in (r.0, r.1, r.2 ++ w.0, w.1)
@@ -83,10 +83,10 @@ goes_running old new t0 t1 r f = let w = f r.0 r.1 r.2 r.3 in (r.0, r.1, r.2 ++ 
 -- an answer is taken in
 pub further_in : (old new : Serving) (at seen : ℕ) (frame : Frame) (known : List Doc) → Keeps old.office new.office
     → new.office.writer ≡ old.office.writer → new.office.clerk.put ≡ old.office.clerk.put
-    → names new.fields ≡ names old.fields → new.form ≡ old.form → new.number ≡ old.number → new.queries ≡ old.queries → new.refused ≡ old.refused → AwaitsAt old.waiting.items at frame seen
+    → dialect_of new.dialect ≡ dialect_of old.dialect → new.form ≡ old.form → new.number ≡ old.number → new.queries ≡ old.queries → new.refused ≡ old.refused → AwaitsAt old.waiting.items at frame seen
     → new.waiting.items ≡ set old.waiting.items at (waits.Answered seen frame) → ids_of frame ≡ answer (query_of frame) (k_of frame) known → seen ≡ length known
     → IsPrefix known new.office.writer.docs → IsFurther old new
-further_in old new at seen frame known keeps writer put fields form number queries refused awaits items ids count prefix =
+further_in old new at seen frame known keeps writer put how form number queries refused awaits items ids count prefix =
     let docs : new.office.writer.docs ≡ old.office.writer.docs = ap (λ (t : HistoryToken). t.docs) writer in
     let whole : known ++ prefix.0 ≡ old.office.writer.docs = prefix.1 ∙ docs in
     let front : take seen old.office.writer.docs ≡ known = ap₂ (λ n ds. take n ds) count (sym whole) ∙ take-append_seam known prefix.0 in
@@ -96,7 +96,7 @@ further_in old new at seen frame known keeps writer put fields form number queri
       keeps = keeps;
       writer = writer;
       put = put;
-      fields = fields;
+      dialect = how;
       form = form;
       number = number;
       queries = queries;
@@ -108,7 +108,7 @@ further_in old new at seen frame known keeps writer put fields form number queri
 
 -- ---- the next line is printed
 
-module _ (old new : Serving) (w : Waiting) (ws : List Waiting) (text text_new : List ℕ) (n : ℕ) (office : new.office ≡ old.office) (fields : names new.fields ≡ names old.fields)
+module _ (old new : Serving) (w : Waiting) (ws : List Waiting) (text text_new : List ℕ) (n : ℕ) (office : new.office ≡ old.office) (how : dialect_of new.dialect ≡ dialect_of old.dialect)
     (form : new.form ≡ old.form) (number : new.number ≡ old.number)
     (queries_same : new.queries ≡ old.queries) (refused_same : new.refused ≡ old.refused) (first : old.waiting.items ≡ w ∷ ws) (rest : new.waiting.items ≡ ws) (ready : IsReady w)
     (is : n ≡ old.number - length ws) (put : text_new ≡ text ++ printed_by old.form n w) where
@@ -120,18 +120,18 @@ module _ (old new : Serving) (w : Waiting) (ws : List Waiting) (text text_new : 
       let r = s.0 in
       let all : (h.done ++ r ∷ []) ++ s.1 ≡ h.done ++ h.ahead = append_assoc h.done (r ∷ []) s.1 ∙ ap (λ x. h.done ++ x) (sym s.2) in
       let long = waiting_long docs (length (accepted h.done) + length (documents_in r)) s.1 ws s.4 in
-      let lines : length (h.done ++ h.ahead) ≡ length given = read_long (Reads a.fields) a.setting [] given (h.done ++ h.ahead) h.read in
+      let lines : length (h.done ++ h.ahead) ≡ length given = read_long (Reads a.dialect) a.setting [] given (h.done ++ h.ahead) h.read in
       let at : n ≡ length h.done + 1 = omega (arith, is, h.number, lines, length-append h.done h.ahead, ap length s.2, long) in
       let told : length (accepted (h.done ++ r ∷ [])) ≡ length (accepted h.done) + length (documents_in r) = ap length (accepted-push h.done r) ∙ length-append (accepted h.done) (documents_in r) in
       record {
         staffed = subst (λ (o : Office). IsStaffed o) (sym office) h.staffed;
         setting = ap (λ (o : Office). o.index.now.setting) office ∙ h.setting;
-        fields = fields ∙ h.fields;
+        dialect = how ∙ h.dialect;
         form = form ∙ h.form;
         done = h.done ++ r ∷ [];
         ahead = s.1;
         numbers = numbers_on docs h.done r w h.numbers ready s.3;
-        read = subst (AreRead a.fields a.setting given) (sym all) h.read;
+        read = subst (AreRead a.dialect a.setting given) (sym all) h.read;
         documents = same ∙ h.documents ∙ ap accepted (sym all);
         number = number ∙ h.number;
         queries = queries_same ∙ h.queries ∙ ap queries (sym all);
@@ -156,7 +156,7 @@ module _ (old new : Serving) (w : Waiting) (ws : List Waiting) (text text_new : 
 
 module _ (old new : Serving) (r : Reading) (w : Waiting) (own : Reading) (is : admit old.office.index.now.setting old.office.writer.docs r ≡ own) (keeps : Keeps old.office new.office)
     (docs : new.office.writer.docs ≡ old.office.writer.docs ++ documents_in own)
-    (fields : names new.fields ≡ names old.fields) (form : new.form ≡ old.form) (number : new.number ≡ old.number + 1) (asks : new.queries ≡ old.queries + one_if (is_query own))
+    (how : dialect_of new.dialect ≡ dialect_of old.dialect) (form : new.form ≡ old.form) (number : new.number ≡ old.number + 1) (asks : new.queries ≡ old.queries + one_if (is_query own))
     (fails : new.refused ≡ old.refused + one_if (is_refused own)) (low : (one_if (is_query own) ≤ 1) × (one_if (is_refused own) ≤ 1)) (above : IsAboveEach (new.number + 1) new.office.clerk.put)
     (items : new.waiting.items ≡ old.waiting.items ++ w ∷ []) (stands : WaitsAs (old.office.writer.docs ++ documents_in own) (length old.office.writer.docs) own w) where
   pub served_line : TakesLine old new r
@@ -166,20 +166,20 @@ module _ (old new : Serving) (r : Reading) (w : Waiting) (own : Reading) (is : a
       let readings = h.done ++ h.ahead in
       let own_is : admit a.setting (accepted readings) r ≡ own = ap₂ (λ s ds. admit s ds r) (sym h.setting) (sym h.documents) ∙ is in
       let all : readings ++ own ∷ [] ≡ h.done ++ (h.ahead ++ own ∷ []) = append_assoc h.done h.ahead (own ∷ []) in
-      let read : AreRead a.fields a.setting (given ++ l ∷ []) (readings ++ own ∷ []) =
-      subst (λ (x : Reading). AreRead a.fields a.setting (given ++ l ∷ []) (readings ++ x ∷ [])) own_is (read_push (Reads a.fields) a.setting [] given readings l r h.read reads) in
+      let read : AreRead a.dialect a.setting (given ++ l ∷ []) (readings ++ own ∷ []) =
+      subst (λ (x : Reading). AreRead a.dialect a.setting (given ++ l ∷ []) (readings ++ x ∷ [])) own_is (read_push (Reads a.dialect) a.setting [] given readings l r h.read reads) in
       let told : length (accepted h.done) + length (accepted h.ahead) ≡ length before = sym (length-append (accepted h.done) (accepted h.ahead))
       ∙ ap length (sym (accepted-append h.done h.ahead) ∙ sym h.documents) in
       let grown = waiting_grown before more (length (accepted h.done)) h.ahead old.waiting.items h.waiting in
       record {
         staffed = keeps.staffed;
         setting = ap (λ (x : Words). x.setting) keeps.index ∙ h.setting;
-        fields = fields ∙ h.fields;
+        dialect = how ∙ h.dialect;
         form = form ∙ h.form;
         done = h.done;
         ahead = h.ahead ++ own ∷ [];
         numbers = h.numbers;
-        read = subst (AreRead a.fields a.setting (given ++ l ∷ [])) all read;
+        read = subst (AreRead a.dialect a.setting (given ++ l ∷ [])) all read;
         documents = docs ∙ ap (λ ds. ds ++ more) h.documents ∙ sym (accepted-push readings own) ∙ ap accepted all;
         number = number ∙ omega (arith, h.number, length-append given (l ∷ []));
         queries = asks ∙ ap (λ m. m + one_if (is_query own)) h.queries ∙ sym (queries-push readings own) ∙ ap queries all;
@@ -202,14 +202,14 @@ pub above_more : (n : ℕ) (ps : List Pair) → IsAboveEach n ps → IsAboveEach
 above_more n ps a = All-weaker (λ (q : Pair). q.number < n) (λ q. q.number < n + 1) (λ q h. omega (arith, h)) ps a
 
 -- the same lines wait
-pub further_items : (old new : Serving) → IsStaffed old.office → new.office ≡ old.office → names new.fields ≡ names old.fields → new.form ≡ old.form → new.number ≡ old.number
+pub further_items : (old new : Serving) → IsStaffed old.office → new.office ≡ old.office → dialect_of new.dialect ≡ dialect_of old.dialect → new.form ≡ old.form → new.number ≡ old.number
     → new.queries ≡ old.queries → new.refused ≡ old.refused
     → new.waiting.items ≡ old.waiting.items → IsFurther old new
-further_items old new staffed office fields form number asks fails items = record {
+further_items old new staffed office how form number asks fails items = record {
   keeps = record { staffed = subst (λ (o : Office). IsStaffed o) (sym office) staffed; index = ap (λ (o : Office). o.index.now) office };
   writer = ap (λ (o : Office). o.writer) office;
   put = ap (λ (o : Office). o.clerk.put) office;
-  fields = fields;
+  dialect = how;
   form = form;
   number = number;
   queries = asks;
@@ -221,10 +221,10 @@ pub next_is : (items : List Waiting) (need : ℕ) (w : Waiting) (ws : List Waiti
 next_is items need w ws h e = subst (λ (xs : List Waiting). NextNeeds xs need) e h
 
 pub room_on : (old mid new : Serving) (t0 t1 : List ℕ) → IsRunning HasServed old → WorksOn HasServed old mid t0 t1
-    → new.office ≡ mid.office → names new.fields ≡ names mid.fields → new.form ≡ mid.form → new.number ≡ mid.number → new.queries ≡ mid.queries
+    → new.office ≡ mid.office → dialect_of new.dialect ≡ dialect_of mid.dialect → new.form ≡ mid.form → new.number ≡ mid.number → new.queries ≡ mid.queries
     → new.refused ≡ mid.refused → new.waiting.items ≡ mid.waiting.items → WorksOn HasServed old new t0 t1
-room_on old mid new t0 t1 r f office fields form number asks fails items =
-    on_on old mid new t0 t1 t1 f (further_on mid new t1 (further_items mid new (goes_running old mid t0 t1 r f).3.staffed office fields form number asks fails items))
+room_on old mid new t0 t1 r f office how form number asks fails items =
+    on_on old mid new t0 t1 t1 f (further_on mid new t1 (further_items mid new (goes_running old mid t0 t1 r f).3.staffed office how form number asks fails items))
 
 pub same_number : (old new : Serving) (t0 t1 : List ℕ) → IsRunning HasServed old → WorksOn HasServed old new t0 t1 → new.number ≡ old.number
 same_number old new t0 t1 r f = works_number HasServed (λ (s : Serving). s.number) (λ s a given so_far h. h.number) old new t0 t1 r f

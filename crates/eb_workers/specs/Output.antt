@@ -1,4 +1,5 @@
 -- What a run with workers prints for the lines of an input.
+use Rattle.eb_fields.specs.Dialect.{Dialect}
 use Rattle.std.specs.Prelude.{◌≡◌, ℕ, ◌≤◌, List, ◌++◌, length, Option}
 use Rattle.eb_base.specs.Setting.{Setting}
 use Rattle.eb_io.specs.Lines.{Line}
@@ -11,14 +12,14 @@ use Rattle.eb_indexed.specs.LinesRead.{AreRead, HasRefusal, HasNoRefusal}
 use Rattle.eb_indexed.specs.Sees.{IsAsked}
 use Rattle.eb_indexed.specs.Text.{body, end_of}
 
--- the names of the fields by which lines are read, the setting of the index, and how what is printed is written
+-- how lines are read, the setting of the index, and how what is printed is written
 pub record Asked : Type 0 where
-  pub fields : List (List ℕ)
+  pub dialect : Dialect
   pub setting : Setting
   pub form : Form
 
-abbrev pub asked : List (List ℕ) → Setting → Form → Asked
-asked names σ form = record { fields = names; setting = σ; form = form }
+abbrev pub asked : Dialect → Setting → Form → Asked
+asked how σ form = record { dialect = how; setting = σ; form = form }
 
 -- each query sees at least the documents accepted before its line, and no more than all
 pub record SeesTold (rs : List Reading) (n : ℕ → ℕ) : Type 0 where
@@ -29,7 +30,7 @@ pub record SeesTold (rs : List Reading) (n : ℕ → ℕ) : Type 0 where
 pub record IsWorkersBody (a : Asked) (lines : List Line) (printed : List ℕ) : Type 0 where
   pub readings : List Reading
   pub numbers : ℕ → ℕ
-  pub read : AreRead a.fields a.setting lines readings
+  pub read : AreRead a.dialect a.setting lines readings
   pub sees : SeesTold readings numbers
   pub bytes : printed ≡ body a.form numbers readings
 
@@ -37,14 +38,14 @@ pub record IsWorkersBody (a : Asked) (lines : List Line) (printed : List ℕ) : 
 pub record IsWorkersText (a : Asked) (lines : List Line) (printed : List ℕ) : Type 0 where
   pub readings : List Reading
   pub numbers : ℕ → ℕ
-  pub read : AreRead a.fields a.setting lines readings
+  pub read : AreRead a.dialect a.setting lines readings
   pub sees : SeesTold readings numbers
   pub bytes : printed ≡ body a.form numbers readings ++ end_of a.setting a.form readings
 
 -- what a run with workers that ends so has printed, of an input of these bytes of which this is left
 abbrev pub WroteWorkers : Asked → Status → List ℕ → Option (List ℕ) → List ℕ → Type 0
-WroteWorkers a = Wrote (IsWorkersBody a) (IsWorkersText a) (HasRefusal a.fields a.setting) (HasNoRefusal a.fields a.setting)
+WroteWorkers a = Wrote (IsWorkersBody a) (IsWorkersText a) (HasRefusal a.dialect a.setting) (HasNoRefusal a.dialect a.setting)
 
 -- what its status says of the input
 abbrev pub MeansWorkers : Asked → Status → List ℕ → Option (List ℕ) → Type 0
-MeansWorkers a = Means (HasRefusal a.fields a.setting) (HasNoRefusal a.fields a.setting)
+MeansWorkers a = Means (HasRefusal a.dialect a.setting) (HasNoRefusal a.dialect a.setting)

@@ -30,9 +30,9 @@ impl<R: Wait, G: Gate> LineProgram for WorkersProgram<'_, R, G> {
 
     ghost ends_with = { IsWorkersText };
 
-    ghost refuses = { λ a. HasRefusal a.fields a.setting };
+    ghost refuses = { λ a. HasRefusal a.dialect a.setting };
 
-    ghost accepts = { λ a. HasNoRefusal a.fields a.setting };
+    ghost accepts = { λ a. HasNoRefusal a.dialect a.setting };
 
     ghost settled = { λ p. p.serving.waiting.items ≡ [] };
 

@@ -1,6 +1,6 @@
 //! Workers and the clerk's part run at once.
 ghost use Rattle.std.specs.Prelude.{◌≡◌, ◌≤◌, ◌<◌, ◌++◌, ℕ, List, [], Some, length, All};
-ghost use Rattle.eb_fields.specs.Fields.{names};
+ghost use Rattle.eb_fields.specs.Dialect.{dialect_of};
 ghost use Rattle.eb_io.specs.Faults.{HasRisen};
 ghost use Rattle.eb_io.specs.Lines.{longest_input};
 ghost use Rattle.eb_lines.specs.Outcomes.{IsWorkedOff};
@@ -16,7 +16,7 @@ use crate::program::WorkersProgram;
 use crate::serving::Serving;
 use eb_base::{Config, Gate};
 use eb_engine::Index;
-use eb_fields::Fields;
+use eb_fields::Dialect;
 use eb_io::{Sink, Source};
 use eb_lines::{Form, Status, pass_lines};
 use eb_serve::{Clerk, Desk, Worker, work_all};
@@ -36,7 +36,7 @@ fn pass_and_stop<R: Threads + Wait + Sync, S: Source, K: Sink, G: Gate + Sync>(
     requires { (a : Asked) × HasServed program.serving a [] [] }
     ensures stops { result.1.stops ≡ workers }
     ensures ends { (a : Asked) → HasServed program.entry.serving a [] []
-        → Ends (IsWorkersBody a) (IsWorkersText a) (HasRefusal a.fields a.setting) (HasNoRefusal a.fields a.setting) result.0
+        → Ends (IsWorkersBody a) (IsWorkersText a) (HasRefusal a.dialect a.setting) (HasNoRefusal a.dialect a.setting) result.0
         (S.left source.old) (S.left source.new) (K.taken out.old) (K.taken out.new) }
     ensures read_fault { result.0 ≡ Status.ReadFault → HasRisen (S.faults source.old) (S.faults source.new) }
     ensures write_fault { result.0 ≡ Status.WriteFault → HasRisen (K.faults out.old) (K.faults out.new) }
@@ -56,7 +56,7 @@ fn serve<'a, R: Threads + Wait + Sync, S: Source, K: Sink, G: Gate + Sync>(
     index: &'a Index,
     gate: &'a G,
     side: &mut Option<Side>,
-    fields: Fields<'a>,
+    dialect: Dialect<'a>,
     form: Form,
     source: &mut S,
     out: &mut K,
@@ -64,8 +64,8 @@ fn serve<'a, R: Threads + Wait + Sync, S: Source, K: Sink, G: Gate + Sync>(
 ) -> (Status, Clerk)
     requires { IsNewSide desk.now.queues index.now side.old }
     ensures stops { result.1.stops ≡ workers }
-    ensures ends { let a = asked (names fields.entry) index.now.setting form in
-        Ends (IsWorkersBody a) (IsWorkersText a) (HasRefusal a.fields a.setting) (HasNoRefusal a.fields a.setting) result.0
+    ensures ends { let a = asked (dialect_of dialect.entry) index.now.setting form in
+        Ends (IsWorkersBody a) (IsWorkersText a) (HasRefusal a.dialect a.setting) (HasNoRefusal a.dialect a.setting) result.0
         (S.left source.old) (S.left source.new) (K.taken out.old) (K.taken out.new) }
     ensures read_fault { result.0 ≡ Status.ReadFault → HasRisen (S.faults source.old) (S.faults source.new) }
     ensures write_fault { result.0 ≡ Status.WriteFault → HasRisen (K.faults out.old) (K.faults out.new) }
@@ -91,7 +91,7 @@ fn serve<'a, R: Threads + Wait + Sync, S: Source, K: Sink, G: Gate + Sync>(
         rt,
         alloc,
         gate,
-        serving: Serving::new(alloc, office, fields, form),
+        serving: Serving::new(alloc, office, dialect, form),
     };
     pass_and_stop(rt, alloc, program, source, out, workers)
 }
@@ -128,7 +128,7 @@ fn serve_beside<R: Threads + Wait + Sync, S: Source, K: Sink, G: Gate + Sync>(
     gate: &G,
     workers: &mut [Worker],
     side: &mut Option<Side>,
-    fields: Fields<'_>,
+    dialect: Dialect<'_>,
     form: Form,
     source: &mut S,
     out: &mut K,
@@ -136,8 +136,8 @@ fn serve_beside<R: Threads + Wait + Sync, S: Source, K: Sink, G: Gate + Sync>(
 ) -> Status
     requires workers { All (λ w. IsWorkerOf desk.now.queues index.now w) workers.old }
     requires side { IsNewSide desk.now.queues index.now side.old }
-    ensures ends { let a = asked (names fields.entry) index.now.setting form in
-        Ends (IsWorkersBody a) (IsWorkersText a) (HasRefusal a.fields a.setting) (HasNoRefusal a.fields a.setting) result
+    ensures ends { let a = asked (dialect_of dialect.entry) index.now.setting form in
+        Ends (IsWorkersBody a) (IsWorkersText a) (HasRefusal a.dialect a.setting) (HasNoRefusal a.dialect a.setting) result
         (S.left source.old) (S.left source.new) (K.taken out.old) (K.taken out.new) }
     ensures read_fault { result ≡ Status.ReadFault → HasRisen (S.faults source.old) (S.faults source.new) }
     ensures write_fault { result ≡ Status.WriteFault → HasRisen (K.faults out.old) (K.faults out.new) }
@@ -150,14 +150,14 @@ fn serve_beside<R: Threads + Wait + Sync, S: Source, K: Sink, G: Gate + Sync>(
         workers,
         &mut ||
             requires { IsNewSide desk.now.queues index.now side.now }
-            ensures ends { let a = asked (names fields.entry) index.entry.now.setting form in
-                Ends (IsWorkersBody a) (IsWorkersText a) (HasRefusal a.fields a.setting) (HasNoRefusal a.fields a.setting) result.0
+            ensures ends { let a = asked (dialect_of dialect.entry) index.entry.now.setting form in
+                Ends (IsWorkersBody a) (IsWorkersText a) (HasRefusal a.dialect a.setting) (HasNoRefusal a.dialect a.setting) result.0
                 (S.left source.entry.now) (S.left source.exit.now) (K.taken out.entry.now) (K.taken out.exit.now) }
             ensures read_fault { result.0 ≡ Status.ReadFault → HasRisen (S.faults source.entry.now) (S.faults source.exit.now) }
             ensures write_fault { result.0 ≡ Status.WriteFault → HasRisen (K.faults out.entry.now) (K.faults out.exit.now) }
         {
             serve(
-                rt, alloc, desk, index, gate, side, fields, form, source, out, count,
+                rt, alloc, desk, index, gate, side, dialect, form, source, out, count,
             )
         },
     );
@@ -168,7 +168,7 @@ fn pass_at_desk<R: Threads + Wait + Sync, S: Source, K: Sink, G: Gate + Sync>(
     rt: &R,
     alloc: Global,
     workers: u32,
-    fields: Fields<'_>,
+    dialect: Dialect<'_>,
     form: Form,
     config: Config,
     source: &mut S,
@@ -176,8 +176,8 @@ fn pass_at_desk<R: Threads + Wait + Sync, S: Source, K: Sink, G: Gate + Sync>(
     gate: &G,
 ) -> Status
     requires { (1 ≤ workers) × (workers ≤ 16) }
-    ensures ends { let a = asked (names fields.entry) config form in
-        Ends (IsWorkersBody a) (IsWorkersText a) (HasRefusal a.fields a.setting) (HasNoRefusal a.fields a.setting) result
+    ensures ends { let a = asked (dialect_of dialect.entry) config form in
+        Ends (IsWorkersBody a) (IsWorkersText a) (HasRefusal a.dialect a.setting) (HasNoRefusal a.dialect a.setting) result
         (S.left source.old) (S.left source.new) (K.taken out.old) (K.taken out.new) }
     ensures read_fault { result ≡ Status.ReadFault → HasRisen (S.faults source.old) (S.faults source.new) }
     ensures write_fault { result ≡ Status.WriteFault → HasRisen (K.faults out.old) (K.faults out.new) }
@@ -201,7 +201,7 @@ fn pass_at_desk<R: Threads + Wait + Sync, S: Source, K: Sink, G: Gate + Sync>(
         gate,
         all.as_mut_slice(),
         &mut side,
-        fields,
+        dialect,
         form,
         source,
         out,
@@ -212,7 +212,7 @@ fn pass_at_desk<R: Threads + Wait + Sync, S: Source, K: Sink, G: Gate + Sync>(
 /// Runs over the lines that the source gives, with so many workers, from 1 to 16, that live for the whole run and answer
 /// queries beside the one writer: document lines add, query lines ask, and answers and refusals are printed on `out`, each
 /// in its line's place, and after them the summary. A query's answer is over a prefix of the accepted documents that holds
-/// at least those before its line. Lines are read with these fields. The form says how what is printed is written, and whether
+/// at least those before its line. Lines are read by this dialect. The form says how what is printed is written, and whether
 /// the segments are told after the summary.
 ///
 /// At most 512 queries are unanswered and 4,096 lines unprinted at once: where one of these numbers is reached, and at the
@@ -222,7 +222,7 @@ pub fn run_workers<R, S, K, G>(
     rt: &R,
     alloc: Global,
     workers: u32,
-    fields: Fields<'_>,
+    dialect: Dialect<'_>,
     form: Form,
     config: Config,
     source: &mut S,
@@ -235,15 +235,16 @@ where
     K: Sink,
     G: Gate + Sync,
     requires { (1 ≤ workers) × (workers ≤ 16) }
-    ensures ends { let a = asked (names fields.entry) config form in
-        Ends (IsWorkersBody a) (IsWorkersText a) (HasRefusal a.fields a.setting) (HasNoRefusal a.fields a.setting) result
+    ensures ends { let a = asked (dialect_of dialect.entry) config form in
+        Ends (IsWorkersBody a) (IsWorkersText a) (HasRefusal a.dialect a.setting) (HasNoRefusal a.dialect a.setting) result
         (S.left source.old) (S.left source.new) (K.taken out.old) (K.taken out.new) }
     // Where source and `out` tell their bytes, `out` took what the status says, of the lines of the input.
     ensures output { (bytes before : List ℕ) → S.left source.old ≡ Some bytes → K.taken out.old ≡ Some before
         → (printed : List ℕ) × (K.taken out.new ≡ Some (before ++ printed))
-        × WroteWorkers (asked (names fields.entry) config form) result bytes (S.left source.new) printed }
+        × WroteWorkers (asked (dialect_of dialect.entry) config form) result bytes (S.left source.new) printed }
     // What the status says of the input holds whatever becomes of the output.
-    ensures means { (bytes : List ℕ) → S.left source.old ≡ Some bytes → MeansWorkers (asked (names fields.entry) config form) result bytes (S.left source.new) }
+    ensures means { (bytes : List ℕ) → S.left source.old ≡ Some bytes
+        → MeansWorkers (asked (dialect_of dialect.entry) config form) result bytes (S.left source.new) }
     // Faults come only from outside.
     ensures read_fault { result ≡ Status.ReadFault → HasRisen (S.faults source.old) (S.faults source.new) }
     ensures write_fault { result ≡ Status.WriteFault → HasRisen (K.faults out.old) (K.faults out.new) }
@@ -251,5 +252,5 @@ where
     ensures completes { (HasRisen (S.faults source.old) (S.faults source.new) → ⊥) → (HasRisen (K.faults out.old) (K.faults out.new) → ⊥)
         → (bytes : List ℕ) → S.left source.old ≡ Some bytes → length bytes < longest_input → IsWorkedOff result }
 {
-    pass_at_desk(rt, alloc, workers, fields, form, config, source, out, gate)
+    pass_at_desk(rt, alloc, workers, dialect, form, config, source, out, gate)
 }

@@ -1,5 +1,6 @@
 //! The tests, and a run in memory with a gate.
 
+mod counts;
 mod meeting;
 mod overlap;
 mod parts;

@@ -14,6 +14,10 @@ const LOAD_FLAGS: [&str; 2] = ["json", "stats"];
 // The options of `load`: none.
 pub(super) const LOAD_OPTIONS: [&str; 0] = [];
 
+pub(super) const LOAD_BESIDE: [&str; 1] = ["words"];
+
+pub(super) const SETTING_BESIDE: [&str; 4] = ["words", "segments", "docs", "terms"];
+
 // What the words after `save` ask for.
 pub(super) fn read_save(alloc: Global, words: &[String]) -> Result<Command, CommandFault>
     ensures command { IfOk result (λ command. save_of (map string_bytes words.now) ≡ Some command) }

@@ -14,6 +14,8 @@ const RUN_FLAGS: [&str; 4] = ["overlap", "watch", "json", "stats"];
 
 pub(super) const RUN_OPTIONS: [&str; 5] = ["workers", "parts", "segments", "docs", "terms"];
 
+pub(super) const RUN_BESIDE: [&str; 6] = ["words", "workers", "parts", "segments", "docs", "terms"];
+
 // The most workers and the most parts of a run.
 const MOST: u32 = 16;
 

@@ -6,9 +6,9 @@ ghost use Rattle.eb_run.specs.FeedRequests.{feed_request_view};
 
 use crate::command::CommandFault;
 use crate::command::form::read_form;
-use crate::fields::take_fields;
+use crate::fields::take_dialect;
 use eb_base::{Config, MAX_WORDS};
-use eb_fields::Fields;
+use eb_fields::Dialect;
 use eb_lines::Form;
 use eb_options::{Items, OptionFault, read_options, read_setting};
 use std::alloc::Global;
@@ -17,6 +17,8 @@ use std::alloc::Global;
 const FEED_FLAGS: [&str; 4] = ["overlap", "watch", "json", "stats"];
 
 const FEED_OPTIONS: [&str; 5] = ["workers", "keep", "segments", "docs", "terms"];
+
+const FEED_BESIDE: [&str; 6] = ["words", "workers", "keep", "segments", "docs", "terms"];
 
 // The most workers of a feed.
 const MOST: u32 = 16;
@@ -53,7 +55,7 @@ pub struct FeedRequest<'a> {
     /// The feed.
     pub command: FeedCommand,
     /// The fields by which its lines are read (`--fields`).
-    pub fields: Fields<'a>,
+    pub dialect: Dialect<'a>,
 }
 
 /// The feed that the words ask for; they are without the program's name and the word `feed`.
@@ -75,11 +77,11 @@ pub fn read_feed_command<'a>(
     ensures workers { IfOk result (λ request. HasFewWorkers request.command.way) }
     ensures usage { IsErrOf result CommandFault.Usage → feed_asked_of (map string_bytes words.entry.now) ≡ None }
 {
-    match take_fields(alloc, words, &FEED_OPTIONS) {
+    match take_dialect(alloc, words, &FEED_BESIDE, &FEED_OPTIONS) {
         Ok(apart) => match read_command(alloc, apart.others.as_slice()) {
             Ok(command) => Ok(FeedRequest {
                 command,
-                fields: apart.fields,
+                dialect: apart.dialect,
             }),
             Err(fault) => Err(fault),
         },

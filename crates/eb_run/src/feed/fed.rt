@@ -1,4 +1,5 @@
 //! The feed that lines fill and ask.
+ghost use Rattle.eb_fields.specs.Dialect.{Dialect as Spoken};
 ghost use Rattle.std.specs.Prelude.{◌≡◌, ◌<◌, ◌≤◌, ℕ, List, [], length, IfOk};
 ghost use Rattle.eb_answer.specs.Rules.{Rules};
 ghost use Rattle.eb_base.specs.Document.{Doc};
@@ -14,7 +15,7 @@ use eb_answer::Store;
 use eb_base::{Config, Document, Gate, NoMemory, Query};
 use eb_cursor::Frame;
 use eb_feed::Feed;
-use eb_fields::Fields;
+use eb_fields::Dialect;
 use eb_lines::{Form, Refusal, Tail, line_room, put_answer};
 use eb_place::Steps;
 use std::alloc::Global;
@@ -51,7 +52,7 @@ impl Fed {
     // An empty feed. Takes all its memory.
     pub(crate) fn new(alloc: Global, keep: u32, form: Form, config: Config) -> Result<Fed, NoMemory>
         requires { (2 ≤ keep) × (keep ≤ 64) }
-        ensures { IfOk result (λ fed. (fields : List (List ℕ)) → IsFed fed (feed_rules fields config keep form) [] tt) }
+        ensures { IfOk result (λ fed. (how : Spoken) → IsFed fed (feed_rules how config keep form) [] tt) }
     {
         let feed = Feed::open(alloc, config, keep)?;
         Ok(Fed { feed, form })
@@ -97,7 +98,7 @@ impl Store for Fed {
     fn take_other(
         &mut self,
         _alloc: Global,
-        _fields: Fields<'_>,
+        _fields: Dialect<'_>,
         _bytes: &[u8],
     ) -> Result<Option<Refusal>, NoMemory> {
         Ok(Some(Refusal::BadLine))

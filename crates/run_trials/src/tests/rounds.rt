@@ -4,7 +4,7 @@ ghost use Rattle.eb_rounds.specs.Passed.{HasMark};
 
 use eb_base::{Config, OpenGate};
 use eb_engine::{Converter, Index, Reader, Writer};
-use eb_fields::Fields;
+use eb_fields::Dialect;
 use eb_indexed::Counts;
 use eb_lines::{Form, LineKind, Refusal, line_kind};
 use eb_rounds::{Input, Rounds};
@@ -63,7 +63,7 @@ impl Desk {
             &mut self.reader,
             &mut self.converter,
             &OpenGate,
-            Fields::none(),
+            Dialect::plain(),
             WORDS,
         )?;
         self.printed.reserve(text.len())?;

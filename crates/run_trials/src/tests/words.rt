@@ -172,7 +172,7 @@ fn words_ask_for_a_command(rt: HostRuntime) -> Result<(), Fail> {
         };
         let text = format!(in alloc; "{:?}", request.command)?;
         assert_eq!(rt; text.as_str(), want, "{line}");
-        assert!(rt; request.fields.is_none());
+        assert!(rt; request.dialect.fields.is_none());
     }
     Ok(())
 }
@@ -187,7 +187,7 @@ fn words_ask_for_a_feed(rt: HostRuntime) -> Result<(), Fail> {
         };
         let text = format!(in alloc; "{:?}", request.command)?;
         assert_eq!(rt; text.as_str(), want, "{line}");
-        assert!(rt; request.fields.is_none());
+        assert!(rt; request.dialect.fields.is_none());
     }
     let Ok(request) = read_feed_command(alloc, &[]) else {
         return Err(Fail::new("the words ask for nothing"));
@@ -249,7 +249,11 @@ fn words_say_fields(rt: HostRuntime) -> Result<(), Fail> {
         let Ok(request) = read_command(alloc, &words) else {
             return Err(Fail::new("the words ask for nothing"));
         };
-        assert_eq!(rt; names_of(alloc, request.fields)?.as_str(), want, "{line}");
+        assert_eq!(rt;
+            names_of(alloc, request.dialect.fields)?.as_str(),
+            want,
+            "{line}"
+        );
         let others = words_of(alloc, bare)?;
         let Ok(other) = read_command(alloc, &others) else {
             return Err(Fail::new("the words ask for nothing"));
@@ -260,7 +264,10 @@ fn words_say_fields(rt: HostRuntime) -> Result<(), Fail> {
     let Ok(request) = read_feed_command(alloc, words.as_slice()) else {
         return Err(Fail::new("the words ask for nothing"));
     };
-    assert_eq!(rt; names_of(alloc, request.fields)?.as_str(), "from room ");
+    assert_eq!(rt;
+        names_of(alloc, request.dialect.fields)?.as_str(),
+        "from room "
+    );
     assert!(rt; request.command.keep == 2 && request.command.form.json);
     Ok(())
 }

@@ -1,6 +1,6 @@
+use Rattle.eb_fields.specs.Dialect.{dialect_of}
 use Rattle.std.proofs.Common.{Err, sym, ap, subst}
 use Rattle.eb_base.specs.Query.{Tree}
-use Rattle.eb_fields.specs.Fields.{names}
 use Rattle.eb_lines.specs.Reading.{query}
 use Rattle.eb_lines.specs.Programs.{WorksOnGiven}
 use Rattle.eb_lines.proofs.Results.{ok_on, err_on, err_any}
@@ -19,7 +19,7 @@ returns-in_err-query-in-Ask-clause-err g c = err_any c.from_residual.result (sta
 pub returns-in_ok-query-in-Ask-clause-ok : goal.returns-in_ok-query-in-Ask-clause-ok
 returns-in_ok-query-in-Ask-clause-ok g c =
     let l = line_of c.args.line in
-    let ns = names c.args.answering.now.fields in
+    let ns = dialect_of c.args.answering.now.dialect in
     let own = c.in-Ask.question in
     let read = reads_raw g.P.Store.other ns l (Err (Ask own)) (λ x. x) (subst (λ (o : Other). IsTaskOf ns l (Err o)) c.in-Ask.is c.requires.task) in
     let reads = subst (λ (t : Tree). ReadsWith g.P.Store.other ns l (query own.k t)) (sym c.in_ok-query-in-Ask.ensures) read in

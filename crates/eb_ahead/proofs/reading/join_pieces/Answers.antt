@@ -14,16 +14,16 @@ loop-at-preserved c =
     record {
       same = λ i d l. get_or-set_other c.loop-at.pieces at i c.join_piece.new.piece d (λ e. omega arith) ∙ inv.same i d (omega arith);
       long = length-set c.loop-at.pieces at c.join_piece.new.piece ∙ inv.long;
-      joined = λ names lines size are.
+      joined = λ how lines size are.
           let piece = c.index-pieces-at.result in
           let own : get_or c.args.pieces.now at piece ≡ Ok joined.0 = sym (inv.same at piece (omega arith)) ∙ joined.1 in
-          let read = subst (IsPiece names lines size at) own (are at piece (omega arith)) in
-          let more = next_piece (IsTaskOf names) (at * size) size lines c.loop-at.tasks.items joined.0.items (inv.joined names lines size are) read in
-          subst (λ n. AllZip (IsTaskOf names) (take n lines) c.join_piece.new.tasks.items) {x = at * size + size} (omega arith)
-          (subst (λ ts. AllZip (IsTaskOf names) (take (at * size + size) lines) ts) (sym joined.2) more);
+          let read = subst (IsPiece how lines size at) own (are at piece (omega arith)) in
+          let more = next_piece (IsTaskOf how) (at * size) size lines c.loop-at.tasks.items joined.0.items (inv.joined how lines size are) read in
+          subst (λ n. AllZip (IsTaskOf how) (take n lines) c.join_piece.new.tasks.items) {x = at * size + size} (omega arith)
+          (subst (λ ts. AllZip (IsTaskOf how) (take (at * size + size) lines) ts) (sym joined.2) more);
     }
 
 pub returns : goal.returns
-returns c = λ names lines size are.
+returns c = λ how lines size are.
     let whole : c.loop-at.at ≡ length c.args.pieces.now = omega arith in
-    subst (λ n. AllZip (IsTaskOf names) (take (n * size) lines) c.loop-at.tasks.items) whole (c.loop-at.invariant.joined names lines size are)
+    subst (λ n. AllZip (IsTaskOf how) (take (n * size) lines) c.loop-at.tasks.items) whole (c.loop-at.invariant.joined how lines size are)

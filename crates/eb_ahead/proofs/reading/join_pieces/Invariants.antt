@@ -1,3 +1,4 @@
+use Rattle.eb_fields.specs.Dialect.{Dialect}
 use Rattle.std.proofs.Common.{◌≡◌, ℕ, ◌*◌, ◌≤◌, List, take, length, get_or}
 use Rattle.std.specs.List.{AllZip}
 use Rattle.eb_ahead.specs.Tasks.{IsTaskOf}
@@ -9,6 +10,6 @@ abbrev pub invariant-loop-at : goal.invariant-loop-at
 invariant-loop-at l = record {
   same : (i : ℕ) (d : _) → l.at ≤ i → get_or l.pieces i d ≡ get_or l.initial.pieces i d;
   long : length l.pieces ≡ length l.initial.pieces;
-  joined : (names : List (List ℕ)) (lines : List Line) (size : ℕ) → ArePieces names lines size l.initial.pieces
-      → AllZip (IsTaskOf names) (take (l.at * size) lines) l.tasks.items;
+  joined : (how : Dialect) (lines : List Line) (size : ℕ) → ArePieces how lines size l.initial.pieces
+      → AllZip (IsTaskOf how) (take (l.at * size) lines) l.tasks.items;
 }

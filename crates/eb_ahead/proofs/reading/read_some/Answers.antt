@@ -1,7 +1,7 @@
+use Rattle.eb_fields.specs.Dialect.{dialect_of}
 use Rattle.std.proofs.Common.{◌≡◌, ◌+◌, ◌-◌, take, drop, sym, subst, arith}
 use Rattle.std.specs.Prelude.{Some, slice_get}
 use Rattle.std.specs.List.{AllZip}
-use Rattle.eb_fields.specs.Fields.{names}
 use Rattle.eb_ahead.specs.Tasks.{line_of, IsTaskOf}
 use Rattle.eb_ahead.proofs.Pieces.{next_one}
 use Rattle.eb_ahead.proofs.reading.read_some.Goals as goal
@@ -10,7 +10,7 @@ pub loop-at-preserved : goal.loop-at-preserved
 loop-at-preserved c =
     let inv = c.loop-at.invariant in
     let k = c.loop-at.at - c.args.from in
-    let R = IsTaskOf (names c.args.fields) in
+    let R = IsTaskOf (dialect_of c.args.dialect) in
     let more = next_one R c.args.lines.now c.args.from k (line_of c.get.result) c.in_ok-task.task c.loop-at.tasks.items (omega arith)
     (subst (λ n. slice_get c.args.lines.now n ≡ Some (line_of c.get.result)) {x = c.loop-at.at} (omega (arith, inv.begun)) c.get.ensures) c.in_ok-task.ensures inv.read in
     let step : k + 1 ≡ c.loop-at.at + 1 - c.args.from = omega (arith, inv.begun) in

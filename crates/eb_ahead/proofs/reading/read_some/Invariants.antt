@@ -1,7 +1,7 @@
+use Rattle.eb_fields.specs.Dialect.{dialect_of}
 use Rattle.std.proofs.Common.{◌≡◌, ◌+◌, ◌-◌, ◌≤◌, take, drop}
 use Rattle.std.specs.List.{AllZip}
 use Rattle.eb_ahead.specs.Tasks.{IsTaskOf}
-use Rattle.eb_fields.specs.Fields.{names}
 use Rattle.eb_ahead.proofs.reading.read_some.Given as goal
 
 abbrev pub invariant-loop-at : goal.invariant-loop-at
@@ -9,5 +9,5 @@ invariant-loop-at l = record {
   begun : l.from ≤ l.at;
   room : l.tasks.len + l.from ≡ l.at;
   most : l.count ≤ l.tasks.cap;
-  read : AllZip (IsTaskOf (names l.fields)) (take (l.at - l.from) (drop l.from l.lines)) l.tasks.items;
+  read : AllZip (IsTaskOf (dialect_of l.dialect)) (take (l.at - l.from) (drop l.from l.lines)) l.tasks.items;
 }

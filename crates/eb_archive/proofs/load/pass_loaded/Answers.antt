@@ -1,5 +1,5 @@
+use Rattle.eb_fields.specs.Dialect.{dialect_of}
 use Rattle.std.proofs.Common.{inr, refl}
-use Rattle.eb_fields.specs.Fields.{names}
 use Rattle.eb_archive.specs.Loaded.{Loaded, rules_of}
 use Rattle.eb_indexed.proofs.Indexes.{indexed_none}
 use Rattle.eb_archive.proofs.load.pass_loaded.Goals as goal
@@ -7,17 +7,17 @@ use Rattle.eb_archive.proofs.load.pass_loaded.Goals as goal
 pub answer_lines-requires : goal.answer_lines-requires
 answer_lines-requires g c =
     let filled = c.in-Ok.ensures.all in
-    let a : Loaded = record { fields = names c.args.fields; setting = filled.setting; documents = filled.documents; form = c.args.form } in
+    let a : Loaded = record { dialect = dialect_of c.args.dialect; setting = filled.setting; documents = filled.documents; form = c.args.form } in
     (rules_of a, refl, indexed_none _ _ _ _ _ (c.telling.ensures.holds _ _ filled.store) c.telling.ensures.form)
 
 pub returns-clause-ends : goal.returns-clause-ends
 returns-clause-ends g c =
     let filled = c.in-Ok.ensures.all in
-    let a : Loaded = record { fields = names c.args.fields; setting = filled.setting; documents = filled.documents; form = c.args.form } in
+    let a : Loaded = record { dialect = dialect_of c.args.dialect; setting = filled.setting; documents = filled.documents; form = c.args.form } in
     inr (record {
       loaded = a;
       loadable = record { allowed = filled.allowed; lawful = filled.lawful };
-      fields = refl;
+      dialect = refl;
       same = refl;
       lines = g.S.Source.left c.read_image.new.source;
       image = filled.taken;

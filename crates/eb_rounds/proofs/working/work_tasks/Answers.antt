@@ -16,7 +16,7 @@ overflow_add-result g c =
     omega (arith, few, c.requires.few, length-map asked asked_entry, length-map given given_entry)
 
 pub returns-clause-works : goal.returns-clause-works
-returns-clause-works g c = λ fields held read before after documents queries refused.
+returns-clause-works g c = λ how held read before after documents queries refused.
     let σ = c.args.index.now.setting in
     let asked = c.args.tasks.now.asked.items in
     let given = c.args.tasks.now.given.items in
@@ -25,7 +25,7 @@ returns-clause-works g c = λ fields held read before after documents queries re
     let R : List Doc → Type 0 = λ old. IsRoundOfLines c.args.form σ old w.new.writer.docs (map asked_entry asked) (map given_entry given) c.args.text.now.items w.new.text.items
     w.result.1.0 w.result.0.0 w.result.1.1 w.result.0.1 in
     let r = subst R first (same_round c.args.form _ _ _ asked _ given _ _ _ _ _ _ _ _ c.as_mut_slice.ensures.value c.as_slice.ensures.value refl w.ensures.round) in
-    worked_off fields c.args.form σ held c.args.writer.now.docs w.new.writer.docs before after _ _ _ _ _ _ _ _ read (each_asked asked) (each_given given) r documents queries refused
+    worked_off how c.args.form σ held c.args.writer.now.docs w.new.writer.docs before after _ _ _ _ _ _ _ _ read (each_asked asked) (each_given given) r documents queries refused
 
 pub returns-clause-few : goal.returns-clause-few
 returns-clause-few g c =

@@ -3,4 +3,4 @@ use Rattle.eb_run.proofs.Feeds.{one_fed}
 use Rattle.eb_run.proofs.laws.feed_one_text.Goals as goal
 
 pub returns : goal.returns
-returns c = λ names asked bytes a b settled. one_fed asked.way names asked (lines_of bytes) a b settled
+returns c = λ how asked bytes a b settled. one_fed asked.way how asked (lines_of bytes) a b settled

@@ -3,4 +3,4 @@ use Rattle.eb_run.proofs.Feeds.{some_fed}
 use Rattle.eb_run.proofs.laws.feed_some_text.Goals as goal
 
 pub returns : goal.returns
-returns c = λ names asked bytes. some_fed asked.way names asked (lines_of bytes)
+returns c = λ how asked bytes. some_fed asked.way how asked (lines_of bytes)

@@ -3,4 +3,4 @@ use Rattle.eb_run.proofs.OneOutput.{some_text_of}
 use Rattle.eb_run.proofs.laws.some_text.Goals as goal
 
 pub returns : goal.returns
-returns c = λ names σ overlap form bytes. some_text_of names σ overlap form (lines_of bytes)
+returns c = λ how σ overlap form bytes. some_text_of how σ overlap form (lines_of bytes)

@@ -1,5 +1,5 @@
+use Rattle.eb_fields.specs.Dialect.{dialect_of}
 use Rattle.std.proofs.Common.{[], refl}
-use Rattle.eb_fields.specs.Fields.{names}
 use Rattle.eb_answer.proofs.Taking.{ends_none}
 use Rattle.eb_indexed.proofs.Indexes.{indexed_none}
 use Rattle.eb_indexed.specs.IndexRules.{index_rules}
@@ -8,13 +8,17 @@ use Rattle.eb_watching.specs.WatchRules.{watch_rules}
 use Rattle.eb_watching.proofs.run.pass_watched.Goals as goal
 
 pub returns-in_default-clause-ends : goal.returns-in_default-clause-ends
-returns-in_default-clause-ends g c = ends_none ReadsOther (watch_rules (names c.args.fields) c.args.config c.args.form) _ _
+returns-in_default-clause-ends g c = ends_none ReadsOther (watch_rules (dialect_of c.args.dialect) c.args.config c.args.form) _ _
 
 pub answer_watched-requires : goal.answer_watched-requires
-answer_watched-requires g c =
-    (index_rules (names c.args.fields) c.args.config c.args.form [], refl, indexed_none c.in-Ok.indexed (names c.args.fields) c.args.config c.args.form [] c.in-Ok.ensures.holds c.in-Ok.ensures.form)
+answer_watched-requires g c = (
+  index_rules (dialect_of c.args.dialect) c.args.config c.args.form [],
+  refl,
+  indexed_none c.in-Ok.indexed
+      (dialect_of c.args.dialect) c.args.config c.args.form [] c.in-Ok.ensures.holds c.in-Ok.ensures.form,
+)
 
 pub returns-clause-ends : goal.returns-clause-ends
 returns-clause-ends g c =
-    c.answer_watched.ensures.ends (index_rules (names c.args.fields) c.args.config c.args.form []) refl
-    (indexed_none c.in-Ok.indexed (names c.args.fields) c.args.config c.args.form [] c.in-Ok.ensures.holds c.in-Ok.ensures.form)
+    c.answer_watched.ensures.ends (index_rules (dialect_of c.args.dialect) c.args.config c.args.form []) refl
+    (indexed_none c.in-Ok.indexed (dialect_of c.args.dialect) c.args.config c.args.form [] c.in-Ok.ensures.holds c.in-Ok.ensures.form)

@@ -3,4 +3,4 @@ use Rattle.eb_answer.proofs.Taking.{answered_none}
 use Rattle.eb_answer.proofs.answering.Answering.new.Goals as goal
 
 pub returns : goal.returns
-returns g c = λ rules fields h. answered_none g.S.Store.other g.S.Store.holds _ rules fields h refl refl refl
+returns g c = λ rules how h. answered_none g.S.Store.other g.S.Store.holds _ rules how h refl refl refl

@@ -1,5 +1,5 @@
+use Rattle.eb_fields.specs.Dialect.{dialect_of}
 use Rattle.std.proofs.Common.{◌+◌, ◌++◌, List, ℕ, Option, refl, ap, subst, ◌∙◌, arith}
-use Rattle.eb_fields.specs.Fields.{names}
 use Rattle.eb_io.specs.Lines.{line}
 use Rattle.eb_lines.specs.declared.refusal.Refusal.{Refusal}
 use Rattle.eb_lines.specs.Kinds.{bad_line}
@@ -22,7 +22,7 @@ returns-in-None-clause-ok g c =
     let own = c.in_ok-take_other.ensures.ok in
     let T : Option Refusal → Type 0 = λ x. TakesOther g.S.Store.holds c.args.self.now.store c.take_other.new.self own.0 x in
     takes_other g.S.Store.other g.S.Store.holds c.args.self.now _ refl own.0 _ _ (subst T c.in-None.is own.2) refl c.requires.number refl refl c.in_ok-reserve.ensures.items
-    (line bytes) (reads_with g.S.Store.other (names c.args.self.now.fields) bytes bad_line own.0 c.requires.kind own.1)
+    (line bytes) (reads_with g.S.Store.other (dialect_of c.args.self.now.dialect) bytes bad_line own.0 c.requires.kind own.1)
 
 pub returns-in-Some-clause-ok : goal.returns-in-Some-clause-ok
 returns-in-Some-clause-ok g c =
@@ -32,7 +32,7 @@ returns-in-Some-clause-ok g c =
     refuses_other g.S.Store.other g.S.Store.holds c.args.self.now _ refl c.form-form.result c.form-form.ensures own.0 c.in-Some.refusal _ _ (subst T c.in-Some.is own.2) refl
     c.requires.number refl refl
     (c.put_refusal.ensures.text ∙ ap (λ (t : List ℕ). t ++ refusal_line c.form-form.result (c.args.self.now.number + 1) c.in-Some.refusal) c.in_ok-reserve.ensures.items)
-    (line bytes) (reads_with g.S.Store.other (names c.args.self.now.fields) bytes bad_line own.0 c.requires.kind own.1)
+    (line bytes) (reads_with g.S.Store.other (dialect_of c.args.self.now.dialect) bytes bad_line own.0 c.requires.kind own.1)
 
 pub returns-in_err-reserve-clause-err : goal.returns-in_err-reserve-clause-err
 returns-in_err-reserve-clause-err g c =

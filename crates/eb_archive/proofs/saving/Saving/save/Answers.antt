@@ -1,6 +1,6 @@
+use Rattle.eb_fields.specs.Dialect.{dialect_of}
 use Rattle.std.proofs.Common.{ℕ, List, ◌++◌, sym, ap, ◌∙◌, subst}
 use Rattle.eb_archive.specs.declared.saving.Saving.{Saving}
-use Rattle.eb_fields.specs.Fields.{names}
 use Rattle.eb_lines.specs.Reading.{document}
 use Rattle.eb_archive.specs.Saving.{TakesLine}
 use Rattle.eb_archive.proofs.Savings.{takes_document, takes_full}
@@ -12,13 +12,14 @@ returns-clause-ok g c = elim c.match-add.branch [
   | in-Ok w ↦
       let is = w.self-is in
       takes_document c.args.self.now c.match-add.self c.args.document.now c.args.text.now.items c.in_ok-part.part.items c.match-add.text.items w.in-Ok.ensures.ok.0
-      (ap (λ (s : Saving _). names s.fields) is) (ap (λ (s : Saving _). s.index) is) (ap (λ (s : Saving _). s.writer) is ∙ w.in-Ok.ensures.ok.1) (ap (λ (s : Saving _). s.number) is)
+      (ap (λ (s : Saving _). dialect_of s.dialect) is) (ap (λ (s : Saving _). s.index) is) (ap (λ (s : Saving _). s.writer) is ∙ w.in-Ok.ensures.ok.1) (ap (λ (s : Saving _). s.number) is)
       (ap (λ (s : Saving _). s.refused) is) c.in_ok-part.ensures
       (ap (λ t. t.items) w.text-is ∙ w.put.ensures ∙ ap (λ t. t ++ w.deref.result.now) c.in_ok-reserve.ensures.items ∙ ap (λ b. c.args.text.now.items ++ b) w.deref.ensures.value)
   | in-Err w ↦
       let is = w.self-is in
       let T : List ℕ → Type 0 = λ t. TakesLine c.args.self.now c.match-add.self c.args.text.now.items t (document c.args.document.now) in
       subst T (sym (ap (λ t. t.items) w.text-is ∙ c.in_ok-reserve.ensures.items))
-      (takes_full c.args.self.now c.match-add.self c.args.document.now c.args.text.now.items w.in-Err.ensures.full.0 (ap (λ (s : Saving _). names s.fields) is) (ap (λ (s : Saving _). s.index) is)
+      (takes_full c.args.self.now c.match-add.self c.args.document.now c.args.text.now.items w.in-Err.ensures.full.0 (ap (λ (s : Saving _). dialect_of s.dialect) is)
+      (ap (λ (s : Saving _). s.index) is)
       (ap (λ (s : Saving _). s.writer) is ∙ w.in-Err.ensures.full.1) (ap (λ (s : Saving _). s.number) is) (ap (λ (s : Saving _). s.refused) is))
 ]

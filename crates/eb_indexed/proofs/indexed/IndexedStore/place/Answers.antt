@@ -18,10 +18,10 @@ returns-then-add g c = λ rules docs ws is.
     let placed = subst (λ (b : Bool). WithPlaced c.add.new.self is.setting docs d b) c.if-add.true (c.add.ensures.placed is.setting docs is.holds) in (
       sym (ap (λ (r : Rules (Unit {0})). r.refusal docs d) is.by_rules ∙ ap refused_by placed.0),
       record {
-        fields = is.fields;
+        dialect = is.dialect;
         setting = is.setting;
         start = is.start;
-        by_rules = is.by_rules ∙ ap (λ (f : Form). index_rules is.fields is.setting f is.start) (sym c.add.ensures.form);
+        by_rules = is.by_rules ∙ ap (λ (f : Form). index_rules is.dialect is.setting f is.start) (sym c.add.ensures.form);
         holds = placed.1;
       },
     )
@@ -32,10 +32,10 @@ returns-else-add g c = λ rules docs ws is.
     let placed = subst (λ (b : Bool). WithPlaced c.add.new.self is.setting docs d b) c.if-add.false (c.add.ensures.placed is.setting docs is.holds) in (
       sym (ap (λ (r : Rules (Unit {0})). r.refusal docs d) is.by_rules ∙ ap refused_by placed.0),
       record {
-        fields = is.fields;
+        dialect = is.dialect;
         setting = is.setting;
         start = is.start;
-        by_rules = is.by_rules ∙ ap (λ (f : Form). index_rules is.fields is.setting f is.start) (sym c.add.ensures.form);
+        by_rules = is.by_rules ∙ ap (λ (f : Form). index_rules is.dialect is.setting f is.start) (sym c.add.ensures.form);
         holds = subst (λ (ds : List Doc). Holds c.add.new.self is.setting ds) (sym (append-nil docs)) placed.1;
       },
     )

@@ -32,7 +32,7 @@ returns-clause-ok g c = λ rules docs none h few.
     let small : length docs < 2 ^ 64 = omega (arith, few, start) in
     let found = c.ids.ensures ∙ c.search-seen.ensures.ids n h.setting docs (tree c.args.query) c.args.k h.holds c.in_ok-frame.ensures.asks in
     let after = subst (λ (z : Store). Holds z n h.setting docs) (sym c.search-seen.ensures.store) h.holds in (
-      record { fields = h.fields; setting = h.setting; by_rules = h.by_rules; holds = after },
+      record { dialect = h.dialect; setting = h.setting; by_rules = h.by_rules; holds = after },
       c.put_answer.ensures.text ∙ ap (λ (t : List ℕ). t ++ answer_line c.args.self.now.form c.args.number c.search-seen.result c.ids.result.now) c.in_ok-reserve.ensures.items
           ∙ ap (λ (f : Form). c.args.text.now.items ++ answer_line f c.args.number c.search-seen.result c.ids.result.now) (sym (ap (λ (r : Rules (Unit {0})). r.form) h.by_rules))
           ∙ ap₂ (λ (s : ℕ) (xs : List ℕ). c.args.text.now.items ++ answer_line rules.form c.args.number s xs) (c.search-seen.ensures.count n h.setting docs h.holds small)

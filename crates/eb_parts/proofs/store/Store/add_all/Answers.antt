@@ -21,20 +21,20 @@ put_outcomes-requires g c =
     omega (arith, long, c.in_ok-refusals.ensures.len, c.in_ok-refusals.ensures.capacity)
 
 pub returns-clause-outcomes : goal.returns-clause-outcomes
-returns-clause-outcomes g c = λ fields parts σ form docs h.
+returns-clause-outcomes g c = λ how parts σ form docs h.
     let items = c.args.items.now in
     let setting = ap (λ (b : Parts). b.setting) h.blend in
     let asked = c.as_slice.ensures.value ∙ c.in_ok-outcomes.ensures.outcomes ∙ (λ i. adding.outcomes_of (setting i) (h.writer i) items) in
     c.put_outcomes.ensures ∙ ap (λ rs. rs ++ map (option_map refused_by) c.as_slice.result.now) c.in_ok-refusals.ensures.items
-    ∙ ap (map (option_map refused_by)) asked ∙ outcomes_same fields parts σ form h.some h.words docs items
+    ∙ ap (map (option_map refused_by)) asked ∙ outcomes_same how parts σ form h.some h.words docs items
 
 pub returns-clause-holds : goal.returns-clause-holds
-returns-clause-holds g c = λ fields parts σ form docs h.
+returns-clause-holds g c = λ how parts σ form docs h.
     let items = c.args.items.now in
     let setting = ap (λ (b : Parts). b.setting) h.blend in
     let caught = c.catch_up_all.ensures in
-    let written = c.in_ok-outcomes.ensures.added ∙ (λ i. adding.with_items (setting i) (h.writer i) items) ∙ writer_after fields parts σ form h.some h.words docs items in
-    let held = held_after fields parts σ form h.some h.allowed.segments.1 docs items (record { rising = h.rising; counts = h.counts; short = h.short }) in
+    let written = c.in_ok-outcomes.ensures.added ∙ (λ i. adding.with_items (setting i) (h.writer i) items) ∙ writer_after how parts σ form h.some h.words docs items in
+    let held = held_after how parts σ form h.some h.allowed.segments.1 docs items (record { rising = h.rising; counts = h.counts; short = h.short }) in
     let parted = ap (λ (w : WriterTokens). w.histories) written in
     record {
       some = h.some;

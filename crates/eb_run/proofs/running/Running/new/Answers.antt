@@ -1,13 +1,13 @@
+use Rattle.eb_fields.specs.Dialect.{dialect_of}
 use Rattle.std.proofs.Common.{List, [], refl, ap, sym, subst}
 use Rattle.eb_base.specs.Document.{Doc}
-use Rattle.eb_fields.specs.Fields.{names}
 use Rattle.eb_run.specs.Waiting.{HasGathered}
 use Rattle.eb_run.proofs.Runs.{worked_none}
 use Rattle.eb_run.proofs.running.Running.new.Goals as goal
 
 pub returns : goal.returns
 returns c =
-    let W : List Doc → Type 0 = λ docs. HasGathered (names c.args.fields) c.args.form c.args.config [] docs c.new.result [] in
+    let W : List Doc → Type 0 = λ docs. HasGathered (dialect_of c.args.dialect) c.args.form c.args.config [] docs c.new.result [] in
     record {
       words = c.in_ok-index.index;
       index = refl;
@@ -15,8 +15,8 @@ returns c =
       writer = ap (λ t. t.index) c.in_ok-index.ensures.writer;
       converter = ap (λ t. t.index) c.in_ok-index.ensures.converter;
       mode = refl;
-      fields = refl;
+      dialect = refl;
       form = refl;
       number = refl;
-      worked = subst W (sym (ap (λ t. t.docs) c.in_ok-index.ensures.writer)) (worked_none (names c.args.fields) c.args.form c.args.config c.new.result c.new.ensures);
+      worked = subst W (sym (ap (λ t. t.docs) c.in_ok-index.ensures.writer)) (worked_none (dialect_of c.args.dialect) c.args.form c.args.config c.new.result c.new.ensures);
     }
