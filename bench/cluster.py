@@ -1,65 +1,129 @@
 #!/usr/bin/env python3
-"""Measures the cluster on this machine: documents and queries a second, the time of one query, and the time to build a partition
-again, for 1, 2 and 4 partitions. Needs redis-server and Python's module redis: /usr/bin/python3 bench/cluster.py [DOCUMENTS]"""
+"""Measures the cluster on this machine, in turn with one program over a pipe: messages and queries a second, the processor time of
+each, the time of one query, and the time to build a partition again. Needs redis-server and Python's module redis:
+/usr/bin/python3 bench/cluster.py [MESSAGES [ROUNDS]]"""
 import json
 import os
 import random
-import shutil
-import signal
+import statistics
+import subprocess
 import sys
-import tempfile
+import threading
 import time
 
 ROOT = os.path.dirname(os.path.dirname(os.path.abspath(__file__)))
 sys.path.insert(0, os.path.join(ROOT, "cluster"))
 
-from earlybird_cluster import Router, machine  # noqa: E402
-from checking import PROGRAM, command  # noqa: E402
+from checking.stage import PROGRAM, Stage, until  # noqa: E402
+from earlybird_cluster.lines import blocks_of  # noqa: E402
+from earlybird_cluster.router import ENTRY  # noqa: E402
+
+WORDS = ["run", "--segments", "24", "--docs", "16384", "--terms", "32768"]
+TICK = os.sysconf("SC_CLK_TCK")
 
 
-def zipf_lines(count):
-    """Documents of 10 words; the word of rank r comes as often as 1/r."""
+def made(count):
+    """A text of messages of 10 words, of which the word of rank r comes as often as 1/r; and queries of two words, of rather rare
+    ones and of frequent ones."""
     rng = random.Random(11)
     ranks = range(1, 20001)
     weights = [1 / rank for rank in ranks]
     words = rng.choices(ranks, weights, k=10 * count)
-    return [json.dumps({"id": number + 1, "text": " ".join("w%d" % rank for rank in words[10 * number:10 * number + 10])}).encode()
-            for number in range(count)], rng, ranks, weights
+    text = b"".join(json.dumps({"id": number + 1, "text": " ".join("w%d" % rank for rank in words[10 * number:10 * number + 10])}).encode() + b"\n"
+                    for number in range(count))
+    rare = [b"?10 w%d w%d" % (rng.randint(100, 2000), rng.randint(100, 2000)) for _ in range(20000)]
+    frequent = [b"?10 w%d w%d" % tuple(rng.choices(ranks, weights, k=2)) for _ in range(20000)]
+    return text, rare, frequent
+
+
+def processor(pid):
+    """The seconds of processor time that a process took."""
+    with open("/proc/%d/stat" % pid, encoding="ascii") as file:
+        fields = file.read().rsplit(")", 1)[1].split()
+    return (int(fields[11]) + int(fields[12])) / TICK
+
+
+def pipe(text, rare, frequent):
+    """One program: messages a second, microseconds of its processor time for one, and queries a second of both kinds."""
+    program = subprocess.Popen([PROGRAM, *WORDS], stdin=subprocess.PIPE, stdout=subprocess.PIPE)
+    found = []
+    for lines in (b"", text, b"\n".join(rare) + b"\n", b"\n".join(frequent) + b"\n"):
+        queries = lines.count(b"\n") if lines.startswith(b"?") else 0
+        writer = subprocess.Popen(["cat"], stdin=subprocess.PIPE, stdout=program.stdin)
+        used, begun = processor(program.pid), time.monotonic()
+        thread = threading.Thread(target=lambda: writer.communicate(lines + b"?1 w1\n"))
+        thread.start()
+        for _ in range(queries + 1):
+            program.stdout.readline()
+        found.append((time.monotonic() - begun, processor(program.pid) - used))
+        thread.join()
+    program.stdin.close()
+    program.wait()
+    count = text.count(b"\n")
+    return {"messages": count / found[1][0], "all_us": 1e6 * found[1][1] / count, "rare": len(rare) / found[2][0], "frequent": len(frequent) / found[3][0]}
+
+
+def cluster(parts, text, rare, frequent):
+    """A cluster: the same, and the processor time outside the programs, of one query the time in the middle and at the 99th of
+    100, and the time in which a partition is built again."""
+    count = text.count(b"\n")
+    with Stage() as stage:
+        stage.command("up", str(parts), "--program", PROGRAM, "--", *WORDS)
+        until(lambda: stage.command("status")[1] == 0)
+        router = stage.router()
+        workers = [row["workers"][0] for row in json.loads(stage.command("status", "--json")[0])["partitions"]]
+
+        def used():
+            programs = sum(processor(each["program_pid"]) for each in workers)
+            glue = time.process_time() + processor(stage.pid("redis")) + sum(processor(each["pid"]) for each in workers)
+            return programs, glue
+
+        found = {}
+        programs, glue = used()
+        begun = time.monotonic()
+        refused = sum(1 for _ in router.add_blocks(blocks_of(text, ENTRY)))
+        found["messages"] = count / (time.monotonic() - begun)
+        after = used()
+        found["all_us"], found["glue_us"] = 1e6 * (sum(after) - programs - glue) / count, 1e6 * (after[1] - glue) / count
+        assert refused == 0
+        for name, queries in (("rare", rare), ("frequent", frequent)):
+            glue, begun = used()[1], time.monotonic()
+            answers = sum(1 for each in router.ask_many(queries, cut=True) if not each.missing)
+            found[name] = answers / (time.monotonic() - begun)
+            found[name + "_us"] = 1e6 * (used()[1] - glue) / answers
+        times = []
+        for line in rare[:1000]:
+            begun = time.monotonic()
+            router.ask(line)
+            times.append(1000 * (time.monotonic() - begun))
+        times.sort()
+        found["middle_ms"], found["p99_ms"] = times[500], times[990]
+        stage.signal("worker-earlybird-0")
+        begun = time.monotonic()
+        until(lambda: all(row["workers"][0]["state"] == "ready" for row in json.loads(stage.command("status", "--json")[0])["partitions"]), 600)
+        found["again_s"] = time.monotonic() - begun
+        return found
 
 
 def main():
-    """All figures, a line for each number of partitions."""
-    count = int(sys.argv[1]) if len(sys.argv) > 1 else 100000
-    lines, rng, ranks, weights = zipf_lines(count)
-    queries = [b"?10 w%d w%d" % tuple(rng.choices(ranks, weights, k=2)) for _ in range(5000)]
-    for parts in (1, 2, 4):
-        folder = tempfile.mkdtemp(prefix="earlybird-cluster-")
-        try:
-            command(folder, "up", str(parts), "--program", PROGRAM, "--", "run", "--docs", "16384", "--terms", "32768")
-            router = Router(machine.connect("unix://" + machine.socket_of(folder)))
-            begun = time.monotonic()
-            refused = list(router.add(lines))
-            added = time.monotonic() - begun
-            begun = time.monotonic()
-            command(folder, "ask", text=b"".join(line + b"\n" for line in queries))
-            asked = time.monotonic() - begun
-            times = []
-            for line in queries[:1000]:
-                begun = time.monotonic()
-                router.ask(line)
-                times.append(time.monotonic() - begun)
-            times.sort()
-            os.kill(machine.running(folder, "worker-earlybird-0"), signal.SIGKILL)
-            begun = time.monotonic()
-            command(folder, "up", str(parts), "--program", PROGRAM)
-            patient = Router(machine.connect("unix://" + machine.socket_of(folder)), patience=600)
-            patient.ask(b"?1 w1")
-            built = time.monotonic() - begun
-            print("%d partitions: %d documents a second (%d refused), %d queries a second, one query %.2f ms in the middle and %.2f at the 95th of 100, "
-                  "partition 0 built again in %.1f s" % (parts, count / added, len(refused), len(queries) / asked, 1000 * times[500], 1000 * times[950], built), flush=True)
-        finally:
-            command(folder, "down")
-            shutil.rmtree(folder, ignore_errors=True)
+    """All figures: medians of the rounds, in each of which all take their turn."""
+    count = int(sys.argv[1]) if len(sys.argv) > 1 else 300000
+    rounds = int(sys.argv[2]) if len(sys.argv) > 2 else 3
+    material = made(count)
+    found = {}
+    for _ in range(rounds):
+        found.setdefault("pipe", []).append(pipe(*material))
+        for parts in (1, 2, 3):
+            found.setdefault("%d partitions" % parts, []).append(cluster(parts, *material))
+    whole = statistics.median(each["messages"] for each in found["pipe"])
+    for who, rows in found.items():
+        middle = {name: statistics.median(each[name] for each in rows) for name in rows[0]}
+        print("%s: %d messages a second (%.2f of a pipe), %.2f us of processor time for one%s; %d queries a second of rarer words, %d of frequent ones%s" % (
+            who, middle["messages"], middle["messages"] / whole, middle["all_us"], ", %.2f outside the programs" % middle["glue_us"] if "glue_us" in middle else "",
+            middle["rare"], middle["frequent"],
+            "; %.1f and %.1f us outside the programs; one query %.2f ms in the middle, %.2f at the 99th of 100; partition 0 built again in %.1f s" % (
+                middle["rare_us"], middle["frequent_us"], middle["middle_ms"], middle["p99_ms"], middle["again_s"]) if "glue_us" in middle else ""))
+    print("load %.1f" % os.getloadavg()[0])
 
 
 if __name__ == "__main__":

@@ -1,7 +1,13 @@
-"""Earlybird on several machines: a log in Redis streams, one index program a partition, and a router that blends the answers.
+"""Earlybird on several machines: a log in Redis streams, index programs for each partition, and a router that blends the answers.
 
 What holds and by whose word is said in docs/CLUSTER.md.
 """
-from .router import Answer, Router
+__all__ = ["Answer", "LOST", "OtherInput", "Router", "Told"]
 
-__all__ = ["Answer", "Router"]
+
+def __getattr__(name):
+    """The names above, of the router: it needs Redis's module, and the words of the command don't."""
+    if name not in __all__:
+        raise AttributeError("module %r has no attribute %r" % (__name__, name))
+    from . import router
+    return getattr(router, name)

@@ -1,74 +1,30 @@
-"""The words of the command line, and what they do."""
-import argparse
+"""What the words of the command line do."""
+import asyncio
+import heapq
 import json
 import os
-import queue
+import select
 import signal
-import subprocess
 import sys
-import threading
 import time
+from collections import deque
 
-from . import machine, names
-from .router import LOST, WINDOW, Router
+from . import image, machine, names, status
+from .entries import documents_of, entry_key
+from .life import ask_all
+from .lines import blocks_of
+from .program import ProgramEnded, fault_of
+from .router import ENTRY, LOST, OtherInput, Router
+from .supervisor import supervise
+from .words import ROOT
+from .worker import Worker
 
-ROOT = os.path.dirname(os.path.dirname(os.path.dirname(os.path.abspath(__file__))))
+START = 30.0  # seconds in which workers have to show that they live
 
 
 def say(text):
     """A line on standard error."""
     print("earlybird-cluster: " + text, file=sys.stderr, flush=True)
-
-
-def default_folder():
-    """Where `up` keeps what it starts, unless told otherwise."""
-    state = os.environ.get("XDG_STATE_HOME") or os.path.expanduser("~/.local/state")
-    return os.path.join(state, "earlybird-cluster")
-
-
-def read_words():
-    """The command line."""
-    where = argparse.ArgumentParser(add_help=False, argument_default=argparse.SUPPRESS)
-    where.add_argument("--redis", metavar="URL",
-                       help="redis://, rediss:// or unix://; else the variable EARLYBIRD_REDIS (better, where it holds a password), else the Redis of --folder")
-    where.add_argument("--name", help="of the cluster; its keys in Redis begin with it (earlybird)")
-    where.add_argument("--folder", help="of what `up` starts on this machine (%s)" % default_folder())
-    where.add_argument("--patience", type=float, metavar="SECONDS", help="how long a partition that lives is waited for (5)")
-    top = argparse.ArgumentParser(prog="earlybird-cluster", description="Many indexes as one: partitions over a log in Redis.", parents=[where])
-    commands = top.add_subparsers(dest="command", required=True, metavar="COMMAND")
-
-    def command(name, says):
-        return commands.add_parser(name, help=says, description=says, parents=[where])
-
-    add = command("add", "document lines from standard input into the log; refused ones are printed")
-    add.add_argument("--no-wait", action="store_true", help="don't wait for the partitions to say what became of each line")
-    command("ask", "query lines from standard input; prints their answers in order")
-    command("status", "each partition, its worker and its log")
-
-    up = command("up", "start N workers on this machine, and Redis where no URL is given")
-    up.add_argument("parts", type=int, metavar="N")
-    up.add_argument("--fsync", choices=("everysec", "always"), default="everysec", help="when the log of a Redis that is started is on disk")
-    up.add_argument("--program", default=os.path.join(ROOT, "earlybird"), help="the index program (%(default)s)")
-    up.add_argument("--retain", type=int, metavar="DOCUMENTS", help="cut each log to this many documents, at least; with a feed to what it keeps")
-    up.epilog = "What stands after -- are the program's words: up 4 -- feed --keep 8; without them those of before, at first: run."
-    command("down", "end all that `up` started in the folder")
-
-    worker = command("worker", "serve one partition until it is ended")
-    worker.add_argument("--partition", type=int, required=True, metavar="P")
-    worker.add_argument("--program", default=os.path.join(ROOT, "earlybird"), help="the index program (%(default)s)")
-
-    grow = command("grow", "read the log of a cluster again, into one with another number of partitions")
-    grow.add_argument("--into", required=True, metavar="NAME", help="the name of the new cluster, which `up` has set up")
-    own, program = sys.argv[1:], []
-    if "--" in own:
-        place = own.index("--")
-        own, program = own[:place], own[place + 1:]
-    usual = {"redis": os.environ.get("EARLYBIRD_REDIS"), "name": "earlybird", "folder": default_folder(), "patience": 5.0}
-    words = argparse.Namespace(**{**usual, **vars(top.parse_args(own))})
-    if program and words.command != "up":
-        top.error("words of the program stand after `up N` alone")
-    words.words = program
-    return words
 
 
 def url_of(words):
@@ -91,141 +47,170 @@ def progress():
     return tell
 
 
-def read_input():
-    """A queue of the lines of standard input, without their LF; None at its end."""
-    lines = queue.Queue(maxsize=8192)
-
-    def read():
-        for line in sys.stdin.buffer:
-            lines.put(line.rstrip(b"\n"))
-        lines.put(None)
-
-    threading.Thread(target=read, daemon=True).start()
-    return lines
+def is_json(text):
+    """Whether a text is a JSON value, and so not cut off."""
+    try:
+        json.loads(text)
+    except (ValueError, RecursionError):
+        return False
+    return True
 
 
-def input_with_pauses():
-    """The lines of standard input, and None wherever none is there at the moment."""
-    lines = read_input()
+def input_blocks(most, cut=None):
+    """Standard input in blocks of whole lines, of at most `most` bytes where its lines aren't longer, each line with its LF; an
+    empty block wherever no more is there at the moment. What was printed is written out before more is waited for. A last line without
+    LF is a line, too; but with `cut` only where it is JSON, else that is called."""
+    pieces, held = [], 0
     while True:
-        try:
-            line = lines.get_nowait()
-        except queue.Empty:
-            yield None
-            line = lines.get()
-        if line is None:
-            return
-        yield line
+        if not select.select([0], [], [], 0)[0]:
+            yield b""
+        sys.stdout.buffer.flush()
+        more = os.read(0, 1 << 20)
+        if not more:
+            break
+        last = more.rfind(b"\n") + 1
+        if not last:
+            pieces.append(more)  # a long line
+            held += len(more)
+            if held > 4 * most:
+                pieces, held = [b"".join(pieces)[:most + 1]], most + 1  # it is refused for its length, whatever else it has
+            continue
+        pieces.append(more[:last])
+        yield from blocks_of(b"".join(pieces), most)
+        pieces, held = [more[last:]], len(more) - last
+    rest = b"".join(pieces)
+    if rest and cut and not is_json(rest):
+        cut()
+    elif rest:
+        yield from blocks_of(rest + b"\n", most)
+
+
+def print_told(tolds):
+    """Prints what became of lines that aren't simply accepted; gives how many are refused, and how many pending."""
+    counts = {b"refused": 0, b"pending": 0}
+    for told in tolds:
+        counts[told.what] += 1
+        sys.stdout.buffer.write(b"%d %b: %b\n" % told)
+    sys.stdout.buffer.flush()
+    return counts[b"refused"], counts[b"pending"]
 
 
 def do_add(words, redis):
     """`add`."""
     router = Router(redis, words.name, words.patience)
-    lines = input_with_pauses()
-    refused = 0
-    tell = progress()
+    tell, cut = progress(), []
+    again = "add the same input again with --client %s: nothing is added twice"
     try:
-        for number, why in router.add(lines, not words.no_wait, tell):
-            refused += 1
-            sys.stdout.buffer.write(b"%d refused: %s\n" % (number, why))
-            sys.stdout.buffer.flush()
+        refused, pending = print_told(router.add_blocks(input_blocks(ENTRY, words.client and (lambda: cut.append(True))), not words.no_wait, tell, words.client, words.first))
     except LOST as lost:
-        say("Redis: %s; all lines up to %d are accepted or refused, of those after it some may be in the log" % (lost, router.settled))
+        sys.stdout.buffer.flush()
+        say("Redis: %s; up to line %d all is accepted or refused; %s" % (lost, router.settled, again % router.adder.name))
         return 3
+    except OtherInput as other:
+        say(str(other))
+        return 2
+    except KeyboardInterrupt:
+        say("up to line %d all is accepted or refused; %s" % (router.settled, again % router.adder.name))
+        return 130
     finally:
         if tell:
             print("", file=sys.stderr)
-    return 1 if refused else 0
+    if cut:
+        say("the last line has no end and isn't JSON, so it isn't added: the input was cut off")
+    if router.adder.known:
+        say("%d lines were in the logs%s" % (router.adder.known, ", and of %d nobody knows any more which were refused" % router.adder.unknown
+                                            if router.adder.unknown else ""))
+    if pending:
+        say("%d lines are pending; to hear what became of them, %s" % (pending, again % router.adder.name))
+    return 1 if refused or pending or cut else 0
 
 
 def do_ask(words, redis):
-    """`ask`: up to WINDOW queries are under way, and answers come in the order of the lines."""
+    """`ask`: batches of queries are under way, and answers come in the order of the lines."""
     router = Router(redis, words.name, words.patience)
-    lines = read_input()
-    number, under_way, ended, refused = 0, [], False, False
-    while not ended or under_way:
-        while not ended and len(under_way) < WINDOW:
-            try:
-                line = lines.get(block=not under_way)
-            except queue.Empty:
-                break
-            if line is None:
-                ended = True
-                break
-            number += 1
-            if line == b"":
-                continue
-            if line.startswith(b"?"):
-                under_way.append((number, line, router.send(line), time.monotonic()))
-            else:
-                under_way.append((number, line, None, 0.0))
-        if not under_way:
-            continue
-        first, line, request, sent = under_way.pop(0)
-        if request is None:
-            text, missing = b"refused: bad line", []
-        else:
-            router.receive(request, sent)
-            text, missing = router.take(request, line)
+    numbers, refused, out = deque(), False, []
+
+    def lines():
+        number = 0
+        for block in input_blocks(ENTRY):
+            for line in block.split(b"\n")[:-1]:
+                number += 1
+                if line != b"":
+                    numbers.append(number)
+                    yield line
+            if not block:
+                yield None
+
+    for text, missing in router.ask_many(lines(), cut=True):
         if text is None:
             text = b"refused: no partition answered"
         elif missing and text.startswith(b"seen "):
             head, colon, rest = text.partition(b":")
             text = head + b" missing " + b",".join(b"%d" % each for each in missing) + colon + rest
         refused = refused or text.startswith(b"refused: ")
-        sys.stdout.buffer.write(b"%d %s\n" % (first, text))
-        if not under_way or lines.empty():
-            sys.stdout.buffer.flush()
+        out.append(b"%d %s\n" % (numbers.popleft(), text))
+        if len(out) >= 64 or not numbers:
+            sys.stdout.buffer.write(b"".join(out))
+            out.clear()
+            if not numbers:
+                sys.stdout.buffer.flush()
+    sys.stdout.buffer.write(b"".join(out))
     sys.stdout.buffer.flush()
     return 1 if refused else 0
 
 
 def do_status(words, redis):
     """`status`."""
-    parts, program, retain = names.read_config(redis, words.name)
-    print("cluster %s: %d partitions, earlybird %s%s" % (words.name, parts, " ".join(program), ", at least %d documents in each log" % retain if retain else ""))
-    dead = 0
-    for part in range(parts):
-        beat = redis.get(names.beat(words.name, part))
-        log = names.log(words.name, part)
-        entries, end = 0, "0-0"
-        if redis.exists(log):
-            found = redis.xinfo_stream(log)
-            entries, end = found["length"], found["last-generated-id"].decode()
-        if beat is None:
-            dead += 1
-            print("partition %d: no worker; %d entries in its log" % (part, entries))
-        else:
-            says = json.loads(beat)
-            print("partition %d: worker %d on %s, %d documents, %s; %d entries in its log"
-                  % (part, says["pid"], says["host"], says["documents"], "all read" if says["last"] == end else "reading on", entries))
-    return 1 if dead else 0
+    found = status.gather(redis, words.name)
+    if words.json:
+        print(json.dumps(found))
+    else:
+        sys.stdout.write(status.prometheus(found) if words.prometheus else status.table(found))
+    return 0 if status.whole(found) else 1
+
+
+def start_workers(words, redis, workers, replicas):
+    """Has a supervisor run these workers, and waits until they live. Gives those that don't."""
+    before = machine.read_wanted(words.folder, words.name) or {}
+    machine.write_wanted(words.folder, words.name, {
+        "fsync": before.get("fsync") if words.redis else getattr(words, "fsync", before.get("fsync")), "program": words.program,
+        "images": getattr(words, "images", None) or before.get("images"), "workers": workers})
+    machine.stop_others(words.folder, words.name, [machine.worker_of(words.name, *each) for each in workers])
+    machine.start_supervisor(words.folder, url_of(words), words.name)
+    config = names.read_config(redis, words.name)
+    config = config._replace(parts=len(config.tags), replicas=replicas)
+    until = time.monotonic() + START
+    while True:
+        said = ask_all(redis, config)
+        dead = [each for each in workers if not any(said.get(tuple(each)) or [])]
+        if not dead or time.monotonic() > until:
+            return dead
+        time.sleep(0.05)
 
 
 def do_up(words):
     """`up`."""
-    if words.parts < 1:
-        say("a cluster has 1 partition or more")
-        return 2
     os.makedirs(words.folder, mode=0o700, exist_ok=True)
     if not words.redis:
-        machine.start_redis(words.folder, words.fsync)
+        machine.await_redis(words.folder, machine.start_redis(words.folder, words.fsync))
     redis = machine.connect(url_of(words))
-    program = words.words or names.words_of(redis, words.name)
-    # once without input: it is built where it isn't, and its words are tried before workers start with them
-    tried = subprocess.run([words.program, *program], stdin=subprocess.DEVNULL, stdout=subprocess.DEVNULL, check=False)
-    if tried.returncode != 0:
-        say("'%s %s' ends with %d on no input, so no worker is started" % (words.program, " ".join(program), tried.returncode))
+    old = machine.older_redis(redis)
+    if old:
+        say("this Redis is version %s; 7 or later is needed" % old)
         return 2
-    names.write_config(redis, words.name, words.parts, program, words.retain)
-    started = [part for part in range(words.parts) if machine.start_worker(words.folder, url_of(words), words.name, part, words.program)]
-    router = Router(redis, words.name)
-    for _ in range(100):
-        if len(router.alive()) == words.parts:
-            break
-        time.sleep(0.1)
-    say("%d of %d workers started, %d alive; in %s" % (len(started), words.parts, len(router.alive()), words.folder))
-    return 0 if len(router.alive()) == words.parts else 1
+    program = words.words or names.words_of(redis, words.name)
+    # it is built where it isn't, and its words are tried before workers start with them
+    fault = fault_of([words.program, *program])
+    if fault:
+        say("'%s %s' %s, so no worker is started" % (words.program, " ".join(program), fault))
+        return 2
+    names.write_config(redis, words.name, words.parts, program, words.retain, words.replicas, words.safe)
+    config = names.read_config(redis, words.name)
+    workers = [[part, replica] for part in range(config.parts) for replica in range(config.replicas)]
+    before = [each for each in workers if machine.running(words.folder, machine.worker_of(words.name, *each)) is None]
+    dead = start_workers(words, redis, workers, config.replicas)
+    say("%d of %d workers started, %d alive; in %s" % (len(before), len(workers), len(workers) - len(dead), words.folder))
+    return 1 if dead else 0
 
 
 def do_down(words):
@@ -235,63 +220,123 @@ def do_down(words):
     return 0
 
 
+def do_serve(words):
+    """`serve`."""
+    sys.path.append(os.path.join(ROOT, "web"))
+    from earlybird_web.guard import Guard, read_guarded
+
+    from .service import serve
+
+    try:
+        host, port, token = read_guarded(words.listen, words.token_file)
+    except ValueError as fault:
+        say(str(fault))
+        return 2
+    try:
+        asyncio.run(serve(url_of(words), words.name, words.patience, host, port, Guard(token, "this service")))
+    except OSError as fault:
+        say(str(fault))
+        return 1
+    return 0
+
+
 def do_worker(words, redis):
     """`worker`."""
-    from .worker import Worker, ProgramEnded
-
     signal.signal(signal.SIGTERM, lambda number, frame: sys.exit(0))
-    worker = Worker(redis, words.name, words.partition, words.program)
+    worker = None
+    while worker is None:
+        try:
+            worker = Worker(redis, words.name, words.partition, words.program, words.replica, words.images)
+        except LOST as lost:
+            say("partition %d: Redis: %s" % (words.partition, lost))
+            time.sleep(1.0)
     try:
         worker.serve()
     except ProgramEnded as ended:
-        say("partition %d: the index program ended, with %s" % (words.partition, ended))
+        worker.tell("the index program: %s" % ended)
         return 1
     finally:
         if worker.program is not None:
             worker.program.close()
 
 
+def do_image(words, redis):
+    """`image`."""
+    try:
+        made = image.make(redis, words.name, words.partition, words.program, words.images)
+        print("%s: up to entry %s" % (made.path, made.last.decode()))
+        if words.cut:
+            print("partition %d: the log begins at entry %s now, %d were removed" % (
+                words.partition, *(each.decode() if isinstance(each, bytes) else each for each in image.cut(redis, words.name, words.partition))))
+    except (image.NoImage, OSError) as fault:
+        say(str(fault))
+        return 1
+    return 0
+
+
+def grow_to(words, redis):
+    """`grow --to`: the workers of the new partitions start, then queries ask them, then documents go to them."""
+    found = names.begin_growth(redis, words.name, words.to)
+    fresh = [[part, replica] for part in range(found.parts, words.to) for replica in range(found.replicas)]
+    before = machine.read_wanted(words.folder, words.name)
+    dead = start_workers(words, redis, (before["workers"] if before else []) + [each for each in fresh if not before or each not in before["workers"]], found.replicas)
+    if any(each in dead for each in fresh):
+        say("the workers of the new partitions don't live; nothing was changed")
+        return 1
+    names.end_growth(redis, words.name, words.to, words.seal)
+    say("%d partitions" % words.to)
+    return 0
+
+
 def do_grow(words, redis):
-    """`grow`: the documents of all logs, in the order of their arrival."""
-    parts, _, _ = names.read_config(redis, words.name)
+    """`grow`: the documents of all logs, in the order of their arrival, into another cluster, each once however often it is called."""
+    if words.to:
+        return grow_to(words, redis)
+    found = names.read_config(redis, words.name)
     router = Router(redis, words.into, words.patience)
 
     def entries(part):
         last = "-"
         while True:
-            found = redis.xrange(names.log(words.name, part), last, "+", count=1000)
-            for entry, fields in found:
-                if b"d" in fields:
-                    yield int(fields[b"n"]), fields[b"d"]
-            if not found:
+            there = redis.xrange(names.log(found.tags[part]), last, "+", count=16)
+            for entry, fields in there:
+                text = documents_of([word for field in fields.items() for word in field])
+                if text:
+                    yield entry_key(entry), text[0]
+            if not there:
                 return
-            last = "(" + found[-1][0].decode()
+            last = "(" + there[-1][0].decode()
 
-    import heapq
-
-    refused = 0
-    merged = (line for _, line in heapq.merge(*[entries(part) for part in range(parts)]))
-    for number, why in router.add(merged, True, progress()):
-        refused += 1
-        sys.stdout.buffer.write(b"%d refused: %s\n" % (number, why))
-    return 1 if refused else 0
+    merged = (text for _, text in heapq.merge(*[entries(part) for part in range(found.parts)]))
+    refused, pending = print_told(router.add_blocks(merged, True, progress(), "from-" + words.name))
+    return 1 if refused or pending else 0
 
 
-def main():
-    """Runs the command; the result is its exit status: 0, 1 where a line is refused or a worker is missing, 2 usage, 3 Redis."""
-    words = read_words()
+def main(words):
+    """Runs the command that these words ask for; the result is its exit status: 0, 1 where a line is refused or pending or a worker is missing, 2 usage,
+    3 Redis, 4 where the output can't be written."""
     try:
         if words.command == "up":
             return do_up(words)
         if words.command == "down":
             return do_down(words)
+        if words.command == "supervise":
+            return supervise(words.folder, url_of(words), words.name)
+        if words.command == "serve":
+            return do_serve(words)
         redis = machine.connect(url_of(words))
-        return {"add": do_add, "ask": do_ask, "status": do_status, "worker": do_worker, "grow": do_grow}[words.command](words, redis)
+        return {"add": do_add, "ask": do_ask, "status": do_status, "worker": do_worker, "image": do_image, "grow": do_grow}[words.command](words, redis)
     except names.NotSetUp as fault:
         say(str(fault))
         return 2
+    except FileNotFoundError as fault:
+        say("%s: %s" % (fault.filename, fault.strerror))
+        return 2
     except LOST as lost:
-        say("Redis: %s" % lost)
+        if not words.redis and not os.path.exists(machine.socket_of(words.folder)):
+            say("no cluster runs in %s: 'earlybird-cluster up N' starts one" % words.folder)
+        else:
+            say("Redis: %s" % lost)
         return 3
     except BrokenPipeError:
         return 4
