@@ -10,7 +10,7 @@ import subprocess
 import time
 
 ELEMENT = "element-6066-11e4-a52e-4f735466cecf"
-KEYS = {"enter": "\ue007", "escape": "\ue00c"}
+KEYS = {"enter": "\ue007", "escape": "\ue00c", "shift": "\ue008", "left": "\ue012", "right": "\ue014"}
 
 
 def is_here():
@@ -76,10 +76,18 @@ class Browser:
         self._do("POST", "/element/%s/clear" % element, {})
         self._do("POST", "/element/%s/value" % element, {"text": text + KEYS.get(key, "")})
 
-    def press(self, text):
-        """Presses keys, wherever the focus is."""
+    def press(self, text, beside=""):
+        """Presses keys, one after the other, wherever the focus is, with another one held down beside them."""
         actions = [{"type": kind, "value": each} for each in text for kind in ("keyDown", "keyUp")]
+        if beside:
+            actions = [{"type": "keyDown", "value": beside}, *actions, {"type": "keyUp", "value": beside}]
         self._do("POST", "/actions", {"actions": [{"type": "key", "id": "keys", "actions": actions}]})
+
+    def drag(self, left, top, right, bottom):
+        """Drags the pointer from one place of the window to another."""
+        moves = [{"type": "pointerMove", "x": int(left), "y": int(top)}, {"type": "pointerDown", "button": 0},
+                 {"type": "pointerMove", "x": int((left + right) / 2), "y": int(bottom)}, {"type": "pointerMove", "x": int(right), "y": int(bottom)}, {"type": "pointerUp", "button": 0}]
+        self._do("POST", "/actions", {"actions": [{"type": "pointer", "id": "mouse", "parameters": {"pointerType": "mouse"}, "actions": moves}]})
 
     def click(self, selector):
         """Clicks."""

@@ -11,25 +11,24 @@ import sys
 import time
 import urllib.parse
 
+# a console with limits of a check's own, given as words NAME=NUMBER before its own words
+LIMITED = """
+import sys
+sys.path.insert(0, sys.argv.pop(1))
+import earlybird_console.limits, earlybird_web.limits
+both = earlybird_console.limits, earlybird_web.limits
+for word in sys.argv.pop(1).split():
+    name, _, value = word.partition("=")
+    where, = (each for each in both if hasattr(each, name))
+    setattr(where, name, int(value))
+from earlybird_console.command import main
+sys.exit(main())
+"""
 HERE = os.path.dirname(os.path.dirname(os.path.abspath(__file__)))
 PROGRAM = os.environ.get("EARLYBIRD_PROGRAM", os.path.join(os.path.dirname(HERE), "earlybird"))
 COMMAND = [sys.executable, "-B", os.path.join(HERE, "earlybird-console")]
 # the first start may have to build the program, which a machine that checks has done before
 STARTS = 60
-
-
-def run_alone(words, lines):
-    """What the index program alone prints for these lines, by their numbers, and its summary."""
-    done = subprocess.run([PROGRAM, *words], input=b"".join(line + b"\n" for line in lines), stdout=subprocess.PIPE, check=False)
-    *printed, summary = done.stdout.decode().splitlines()
-    return dict((int(line.split(" ", 1)[0]), line.split(" ", 1)[1]) for line in printed), summary
-
-
-def ids_alone(messages, queries, most, words=("run",)):
-    """The ids that each query finds after the messages, by the index program alone."""
-    printed, _ = run_alone(words, [*messages, *(("?%d %s" % (most, query)).encode() for query in queries)])
-    answers = [printed[len(messages) + place + 1] for place in range(len(queries))]
-    return [[int(each) for each in answer.partition(":")[2].split()] if answer.startswith("seen") else answer for answer in answers]
 
 
 def children(pid):
@@ -53,17 +52,29 @@ def complaints(folder):
     return found
 
 
+def refuse(name):
+    """What JSON doesn't have, and Python's has."""
+    raise ValueError(name)
+
+
+def memory(pid):
+    """The memory that a process has had at most, in MiB."""
+    with open("/proc/%d/status" % pid, encoding="ascii") as file:
+        return next(int(line.split()[1]) for line in file if line.startswith("VmHWM")) // 1024
+
+
 class Machine:
-    """One console. All that run are in `running`."""
+    """One console. All that run are in `running`. `limited` are limits of its own, as NAME=NUMBER with blanks between."""
 
     running = []
 
-    def __init__(self, folder, *words, name="console", text=b""):
+    def __init__(self, folder, *words, name="console", text=b"", limited=None, program=PROGRAM, environment=None):
         self._log = open(os.path.join(folder, name + ".log"), "ab+")
         self._log.seek(0, os.SEEK_END)
         begin = self._log.tell()
-        self.process = subprocess.Popen([*COMMAND, "--program", PROGRAM, "--listen", "127.0.0.1:0", *words],
-                                        stdin=subprocess.PIPE, stderr=self._log, cwd=folder)
+        command = [sys.executable, "-B", "-c", LIMITED, HERE, limited] if limited else COMMAND
+        self.process = subprocess.Popen([*command, "--program", program, "--listen", "127.0.0.1:0", *words],
+                                        stdin=subprocess.PIPE, stderr=self._log, cwd=folder, env=environment)
         self.running.append(self)
         self._input(text)
         self.port = None
@@ -101,19 +112,28 @@ class Machine:
         status, data = self.ask(method, path, body, **headers)
         return status, json.loads(data)
 
-    def post(self, lines):
+    def post(self, lines, source="a request"):
         """Posts lines, and gives the answer's value."""
-        return self.value("POST", "/messages", b"\n".join(lines))[1]
+        return self.value("POST", "/messages?" + urllib.parse.urlencode({"source": source}), b"\n".join(lines))[1]
 
-    def search(self, query, most=50):
-        """The messages that a query finds, or the refusal."""
-        told = self.value("GET", "/search?" + urllib.parse.urlencode({"q": query, "k": most}))[1]
-        return [each["message"] for each in told["matches"]] if "matches" in told else told
+    def get(self, path, **query):
+        """What a path answers: its value, strictly read."""
+        _, data = self.ask("GET", path + "?" + urllib.parse.urlencode(query))
+        return json.loads(data, parse_constant=refuse)
 
-    def ids(self, query, most=50):
-        """The ids that a query finds, or the refusal."""
-        found = self.search(query, most)
-        return [each["id"] for each in found] if isinstance(found, list) else found
+    def search(self, query, most=50, **more):
+        """The matches of a query, or the refusal."""
+        told = self.get("/search", q=query, k=most, **more)
+        return told.get("matches", told)
+
+    def lines(self, query, most=50, **more):
+        """The messages that a query finds as they came, or the refusal."""
+        found = self.search(query, most, **more)
+        return [each["message"] for each in found] if isinstance(found, list) else found
+
+    def texts(self, query, most=50, **more):
+        """Their texts as the page shows them."""
+        return [each["text"][:each["main"]] for each in self.search(query, most, **{"for": "page", **more})]
 
     def figures(self):
         """The figures."""
@@ -168,7 +188,7 @@ class Events:
         """The next message."""
         for line in self._file:
             if line.startswith(b"data: "):
-                return json.loads(line[6:])["message"]
+                return json.loads(line[6:], parse_constant=refuse)["message"]
         return None
 
     def close(self):

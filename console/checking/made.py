@@ -1,56 +1,45 @@
-"""Made messages and queries, the same at each run, and messages that mean harm."""
+"""Made messages and queries, the same at each run, what they have to find, and messages that mean harm."""
+import datetime
 import json
 
 CITIES = ["Vienna", "Berlin", "Zürich", "Straßburg", "Łódź", "København", "Αθήνα", "Київ", "東京", "서울"]
-LINES = [
-    "The {hour} train to {city} is late, again: {minutes} minutes",
-    "Night train to {city} leaves at {hour} from platform {minutes}",
-    "Sunset over {city} tonight, can't believe it's March",
-    "Rain in {city}, rain again; the trams stand still",
-    "release v{minutes}.2.3 fails with ERR_TIMEOUT on example.org, retry in {minutes} ms",
-    "{city}: the e-mail about the market at {hour} o'clock",
-    "Who is at the station in {city}? The last tram is gone",
-    "{word} {word} {word} in {city}",
+WORDS = ["rain", "berlin", "late", "train", "gate", "sun", "night"]
+LEVELS = ["info", "error", "debug"]
+# 2026-11-01 00:00 UTC, and the milliseconds of a day
+BASE, DAY = 1793491200000, 86_400_000
+
+
+class Made:
+    """A message: its time, its number among all, its words, level and city, and its line."""
+
+    def __init__(self, number, count, chance):
+        self.number = number
+        # a third of them at any time, a third falling, a third rising
+        self.at = BASE + (chance.randrange(DAY), (count - number) * DAY // count, number * DAY // count)[number % 3]
+        self.words = [chance.choice(WORDS) for _ in range(4)]
+        self.level = chance.choice(LEVELS)
+        self.city = chance.choice(CITIES)
+        said = datetime.datetime.fromtimestamp(self.at / 1000, datetime.timezone.utc).strftime("%Y-%m-%dT%H:%M:%S.") + "%03dZ" % (self.at % 1000)
+        text = "%s n%d" % (" ".join(self.words), number)
+        if number % 2:
+            self.line = json.dumps({"time": said, "msg": text, "level": self.level, "city": self.city, "n": number}, ensure_ascii=False).encode()
+        else:
+            self.line = ("%s [%s] %s city=%s n=%d" % (said, self.level, text, self.city, number)).encode()
+
+
+def in_a_row(message):
+    """Whether rain stands before berlin."""
+    return ("rain", "berlin") in zip(message.words, message.words[1:])
+
+
+# queries, and what they ask of a message
+ASKED = [
+    ("", lambda each: True), ("rain", lambda each: "rain" in each.words), ("rain -late", lambda each: "rain" in each.words and "late" not in each.words),
+    ("level:error", lambda each: each.level == "error"), ("city:vienna -level:info", lambda each: each.city == "Vienna" and each.level != "info"),
+    ("(rain OR sun) level:INFO", lambda each: {"rain", "sun"} & set(each.words) and each.level == "info"), ('"rain berlin"', in_a_row),
+    ("-level:error -rain", lambda each: each.level != "error" and "rain" not in each.words), ("n:17", lambda each: each.number == 17), ("n17", lambda each: each.number == 17),
+    ("source:other.log", lambda each: each.number % 5 == 0), ("nothing_of.this:kind", lambda each: False),
 ]
-WORDS = ["alpha%d" % number for number in range(300)]
-ASKED = ["train", "rain", "late", "tram", "SUNSET", "can't", "strassburg", "ERR_TIMEOUT", "київ", "東", "v7.2.3"]
-USERS = ["mara", "jon", "lena", "tom", "noor"]
-
-
-def make_messages(count, first, rng, cities=tuple(CITIES)):
-    """Message lines, their ids rising."""
-    lines, number = [], first
-    for _ in range(count):
-        number += rng.randint(1, 3)
-        text = rng.choice(LINES)
-        while "{word}" in text:
-            text = text.replace("{word}", rng.choice(WORDS), 1)
-        text = text.format(city=rng.choice(cities), hour=rng.randint(0, 23), minutes=rng.randint(1, 59))
-        lines.append(json.dumps({"id": number, "user": rng.choice(USERS), "text": text}, ensure_ascii=False).encode())
-    return lines, number
-
-
-def make_queries(count, rng):
-    """Queries of each kind."""
-    def word():
-        return rng.choice([*ASKED, rng.choice(WORDS)])
-
-    forms = [
-        lambda: word(),
-        lambda: "%s %s" % (word(), word()),
-        lambda: "%s OR %s" % (word(), word()),
-        lambda: "%s -%s" % (word(), word()),
-        lambda: '"rain again"',
-        lambda: '"the train"~%d' % rng.randint(1, 6),
-        lambda: "(%s OR %s) %s" % (word(), word(), word()),
-        lambda: "-train -rain",
-        lambda: "since:%d %s" % (rng.randint(1, 40000), word()),
-        lambda: "%s -since:%d" % (word(), rng.randint(1, 40000)),
-        lambda: "--%s" % word(),
-        lambda: '%s -("late, again" OR %s)' % (word(), word()),
-        lambda: "e-mail",
-    ]
-    return [forms[place % len(forms)]() for place in range(count)]
 
 
 MARKUP = [
@@ -66,39 +55,15 @@ SCRIPTS = [
 ]
 
 
-def make_harmful(first):
-    """Lines that mean harm, and some that are only strange: those that are taken, and those that are refused, among each other."""
-    lines, number = [], first
-
-    def message(text, **more):
-        nonlocal number
-        number += 1
-        lines.append(json.dumps({"id": number, "text": text, **more}, ensure_ascii=number % 2 == 0).encode())
-
-    for text in MARKUP:
-        message(text, user="<b>mara</b>", **{"<i>name</i>": text, "__proto__": {"harm": 1}, "constructor": [1, 2]})
-    for text in SCRIPTS:
-        message(text)
-    message("deep", nested=json.loads("[" * 100 + "]" * 100), big=12345678901234567890, small=1e-300)
-    empty = b'{"id":%d,"text":"","pad":""}' % (number + 1)
-    for length in (65535, 65536, 65537, 70000):
-        number += 1
-        lines.append(b'{"id":%d,"text":"","pad":"%s"}' % (number, b"x" * (length - len(empty))))
-    number += 1
-    lines.append(b'{"id":%d,"text":"%s"}' % (number, b"<" * 60000))
-    lines += [
-        # taken
-        b'{"id":%d,"text":"the greatest id"}' % (2 ** 64 - 1), b'{"id":0,"text":"the least id"}', b'{"id":7,"text":"one id"}',
-        b'{"id":7,"text":"one id, twice"}', b'{"text":"twice","id":1,"id":8}', b'{"id":9,"text":"with a CR"}\r', b'{"id":10,\r"text":"a CR between"}',
-        b'{"id":15,"text":"%s"}' % (b"a " * 1024),
-        # blank
-        b"\r",
-        # refused
-        b'{"id":%d,"text":"an id too great"}' % 2 ** 64, b'{"id":11,"text":"', b'{"id":12,"text":"\xff"}', b'{"id":13,"text":"\\ud800"}', b"{", b"}", b"[1]",
-        b'"text"', b"nothing", b'{"id":-1,"text":"a"}', b'{"id":1.0,"text":"a"}', b'{"id":"1","text":"a"}', b'{"id":1,"text":null}', b'{"id":1}',
-        b' {"id":1,"text":"a"}', b'{"id":1,"text":"a"} x', b'\xef\xbb\xbf{"id":1,"text":"a"}', b'{"id":14,"text":"%s"}' % (b"a " * 1025),
-        b'{"id":16,"text":"a\x00b"}', b'{"id":17,"text":NaN}', b'{"id":18,"text":"a","x":1e999}', b"\x00",
-        # taken after them
-        b'{"id":19,"text":"the last of them"}',
+def make_harmful():
+    """Lines that mean harm, and some that are only strange; all of them are messages. What the page shows of each."""
+    lines, texts = [], []
+    for text in (*MARKUP, *SCRIPTS):
+        lines.append(json.dumps({"text": text, "user": "<b>mara</b>", "<i>name</i>": text, "__proto__": {"harm": 1}, "constructor": [1, 2]}, ensure_ascii=False).encode())
+        texts.append(text)
+    strange = [
+        b'{"id":1,"text":"', b'{"text":"\xff"}', b'{"text":"\\ud800 harm"}', b"{", b"}", b"[1]", b'"text"', b'{"text":null}', b"{}", b'{"text":"a"} x', b"\xef\xbb\xbf{}", b"\x00", b"?5 train",
+        b"!5 train", b"#0 train", b'{"a":NaN,"text":"harm"}', b'{"n":' + b"9" * 5000 + b"}", b'{"a":' * 3000, b"[" * 60000, b"<" * 65536, b"a " * 30000, b"harm\r", b'{"text":"harm",\r"a":1}',
+        b'{"text":"harm","time":{"a":1},"level":[1]}', b"9" * 300, b'{"time":-1e308,"msg":"harm"}', b'{"time":1e999,"msg":"harm"}', "\u0130\u0130 harm".encode(), b"=1+1 harm",
     ]
-    return lines
+    return lines + strange, texts

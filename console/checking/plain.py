@@ -1,107 +1,58 @@
-"""Checks without a process: words, marks, lines, figures."""
-from earlybird_console.fields import names_of, values_of
+"""Checks without a process: lines, figures, texts, times, queries, documents, names. Words and marks are checked by logs/check."""
+import json
+import os
+import random
+import sqlite3
+
+from earlybird_console import limits
+from earlybird_console.alerts import Watch
+from earlybird_console.answers import axis
+from earlybird_console.documents import LOW, SLOTS, SPAN, document, first_key, key_of, number_of, shorter, slot_of, time_of
 from earlybird_console.figures import Seconds, nearest
-from earlybird_console.lines import LONG, LONGEST, Splitter, read_printed, refusal_here, refused_query
-from earlybird_console.query import marks, read
-from earlybird_console.texts import Texts
-from earlybird_console.words import words
+from earlybird_console.keys import Keys
+from earlybird_console.lines import LONGEST, Splitter, read_printed, refused_at
+from earlybird_console.names import DIFFERENT, LOOKED_AT, MOST, Names
+from earlybird_console.queries import ALL, Asked, Refused
+from earlybird_console.ranges import of_word
+from earlybird_console.shown import as_csv, shown_line
+from earlybird_console.texts import BEFORE, Texts, TextsFault
+from earlybird_logs import message
 
 from .compare import check
 
-# by the rules of UAX #29, and what docs/QUERIES.md says of its table
-CUT = [
-    ("Rain in BERLIN, rain again", ["rain", "in", "berlin", "rain", "again"]),
-    ("can't believe it's March", ["can't", "believe", "it's", "march"]),
-    ("release v1.2.3 fails with ERR_TIMEOUT on example.org", ["release", "v1.2.3", "fails", "with", "err_timeout", "on", "example.org"]),
-    ("the e-mail, user:tom lang=de", ["the", "e", "mail", "user:tom", "lang", "de"]),
-    ("Straße #spring @lena 3,5 1.2.3 a.1", ["strasse", "spring", "lena", "3,5", "1.2.3", "a", "1"]),
-    ("צה\"ל ג'ירפה", ["צה\"ל", "ג'ירפה"]),
-    ("東京タワー ひと", ["東", "京", "タワー", "ひ", "と"]),
-    ("한국어 2\u00b2", ["한국어", "2", "\u00b2"]),
-    ("a\u0301b \u0301c", ["a\u0301b", "c"]),
-    ("हिन्दी में", ["हिन्दी", "में"]),
-    ("x\u00ady 'quoted' .5 don''t", ["x\u00ady", "quoted", "5", "don", "t"]),
-    ("🌅 -- !", []),
-]
-# the table of docs/QUERIES.md
-MESSAGES = ["Rain in BERLIN, rain again", "Sunset over the Straße tonight", "can't believe it's March",
-            "release v1.2.3 fails with ERR_TIMEOUT on example.org", "the e-mail about the sunset in Berlin"]
-FOUND = [
-    ("rain", [1]), ("STRASSE", [2]), ('"the sunset"', [5]), ('"sunset the"', []), ('"rain rain"~3', [1]), ('"rain rain"~2', []),
-    ('"over tonight"~3', [2]), ('"tonight over"~9', []), ('"rain"~1', [1]), ("since:3", [5, 4]), ("sunset since:2", [5]), ("sunset -since:2", [2]),
-    ("sunset berlin", [5]), ("rain OR sunset", [5, 2, 1]), ("sunset -berlin", [2]), ("-berlin", [4, 3, 2]), ("(rain OR sunset) berlin", [5, 1]),
-    ("rain OR sunset tonight", [2, 1]), ("--rain", [1]), ("can't", [3]), ('"OR"', []), ("e-mail", [5]), ("timeout", []), ("example", []),
-]
-MARKED = [
-    ("rain", 1, ["Rain", "rain"]), ("rain OR sunset", 5, ["sunset"]), ('"the sunset"', 5, ["the", "sunset"]), ("sunset -march", 2, ["Sunset"]),
-    ("-berlin", 2, []), ("--rain berlin", 1, ["Rain", "BERLIN", "rain"]), ('"over tonight"~3', 2, ["over", "tonight"]), ("strasse", 2, ["Straße"]),
-    ("rain OR (sunset -berlin)", 1, ["Rain", "rain"]), ("e-mail", 5, ["e", "mail"]),
-]
-
-
-def check_words():
-    """Words, what meets a query, and what is marked."""
-    for text, want in CUT:
-        found = words(text)
-        check("words of %r" % text, want, [word for _, _, word in found])
-        check("where they stand in %r" % text, want, [text[begin:end].casefold() for begin, end, _ in found])
-    for query, want in FOUND:
-        met = [number for number, text in enumerate(MESSAGES, 1) if marks(read(query), text, number, {}) is not None]
-        check("what meets %r" % query, want, met[::-1])
-    for query, number, want in MARKED:
-        text = MESSAGES[number - 1]
-        check("what is marked for %r" % query, want, [text[begin:end] for begin, end in marks(read(query), text, number, {})])
-
-
-# what a message with some members meets, where `from` and `room` are fields
-MEMBERS = {"from": "Mara", "room": ["North Gate", 7, True], "to": "jon"}
-BY_FIELDS = [
-    ("from:mara", []), ("from:MARA late", ["late"]), ("from:jon", None), ("-from:jon", []), ('room:"north gate"', []), ("room:north", None),
-    ("room:7 room:true", []), ("from:", None), ('from:""', None), ("from:jon OR late", ["late"]), ("to:jon", None), ('late room:"north gate"~2', None),
-    ("(from:mara -late)", None),
-]
-VALUES = [("Straße", ["strasse"]), (7, ["7"]), (-7, ["-7"]), (2 ** 64, []), (1.0, []), (False, ["false"]), (None, []), ([], []), (["a", None], []),
-          (["a"] * 16, ["a"] * 16), (["a"] * 17, []), ({}, [])]
-
-
-def check_fields():
-    """What is asked of members."""
-    for words_of, want in [([], ()), (["feed", "--fields", "a,b"], ("a", "b")), (["run", "--docs", "5", "--fields=a"], ("a",)), (["feed", "--fields"], ("",))]:
-        check("the names in %r" % words_of, want, names_of(words_of))
-    for value, want in VALUES:
-        check("the values of %r" % (value,), want, values_of(value))
-    text = "too late"
-    for query, want in BY_FIELDS:
-        found = marks(read(query, ("from", "room")), text, 1, MEMBERS)
-        check("what meets %r" % query, want, None if found is None else [text[begin:end] for begin, end in found])
+# 2026-11-30 12:00 UTC
+NOW = 1796040000000
 
 
 def check_lines():
     """Lines in pieces, lines out, columns."""
     splitter = Splitter()
-    check("lines of pieces", [[], [b"ab"], [b"", b"c\r"], []], [splitter.take(piece) for piece in (b"a", b"b\n", b"\nc\r\nd", b"")])
-    check("the line without an end", [b"d"], splitter.last())
+    check("lines of pieces", [[], [b"ab"], [b"", b"c"], []], [splitter.take(piece) for piece in (b"a", b"b\n", b"\nc\r\nd", b"")])
+    check("the line without an end", ([b"d"], 1), (splitter.last(), splitter.behind))
     splitter = Splitter()
-    check("a long line", [[], [], [LONG, b"x"]], [splitter.take(piece) for piece in (b"a" * (LONGEST + 1), b"b" * 9, b"c\nx\n")])
-    check("a long line at the end", ([], [LONG]), (splitter.take(b"a" * (LONGEST + 1)), splitter.last()))
+    long = b"a" * LONGEST
+    check("a long line is cut", [[], [], [long, b"x"]], [splitter.take(piece) for piece in (b"a" * (LONGEST + 1), b"b" * 9, b"c\nx\n")])
+    check("a long line at the end", ([], [long]), (splitter.take(b"a" * (LONGEST + 1)), splitter.last()))
     check("nothing at the end", [], Splitter().last())
-    cases = [(b"{", None), (b"", ""), (b"\r", ""), (b" {", "bad line"), (b"?5 a", "bad line"), (b"!5 a", "bad line"), (b"{" * LONGEST, None),
-             (b"{" * (LONGEST + 1), "long line"), (b"{" * (LONGEST - 1) + b"\r\r", "long line")]
-    check("what isn't handed on", [want for _, want in cases], [refusal_here(line) for line, _ in cases])
+    chance, lines = random.Random(3), [b"x" * length for length in (0, 1, 70000, 3, 65536, 65537, 2)]
+    data, splitter, got = b"\n".join(lines) + b"\n", Splitter(), []
+    while data:
+        size = chance.randrange(1, 40000)
+        got, data = got + splitter.take(data[:size]), data[size:]
+    check("lines of any pieces", [line[:LONGEST] for line in lines], got)
     check("an answer", (3, "seen", (2, [102, 101])), read_printed(b"3 seen 2: 102 101"))
     check("an answer of nothing", (4, "seen", (4, [])), read_printed(b"4 seen 4:"))
     check("watches", (12, "watch", [3, 7]), read_printed(b"12 watch: 3 7"))
     check("a refusal", (8, "refused", "not rising after 9"), read_printed(b"8 refused: not rising after 9"))
     check("the summary", None, read_printed(b"end: documents 1, queries 0, refused 0, kept 1"))
-    check("a column", ("bad query", 7), refused_query("bad query at 12", 3, "é (tré"))
-    check("a column within", ("bad query", 3), refused_query("bad query at 7", 3, "é ( é"))
-    check("no column", ("query too deep", None), refused_query("query too deep", 3, "a"))
+    check("a place", ("bad query", 8), refused_at("bad query at 12", 3))
+    check("no place", ("query too deep", None), refused_at("query too deep", 3))
 
 
 def check_figures():
-    """Counts by the second, and times."""
+    """Counts by the second, and times; thresholds of watches."""
     cases = [([], 50, None), ([1], 99, 1), ([3, 2, 1], 50, 2), ([3, 2, 1], 99, 3), (range(1, 101), 50, 50), (range(1, 101), 99, 99)]
-    check("so many of 100", [want for _, _, want in cases], [nearest(times, part) for times, part, _ in cases])
+    check("parts of 100", [want for _, _, want in cases], [nearest(times, part) for times, part, _ in cases])
     now = [10.0]
     seconds = Seconds(lambda: now[0])
     seconds.add(3)
@@ -113,26 +64,191 @@ def check_figures():
     now[0] = 500
     check("counts that are over", [0] * 60, seconds.counts())
 
+    class Came:
+        """A message that came at a second."""
+        def __init__(self, second):
+            self.at = second * 1000
 
-def check_texts():
-    """What is kept and dropped."""
+    watch = Watch(1, "a", "", 3, 10)
+    rows = [(100, [100], False), (105, [105], False), (109, [109], True), (110, [110, 110, 110], False), (119, [119], True), (300, [300], False), (301, [1, 2, 3], False)]
+    check("a threshold is reached", [want for _, _, want in rows], [watch.add([Came(each) for each in came], now) for now, came, _ in rows])
+    check("what it has met", (11, 2), (watch.met, watch.alarms))
+    watch = Watch(1, "a", "b", 2, 3600)
+    for second in range(20000):
+        watch.add([Came(second / 10)] * 10, second / 10)
+    check("its times are bounded", True, len(watch._times) <= 3602)  # pylint: disable=protected-access
+
+
+def check_texts(folder):
+    """What is kept and dropped, and what a file of the form before becomes."""
     texts = Texts()
-    rows = [(1, 2 ** 64 - 1, 5, b"a"), (2, 7, 5, b"b"), (3, 7, 6, b"c"), (4, 2 ** 63, 6, b"d")]
-    texts.add(rows, [("file", "1:2", 9)])
-    check("kept", (4, 4, 1, (("1:2"), 9)), (texts.count, texts.newest, texts.oldest(), texts.place("file")))
-    check("the greatest id", [rows[0]], texts.of_id(2 ** 64 - 1, 9))
-    check("one id twice, the newest first", [rows[2], rows[1]], texts.of_id(7, 9))
-    check("those whose id comes once", [(1, 2 ** 64 - 1), (3, 7), (3, 7), (4, 2 ** 63), None], [texts.single(seq) for seq in (1, 2, 3, 4, 5)])
-    check("the oldest of so many", [3, 1, 0], [texts.behind_newest(most) for most in (2, 4, 5)])
-    check("dropped, at most so many", [2, 1, 0], [texts.drop(4, 2), texts.drop(4, 2), texts.drop(4, 2)])
-    check("what is left", (1, 4, [(4, b"d")]), (texts.count, texts.newest, texts.after(0, 9)))
+    check("sources", [1, 2, 1], [texts.source(name) for name in ("a", "b", "a")])
+    rows = [(1, 70, 1, b"a"), (2, 60, 2, b"b"), (4, 60, 1, b"d"), (3, 90, 1, b"c")]
+    texts.add(rows, [("file", "1:2", 9)], [("level", False), ("trace", True)])
+    check("kept", (4, 4, 1, ("1:2", 9)), (texts.count, texts.newest, texts.oldest, texts.place("file")))
+    check("one", (rows[3], None), (texts.one(3), texts.one(9)))
+    check("around", [rows[0], rows[3], rows[2]], texts.around(3, 1, 5))
+    check("around, one each", [rows[3], rows[2]], texts.around(4, 1, 1))
+    check("sizes", (2, 0), (texts.size([1, 4, 77]), texts.size([])))
+    check("dropped, at most as many as asked", [[(1, 70), (2, 60)], [(3, 90)], []], [texts.drop(4, 2), texts.drop(4, 2), texts.drop(4, 2)])
+    check("what is left", (1, 4, 4, [(4, 60, 1, b"d")]), (texts.count, texts.newest, texts.oldest, texts.after(0, 9)))
     texts.close()
+    path = os.path.join(folder, "before.sqlite")
+    before = sqlite3.connect(path)
+    before.executescript("""CREATE TABLE messages (seq INTEGER PRIMARY KEY, id INTEGER NOT NULL, at INTEGER NOT NULL, line BLOB NOT NULL);
+        CREATE INDEX messages_by_id ON messages (id, seq); CREATE TABLE watches (number INTEGER PRIMARY KEY, query TEXT NOT NULL);
+        CREATE TABLE places (path TEXT PRIMARY KEY, file TEXT NOT NULL, place INTEGER NOT NULL);
+        INSERT INTO watches VALUES (7, 'late'); INSERT INTO places VALUES ('/a', '1:2', 30); PRAGMA user_version = 1;""")
+    before.execute("INSERT INTO messages VALUES (5, 1, 1700000000000, ?)", (b'{"id":1,"text":"rain","User":"mara"}',))
+    before.execute("INSERT INTO messages VALUES (6, 2, 1700000000000, ?)", (b'{"id":2,"text":"sun","ts":1796040000}',))
+    before.commit()
+    before.close()
+    for _ in range(2):
+        texts = Texts(path)
+        check("a file of the form before", [(5, 1700000000000, 1, b'{"id":1,"text":"rain","User":"mara"}'), (6, NOW, 1, b'{"id":2,"text":"sun","ts":1796040000}')], texts.after(0, 9))
+        check("its watches and places", ([(7, "late", "late", 0, 60)], ("1:2", 30), {1: BEFORE}, True), (texts.watches(), texts.place("/a"), texts.sources, ("user", False) in texts.names))
+        texts.close()
+    for name, data in (("nothing of SQLite", b"x" * 5000), ("another form", None)):
+        path = os.path.join(folder, "none.sqlite")
+        if data:
+            with open(path, "wb") as file:
+                file.write(data)
+        else:
+            os.unlink(path)
+            other = sqlite3.connect(path)
+            other.execute("PRAGMA user_version = 9")
+            other.execute("CREATE TABLE x (y)")
+            other.close()
+        try:
+            Texts(path)
+            check(name, "a refusal", None)
+        except TextsFault as fault:
+            check(name, True, "not a database" in str(fault) or "no file of texts" in str(fault))
 
 
-def check_plain():
+def check_times():
+    """Times of ranges, and the axis."""
+    cases = [("15m", NOW - 900000), ("2h", NOW - 7200000), ("1w", NOW - 604800000), ("now", NOW), ("2026-11-30T12:00Z", NOW), ("2026-11-30T13:00+01:00", NOW), ("2026-11-30 12:00:00.5Z", NOW + 500),
+             (str(NOW), NOW), (str(NOW // 1000), NOW), ("0", None), ("x", None), ("", None), ("99999999h", None), ("25:00", None), ("2026-13-01", None), ("9" * 30, None), ("\u0661m", None), ("x" * 5000, None)]
+    check("times that people write", [want for _, want in cases], [of_word(word, NOW) for word, _ in cases])
+    check("times of today and days", True, None not in (of_word("00:00", NOW), of_word("2026-11-30", NOW)) and of_word("12:30", NOW) - of_word("12:00", NOW) == 1800000)
+    chance = random.Random(4)
+    for _ in range(2000):
+        begin = chance.randrange(1, 1 << 42)
+        end, bars = min(begin + chance.randrange(1, 10 ** chance.randrange(1, 13)), (1 << 42) - 1), chance.randrange(2, 301)
+        if end <= begin:
+            continue
+        first, step, edges = axis(begin, end, bars)
+        good = edges[0] == begin and edges[-1] == end and len(edges) <= bars + 1 and all(one < other for one, other in zip(edges, edges[1:])) and first <= begin < first + step
+        if not good or any(edge != first + place * step for place, edge in enumerate(edges[1:-1], 1)):
+            check("the axis from %d to %d in %d" % (begin, end, bars), "good", (first, step, edges[:3], edges[-3:]))
+    check("axes were made", True, True)
+
+
+def check_documents():
+    """Ids by time, and what the index gets."""
+    chance = random.Random(2)
+    for _ in range(2000):
+        when, newest = chance.randrange(1, 1 << 42), chance.randrange(1, 1 << 40)
+        number = max(newest - chance.randrange(SPAN), 1)
+        key = key_of(when, number)
+        if (time_of(key), number_of(key, newest)) != (when, number) or not first_key(when) <= key < first_key(when + 1) or key >= 1 << 63:
+            check("the id of %d, %d" % (when, number), (when, number), (time_of(key), number_of(key, newest)))
+    check("ids were made", 21, LOW)
+    said = message.read(b'{"ts":1796040000,"msg":"com.acme.Billing late","User":"Mara","trace":"a7","deep":{"x":1},"long":"%s","q":"say \\"a\\""}' % (b"x" * 90), NOW)
+    made = json.loads(document(5, said, "a.log", ("trace",)))
+    check("the text has the parts of words", True, made["text"].startswith("com acme Billing late User=Mara trace=a7 deep x=1"))
+    wanted = {"user:Mara", "deep.x:1", "long:" + "x" * 90, "q:say 'a'", "source:a.log"}
+    check("members are values", wanted, {value for slot in SLOTS for value in made.get(slot, ())})
+    check("each in the field of its name", True, "user:Mara" in made[slot_of("user")])
+    halves, line = 0, document(5, message.read(b"a " * 4000, NOW), "x")
+    while len(line) > 200:
+        line, halves = shorter(line), halves + 1
+    check("a text that is too long is halved", (True, 5), (halves < 9, json.loads(line)["id"]))
+    check("lines within JSON", ['{"a": 1}', '"{\\"a\\":NaN}"', '"x\ufffd"', '"{"', '"\\"quoted\\""'], [shown_line(line) for line in (b'{"a":\r1}', b'{"a":NaN}', b"x\xff", b"{", b'"quoted"')])
+    check("cells that a spreadsheet would run", b"1970-01-01T00:00:00.001Z,'@b,,'=1+1,9\r\n", as_csv([(9, 1, "@b", b"=1+1")]))
+
+
+def check_keys():
+    """Ids in order, however they come and go."""
+    chance, keys, there = random.Random(8), Keys([5, 3, 9]), {5, 3, 9}
+    for step in range(400):
+        new = [chance.randrange(1, 1 << 62) if chance.randrange(3) else (1 << 62) + step * 100 + place for place in range(chance.choice((1, 3, 90)))]
+        keys.add(new)
+        there.update(new)
+        gone = chance.sample(sorted(there), min(chance.choice((0, 1, 80)), len(there)))
+        keys.drop(gone)
+        there -= set(gone)
+        if step % 3 == 0 and list(keys.all()) != sorted(there):
+            check("ids in order, step %d" % step, sorted(there), list(keys.all()))
+    check("ids in order", sorted(there), list(keys.all()))
+
+
+def check_names():
+    """Names, and those that have a value for each message."""
+    names = Names([("old", False), ("only", True)], ("Given",))
+    for number in range(LOOKED_AT):
+        names.note({"Level": "x%d" % number, "trace": "t%d" % number, "user": "u%d" % (number % 400), "pid": str(number)})
+    check("names that have a value each", {"only", "given", "trace"} if DIFFERENT > 400 else None, names.words_only - {"level"})
+    check("what is kept of them", True, {("trace", True), ("user", False)} <= set(names.changed()))
+    check("and nothing twice", [], names.changed())
+    for number in range(3 * MOST):
+        names.note({"n%d" % number: "1", "x" * 65 + str(number): "1"})
+    check("names have a bound", (True, False), (len(names.known) <= MOST + 2, any(len(name) > 64 for name in names.known)))
+
+
+def asked(query, names=None, parts=True):
+    """The text of a query, or its refusal."""
+    try:
+        return Asked(query, names or Names([("user", False), ("http.status", False), ("trace_id", True), ("a:b", False)]), NOW, parts).text
+    except Refused as refused:
+        return refused.name, refused.column
+
+
+def check_queries():
+    """Queries as the index gets them."""
+    user, status, both = slot_of("user"), slot_of("http.status"), slot_of("a:b")
+    cases = [
+        ("", ALL), ("rain", "rain"), ("a.b", '"a b"'), ("user:mara x", '%s:"user:mara" x' % user), ('-USER:"north gate"', '-%s:"user:north gate"' % user), ("other:x", '"other x"'),
+        ("http.status:500", '%s:"http.status:500"' % status), ("a:b:c", '%s:"a:b:c"' % both), ("trace_id:7f.3", '"trace id 7f 3"'), ('(user:a OR "x_y"~3)', '(%s:"user:a" OR "x y"~3)' % user),
+        ("since:15m", "since:%d" % (first_key(NOW - 900000) - 1)), ("-until:%d" % NOW, "--since:%d" % (first_key(NOW) - 1)), ("since:0", "since:0"), ("user:x\"y\"", '%s:"user:x""y"' % user),
+        ("since:x", ("bad query", 7)), ("é until:", ("bad query", 9)), ("user:", ("bad query", 6)), ('x user:"open', ("bad query", 8)), ("a\nb", ("bad query", 2)),
+    ]
+    check("queries for the index", [want for _, want in cases], [asked(query) for query, _ in cases])
+    check("where the program parts words", ['a.b %s:"user:x.y"' % user, "com.acme"], [asked(query, None, False) for query in ("a.b user:x.y", "com.acme")])
+    one = Asked("rain", Names([]), NOW)
+    check("within a range", ["rain", "(rain) since:5", "(rain) since:5 -since:9", "-since:9"], [one.within(None, None), one.within(5, None), one.within(5, 9), Asked("", Names([]), NOW).within(None, 9)])
+    refusals = [("(rain", 5, 6, "the ( at 1 isn't closed"), ("a.b ) x", 6, 5, "nothing stands before this ), or no ( belongs to it"), ('user:mara "x', len(asked('user:mara "x')) - 2, 11, "this quote isn't closed")]
+    for query, before, column, why in refusals:
+        refusal = Asked(query, Names([("user", False)]), NOW).refusal("bad query", before)
+        check("why %r is refused" % query, (column, why), (refusal.column, refusal.why))
+    check("a name that is asked for as a sign", True, any("the field is user:x" in hint for hint in Asked("user=x", Names([("user", False)]), NOW).hints))
+    check("a word too often in phrases", ("query too large", 1), asked('"%s"~9' % " ".join(["a"] * (limits.REPEATED + 1))))
+    check("and not too often", str, type(asked(" OR ".join('"a b%d"' % number for number in range(limits.REPEATED)))))
+    chance, lexemes = random.Random(6), ["user:", "user:a.b", "trace_id:", '"', '"a_b"', "~3", "(", ")", "-", "OR", " ", "since:1h", "until:", "a.b", "é:", ":", "::", "\u0130:x"]
+    for _ in range(4000):
+        query = "".join(chance.choices(lexemes, k=chance.randrange(9)))
+        try:
+            one = Asked(query, Names([("user", False), ("trace_id", True)]), NOW)
+        except Refused as refused:
+            if not 1 <= (refused.column or 1) <= len(query) + 1:
+                check("the column of %r" % query, "within it", refused.column)
+            continue
+        columns = [one.column(place) for place in range(len(one.text) + 1)]
+        if columns != sorted(columns) or not all(1 <= column <= len(query) + 1 for column in columns):
+            check("the columns of %r" % query, "rising", columns)
+        for before in (0, len(one.text)):
+            one.refusal("bad query", before)
+    check("random queries were read", True, True)
+
+
+def check_plain(folder):
     """All of them."""
-    check_words()
-    check_fields()
     check_lines()
     check_figures()
-    check_texts()
+    check_texts(folder)
+    check_times()
+    check_documents()
+    check_keys()
+    check_names()
+    check_queries()

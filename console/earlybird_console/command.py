@@ -1,55 +1,64 @@
 """The words of the command, and its life."""
 import argparse
 import asyncio
+import ctypes
 import os
 import signal
+import subprocess
 import sys
 
+from earlybird_web.guard import read_guarded
+from earlybird_web.server import Server
+
+from .alerts import Alerts
 from .console import Console, Stopped
+from .documents import SLOTS
 from .routes import Routes
-from .server import Server
-from .sources import Followed, read_input
+from .sources import follow, read_input, read_journal
 from .texts import Texts, TextsFault
 
 ROOT = os.path.dirname(os.path.dirname(os.path.dirname(os.path.abspath(__file__))))
-# the room of a feed where nothing is said of it
-ROOM = {"--keep": 4, "--segments": 12, "--docs": 4096}
+# what glibc calls the size from which memory is taken by itself, and given back once it is free; and that size
+MMAP_THRESHOLD, LARGE = -3, 1 << 17
+# seconds for the program to tell whether it takes some words
+PATIENCE = 20
 
 
 def read_words(words):
     """The command's words: its own, and after `--` those of the index program."""
     place = words.index("--") if "--" in words else len(words)
     parser = argparse.ArgumentParser(
-        prog="earlybird-console", description="A page over an index of messages: docs/CONSOLE.md.",
-        epilog="Words after -- go to the index program: `-- --keep 8`, or `-- run --docs 65536` for an index that drops nothing.")
+        prog="earlybird-console", allow_abbrev=False, description="A page over an index of logs: docs/CONSOLE.md.",
+        epilog="Words after -- go to the index program: `-- --memory 800M`, or `-- run --docs 65536` for an index that drops nothing.")
+    parser.add_argument("files", metavar="FILE", nargs="*", help="logs that grow, and packed ones (.gz): any lines of text, or of JSON; - is standard "
+                        "input, which is read also where no file is named")
+    parser.add_argument("--follow", metavar="FILE", action="append", default=[], help="one more of these files")
+    parser.add_argument("--journal", action="store_true", help="reads the journal, by journalctl")
+    parser.add_argument("--texts", metavar="FILE", default=":memory:", help="the SQLite file that keeps the messages (else memory)")
+    parser.add_argument("--words-only", metavar="NAME", action="append", default=[], help="a member, as trace_id, whose values are words and no field; repeatable")
     parser.add_argument("--listen", metavar="HOST:PORT", default="127.0.0.1:8080", help="where it listens (127.0.0.1:8080)")
     parser.add_argument("--token-file", metavar="FILE", help="a file whose first line each request has to know; needed where others than this machine can ask")
-    parser.add_argument("--texts", metavar="FILE", default=":memory:", help="the SQLite file that keeps the messages (else memory)")
-    parser.add_argument("--follow", metavar="FILE", action="append", default=[], help="a file of message lines that grows; may be given again")
-    parser.add_argument("--program", metavar="FILE", default=os.path.join(ROOT, "earlybird"), help="the index program (the launcher)")
+    parser.add_argument("--alert-file", metavar="FILE", help="a file to which each alarm of a watch is added, as a line of JSON")
+    parser.add_argument("--alert-command", metavar="WORDS", help="a command that is run for each alarm, with that line on its standard input")
+    parser.add_argument("--program", metavar="FILE", default=os.environ.get("EARLYBIRD_COMMAND") or os.path.join(ROOT, "earlybird"), help="the index program (the launcher)")
     return parser, parser.parse_args(words[:place]), words[place + 1:]
 
 
-def most_messages(words):
-    """How many messages a feed with these words can have at most; None for what isn't a feed."""
-    if words[0] != "feed":
-        return None
-    room = dict(ROOM)
-    for place, word in enumerate(words):
-        name, joined, value = word.partition("=")
-        value = value if joined else "".join(words[place + 1:place + 2])
-        if name in room and value.isdigit():
-            room[name] = int(value)
-    return room["--keep"] * room["--segments"] * room["--docs"]
+def give_back():
+    """Has the C library give back large pieces of memory, as answers are, once they are free; where it is glibc, which else keeps them all."""
+    try:
+        ctypes.CDLL(None).mallopt(MMAP_THRESHOLD, LARGE)
+    except (OSError, AttributeError):
+        pass
 
 
-def read_token(path):
-    """The token of a file."""
-    with open(path, encoding="utf-8") as file:
-        token = file.readline().strip()
-    if len(token) < 16:
-        raise ValueError("a token has at least 16 characters")
-    return token
+def takes(program, words):
+    """Whether the index program takes these words: it tells so by its status, over no lines at all."""
+    try:
+        done = subprocess.run([program, *words], stdin=subprocess.DEVNULL, stdout=subprocess.DEVNULL, stderr=subprocess.DEVNULL, check=False, timeout=PATIENCE)
+    except (OSError, subprocess.TimeoutExpired):
+        return False
+    return done.returncode == 0
 
 
 async def serve(asked, words, host, port, token):
@@ -57,14 +66,22 @@ async def serve(asked, words, host, port, token):
     loop, stop = asyncio.get_running_loop(), asyncio.Event()
     for name in (signal.SIGINT, signal.SIGTERM):
         loop.add_signal_handler(name, stop.set)
-    texts = Texts(asked.texts)
-    console = Console([asked.program, *words], texts, most_messages(words))
+    texts, alerts = Texts(asked.texts), Alerts(asked.alert_file, asked.alert_command)
+    # (where the program has the parts of words by itself, they are its matter)
+    pieces = ["--words", "pieces"] if takes(asked.program, ["run", "--segments", "1", "--docs", "256", "--terms", "1024", "--words", "pieces"]) else []
+    program = [asked.program, *words, "--fields", ",".join(SLOTS), "--watch", *pieces]
+    console = Console(program, texts, alerts, drops=words[0] == "feed", parts=not pieces, words_only=asked.words_only)
     routes = Routes(console, token)
-    server = Server(routes.handle)
+    server = routes.server = Server(routes.handle)
     port = await server.start(host, port)
     print("earlybird-console: http://%s:%d/" % ("[%s]" % host if ":" in host else host, port), file=sys.stderr, flush=True)
-    work = [console.run(), console.drop_gone(), routes.tell_pages(), *(Followed(console, path).run() for path in asked.follow)]
-    if not os.isatty(0):
+    work = [console.run(), console.drop_gone(), routes.streams.tell_pages()]
+    files = [path for path in (*asked.files, *asked.follow) if path != "-"]
+    if files:
+        work.append(follow(console, files))
+    if asked.journal:
+        work.append(read_journal(console))
+    if "-" in asked.files or not files and not asked.journal and not os.isatty(0):
         work.append(read_input(console))
     working = asyncio.gather(*work)
     stopping = asyncio.ensure_future(stop.wait())
@@ -78,6 +95,7 @@ async def serve(asked, words, host, port, token):
         await console.end()
         working.cancel()
         await asyncio.gather(working, return_exceptions=True)
+        await alerts.end()
         texts.close()
 
 
@@ -85,25 +103,20 @@ def main():
     """The command. Its status: 0 where a signal ended it, 2 usage, 3 where the index can't be started, the texts can't be kept or it can't
     listen."""
     parser, asked, words = read_words(sys.argv[1:])
-    host, _, port = asked.listen.rpartition(":")
-    host = host.strip("[]")
-    if not host or not port.isdigit() or int(port) > 65535:
-        parser.error("--listen takes HOST:PORT")
-    token = None
-    if asked.token_file:
-        try:
-            token = read_token(asked.token_file)
-        except (OSError, ValueError) as fault:
-            parser.error("--token-file: %s" % fault)
-    elif host not in ("127.0.0.1", "localhost", "::1"):
-        parser.error("--listen %s lets others ask: give a --token-file" % asked.listen)
+    try:
+        host, port, token = read_guarded(asked.listen, asked.token_file)
+    except ValueError as fault:
+        parser.error(str(fault))
+    give_back()
     # (the console asks for watches itself)
     words = [word for word in words if word != "--watch"]
     words = words if words[:1] in (["feed"], ["run"]) else ["feed", *words]
-    if any(word == "--overlap" or word.startswith("--workers") for word in words):
-        parser.error("an answer has to see no later messages: the index program runs without --overlap and --workers")
+    if any(word.startswith("--fields") for word in words):
+        parser.error("the console gives the index its fields: all members of messages")
+    if any(word.startswith(("--overlap", "--workers", "--parts", "--json", "--words")) for word in words):
+        parser.error("the index program runs here without --overlap, --workers, --parts, --json and --words")
     try:
-        asyncio.run(serve(asked, words, host, int(port), token))
+        asyncio.run(serve(asked, words, host, port, token))
     except (Stopped, TextsFault, OSError) as fault:
         print("earlybird-console: %s" % fault, file=sys.stderr)
         return 3

@@ -1,39 +1,36 @@
-"""The console: it hands lines to the index, keeps what is accepted, asks, tells who waits for messages, and starts the index again where it
-ended."""
+"""The console: it makes messages of lines, hands them to the index, keeps what is accepted, tells who waits for messages, and starts the
+index again where it ended."""
 import asyncio
 import collections
-import json
+import itertools
 import sys
 import time
 
-from .fields import names_of
-from .figures import Figures, Seconds
-from .index import Index, Message
-from .lines import refusal_here, refused_query, without_end
-from .query import read
-from .shown import meets
-from .standing import USAGE, ByQueries, ByWatches, Order
+from earlybird_logs import message
+from earlybird_logs.pieces import apart
 
-# bytes of messages on their way, beyond which no line is taken from a source
+from . import documents, limits
+from .asking import Asking
+from .counts import Counts
+from .figures import Figures
+from .index import Index, Message, Order
+from .keys import Keys
+from .marking import in_pieces
+from .names import Names
+from .standing import Standing
+from .turns import Turn
+
+# the status of a program that doesn't take its words
+USAGE = 2
+# bytes of messages on their way, beyond which no line is taken from a source, and what a message counts for besides
 ROOM = 1 << 22
-# texts that are fed at once to a new index, and that are dropped at once
-PAGE = 1000
-WATCHES = 100
-# bytes of messages in an answer
-ANSWER = 1 << 22
-# of messages with one id, how many more than are asked for are looked at
-LOOK = 64
-# what an empty query asks for: all messages
-ALL = "since:0 OR -since:0"
-
-
-class Refused(Exception):
-    """What is asked can't be done: why, and the column of a query, or None."""
-
-    def __init__(self, name, column=None):
-        super().__init__(name)
-        self.name = name
-        self.column = column
+EACH = 256
+# as many numbers as can be given to messages that are on their way
+ON_WAY = ROOM // EACH * 2
+# texts that are read at once for a new index, and that are dropped at once
+PAGE = 500
+# how often a text that is too long is halved
+TRIES = 9
 
 
 class Stopped(Exception):
@@ -48,70 +45,73 @@ class Group:
         self.place = place
         self.left = 1
         self.taken = 0
+        self.refused = 0
         self.refusals = []
         self.done = asyncio.get_running_loop().create_future()
 
+    def settle(self):
+        """Counts a line as settled; whether it was the last."""
+        self.left -= 1
+        return self.left == 0
 
-class Watch:
-    """A watch of the page: a standing query, and how many messages met it by the second."""
-
-    def __init__(self, query):
-        self.query = query
-        self.counts = Seconds()
+    def refuse(self, text, name):
+        """Counts a refused line, and keeps the first of them."""
+        self.refused += 1
+        if len(self.refusals) < limits.REFUSALS:
+            self.refusals.append((text, name))
 
 
 class Console:
-    """All of it but the requests. `most` is how many messages the index can have, None where it drops none."""
+    """All of it but the requests. `drops` is whether the index drops its oldest messages where it has no room; `parts`, whether the console
+    has to part the words that are put together of others; `words_only` are names of members whose values are no fields."""
 
-    def __init__(self, program, texts, most):
+    def __init__(self, program, texts, alerts, drops=True, parts=True, words_only=()):
         self.texts = texts
         self.figures = Figures()
-        self.watches = {}
+        self.names = Names(texts.names, words_only)
+        # what texts are for the index, and for the marks
+        self.cut, self.fold = (apart, apart) if parts else (str, in_pieces)
+        self.asking = Asking(self, parts)
+        self.counts = Counts(self)
+        self.standing = Standing(self, alerts)
         self.state = {"index": "starting", "starts": 0, "fed": 0, "of": texts.count, "at": None}
         self._program = program
-        self._names = names_of(program)
-        self._most = most
-        self._way = ByWatches
+        self._drops = drops
+        self._full = False
         self._index = None
         self._ready = asyncio.Event()
         self._held = collections.deque()
         self._on_way = 0
         self._roomy = asyncio.Event()
         self._roomy.set()
-        self._standing = {}
-        self._readers = {}
-        self._last_number = 0
         self._ending = False
-        for number, query in texts.watches():
-            self._standing[number] = query
-            self.watches[number] = Watch(query)
-            self._last_number = number
+        self._seq = texts.newest
+        # by source: the time of its last message that has one
+        self._times = {}
+        self._keys = Keys(documents.key_of(at, seq) for seq, at in texts.times())
 
     # the index's life
 
     async def run(self):
-        """Keeps an index running until `close`. Raises Stopped where it can't be started."""
+        """Keeps an index running until `end`. Raises Stopped where it can't be started."""
         pause = 0.1
         while not self._ending:
             index, status = await self._run_once()
             if self._ending:
                 return
             if not self._ready.is_set() and not index.answered:
-                if status == USAGE and self._way is ByWatches:
-                    self._way = ByQueries
-                    continue
-                raise Stopped("the index program ended with the status %d" % status)
+                raise Stopped("the index program ended with the status %d%s" % (status, ": its words" if status == USAGE else ""))
             print("earlybird-console: the index ended with the status %d and is started again" % status, file=sys.stderr, flush=True)
             await asyncio.sleep(pause)
             pause = 0.1 if time.monotonic() - index.begun > 10 else min(pause * 2, 5)
 
     async def _run_once(self):
         self.state.update(index="starting", fed=0, of=self.texts.count)
-        index = Index(self._way, self._standing, self._settled)
+        index = Index(self._settled)
         try:
-            await index.start([*self._program, *self._way.words])
+            await index.start(self._program)
         except OSError as fault:
-            raise Stopped("the index program can't be started: %s" % fault) from fault
+            raise Stopped("the index program can't be started: %s" % (fault.strerror or fault)) from fault
         self._index = index
         feeding = asyncio.ensure_future(self._feed(index))
         try:
@@ -123,14 +123,16 @@ class Console:
         return index, status
 
     async def _feed(self, index):
-        """Feeds a new index: the texts that are kept, the standing queries, and what waited meanwhile."""
-        last = 0
+        """Feeds a new index: the texts that are kept, the watches, and what waited meanwhile."""
+        last, now, turn = 0, int(time.time() * 1000), Turn()
         while True:
             rows = self.texts.after(last, PAGE)
             group = Group("the texts")
-            for seq, line in rows:
+            for seq, at, source, raw in rows:
                 group.left += 1
-                index.send(Message(line, None, group, seq))
+                made = documents.document(documents.key_of(at, seq), message.read(raw, now), self.texts.sources[source], self.names.words_only, self.cut)
+                index.send(Message(made, raw, group, seq, at, source, again=True))
+                await turn.rest()
             order = Order(b"?1 a", again=True)
             index.send(order)
             await order.outcome
@@ -138,14 +140,15 @@ class Console:
                 break
             last = rows[-1][0]
             self.state["fed"] += len(rows)
-        for number, query in self._standing.items():
-            index.send(Order(self._way.begin(number, query)[0], again=True))
+        for line in self.standing.lines():
+            index.send(Order(line, again=True))
         self.state.update(index="running", starts=self.state["starts"] + 1, at=int(time.time() * 1000))
         while self._held:
             index.send(self._held.popleft())
         self._ready.set()
 
-    def _send(self, what):
+    def send(self, what):
+        """Sends a message or an order to the index, or once there is one."""
         if self.state["index"] == "running":
             self._index.send(what)
         else:
@@ -159,165 +162,110 @@ class Console:
 
     # messages
 
-    async def hand_in(self, lines, number, source, place=None):
-        """Hands in lines, without their LF, the first of which has this number, once there is room; gives their group, whose `done`
-        comes when all are settled."""
+    @property
+    def keys(self):
+        """The ids of the messages that are kept, in order."""
+        return self._keys.all()
+
+    async def hand_in(self, lines, source, place=None):
+        """Hands in lines of a source, without their ends, once there is room; gives their group, whose `done` comes when all are settled."""
         while not self._roomy.is_set():
             await self._roomy.wait()
-        group = Group(source, place)
-        for at, line in enumerate(lines, number):
-            name = refusal_here(line)
-            if name is None:
-                group.left += 1
-                self._on_way += len(line)
-                self._send(Message(without_end(line), at, group))
-            elif name:
-                self._refuse(group, at, name)
+        group, turn = Group(source, place), Turn()
+        now, of = int(time.time() * 1000), self.texts.source(source)
+        for line in lines:
+            if line.strip():
+                self._hand_in_one(group, line, now, of)
+            await turn.rest()
         if self._on_way > ROOM:
             self._roomy.clear()
-        if self._is_last(group):
+        if group.settle():
             self.texts.add([], [place] if place else [])
             group.done.set_result(None)
         return group
 
-    @staticmethod
-    def _is_last(group):
-        group.left -= 1
-        return group.left == 0
+    def _hand_in_one(self, group, line, now, of):
+        # (a number more, and two messages could have one id)
+        if not self._drops and (self._full or self._seq - self.texts.oldest >= documents.SPAN - ON_WAY):
+            self._refuse(group, line, "full")
+            return
+        said = message.read(line, now)
+        when = said.when
+        if when is not None:
+            self._times[of] = when
+        elif line.startswith(b"{"):
+            when = now
+        else:
+            # (a line of text without a time is of the message before it, as those of a stack are)
+            when = self._times.get(of, now)
+        self.names.note(said.fields)
+        found = self.names.found()
+        if found:
+            self.standing.set_anew(found)
+        self._seq += 1
+        made = documents.document(documents.key_of(when, self._seq), said, group.source, self.names.words_only, self.cut)
+        group.left += 1
+        self._on_way += len(line) + EACH
+        self.send(Message(made, line, group, self._seq, when, of))
 
-    def _refuse(self, group, number, name):
-        group.refusals.append((number, name))
-        self.figures.refuse(group.source, number, name)
+    def _refuse(self, group, line, name):
+        text = line[:300].decode("utf-8", "replace")
+        group.refuse(text, name)
+        self.figures.refuse(group.source, text, name)
 
-    def _settled(self, accepted, refused, met, asked):
+    def _settled(self, accepted, refused, met):
         """Takes in what a piece of the index's output settles."""
-        now, seq = int(time.time() * 1000), self.texts.newest
         new = [each for each in accepted if each.again is None]
-        for seq, each in enumerate(new, seq + 1):
-            each.seq, each.at, each.id = seq, now, json.loads(each.line)["id"]
+        for each in new:
             each.group.taken += 1
+        settled = list(new)
         for each, name in refused:
-            if each.again is None:
-                self._refuse(each.group, each.number, name)
+            if name == "too long" and each.tries < TRIES:
+                each.tries += 1
+                each.line = documents.shorter(each.line)
+                self.send(each)
+            elif each.again is None:
+                self._full = self._full or name == "full" and not self._drops
+                self._refuse(each.group, each.raw, name)
+                settled.append(each)
             else:
-                self.texts.drop_one(each.again)
-        settled = [each for each in [*accepted, *(each for each, _ in refused)] if each.again is None]
-        groups = [each.group for each in settled if self._is_last(each.group)]
+                self.texts.drop_one(each.seq)
+                self._keys.drop([documents.key_of(each.at, each.seq)])
+        groups = [each.group for each in settled if each.group.settle()]
         places = [group.place for group in groups if group.place]
         if new or places:
-            self.texts.add([(each.seq, each.id, each.at, each.line) for each in new], places)
+            self.texts.add([(each.seq, each.at, each.source, each.raw) for each in new], places, self.names.changed())
             self.figures.accept(len(new))
+            self._keys.add(documents.key_of(each.at, each.seq) for each in new)
         for group in groups:
             group.done.set_result(None)
-        self._on_way -= sum(len(each.line) for each in settled)
+        self._on_way -= sum(len(each.raw) + EACH for each in settled)
         if self._on_way <= ROOM:
             self._roomy.set()
-        self._tell(met, asked)
+        self.standing.tell(met)
 
-    def _tell(self, met, asked):
-        by_number = {}
-        for number, message in met:
-            if message.again is None:
-                by_number.setdefault(number, []).append(message)
-        for (number, messages), (kind, value) in asked:
-            if kind == "seen":
-                by_number.setdefault(number, []).extend(ByQueries.met(value[1], messages))
-        for number, messages in by_number.items():
-            if not messages:
+    def texts_of(self, ids):
+        """(id, time, source, line) of each id, and how many are left out where all would be too many bytes."""
+        found, size = [], 0
+        for place, key in enumerate(ids):
+            row = self.row(key)
+            # (one that was dropped since the answer has no text any more)
+            if row is None:
                 continue
-            if number in self.watches:
-                self.watches[number].counts.add(len(messages))
-            if number in self._readers:
-                self._readers[number].meet(messages)
-
-    # queries
-
-    async def _order(self, line, before, query):
-        """Asks or sets with a line in which a query stands after so many bytes."""
-        if "\n" in query:
-            raise Refused("bad query", query.index("\n") + 1)
-        order = Order(line)
-        self._send(order)
-        kind, value = await order.outcome
-        if kind == "refused":
-            raise Refused(*refused_query(value, before, query))
-        return value
-
-    async def ask(self, query, most):
-        """How many messages the index took, the newest so many that meet a query, (sequence number, id, milliseconds, line), and how many of
-        these are left out where all would be too many bytes."""
-        begun = time.monotonic()
-        before = b"?%d " % most
-        seen, ids = await self._order(before + query.encode(), len(before), query)
-        self.figures.answer(time.monotonic() - begun)
-        found, left = self._of_ids(ids, self.tree(query))
-        return seen, found, left
-
-    def tree(self, query):
-        """The query as the console reads it."""
-        return read(query, self._names)
-
-    def _of_ids(self, ids, tree):
-        """The messages of an answer. Of several with one id those that meet the query come first, and then the newest."""
-        found, by_id, counts, size = [], {}, collections.Counter(ids), 0
-        for place, number in enumerate(ids):
-            if size > ANSWER:
+            size += len(row[3])
+            if size > limits.ANSWER and found:
                 return found, len(ids) - place
-            if number not in by_id:
-                rows = self.texts.of_id(number, counts[number] + LOOK)
-                if len(rows) > 1:
-                    rows.sort(key=lambda row: not meets(tree, row[1], row[3]))
-                by_id[number] = iter(rows)
-            row = next(by_id[number], None)
-            if row:
-                found.append(row)
-                size += len(row[3])
+            found.append((key, row[1], self.texts.sources[row[2]], row[3]))
         return found, 0
 
-    async def _begin(self, query):
-        await self._ready.wait()
-        self._last_number += 1
-        number = self._last_number
-        await self._order(*self._way.begin(number, query), query)
-        self._standing[number] = query
-        return number
+    def size_of(self, ids):
+        """The bytes of the messages of these ids."""
+        return self.texts.size([documents.number_of(key, self._seq) for key in ids])
 
-    def _end(self, number):
-        self._standing.pop(number, None)
-        line = self._way.end(number)
-        if line:
-            self._send(Order(line))
-
-    async def begin_reading(self, query, make_reader):
-        """Begins to tell a reader of the messages that meet a query."""
-        number = await self._begin(query)
-        reader = self._readers[number] = make_reader(number)
-        return reader
-
-    def end_reading(self, reader):
-        """Ends it."""
-        self._readers.pop(reader.number, None)
-        self._end(reader.number)
-
-    async def add_watch(self, query):
-        """Adds a watch of the page, and gives its number; where there is one of this query, its."""
-        for number, watch in self.watches.items():
-            if watch.query == query:
-                return number
-        if len(self.watches) >= WATCHES:
-            raise Refused("watches full")
-        number = await self._begin(query)
-        self.watches[number] = Watch(query)
-        self.texts.keep_watch(number, query)
-        return number
-
-    def remove_watch(self, number):
-        """Removes a watch; whether there was one."""
-        if self.watches.pop(number, None) is None:
-            return False
-        self.texts.drop_watch(number)
-        self._end(number)
-        return True
+    def row(self, key):
+        """The message of an id, (number, time, source, line), or None."""
+        found = self.texts.one(documents.number_of(key, self._seq))
+        return found if found and documents.key_of(found[1], found[0]) == key else None
 
     # what the index dropped
 
@@ -325,39 +273,48 @@ class Console:
         """Drops, once a second, the texts of messages that the feed has dropped."""
         while True:
             await asyncio.sleep(1)
-            if self._most is None:
+            if not self._drops:
                 continue
             await self._ready.wait()
-            await self._drop_below(self.texts.behind_newest(self._most) if self.texts.count > self._most else 0)
-            oldest = self.texts.oldest()
-            low = oldest and await self._gone(oldest)
-            high = self.texts.newest + 1
-            while low and low + 1 < high:
-                middle = (low + high) // 2
-                gone = await self._gone(middle)
-                low, high = (max(low, gone), high) if gone else (low, middle)
-            await self._drop_below(low + 1 if low else 0)
+            most = documents.SPAN - 2 * ON_WAY
+            if self.texts.newest - self.texts.oldest > most:
+                await self._drop_below(self.texts.newest - most)
+            oldest = self.texts.from_here(0)
+            if not oldest or not await self._gone(*oldest):
+                continue
+            low, high = oldest[0], self.texts.newest + 1
+            while low + 1 < high:
+                row = self.texts.from_here((low + high) // 2)
+                if row and row[0] < high and await self._gone(*row):
+                    low = row[0]
+                else:
+                    high = (low + high) // 2
+            await self._drop_below(low + 1)
 
     async def _drop_below(self, seq):
-        while seq and self.texts.drop(seq, PAGE) == PAGE:
+        while True:
+            gone = self.texts.drop(seq, PAGE)
+            self._keys.drop(documents.key_of(at, each) for each, at in gone)
+            if len(gone) < PAGE:
+                return
             await asyncio.sleep(0)
 
-    async def _gone(self, seq):
-        """A sequence number from here on whose message the index doesn't have any more, or None where it has it or it can't be told."""
-        found = self.texts.single(seq)
-        if not found:
-            return None
-        order = Order(b"?1 " + (b"since:%d " % (found[1] - 1) if found[1] else b"") + b"-since:%d" % found[1])
-        self._send(order)
-        _, (_, ids) = await order.outcome
-        return None if ids else found[0]
+    async def _gone(self, seq, at):
+        """Whether the index doesn't have a message any more."""
+        key = documents.key_of(at, seq)
+        order = Order(b"?1 since:%d -since:%d" % (key - 1, key))
+        self.send(order)
+        kind, value = await order.outcome
+        return kind == "seen" and not value[1]
 
     def told(self):
         """What is told each second."""
+        sources = list(itertools.islice(self.texts.sources.values(), limits.SOURCES_TOLD))
         return {
             **self.figures.told(),
             "kept": self.texts.count,
-            "readers": len(self._readers),
             "state": self.state,
-            "watches": [{"number": number, "query": watch.query, "counts": watch.counts.counts()} for number, watch in self.watches.items()],
+            "sources": sources,
+            "words_only": sorted(self.names.words_only)[:limits.SOURCES_TOLD],
+            **self.standing.told(),
         }

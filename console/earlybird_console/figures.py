@@ -22,7 +22,7 @@ class Seconds:
         self._now = now
 
     def add(self, count=1):
-        """Counts so many now."""
+        """Counts this many now."""
         self._step()
         self._counts[-1] += count
 
@@ -37,7 +37,7 @@ class Seconds:
 
 
 def nearest(times, part):
-    """The least of these times that so many of 100 don't exceed, or None where there is none."""
+    """The least of these times that `part` of 100 don't exceed, or None where there is none."""
     ranked = sorted(times)
     return ranked[max(-(-len(ranked) * part // 100), 1) - 1] if ranked else None
 
@@ -50,6 +50,8 @@ class Figures:
         self.queries = Seconds()
         self._times = collections.deque(maxlen=TIMES)
         self.accepted = 0
+        self.asked = 0
+        self.spent = 0.0
         self.refused = collections.Counter()
         self.refusals = collections.deque(maxlen=REFUSALS)
 
@@ -58,15 +60,17 @@ class Figures:
         self.accepted += count
         self.messages.add(count)
 
-    def refuse(self, source, number, name):
-        """Counts a refused line: where it came from, its number there, and why."""
+    def refuse(self, source, text, name):
+        """Counts a refused line: where it came from, how it begins, and why."""
         # (a refusal that names a number is one kind for all numbers)
         self.refused[name.rstrip("0123456789").rstrip()] += 1
-        self.refusals.append({"source": source, "line": number, "refused": name})
+        self.refusals.append({"source": source, "text": text, "refused": name})
 
     def answer(self, seconds):
         """Counts an answered query."""
         self.queries.add()
+        self.asked += 1
+        self.spent += seconds
         self._times.append(seconds)
 
     def told(self):

@@ -7,27 +7,41 @@ import signal
 import time
 
 from .lines import PROBE, read_printed
-from .standing import Order
 
 # what is sent at once, and what may be unsettled before more is sent: lines and bytes
 LINES = 512
 BYTES = 1 << 18
-UNSETTLED = 1 << 20
+UNSETTLED = 1 << 18
 PIECE = 1 << 18
 
 
 class Message:
-    """A message line on its way. It has a sequence number, an id and a time once it is accepted; `again` is the sequence number of one
-    that was accepted by an earlier run of the program."""
+    """A message on its way: the document that the index gets, the line as it came, its number among all, its time in milliseconds, and the
+    number of its source. `again` is whether it was accepted by an earlier run of the program."""
 
-    __slots__ = ("line", "number", "group", "again", "seq", "id", "at")
+    __slots__ = ("line", "raw", "group", "seq", "at", "source", "again", "tries", "event")
 
-    def __init__(self, line, number, group, again=None):
+    def __init__(self, line, raw, group, seq, at, source, again=None):
         self.line = line
-        self.number = number
+        self.raw = raw
         self.group = group
+        self.seq = seq
+        self.at = at
+        self.source = source
         self.again = again
-        self.seq = self.id = self.at = None
+        self.tries = 0
+        # what readers of events are told of it, once one wants it
+        self.event = None
+
+
+class Order:
+    """A query, or a line that sets or removes a watch. Its outcome comes once: what `read_printed` tells, or ("done", None) for a line that
+    prints nothing. `again` is whether it is for this run of the program alone."""
+
+    def __init__(self, line, again=None):
+        self.line = line
+        self.outcome = asyncio.get_running_loop().create_future()
+        self.again = again
 
 
 class Probe:
@@ -38,14 +52,14 @@ class Probe:
 
 class Index:
     """The program. `taken` is called with what each piece of its output settles: the accepted messages in order, the refused ones with their
-    refusals, and (standing query's number, message) for each that was met."""
+    refusals, and (watch's number, message) for each that was met."""
 
-    def __init__(self, way, standing, taken):
-        self._way = way
-        self._standing = standing
+    def __init__(self, taken):
         self._taken = taken
         self._process = None
         self._waiting = collections.deque()
+        # (what is asked stands before messages that aren't sent yet, so that it doesn't wait for a flood of them)
+        self._orders = collections.deque()
         self._sent = collections.deque()
         self._unsettled = 0
         self._number = 0
@@ -67,18 +81,15 @@ class Index:
         return self._process.pid
 
     def send(self, what):
-        """Puts a message or an order after those that are to be sent."""
-        self._waiting.append(what)
+        """Puts a message after those that are to be sent, and an order before them, unless it is of this run's beginning."""
+        (self._orders if isinstance(what, Order) and not what.again else self._waiting).append(what)
         self._wake.set()
 
     def _next_part(self):
         part, size = [], 0
-        while self._waiting and len(part) < LINES and size < BYTES:
-            part.append(self._waiting.popleft())
+        while (self._orders or self._waiting) and len(part) < LINES and size < BYTES:
+            part.append((self._orders or self._waiting).popleft())
             size += len(part[-1].line)
-        messages = [each for each in part if isinstance(each, Message) and each.again is None]
-        if messages:
-            part.extend(self._way.behind(self._standing, messages))
         if isinstance(part[-1], Message) or part[-1].line.startswith(b"!"):
             part.append(Probe)
         return part
@@ -86,7 +97,7 @@ class Index:
     async def _send(self):
         try:
             while True:
-                while not self._waiting or self._unsettled > UNSETTLED:
+                while not (self._orders or self._waiting) or self._unsettled > UNSETTLED:
                     self._wake.clear()
                     await self._wake.wait()
                 part = self._next_part()
@@ -131,13 +142,10 @@ class Index:
                 elif isinstance(what, Order):
                     orders.append((what, (kind, value) if last else ("done", None)))
         self._wake.set()
-        asked = []
         for order, outcome in orders:
-            if order.after:
-                asked.append((order.after, outcome))
-            elif not order.outcome.done():
+            if not order.outcome.done():
                 order.outcome.set_result(outcome)
-        self._taken(accepted, refused, met, asked)
+        self._taken(accepted, refused, met)
 
     async def ended(self):
         """Waits for the end of the program, and gives its status."""
@@ -152,8 +160,8 @@ class Index:
 
     def unsettled(self):
         """The messages and orders of which nothing is known, in order, once the program ended."""
-        return [each for each in [*self._sent, *self._waiting]
-                if each is not Probe and each.again is None and not (isinstance(each, Order) and each.after)]
+        return [each for each in [*self._sent, *self._orders, *self._waiting]
+                if each is not Probe and each.again is None]
 
     async def close(self):
         """Ends the program: its input ends, and where that isn't enough, it is told so by signals."""

@@ -1,72 +1,66 @@
-"""Lines in and lines out of the index program, as docs/FORMATS.md has them."""
+"""Lines in, of any log, and lines out of the index program, as docs/FORMATS.md has them."""
 import re
 
+# a longer line is cut here
 LONGEST = 65536
-LONG = bytes(LONGEST + 1)
-PRINTED = re.compile(rb"(\d+) (seen (\d+):((?: \d+)*)|watch:((?: \d+)*)|refused: (.*))")
+PRINTED = re.compile(rb"(\d+) (?:seen (\d+):((?: \d+)*)|watch:((?: \d+)*)|refused: (.*))")
 COLUMN = re.compile(r"bad query at (\d+)")
 # a query that is answered at once, and settles all lines before it
 PROBE = b"?1 a"
 
 
-def without_end(line):
-    """A line without the CR at its end."""
-    return line[:-1] if line.endswith(b"\r") else line
-
-
-def refusal_here(line):
-    """What a line, without its LF, is refused for before it reaches the index: a line that is no message must not, since it would
-    ask or set a watch. None where it goes there, and "" where it is blank."""
-    if len(line) > LONGEST:
-        return "long line"
-    line = without_end(line)
-    if not line:
-        return ""
-    return None if line.startswith(b"{") else "bad line"
+def numbers(text):
+    """The numbers of a list with blanks."""
+    return [int(each) for each in text.split()]
 
 
 def read_printed(line):
-    """The number of the line that is answered, what came of it, and more of it: ("seen", (count, ids)), ("watch", numbers) or
-    ("refused", name). None for other lines, as the summary."""
+    """The number of the line that is answered, what came of it, and more of it: ("seen", (count, ids)), ("watch", numbers) or ("refused",
+    name). None for other lines, as the summary."""
     found = PRINTED.fullmatch(line)
     if not found:
         return None
-    number, _, seen, ids, watches, refused = found.groups()
+    number, seen, ids, watches, refused = found.groups()
     if seen is not None:
-        return int(number), "seen", (int(seen), [int(each) for each in ids.split()])
+        return int(number), "seen", (int(seen), numbers(ids))
     if watches is not None:
-        return int(number), "watch", [int(each) for each in watches.split()]
+        return int(number), "watch", numbers(watches)
     return int(number), "refused", refused.decode("ascii", "replace")
 
 
-def refused_query(refusal, before, query):
-    """A refusal of a query that stood after so many bytes of its line, told of the query alone: its name, and the column, counted in
-    characters from 1, or None."""
+def refused_at(refusal, before):
+    """A refusal of a query with `before` bytes of its line before it: its name, and the bytes of the query before it, or None."""
     found = COLUMN.fullmatch(refusal)
-    if not found:
-        return refusal, None
-    bytes_before = max(int(found.group(1)) - 1 - before, 0)
-    return "bad query", len(query.encode()[:bytes_before].decode("utf-8", "ignore")) + 1
+    return (refusal, None) if not found else ("bad query", max(int(found.group(1)) - 1 - before, 0))
 
 
 class Splitter:
-    """The lines of pieces of bytes, without their LF. A long line stands for all long lines: its bytes aren't held."""
+    """The lines of pieces of bytes, without their ends. Of a long line the first bytes are kept, and the others passed over."""
 
     def __init__(self):
         self.rest = b""
+        # the bytes behind the last end
+        self.behind = 0
         self._long = False
 
     def take(self, piece):
         """The lines that end in this piece."""
-        *lines, rest = (self.rest + piece).split(b"\n")
-        if self._long and lines:
-            lines[0] = LONG
-            self._long = False
-        if self._long or len(rest) > LONGEST:
-            self._long, rest = True, b""
-        self.rest = rest
-        return lines
+        *lines, rest = piece.split(b"\n")
+        self.behind = len(rest) if lines else self.behind + len(rest)
+        if lines:
+            lines[0] = self.rest + (b"" if self._long else lines[0])
+            self.rest, self._long = b"", False
+        if not self._long:
+            self.rest += rest
+            if len(self.rest) > LONGEST:
+                self._long, self.rest = True, self.rest[:LONGEST]
+        return [self._whole(line) for line in lines]
+
+    @staticmethod
+    def _whole(line):
+        line = line[:LONGEST]
+        return line[:-1] if line.endswith(b"\r") else line
 
     def last(self):
-        """The line after the last LF, where there is one."""
-        return [LONG] if self._long else [self.rest] if self.rest else []
+        """The line after the last end, where there is one."""
+        return [self._whole(self.rest)] if self.rest else []

@@ -1,35 +1,46 @@
-"""Messages as JSON: for programs as they came, for the page with marks and with ids and other members as texts, since a browser's numbers
-have 53 bits."""
+"""Messages as JSON: for programs, and for the page with marks. Ids are texts, since a browser's numbers have 53 bits."""
+import csv
+import io
 import json
 
-from .query import marks
+from earlybird_logs import message
+from earlybird_logs.times import told
 
 
-def as_text(value):
-    """A member's value as a text to show."""
-    return value if isinstance(value, str) else json.dumps(value, ensure_ascii=False)
+def refuse(name):
+    """NaN and its like, which Python's JSON has and JSON hasn't."""
+    raise ValueError(name)
 
 
-def shown_line(line):
-    """A message's line as a value within JSON, on one line: a CR in it can only stand between its parts."""
-    return line.decode().replace("\r", " ").strip(" \t\r")
+def shown_line(raw):
+    """A line as a value within JSON: the object that it is, or a text."""
+    if raw.startswith(b"{"):
+        try:
+            json.loads(raw, parse_constant=refuse)
+            return raw.decode().replace("\r", " ").strip()
+        except (ValueError, RecursionError):
+            pass
+    return json.dumps(raw.decode("utf-8", "replace"), ensure_ascii=False)
 
 
-def for_programs(seq, line):
+def for_programs(key, at, source, raw):
     """A match for a program: the message as it came."""
-    return '{"seq":%d,"message":%s}' % (seq, shown_line(line))
+    return '{"id":"%d","time":"%s","source":%s,"message":%s}' % (key, told(at), json.dumps(source, ensure_ascii=False), shown_line(raw))
 
 
-def for_page(tree, seq, number, at, line):
-    """A match of a query, as a tree, for the page."""
-    members = json.loads(line)
-    text = members.pop("text")
-    members.pop("id")
-    return json.dumps({"seq": seq, "id": str(number), "at": at, "text": text, "marks": marks(tree, text, number, members) or [],
-                       "others": {name: as_text(value) for name, value in members.items()}}, ensure_ascii=False)
+def for_page(marker, key, at, source, raw):
+    """A match for the page."""
+    said = message.read(raw, at)
+    return json.dumps({"id": str(key), "at": at, "source": source, "level": said.level, "text": said.text, "main": said.main,
+                       "marks": marker.mark(key, said, source), "fields": said.fields}, ensure_ascii=False)
 
 
-def meets(tree, number, line):
-    """Whether a message meets a query, by the console's own reading."""
-    members = json.loads(line)
-    return marks(tree, members["text"], number, members) is not None
+def as_csv(rows):
+    """Matches as lines of CSV: a cell that a spreadsheet would run is a text there."""
+    out = io.StringIO()
+    writer = csv.writer(out)
+    for key, at, source, raw in rows:
+        said = message.read(raw, at)
+        cells = [source, said.level or "", said.text]
+        writer.writerow([told(at), *("'" + cell if cell[:1] in ("=", "+", "@", "-", "\t", "\r") else cell for cell in cells), str(key)])
+    return out.getvalue().encode("utf-8", "replace")

@@ -1,74 +1,98 @@
-"""Standing queries, by either of two ways: the program's watches where it takes them, else one query for each of them after each
-batch of messages. Which of them it is, is settled where the program is started: one that ends over the word `--watch` with the status of a
-usage that it doesn't know gets the other way."""
-import asyncio
-
-USAGE = 2
-MOST = 1000
+"""Standing queries: the watches of the page, and readers of events. Each is a watch of the index program."""
+from .alerts import Watch
+from .index import Order
+from .queries import Refused
+from . import limits
 
 
-class Order:
-    """A line for the index that isn't a message: a query, or one that sets or removes a watch. Its outcome comes once: what
-    `read_printed` tells, or ("done", None) for a line that prints nothing."""
+class Standing:
+    """Those of a console."""
 
-    def __init__(self, line, after=None, again=None):
-        self.line = line
-        self.outcome = asyncio.get_running_loop().create_future()
-        # the standing query and the messages that it is asked after
-        self.after = after
-        # whether it is for this run of the program alone
-        self.again = again
+    def __init__(self, console, alerts):
+        self.watches = {}
+        self._console = console
+        self.alerts = alerts
+        self._asked = {}
+        self._readers = {}
+        self._last = 0
+        for number, query, name, most, seconds in console.texts.watches():
+            try:
+                self._asked[number] = console.asking.read(query)
+            except Refused:
+                # (what an earlier console took and this one doesn't)
+                console.texts.drop_watch(number)
+                continue
+            self.watches[number] = Watch(number, query, name, most, seconds)
+            self._last = number
 
+    def lines(self):
+        """The lines that set them all."""
+        return [b"!%d %s" % (number, asked.text.encode()) for number, asked in self._asked.items()]
 
-class ByWatches:
-    """Standing queries that the program keeps: a message's line prints the numbers of those that it meets."""
+    async def _begin(self, asked):
+        number = self._last = self._last + 1
+        await self._console.asking.begin_watch(number, asked)
+        self._asked[number] = asked
+        return number
 
-    words = ("--watch",)
+    def _end(self, number):
+        self._asked.pop(number, None)
+        self._console.send(Order(b"!%d" % number))
 
-    @staticmethod
-    def begin(number, query):
-        """The line that begins a standing query, and how many bytes of it stand before the query."""
-        before = b"!%d " % number
-        return before + query.encode(), len(before)
+    def set_anew(self, names):
+        """Sets those queries anew that ask for values of these names, since from now on these are found by their words alone."""
+        for number, asked in list(self._asked.items()):
+            if any(name in names for name, _ in asked.fields):
+                again = self._asked[number] = self._console.asking.read(asked.query)
+                # (one line behind the other: no message comes between)
+                self._console.send(Order(b"!%d" % number))
+                self._console.send(Order(b"!%d %s" % (number, again.text.encode())))
+                if number in self._readers:
+                    self._readers[number].asked = again
 
-    @staticmethod
-    def end(number):
-        """The line that ends it, or None."""
-        return b"!%d" % number
+    async def begin_reading(self, asked, make_reader):
+        """Begins to tell a reader of the messages that meet a query. Raises Refused."""
+        number = await self._begin(asked)
+        reader = self._readers[number] = make_reader(number)
+        return reader
 
-    @staticmethod
-    def behind(_standing, _messages):
-        """The orders that stand after a batch of messages."""
-        return ()
+    def end_reading(self, reader):
+        """Ends it."""
+        self._readers.pop(reader.number, None)
+        self._end(reader.number)
 
+    async def add_watch(self, query, name, most, seconds):
+        """Adds a watch of the page, and gives its number. Raises Refused."""
+        if len(self.watches) >= limits.WATCHES:
+            raise Refused("watches full", None, "there are %d" % limits.WATCHES)
+        for number, each in self.watches.items():
+            if (each.query, each.name, each.most, each.seconds) == (query, name or query, most, seconds):
+                return number
+        number = await self._begin(self._console.asking.read(query))
+        self.watches[number] = Watch(number, query, name, most, seconds)
+        self._console.texts.keep_watch(number, query, name, most, seconds)
+        return number
 
-class ByQueries:
-    """Standing queries that are asked after each batch of messages: the newest answers are those of the batch."""
+    def remove_watch(self, number):
+        """Removes a watch; whether there was one."""
+        if self.watches.pop(number, None) is None:
+            return False
+        self._console.texts.drop_watch(number)
+        self._end(number)
+        return True
 
-    words = ()
+    def tell(self, met):
+        """Tells of messages that met standing queries: (number of the query, message)."""
+        by_number = {}
+        for number, message in met:
+            if message.again is None:
+                by_number.setdefault(number, []).append(message)
+        for number, found in by_number.items():
+            if number in self.watches:
+                self.alerts.meet(self.watches[number], found, self._console.texts.sources)
+            if number in self._readers:
+                self._readers[number].meet(found)
 
-    @staticmethod
-    def begin(_number, query):
-        """The line that shows whether the query can be read, and how many bytes of it stand before the query."""
-        return b"?1 " + query.encode(), len(b"?1 ")
-
-    @staticmethod
-    def end(_number):
-        """Nothing is to be ended."""
-        return None
-
-    @staticmethod
-    def behind(standing, messages):
-        """A query for each standing one."""
-        most = min(len(messages), MOST)
-        return [Order(b"?%d %s" % (most, query.encode()), (number, messages)) for number, query in standing.items()]
-
-    @staticmethod
-    def met(ids, messages):
-        """Those of a batch's accepted messages that an answer names: its newest ids are theirs."""
-        found, place = [], 0
-        for message in reversed(messages):
-            if place < len(ids) and message.seq is not None and message.id == ids[place]:
-                found.append(message)
-                place += 1
-        return found[::-1]
+    def told(self):
+        """For the page."""
+        return {"readers": len(self._readers), "watches": [watch.told() for watch in self.watches.values()]}

@@ -1,114 +1,161 @@
-"""The messages themselves, by the order in which the index took them: in SQLite, in a file or in memory."""
+"""The messages themselves, by their numbers: in SQLite, in a file or in memory."""
 import sqlite3
+import time
 
-FORM = 1
+from earlybird_logs import message
+
+FORM = 2
 TABLES = """
-CREATE TABLE messages (seq INTEGER PRIMARY KEY, id INTEGER NOT NULL, at INTEGER NOT NULL, line BLOB NOT NULL);
-CREATE INDEX messages_by_id ON messages (id, seq);
-CREATE TABLE watches (number INTEGER PRIMARY KEY, query TEXT NOT NULL);
+CREATE TABLE messages (seq INTEGER PRIMARY KEY, at INTEGER NOT NULL, source INTEGER NOT NULL, line BLOB NOT NULL);
+CREATE INDEX messages_of_source ON messages (source, seq);
+CREATE TABLE sources (number INTEGER PRIMARY KEY, name TEXT NOT NULL UNIQUE);
+CREATE TABLE names (name TEXT PRIMARY KEY, words_only INTEGER NOT NULL);
+CREATE TABLE watches (number INTEGER PRIMARY KEY, query TEXT NOT NULL, name TEXT NOT NULL, most INTEGER NOT NULL, seconds INTEGER NOT NULL);
 CREATE TABLE places (path TEXT PRIMARY KEY, file TEXT NOT NULL, place INTEGER NOT NULL);
 """
-# how many texts are looked at for one whose id comes once
-REACH = 64
+COLUMNS = "seq, at, source, line"
+# how a file of the form before becomes one of this: its messages had the time at which they were taken, and no source
+BEFORE = "earlier messages"
+OLD = ("ALTER TABLE messages RENAME TO old_messages", "ALTER TABLE watches RENAME TO old_watches", "ALTER TABLE places RENAME TO old_places")
+MOVED = ("INSERT INTO watches SELECT number, query, query, 0, 60 FROM old_watches", "INSERT INTO places SELECT path, file, place FROM old_places",
+         "DROP TABLE old_messages", "DROP TABLE old_watches", "DROP TABLE old_places")
+# seconds for another console to end
+PATIENCE = 1
 
 
 class TextsFault(Exception):
     """The file of the texts can't be used."""
 
 
-def signed(number):
-    """An id of 64 bits as SQLite keeps it."""
-    return number if number < 1 << 63 else number - (1 << 64)
-
-
-def unsigned(number):
-    """The id again."""
-    return number % (1 << 64)
+def reason(fault):
+    """Why SQLite refused, in words."""
+    return "another console has it" if "locked" in str(fault) else str(fault)
 
 
 class Texts:
-    """The texts. No sequence number is given twice while the console runs, also where texts were dropped."""
+    """The texts: (number, time of the message in milliseconds, number of its source, line as it came). No number is given twice. `oldest` and
+    `newest` are the least and the greatest number, 0 where there is none."""
 
     def __init__(self, path=":memory:"):
         try:
-            self._base = sqlite3.connect(path, isolation_level=None, timeout=1)
+            self._base = sqlite3.connect(path, isolation_level=None, timeout=PATIENCE)
             self._base.execute("PRAGMA locking_mode = EXCLUSIVE")
             self._base.execute("PRAGMA journal_mode = WAL")
             self._base.execute("PRAGMA synchronous = NORMAL")
             self._base.execute("BEGIN EXCLUSIVE")
             form = self._base.execute("PRAGMA user_version").fetchone()[0]
             if form == 0 and not self._base.execute("SELECT 1 FROM sqlite_master").fetchone():
-                for table in filter(str.strip, TABLES.split(";")):
-                    self._base.execute(table)
-                self._base.execute("PRAGMA user_version = %d" % FORM)
+                self._make_tables()
+            elif form == 1:
+                self._take_over()
             elif form != FORM:
                 raise TextsFault("%s is no file of texts of this console" % path)
             self._base.execute("COMMIT")
         except sqlite3.Error as fault:
-            raise TextsFault("%s: %s" % (path, fault)) from fault
-        self.count, newest = self._base.execute("SELECT count(*), coalesce(max(seq), 0) FROM messages").fetchone()
-        self.newest = newest
+            raise TextsFault("%s: %s" % (path, reason(fault))) from fault
+        self.count, self.newest, self.oldest = self._base.execute(
+            "SELECT count(*), coalesce(max(seq), 0), coalesce(min(seq), 0) FROM messages").fetchone()
+        self.sources = dict(self._base.execute("SELECT number, name FROM sources"))
+        self._numbers = {name: number for number, name in self.sources.items()}
+        # (name, whether its values are found by their words alone)
+        self.names = [(name, bool(only)) for name, only in self._base.execute("SELECT name, words_only FROM names")]
+
+    def _make_tables(self):
+        for table in filter(str.strip, TABLES.split(";")):
+            self._base.execute(table)
+        self._base.execute("PRAGMA user_version = %d" % FORM)
+
+    def _take_over(self):
+        """Makes of a file of form 1 one of this form."""
+        for statement in OLD:
+            self._base.execute(statement)
+        self._make_tables()
+        now, names = time.time() * 1000, set()
+        self._base.execute("INSERT INTO sources VALUES (1, ?)", (BEFORE,))
+        for seq, at, line in self._base.execute("SELECT seq, at, line FROM old_messages ORDER BY seq"):
+            said = message.read(line, now)
+            names.update(said.fields)
+            self._base.execute("INSERT INTO messages VALUES (?, ?, 1, ?)", (seq, said.when or at, line))
+        self._base.executemany("INSERT OR IGNORE INTO names VALUES (?, 0)", [(name.casefold(),) for name in sorted(names)[:1000]])
+        for statement in MOVED:
+            self._base.execute(statement)
 
     def close(self):
         """Ends the use of the file."""
         self._base.close()
 
-    def add(self, rows, places):
-        """Keeps messages, (sequence number, id, milliseconds, line), and how far files are read: both or neither."""
+    def source(self, name):
+        """The number of a source, which becomes one where it is none yet."""
+        if name not in self._numbers:
+            number = len(self.sources) + 1
+            self._base.execute("INSERT INTO sources VALUES (?, ?)", (number, name))
+            self.sources[number], self._numbers[name] = name, number
+        return self._numbers[name]
+
+    def add(self, rows, places, names=()):
+        """Keeps messages, how far files are read, and (name, whether its words alone are found): all or nothing of it."""
         try:
             self._base.execute("BEGIN")
-            self._base.executemany("INSERT INTO messages VALUES (?, ?, ?, ?)", ((seq, signed(number), at, line) for seq, number, at, line in rows))
-            self._base.executemany("INSERT OR REPLACE INTO places VALUES (?, ?, ?)", places)
+            self._base.executemany("INSERT INTO messages VALUES (?, ?, ?, ?)", rows)
+            if places:
+                self._base.executemany("INSERT OR REPLACE INTO places VALUES (?, ?, ?)", places)
+            if names:
+                self._base.executemany("INSERT OR REPLACE INTO names VALUES (?, ?)", names)
             self._base.execute("COMMIT")
         except sqlite3.Error as fault:
             raise TextsFault("a text can't be kept: %s" % fault) from fault
         if rows:
+            # (one that was too long at first comes behind later ones)
+            self.oldest = min(self.oldest or rows[0][0], min(rows)[0])
             self.count += len(rows)
-            self.newest = rows[-1][0]
+            self.newest = max(self.newest, max(rows)[0])
 
     def after(self, seq, count):
-        """So many messages after this one, the oldest first: (sequence number, line)."""
-        return self._base.execute("SELECT seq, line FROM messages WHERE seq > ? ORDER BY seq LIMIT ?", (seq, count)).fetchall()
+        """At most `count` messages after this number, in the order of their numbers."""
+        return self._base.execute("SELECT %s FROM messages WHERE seq > ? ORDER BY seq LIMIT ?" % COLUMNS, (seq, count)).fetchall()
 
-    def of_id(self, number, count):
-        """So many messages with this id, the newest first: (sequence number, id, milliseconds, line)."""
-        return [(seq, number, at, line) for seq, at, line in self._base.execute(
-            "SELECT seq, at, line FROM messages WHERE id = ? ORDER BY seq DESC LIMIT ?", (signed(number), count))]
+    def times(self):
+        """The number and time of all, in the order of their numbers."""
+        return self._base.execute("SELECT seq, at FROM messages ORDER BY seq")
 
-    def oldest(self):
-        """The least sequence number, or None."""
-        return self._base.execute("SELECT min(seq) FROM messages").fetchone()[0]
+    def one(self, seq):
+        """One message, or None."""
+        return self._base.execute("SELECT %s FROM messages WHERE seq = ?" % COLUMNS, (seq,)).fetchone()
 
-    def single(self, seq):
-        """The first message from here on whose id no later one has, (sequence number, id), where one of the next few is such."""
-        for each, number in self._base.execute("SELECT seq, id FROM messages WHERE seq >= ? ORDER BY seq LIMIT ?", (seq, REACH)):
-            if not self._base.execute("SELECT 1 FROM messages WHERE id = ? AND seq > ?", (number, each)).fetchone():
-                return each, unsigned(number)
-        return None
+    def size(self, numbers):
+        """The bytes of all messages of these numbers together."""
+        return self._base.execute("SELECT coalesce(sum(length(line)), 0) FROM messages WHERE seq IN (%s)" % ",".join(map(str, numbers))).fetchone()[0]
+
+    def around(self, seq, source, count):
+        """At most `count` messages of a source before a number and as many behind it, in order, that one among them."""
+        before = self._base.execute("SELECT %s FROM messages WHERE source = ? AND seq < ? ORDER BY seq DESC LIMIT ?" % COLUMNS, (source, seq, count)).fetchall()
+        behind = self._base.execute("SELECT %s FROM messages WHERE source = ? AND seq >= ? ORDER BY seq LIMIT ?" % COLUMNS, (source, seq, count + 1)).fetchall()
+        return before[::-1] + behind
 
     def drop(self, below, most):
-        """Drops the messages before this one, at most so many of them, and tells how many."""
-        dropped = self._base.execute(
-            "DELETE FROM messages WHERE seq IN (SELECT seq FROM messages WHERE seq < ? ORDER BY seq LIMIT ?)", (below, most)).rowcount
-        self.count -= dropped
-        return dropped
+        """Drops the messages before a number, at most `most` of them; gives what they were, (number, time)."""
+        gone = self._base.execute("SELECT seq, at FROM messages WHERE seq < ? ORDER BY seq LIMIT ?", (below, most)).fetchall()
+        if gone:
+            self._base.execute("DELETE FROM messages WHERE seq <= ?", (gone[-1][0],))
+            self.count -= len(gone)
+            self.oldest = (self.from_here(0) or (0,))[0]
+        return gone
 
     def drop_one(self, seq):
         """Drops one message."""
         self.count -= self._base.execute("DELETE FROM messages WHERE seq = ?", (seq,)).rowcount
 
-    def behind_newest(self, most):
-        """The sequence number of the oldest of so many newest messages."""
-        found = self._base.execute("SELECT seq FROM messages ORDER BY seq DESC LIMIT 1 OFFSET ?", (most - 1,)).fetchone()
-        return found[0] if found else 0
+    def from_here(self, seq):
+        """The first message from this number on, (number, time), or None."""
+        return self._base.execute("SELECT seq, at FROM messages WHERE seq >= ? ORDER BY seq LIMIT 1", (seq,)).fetchone()
 
     def watches(self):
-        """The watches that are kept: (number, query)."""
-        return self._base.execute("SELECT number, query FROM watches ORDER BY number").fetchall()
+        """The watches that are kept: (number, query, name, threshold, seconds)."""
+        return self._base.execute("SELECT number, query, name, most, seconds FROM watches ORDER BY number").fetchall()
 
-    def keep_watch(self, number, query):
+    def keep_watch(self, *watch):
         """Keeps a watch."""
-        self._base.execute("INSERT OR REPLACE INTO watches VALUES (?, ?)", (number, query))
+        self._base.execute("INSERT OR REPLACE INTO watches VALUES (?, ?, ?, ?, ?)", watch)
 
     def drop_watch(self, number):
         """Drops a watch."""

@@ -1,5 +1,5 @@
 // The strip of figures, the refused lines, and what is said of the index.
-import { at, clock, make, number, put } from "./parts.js";
+import { at, make, number, put, when } from "./parts.js";
 
 const notice = at("notice");
 const dismiss = notice.querySelector("button");
@@ -7,7 +7,7 @@ const why = at("why");
 let unreachable = false;
 let last = null;
 
-const milliseconds = (value) => (value === null ? "–" : `${number(value, value < 10 ? 2 : 0)} ms`);
+const milliseconds = (value) => (value === null ? "–" : `${number(value, value < 10 ? 1 : 0)}`);
 
 function say(text, starts) {
   notice.hidden = !text;
@@ -20,7 +20,7 @@ function showState(state) {
   if (unreachable) say("The console can't be reached. The page tries again.", 0);
   else if (state.index === "starting") say(state.starts ? `The index ended and is started again${back}.` : `The index is starting${back}.`, 0);
   else if (state.starts > 1 && sessionStorage.getItem("dismissed") !== String(state.at)) {
-    say(`The index ended and was started again at ${clock(state.at)}, with the ${number(state.fed)} messages that were kept.`, state.starts);
+    say(`The index ended and was started again at ${when(state.at)}, with the ${number(state.fed)} messages that were kept.`, state.starts);
   } else say("", 0);
 }
 
@@ -30,10 +30,10 @@ export function showFigures(told) {
   const count = Object.values(told.refused).reduce((sum, each) => sum + each, 0);
   put(at("messages"), number(told.messages_per_second, told.messages_per_second < 10 ? 1 : 0));
   put(at("kept"), number(told.kept));
-  put(at("queries"), number(told.queries_per_second, 1));
-  put(at("p50"), milliseconds(told.p50));
-  put(at("p99"), milliseconds(told.p99));
+  put(at("times"), told.p50 === null ? "–" : `${milliseconds(told.p50)} / ${milliseconds(told.p99)} ms`);
   put(at("refused"), number(count));
+  put(at("sources"), told.sources.join("  "));
+  at("sources").title = told.sources.join("\n");
   why.hidden = count === 0;
   if (!at("reasons").hidden) showReasons();
   showState(told.state);
@@ -47,7 +47,7 @@ export function showUnreachable() {
 function showReasons() {
   at("kinds").replaceChildren(...Object.entries(last.refused).map(([name, count]) => make("li", "", make("b", "", number(count)), " ", name)));
   at("refusals").replaceChildren(...[...last.refusals].reverse().map((each) =>
-    make("tr", "", make("td", "", each.source), make("td", "", number(each.line)), make("td", "", each.refused))));
+    make("tr", "", make("td", "", each.source), make("td", "", each.refused), make("td", "", each.text))));
 }
 
 why.addEventListener("click", () => {

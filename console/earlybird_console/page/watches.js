@@ -1,11 +1,12 @@
 // The column of watches: each with a bar for each second of the last minute.
-import { ask, at, make, number, put, showRefusal } from "./parts.js";
+import { ask, at, make, number, put, showRefusal, when } from "./parts.js";
 
 const SVG = "http://www.w3.org/2000/svg";
 const HEIGHT = 20;
 const list = at("watches");
 const input = at("watch");
 const items = new Map();
+const alarms = new Map();
 let choose = () => {};
 
 function barsOf(count) {
@@ -23,13 +24,13 @@ function barsOf(count) {
 }
 
 function itemOf(watch) {
-  const query = make("button", "query quiet", watch.query);
+  const query = make("button", "query quiet", watch.name);
   const remove = make("button", "remove quiet", "×");
-  const item = make("li", "", make("div", "top", query, make("b"), remove), barsOf(watch.counts.length));
+  const item = make("li", "", make("div", "top", query, make("b"), remove), barsOf(watch.counts.length), make("div", "told"));
   query.type = remove.type = "button";
   query.title = watch.query;
   query.setAttribute("aria-label", `Show the matches of ${watch.query}`);
-  remove.setAttribute("aria-label", `Remove the watch ${watch.query}`);
+  remove.setAttribute("aria-label", `Remove the watch ${watch.name}`);
   query.addEventListener("click", () => choose(watch.query));
   remove.addEventListener("click", async () => {
     await ask(`/watches/${watch.number}`, { method: "DELETE" }).catch(() => {});
@@ -40,7 +41,8 @@ function itemOf(watch) {
   return item;
 }
 
-function draw(item, counts) {
+function draw(item, watch) {
+  const { counts } = watch;
   const sum = counts.reduce((all, each) => all + each, 0);
   const most = Math.max(1, ...counts);
   const svg = item.querySelector("svg");
@@ -51,6 +53,14 @@ function draw(item, counts) {
     bar.setAttribute("y", HEIGHT - height);
     bar.setAttribute("height", height);
   });
+  const rule = watch.most ? `alarm at ${number(watch.most)} within ${number(watch.seconds)} s` : "counts only";
+  put(item.querySelector(".told"), watch.last ? `${rule}; ${number(watch.alarms)} so far, last ${when(watch.last)}` : rule);
+  item.classList.toggle("alarm", watch.last !== null && Date.now() - watch.last < 60000);
+  const told = alarms.get(watch.number);
+  if (told !== undefined && watch.alarms > told && globalThis.Notification?.permission === "granted") {
+    new Notification(`Earlybird: ${watch.name}`, { body: `${watch.query}: ${watch.most} within ${watch.seconds} s`, tag: String(watch.number) });
+  }
+  alarms.set(watch.number, watch.alarms);
 }
 
 export function showWatches(watches) {
@@ -65,11 +75,10 @@ export function showWatches(watches) {
       items.set(watch.number, itemOf(watch));
       list.append(items.get(watch.number));
     }
-    draw(items.get(watch.number), watch.counts);
+    draw(items.get(watch.number), watch);
   }
   put(at("watches-count"), watches.length ? number(watches.length) : "");
-  at("no-watches").hidden = watches.length > 0;
-}
+  }
 
 export function onChoose(act) {
   choose = act;
@@ -85,11 +94,21 @@ at("watching").addEventListener("submit", async (event) => {
   event.preventDefault();
   if (!input.value.trim()) return;
   try {
-    await ask("/watches", { method: "POST", body: input.value });
+    const watch = { query: input.value, name: at("watch-name").value, most: Number(at("watch-most").value), seconds: Number(at("watch-seconds").value) };
+    await ask("/watches", { method: "POST", body: JSON.stringify(watch) });
     showRefusal(input, at("watch-refusal"), null);
-    input.value = "";
+    input.value = at("watch-name").value = "";
     showWatches((await ask("/figures")).watches);
   } catch (refusal) {
     showRefusal(input, at("watch-refusal"), refusal);
   }
 });
+
+// a desktop notification wants somebody's word
+const allow = at("allow");
+const showAllow = () => { if (globalThis.Notification?.permission !== "default") put(allow, globalThis.Notification?.permission === "granted" ? "(allowed)" : "(not allowed)"); };
+allow.addEventListener("click", async () => {
+  await globalThis.Notification?.requestPermission();
+  showAllow();
+});
+showAllow();
