@@ -1,3 +1,4 @@
+/* SPDX-License-Identifier: MIT OR Apache-2.0 */
 /* Earlybird, an in-memory real-time search index, for C and what calls C. There are three kinds: an index in memory that the
  * caller lends, here; one that threads share, behind handles (below, from eb_open on); and a feed that threads share, which
  * never ends (from eb_stream_open on).
@@ -49,7 +50,7 @@ enum {
     EB_BAD_SETTING = 13,     /* the three numbers are no setting */
     EB_BAD_SIZE = 14,        /* not as many words as the setting needs */
     EB_NOT_BEGUN = 15,       /* the numbers aren't those of an index that was begun, or the number of words isn't that of its setting */
-    EB_BAD_HANDLE = 16       /* a handle leads to nothing, or not to what the call takes; or one that is to be made isn't closed */
+    EB_BAD_HANDLE = 16       /* a handle is closed or of the wrong type, or one that the call is to make isn't closed */
 };
 
 /* How much of a segment is used. It has room for `docs` documents, `terms` distinct terms, 4 * terms text words (1 and the
@@ -78,7 +79,7 @@ struct eb_answer {
  * all: 1 + segments * (2 + docs + 77 * terms). */
 uint64_t eb_words(uint32_t segments, uint32_t docs, uint32_t terms);
 
-/* Begins an index of this setting without a document, whatever stood in the words and the numbers before. `words_len` is
+/* Begins an index of this setting without a document, whatever the words and the numbers were before. `words_len` is
  * exactly eb_words(segments, docs, terms). EB_BAD_SETTING and EB_BAD_SIZE change nothing. */
 uint32_t eb_begin(uint64_t *words, size_t words_len, struct eb_index *index, uint32_t segments, uint32_t docs, uint32_t terms);
 
@@ -190,9 +191,9 @@ uint32_t eb_stream_open(struct eb_handle *leader, uint32_t segments, uint32_t do
 uint32_t eb_leader_add_line(struct eb_handle *leader, const unsigned char *line, size_t line_len);
 uint32_t eb_leader_add_text(struct eb_handle *leader, uint64_t id, const unsigned char *text, size_t text_len);
 
-/* Tells each follower of the generations that were begun, as an add does too: `told` is 1 where each has been told of them, and 0 where
- * one couldn't be, since it was just taking in what it was told before, or since there was no memory. Not proved: that they
- * are told. So a program that waits after an add calls this first, until `told` is 1. */
+/* Tells each follower of the generations that were begun, as an add does too: `told` is 1 where each has heard of them, and 0
+ * where one couldn't, since it was just taking in earlier news, or since there was no memory. Not proved: that they hear of
+ * them. So a program that waits after an add calls this first, until `told` is 1. */
 uint32_t eb_leader_tell(struct eb_handle *leader, uint32_t *told);
 
 /* Makes the converter of the newest generation, for eb_converter_convert, where it wasn't made since that was begun; else the
@@ -206,26 +207,28 @@ uint32_t eb_leader_converter(struct eb_handle *leader, struct eb_handle *convert
 uint32_t eb_spare_open(struct eb_handle *spare, uint32_t segments, uint32_t docs, uint32_t terms);
 
 /* Lends the leader a spare index of its feed's setting: the add that begins the next generation takes it, and opens none. The
- * spare's handle then leads to the one that the leader had been lent before and hasn't taken, or it is closed where there was none: so
- * a program may lend before each add, and have another one opened where the handle comes back closed. EB_BAD_SETTING: both are as
- * before. Tested, and not proved: that the next generation takes it, and that one that isn't taken comes back. */
+ * spare's handle then leads to the one that the leader had been lent before and hasn't taken, or it is closed where there was none, or no
+ * memory for its handle, and then that one is dropped: so a program may lend before each add, and have another one opened where the
+ * handle comes back closed. EB_BAD_SETTING: both are as before. Tested, and not proved: that the next generation takes it, and that one
+ * that isn't taken comes back. */
 uint32_t eb_leader_lend(struct eb_handle *leader, struct eb_handle *spare);
 
-/* Takes the generation that the leader let go where it began the newest one, if it began that in a spare index, and this call wasn't
+/* Takes the generation that the leader dropped where it began the newest one, if it began that in a spare index, and this call wasn't
  * made since; else the handle stays closed, and the call answers EB_OK too. The handle is closed before. So that add gave no memory
  * back: who closes the handle does, on any thread, unless a follower or the generation's converter holds it on; then the last of them
- * does. One that isn't taken is let go where the leader begins another generation, so at most one is held beyond those that the feed
+ * does. One that isn't taken is dropped where the leader begins another generation, so at most one is held beyond those that the feed
  * keeps. EB_NO_MEMORY: there was none for the handle, and the call let the generation go. Tested, and not proved: that there is one
- * where one was let go. */
+ * where one was dropped. */
 uint32_t eb_leader_released(struct eb_handle *leader, struct eb_handle *released);
 
 /* Makes a follower, which knows all that the leader added. EB_NO_MEMORY. */
 uint32_t eb_follower(struct eb_handle *leader, struct eb_handle *follower);
 
-/* Answer as eb_ask_line and eb_ask_text do, over the generations that the follower holds once it took in what it was told, up to
- * the end of the first `answer->seen` documents of the leader. It knows them from then on, and they begin with all that it
- * knew: so `seen` never falls; but where it wasn't asked while the feed began `keep` generations or more, that is proved only of the
- * generations that were closed when it was asked last. Where it isn't EB_OK, the follower is as before. */
+/* Answer as eb_ask_line and eb_ask_text do, over the generations that the follower holds once it took in what it had heard of, up to
+ * the end of the first `answer->seen` documents of the leader. It knows them from then on. They begin with all that it knew of the
+ * generations that were closed when it was asked last; and with all else that it knew, unless the generation that was its newest is
+ * held no more, or fewer of its documents are known. Not proved: that fewer are known, and so `seen` falls, only where it is held no
+ * more. Where it isn't EB_OK, the follower is as before. */
 uint32_t eb_follower_ask_line(struct eb_handle *follower, const unsigned char *line, size_t line_len, uint64_t *ids, size_t ids_len,
                               struct eb_answer *answer);
 uint32_t eb_follower_ask_text(struct eb_handle *follower, uint32_t k, const unsigned char *text, size_t text_len, uint64_t *ids, size_t ids_len,

@@ -14,6 +14,7 @@ HERE = os.path.dirname(os.path.abspath(__file__))
 NAME, VERSION = "earlybird", "0.5.0"
 TAG = "py3-none-linux_x86_64"
 INFO = "%s-%s.dist-info" % (NAME, VERSION)
+LICENCE, LICENCES = "MIT OR Apache-2.0", ("LICENSE-MIT", "LICENSE-APACHE")
 
 
 def archive():
@@ -64,7 +65,9 @@ def read(path):
 
 def metadata():
     head = "Metadata-Version: 2.1\nName: %s\nVersion: %s\n" % (NAME, VERSION)
-    head += "Summary: A real-time search index for messages, in memory\nRequires-Python: >=3.8\nDescription-Content-Type: text/markdown\n\n"
+    head += "Summary: A real-time search index for messages, in memory\nLicense: %s\n" % LICENCE
+    head += "".join("License-File: %s\n" % name for name in LICENCES)
+    head += "Requires-Python: >=3.8\nDescription-Content-Type: text/markdown\n\n"
     return head.encode() + read(os.path.join(HERE, "README.md"))
 
 
@@ -73,6 +76,7 @@ def write_wheel(folder, files):
     files = {
         **files,
         INFO + "/METADATA": metadata(),
+        **{"%s/%s" % (INFO, name): read(os.path.join(HERE, name)) for name in LICENCES},
         INFO + "/WHEEL": ("Wheel-Version: 1.0\nGenerator: %s\nRoot-Is-Purelib: false\nTag: %s\n" % (NAME, TAG)).encode(),
     }
     digest = lambda data: base64.urlsafe_b64encode(hashlib.sha256(data).digest()).rstrip(b"=").decode()
@@ -102,7 +106,7 @@ def build_sdist(sdist_directory, config_settings=None):
         with open(os.path.join(folder, "PKG-INFO"), "wb") as info:
             info.write(metadata())
         file.add(os.path.join(folder, "PKG-INFO"), name + "/PKG-INFO")
-        for path in ("pyproject.toml", "backend.py", "README.md", "src", "tests"):
+        for path in ("pyproject.toml", "backend.py", "README.md", *LICENCES, "src", "tests"):
             file.add(os.path.join(HERE, path), "%s/%s" % (name, path), filter=lambda it: None if "__pycache__" in it.name or it.name.endswith(".so") else it)
     return name + ".tar.gz"
 

@@ -222,8 +222,8 @@ pub struct Index {
 }
 
 impl Index {
-    /// An index of so many segments (1 to 64), each with room for so many messages (1 to 16,777,216) and distinct words (a power
-    /// of two from 1,024 to 1,048,576). It takes all its memory at once: 58 MiB for 12, 4,096 and 8,192, at most 1 GiB.
+    /// An index of `segments` segments (1 to 64), each with room for `docs` messages (1 to 16,777,216) and `terms` distinct
+    /// words (a power of two from 1,024 to 1,048,576). It takes all its memory at once: 58 MiB for 12, 4,096 and 8,192, at most 1 GiB.
     ///
     /// [`Refusal::BadSetting`] where no index can have these numbers, and [`Refusal::NoMemory`] where there is no room for it.
     pub fn new(segments: u32, docs: u32, terms: u32) -> Result<Index, Refusal> {

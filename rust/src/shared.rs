@@ -26,7 +26,7 @@ impl Side {
     }
 }
 
-/// Opens an index of so many segments, each with room for so many documents and distinct terms, with its one writer and its one
+/// Opens an index of `segments` segments, each with room for `docs` documents and `terms` distinct terms, with its one writer and its one
 /// converter. Takes all memory that the index will ever take.
 ///
 /// ```

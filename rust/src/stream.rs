@@ -23,8 +23,8 @@ extern "C" {
     fn eb_follower_held(follower: *mut Handle, held: *mut u64) -> u32;
 }
 
-/// Opens a feed that keeps so many generations, 2 to 64, each an index of so many segments with room for so many documents and
-/// distinct terms, with its one leader. Takes memory for one generation.
+/// Opens a feed that keeps `keep` generations, 2 to 64, each an index of `segments` segments with room for `docs` documents
+/// and `terms` distinct terms, with its one leader. Takes memory for one generation.
 ///
 /// ```
 /// let mut leader = earlybird::stream::open(1, 2, 1024, 2)?;
@@ -57,7 +57,7 @@ pub struct Leader {
 
 impl Leader {
     /// Adds the message of an id and a text, after those before it. Where the newest generation has no room for it, another is
-    /// begun, the followers are told of it, and the oldest that the feed keeps is let go: so it is never full.
+    /// begun, the followers hear of it, and the oldest that the feed keeps is dropped: so it is never full.
     ///
     /// [`Refusal::TooLong`] or `NoMemory`; then nothing is changed.
     pub fn add(&mut self, id: u64, text: &str) -> Result<(), Refusal> {
@@ -71,8 +71,8 @@ impl Leader {
         Refusal::of(unsafe { eb_leader_add_line(self.side.at(), line.as_ptr(), line.len()) }, 0)
     }
 
-    /// Tells each follower of the generations that were begun, as [`Leader::add`] does too. False where one couldn't be told, since
-    /// it was just taking in what it was told before, or since there was no memory. So a program that waits after an add calls
+    /// Tells each follower of the generations that were begun, as [`Leader::add`] does too. False where one couldn't hear of them,
+    /// since it was just taking in earlier news, or since there was no memory. So a program that waits after an add calls
     /// this first, until it is true.
     pub fn tell(&mut self) -> bool {
         let mut told = 0;
@@ -93,16 +93,16 @@ impl Leader {
     /// it was lent before and hasn't taken; so a program may lend before each add, and have another one opened where nothing
     /// comes back.
     ///
-    /// [`Refusal::BadSetting`] where its setting isn't that of the feed, and it is let go.
+    /// [`Refusal::BadSetting`] where its setting isn't that of the feed, and it is dropped.
     pub fn lend(&mut self, mut spare: Spare) -> Result<Option<Spare>, Refusal> {
         // SAFETY: two handles that no other call has.
         Refusal::of(unsafe { eb_leader_lend(self.side.at(), spare.side.at()) }, 0)?;
         Ok(if spare.side.is_closed() { None } else { Some(spare) })
     }
 
-    /// The generation that was let go where the newest one was begun, if that was begun in an index that was lent; nothing where it
+    /// The generation that was dropped where the newest one was begun, if that was begun in an index that was lent; nothing where it
     /// was asked for since. So that [`Leader::add`] gives no memory back: who drops the generation does, on any thread, unless a
-    /// follower or its converter holds it on. One that isn't asked for is let go by the add that begins another generation.
+    /// follower or its converter holds it on. One that isn't asked for is dropped by the add that begins another generation.
     ///
     /// [`Refusal::NoMemory`], and this call lets it go.
     pub fn released(&mut self) -> Result<Option<Released>, Refusal> {
@@ -135,7 +135,7 @@ pub struct Spare {
 }
 
 impl Spare {
-    /// Opens an index of so many segments with room for so many documents and distinct terms. Takes memory for one generation.
+    /// Opens an index of `segments` segments with room for `docs` documents and `terms` distinct terms. Takes memory for one generation.
     pub fn open(segments: u32, docs: u32, terms: u32) -> Result<Spare, Refusal> {
         let side = Side::closed();
         // SAFETY: a handle that no other call has.
@@ -144,7 +144,7 @@ impl Spare {
     }
 }
 
-/// A generation that a feed let go. Its memory is given back where it is dropped, on any thread, unless a follower or its converter
+/// A generation that a feed dropped. Its memory is given back where it is dropped, on any thread, unless a follower or its converter
 /// holds it on.
 ///
 /// ```
@@ -181,7 +181,7 @@ pub struct Follower {
 
 impl Follower {
     /// Answers a query of which the newest `k` matches are wanted, 1 to 1,000, over the newest generations that the feed keeps, up to
-    /// the end of the first `seen` documents of the leader, once it took in what it was told. They begin with all that this
+    /// the end of the first `seen` documents of the leader, once it took in what it had heard of. They begin with all that this
     /// follower knew, and it knows them from then on.
     pub fn search(&mut self, k: u32, query: &str) -> Result<Answer, Refusal> {
         let at = self.side.at();

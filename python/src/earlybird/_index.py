@@ -34,9 +34,9 @@ class Answer(List[int]):
 
 
 class Index:
-    """An index of so many segments, each with room for so many messages (1 to 16,777,216) and distinct words (a power of two from
-    1,024 to 1,048,576). It takes all its memory at once: 58 MiB by default, at most 1 GiB. Any thread may call it; calls on one
-    index go one after another.
+    """An index of `segments` segments, each with room for `docs` messages (1 to 16,777,216) and `terms` distinct words (a power
+    of two from 1,024 to 1,048,576). It takes all its memory at once: 58 MiB by default, at most 1 GiB. Any thread may call
+    it; calls on one index go one after another.
 
     Raises `BadSetting` where no index can have these numbers, and MemoryError where there is no room for it.
 

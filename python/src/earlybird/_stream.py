@@ -8,9 +8,9 @@ from earlybird._shared import Converter
 
 
 class Leader(Adding):
-    """The one leader of a new feed, which keeps so many generations, 2 to 64, of an index with the numbers of `Index`; `follower()`
+    """The one leader of a new feed, which keeps `keep` generations, 2 to 64, of an index with the numbers of `Index`; `follower()`
     makes its followers. It is never full: where the newest generation has no room for a message, another is begun, and the oldest
-    is let go. Other threads may search while it adds.
+    is dropped. Other threads may search while it adds.
 
     Raises `BadSetting` where no feed can have these numbers, and `NoMemory` where there is no room for it.
 
@@ -43,8 +43,8 @@ class Leader(Adding):
         self._add_line(line)
 
     def tell(self) -> bool:
-        """Tells each follower of the generations that were begun, as `add` does too. False where one couldn't be told, since it
-        was just taking in what it was told before, or since there was no memory. So a program that waits after an `add` calls
+        """Tells each follower of the generations that were begun, as `add` does too. False where one couldn't hear of them,
+        since it was just taking in earlier news, or since there was no memory. So a program that waits after an `add` calls
         this first, until it answers True.
 
         Raises `BadHandle`.
@@ -76,9 +76,9 @@ class Leader(Adding):
             return spare._handle.kind == 0
 
     def released(self) -> "Optional[Released]":
-        """The generation that was let go where the newest one was begun, if that was begun in a spare index; None where it was asked for
+        """The generation that was dropped where the newest one was begun, if that was begun in a spare index; None where it was asked for
         since. So that `add` gives no memory back: who closes the generation does, on any thread, unless a follower or its converter
-        holds it on. One that isn't asked for is let go by the `add` that begins another generation.
+        holds it on. One that isn't asked for is dropped by the `add` that begins another generation.
 
         Raises `BadHandle`; or `NoMemory`, and lets it go.
         """
@@ -115,7 +115,7 @@ class Spare(Side):
 
 
 class Released(Side):
-    """A generation that a feed let go, which `released()` of its leader gives. Its memory is given back by `close()`, on any thread, unless
+    """A generation that a feed dropped, which `released()` of its leader gives. Its memory is given back by `close()`, on any thread, unless
     a follower or its converter holds it on.
 
         >>> leader = Leader(segments=1, docs=1, terms=1024, keep=2)
@@ -142,7 +142,7 @@ class Follower(Asking):
 
     def search(self, query: str, k: int = 10) -> Answer:
         """Answers a query with the ids of the newest `k` matches, 1 to 1,000, among the newest generations that the feed keeps, up
-        to the end of the first `seen` messages of the leader: at least all of which it was told before the call, and all that
+        to the end of the first `seen` messages of the leader: at least all that it had heard of before the call, and all that
         this follower saw before.
 
         Raises what `Index.search` raises, or `BadHandle`.
