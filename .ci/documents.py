@@ -14,7 +14,7 @@ ENDINGS = (".md", ".rt", ".antt", ".py", ".h", ".a", ".c", ".1", ".jsonl", ".txt
 
 
 def documents():
-    patterns = ("README.md", "docs/*.md", "crates/*/README.md", "examples/*/README.md", "python/README.md", "rust/README.md", "bench/*.md")
+    patterns = ("*.md", "docs/*.md", "crates/*/README.md", "examples/*/README.md", "python/README.md", "rust/README.md", "bench/*.md")
     return sorted(path for pattern in patterns for path in glob.glob(pattern))
 
 
@@ -37,7 +37,25 @@ def commands_print(check, program):
             count += 1
             got = subprocess.run(["bash", "-c", command.replace("./earlybird", "'%s'" % program)], stdout=subprocess.PIPE)
             check("%s: %s" % (path, command.splitlines()[0][:60]), want, got.stdout.decode())
-    check("README has a console", True, count >= 1)
+    check("README has consoles", True, len(list(consoles(read("README.md")))) >= 2)
+    check("commands of documents were tried", True, count >= 2)
+
+
+def table_below(text, head):
+    """The first table below a head: its columns, and each row's cells by its name."""
+    found = re.search(r"^((?:\|.*\n)+)", text[text.index(head):], re.M).group(1)
+    rows = [[cell.strip() for cell in line.strip("|\n").split("|")] for line in found.splitlines()]
+    return rows[0], {row[0]: row for row in rows[2:]}
+
+
+def figures_are_those_measured(check):
+    """Each figure of README's table stands in the newest table of docs/PERFORMANCE.md, which is of the date that README says."""
+    of_all, measured = table_below(read("docs/PERFORMANCE.md"), "<!-- made: figures -->")
+    columns, shown = table_below(read("README.md"), "\n## Why not")
+    places = [next(at for at, it in enumerate(of_all) if it.startswith(name)) for name in columns[1:]]
+    check("README's figures are those of docs/PERFORMANCE.md", {name: [name, *(measured[name][at] for at in places)] for name in shown}, shown)
+    date = re.search(r"<!-- made: figures -->\n\n(\d{4}-\d\d-\d\d), ", read("docs/PERFORMANCE.md")).group(1)
+    check("README's figures: three rows, with their date", (3, True), (len(shown), date in read("README.md").partition("\n## Why not")[2].partition("\n## ")[0]))
 
 
 def queries_find(check, program):
@@ -72,7 +90,7 @@ def is_there(path, kind, name):
     if kind == "link":
         return os.path.exists(beside)
     # (what is built, and what is installed, isn't in a clone)
-    if "/out/" in name or name.startswith(("bin/", "lib/", "libexec/", "share/man/")):
+    if "/out/" in name or name.startswith(("bin/", "lib/", "libexec/", "share/man/", "share/doc/")):
         return True
     places = [beside, name] + ([] if path.startswith("crates/") else ["crates/*/" + name])
     return any(glob.glob(it) for it in places)
@@ -103,16 +121,26 @@ def definitions_exist(check):
 
 
 def changes_are_worked(check):
-    """Each worked change of docs/CHANGES.md names its files."""
-    changes = re.split(r"^## ", read("docs/CHANGES.md"), flags=re.M)[1:]
+    """Each worked change of CONTRIBUTING.md names its files."""
+    changes = re.split(r"^### ", read("CONTRIBUTING.md"), flags=re.M)[1:]
     files = [{name for kind, name in names_in(change)} for change in changes]
     check("five worked changes, each with its files", (5, True), (len(changes), all(len(it) >= 4 for it in files)))
+
+
+def outside_code(text):
+    """Yields the lines of a document with their numbers, but those of its Rust, which are as long as in the sources."""
+    inside = False
+    for number, line in enumerate(text.splitlines(), 1):
+        if line.startswith("```"):
+            inside = line == "```rust"
+        elif not inside:
+            yield number, line
 
 
 def lines_are_short(check):
     long = []
     for path in documents():
-        for number, line in enumerate(read(path).splitlines(), 1):
+        for number, line in outside_code(read(path)):
             if len(line) > WIDTH and not line.lstrip().startswith("|") and path not in LATER:
                 long.append("%s:%d" % (path, number))
     check("no line over %d characters but in tables: .ci/fill FILE" % WIDTH, [], long)
@@ -128,6 +156,7 @@ def each_crate_has_a_readme(check):
 
 def try_all(check, program):
     commands_print(check, program)
+    figures_are_those_measured(check)
     queries_find(check, program)
     files_exist(check)
     definitions_exist(check)

@@ -1,13 +1,16 @@
 """What .ci/use tries of an install: in a clean folder, with an environment of nothing but a home of its own and the commands of the
 system, among which is no rt."""
+import json
 import os
 import re
 import shutil
 import subprocess
 import sys
 import tempfile
+import time
+import urllib.request
 
-from made.commands import ALONE, COMMANDS, OPTIONS, VERSION
+from made.commands import ABOUT, ALONE, COMMANDS, LICENCE, OPTIONS, VERSION
 
 ROOT = os.getcwd()
 FIRST = os.path.join(ROOT, "examples", "first.jsonl")
@@ -108,10 +111,51 @@ def the_program(place, first_answers):
         text = file.read()
     place.check("installed: the first command", (first_answers, "", 1), place.run(["earlybird", "run"], text))
     place.check("installed: a feed", 0, place.run(["earlybird", "feed"], b"?1 a\n")[2])
-    place.check("installed: --version", ("earlybird %s\n" % VERSION, "", 0), place.run(["earlybird", "--version"]))
+    place.check("installed: --version", (ABOUT, "", 0), place.run(["earlybird", "--version"]))
+    for source in ("LICENSE-MIT", "LICENSE-APACHE", "docs/THIRD-PARTY.md"):
+        with open(source, "rb") as file, open(os.path.join(place.prefix, "share/doc/earlybird", os.path.basename(source)), "rb") as brought:
+            place.check("installed: %s" % source, file.read(), brought.read())
     with open("share/earlybird/help.txt", encoding="utf-8") as file:
         place.check("installed: --help", (file.read(), "", 0), place.run(["earlybird", "--help"]))
     place.check("installed: words that ask for nothing", 2, place.run(["earlybird", "nothing"])[2])
+    place.check("installed: help of a command", 0, place.run(["earlybird", "run", "--help"])[2])
+    place.check("installed: --memory", (first_answers, "", 1), place.run(["earlybird", "run", "--memory", "8M"], text))
+    place.check("installed: live", ("?5 train -late\n", "", 0), place.run(["earlybird", "live", "-q", "train -id -TRAIN OR (train 5 late -id)", "-n", "1"], text))
+
+
+def the_console(place):
+    """Its page, and a search over a file; a signal ends it."""
+    place.check("installed: the console's help", 0, place.run(["earlybird", "console", "--help"])[2])
+    words = ["earlybird", "console", "--listen", "127.0.0.1:0", FIRST]
+    with subprocess.Popen(words, cwd=place.home, env=place.env, stdin=subprocess.DEVNULL, stderr=subprocess.PIPE, text=True) as process:
+        try:
+            port = re.search(r"http://127\.0\.0\.1:(\d+)/\n", process.stderr.readline())
+            place.check("installed: the console listens", True, port is not None)
+            ask = lambda path: urllib.request.build_opener(urllib.request.ProxyHandler({})).open("http://127.0.0.1:%s%s" % (port.group(1), path), timeout=60).read()
+            with open(os.path.join(ROOT, "console/earlybird_console/page/index.html"), "rb") as file:
+                place.check("installed: the console's page", file.read(), ask("/"))
+            for _ in range(600):
+                found = [it["message"] for it in json.loads(ask("/search?q=nine"))["matches"]]
+                if found:
+                    break
+                time.sleep(0.1)
+            place.check("installed: a search of the console", [101], [it["id"] for it in found])
+        finally:
+            process.terminate()
+            process.communicate(timeout=60)
+    place.check("installed: the console ends", 0, process.returncode)
+
+
+def the_cluster(place):
+    """Its words, and its program; and where Redis's module is here, that its service finds what it stands on."""
+    place.check("installed: the cluster's help", 0, place.run(["earlybird", "cluster", "--help"])[2])
+    shown = place.run(["earlybird", "cluster", "up", "--help"])[0]
+    place.check("installed: the cluster's program", True, os.path.join(place.prefix, "bin/earlybird") in "".join(shown.split()))
+    if place.run(["python3", "-c", "import redis"])[2]:
+        return left_out("the installed cluster's service", "this Python has no module redis")
+    wanted = ("earlybird-cluster: --listen takes HOST:PORT\n", 2)
+    place.check("installed: the cluster's service", wanted, place.run(["earlybird", "cluster", "serve", "--listen", "nothing"])[1:])
+    return place.check("installed: no cluster", 3, place.run(["earlybird", "cluster", "status"])[2])
 
 
 def the_manual(place):
@@ -131,15 +175,15 @@ def the_completions(place):
     place.check("completion: commands", [*COMMANDS, *ALONE], complete(""))
     place.check("completion: a command that is begun", ["bench", "build"], complete("b"))
     for name, command in COMMANDS.items():
-        place.check("completion: options of " + name, ["--" + it for it in (*command.ways, *command.options)], complete(name, ""))
+        place.check("completion: options of " + name, ["--" + it for it in (*command.ways, *command.options)], complete(name, "-" if command.parser else ""))
         for it in (*command.ways, *command.options):
             if OPTIONS[it].offers:
                 place.check("completion: numbers of --%s" % it, [str(at) for at in OPTIONS[it].offers], complete(name, "--" + it, ""))
                 place.check("completion: numbers of --%s=" % it, [str(at) for at in OPTIONS[it].offers], complete(name, "--" + it, "="))
     given = [it for it in complete("run", "--parts", "3", "--docs", "5", "") if it]
-    place.check("completion: at most one way, and each option once", ["--overlap", "--fields", "--stats", "--json", "--segments", "--terms"], given)
+    place.check("completion: at most one way, and each option once", ["--overlap", "--fields", "--words", "--stats", "--json", "--segments", "--terms"], given)
     beside = [it for it in complete("feed", "--workers", "3", "--docs", "5", "") if it]
-    place.check("completion: what can't stand beside workers of a feed", ["--keep", "--fields", "--json", "--segments", "--terms"], beside)
+    place.check("completion: what can't stand beside workers of a feed", ["--keep", "--fields", "--words", "--json", "--segments", "--terms"], beside)
     place.check("completion: a folder", True, ".local" in complete("install", "--prefix", ".lo"))
     for shell, file, words in [("zsh", "zsh/site-functions/_earlybird", ["-n"]), ("fish", "fish/vendor_completions.d/earlybird.fish", ["-n"])]:
         if place.has(shell):
@@ -195,6 +239,9 @@ def from_python(place, first_answers):
     place.check("Python: pip install", 0, code)
     if code:
         return print(said)
+    shown = place.run(["pip", "show", "--disable-pip-version-check", "--files", "earlybird"], **known)[0].splitlines()
+    wanted = ["License: " + LICENCE, *("  earlybird-%s.dist-info/LICENSE-%s" % (VERSION, it) for it in ("APACHE", "MIT"))]
+    place.check("Python: pip show has the licence, and its files", wanted, [it for it in shown if "icense" in it or "LICENSE" in it])
     known["EARLYBIRD"] = os.path.join(place.prefix, "bin/earlybird")
     how = ["python3", "-B", "-m", "unittest", "discover", "-q", "-s", os.path.join(copy, "tests"), "-t", copy]
     out, said, code = place.run(how, **known)
@@ -310,6 +357,8 @@ def try_all(check, a_copy, first_answers):
             check("install: how the command is found", True, "export PATH=%s/elsewhere/bin:$PATH\n" % home in elsewhere)
             launcher("uninstall", "--prefix", os.path.join(home, "elsewhere"))
         the_program(place, first_answers)
+        the_console(place)
+        the_cluster(place)
         the_manual(place)
         the_completions(place)
         if os.path.exists("dist/libearlybird.a"):

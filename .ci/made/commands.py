@@ -5,54 +5,107 @@ import textwrap
 from collections import namedtuple
 
 VERSION = "0.5.0"
+LICENCE = "MIT OR Apache-2.0"
+# what --version prints
+ABOUT = "earlybird %s\nSPDX-License-Identifier: %s\n" % (VERSION, LICENCE)
 NAME = "earlybird: a real-time search index for messages, in memory"
 
-# An option: its letter for a number, or for a folder, or none; the least and the greatest number; the one that holds where it isn't
-# given; what a completion offers; and what it does, in the form of the help.
-Option = namedtuple("Option", "value low high usual offers text", defaults=(None, None, None, None, (), ""))
+# An option. `value` is what its value is called, or None where it takes none: N is a whole number from `low` to `high`, LIST a list of
+# names, SIZE an amount of memory, DIR a folder, and any other name a word. `usual` is the value where the option isn't given. `offers` are
+# the values that a completion offers, and with `only` no other is taken. `text` is what the option does, as the help says it, `letter` its
+# one letter, `example` a value. The launcher turns a `launcher` option into others, so the program doesn't know it.
+Option = namedtuple("Option", "value low high usual offers text letter launcher only example", defaults=(None, None, None, None, (), "", "", False, False, ""))
 
 # the powers of two from 1,024 to 1,048,576
 POWERS = [1 << at for at in range(10, 21)]
 
 OPTIONS = {
-    "overlap": Option(text="read lines side by side; in run without --parts messages are added while queries are answered, and a query may see later ones"),
-    "workers": Option("N", 1, 16, None, range(1, 17), "let N workers answer queries beside the messages that come in: a query may see later ones"),
+    "overlap": Option(text="read lines by several threads; in run without --parts messages are added while queries are answered, and a query may see later ones"),
+    "workers": Option("N", 1, 16, None, range(1, 17), "answer queries by N threads while messages come in: a query may see later ones"),
     "parts": Option("N", 1, 16, None, range(1, 17), "spread the messages over N indexes by their ids, which have to rise"),
     "watch": Option(text="take lines !N QUERY and !N, which set and remove a watch: each message prints the watches that it matches"),
     "fields": Option("LIST", None, None, None, (), "find messages by their members of these names, as by from:mara; LIST is 1 to 8 names with commas between"),
+    "words": Option("pieces", None, None, None, ("pieces",), "find words by their pieces too, as billing in com.acme.billing: cut them at each ASCII sign", only=True, example="pieces"),
     "stats": Option(text="print the number of segments, and how many are converted, after the summary; of a feed those that it keeps, and the number of generations"),
     "json": Option(text="print each line of the output as one JSON object"),
     "segments": Option("N", 1, 64, 12, (1, 2, 3, 6, 9, 12, 15, 20, 32, 64), "segments of the index"),
     "docs": Option("N", 1, 16777216, 4096, [1 << at for at in range(10, 25)], "messages that a segment has room for"),
     "terms": Option("N", 1024, 1048576, 8192, POWERS, "distinct words that a segment has room for, a power of two"),
     "keep": Option("N", 2, 64, 4, range(2, 65), "generations that are kept"),
-    "prefix": Option("DIR", None, None, "~/.local", (), "the folder to install into, or to uninstall from"),
+    "memory": Option("SIZE", offers=("64M", "200M", "400M", "800M", "1G"), launcher=True, example="800M",
+                     text="settle --segments, --docs and --terms (of a feed --keep too) by how much memory the index takes; SIZE is as 800M, up to 1G"),
+    "prefix": Option("DIR", usual="~/.local", text="the folder to install into, or to uninstall from", example="~/.local"),
+    "follow": Option(text="go on as the files grow", letter="f"),
+    "query": Option("QUERY", text="print the newest matches, and end; with --follow print each new one as it comes", letter="q", example="timeout"),
+    "number": Option("N", 1, 1000, 20, (5, 10, 20, 50, 100, 1000), "how many matches are printed at most", "n"),
+    "count": Option(text="with --query: print how many match, and end", letter="c"),
+    "text": Option("NAME", text="of JSON lines: the member that has the text; without it the first of message, msg, text, log, event and body", letter="t", example="message"),
+    "color": Option("WHEN", usual="auto", offers=("auto", "always", "never"), only=True, text="mark the words that matched"),
 }
 
-# A command: its words that aren't options; the options of which at most one is given, and the others; and what it does. The
-# launcher has some commands of its own, which the program doesn't know. Then, of those of which one is given, which may stand beside
-# which; and which others may not.
-Command = namedtuple("Command", "words ways options text launcher beside apart", defaults=((), (), (), "", False, {}, {}))
+# A command: its words that aren't options; the options of which at most one is given (`ways`), and the others; and what it does. The
+# launcher has some commands of its own, which the program doesn't know. `beside` says which of the ways may be given together, and
+# `apart` which others may not. Its own help has `about`, what it reads and prints, and `examples`. `parser` is the program that reads
+# the command's words, where that is one in Python, and `says` what an option does there, where that differs.
+Command = namedtuple("Command", "words ways options text launcher beside apart about examples parser says", defaults=((), (), (), "", False, {}, {}, "", (), "", {}))
 
 SETTING = ("segments", "docs", "terms")
+# what --memory stands for
+SETTLED = (*SETTING, "keep")
+# the most bytes of all indexes of a program
+MOST_MEMORY = 1 << 30
+LINES = (
+    "Standard input has messages and queries, one a line. Answers are ids, and all of them are out before it waits for input.\n\n"
+    "  {\"id\":7,\"text\":\"hello world\"}   a message: a whole number as its id, a string as its text\n"
+    "  ?5 hello                        a query: the newest 5 messages that match, newest first\n"
+    "  ?5 \"night train\" OR (late -rain)   a phrase, OR, groups, minus; more: docs/QUERIES.md")
 COMMANDS = {
-    "run": Command((), ("overlap", "workers", "parts", "watch"), ("fields", "stats", "json", *SETTING), "read messages and queries, and print answers", beside={"parts": ("overlap",)}),
-    "feed": Command((), ("overlap", "workers", "watch"), ("keep", "fields", "stats", "json", *SETTING), "the same, without end: the oldest messages go where there is no room", apart={"workers": ("stats",)}),
-    "save": Command((), (), ("fields", *SETTING), "read messages, and write an image of the index"),
-    "load": Command((), (), ("fields", "stats", "json"), "read an image, and then go on as run does"),
-    "bench": Command(("START", "DOCS"), (), (), "process DOCS messages (1 to 40000) that the number START makes, and print one line of figures"),
+    "run": Command((), ("overlap", "workers", "parts", "watch"), ("fields", "words", "stats", "json", *SETTING, "memory"), "read messages and queries, and print answers", beside={"parts": ("overlap",)},
+                   about=LINES + "\n\nOnce the index is full it refuses the newest messages; feed drops the oldest instead.",
+                   examples=(("earlybird run < examples/first.jsonl", "the first answers"), ("{ cat old.jsonl; cat; } | earlybird run", "messages of a file, then ask by hand"),
+                             ("earlybird run --memory 800M < big.jsonl", "room for more messages"), ("earlybird run --json < lines.jsonl | jq .", "answers as JSON"))),
+    "feed": Command((), ("overlap", "workers", "watch"), ("keep", "fields", "words", "stats", "json", *SETTING, "memory"), "the same, without end: the oldest messages go where there is no room", apart={"workers": ("stats",)},
+                    about=LINES,
+                    examples=(("tail -n +1 -F app.jsonl | earlybird feed --memory 400M", "the newest messages of a log"),
+                              ("{ echo '!1 timeout'; tail -F app.jsonl; } | earlybird feed --watch", "tell which messages match"))),
+    "save": Command((), (), ("fields", "words", *SETTING, "memory"), "read messages, and write an image of the index",
+                    about="Standard input has messages, one a line; standard output gets an image, with which load begins.",
+                    examples=(("earlybird save < messages.jsonl > messages.image", ""),)),
+    "load": Command((), (), ("fields", "words", "stats", "json"), "read an image, and then go on as run does",
+                    about="Standard input has an image that save wrote, and behind it messages and queries. Its setting is the image's; --fields and --words are what save had.",
+                    examples=(("{ cat messages.image; echo '?5 hello'; } | earlybird load", "one query"), ("cat messages.image - | earlybird load", "then ask by hand"))),
+    "bench": Command(("START", "DOCS"), (), (), "process DOCS messages (1 to 40000) that the number START makes, and print one line of figures",
+                     examples=(("earlybird bench 1 10000", ""),)),
+    "live": Command(("[FILE..]",), (), ("follow", "query", "number", "count", "fields", "text", "json", "memory", "color"), "search logs by hand: files or standard input, also as they grow", True,
+                    about="It reads files (or standard input) of lines of text or of JSON objects, also .gz, into an index. On a terminal a prompt asks for queries and prints the newest "
+                          "matches as their lines, the newest last; with --query it prints and ends. Enter alone prints older ones; :help tells the rest.",
+                    examples=(("earlybird live app.log", "ask by hand, while it still reads"), ("earlybird live -f app.log api.log", "and as they grow"),
+                              ("journalctl -o cat | earlybird live", "a pipe; the prompt is on the terminal"), ("earlybird live -q 'timeout -retry' -n 5 app.log", "print the newest 5, and end"),
+                              ("earlybird live -fq timeout app.log", "print each new match as it comes")), parser="live/earlybird-live",
+                    says={"memory": "the most memory of all its indexes, 2G by default: beyond it the oldest lines go", "json": "print each match as one JSON object: file, line, message or text",
+                          "fields": "the members that are fields; without it the first lines tell"}),
+    "console": Command(("[WORDS]",), (), (), "a page over a feed, for a browser: docs/CONSOLE.md", True, examples=(("earlybird console --help", "its options"),), parser="console/earlybird-console"),
+    "cluster": Command(("[WORDS]",), (), (), "several machines: docs/CLUSTER.md", True, examples=(("earlybird cluster --help", "its commands and options"),), parser="cluster/earlybird-cluster"),
     "install": Command((), (), ("prefix",), "install the program, its manual, completions, and the library for C", True),
-    "uninstall": Command((), (), ("prefix",), "take away exactly what install brought", True),
+    "uninstall": Command((), (), ("prefix",), "remove exactly what install brought", True),
     "build": Command((), (), (), "prove and build the program from its sources, and compare it with dist/", True),
 }
-# words that stand alone, and what they do
+# the commands in the groups of a list
+GROUPS = (
+    ("ask by hand", ("live", "console")),
+    ("ask over a pipe", ("run", "feed", "save", "load")),
+    ("and more", ("cluster", "bench", "install", "uninstall", "build")),
+)
+# words that are given alone, and what they do
 ALONE = {"--help": "print the help", "--version": "print the version"}
+# the same, in one letter
+LETTERS = {"-h": "--help", "-V": "--version"}
 
 # Each status, and when a command ends with it.
 STATUSES = [
     (0, "done", "the input was processed to its end, and no line was refused"),
     (1, "some line was refused", "the input was processed to its end, and at least one line was refused"),
-    (2, "usage", "the words ask for no command; nothing was read"),
+    (2, "usage", "invalid command line; nothing was read"),
     (3, "read fault", "reading failed; all whole lines that were read are answered"),
     (4, "write fault", "writing failed"),
     (5, "no memory", "memory ran out"),
@@ -62,13 +115,18 @@ STATUSES = [
 ]
 
 
-def synopsis(name):
-    """A command with its words, as `run [--stats] [--docs N]`."""
+def shown(name):
+    """An option as it is written, as `--docs N`."""
+    return "--%s %s" % (name, OPTIONS[name].value) if OPTIONS[name].value else "--" + name
+
+
+def synopsis(name, of_program=False):
+    """A command with its words, as `run [--stats] [--docs N]`; with `of_program` those that the program itself knows."""
     command = COMMANDS[name]
-    shown = lambda it: "--%s %s" % (it, OPTIONS[it].value) if OPTIONS[it].value else "--" + it
     with_others = lambda it: shown(it) + "".join(" [%s]" % shown(other) for other in command.beside.get(it, ()))
     ways = ["[" + " | ".join(with_others(it) for it in command.ways) + "]"] if command.ways else []
-    return " ".join([name, *command.words, *ways, *("[%s]" % shown(it) for it in command.options)])
+    options = [it for it in command.options if not (of_program and OPTIONS[it].launcher)]
+    return " ".join([name, *command.words, *ways, *("[%s]" % shown(it) for it in options)])
 
 
 def excluded(name, option):
@@ -77,23 +135,30 @@ def excluded(name, option):
     is_apart = lambda one, other: other in command.apart.get(one, ()) or one in command.ways and other in command.ways and other not in command.beside.get(one, ())
     together = lambda one, other: other in command.beside.get(one, ()) or one in command.beside.get(other, ())
     others = [other for other in (*command.ways, *command.options) if other != option]
-    return [other for other in others if not together(option, other) and (is_apart(option, other) or is_apart(other, option))]
+    settled = [other for other in others if option == "memory" and other in SETTLED or other == "memory" and option in SETTLED]
+    return [other for other in others if other in settled or not together(option, other) and (is_apart(option, other) or is_apart(other, option))]
 
 
 def range_of(name):
-    """What an option takes in words, as `N is 1 to 64, 12 by default`; nothing where it takes no word."""
+    """What an option takes in words, as `N is 1 to 64, 12 by default`; nothing where that says nothing."""
     option = OPTIONS[name]
     usual = "%s by default" % option.usual if option.usual is not None else ""
-    numbers = "%s is %d to %d" % (option.value, option.low, option.high) if option.low is not None else ""
-    return ", ".join(filter(None, [numbers, usual]))
+    values = "%s is %d to %d" % (option.value, option.low, option.high) if option.low is not None else ""
+    values = "%s is %s" % (option.value, alternatives(option.offers)) if option.only else values
+    return ", ".join(filter(None, [values, usual]))
 
 
-def said(name):
-    """What an option does, and what it takes, in one line."""
-    return "; ".join(filter(None, [OPTIONS[name].text, range_of(name)]))
+def alternatives(values):
+    """Some values as `auto, always or never`."""
+    return " or ".join(filter(None, [", ".join(map(str, values[:-1])), str(values[-1])]))
+
+
+def said(name, command=None):
+    """What an option does (of a command), and what it takes, in one line."""
+    return "; ".join(filter(None, [COMMANDS[command].says.get(name, OPTIONS[name].text) if command else OPTIONS[name].text, range_of(name)]))
 
 
 def wrapped(row, width, **how):
-    """A synopsis in lines of at most so many letters, which ends none of them inside of brackets."""
+    """A synopsis in lines of at most `width` letters, which ends none of them inside of brackets."""
     whole = re.sub(r"\[(?:[^][]|\[[^][]*\])*\]", lambda found: found.group(0).replace(" ", "\0"), row)
     return textwrap.fill(whole, width, break_on_hyphens=False, break_long_words=False, **how).replace("\0", " ")

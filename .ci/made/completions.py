@@ -4,16 +4,25 @@ from made.commands import ALONE, COMMANDS, OPTIONS, excluded, range_of, said
 MADE = "# Completion of the command earlybird for %s; made by .ci/pages from .ci/made/commands.py.\n"
 
 
+# commands whose other words are files
+OF_FILES = [name for name, it in COMMANDS.items() if it.parser]
+
+
 def offered(name):
     return " ".join(str(it) for it in OPTIONS[name].offers)
+
+
+def written(name):
+    """The forms of an option: its name, and its letter where it has one."""
+    return ["--" + name, *(["-" + OPTIONS[name].letter] if OPTIONS[name].letter else [])]
 
 
 def bash():
     options = "\n".join("        %s) echo '%s' ;;" % (name, " ".join("--" + it for it in (*command.ways, *command.options)))
                         for name, command in COMMANDS.items() if command.ways or command.options)
-    numbers = "\n".join("        --%s) echo '%s' ;;" % (name, offered(name)) for name, it in OPTIONS.items() if it.offers)
+    numbers = "\n".join("        %s) echo '%s' ;;" % (" | ".join(written(name)), offered(name)) for name, it in OPTIONS.items() if it.offers)
     folders = " | ".join("--" + name for name, it in OPTIONS.items() if it.value == "DIR")
-    lists = " | ".join("--" + name for name, it in OPTIONS.items() if it.value == "LIST")
+    free = " ".join(form for name, it in OPTIONS.items() if it.value and it.value != "DIR" and not it.offers for form in written(name))
     apart = "\n".join("        '%s --%s') echo '%s' ;;" % (name, it, " ".join("--" + other for other in excluded(name, it)))
                       for name, command in COMMANDS.items() for it in (*command.ways, *command.options) if excluded(name, it))
     return MADE % "bash" + """
@@ -37,7 +46,7 @@ _earlybird_others() {
 }
 
 _earlybird() {
-    local word=${COMP_WORDS[COMP_CWORD]} before=${COMP_WORDS[COMP_CWORD - 1]} words='' given it other
+    local word=${COMP_WORDS[COMP_CWORD]} before=${COMP_WORDS[COMP_CWORD - 1]} words='' files='' given it other
     # (bash makes words of their own of --docs, = and 4096)
     [ "$word" = = ] && word=
     [ "$before" = = ] && before=${COMP_WORDS[COMP_CWORD - 2]}
@@ -47,7 +56,9 @@ _earlybird() {
         compopt -o filenames 2>/dev/null
         mapfile -t COMPREPLY < <(compgen -d -- "$word")
         return
-    elif [ "$before" = '%s' ]; then
+    elif [ "${COMP_WORDS[1]}" = help ]; then
+        words='%s'
+    elif [[ ' %s ' = *" $before "* ]]; then
         return
     elif [ -n "$(_earlybird_numbers "$before")" ]; then
         words=$(_earlybird_numbers "$before")
@@ -60,12 +71,17 @@ _earlybird() {
             done
             words="$words $it"
         done
+        case ${COMP_WORDS[1]} in %s) case $word in -*) ;; *) files=1 ;; esac ;; esac
     fi
     mapfile -t COMPREPLY < <(compgen -W "$words" -- "$word")
+    if [ -n "$files" ]; then
+        compopt -o filenames 2>/dev/null
+        mapfile -t COMPREPLY < <(compgen -f -- "$word")
+    fi
 }
 
 complete -F _earlybird earlybird
-""" % (options, numbers, apart, " ".join([*COMMANDS, *ALONE]), folders, lists)
+""" % (options, numbers, apart, " ".join([*COMMANDS, *ALONE]), folders, " ".join(COMMANDS), free, " | ".join(OF_FILES))
 
 
 def quoted(text):
@@ -75,7 +91,7 @@ def quoted(text):
 def zsh():
     def row(command, name):
         it = OPTIONS[name]
-        others = " ".join("--" + other for other in (name, *excluded(command, name)))
+        others = " ".join(form for other in (name, *excluded(command, name)) for form in written(other))
         value = ""
         if it.value == "N":
             value = ":%s:(%s)" % (range_of(name), offered(name))
@@ -83,12 +99,17 @@ def zsh():
             value = ":folder:_files -/"
         elif it.value == "LIST":
             value = ":names:"
+        elif it.value:
+            value = ":%s:(%s)" % (it.value.lower(), offered(name))
         shown = "--%s=" % name if it.value else "--" + name
-        return "                " + quoted("(%s)%s[%s]%s" % (others, shown, it.text.replace(":", "\\:"), value))
+        rest = "[%s]%s" % (COMMANDS[command].says.get(name, it.text).replace(":", "\\:"), value)
+        if it.letter:
+            return "                '(%s)'{-%s,%s}%s" % (others, it.letter + "+" * bool(it.value), shown, quoted(rest))
+        return "                " + quoted("(%s)%s%s" % (others, shown, rest))
 
     cases = []
     for name, command in COMMANDS.items():
-        rows = [row(name, it) for it in (*command.ways, *command.options)]
+        rows = [row(name, it) for it in (*command.ways, *command.options)] + (["                '*:file:_files'"] if name in OF_FILES else [])
         if rows:
             cases.append("        %s)\n            _arguments \\\n%s\n            ;;" % (name, " \\\n".join(rows)))
     words = "\n".join("        %s" % quoted("%s:%s" % (name, text)) for name, text in [*((it, its.text) for it, its in COMMANDS.items()), *ALONE.items()])
@@ -97,7 +118,7 @@ _earlybird() {
     local -a commands=(
 %s
     )
-    if (( CURRENT == 2 )); then
+    if (( CURRENT == 2 )) || [[ $words[2] = help ]]; then
         _describe command commands
         return
     fi
@@ -114,7 +135,8 @@ _earlybird "$@"
 
 
 def fish():
-    lines = ["complete -c earlybird -f"]
+    lines = ["complete -c earlybird -f", "complete -c earlybird -n '__fish_seen_subcommand_from %s' -F" % " ".join(OF_FILES),
+             "complete -c earlybird -n '__fish_seen_subcommand_from help' -a '%s'" % " ".join(COMMANDS)]
     for name, command in COMMANDS.items():
         lines.append("complete -c earlybird -n __fish_use_subcommand -a %s -d %s" % (name, quoted(command.text)))
     for word, text in ALONE.items():
@@ -127,5 +149,5 @@ def fish():
         for others in dict.fromkeys(tuple(excluded(command, name)) for command in takers):
             seen = " ".join(command for command in takers if tuple(excluded(command, name)) == others)
             condition = "__fish_seen_subcommand_from %s" % seen + "".join("; and not __fish_contains_opt %s" % other for other in others)
-            lines.append("complete -c earlybird -n %s -l %s%s -d %s" % (quoted(condition), name, value, quoted(said(name))))
+            lines.append("complete -c earlybird -n %s -l %s%s%s -d %s" % (quoted(condition), name, " -s " + it.letter if it.letter else "", value, quoted(said(name))))
     return MADE % "fish" + "\n" + "\n".join(lines) + "\n"

@@ -1,4 +1,5 @@
-"""The map of the crates in docs/ARCHITECTURE.md: a picture of their layers by crates.txt, and a line for each by its README."""
+"""The map of the crates in docs/ARCHITECTURE.md: a line for each by its README, box after box in the order of reading, and a picture
+of their layers by crates.txt."""
 import re
 import textwrap
 
@@ -8,12 +9,25 @@ WIDTH = 100
 # what a crate stands on tells its column: these hold lines and texts, and these the index
 LINES, INDEX = {"eb_io", "eb_doc", "eb_query", "eb_text", "eb_image"}, {"eb_place"}
 COLUMNS = ("lines and texts", "the index", "over both")
+# the boxes, and their crates in the order of reading: a crate depends on those of its own box and of the boxes before it
+BOXES = {
+    "Lines and queries": "eb_base eb_io eb_text eb_fields eb_doc eb_query eb_image eb_options eb_gen",
+    "The words of an index": "eb_place eb_flat eb_table eb_terms eb_chain eb_writer eb_block eb_convert",
+    "Search": "eb_cursor eb_search eb_count eb_bloom eb_engine eb_feed eb_stream eb_blend eb_beside eb_serve eb_feed_serve eb_watch eb_plain",
+    "Ways to run": "eb_lines eb_json eb_answer eb_indexed eb_ahead eb_rounds eb_parts eb_watching eb_archive eb_workers eb_feed_workers eb_run earlybird",
+    "Around it": "eb_c embedding_example stream_example rows line_trials eb_trials shared_trials stream_trials run_trials",
+}
+
+
+def rows_of(crates):
+    """The libraries that each crate of this repository stands on itself, those of the kit too."""
+    rows = [line.partition("#")[0].partition(":") for line in crates.splitlines()]
+    return {head.split()[0]: rest.split() for head, colon, rest in rows if colon}
 
 
 def stands_on(crates):
     """The libraries of this repository that each crate stands on itself."""
-    rows = [line.partition("#")[0].partition(":") for line in crates.splitlines()]
-    rows = {head.split()[0]: rest.split() for head, colon, rest in rows if colon}
+    rows = rows_of(crates)
     return {name: [it for it in below if it in rows] for name, below in rows.items()}
 
 
@@ -67,14 +81,28 @@ def first_sentence(readme):
 
 
 def lines(below, read):
-    """A line for each crate, the lowest layer first."""
-    layers = layers_of(below)
+    """A line for each crate, below the name of its box."""
     out = []
-    for name in sorted(below, key=lambda it: (layers[it], it)):
-        text = first_sentence(read("crates/%s/README.md" % name))
-        row = "- [`%s`](../crates/%s/README.md): %s" % (name, name, text[0].lower() + text[1:])
-        out.append(textwrap.fill(row, WIDTH, subsequent_indent="  ", break_on_hyphens=False, break_long_words=False))
-    return "\n".join(out)
+    for box, names in BOXES.items():
+        out.append("### %s\n" % box)
+        for name in (it for it in names.split() if it in below):
+            text = first_sentence(read("crates/%s/README.md" % name))
+            row = "- [`%s`](../crates/%s/README.md): %s" % (name, name, text if text[:1] == "`" else text[0].lower() + text[1:])
+            out.append(textwrap.fill(row, WIDTH, subsequent_indent="  ", break_on_hyphens=False, break_long_words=False))
+        out.append("")
+    return "\n".join(out).rstrip()
+
+
+def faults(crates):
+    """Each crate that has no box, and each that depends on one of a later box."""
+    below = stands_on(crates)
+    box = {name: at for at, names in enumerate(BOXES.values()) for name in names.split()}
+    out = ["no box of .ci/made/layers.py has the crate `%s`" % name for name in below if name not in box]
+    names = list(BOXES)
+    for name, its in below.items():
+        later = [it for it in its if name in box and box.get(it, -1) > box[name]]
+        out += ["`%s`, of the box '%s', depends on `%s` of '%s'" % (name, names[box[name]], it, names[box[it]]) for it in later]
+    return out
 
 
 def with_map(text, crates, read):
