@@ -8,6 +8,8 @@ from .stage import PROGRAM, Stage, bare, check, interrupted, make_documents, mak
 
 
 REFUSED = [b"no document", b"{", b'{"id":-1,"text":"a"}', b'{"id":7,"text":"%s"}' % (b"a " * 2000), b'{"id":9}', b"{" + b" " * 70000]
+# answers that are compared while documents are added
+ENOUGH = 32
 
 
 def run():
@@ -65,10 +67,18 @@ def _one_cut(stage, last):
     seen = int(before.split()[1][:-1])
     first = (last // 100000 + 1) * 100000
     lines = numbered(range(first + 1, first + 30001), "cut")
-    pauses = (each for place, line in enumerate(lines) for each in ((None, line) if place % 1000 == 0 else (line,)))
-    adding = threading.Thread(target=lambda: list(stage.router().add(pauses)))
-    adding.start()
     wrong, answers, router = [], 0, stage.router()
+
+    def with_pauses():
+        for place, line in enumerate(lines):
+            if place % 1000 == 0:
+                yield None
+                # (so queries come at many of its moments, also where either is slow)
+                until(lambda: answers >= ENOUGH * place // len(lines), 5)
+            yield line
+
+    adding = threading.Thread(target=lambda: list(stage.router().add(with_pauses())))
+    adding.start()
     while adding.is_alive():
         for text, missing in router.ask_many([b"?5 cut"] * 8):
             head, _, ids = text.partition(b":")
@@ -79,7 +89,7 @@ def _one_cut(stage, last):
                 wrong.append((text, want))
     adding.join()
     check("answers beside adding are of one cut", [], wrong[:3])
-    check("enough of them", True, answers >= 24)
+    check("enough of them", True, answers >= ENOUGH)
     return lines, first + 30000
 
 

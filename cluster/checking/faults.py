@@ -135,7 +135,7 @@ def _same_name(stage, numbers):
         check("both of them are seen", True, until(both))
         more = numbered(range(40001, 42001)) + [b'{"id":5,"text":1}']
         told = [tuple(each) for each in stage.router().add(more)]
-        check("what two of a name refuse is told once", [(2001, b"refused", b"bad text")] if told[0][2] == b"bad text" else told[:1], told)
+        check("what two of a name refuse is told once", [(2001, b"refused", b"bad document")], told)
         numbers += range(40001, 42001)
         router = stage.router()
         wrong = [each for number, each in zip(range(40001, 42001), router.ask_many([b"?3 w%d" % number for number in range(40001, 42001)]))
