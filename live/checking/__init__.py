@@ -16,6 +16,7 @@ def main(rounds):
         logs.json_lines(folder)
         growing.files(folder)
         growing.pipes(folder)
+        growing.watches(folder)
         harmful.lines(folder)
         harmful.blocks(folder)
         harmful.queries(folder)

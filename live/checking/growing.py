@@ -1,8 +1,10 @@
 """Files and pipes that grow."""
+import contextlib
+import io
 import os
 import threading
 
-from earlybird_live.prompt import follow, new_matches
+from earlybird_live.prompt import MOST_WATCHED, Prompt, follow, new_matches
 
 from .compare import check, lines_at, loaded, wait_for, write
 
@@ -64,3 +66,40 @@ def pipes(folder):
         check("a pipe: what came to its end", [2, 4], got)
         check("a pipe: its last line", [4, 2, 1], loader.ask("w1", 5)[1])
         check("a pipe: its lines again", [b"w1 a", b"w1 b", b"w1 without an end"], lines_at(loader, [1, 2, 4]))
+
+
+def watches(folder):
+    """Each watch is one count, which is there without being asked for. One that is set again begins anew; their number is bounded, and they end."""
+    path = write(os.path.join(folder, "watched.log"), "w1\n")
+    with loaded([path], follow=True) as loader:
+        prompt = Prompt(loader, None, 20, False, False)
+
+        def typed(line):
+            shown = io.StringIO()
+            with contextlib.redirect_stdout(shown):
+                prompt._take(line)
+            return shown.getvalue()
+
+        counts = lambda: {query: watch.count for query, watch in prompt._watches.items()}
+        check("watches: lines from now on", "       0  w1\n", typed(":watch w1"))
+        for number in range(40):
+            write(path, "w1 a\nw2 b\nw1 c\n", "ab")
+            wait_for(3 * number + 4, lambda: loader.blocks.next - 1)
+        check("watches: added up while nobody asks", {"w1": 80}, wait_for({"w1": 80}, counts))
+        check("watches: told", "      80  w1\n", typed(":watch"))
+        check("watches: others beside", ("      80  w1\n       0  w2\n", 2), (typed(":watch w2"), len(loader.grown)))
+        typed(":watch w2")
+        check("watches: set again, it counts anew, and the one before has ended", ("       0  w1\n       0  w2\n", 2), (typed(":watch w1"), len(loader.grown)))
+        write(path, "w1\nw2\nw2\n", "ab")
+        check("watches: and each line once", {"w1": 1, "w2": 2}, wait_for({"w1": 1, "w2": 2}, counts))
+        for number in range(3, MOST_WATCHED + 1):
+            typed(":watch w%d" % number)
+        check("watches: as many as may be", (100, 100), (len(counts()), len(loader.grown)))
+        check("watches: one more is refused", "100 queries are watched, and no more can be: end one with :unwatch QUERY", typed(":watch more").splitlines()[0])
+        check("watches: which changes nothing", (100, 100, False), (len(counts()), len(loader.grown), "more" in counts()))
+        check("watches: one of them may be set again", (100, 100), (len(typed(":watch w7").splitlines()), len(loader.grown)))
+        check("watches: no such one", "more isn't watched\n", typed(":unwatch more"))
+        check("watches: one ends", ("", 99, False), (typed(":unwatch w2"), len(loader.grown), "w2" in counts()))
+        check("watches: then there is room", ("       0  more", 100), (typed(":watch more").splitlines()[-1], len(loader.grown)))
+        check("watches: all end", ("", {}, []), (typed(":unwatch"), counts(), loader.grown))
+        os.remove(path)

@@ -12,6 +12,8 @@ from .showing import seen_safely, tree_of
 
 # seconds for which a query that finds nothing waits for more lines
 PATIENCE = 0.6
+# queries that are watched beside each other: each of them is asked whenever lines came
+MOST_WATCHED = 100
 # letters of a typed line below which the line above it is still one line above
 SHORT = 60
 
@@ -22,7 +24,8 @@ HELP = """\
   n, or Enter alone       older matches of the last query
   :count QUERY            how many match
   :follow QUERY           each new match as it comes, until Ctrl-C       (with -f)
-  :watch QUERY, :watch    count new matches beside all else; tell the counts
+  :watch QUERY, :watch    count new matches from now on beside all else; tell the counts
+  :unwatch QUERY          end that; without a query, all counts
   :n 50                   how many are shown
   :fields, :status, :help, :quit (or Ctrl-D)
 """
@@ -73,7 +76,7 @@ class Prompt:
         self._most = most
         self._dim = (lambda text: "\x1b[2m%s\x1b[0m" % text) if colour else (lambda text: text)
         self._moves = moves
-        # the last query, the number of its oldest match that was shown, and the watches with their counts
+        # the last query, the number of its oldest match that was shown, and the watches by their queries
         self._last = None
         self._watches = {}
         self._waiting = False
@@ -172,8 +175,10 @@ class Prompt:
             self._follow(rest or self._last[0])
         elif word == ":watch":
             self._watch(rest)
+        elif word == ":unwatch":
+            self._unwatch(rest)
         else:
-            print(seen_safely("there is no command %s; these are: :count, :follow, :watch, :n, :fields, :status, :help, :quit" % word))
+            print(seen_safely("there is no command %s; these are: :count, :follow, :watch, :unwatch, :n, :fields, :status, :help, :quit" % word))
         return False
 
     def _status(self):
@@ -231,13 +236,22 @@ class Prompt:
     def _watch(self, query):
         if query and not self._loader.follow:
             print("the files aren't followed: start with -f")
+        elif query and query not in self._watches and len(self._watches) >= MOST_WATCHED:
+            print("%d queries are watched, and no more can be: end one with :unwatch QUERY" % MOST_WATCHED)
         elif query:
-            self._watches[query] = [follow(self._loader, query, count=True)[0], 0]
+            # (where the query is refused, nothing has changed)
+            watch = Watch(self._loader, query)
+            if query in self._watches:
+                self._watches[query].stop()
+            self._watches[query] = watch
         for each, watch in self._watches.items():
-            while not watch[0].empty():
-                found = watch[0].get()
-                watch[1] += found if isinstance(found, int) else 0
-            print(seen_safely("%8s  %s" % (grouped(watch[1]), each)))
+            print(seen_safely("%8s  %s%s" % (grouped(watch.count), each, ": %s" % watch.fault if watch.fault else "")))
+
+    def _unwatch(self, query):
+        if query and query not in self._watches:
+            print(seen_safely("%s isn't watched" % query))
+        for each in [it for it in self._watches if not query or it == query]:
+            self._watches.pop(each).stop()
 
 
 def why(line, fault):
@@ -254,10 +268,10 @@ def why(line, fault):
     return " " * (fault.column + 1) + "^ " + reason
 
 
-def follow(loader, query, count=False):
-    """A queue of the new matches' numbers (or of their count), and what ends it. At the end of all sources it gets None, and where the query is
-    refused the refusal."""
-    came, last = queue.Queue(), [loader.blocks.next - 1]
+def whenever_grown(loader, query, take):
+    """Has `take` called on the loader's thread with the numbers of new matches, where some came; with None at the end of all sources; and
+    where the query is refused or can't be asked, with that fault. Gives what ends it."""
+    last = [loader.blocks.next - 1]
 
     def grown():
         try:
@@ -265,20 +279,41 @@ def follow(loader, query, count=False):
             if newest > last[0]:
                 pages = list(loader.pages(query, last[0]))
                 last[0] = newest
-                found = sum(map(len, pages)) if count else [number for page in pages for number in page]
+                found = [number for page in pages for number in page]
                 if found:
-                    came.put(found)
+                    take(found)
         except (Refused, Gone) as fault:
-            came.put(fault)
+            take(fault)
         if loader.ended.is_set():
-            came.put(None)
+            take(None)
 
     # (a query that is refused with its bounds is refused here)
     loader.ask(query, 1, None, 1)
     loader.grown.append(grown)
     if loader.ended.is_set():
-        came.put(None)
-    return came, lambda: grown in loader.grown and loader.grown.remove(grown)
+        take(None)
+    return lambda: grown in loader.grown and loader.grown.remove(grown)
+
+
+def follow(loader, query):
+    """A queue of what `whenever_grown` gives, and what ends it."""
+    came = queue.Queue()
+    return came, whenever_grown(loader, query, came.put)
+
+
+class Watch:
+    """Counts the new matches of a query, until `stop` is called."""
+
+    def __init__(self, loader, query):
+        self.count = 0
+        self.fault = None
+        self.stop = whenever_grown(loader, query, self._take)
+
+    def _take(self, found):
+        if isinstance(found, Exception):
+            self.fault = found
+        elif found:
+            self.count += len(found)
 
 
 def new_matches(came):
