@@ -166,7 +166,7 @@ def check_documents():
         line, halves = shorter(line), halves + 1
     check("a text that is too long is halved", (True, 5), (halves < 9, json.loads(line)["id"]))
     check("lines within JSON", ['{"a": 1}', '"{\\"a\\":NaN}"', '"x\ufffd"', '"{"', '"\\"quoted\\""'], [shown_line(line) for line in (b'{"a":\r1}', b'{"a":NaN}', b"x\xff", b"{", b'"quoted"')])
-    check("cells that a spreadsheet would run", b"1970-01-01T00:00:00.001Z,'@b,,'=1+1,9\r\n", as_csv([(9, 1, "@b", b"=1+1")]))
+    check("cells that a spreadsheet would run", b"1970-01-01T00:00:00.001Z,'@b,,'=1+1,9\r\n", as_csv((9, 1, "@b", b"=1+1")))
 
 
 def check_keys():

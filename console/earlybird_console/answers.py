@@ -6,7 +6,7 @@ import json
 import time
 
 from earlybird_logs import message
-from earlybird_web.server import Fault
+from earlybird_web.server import PIECE, Fault
 
 from . import documents, limits, ranges
 from .asking import MOST
@@ -78,21 +78,25 @@ class Answers:
         try:
             # (so a small one doesn't wait for a crowd of large ones)
             async with self._large if self._console.size_of(ids) >= limits.LARGE else contextlib.AsyncExitStack():
-                shown, left = await self._shown(asked, ids, request.query.get("for") == "page")
+                pieces, left = await self._shown(asked, ids, request.query.get("for") == "page")
                 hints = json.dumps(asked.hints, ensure_ascii=False)
-                data = '{"seen":%d,"left":%d,"hints":%s,"matches":[%s]}' % (seen, left, hints, ",".join(shown))
-                await request.answer(200, data.encode("utf-8", "replace"))
+                head = '{"seen":%d,"left":%d,"hints":%s,"matches":[' % (seen, left, hints)
+                await request.answer_pieces(200, [head.encode("utf-8", "replace"), *pieces, b"]}"])
         finally:
             self._asking.making -= 1
 
     async def _shown(self, asked, ids, page):
-        await asyncio.sleep(0)
-        found, left = self._console.texts_of(ids)
-        marker, shown = self._asking.marker(asked), []
-        for row in found:
-            shown.append(for_page(marker, *row) if page else for_programs(*row))
+        """The messages as JSON with commas between, in pieces of bytes, and how many are left out."""
+        found, left = await self._console.texts_of(ids)
+        marker, pieces, piece = self._asking.marker(asked), [], bytearray()
+        for place, row in enumerate(found):
+            piece += b"," if place else b""
+            piece += (for_page(marker, *row) if page else for_programs(*row)).encode("utf-8", "replace")
+            if len(piece) >= PIECE:
+                pieces.append(piece)
+                piece = bytearray()
             await marker.rest()
-        return shown, left
+        return [*pieces, piece], left
 
     async def histogram(self, request):
         """How many matches there are, in all and in each bar of a time axis."""
@@ -115,7 +119,7 @@ class Answers:
         _, ids = await self._asking.found(asked, low, high, MOST)
         values, size, begun, turn = {}, 0, time.monotonic(), Turn()
         async with self._large:
-            found, _ = self._console.texts_of(ids)
+            found, _ = await self._console.texts_of(ids)
             for _, at, source, raw in found:
                 size += 1
                 fields = message.read(raw, at).fields
@@ -189,9 +193,16 @@ class Answers:
                     await request.more(b"time,source,level,text,id\r\n")
             wanted = ids
             while wanted:
-                rows, left = self._console.texts_of(wanted)
-                if rows:
-                    await request.more(as_csv(rows) if kind == "csv" else b"".join(for_programs(*row).encode("utf-8", "replace") + b"\n" for row in rows))
+                rows, left = await self._console.texts_of(wanted)
+                turn, data = Turn(), bytearray()
+                for row in rows:
+                    data += as_csv(row) if kind == "csv" else for_programs(*row).encode("utf-8", "replace") + b"\n"
+                    if len(data) >= PIECE:
+                        await request.more(data)
+                        data = bytearray()
+                    await turn.rest()
+                if data:
+                    await request.more(data)
                 wanted = wanted[len(wanted) - left:] if left else []
             most -= len(ids)
             if len(ids) < limits.MATCHES:

@@ -244,9 +244,9 @@ class Console:
             self._roomy.set()
         self.standing.tell(met)
 
-    def texts_of(self, ids):
+    async def texts_of(self, ids):
         """(id, time, source, line) of each id, and how many are left out where all would be too many bytes."""
-        found, size = [], 0
+        found, size, turn = [], 0, Turn()
         for place, key in enumerate(ids):
             row = self.row(key)
             # (one that was dropped since the answer has no text any more)
@@ -256,6 +256,7 @@ class Console:
             if size > limits.ANSWER and found:
                 return found, len(ids) - place
             found.append((key, row[1], self.texts.sources[row[2]], row[3]))
+            await turn.rest()
         return found, 0
 
     def size_of(self, ids):

@@ -54,6 +54,9 @@ class Splitter:
             self.rest += rest
             if len(self.rest) > LONGEST:
                 self._long, self.rest = True, self.rest[:LONGEST]
+        if b"\r" not in piece and len(piece) <= LONGEST:
+            # (a piece of short lines has many, and but for the first they are whole as they are)
+            return [self._whole(line) for line in lines[:1]] + lines[1:]
         return [self._whole(line) for line in lines]
 
     @staticmethod

@@ -35,12 +35,10 @@ def for_page(marker, key, at, source, raw):
                        "marks": marker.mark(key, said, source), "fields": said.fields}, ensure_ascii=False)
 
 
-def as_csv(rows):
-    """Matches as lines of CSV: a cell that a spreadsheet would run is a text there."""
-    out = io.StringIO()
-    writer = csv.writer(out)
-    for key, at, source, raw in rows:
-        said = message.read(raw, at)
-        cells = [source, said.level or "", said.text]
-        writer.writerow([told(at), *("'" + cell if cell[:1] in ("=", "+", "@", "-", "\t", "\r") else cell for cell in cells), str(key)])
+def as_csv(row):
+    """A match as a line of CSV: a cell that a spreadsheet would run is a text there."""
+    key, at, source, raw = row
+    said, out = message.read(raw, at), io.StringIO()
+    cells = [source, said.level or "", said.text]
+    csv.writer(out).writerow([told(at), *("'" + cell if cell[:1] in ("=", "+", "@", "-", "\t", "\r") else cell for cell in cells), str(key)])
     return out.getvalue().encode("utf-8", "replace")

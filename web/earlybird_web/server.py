@@ -101,15 +101,27 @@ class Request:
         """More of such an answer."""
         await self.connection.send(data)
 
-    async def answer(self, status, data=b"", kind="application/json", more=""):
-        """Answers. Where some of the body isn't read, the connection ends behind the answer, and the rest is passed over before that."""
+    def _put_head(self, status, length, kind, more):
         self.connection.left = self.left
         keeps = self.keeps = self.keeps and not self.left
         head = "HTTP/1.1 %d %s\r\nContent-Type: %s\r\nContent-Length: %d\r\n%s%sConnection: %s\r\n\r\n" % (
-            status, REASONS[status], kind, len(data), ALWAYS, more, "keep-alive" if keeps else "close")
+            status, REASONS[status], kind, length, ALWAYS, more, "keep-alive" if keeps else "close")
         self.connection.put(head.encode("latin-1"))
+
+    async def answer(self, status, data=b"", kind="application/json", more=""):
+        """Answers. Where some of the body isn't read, the connection ends behind the answer, and the rest is passed over before that."""
+        self._put_head(status, len(data), kind, more)
         if self.method != "HEAD":
             self.connection.put(data)
+
+    async def answer_pieces(self, status, pieces, kind="application/json"):
+        """Answers with data that are made of pieces, which are removed from their list. Others have their turn between them: a large answer at
+        once is copied for so long that they would notice it."""
+        self._put_head(status, sum(map(len, pieces)), kind, "")
+        pieces.reverse()
+        while pieces and self.method != "HEAD":
+            self.connection.put(pieces.pop())
+            await asyncio.sleep(0)
 
     async def answer_json(self, status, value, more=""):
         """Answers with a value."""
