@@ -48,6 +48,7 @@ def run():
             _harmful(service)
             _beside(service)
             _faults(stage, service)
+            _in_turn(stage, service)
         finally:
             check("a signal ends it", 0, service.end())
         _token(stage)
@@ -57,13 +58,20 @@ def _documents(service):
     lines = text_of(numbered(range(1, 2001)) + [b"bad", b'{"id":1}'])
     status, said = service.ask("POST", "/documents?client=web", lines)
     told = json.loads(said)
-    check("POST /documents", (200, 2002, 2002, 0, [(2001, "bad line"), (2002, told["told"][1]["refused"])], 0),
+    check("POST /documents", (200, 2002, 2002, 0, [(2001, "bad line"), (2002, "bad document")], 0),
           (status, told["read"], told["settled"], told["known"], [(each["line"], each["refused"]) for each in told["told"]], told["more"]))
     told = json.loads(service.ask("POST", "/documents?client=web", lines)[1])
     check("the same again", 2002, told["known"])
     check("another input", 409, service.ask("POST", "/documents?client=web", text_of(numbered([5000])))[0])
     told = json.loads(service.ask("POST", "/documents?client=web&first=2003", text_of(numbered(range(2001, 2011)))[:-1])[1])
     check("lines that go on, the last without LF", (10, 2012, 0, []), (told["read"], told["settled"], told["known"], told["told"]))
+
+
+def _in_turn(stage, service):
+    """Small requests one after the other go to one partition each, but not all to the same."""
+    statuses = [service.ask("POST", "/documents", numbered([number])[0])[0] for number in range(900001, 900021)]
+    there = [sum(900001 <= json.loads(line)["id"] <= 900020 for line in part) for part in stage.documents()]
+    check("small requests go to the partitions in turn", ([200] * 20, 20, True), (statuses, sum(there), min(there) >= 5))
 
 
 def _queries(service):

@@ -58,7 +58,6 @@ class Adder:
         self._hub, self._named = hub, name is not None
         self.name, self._first = name or uuid.uuid4().hex, first
         self._session, self._mark = uuid.uuid4().hex.encode(), b""
-        self._turn = int(hub.id[:6], 16)
         self._last = {}  # part: number of the last line that was given to it
         self._sent = deque()  # blocks whose logs haven't said that they have them, with what the hub sent
         self._blocks = OrderedDict()  # request: block that waits for a worker's word
@@ -202,8 +201,7 @@ class Adder:
         for block in blocks:
             block.request = next(self._hub.requests)
             if block.part is None:
-                self._turn += 1
-                block.part = adds[self._turn % len(adds)]
+                block.part = adds[next(self._hub.turns) % len(adds)]
                 block.previous, self._last[block.part] = self._last[block.part], block.last
             block.wait = wait
             self._blocks[block.request] = block

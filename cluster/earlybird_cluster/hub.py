@@ -22,6 +22,8 @@ class Hub:
         self.redis, self.name, self.patience = redis, name, patience
         self.id = uuid.uuid4().hex
         self.requests = itertools.count(1)
+        # whose turn the next block is (of all adds of this client: many small ones would else go to one partition)
+        self.turns = itertools.count(int(self.id[:6], 16))
         self.takers = {}  # first byte of a message: what takes it
         self.strange = 0  # messages that nobody could take
         self.times = 0  # that it connected
