@@ -74,8 +74,12 @@ def try_phrases(check):
         check("no phrase, but its letters", [], phrases.found(folder, listed))
         write(os.path.join(folder, "cluster/earlybird_cluster/more.py"), '"""So many words."""\n# so many\nx = {"a": 1,\n     "b": "not so many"}\nprint(x, """and\n  so\nmany""")\n')
         at = [fault.split(" says ")[0].rpartition(":")[2] for fault in phrases.found(folder, listed)]
-        check("of a program, its strings", ["4", "6"], at)
+        check("of a program, its strings", ["1", "4", "6"], at)
         os.remove(os.path.join(folder, "cluster/earlybird_cluster/more.py"))
+        write(os.path.join(folder, "console/earlybird_console/page/more.js"), 'put("so many");\n/* so\n   many */\n// somany\n')
+        at = [fault.split(" says ")[0].rpartition(":")[2] for fault in phrases.found(folder, listed)]
+        check("of the page, its scripts", ["1", "2"], at)
+        os.remove(os.path.join(folder, "console/earlybird_console/page/more.js"))
         write(os.path.join(folder, "README.md"), "one\ntwo so\nmany\n")
         check("where it is", ["README.md:2 says 'so many'; write: %s" % instead["so many"]], phrases.found(folder, listed))
 

@@ -8,8 +8,8 @@ import tokenize
 # what people read: documents, help, and what the packages and the programs in Python say of themselves
 READ = ("*.md", "docs/*.md", "bench/*.md", "crates/*/README.md", "examples/*/README.md", "python/README.md", "rust/README.md", "include/*.h",
         ".ci/made/commands.py", ".ci/made/helping.py", ".ci/made/words.awk", "python/src/**/*.py", "rust/src/**/*.rs",
-        "console/earlybird_console/page/*.html")
-# programs of which people read the strings alone
+        "console/earlybird_console/page/*.html", "console/earlybird_console/page/*.js")
+# programs of which people read the strings alone, those that document them too
 PROGRAMS = tuple("%s/earlybird_%s/**/*.py" % (it, it) for it in ("console", "cluster", "live", "logs", "web"))
 # between two words: blanks, or the end of a line and how a comment goes on
 GAP = r"(?:[ \t]+|[ \t]*\n[ \t]*(?:///?|//!|\*|#)?[ \t]*)"
@@ -24,16 +24,15 @@ def rows(text):
 
 
 def strings_of(source):
-    """A program in Python of which its strings are left, in their places, but for those that begin a line of it, as they document it."""
-    lines, begins = source.splitlines(True), True
+    """A program in Python of which its strings are left, in their places."""
+    lines = source.splitlines(True)
     out = [[" "] * len(line) for line in lines]
     for token in tokenize.generate_tokens(io.StringIO(source).readline):
-        if "STRING" in tokenize.tok_name[token.type] and not begins:
+        if "STRING" in tokenize.tok_name[token.type]:
             (first, begin), (last, end) = token.start, token.end
             for at in range(first - 1, last):
                 here = slice(begin if at == first - 1 else 0, end if at == last - 1 else len(lines[at]))
                 out[at][here] = lines[at][here]
-        begins = token.type in (tokenize.NEWLINE, tokenize.INDENT, tokenize.DEDENT, tokenize.ENCODING) or begins and token.type in (tokenize.NL, tokenize.COMMENT)
     return "\n".join("".join(line).rstrip("\n") for line in out)
 
 

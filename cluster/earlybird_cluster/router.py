@@ -33,7 +33,7 @@ class Router:
         """Adds the document lines of an iterable of bytes, in order, numbered from `first` on. A LF or CR at a line's end is
         removed, and a line that holds another one is a bad line. Yields a Told, in order, for each line that isn't accepted:
         `refused` with the program's word, or `bad line` where it doesn't begin with `{`; or `pending` where within the
-        patience no worker said what became of it. Without `wait` only lines that can be told without the workers are refused.
+        patience no worker said what became of it. Without `wait` only those lines are refused of which no worker has to say it.
         Blank lines are numbered and pass. None among the lines says that no line is there at the moment: all before it are
         then put into the log, and settled. `client` is a name under which the same lines may be added again: those that a log
         has are left out. Raises one of LOST where Redis is gone for longer than the patience, and OtherInput where the name

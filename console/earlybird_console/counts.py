@@ -1,6 +1,6 @@
 """How many messages match, in all and in each bar of a time axis. This is the one place that knows how the index is asked for that: by queries
 for the ids themselves, each of 1,000 at most. They are exact where there are fewer; else bar by bar, the fullest cut in halves again while
-there is time. Of what stays too full the least number is told."""
+there is time. What stays too full has at least its number."""
 import asyncio
 import bisect
 import time

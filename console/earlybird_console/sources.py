@@ -54,8 +54,8 @@ async def read_input(console):
 
 
 class Followed:
-    """A file that grows. It is read from where an earlier console with the same texts was, or from its beginning; where another file has come
-    in its place, or it has become shorter, from the beginning again, once the file before is read to its end. A file of gzip is read once."""
+    """A file that grows. It is read from where an earlier console with the same texts was, or from its beginning; where another file replaces
+    it, or it has become shorter, from the beginning again, once the file before is read to its end. A file of gzip is read once."""
 
     def __init__(self, console, path, name):
         self._console = console

@@ -1,4 +1,4 @@
-"""Checks of the front for a terminal."""
+"""Checks of the prompt over logs."""
 import signal
 import tempfile
 

@@ -1,4 +1,4 @@
-"""A front for people on a terminal, over the index program."""
+"""The prompt over logs, for people on a terminal, over the index program."""
 import os
 import sys
 

@@ -99,7 +99,7 @@ class Loader(threading.Thread):
         return self.parts is not None
 
     def share(self):
-        """How much of the files is read, from 0 to 1; None where it can't be told."""
+        """How much of the files is read, from 0 to 1; None where nobody knows."""
         return min(1.0, self.read / self.sized) if self.sized and all(source.size is not None for source in self.sources) else None
 
     @property

@@ -19,7 +19,7 @@ def begun_name(run, names):
 
 
 def value_asked(query, place, rest):
-    """The value that a query asks for, folded, and the place behind it: `rest` is what stands behind the colon up to `place`, and where
+    """The value that a query asks for, folded, and the place behind it: `rest` is the text behind the colon up to `place`, and where
     that is nothing, a quoted value may follow."""
     if not rest and query.startswith('"', place):
         end = query.find('"', place + 1)

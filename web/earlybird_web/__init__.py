@@ -1,1 +1,1 @@
-"""The web server that the console and the cluster's service stand on: requests within limits, and who may send them."""
+"""The web server of the console and of the cluster's service: requests within limits, and who may send them."""

@@ -21,7 +21,7 @@ async function countAll(field, list, note) {
     const most = Math.max(...values.map((each) => each[1]));
     list.replaceChildren(...values.map(([value, count, exact]) => valueOf(field.name, value, count, most, exact)));
     put(note, "");
-  } catch { /* what was told of the newest stays */ }
+  } catch { /* the counts of the newest stay */ }
 }
 
 function fieldOf(field, of) {
