@@ -3,11 +3,11 @@ what isn't theirs. `check` calls it; with words it runs those parts alone, and `
 import sys
 import time
 
-from . import answers, faults, growing, images, long, nodes, pieces, repeats, replicas, service
+from . import answers, console, faults, growing, images, long, nodes, pieces, repeats, replicas, service
 from .stage import FAILED, PASSED
 
 PARTS = {"pieces": pieces.run, "answers": answers.run, "faults": faults.run, "repeats": repeats.run, "replicas": replicas.run, "growing": growing.run, "images": images.run,
-         "nodes": nodes.run, "service": service.run, "kills": lambda: long.run(60000, 4)}
+         "nodes": nodes.run, "service": service.run, "console": console.run, "kills": lambda: long.run(60000, 4)}
 
 
 def main():

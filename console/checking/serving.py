@@ -415,6 +415,8 @@ def check_usage(folder):
     for words, why in ((["run", "--workers", "2"], b"--workers"), (["feed", "--overlap"], b"--overlap"), (["--fields", "a"], b"its fields"), (["--words", "pieces"], b"--words"), (["run", "--json"], b"--json")):
         check("words that the console can't have: %s" % words, (2, True), tried(["--", *words], why))
     usages = [(["--listen", "0.0.0.0:0"], b"--token-file"), (["--listen", "nowhere"], b"HOST:PORT"), (["--token-file", "/dev/null"], b"16 characters")]
+    usages += [(["--cluster", "a"], b"--cluster needs --texts"), (["--cluster", "a", "--texts", path, "--", "run"], b"--cluster needs --texts"),
+               (["--redis", "redis://nowhere"], b"--redis says where")]
     for words, why in usages:
         check("usage: %s" % " ".join(words), (2, True), tried(words, why))
     listen = ["--program", PROGRAM, "--listen", "127.0.0.1:0"]

@@ -27,16 +27,20 @@ class Asking:
         return Asked(query.strip(), self._console.names, int(time.time() * 1000), self._parts)
 
     async def order(self, line):
-        """What comes of a line. Raises Refused where too many wait."""
+        """What comes of a line. Raises Refused where too many wait, and where a partition of a cluster doesn't answer."""
         if self._waiting >= limits.WAITING:
             raise Refused("busy", None, "too many queries wait")
         order = Order(line)
         self._waiting += 1
         try:
             self._console.send(order)
-            return await order.outcome
+            kind, value = await order.outcome
         finally:
             self._waiting -= 1
+        if kind == "missing":
+            # (an answer without some of the messages isn't shown as one)
+            raise Refused("missing", None, value)
+        return kind, value
 
     async def begin_watch(self, number, asked):
         """Has the index watch a query. Raises Refused where it refuses that."""

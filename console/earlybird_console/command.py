@@ -11,6 +11,7 @@ from earlybird_web.guard import read_guarded
 from earlybird_web.server import Server
 
 from .alerts import Alerts
+from .cluster import WATCHING, Cluster, ClusterIndex
 from .console import Console, Stopped
 from .documents import SLOTS
 from .routes import Routes
@@ -40,6 +41,8 @@ def read_words(words):
     parser.add_argument("--token-file", metavar="FILE", help="a file whose first line each request has to know; needed where others than this machine can ask")
     parser.add_argument("--alert-file", metavar="FILE", help="a file to which each alarm of a watch is added, as a line of JSON")
     parser.add_argument("--alert-command", metavar="WORDS", help="a command that is run for each alarm, with that line on its standard input")
+    parser.add_argument("--cluster", metavar="NAME", help="a cluster of this name in place of one index program: docs/CLUSTER.md; needs --texts")
+    parser.add_argument("--redis", metavar="URL", help="where the cluster is; else the variable EARLYBIRD_REDIS, else what `earlybird-cluster up` starts")
     parser.add_argument("--program", metavar="FILE", default=os.environ.get("EARLYBIRD_COMMAND") or os.path.join(ROOT, "earlybird"), help="the index program (the launcher)")
     return parser, parser.parse_args(words[:place]), words[place + 1:]
 
@@ -61,16 +64,30 @@ def takes(program, words):
     return done.returncode == 0
 
 
+def over_program(asked, words, texts, alerts):
+    """A console over one index program."""
+    # (where the program has the parts of words by itself, they are its matter)
+    pieces = ["--words", "pieces"] if takes(asked.program, ["run", "--segments", "1", "--docs", "256", "--terms", "1024", "--words", "pieces"]) else []
+    program = [asked.program, *words, "--fields", ",".join(SLOTS), "--watch", *pieces]
+    return Console(program, texts, alerts, drops=words[0] == "feed", parts=not pieces, words_only=asked.words_only)
+
+
+def over_cluster(asked, texts, alerts):
+    """A console over a cluster."""
+    cluster = Cluster(asked.redis, asked.cluster)
+    cluster.meet(texts)
+    program = [asked.program, *WATCHING, *(["--words", "pieces"] if cluster.has_pieces else [])]
+    return Console(program, texts, alerts, drops=cluster.drops, parts=not cluster.has_pieces, words_only=asked.words_only,
+                   make_index=lambda taken: ClusterIndex(cluster, taken), keeps=True)
+
+
 async def serve(asked, words, host, port, token):
     """Runs the console until a signal ends it, or raises what ends it else."""
     loop, stop = asyncio.get_running_loop(), asyncio.Event()
     for name in (signal.SIGINT, signal.SIGTERM):
         loop.add_signal_handler(name, stop.set)
     texts, alerts = Texts(asked.texts), Alerts(asked.alert_file, asked.alert_command)
-    # (where the program has the parts of words by itself, they are its matter)
-    pieces = ["--words", "pieces"] if takes(asked.program, ["run", "--segments", "1", "--docs", "256", "--terms", "1024", "--words", "pieces"]) else []
-    program = [asked.program, *words, "--fields", ",".join(SLOTS), "--watch", *pieces]
-    console = Console(program, texts, alerts, drops=words[0] == "feed", parts=not pieces, words_only=asked.words_only)
+    console = over_cluster(asked, texts, alerts) if asked.cluster else over_program(asked, words, texts, alerts)
     routes = Routes(console, token)
     server = routes.server = Server(routes.handle)
     port = await server.start(host, port)
@@ -107,6 +124,10 @@ def main():
         host, port, token = read_guarded(asked.listen, asked.token_file)
     except ValueError as fault:
         parser.error(str(fault))
+    if asked.cluster and (words or asked.texts == ":memory:"):
+        parser.error("--cluster needs --texts FILE, and its index programs have their words from `earlybird-cluster up`")
+    if asked.redis and not asked.cluster:
+        parser.error("--redis says where a --cluster is")
     give_back()
     # (the console asks for watches itself)
     words = [word for word in words if word != "--watch"]

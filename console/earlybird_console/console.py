@@ -63,9 +63,10 @@ class Group:
 
 class Console:
     """All of it but the requests. `drops` is whether the index drops its oldest messages where it has no room; `parts`, whether the console
-    has to part the words that are put together of others; `words_only` are names of members whose values are no fields."""
+    has to part the words that are put together of others; `words_only` are names of members whose values are no fields. `make_index` makes
+    one run of the index of what takes its outcomes, and `keeps` is whether a new run has the messages of the one before."""
 
-    def __init__(self, program, texts, alerts, drops=True, parts=True, words_only=()):
+    def __init__(self, program, texts, alerts, drops=True, parts=True, words_only=(), make_index=Index, keeps=False):
         self.texts = texts
         self.figures = Figures()
         self.names = Names(texts.names, words_only)
@@ -77,6 +78,7 @@ class Console:
         self.state = {"index": "starting", "starts": 0, "fed": 0, "of": texts.count, "at": None}
         self._program = program
         self._drops = drops
+        self._make_index, self._keeps = make_index, keeps
         self._full = False
         self._index = None
         self._ready = asyncio.Event()
@@ -85,7 +87,8 @@ class Console:
         self._roomy = asyncio.Event()
         self._roomy.set()
         self._ending = False
-        self._seq = texts.newest
+        # (an index that keeps may have messages that were on their way when a console was killed: no other message gets their numbers)
+        self._seq = texts.newest + (ON_WAY if keeps and texts.newest else 0)
         # by source: the time of its last message that has one
         self._times = {}
         self._keys = Keys(documents.key_of(at, seq) for seq, at in texts.times())
@@ -107,7 +110,7 @@ class Console:
 
     async def _run_once(self):
         self.state.update(index="starting", fed=0, of=self.texts.count)
-        index = Index(self._settled)
+        index = self._make_index(self._settled)
         try:
             await index.start(self._program)
         except OSError as fault:
@@ -123,10 +126,10 @@ class Console:
         return index, status
 
     async def _feed(self, index):
-        """Feeds a new index: the texts that are kept, the watches, and what waited meanwhile."""
+        """Feeds a new index: the texts that are kept, where it hasn't them, the watches, and what waited meanwhile."""
         last, now, turn = 0, int(time.time() * 1000), Turn()
         while True:
-            rows = self.texts.after(last, PAGE)
+            rows = [] if self._keeps else self.texts.after(last, PAGE)
             group = Group("the texts")
             for seq, at, source, raw in rows:
                 group.left += 1
@@ -309,7 +312,7 @@ class Console:
         return kind == "seen" and not value[1]
 
     def told(self):
-        """What is told each second."""
+        """The figures of each second."""
         sources = list(itertools.islice(self.texts.sources.values(), limits.SOURCES_TOLD))
         return {
             **self.figures.told(),

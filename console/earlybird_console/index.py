@@ -17,9 +17,9 @@ PIECE = 1 << 18
 
 class Message:
     """A message on its way: the document that the index gets, the line as it came, its number among all, its time in milliseconds, and the
-    number of its source. `again` is whether it was accepted by an earlier run of the program."""
+    number of its source. `again` is whether it was accepted by an earlier run of the program, `in_cluster` whether a cluster took it."""
 
-    __slots__ = ("line", "raw", "group", "seq", "at", "source", "again", "tries", "event")
+    __slots__ = ("line", "raw", "group", "seq", "at", "source", "again", "tries", "event", "in_cluster")
 
     def __init__(self, line, raw, group, seq, at, source, again=None):
         self.line = line
@@ -30,6 +30,7 @@ class Message:
         self.source = source
         self.again = again
         self.tries = 0
+        self.in_cluster = False
         # what readers of events are told of it, once one wants it
         self.event = None
 
@@ -164,7 +165,7 @@ class Index:
                 if each is not Probe and each.again is None]
 
     async def close(self):
-        """Ends the program: its input ends, and where that isn't enough, it is told so by signals."""
+        """Ends the program: its input ends, and where that isn't enough, signals end it."""
         self._process.stdin.close()
         for name in (signal.SIGTERM, signal.SIGKILL):
             try:

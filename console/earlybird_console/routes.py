@@ -66,7 +66,7 @@ class Routes:
             return await self._routes[route](request)
         except Refused as refused:
             column = {} if refused.column is None else {"column": refused.column}
-            raise Fault(400 if refused.name != "busy" else 503, refused.name, why=refused.why, **column) from refused
+            raise Fault(503 if refused.name in ("busy", "missing") else 400, refused.name, why=refused.why, **column) from refused
 
     # who asks
 
