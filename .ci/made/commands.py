@@ -108,7 +108,7 @@ STATUSES = [
     (2, "usage", "invalid command line; nothing was read"),
     (3, "read fault", "reading failed; all whole lines that were read are answered"),
     (4, "write fault", "writing failed"),
-    (5, "no memory", "memory ran out"),
+    (5, "no memory", "memory ran out; that it comes for nothing else isn't promised"),
     (6, "input too long", "2^40 bytes were read without an end; their whole lines are answered"),
     (7, "bad image", "what `load` read begins no image; nothing was printed"),
     (70, "not built, or not installed", "the launcher could not build the program of changed sources, or could not install or uninstall"),
