@@ -24,5 +24,6 @@ def main(rounds):
         commands.over_pipes(folder)
         commands.on_a_terminal(folder)
         commands.ended(folder)
+        commands.at_once(folder)
     print("live: %d passed, %d failed" % (len(PASSED), len(FAILED)))
     return 1 if FAILED else 0

@@ -15,6 +15,9 @@ from terminal import on_a_terminal as shown_on_a_terminal
 
 from .compare import PROGRAM, check, write
 
+# seconds for the first answer over a large log, where much else runs
+SOON = 4
+
 
 def command(words, **how):
     """What the command prints and says, and how it ends."""
@@ -155,6 +158,27 @@ def on_a_terminal(folder):
     write(os.path.join(folder, "state2"), "")
     shown, code = shown_on_a_terminal(["sh", "-c", 'echo :q | "$1" live "$2"', "sh", PROGRAM, path], env={**environment, "XDG_STATE_HOME": os.path.join(folder, "state2")})
     check("a history that can't be kept", (0, False), (code, "Traceback" in shown))
+
+
+def at_once(folder):
+    """The first answer comes within a second of the start on a machine that has nothing else to do, while a log of 100 MB still loads."""
+    path, size = os.path.join(folder, "large.log"), 100 << 20
+    piece = b"".join(b"2026-11-30T10:%02d:%02d INFO request %d of worker %d took %d ms\n" % (n // 60 % 60, n % 60, n, n % 7, n * 37 % 1000) for n in range(10000))
+    with open(path, "wb") as file:
+        for _ in range(size // len(piece)):
+            file.write(piece)
+    begun = time.monotonic()
+    screen = Terminal([PROGRAM, "live", path], env={"XDG_STATE_HOME": os.path.join(folder, "state")})
+    screen.type(b"request 4567\n")
+    check("100 MB: an answer while they load", True, screen.wait_for(b"lines read so far"))
+    took = time.monotonic() - begun
+    print("live: the first answer over 100 MB after %.2f s" % took, flush=True)
+    check("100 MB: and soon", True, took < SOON)
+    screen.wait_for(b"> ")
+    screen.type(b"\x04")
+    shown, code = screen.end()
+    check("100 MB: the line is shown, and Ctrl-D ends it meanwhile", (True, 0), ("\x1b[1;31m4567\x1b[0m of worker 3 took 979 ms" in shown, code))
+    os.remove(path)
 
 
 def ended(folder):
