@@ -152,9 +152,14 @@ function strange(word, option, i,    near) {
         return
     }
     if (has(name, word)) { say(word " is written --" word); return }
-    if (name == "run" || name == "feed" || name == "save") say(name " reads standard input, and takes no files: earlybird " name " < " for_shell(word))
+    if (name == "run" || name == "feed" || name == "save") say(name " reads standard input, and takes no files: earlybird " name " < " for_shell(word) for_text(name, word))
     else if (name == "load") say("load reads the image from standard input: earlybird load < " for_shell(word))
     else say(name " takes no word " plain(word) "; see earlybird help " name)
+}
+
+# what is for a file that has no messages by its name, but may be a log
+function for_text(name, word) {
+    return name == "save" || word ~ /\.jsonl?$/ || length(for_shell(word)) > 40 ? "" : "; for lines of text: earlybird live " for_shell(word)
 }
 
 function begins_with(letter, names,    list, n, i) {

@@ -58,6 +58,8 @@ def options(folder):
         check("live %s" % words[:2], (2, True, False, 1), (code, part in said, "\x1b" in said, said.count("\n")))
     out, said, code = command(["--nope", path])
     check("live: usage", ("", True, 2), (out, said == "earlybird: live: there is no option --nope; earlybird help live tells all\n", code))
+    for words, near in ((["--folow", path], "--follow"), (["--colour=always", path], "--color")):
+        check("live %s" % words[0], ("earlybird: live: there is no option %s: did you mean %s?\n" % (words[0], near), 2), refused(words))
 
 
 def over_pipes(folder):

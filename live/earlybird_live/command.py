@@ -49,9 +49,11 @@ class Parser(argparse.ArgumentParser):
     """Says in one line why words aren't taken, as the launcher does."""
 
     def error(self, message):
-        message = message.replace("unrecognized arguments:", "there is no option")
-        message = re.sub(r"^argument (?:-\w/)?(--\w+)", r"\1", message)
-        print(seen_safely("earlybird: live: %s; earlybird help live tells all" % message), file=sys.stderr)
+        import difflib
+        unknown = message.partition("unrecognized arguments: ")[2]
+        near = difflib.get_close_matches(unknown.split(" ")[0].split("=")[0], [it for it in self._option_string_actions if it.startswith("--")], 1, 0.7)
+        message = re.sub(r"^argument (?:-\w/)?(--\w+)", r"\1", "there is no option " + unknown if unknown else message)
+        print(seen_safely("earlybird: live: %s%s" % (message, ": did you mean %s?" % near[0] if near else "; earlybird help live tells all")), file=sys.stderr)
         sys.exit(2)
 
 
