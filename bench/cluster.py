@@ -1,19 +1,23 @@
 #!/usr/bin/env python3
 """Measures the cluster on this machine, in turn with one program over a pipe: messages and queries a second, the processor time of
 each, the time of one query, and the time to build a partition again. Needs redis-server and Python's module redis:
-/usr/bin/python3 bench/cluster.py [MESSAGES [ROUNDS]]"""
+/usr/bin/python3 bench/cluster.py [--messages N] [--rounds N] [--before FOLDER], where FOLDER has the cluster of version 0.5.0, as commit 7b1faa30
+has it: that is measured in turn, too, with a fifth of the messages. The result goes to bench/results/, `cluster-` and the date and commit."""
+import argparse
 import json
 import os
 import random
 import statistics
 import subprocess
 import sys
+import tempfile
 import threading
 import time
 
 ROOT = os.path.dirname(os.path.dirname(os.path.abspath(__file__)))
 sys.path.insert(0, os.path.join(ROOT, "cluster"))
 
+import kept  # noqa: E402
 from checking.stage import PROGRAM, Stage, until  # noqa: E402
 from earlybird_cluster.lines import blocks_of  # noqa: E402
 from earlybird_cluster.router import ENTRY  # noqa: E402
@@ -105,25 +109,93 @@ def cluster(parts, text, rare, frequent):
         return found
 
 
+# the cluster of version 0.5.0, by its own router and command: messages and queries a second, and the time of one query
+BEFORE = """
+import json, os, shutil, sys, tempfile, time
+source, parts, lines, rare, frequent, *words = sys.argv[1:]
+sys.path.insert(0, os.path.join(source, "cluster"))
+from checking import PROGRAM, command
+from earlybird_cluster import Router, machine
+read = lambda path: open(path, "rb").read()
+folder, found = tempfile.mkdtemp(prefix="earlybird-cluster-"), {}
+try:
+    command(folder, "up", parts, "--program", PROGRAM, "--", *words)
+    router = Router(machine.connect("unix://" + machine.socket_of(folder)), patience=60)
+    lines, begun = read(lines).splitlines(), time.monotonic()
+    assert not list(router.add(lines))
+    found["messages"] = len(lines) / (time.monotonic() - begun)
+    for name, text in (("rare", read(rare)), ("frequent", read(frequent))):
+        begun = time.monotonic()
+        command(folder, "ask", text=text)
+        found[name] = text.count(b"\\n") / (time.monotonic() - begun)
+    times = []
+    for line in read(rare).splitlines()[:1000]:
+        begun = time.monotonic()
+        router.ask(line)
+        times.append(1000 * (time.monotonic() - begun))
+    times.sort()
+    found["middle_ms"], found["p99_ms"] = times[500], times[990]
+finally:
+    command(folder, "down")
+    shutil.rmtree(folder, ignore_errors=True)
+print(json.dumps(found))
+"""
+
+
+def before(source, parts, text, rare, frequent):
+    """The same of that cluster."""
+    lines = text.splitlines(keepends=True)
+    with tempfile.TemporaryDirectory(prefix="bench-") as folder:
+        paths = []
+        for name, data in (("lines", b"".join(lines[:len(lines) // 5])), ("rare", b"\n".join(rare[:4000]) + b"\n"), ("frequent", b"\n".join(frequent[:4000]) + b"\n")):
+            paths.append(os.path.join(folder, name))
+            with open(paths[-1], "wb") as file:
+                file.write(data)
+        words = [sys.executable, "-B", "-c", BEFORE, source, str(parts), *paths, *WORDS]
+        done = subprocess.run(words, stdout=subprocess.PIPE, env={**os.environ, "EARLYBIRD_PROGRAM": PROGRAM}, check=True)
+    return json.loads(done.stdout)
+
+
+def row(who, rows, whole):
+    """What a line tells: the medians of all rounds."""
+    middle = {name: statistics.median(each[name] for each in rows) for name in rows[0]}
+    said = "%s: %d messages a second (%.2f of a pipe)" % (who, middle["messages"], middle["messages"] / whole)
+    if "all_us" in middle:
+        said += ", %.2f us of processor time for one" % middle["all_us"]
+    if "glue_us" in middle:
+        said += ", %.2f outside the programs" % middle["glue_us"]
+    said += "; %d queries a second of rarer words, %d of frequent ones" % (middle["rare"], middle["frequent"])
+    if "rare_us" in middle:
+        said += "; %.1f and %.1f us outside the programs" % (middle["rare_us"], middle["frequent_us"])
+    if "middle_ms" in middle:
+        said += "; one query %.2f ms in the middle, %.2f at the 99th of 100" % (middle["middle_ms"], middle["p99_ms"])
+    if "again_s" in middle:
+        said += "; partition 0 built again in %.1f s" % middle["again_s"]
+    return said
+
+
 def main():
     """All figures: medians of the rounds, in each of which all take their turn."""
-    count = int(sys.argv[1]) if len(sys.argv) > 1 else 300000
-    rounds = int(sys.argv[2]) if len(sys.argv) > 2 else 3
-    material = made(count)
-    found = {}
-    for _ in range(rounds):
-        found.setdefault("pipe", []).append(pipe(*material))
+    parser = argparse.ArgumentParser(description=__doc__.split("\n", maxsplit=1)[0])
+    parser.add_argument("--messages", type=int, default=300000)
+    parser.add_argument("--rounds", type=int, default=3)
+    parser.add_argument("--before", metavar="FOLDER", help="a checkout with the cluster of version 0.5.0")
+    parser.add_argument("--out", metavar="FILE", help="where the result goes in place of bench/results/")
+    given = parser.parse_args()
+    material = made(given.messages)
+    told = kept.begun(messages=given.messages, load_before=os.getloadavg()[0], rounds={})
+    for _ in range(given.rounds):
+        told["rounds"].setdefault("pipe", []).append(pipe(*material))
         for parts in (1, 2, 3):
-            found.setdefault("%d partitions" % parts, []).append(cluster(parts, *material))
-    whole = statistics.median(each["messages"] for each in found["pipe"])
-    for who, rows in found.items():
-        middle = {name: statistics.median(each[name] for each in rows) for name in rows[0]}
-        print("%s: %d messages a second (%.2f of a pipe), %.2f us of processor time for one%s; %d queries a second of rarer words, %d of frequent ones%s" % (
-            who, middle["messages"], middle["messages"] / whole, middle["all_us"], ", %.2f outside the programs" % middle["glue_us"] if "glue_us" in middle else "",
-            middle["rare"], middle["frequent"],
-            "; %.1f and %.1f us outside the programs; one query %.2f ms in the middle, %.2f at the 99th of 100; partition 0 built again in %.1f s" % (
-                middle["rare_us"], middle["frequent_us"], middle["middle_ms"], middle["p99_ms"], middle["again_s"]) if "glue_us" in middle else ""))
-    print("load %.1f" % os.getloadavg()[0])
+            told["rounds"].setdefault("%d partitions" % parts, []).append(cluster(parts, *material))
+            if given.before:
+                told["rounds"].setdefault("%d partitions of 0.5.0" % parts, []).append(before(given.before, parts, *material))
+    told["load_after"] = os.getloadavg()[0]
+    whole = statistics.median(each["messages"] for each in told["rounds"]["pipe"])
+    for who, rows in told["rounds"].items():
+        print(row(who, rows, whole))
+    print("load %.1f before, %.1f after" % (told["load_before"], told["load_after"]))
+    kept.keep(told, "cluster-", given.out)
 
 
 if __name__ == "__main__":
