@@ -40,6 +40,16 @@ def check_lines():
         size = chance.randrange(1, 40000)
         got, data = got + splitter.take(data[:size]), data[size:]
     check("lines of any pieces", [line[:LONGEST] for line in lines], got)
+    for most in (3, 9, 200000):
+        lines = [b"x" * chance.choice((0, 1, 2, 5, 70000)) + chance.choice((b"", b"\r")) for _ in range(60)]
+        data, splitter, got = b"\n".join(lines) + b"\n", Splitter(), []
+        if most < 10:
+            data = data.replace(b"x" * 70000, b"yy")
+        wanted = [line[:LONGEST] for line in data.split(b"\n")[:-1]]
+        while data:
+            size = chance.randrange(1, most + 1)
+            got, data = got + splitter.take(data[:size]), data[size:]
+        check("lines of pieces of up to %d bytes, some with CR" % most, [line[:-1] if line.endswith(b"\r") else line for line in wanted], got)
     check("an answer", (3, "seen", (2, [102, 101])), read_printed(b"3 seen 2: 102 101"))
     check("an answer of nothing", (4, "seen", (4, [])), read_printed(b"4 seen 4:"))
     check("watches", (12, "watch", [3, 7]), read_printed(b"12 watch: 3 7"))
