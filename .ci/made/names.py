@@ -14,6 +14,11 @@ def exported(lib):
     return found
 
 
+def homes(name, sources):
+    """The crates of this repository of whose types this name is another one, as `pub type Desk = eb_desk::Desk<Job>`."""
+    return {home for text in sources for home in re.findall(r"^pub type %s(?:<[^=]*>)? = (\w+)::%s\b" % (name, name), text, re.M)}
+
+
 def blocks_of(sources, name):
     """Each block of a type or a trait, with its first word or words."""
     head = r"^(pub struct|pub enum|pub trait|impl)\b([^;{]*?)\b%s\b[^;{]*\{$.*?^\}" % name
@@ -63,7 +68,9 @@ def missing(root, text):
         if is_definition:
             there = defines(name, read(crate, "specs/**/*.antt"))
         else:
-            there = gives(name, exported("".join(read(crate, "src/lib.rt"))), read(crate, "src/**/*.rt"))
+            sources = read(crate, "src/**/*.rt")
+            behind = [text for home in sorted(homes(name.partition("::")[0], sources)) for text in read(home, "src/**/*.rt")]
+            there = gives(name, exported("".join(read(crate, "src/lib.rt"))), sources + behind)
         if not there:
             found.append("%s gives no `%s`, which the specification names" % (crate, name))
     return found

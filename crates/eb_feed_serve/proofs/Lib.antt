@@ -1,9 +1,1 @@
-pub mod Weighing
-pub mod Moving
-pub mod JobsKept
-pub mod AnswersKept
-pub mod Books
-pub mod Law
-pub mod Asking
 pub mod Fronts
-pub mod Crossing

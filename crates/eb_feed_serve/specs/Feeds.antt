@@ -1,5 +1,5 @@
 -- Which feed a desk is of, and the readers that its writer makes.
-use Rattle.std.specs.Prelude.{◌≡◌, ℕ, ◌≤◌, ◌⊎◌, min, length}
+use Rattle.std.specs.Prelude.{◌≡◌, ℕ, ◌≤◌, ◌⊎◌, List, [], ◌∷◌, min, length, slice_index_or}
 use Rattle.logbook.specs.Pages.{Book}
 use Rattle.eb_stream.specs.Turns.{FeedToken, WriterToken}
 
@@ -18,3 +18,12 @@ pub record IsReaderOf (f : FeedName) (r : FeedToken) : Type 0 where
   pub book : r.book ≡ f.book
   pub held : r.held ≡ min f.keep (length r.log)
   pub begun : (length r.log ≤ 1) ⊎ (1 ≤ length r.docs)
+
+-- a feed in numbers, and back
+abbrev pub key_of : FeedName → List ℕ
+key_of f = f.book.number ∷ f.book.log_name ∷ f.book.cells_name ∷ f.keep ∷ []
+
+abbrev pub feed_of : List ℕ → FeedName
+feed_of k =
+    let at : ℕ → ℕ = λ i. slice_index_or k i 0 in
+    record { book = record { number = at 0; log_name = at 1; cells_name = at 2 }; keep = at 3 }

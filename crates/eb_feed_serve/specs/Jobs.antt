@@ -4,7 +4,7 @@ use Rattle.eb_cursor.specs.declared.frame.Frame.{Frame}
 use Rattle.eb_stream.specs.Turns.{FeedToken, history_of, counted}
 use Rattle.eb_feed_serve.specs.declared.job.Job.{Job}
 use Rattle.eb_feed_serve.specs.declared.job.Answer.{Answer}
-use Rattle.eb_feed_serve.specs.declared.rule.Pair.{Pair}
+use Rattle.eb_desk.specs.declared.rule.Pair.{Pair}
 
 -- how many documents of the history a reader knows of, as far as a number of 64 bits goes
 abbrev pub known_to : FeedToken → ℕ

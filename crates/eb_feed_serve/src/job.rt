@@ -39,13 +39,6 @@ pub struct Answer {
     ghost found: { ids_of frame ≡ answer (query_of frame) (k_of frame) (stretch_of reader.held reader.log reader.docs) },
 }
 
-// What lies in the queue of jobs.
-#[derive(Drop)]
-pub(crate) enum Task {
-    Job(Job),
-    Stop,
-}
-
 #[tactic(auto, using(crate::proofs::Fronts::counted_more))]
 fn search_with<G: Gate, L: Ledger>(
     reader: &mut FeedReader,
@@ -92,19 +85,33 @@ impl Job {
             reader,
         })
     }
+}
 
-    // The job's answer.
+impl eb_desk::Job for Job {
+    type Answer = Answer;
+
+    type Place = FeedWriter;
+
+    type With = ();
+
+    ghost use Rattle.std.specs.Prelude.{⊤};
+    ghost use Rattle.eb_feed_serve.specs.Feeds.{feed_name, key_of, feed_of, IsReaderOf};
+    ghost use Rattle.eb_feed_serve.specs.Jobs.{pair_of, asker, answer_pair, answerer};
+
+    ghost pair = { pair_of };
+
+    ghost answer_pair = { answer_pair };
+
+    ghost made = { λ home j. IsReaderOf (feed_of home) (asker j) };
+
+    ghost answer_made = { λ home a. IsReaderOf (feed_of home) (answerer a) };
+
+    ghost serves = { λ with home. ⊤ };
+
+    ghost key = { λ w. key_of (feed_name w) };
+
     #[tactic(auto, using(crate::proofs::Fronts::reads_on))]
-    pub(crate) fn answered<G: Gate>(self, gate: &G) -> Answer
-        ensures book { (answerer result).book ≡ (asker self).book }
-        ensures log { (answerer result).log ≡ (asker self).log }
-        ensures held { (answerer result).held ≡ (asker self).held }
-        ensures known { IsPrefix (asker self).docs (answerer result).docs }
-        ensures made { (feed : FeedName) → IsReaderOf feed (asker self) → IsReaderOf feed (answerer result) }
-        ensures pair { answer_pair result ≡ pair_of self }
-        ensures query { query_of (answering result) ≡ query_of (asking self) }
-        ensures k { k_of (answering result) ≡ k_of (asking self) }
-    {
+    fn answered<G: Gate>(self, _with: &(), gate: &G) -> Answer {
         let Job {
             number,
             told,

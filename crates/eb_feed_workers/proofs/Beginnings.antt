@@ -6,9 +6,10 @@ use Rattle.std.proofs.lemmas.List.Elements.{All-nil}
 use Rattle.eb_base.specs.Setting.{Setting}
 use Rattle.eb_feed.specs.Generations.{joined_generations}
 use Rattle.eb_lines.specs.Progress.{accepted, queries, refusals}
-use Rattle.eb_feed_serve.specs.Desk.{Queues, ClerkBook, new_clerk}
-use Rattle.eb_feed_serve.specs.Feeds.{feed_name}
-use Rattle.eb_feed_serve.specs.Rule.{IsAboveEach}
+use Rattle.eb_desk.specs.Desk.{Queues, ClerkBook}
+use Rattle.eb_feed_serve.specs.Desk.{new_clerk}
+use Rattle.eb_feed_serve.specs.Feeds.{feed_name, feed_of}
+use Rattle.eb_desk.specs.Rule.{IsAboveEach}
 use Rattle.eb_stream.specs.Turns.{WriterToken, generations_of, HasTaken}
 use Rattle.eb_feed_workers.specs.declared.office.Office.{Office}
 use Rattle.eb_feed_workers.specs.declared.office.Side.{Side}
@@ -37,10 +38,10 @@ served_none s o how σ keep form office clerk setting keeps empty names_told tol
     let taken = taken_none o.feed empty in
     let none : docs_of s.office ≡ [] = ap docs_of office ∙ taken.0 in
     let staffed : IsStaffed o = record {
-      clerk = (ap (λ (k : ClerkBook). k.queues) clerk, ap (λ (k : ClerkBook). k.feed) clerk, ap (λ (k : ClerkBook). k.stops) clerk);
+      clerk = (ap (λ (k : ClerkBook (List ℕ)). k.queues) clerk, ap (λ (k : ClerkBook (List ℕ)). feed_of k.home) clerk, ap (λ (k : ClerkBook (List ℕ)). k.stops) clerk);
       taken = taken.1;
     } in
-    let put : s.office.clerk.put ≡ [] = ap (λ (x : Office). x.clerk.put) office ∙ ap (λ (k : ClerkBook). k.put) clerk in
+    let put : s.office.clerk.put ≡ [] = ap (λ (x : Office). x.clerk.put) office ∙ ap (λ (k : ClerkBook (List ℕ)). k.put) clerk in
     record {
       staffed = subst (λ (x : Office). IsStaffed x) (sym office) staffed;
       setting = ap (λ (x : Office). x.feed.setting) office ∙ setting;

@@ -2,7 +2,7 @@
 use Rattle.std.proofs.Common.{◌≡◌, ℕ}
 use Rattle.std.proofs.Props.{props}
 use mathlib.Core.HLevel.{is_prop→PathP}
-use Rattle.eb_feed_serve.specs.Desk.{Queues}
+use Rattle.eb_desk.specs.Desk.{Queues}
 use Rattle.eb_feed_workers.specs.declared.office.Office.{Office}
 
 queues_prop : (a b : Queues) → IsProp (a ≡ b)

@@ -18,11 +18,11 @@ use Rattle.std.proofs.lemmas.Slice.Zip.{AllZip-long}
 use Rattle.eb_lines.proofs.OneReading.{raw_push}
 use Rattle.eb_feed.specs.Generations.{kept}
 use Rattle.eb_stream.specs.Turns.{WriterToken, HasTaken}
-use Rattle.eb_feed_serve.specs.Desk.{ClerkBook}
+use Rattle.eb_desk.specs.Desk.{ClerkBook}
 use Rattle.eb_feed_workers.proofs.Fronts.{taken_is}
-use Rattle.eb_feed_serve.specs.Feeds.{FeedName, feed_name}
-use Rattle.eb_feed_serve.specs.Rule.{IsAboveEach}
-use Rattle.eb_feed_serve.specs.declared.rule.Pair.{Pair}
+use Rattle.eb_feed_serve.specs.Feeds.{FeedName, feed_name, feed_of}
+use Rattle.eb_desk.specs.Rule.{IsAboveEach}
+use Rattle.eb_desk.specs.declared.rule.Pair.{Pair}
 use Rattle.eb_feed_workers.specs.declared.office.Office.{Office}
 use Rattle.eb_feed_workers.specs.declared.serving.Serving.{Serving}
 use Rattle.eb_feed_workers.specs.declared.waiting.Waiting.{Waiting}
@@ -256,9 +256,9 @@ keeps_added old new d staffed desk clerk same taken =
       record {
         staffed = record {
           clerk = (
-            ap (λ (k : ClerkBook). k.queues) clerk ∙ staffed.clerk.0 ∙ sym desk,
-            ap (λ (k : ClerkBook). k.feed) clerk ∙ staffed.clerk.1 ∙ sym name,
-            ap (λ (k : ClerkBook). k.stops) clerk ∙ staffed.clerk.2,
+            ap (λ (k : ClerkBook (List ℕ)). k.queues) clerk ∙ staffed.clerk.0 ∙ sym desk,
+            ap (λ (k : ClerkBook (List ℕ)). feed_of k.home) clerk ∙ staffed.clerk.1 ∙ sym name,
+            ap (λ (k : ClerkBook (List ℕ)). k.stops) clerk ∙ staffed.clerk.2,
           );
           taken = subst (HasTaken new.feed) (sym is) taken;
         };

@@ -2,7 +2,8 @@
 use Rattle.std.specs.Prelude.{◌≡◌, ℕ, List, [], ◌∷◌, Option, Some, None}
 use Rattle.eb_base.specs.Document.{Doc}
 use Rattle.eb_base.specs.Setting.{Setting}
-use Rattle.eb_feed_serve.specs.Desk.{Queues, IsOpen, new_clerk}
+use Rattle.eb_desk.specs.Desk.{Queues}
+use Rattle.eb_feed_serve.specs.Desk.{IsOpen, new_clerk}
 use Rattle.eb_feed_serve.specs.Feeds.{feed_name}
 use Rattle.eb_stream.specs.Turns.{WriterToken, generations_of, history_of, HasTaken}
 use Rattle.eb_feed_workers.specs.declared.office.Side.{Side}

@@ -6,7 +6,7 @@ use Rattle.eb_lines.specs.Progress.{accepted, queries, refusals, told}
 use Rattle.eb_lines.specs.Reading.{Reading}
 use Rattle.eb_lines.specs.Reads.{Reads}
 use Rattle.eb_indexed.specs.Sees.{IsAsked}
-use Rattle.eb_feed_serve.specs.Rule.{IsAboveEach}
+use Rattle.eb_desk.specs.Rule.{IsAboveEach}
 use Rattle.eb_feed_workers.specs.declared.serving.Serving.{Serving}
 use Rattle.eb_feed_workers.specs.Output.{Asked, AreRead, body_from}
 use Rattle.eb_feed_workers.specs.Offices.{docs_of, IsStaffed, Keeps}

@@ -4,10 +4,10 @@ ghost use mathlib.Core.List.{IsPrefix};
 ghost use Rattle.eb_base.specs.Match.{answer};
 ghost use Rattle.eb_cursor.specs.Frames.{query_of, k_of, ids_of};
 ghost use Rattle.eb_feed.specs.Generations.{kept};
-ghost use Rattle.eb_feed_serve.specs.Desk.{with_put};
+ghost use Rattle.eb_desk.specs.Desk.{with_put};
 ghost use Rattle.eb_feed_serve.specs.Feeds.{feed_name, IsReaderOf};
 ghost use Rattle.eb_feed_serve.specs.Jobs.{answerer, pair, known_to};
-ghost use Rattle.eb_feed_serve.specs.Rule.{IsAboveEach};
+ghost use Rattle.eb_desk.specs.Rule.{IsAboveEach};
 ghost use Rattle.eb_stream.specs.Turns.{counted, history_of, stretch_of};
 
 use eb_base::{Document, Gate, NoMemory};
@@ -124,7 +124,7 @@ impl Office<'_> {
         ensures put { self.new.clerk.put ≡ self.old.clerk.put }
         ensures made { IsReaderOf (feed_name self.new.feed) (answerer result) }
     {
-        self.clerk.wait(rt, self.desk, gate)
+        self.clerk.wait(rt, self.desk, &(), gate)
     }
 
     // Takes an answer where one is there.

@@ -102,7 +102,7 @@ fn work_beside<R: Threads + Wait + Sync, G: Gate + Sync, C: FnMut() -> (Status, 
         rt,
         &mut ||
             requires { All (λ w. IsWorkerOf desk.now.queues w) workers.now }
-        { work_all(rt, desk, gate, workers) },
+        { work_all(rt, desk, &(), gate, workers) },
         clerk,
     );
     answered

@@ -1,136 +1,17 @@
--- What a desk, its clerk and its workers are to a contract.
-use Rattle.std.specs.Prelude.{◌≡◌, ℕ, suc, ◌+◌, ◌++◌, true, false, List, [], ◌∷◌, length}
-use Rattle.atomic_table.specs.Seated.{TableId}
-use Rattle.crossbeam_queue.specs.Passes.{Pass, view}
+-- A desk's clerk and workers, where its home is an index.
+use Rattle.std.specs.Prelude.{◌≡◌, ℕ, List}
 use Rattle.eb_table.specs.Known.{Words}
-use Rattle.eb_serve.specs.declared.job.Task.{Task}
-use Rattle.eb_serve.specs.declared.job.Task.TheVariants.{Job as a_job, Stop}
-use Rattle.eb_serve.specs.declared.job.Answer.{Answer}
-use Rattle.eb_serve.specs.declared.rule.Pair.{Pair}
-use Rattle.eb_serve.specs.declared.rule.View.{View}
-use Rattle.eb_serve.specs.declared.rule.View.TheVariants.{At}
-use Rattle.eb_serve.specs.Jobs.{pair_of}
-use Rattle.eb_serve.specs.Rule.{hand, hand_of}
-use Rattle.eb_serve.specs.Steps.{index_of_view, no_index}
-
--- which two queues
-pub record Queues : Type 0 where
-  pub jobs : TableId
-  pub answers : TableId
-
--- of a desk: its queues, and how many jobs and stops, and how many answers, they have places for
-pub record DeskBook : Type 0 where
-  pub queues : Queues
-  pub job_places : ℕ
-  pub answer_places : ℕ
-
--- of a clerk: its desk's queues, the index, the pairs of the jobs that it put, in order, how many stops it put, and the pairs that it
--- took from the queue of jobs and from that of answers, each in order
-pub record ClerkBook : Type 0 where
-  pub queues : Queues
-  pub index : Words
-  pub put : List Pair
-  pub stops : ℕ
-  pub taken : List Pair
-  pub answered : List Pair
-
--- of a worker: its desk's queues, the index, the pairs of the jobs that it took, in order, how many stops it took, and the pairs of the
--- answers that it put, in order
-pub record WorkerBook : Type 0 where
-  pub queues : Queues
-  pub index : Words
-  pub taken : List Pair
-  pub stops : ℕ
-  pub put : List Pair
-
--- places for 512 jobs and a stop of each of 16 workers, and for 512 answers
-abbrev pub HasPlaces : DeskBook → Type 0
-HasPlaces d = (d.job_places ≡ 528) × (d.answer_places ≡ 512)
+use Rattle.eb_desk.specs.Desk.{Queues, ClerkBook, WorkerBook, new_clerk as new_clerk_of}
+use Rattle.eb_serve.specs.Jobs.{key_of, index_of}
 
 -- a clerk that has done nothing
-abbrev pub new_clerk : Queues → Words → ClerkBook
-new_clerk queues index = record { queues = queues; index = index; put = []; stops = 0; taken = []; answered = [] }
-
--- a worker that has done nothing
-abbrev pub new_worker : Queues → Words → WorkerBook
-new_worker queues index = record { queues = queues; index = index; taken = []; stops = 0; put = [] }
-
--- the clerk put a job of this pair
-abbrev pub with_put : ClerkBook → Pair → ClerkBook
-with_put c p = record { queues = c.queues; index = c.index; put = c.put ++ p ∷ []; stops = c.stops; taken = c.taken; answered = c.answered }
-
--- the clerk put a stop
-abbrev pub with_stop : ClerkBook → ClerkBook
-with_stop c = record { queues = c.queues; index = c.index; put = c.put; stops = suc c.stops; taken = c.taken; answered = c.answered }
-
--- the clerk put so many stops
-abbrev pub with_stops : ClerkBook → ℕ → ClerkBook
-with_stops c n = record { queues = c.queues; index = c.index; put = c.put; stops = c.stops + n; taken = c.taken; answered = c.answered }
-
--- the clerk took a job of this pair
-abbrev pub with_taken : ClerkBook → Pair → ClerkBook
-with_taken c p = record { queues = c.queues; index = c.index; put = c.put; stops = c.stops; taken = c.taken ++ p ∷ []; answered = c.answered }
-
--- the clerk took an answer of this pair
-abbrev pub with_answered : ClerkBook → Pair → ClerkBook
-with_answered c p = record { queues = c.queues; index = c.index; put = c.put; stops = c.stops; taken = c.taken; answered = c.answered ++ p ∷ [] }
-
--- the worker took jobs of these pairs, put answers of the same pairs in the same order, and took so many stops in all
-abbrev pub with_work : WorkerBook → List Pair → ℕ → WorkerBook
-with_work w ps stops = record { queues = w.queues; index = w.index; taken = w.taken ++ ps; stops = stops; put = w.put ++ ps }
-
--- the worker took so many jobs and a stop, and put the answers of these jobs, in the same order
-abbrev pub HasWorked : WorkerBook → WorkerBook → ℕ → Type 0
-HasWorked old new count = (ps : List Pair) × (new ≡ with_work old ps (old.stops + 1)) × (count ≡ length ps)
-
--- the worker took a task
-abbrev pub with_task : WorkerBook → Task → WorkerBook
-with_task w (a_job j) = record { queues = w.queues; index = w.index; taken = w.taken ++ pair_of j ∷ []; stops = w.stops; put = w.put }
-with_task w Stop = record { queues = w.queues; index = w.index; taken = w.taken; stops = suc w.stops; put = w.put }
-
--- the worker put an answer of this pair
-abbrev pub with_answer : WorkerBook → Pair → WorkerBook
-with_answer w p = record { queues = w.queues; index = w.index; taken = w.taken; stops = w.stops; put = w.put ++ p ∷ [] }
-
--- the worker is one of these queues and of this index
-abbrev pub IsWorkerOf : Queues → Words → WorkerBook → Type 0
-IsWorkerOf queues index w = (w.queues ≡ queues) × (w.index ≡ index)
+abbrev pub new_clerk : Queues → Words → ClerkBook (List ℕ)
+new_clerk queues index = new_clerk_of queues (key_of index)
 
 -- the clerk is that of these queues and of this index, and has put no stop
-abbrev pub IsOpen : Queues → Words → ClerkBook → Type 0
-IsOpen queues index c = (c.queues ≡ queues) × (c.index ≡ index) × (c.stops ≡ 0)
+abbrev pub IsOpen : Queues → Words → ClerkBook (List ℕ) → Type 0
+IsOpen queues index c = (c.queues ≡ queues) × (index_of c.home ≡ index) × (c.stops ≡ 0)
 
--- ---- by their passes at the two queues
-
-abbrev pub clerk_book : Pass Task View → Pass Answer View → ClerkBook
-clerk_book j a = record {
-  queues = record { jobs = j.table_id; answers = a.table_id };
-  index = index_of_view no_index (view j);
-  put = (hand_of (view j)).put;
-  stops = (hand_of (view j)).stops_put;
-  taken = (hand_of (view j)).taken;
-  answered = (hand_of (view a)).taken;
-}
-
--- passes of a clerk: one puts and takes jobs, and has taken no stop; the other takes answers
-pub record IsClerk (j : Pass Task View) (a : Pass Answer View) : Type 0 where
-  pub jobs : view j ≡ At (index_of_view no_index (view j)) (hand true (hand_of (view j)).put (hand_of (view j)).stops_put (hand_of (view j)).taken 0)
-  pub answers : view a ≡ At (index_of_view no_index (view j)) (hand false [] 0 (hand_of (view a)).taken 0)
-  pub no_job : j.me.1 ≡ []
-  pub no_answer : a.me.1 ≡ []
-
-abbrev pub worker_book : Pass Task View → Pass Answer View → WorkerBook
-worker_book j a = record {
-  queues = record { jobs = j.table_id; answers = a.table_id };
-  index = index_of_view no_index (view j);
-  taken = (hand_of (view j)).taken;
-  stops = (hand_of (view j)).stops_taken;
-  put = (hand_of (view a)).put;
-}
-
--- passes of a worker: one takes jobs and stops, the other puts answers
-pub record IsWorker (j : Pass Task View) (a : Pass Answer View) : Type 0 where
-  pub jobs : view j ≡ At (index_of_view no_index (view j)) (hand false [] 0 (hand_of (view j)).taken (hand_of (view j)).stops_taken)
-  pub answers : view a ≡ At (index_of_view no_index (view j)) (hand true (hand_of (view a)).put 0 [] 0)
-  pub no_job : j.me.1 ≡ []
-  pub no_answer : a.me.1 ≡ []
+-- the worker is one of these queues and of this index
+abbrev pub IsWorkerOf : Queues → Words → WorkerBook (List ℕ) → Type 0
+IsWorkerOf queues index w = (w.queues ≡ queues) × (index_of w.home ≡ index)

@@ -1,5 +1,3 @@
 pub mod Jobs
 pub mod Rule
-pub mod Steps
 pub mod Desk
-pub mod Laws

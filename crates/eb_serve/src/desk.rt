@@ -1,86 +1,10 @@
-ghost use Rattle.std.specs.Prelude.{◌≡◌, ◌≤◌, All, IfOk, vec_len};
-ghost use Rattle.eb_serve.specs.Desk.{HasPlaces, new_clerk, new_worker};
+use crate::job::Job;
 
-use crate::calls::{cut_putter, cut_taker};
-use crate::clerk::Clerk;
-use crate::rule::{AnswerQueue, JobQueue};
-use crate::worker::Worker;
-use crossbeam_utils::sync::EventCount;
-use eb_base::NoMemory;
-use eb_engine::Index;
-use std::alloc::Global;
-use std::marker::{Brand, Model};
+/// Where the jobs and stops of an index wait, and its answers; threads share it by reference.
+pub type Desk = eb_desk::Desk<Job>;
 
-// The places of the queue of jobs and stops: 512 jobs, and a stop for each worker.
-const JOB_PLACES: usize = 528;
+/// The one who puts jobs and stops at a desk, and takes answers.
+pub type Clerk = eb_desk::Clerk<Job>;
 
-// The places of the queue of answers.
-const ANSWER_PLACES: usize = 512;
-
-/// Where the jobs and stops of an index wait, and its answers; threads share it by reference. Contracts see which two
-/// queues it has, and their places.
-#[derive(Drop)]
-pub struct Desk {
-    pub(crate) jobs: JobQueue,
-    pub(crate) answers: AnswerQueue,
-    // Told of each job and each stop that was put, and of each answer.
-    pub(crate) tasks_came: EventCount,
-    pub(crate) answers_came: EventCount,
-}
-
-impl Model for Desk {
-    ghost use Rattle.crossbeam_queue.specs.Passes.{ruled_capacity};
-    ghost use Rattle.eb_serve.specs.Desk.{DeskBook};
-
-    ghost Value = { DeskBook };
-
-    ghost view = { λ d. record {
-      queues = record { jobs = d.jobs.table.shared.table_id; answers = d.answers.table.shared.table_id };
-      job_places = ruled_capacity d.jobs;
-      answer_places = ruled_capacity d.answers;
-    } };
-}
-
-impl Desk {
-    /// An empty desk for the queries of an index, with its one clerk and so many workers, from 1 to 16. It has 528
-    /// places for jobs and stops, and 512 for answers. Takes all memory that they will ever take, at once; `NoMemory`
-    /// where it isn't there: nothing is kept then.
-    pub fn open(
-        alloc: Global,
-        index: &Index,
-        workers: u32,
-    ) -> Result<(Desk, Clerk, Vec<Worker>), NoMemory>
-        requires { (1 ≤ workers) × (workers ≤ 16) }
-        ensures places { IfOk result (λ r. HasPlaces r.0) }
-        ensures clerk { IfOk result (λ r. r.1 ≡ new_clerk r.0.queues index.now) }
-        ensures count { IfOk result (λ r. vec_len r.2 ≡ workers) }
-        ensures workers { IfOk result (λ r. All (λ w. w ≡ new_worker r.0.queues index.now) r.2.items) }
-    {
-        let (jobs, mut clerk_jobs) = JobQueue::ruled(alloc, JOB_PLACES)?;
-        let (answers, mut clerk_answers) = AnswerQueue::ruled(alloc, ANSWER_PLACES)?;
-        let mut all = Vec::with_capacity(alloc, workers as usize)?;
-        all.push(Worker {
-            number: 0,
-            jobs: cut_taker::<Brand>(&jobs, &mut clerk_jobs, index),
-            answers: cut_putter::<Brand>(&answers, &mut clerk_answers, index),
-        })?;
-        for number in 1..workers {
-            all.push(Worker {
-                number,
-                jobs: cut_taker::<Brand>(&jobs, &mut clerk_jobs, index),
-                answers: cut_putter::<Brand>(&answers, &mut clerk_answers, index),
-            })?;
-        }
-        let desk = Desk {
-            jobs,
-            answers,
-            tasks_came: EventCount::new(),
-            answers_came: EventCount::new(),
-        };
-        let clerk = Clerk {
-            jobs: clerk_jobs,
-            answers: clerk_answers,
-        };
-        Ok((desk, clerk, all))
-    }
-}
+/// One who takes jobs from a desk, and puts their answers there.
+pub type Worker = eb_desk::Worker<Job>;

@@ -34,13 +34,6 @@ pub struct Answer {
     ghost found: { ids_of frame ≡ answer (query_of frame) (k_of frame) reader.docs },
 }
 
-// What lies in the queue of jobs.
-#[derive(Drop)]
-pub(crate) enum Task {
-    Job(Job),
-    Stop,
-}
-
 fn search_with<G: Gate, L: Ledger>(
     reader: &mut Reader,
     index: &Index,
@@ -61,7 +54,7 @@ fn search_with<G: Gate, L: Ledger>(
 }
 
 impl Job {
-    ghost use Rattle.eb_serve.specs.Jobs.{pair, pair_of, asking, asker, answer_pair, answering, answerer};
+    ghost use Rattle.eb_serve.specs.Jobs.{pair, pair_of, asking, asker};
 
     /// A job of this number. It keeps how many documents the reader has seen, as its `told`. Takes no memory.
     pub fn new(number: u64, frame: Frame, reader: Reader) -> Job
@@ -77,23 +70,38 @@ impl Job {
             reader,
         }
     }
+}
 
-    // The job's answer.
-    pub(crate) fn answered<G: Gate>(self, index: &Index, gate: &G) -> Answer
-        requires { (asker self).index ≡ index.now }
-        ensures made { (answerer result).index ≡ index.now }
-        ensures known { IsPrefix (asker self).docs (answerer result).docs }
-        ensures pair { answer_pair result ≡ pair_of self }
-        ensures query { query_of (answering result) ≡ query_of (asking self) }
-        ensures k { k_of (answering result) ≡ k_of (asking self) }
-    {
+impl eb_desk::Job for Job {
+    type Answer = Answer;
+
+    type Place = Index;
+
+    type With = Index;
+
+    ghost use Rattle.eb_serve.specs.Jobs.{pair_of, answer_pair, key_of, index_of};
+    ghost use Rattle.eb_serve.specs.Rule.{IsMadeJob, IsMadeAnswer};
+
+    ghost pair = { pair_of };
+
+    ghost answer_pair = { answer_pair };
+
+    ghost made = { IsMadeJob };
+
+    ghost answer_made = { IsMadeAnswer };
+
+    ghost serves = { λ with home. index_of home ≡ with };
+
+    ghost key = { key_of };
+
+    fn answered<G: Gate>(self, with: &Index, gate: &G) -> Answer {
         let Job {
             number,
             told,
             mut frame,
             mut reader,
         } = self;
-        search_with::<G, Brand>(&mut reader, index, &mut frame, gate, Blank::new(1));
+        search_with::<G, Brand>(&mut reader, with, &mut frame, gate, Blank::new(1));
         Answer {
             number,
             told,

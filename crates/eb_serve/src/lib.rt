@@ -1,23 +1,13 @@
 //! Standing workers: threads that live as long as an index is asked, and answer queries beside its one writer. A clerk
-//! puts jobs, each a query with a reader of its own, and takes answers; workers take the jobs and put the answers. Both
-//! go through queues under a rule (`specs/Rule.antt`), so that each job is taken at most once, and what was put and not
-//! taken is there, whatever the threads do. Who has nothing to do sleeps.
+//! puts jobs, each a query with a reader of its own, and takes answers; workers take the jobs and put the answers. The
+//! queues, their rules and their calls are `eb_desk`'s; here stands what a job over an index is, and how it is answered.
 //!
 //! Only `Desk::open` takes memory. The calls that take `rt` may wait, and their promise holds if they return.
 #![tactic(auto)]
 
-mod calls;
-mod clerk;
 mod desk;
 mod job;
-mod laws;
-mod rule;
-mod worker;
-mod working;
 
-pub use clerk::Clerk;
-pub use desk::Desk;
+pub use desk::{Clerk, Desk, Worker};
+pub use eb_desk::{answers_are_kept, jobs_are_known, jobs_are_taken_once, stop_all, work_all};
 pub use job::{Answer, Job};
-pub use laws::{answers_are_kept, jobs_are_known, jobs_are_taken_once};
-pub use worker::Worker;
-pub use working::{stop_all, work_all};

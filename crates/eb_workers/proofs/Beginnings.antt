@@ -11,8 +11,10 @@ use Rattle.eb_place.specs.Room.{cut}
 use Rattle.eb_indexed.specs.Conversions.{AreConverted}
 use Rattle.eb_indexed.proofs.LinesRead.{read_none}
 use Rattle.eb_indexed.proofs.Texts.{body_none}
-use Rattle.eb_serve.specs.Desk.{Queues, ClerkBook, new_clerk}
-use Rattle.eb_serve.specs.Rule.{IsAboveEach}
+use Rattle.eb_desk.specs.Desk.{Queues, ClerkBook}
+use Rattle.eb_serve.specs.Desk.{new_clerk}
+use Rattle.eb_serve.specs.Jobs.{index_of}
+use Rattle.eb_desk.specs.Rule.{IsAboveEach}
 use Rattle.eb_table.specs.Known.{Words}
 use Rattle.eb_workers.specs.declared.office.Office.{Office}
 use Rattle.eb_workers.specs.declared.office.Side.{Side}
@@ -40,12 +42,12 @@ unfolding accepted queries refusals
 served_none s o how form office clerk writer docs converter names_told told counts items =
     let none : s.office.writer.docs ≡ [] = ap (λ (x : Office). x.writer.docs) office ∙ docs in
     let staffed : IsStaffed o = record {
-      clerk = (ap (λ (k : ClerkBook). k.queues) clerk, ap (λ (k : ClerkBook). k.index) clerk, ap (λ (k : ClerkBook). k.stops) clerk);
+      clerk = (ap (λ (k : ClerkBook (List ℕ)). k.queues) clerk, ap (λ (k : ClerkBook (List ℕ)). index_of k.home) clerk, ap (λ (k : ClerkBook (List ℕ)). k.stops) clerk);
       writer = writer;
       converter = converter;
       converted = subst (λ (ds : List Doc). AreConverted o.index.now.setting ds o.converter.converted) (sym docs) (none_closed o.index.now.setting o.converter.converted);
     } in
-    let put : s.office.clerk.put ≡ [] = ap (λ (x : Office). x.clerk.put) office ∙ ap (λ (k : ClerkBook). k.put) clerk in
+    let put : s.office.clerk.put ≡ [] = ap (λ (x : Office). x.clerk.put) office ∙ ap (λ (k : ClerkBook (List ℕ)). k.put) clerk in
     record {
       staffed = subst (λ (x : Office). IsStaffed x) (sym office) staffed;
       setting = ap (λ (x : Office). x.index.now.setting) office;

@@ -22,8 +22,8 @@ use Rattle.eb_indexed.specs.LinesRead.{AreRead}
 use Rattle.eb_indexed.specs.Text.{body_from}
 use Rattle.eb_indexed.proofs.LinesRead.{read_push, read_long}
 use Rattle.eb_indexed.proofs.Texts.{body_grown}
-use Rattle.eb_serve.specs.Rule.{IsAboveEach}
-use Rattle.eb_serve.specs.declared.rule.Pair.{Pair}
+use Rattle.eb_desk.specs.Rule.{IsAboveEach}
+use Rattle.eb_desk.specs.declared.rule.Pair.{Pair}
 use Rattle.eb_table.specs.Known.{Words}
 use Rattle.eb_workers.specs.declared.office.Office.{Office}
 use Rattle.eb_workers.specs.declared.serving.Serving.{Serving}

@@ -3,7 +3,8 @@ use Rattle.std.specs.Prelude.{◌≡◌, Bool, true, false, [], ◌∷◌, ◌++
 use Rattle.eb_base.specs.Document.{Doc}
 use Rattle.eb_indexed.specs.Conversions.{AreConverted}
 use Rattle.eb_place.specs.Room.{has_room, HasRoom}
-use Rattle.eb_serve.specs.Desk.{Queues, IsOpen, new_clerk}
+use Rattle.eb_desk.specs.Desk.{Queues}
+use Rattle.eb_serve.specs.Desk.{IsOpen, new_clerk}
 use Rattle.eb_table.specs.Known.{Words}
 use Rattle.eb_workers.specs.declared.office.Side.{Side}
 use Rattle.eb_workers.specs.declared.office.Office.{Office}

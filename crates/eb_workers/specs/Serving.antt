@@ -8,7 +8,7 @@ use Rattle.eb_lines.specs.Reads.{Reads}
 use Rattle.eb_indexed.specs.Sees.{IsAsked}
 use Rattle.eb_indexed.specs.LinesRead.{AreRead}
 use Rattle.eb_indexed.specs.Text.{body_from}
-use Rattle.eb_serve.specs.Rule.{IsAboveEach}
+use Rattle.eb_desk.specs.Rule.{IsAboveEach}
 use Rattle.eb_workers.specs.declared.serving.Serving.{Serving}
 use Rattle.eb_workers.specs.Output.{Asked}
 use Rattle.eb_workers.specs.Offices.{IsStaffed, Keeps}

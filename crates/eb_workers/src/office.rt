@@ -3,9 +3,9 @@ ghost use Rattle.std.specs.Prelude.{◌≡◌, ◌+◌, length, max, MatchOption
 ghost use mathlib.Core.List.{IsPrefix};
 ghost use Rattle.eb_place.specs.Room.{cut};
 ghost use Rattle.eb_indexed.specs.Conversions.{most_converted};
-ghost use Rattle.eb_serve.specs.Desk.{with_put};
+ghost use Rattle.eb_desk.specs.Desk.{with_put};
 ghost use Rattle.eb_serve.specs.Jobs.{answerer, pair};
-ghost use Rattle.eb_serve.specs.Rule.{IsAboveEach};
+ghost use Rattle.eb_desk.specs.Rule.{IsAboveEach};
 
 use eb_base::{Document, Gate};
 use eb_cursor::Frame;

@@ -1,4 +1,5 @@
 //! The tests, by what they run.
 mod blends;
 mod engine;
+mod heard;
 mod watches;

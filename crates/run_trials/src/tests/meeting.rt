@@ -1,4 +1,4 @@
-//! Workers are threads of their own, and only so much may wait.
+//! Workers are threads of their own, and only a bounded number of queries and lines waits: over an index, and over a feed.
 use super::printed;
 use eb_base::{Gate, Point};
 use std::alloc::{AllocError, Global};
@@ -84,10 +84,13 @@ fn with_many(alloc: Global, text: &str, other: &str, times: u64) -> Result<Strin
 const DOCUMENT: &str = "{\"id\":1,\"text\":\"a\"}\n";
 
 // How many workers there are, and how many queries are held at once.
-const WORKERS: [(&str, u64); 3] = [
+const WORKERS: [(&str, u64); 6] = [
     ("run --workers 1 --terms 1024", 2),
     ("run --workers 2 --terms 1024", 3),
     ("run --workers 16 --terms 1024", 17),
+    ("feed --workers 1 --keep 2 --segments 2 --terms 1024", 2),
+    ("feed --workers 2 --keep 2 --segments 2 --terms 1024", 3),
+    ("feed --workers 16 --keep 2 --segments 2 --terms 1024", 17),
 ];
 
 // Each worker holds one query and the clerk one more, though all workers slept when the queries came.
@@ -101,7 +104,10 @@ fn each_worker_is_a_thread_of_its_own(rt: HostRuntime) -> Result<(), Fail> {
     Ok(())
 }
 
-const ONE_WORKER: &str = "run --workers 1 --segments 2 --terms 1024";
+const ONE_WORKER: [&str; 2] = [
+    "run --workers 1 --segments 2 --terms 1024",
+    "feed --workers 1 --keep 2 --segments 2 --terms 1024",
+];
 
 // The one worker holds the first query, until the clerk, who has no room for a further line, begins to answer the next one. So
 // far 512 queries came with 511 documents between them.
@@ -109,8 +115,10 @@ const ONE_WORKER: &str = "run --workers 1 --segments 2 --terms 1024";
 fn only_so_many_pairs_may_wait(rt: HostRuntime) -> Result<(), Fail> {
     let pair = "?5 a\n{\"id\":1,\"text\":\"a\"}\n";
     let pairs = with_many(rt.alloc(), "", pair, 600)?;
-    let met = meet(&rt, rt.alloc(), ONE_WORKER, pairs.as_str(), 2)?;
-    assert_eq!(rt; met, Some(511));
+    for line in ONE_WORKER {
+        let met = meet(&rt, rt.alloc(), line, pairs.as_str(), 2)?;
+        assert_eq!(rt; met, Some(511), "{line}");
+    }
     Ok(())
 }
 
@@ -126,8 +134,10 @@ fn with_blanks(alloc: Global) -> Result<String, AllocError> {
 #[test]
 fn only_so_many_lines_may_wait(rt: HostRuntime) -> Result<(), Fail> {
     let lines = with_blanks(rt.alloc())?;
-    let met = meet(&rt, rt.alloc(), ONE_WORKER, lines.as_str(), 2)?;
-    assert_eq!(rt; met, Some(1));
+    for line in ONE_WORKER {
+        let met = meet(&rt, rt.alloc(), line, lines.as_str(), 2)?;
+        assert_eq!(rt; met, Some(1), "{line}");
+    }
     Ok(())
 }
 
@@ -170,18 +180,30 @@ impl Gate for Sleepy {
     }
 }
 
+// How it is run, and its summary.
+const SLEEPERS: [(&str, &str); 2] = [
+    (
+        "run --workers 4 --terms 1024",
+        "end: documents 2, queries 1, refused 0\n",
+    ),
+    (
+        "feed --workers 4 --keep 2 --segments 2 --terms 1024",
+        "end: documents 2, queries 1, refused 0, kept 2\n",
+    ),
+];
+
 // A query wakes a worker, its answer wakes the clerk, and stops wake the other workers: else the run doesn't end.
 #[test]
 fn who_sleeps_is_woken(rt: HostRuntime) -> Result<(), Fail> {
-    let gate = Sleepy {
-        came: AtomicU64::new(0),
-        ran_out: AtomicU64::new(0),
-    };
     let input = "{\"id\":1,\"text\":\"a\"}\n?5 a\n{\"id\":2,\"text\":\"b\"}\n";
-    let line = "run --workers 4 --terms 1024";
-    let text = printed(&rt, rt.alloc(), line, input, &gate)?;
-    assert_eq!(rt; gate.ran_out.load(Ordering::SeqCst), 0);
-    let end = b"end: documents 2, queries 1, refused 0\n";
-    assert!(rt; text.as_slice().ends_with(end));
+    for (line, end) in SLEEPERS {
+        let gate = Sleepy {
+            came: AtomicU64::new(0),
+            ran_out: AtomicU64::new(0),
+        };
+        let text = printed(&rt, rt.alloc(), line, input, &gate)?;
+        assert_eq!(rt; gate.ran_out.load(Ordering::SeqCst), 0, "{line}");
+        assert!(rt; text.as_slice().ends_with(end.as_bytes()), "{line}");
+    }
     Ok(())
 }

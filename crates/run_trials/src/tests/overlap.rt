@@ -1,6 +1,9 @@
 //! Documents are added while queries are answered.
+ghost use Rattle.std.specs.Prelude.{◌<◌};
+
 use super::printed;
 use eb_base::{Gate, Point};
+use std::alloc::Global;
 use std::sync::atomic::{AtomicU64, Ordering};
 use std::test::Fail;
 use std::thread;
@@ -67,5 +70,49 @@ fn documents_are_added_while_a_query_is_answered(rt: HostRuntime) -> Result<(), 
             .iter()
             .any(|allowed| text.as_slice() == allowed.as_bytes())
     );
+    Ok(())
+}
+
+// Two queries in a row, with documents behind them.
+const TWO: &str =
+    "{\"id\":1,\"text\":\"a\"}\n?5 a\n?5 a\n{\"id\":2,\"text\":\"a\"}\n{\"id\":3,\"text\":\"a\"}\n?5 a\n";
+
+const SEEN: [&str; 3] = ["seen 1: 1\n", "seen 2: 2 1\n", "seen 3: 3 2 1\n"];
+
+// What is printed where the first two queries see this many documents less one.
+fn text_of(alloc: Global, first: usize, second: usize) -> Result<String, Fail>
+    requires { (first < 3) × (second < 3) }
+{
+    let mut text = String::from_str(alloc, "2 ")?;
+    text.push_str(SEEN[first])?;
+    text.push_str("3 ")?;
+    text.push_str(SEEN[second])?;
+    text.push_str("6 seen 3: 3 2 1\nend: documents 3, queries 3, refused 0\n")?;
+    Ok(text)
+}
+
+// Whether the text is that of a run in which no query sees fewer documents than one before it.
+fn is_allowed(alloc: Global, text: &[u8]) -> Result<bool, Fail> {
+    for first in 0..3 {
+        for second in first..3 {
+            let allowed = text_of(alloc, first, second)?;
+            if text == allowed.as_bytes() {
+                return Ok(true);
+            }
+        }
+    }
+    Ok(false)
+}
+
+#[test]
+fn documents_are_added_while_two_queries_are_answered(rt: HostRuntime) -> Result<(), Fail> {
+    let gate = Crossing {
+        added: AtomicU64::new(0),
+        loaded: AtomicU64::new(0),
+        ran_out: AtomicU64::new(0),
+    };
+    let text = printed(&rt, rt.alloc(), "run --overlap --terms=1024", TWO, &gate)?;
+    assert_eq!(rt; gate.ran_out.load(Ordering::SeqCst), 0);
+    assert!(rt; is_allowed(rt.alloc(), text.as_slice())?);
     Ok(())
 }

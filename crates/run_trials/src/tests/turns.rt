@@ -1,7 +1,7 @@
 //! Each answer is out before the next line is read.
 ghost use Rattle.std.specs.Prelude.{◌≤◌, length};
 
-use super::words_of;
+use super::{printed, words_of};
 use eb_base::OpenGate;
 use eb_io::{CountSink, StdSink, StdSource};
 use eb_lines::Status;
@@ -24,6 +24,7 @@ const WHOLE: &str = "2 seen 1: 1\n3 seen 1:\nend: documents 1, queries 2, refuse
 // A reader that gives its second lines only once the answer to the first is out, and fails before.
 #[derive(Drop)]
 struct Asker<'a> {
+    first: &'a [u8],
     taken: &'a AtomicU64,
     calls: u8,
 }
@@ -41,7 +42,7 @@ impl<'a> io::Read for Asker<'a> {
     fn read(&mut self, buf: &mut [u8]) -> io::Result<usize> {
         self.calls = self.calls.saturating_add(1);
         match self.calls {
-            1 => Ok(give(FIRST, buf)),
+            1 => Ok(give(self.first, buf)),
             2 => {
                 if self.taken.load(Ordering::SeqCst) < ANSWER.len() as u64 {
                     return Err(io::Error::other("not answered"));
@@ -70,15 +71,18 @@ impl<'a> io::Write for Taker<'a> {
     }
 }
 
-// Runs between the two by this command line, and gives how it ended and how many bytes were taken.
+// Runs between the two by this command line, where the first read gives these bytes, and gives how it ended and how many bytes
+// were taken.
 fn run_in_turns<R: Threads + Wait + Sync>(
     rt: &R,
     alloc: Global,
     line: &str,
+    first: &[u8],
 ) -> Result<(Status, u64), Fail> {
     let words = words_of(alloc, line)?;
     let taken = AtomicU64::new(0);
     let mut source = StdSource::new(Asker {
+        first,
         taken: &taken,
         calls: 0,
     });
@@ -105,6 +109,7 @@ fn feed_in_turns<R: Threads + Wait + Sync>(
     let words = words_of(alloc, line)?;
     let taken = AtomicU64::new(0);
     let mut source = StdSource::new(Asker {
+        first: FIRST,
         taken: &taken,
         calls: 0,
     });
@@ -135,7 +140,7 @@ const LINES: [&str; 6] = [
 #[test]
 fn each_answer_is_out_before_the_next_line_is_read(rt: HostRuntime) -> Result<(), Fail> {
     for line in LINES {
-        let left = run_in_turns(&rt, rt.alloc(), line)?;
+        let left = run_in_turns(&rt, rt.alloc(), line, FIRST)?;
         assert_eq!(rt; left, (Status::Done, WHOLE.len() as u64), "{line}");
     }
     Ok(())
@@ -150,5 +155,20 @@ fn each_answer_of_a_feed_is_out_before_the_next_line_is_read(rt: HostRuntime) ->
         let left = feed_in_turns(&rt, rt.alloc(), line)?;
         assert_eq!(rt; left, (Status::Done, WHOLE.len() as u64 + 8), "{line}");
     }
+    Ok(())
+}
+
+const LOADED: &str = "1 seen 1: 1\n2 seen 1:\nend: documents 1, queries 2, refused 0\n";
+
+// The image of the first document, and behind it its query.
+#[test]
+fn each_answer_over_an_image_is_out_before_the_next_line_is_read(
+    rt: HostRuntime,
+) -> Result<(), Fail> {
+    let document = "{\"id\":1,\"text\":\"a\"}\n";
+    let mut first = printed(&rt, rt.alloc(), "save --terms 1024", document, &OpenGate)?;
+    first.extend_from_slice(b"?5 a\n")?;
+    let left = run_in_turns(&rt, rt.alloc(), "load", first.as_slice())?;
+    assert_eq!(rt; left, (Status::Done, LOADED.len() as u64));
     Ok(())
 }

@@ -6,7 +6,7 @@ ghost use Rattle.eb_stream.specs.Turns.{HasTaken};
 ghost use Rattle.eb_feed_serve.specs.Desk.{IsOpen, IsWorkerOf};
 ghost use Rattle.eb_feed_serve.specs.Feeds.{feed_name, IsReaderOf};
 ghost use Rattle.eb_feed_serve.specs.Jobs.{asker, pair_of};
-ghost use Rattle.eb_feed_serve.specs.Rule.{IsAboveEach};
+ghost use Rattle.eb_desk.specs.Rule.{IsAboveEach};
 
 use super::made::{a_without_b, documents, first_held, frame, is_scanned};
 use eb_base::{Config, Document, OpenGate, Query};
@@ -119,7 +119,7 @@ fn wait_all<R: Wait>(
 {
     let mut right = 0usize;
     for _ in 0..documents.len() {
-        let answer = clerk.wait(rt, desk, &OpenGate);
+        let answer = clerk.wait(rt, desk, &(), &OpenGate);
         if is_right(alloc, query, documents, answer) {
             right = right.saturating_add(1);
         }
@@ -159,7 +159,7 @@ fn work<R: Threads + Wait + Sync>(rt: &R, desk: &Desk, workers: Vec<Worker>)
     requires { All (λ w. IsWorkerOf desk.now.queues w) workers.items }
 {
     let mut workers = workers;
-    work_all(rt, desk, &OpenGate, workers.as_mut_slice());
+    work_all(rt, desk, &(), &OpenGate, workers.as_mut_slice());
 }
 
 // The workers beside the clerk.

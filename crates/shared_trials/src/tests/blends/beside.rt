@@ -6,6 +6,7 @@ ghost use Rattle.std.specs.Prelude.{◌≡◌, length, IfOk};
 ghost use Rattle.eb_base.specs.Query.{tree};
 ghost use Rattle.eb_blend.specs.Frames.{Asks};
 
+use super::super::heard::Heard;
 use super::made::{c_without_d, document, searched, word};
 use eb_base::{Config, Document, OpenGate, Query};
 use eb_blend::{Blend, BlendConverter, BlendFrame, BlendReader, BlendWriter};
@@ -180,9 +181,10 @@ fn search_beside(
         searches: 0,
         sums: 0,
     };
+    let gate = Heard::new();
     for _ in 0..u64::MAX {
         let is_last = done.load(Ordering::SeqCst) > 0;
-        let count = searched(&mut reader, blend, &mut frame);
+        let count = searched(&mut reader, blend, &mut frame, &gate);
         seen = with_search(seen, &frame, count);
         seen.right = seen.right && is_blended(alloc, &query, documents.parts.as_slice(), &frame);
         if is_last || !seen.right {
@@ -218,6 +220,7 @@ fn convert_beside(blend: &Blend, converter: BlendConverter, done: &AtomicU64) ->
     requires { converter.indexes ≡ blend.now.indexes }
 {
     let mut converter = converter;
+    let gate = Heard::new();
     for _ in 0..u64::MAX {
         let is_last = done.load(Ordering::SeqCst) > 0;
         converter.convert_all(blend);

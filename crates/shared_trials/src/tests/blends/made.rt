@@ -3,6 +3,7 @@ ghost use Rattle.std.specs.Prelude.{◌≡◌, ◌<◌, ◌≤◌, ℕ, length};
 ghost use Rattle.eb_base.specs.Query.{Tree, tree, IsWellFormed};
 ghost use Rattle.eb_blend.specs.Frames.{Asks};
 
+use super::super::heard::Heard;
 use eb_base::{Document, NoMemory, OpenGate, Queries, Query, Term, Terms};
 use eb_blend::{Blend, BlendFrame, BlendReader, BlendRefusal, BlendWriter};
 use eb_place::Steps;
@@ -53,6 +54,7 @@ fn search_alone<L: Ledger>(
     reader: &mut BlendReader,
     blend: &Blend,
     frame: &mut BlendFrame,
+    gate: &Heard,
     blank: Blank,
 ) -> u64
     requires blank { (blank.name ≡ L.name) × (blank.parts ≡ L.parts) × (0 < blank.parts) }
@@ -62,20 +64,26 @@ fn search_alone<L: Ledger>(
     ensures asks { (q : Tree) (k parts : ℕ) → Asks frame.old q k parts → Asks frame.new q k parts }
 {
     let mut steps = Steps::<L>::new(blank);
-    reader.search(blend, frame, &OpenGate, &mut steps)
+    reader.search(blend, frame, gate, &mut steps)
 }
 
 // A search with a counter of its own.
-pub(super) fn searched(reader: &mut BlendReader, blend: &Blend, frame: &mut BlendFrame) -> u64
+pub(super) fn searched(
+    reader: &mut BlendReader,
+    blend: &Blend,
+    frame: &mut BlendFrame,
+    gate: &Heard,
+) -> u64
     requires made { reader.old.indexes ≡ blend.now.indexes }
     requires frame { (q : Tree) × (k : ℕ) × Asks frame.old q k (length blend.now.indexes) }
     ensures indexes { reader.new.indexes ≡ reader.old.indexes }
     ensures asks { (q : Tree) (k parts : ℕ) → Asks frame.old q k parts → Asks frame.new q k parts }
 {
-    search_alone::<Brand>(reader, blend, frame, Blank::new(1))
+    search_alone::<Brand>(reader, blend, frame, gate, Blank::new(1))
 }
 
-// What a new reader finds of a query in so many parts, at most `k` ids: a frame with the ids, and the number of documents.
+// What a new reader finds of a query in so many parts, at most `k` ids: a frame with the ids, the number of documents, and the
+// counts that the gate heard of, summed.
 pub(super) fn asked(
     alloc: Global,
     blend: &Blend,
@@ -83,7 +91,7 @@ pub(super) fn asked(
     query: &Query,
     k: u32,
     parts: u32,
-) -> Result<(BlendFrame, u64), NoMemory>
+) -> Result<(BlendFrame, u64, u64), NoMemory>
     requires made { writer.old.indexes ≡ blend.now.indexes }
     requires parts { (length blend.now.indexes ≡ parts) × (1 ≤ parts) × (parts ≤ 16) }
     requires k { (1 ≤ k) × (k ≤ 1000) }
@@ -92,7 +100,8 @@ pub(super) fn asked(
 {
     let mut frame = BlendFrame::new(alloc, query, k, parts)?;
     let mut reader = writer.reader(alloc, blend)?;
-    let count = searched(&mut reader, blend, &mut frame);
+    let gate = Heard::new();
+    let count = searched(&mut reader, blend, &mut frame, &gate);
     writer.meet(blend, reader);
-    Ok((frame, count))
+    Ok((frame, count, gate.loaded()))
 }

@@ -43,9 +43,9 @@ fn finds(
     if !query.is_well_formed() {
         return Err(Fail::new("no such query"));
     }
-    let (frame, count) = asked(alloc, blend, writer, &query, 3, 2)?;
-    let found = (frame.ids(), frame.lengths(), count);
-    assert_eq!(rt; found, (ids, lengths, writer.accepted()));
+    let (frame, count, heard) = asked(alloc, blend, writer, &query, 3, 2)?;
+    let found = (frame.ids(), frame.lengths(), count, heard);
+    assert_eq!(rt; found, (ids, lengths, writer.accepted(), writer.accepted()));
     Ok(())
 }
 

@@ -29,9 +29,10 @@ fn ask(
         return Err(Fail::new("no such query"));
     }
     let want = newest(alloc, &query, 9, history)?;
-    let (frame, count) = asked(alloc, blend, writer, &query, 9, 4)?;
-    let found = (count, frame.ids());
-    assert_eq!(rt; found, (history.len() as u64, want.as_slice()));
+    let (frame, count, heard) = asked(alloc, blend, writer, &query, 9, 4)?;
+    let found = (count, heard, frame.ids());
+    let length = history.len() as u64;
+    assert_eq!(rt; found, (length, length, want.as_slice()));
     Ok(())
 }
 

@@ -1,7 +1,8 @@
 //! Documents, queries, and calls with a counter of their own.
 ghost use Rattle.std.specs.Prelude.{◌≡◌, ◌<◌};
 
-use eb_base::{Document, NoMemory, OpenGate, Queries, Query, Term, Terms};
+use super::super::heard::Heard;
+use eb_base::{Document, NoMemory, Queries, Query, Term, Terms};
 use eb_engine::{Index, Writer};
 use eb_place::Steps;
 use eb_watch::{SetFault, WatchFault, Watches, matches};
@@ -82,6 +83,7 @@ fn added_counted<L: Ledger>(
     index: &Index,
     writer: &mut Writer,
     document: &Document,
+    gate: &Heard,
     blank: Blank,
 ) -> Result<(u64, Vec<u32>), WatchFault>
     requires blank { (blank.name ≡ L.name) × (blank.parts ≡ L.parts) × (0 < blank.parts) }
@@ -89,7 +91,7 @@ fn added_counted<L: Ledger>(
     ensures { writer.new.index ≡ writer.old.index }
 {
     let mut tests = Steps::<L>::new(blank);
-    watches.add(alloc, index, writer, document, &OpenGate, &mut tests)
+    watches.add(alloc, index, writer, document, gate, &mut tests)
 }
 
 // Adds a document with a counter of its own.
@@ -99,26 +101,28 @@ fn added(
     index: &Index,
     writer: &mut Writer,
     document: &Document,
+    gate: &Heard,
 ) -> Result<(u64, Vec<u32>), WatchFault>
     requires { writer.old.index ≡ index.now }
     ensures { writer.new.index ≡ writer.old.index }
 {
-    added_counted::<Brand>(alloc, watches, index, writer, document, Blank::new(1))
+    added_counted::<Brand>(alloc, watches, index, writer, document, gate, Blank::new(1))
 }
 
-// Adds a document of these terms, and tells the watches that it matches.
+// Adds a document of these terms with this gate, and tells the watches that it matches.
 pub(super) fn told(
     alloc: Global,
     watches: &Watches,
     index: &Index,
     writer: &mut Writer,
     terms: &[&[u8]],
+    gate: &Heard,
 ) -> Result<(u64, Vec<u32>), WatchFault>
     requires { writer.old.index ≡ index.now }
     ensures { writer.new.index ≡ writer.old.index }
 {
     match document(alloc, terms) {
-        Some(document) => { added(alloc, watches, index, writer, &document) }
+        Some(document) => { added(alloc, watches, index, writer, &document, gate) }
         None => Err(WatchFault::NoMemory),
     }
 }

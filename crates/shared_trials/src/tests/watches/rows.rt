@@ -1,6 +1,7 @@
 //! Watches that are set, removed and told.
 ghost use Rattle.std.specs.Prelude.{◌≡◌};
 
+use super::super::heard::Heard;
 use super::made::{matched, no_word, set, set_word, tested, told, word};
 use eb_base::Config;
 use eb_engine::{Index, Writer};
@@ -9,7 +10,7 @@ use std::alloc::Global;
 use std::process::Abort;
 use std::test::Fail;
 
-// Adds a document of these terms, and looks that it is this one, and that these watches are told.
+// Adds a document of these terms, and looks that it is this one, that the gate hears of it, and that these watches are told.
 fn tells(
     rt: &impl Abort,
     alloc: Global,
@@ -22,9 +23,11 @@ fn tells(
     requires { writer.old.index ≡ index.now }
     ensures { writer.new.index ≡ writer.old.index }
 {
-    match told(alloc, watches, index, writer, terms) {
+    let gate = Heard::new();
+    match told(alloc, watches, index, writer, terms, &gate) {
         Ok((seen, told)) => {
             assert_eq!(rt; (seen, told.as_slice()), want);
+            assert_eq!(rt; gate.added(), seen);
             Ok(())
         }
         Err(_fault) => Err(Fail::new("not added")),
@@ -133,8 +136,10 @@ fn a_full_index_tells_nothing(rt: HostRuntime) -> Result<(), Fail> {
     let watches = Watches::new(alloc);
     let (index, mut writer, _converter) = Index::open(alloc, Config::new(1, 1, 1024)?)?;
     tells(&rt, alloc, &watches, &index, &mut writer, &[b"b"], (1, &[]))?;
-    let second = told(alloc, &watches, &index, &mut writer, &[b"b"]);
+    let gate = Heard::new();
+    let second = told(alloc, &watches, &index, &mut writer, &[b"b"], &gate);
     assert!(rt; matches!(second, Err(WatchFault::Full)));
+    assert_eq!(rt; gate.added(), 0);
     Ok(())
 }
 

@@ -3,7 +3,7 @@ use Rattle.eb_base.specs.Document.{Doc}
 use Rattle.eb_stream.specs.Turns.{HasTaken}
 use Rattle.eb_feed_serve.specs.Desk.{IsOpen}
 use Rattle.eb_feed_serve.specs.Feeds.{feed_name}
-use Rattle.eb_feed_serve.specs.Rule.{IsAboveEach}
+use Rattle.eb_desk.specs.Rule.{IsAboveEach}
 use Rattle.stream_trials.proofs.tests.serving.ask_all.Given as goal
 
 abbrev pub invariant-loop-number : goal.invariant-loop-number

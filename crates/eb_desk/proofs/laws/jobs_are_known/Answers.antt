@@ -1,0 +1,5 @@
+use Rattle.eb_desk.proofs.Law.{was_put}
+use Rattle.eb_desk.proofs.laws.jobs_are_known.Goals as goal
+
+pub returns : goal.returns
+returns g c = was_put g.J.Job.pair g.J.Job.made

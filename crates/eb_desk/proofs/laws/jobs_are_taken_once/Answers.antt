@@ -1,0 +1,5 @@
+use Rattle.eb_desk.proofs.Law.{once}
+use Rattle.eb_desk.proofs.laws.jobs_are_taken_once.Goals as goal
+
+pub returns : goal.returns
+returns g c = once g.J.Job.pair g.J.Job.made

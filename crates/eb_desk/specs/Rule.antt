@@ -1,0 +1,100 @@
+-- The rules of the queue of jobs and of the queue of answers.
+use Rattle.std.specs.Prelude.{◌≡◌, ℕ, suc, ◌+◌, ◌<◌, ◌⊎◌, Bool, true, false, List, [], ◌∷◌, map, All}
+use mathlib.Core.Option.{some}
+use lib.ListN.{get_elem?}
+use Rattle.eb_desk.specs.declared.job.Task.{Task}
+use Rattle.eb_desk.specs.declared.job.Task.TheVariants.{Job as a_job, Stop}
+use Rattle.eb_desk.specs.declared.rule.Pair.{Pair}
+use Rattle.eb_desk.specs.declared.rule.Hand.{Hand}
+use Rattle.eb_desk.specs.declared.rule.View.{View}
+use Rattle.eb_desk.specs.declared.rule.View.TheVariants.{Opening, At}
+
+-- whether a pass may put; the pairs and the stops that it put; those that it took
+abbrev pub hand : Bool → List Pair → ℕ → List Pair → ℕ → Hand
+hand puts put stops_put taken stops_taken = record { puts = puts; put = put; stops_put = stops_put; taken = taken; stops_taken = stops_taken }
+
+-- the pass has put and taken nothing
+abbrev pub idle : Bool → Hand
+idle puts = hand puts [] 0 [] 0
+
+-- what a pass has put and taken
+abbrev pub hand_of : {D : Type 0} → View D → Hand
+hand_of Opening = idle true
+hand_of (At home h) = h
+
+-- the pairs of the jobs among these, in order
+abbrev pub job_pairs : {J : Type 0} → (J → Pair) → List (Task J) → List Pair
+job_pairs pair [] = []
+job_pairs pair (a_job j ∷ ts) = pair j ∷ job_pairs pair ts
+job_pairs pair (Stop ∷ ts) = job_pairs pair ts
+
+-- how many of these are stops
+abbrev pub stops_of : {J : Type 0} → List (Task J) → ℕ
+stops_of [] = 0
+stops_of (a_job j ∷ ts) = stops_of ts
+stops_of (Stop ∷ ts) = suc (stops_of ts)
+
+-- the weights of the pairs, added up
+abbrev pub weigh : (Pair → ℕ) → List Pair → ℕ
+weigh g [] = 0
+weigh g (p ∷ ps) = g p + weigh g ps
+
+-- a number of each pass, added up
+abbrev pub total : {D : Type 0} → (Hand → ℕ) → List (View D) → ℕ
+total f [] = 0
+total f (v ∷ vs) = f (hand_of v) + total f vs
+
+-- a number is above those of the pairs
+abbrev pub IsAboveEach : ℕ → List Pair → Type 0
+IsAboveEach n ps = All (λ p. p.number < n) ps
+
+-- the numbers rise
+abbrev pub IsRising : List Pair → Type 0
+IsRising [] = Unit {0}
+IsRising (p ∷ ps) = All (λ q. p.number < q.number) ps × IsRising ps
+
+-- each pass is of this home and of its kind; the pairs that were put are those that were taken and those that are there, however
+-- pairs are weighed; the same of stops
+pub record Balanced {D : Type 0} (home : D) (kind : ℕ → Hand → Type 0) (there : List Pair) (stops : ℕ) (views : List (View D)) : Type 0 where
+  pub seated : (by : ℕ) (v : View D) → get_elem? views by ≡ some v → (h : Hand) × (v ≡ At home h) × kind by h
+  pub pairs : (g : Pair → ℕ) → total (λ h. weigh g h.put) views ≡ total (λ h. weigh g h.taken) views + weigh g there
+  pub stopped : total (λ h. h.stops_put) views ≡ total (λ h. h.stops_taken) views + stops
+
+-- at the queue of jobs one pass alone puts jobs and stops, the clerk's, with rising numbers; each takes
+pub record IsTaker (clerk : ℕ) (by : ℕ) (h : Hand) : Type 0 where
+  pub puts : h.puts ≡ true → (by ≡ clerk) × IsRising h.put
+  pub takes : h.puts ≡ false → (h.put ≡ []) × (h.stops_put ≡ 0)
+
+-- at the queue of answers one pass alone takes answers, the clerk's, and puts none; each other puts, and takes none
+pub record IsPutter (clerk : ℕ) (by : ℕ) (h : Hand) : Type 0 where
+  pub puts : h.puts ≡ true → h.taken ≡ []
+  pub takes : h.puts ≡ false → (by ≡ clerk) × (h.put ≡ [])
+
+-- a job is one of this home
+abbrev pub IsMadeTask : {J D : Type 0} → (D → J → Type 0) → D → Task J → Type 0
+IsMadeTask made home (a_job j) = made home j
+IsMadeTask made home Stop = Unit {0}
+
+-- the queue is empty, and its one pass knows nothing yet
+abbrev pub IsOpening : {T D : Type 0} → List T → List (View D) → Type 0
+IsOpening items views = (items ≡ []) × (views ≡ Opening ∷ [])
+
+-- the rule of the jobs of a home: `items` are the jobs and stops that were put and not taken, by their counts, in any order
+pub record JobsOf {J D : Type 0} (pair : J → Pair) (made : D → J → Type 0) (home : D) (items : List (Task J)) (views : List (View D)) : Type 0 where
+  pub clerk : ℕ
+  pub all_made : All (IsMadeTask made home) items
+  pub balanced : Balanced home (IsTaker clerk) (job_pairs pair items) (stops_of items) views
+
+-- the rule of the answers of a home: `items` are the answers that were put and not taken, by their counts, in any order
+pub record AnswersOf {A D : Type 0} (pair : A → Pair) (made : D → A → Type 0) (home : D) (items : List A) (views : List (View D)) : Type 0 where
+  pub clerk : ℕ
+  pub all_made : All (made home) items
+  pub balanced : Balanced home (IsPutter clerk) (map pair items) 0 views
+
+-- the rule of the queue of jobs
+abbrev pub KeepsJobs : {J D : Type 0} → (J → Pair) → (D → J → Type 0) → List (Task J) → List (View D) → Type 0
+KeepsJobs {J} {D} pair made items views = IsOpening items views ⊎ ((home : D) × JobsOf pair made home items views)
+
+-- the rule of the queue of answers
+abbrev pub KeepsAnswers : {A D : Type 0} → (A → Pair) → (D → A → Type 0) → List A → List (View D) → Type 0
+KeepsAnswers {A} {D} pair made items views = IsOpening items views ⊎ ((home : D) × AnswersOf pair made home items views)

@@ -1,0 +1,142 @@
+//! The clerk.
+//!
+//! The clerk's call is the second argument of `join_mut`: the first runs on a new thread, or last where none can be
+//! made. With the clerk first, workers would sleep before it ever began; with it second, it answers its jobs itself.
+//! A waiting clerk sleeps until an answer comes; a job that it missed is a worker's. An answer that is there is taken
+//! without waiting by a call of its own, which takes no handle that may wait.
+ghost use Rattle.std.specs.Prelude.{◌≡◌, ◌⊎◌, MatchOption};
+ghost use Rattle.eb_desk.specs.Rule.{IsAboveEach};
+ghost use Rattle.eb_desk.specs.Desk.{with_put, with_stop, with_taken, with_answered};
+
+use crate::calls::{put_task, sure_answer, take_answer, take_job};
+use crate::desk::Desk;
+use crate::job::{Job, Task};
+use crate::rule::{Key, View};
+use crossbeam_queue::Pass;
+use crossbeam_utils::Backoff;
+use eb_base::Gate;
+use std::marker::Model;
+use std::sync::Wait;
+
+/// The one who puts jobs and stops at a desk, and takes answers. It may go to a thread of its own. Contracts see the
+/// pairs (a number, and what the job was told) that it put, the stops, and the pairs that it
+/// took, as a job or as an answer.
+#[derive(Drop)]
+pub struct Clerk<J: Job> {
+    pub(crate) jobs: Pass<Task<J>, View<Key>>,
+    pub(crate) answers: Pass<J::Answer, View<Key>>,
+}
+
+impl<J: Job> Model for Clerk<J> {
+    ghost use Rattle.std.specs.Prelude.{ℕ, List, []};
+    ghost use Rattle.eb_desk.specs.Desk.{ClerkBook, clerk_book, IsClerk};
+
+    ghost Value = { ClerkBook (List ℕ) };
+
+    ghost view = { λ c. clerk_book [] c.jobs c.answers };
+
+    ghost invariant = { λ c. IsClerk [] c.jobs c.answers };
+}
+
+impl<J: Job> Clerk<J> {
+    /// Puts a job, and tries again while the queue is full, which it never is where at most 512 jobs are unanswered. Its
+    /// number is above those of the jobs put before, it is of the desk's home, and no stop was put.
+    /// Takes no memory.
+    pub fn ask<R: Wait>(&mut self, rt: &R, desk: &Desk<J>, job: J)
+        requires desk { self.old.queues ≡ desk.now.queues }
+        requires made { J.made self.old.home job }
+        requires rising { IsAboveEach (J.pair job).number self.old.put }
+        requires open { self.old.stops ≡ 0 }
+        ensures { self.new ≡ with_put self.old (J.pair job) }
+    {
+        put_task(rt, &desk.jobs, &mut self.jobs, Task::Job(job));
+        desk.tasks_came.notify_one();
+    }
+
+    /// Puts one stop, and tries again while the queue is full. Takes no memory.
+    pub fn stop<R: Wait>(&mut self, rt: &R, desk: &Desk<J>)
+        requires desk { self.old.queues ≡ desk.now.queues }
+        ensures { self.new ≡ with_stop self.old }
+    {
+        put_task(rt, &desk.jobs, &mut self.jobs, Task::Stop);
+        desk.tasks_came.notify_one();
+    }
+
+    /// Takes an answer where one is there, and doesn't wait. `None`, where there is none or another thread is just
+    /// putting one, leaves the clerk as it was. Takes no memory.
+    pub fn take_answer(&mut self, desk: &Desk<J>) -> Option<J::Answer>
+        requires desk { self.old.queues ≡ desk.now.queues }
+        ensures { MatchOption result (self.new ≡ self.old)
+            (λ a. (self.new ≡ with_answered self.old (J.answer_pair a)) × (J.answer_made self.old.home a)) }
+    {
+        take_answer(&desk.answers, &mut self.answers)
+    }
+
+    // Takes a job. Where no stop was put, there is none to take.
+    fn take_job(&mut self, desk: &Desk<J>) -> Option<J>
+        requires desk { self.old.queues ≡ desk.now.queues }
+        requires open { self.old.stops ≡ 0 }
+        ensures { MatchOption result (self.new ≡ self.old)
+            (λ j. (self.new ≡ with_taken self.old (J.pair j)) × (J.made self.old.home j)) }
+    {
+        take_job(&desk.jobs, &mut self.jobs)
+    }
+
+    /// Gives one answer: it takes one that a worker put, or takes a job and answers it, with this gate
+    /// one. Where nothing is to come it waits on: first it tries both queues in turn, and then it sleeps until an answer
+    /// is put. What it is passed serves the desk's home, and no stop was put. Takes no memory.
+    pub fn wait<R: Wait, G: Gate>(
+        &mut self,
+        rt: &R,
+        desk: &Desk<J>,
+        with: &J::With,
+        gate: &G,
+    ) -> J::Answer
+        requires desk { self.old.queues ≡ desk.now.queues }
+        requires with { J.serves with.now self.old.home }
+        requires open { self.old.stops ≡ 0 }
+        ensures made { J.answer_made self.old.home result }
+        ensures one { (self.new ≡ with_answered self.old (J.answer_pair result)) ⊎ (self.new ≡ with_taken self.old (J.answer_pair result)) }
+    {
+        let backoff = Backoff::new();
+        for _ in rt.forever() {
+            if let Some(answer) = self.take_answer(desk) {
+                return answer;
+            }
+            if let Some(job) = self.take_job(desk) {
+                return job.answered(with, gate);
+            }
+            if !backoff.is_completed() {
+                backoff.snooze();
+            } else if let Some(answer) = self.take_answer_or_sleep(rt, desk) {
+                return answer;
+            }
+        }
+        unreachable!()
+    }
+
+    // Takes an answer, or sleeps until one is put.
+    fn take_answer_or_sleep<R: Wait>(&mut self, rt: &R, desk: &Desk<J>) -> Option<J::Answer>
+        requires desk { self.old.queues ≡ desk.now.queues }
+        ensures { MatchOption result (self.new ≡ self.old)
+            (λ a. (self.new ≡ with_answered self.old (J.answer_pair a)) × (J.answer_made self.old.home a)) }
+    {
+        let key = desk.answers_came.prepare_wait();
+        match self.sure_answer(rt, desk) {
+            Some(answer) => Some(answer),
+            None => {
+                key.wait(rt);
+                None
+            }
+        }
+    }
+
+    // Takes an answer. `None` only if there was none at one moment of the call.
+    fn sure_answer<R: Wait>(&mut self, rt: &R, desk: &Desk<J>) -> Option<J::Answer>
+        requires desk { self.old.queues ≡ desk.now.queues }
+        ensures { MatchOption result (self.new ≡ self.old)
+            (λ a. (self.new ≡ with_answered self.old (J.answer_pair a)) × (J.answer_made self.old.home a)) }
+    {
+        sure_answer(rt, &desk.answers, &mut self.answers)
+    }
+}

@@ -1,5 +1,0 @@
-use Rattle.eb_feed_serve.proofs.AnswersKept.{takes_answer}
-use Rattle.eb_feed_serve.proofs.calls.sure_answer.Goals as goal
-
-pub pop_as-requires-clause-rule : goal.pop_as-requires-clause-rule
-pop_as-requires-clause-rule g c = let r = c.requires.rule in (takes_answer _ _ r.0 r.1 r.2 r.3, λ items views h e. tt)

@@ -1,8 +1,0 @@
-use Rattle.eb_serve.proofs.Books.{worker_took, worker_takes}
-use Rattle.eb_serve.proofs.worker.Worker.sure_take.Goals as goal
-
-pub invariant_of-self : goal.invariant_of-self
-invariant_of-self g c = worker_took _ _ _ _ c.self.invariant c.sure_task.ensures.pass.2 c.sure_task.ensures.moved
-
-pub returns : goal.returns
-returns g c = worker_takes c.sure_task.result c.self.inside.jobs c.sure_task.new.pass c.self.inside.answers _ c.self.view_is c.self.invariant c.sure_task.ensures.pass.0 c.sure_task.ensures.moved

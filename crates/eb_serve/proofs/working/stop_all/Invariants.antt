@@ -1,6 +1,0 @@
-use Rattle.std.proofs.Common.{◌≡◌}
-use Rattle.eb_serve.specs.Desk.{with_stops}
-use Rattle.eb_serve.proofs.working.stop_all.Given as goal
-
-abbrev pub invariant-loop : goal.invariant-loop
-invariant-loop g l = l.clerk ≡ with_stops l.initial.clerk l.counter
