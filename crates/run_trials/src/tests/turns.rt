@@ -26,7 +26,7 @@ const WHOLE: &str = "2 seen 1: 1\n3 seen 1:\nend: documents 1, queries 2, refuse
 struct Asker<'a> {
     first: &'a [u8],
     taken: &'a AtomicU64,
-    calls: u8,
+    has_asked: bool,
 }
 
 // Copies the bytes into the front of the buffer, as many as there is room for.
@@ -40,17 +40,19 @@ fn give(bytes: &[u8], into: &mut [u8]) -> usize
 
 impl<'a> io::Read for Asker<'a> {
     fn read(&mut self, buf: &mut [u8]) -> io::Result<usize> {
-        self.calls = self.calls.saturating_add(1);
-        match self.calls {
-            1 => Ok(give(self.first, buf)),
-            2 => {
-                if self.taken.load(Ordering::SeqCst) < ANSWER.len() as u64 {
-                    return Err(io::Error::other("not answered"));
-                }
-                Ok(give(SECOND, buf))
-            }
-            _ => Ok(0),
+        if !self.first.is_empty() {
+            let count = give(self.first, buf);
+            self.first = &self.first[count.min(self.first.len())..];
+            return Ok(count);
         }
+        if self.taken.load(Ordering::SeqCst) < ANSWER.len() as u64 {
+            return Err(io::Error::other("not answered"));
+        }
+        if self.has_asked {
+            return Ok(0);
+        }
+        self.has_asked = true;
+        Ok(give(SECOND, buf))
     }
 }
 
@@ -84,7 +86,7 @@ fn run_in_turns<R: Threads + Wait + Sync>(
     let mut source = StdSource::new(Asker {
         first,
         taken: &taken,
-        calls: 0,
+        has_asked: false,
     });
     let mut out = StdSink::new(Taker { taken: &taken });
     let mut err = CountSink::new();
@@ -111,7 +113,7 @@ fn feed_in_turns<R: Threads + Wait + Sync>(
     let mut source = StdSource::new(Asker {
         first: FIRST,
         taken: &taken,
-        calls: 0,
+        has_asked: false,
     });
     let mut out = StdSink::new(Taker { taken: &taken });
     let mut err = CountSink::new();
@@ -147,7 +149,12 @@ fn each_answer_is_out_before_the_next_line_is_read(rt: HostRuntime) -> Result<()
 }
 
 // The lines by which a feed is.
-const FEED_LINES: [&str; 4] = ["--keep=4", "--overlap", "--workers=2", "--watch"];
+const FEED_LINES: [&str; 4] = [
+    "--terms=1024 --keep=4",
+    "--terms=1024 --overlap",
+    "--terms=1024 --workers=2",
+    "--terms=1024 --watch",
+];
 
 #[test]
 fn each_answer_of_a_feed_is_out_before_the_next_line_is_read(rt: HostRuntime) -> Result<(), Fail> {
