@@ -13,7 +13,7 @@
  * answers and what they hold then. A call tests what it can, and answers EB_NOT_BEGUN where the numbers aren't those of
  * an index that was begun, or the number of words isn't that of its setting.
  *
- * What the caller owes, and no call can test:
+ * What the caller owes, and no call can test. Where it breaks one of these, what a call does is undefined: no proof speaks of it.
  *  - each pointer leads to as many elements as are named, aligned as C aligns them, and isn't null, even for none;
  *    what a call writes overlaps nothing else that it is given;
  *  - words and numbers that pass those tests are as the last call left them, and of one index: copy, move or store them
@@ -70,7 +70,14 @@ struct eb_index {
 /* What an ask tells beside the ids; all 0 where it is refused, but the column. */
 struct eb_answer {
     uint64_t seen;   /* how many documents were accepted: the answer is over all of them */
-    uint64_t count;  /* how many ids the answer has */
+    uint64_t count;  /* how many ids the answer has; more than ids_len where there wasn't room for all */
+    uint64_t column; /* where EB_BAD_QUERY: the place of the fault, counted in bytes from 1; else 0 */
+};
+
+/* What a count tells beside the numbers of its buckets; all 0 where it is refused, but the column. */
+struct eb_count {
+    uint64_t seen;   /* how many documents were accepted: the count is over all of them */
+    uint64_t total;  /* how many of them match, whether or not their ids lie in a bucket */
     uint64_t column; /* where EB_BAD_QUERY: the place of the fault, counted in bytes from 1; else 0 */
 };
 
@@ -104,6 +111,14 @@ uint32_t eb_ask_line(const uint64_t *words, size_t words_len, const struct eb_in
 uint32_t eb_ask_text(const uint64_t *words, size_t words_len, const struct eb_index *index, uint32_t k, const unsigned char *text, size_t text_len,
                      uint64_t *ids, size_t ids_len, struct eb_answer *answer);
 
+/* Counts the matches of a query text, as "level error", among all accepted documents. EB_OK: `count` says how many there are, and
+ * `buckets` has one number for each bucket: bucket i counts the matches whose id is at least start + i * width and less than
+ * start + (i + 1) * width, so where ids are times the buckets are a histogram. `buckets_len` may be 0, for the total alone; then
+ * `start` and `width` aren't read. Numbers stay at 2^64 - 1. EB_BAD_NUMBER: there are buckets, of width 0. EB_BAD_TEXT, EB_BAD_QUERY,
+ * EB_QUERY_TOO_DEEP, EB_QUERY_TOO_LARGE, EB_NO_MEMORY. Where it isn't EB_OK, no bucket is written. */
+uint32_t eb_count_text(const uint64_t *words, size_t words_len, const struct eb_index *index, const unsigned char *text, size_t text_len,
+                       uint64_t start, uint64_t width, uint64_t *buckets, size_t buckets_len, struct eb_count *count);
+
 /* How many documents are accepted; how many segments are begun; how much of the last of them is used, all 0 where none is
  * begun. These look at the numbers alone, and take them as they are. */
 uint64_t eb_documents(const struct eb_index *index);
@@ -122,7 +137,7 @@ void eb_last_segment(const struct eb_index *index, struct eb_segment *last);
  * answers EB_BAD_HANDLE, with nothing changed, where that isn't what it takes: where a handle is closed, of another kind, or, of
  * one that is to be made, not closed. Tested, and not proved: that a reader's next search finds what was added before it began.
  *
- * What the caller owes, and no call can test:
+ * What the caller owes, and no call can test; where it breaks one of these, what a call does is undefined:
  *  - a handle is all zero before the first call, and from then on only the calls write it. It may be moved between two calls,
  *    and no copy that is left behind is used;
  *  - one call at a time on each handle, closing it too. It goes to another thread by a lock, by a thread's start or end, or by
@@ -153,6 +168,10 @@ uint32_t eb_reader(struct eb_handle *from, struct eb_handle *reader);
 uint32_t eb_reader_ask_line(struct eb_handle *reader, const unsigned char *line, size_t line_len, uint64_t *ids, size_t ids_len, struct eb_answer *answer);
 uint32_t eb_reader_ask_text(struct eb_handle *reader, uint32_t k, const unsigned char *text, size_t text_len, uint64_t *ids, size_t ids_len,
                             struct eb_answer *answer);
+
+/* Counts as eb_count_text does, over the documents over which an ask of this reader would answer; it knows them from then on. */
+uint32_t eb_reader_count_text(struct eb_handle *reader, const unsigned char *text, size_t text_len, uint64_t start, uint64_t width,
+                              uint64_t *buckets, size_t buckets_len, struct eb_count *count);
 
 /* Tells how many documents a reader knows. */
 uint32_t eb_reader_seen(struct eb_handle *reader, uint64_t *seen);
@@ -233,6 +252,11 @@ uint32_t eb_follower_ask_line(struct eb_handle *follower, const unsigned char *l
                               struct eb_answer *answer);
 uint32_t eb_follower_ask_text(struct eb_handle *follower, uint32_t k, const unsigned char *text, size_t text_len, uint64_t *ids, size_t ids_len,
                               struct eb_answer *answer);
+
+/* Counts as eb_count_text does, over the documents over which an ask of this follower would answer; `count->seen` is what
+ * `answer->seen` would be. Where it isn't EB_OK, the follower is as before. */
+uint32_t eb_follower_count_text(struct eb_handle *follower, const unsigned char *text, size_t text_len, uint64_t start, uint64_t width,
+                                uint64_t *buckets, size_t buckets_len, struct eb_count *count);
 
 /* Tell how many documents of the leader a follower knows; and how many generations it holds. */
 uint32_t eb_follower_seen(struct eb_handle *follower, uint64_t *seen);

@@ -2,3 +2,4 @@ pub mod Holdings
 pub mod Addings
 pub mod Sealing
 pub mod Sharings
+pub mod Counted

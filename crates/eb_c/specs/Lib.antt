@@ -5,3 +5,4 @@ pub mod Asking
 pub mod Sealing
 pub mod Sharing
 pub mod Streaming
+pub mod Counting

@@ -3,6 +3,7 @@
 ghost use Rattle.std.specs.Prelude.{◌≡◌, ◌<◌, ◌++◌, ◌∷◌, [], false, length, IfSome};
 ghost use mathlib.Core.List.{IsPrefix};
 ghost use Rattle.eb_base.specs.Match.{answer as answer_of};
+ghost use Rattle.eb_count.specs.Tallies.{HasCounted};
 ghost use Rattle.eb_cursor.specs.Frames.{query_of, k_of, ids_of};
 ghost use Rattle.eb_place.specs.Room.{has_room};
 ghost use Rattle.eb_convert.specs.declared.conversion.Converted.{Converted};
@@ -11,6 +12,7 @@ ghost use Rattle.std.specs.Arc.{arc_value};
 
 use crate::leading::{HeldFollower, HeldLeader};
 use eb_base::{Document, OpenGate};
+use eb_count::Tally;
 use eb_cursor::Frame;
 use eb_engine::{Converter, Index as Shared, Reader, Writer};
 use eb_place::Steps;
@@ -205,5 +207,27 @@ impl HeldReader {
         let mut steps = Steps::<L>::new(blank);
         self.reader
             .search(&self.index, frame, &OpenGate, &mut steps)
+    }
+
+    // Counts, in the tally, all matches among the documents that are accepted, and gives their number.
+    pub(crate) fn count(&mut self, frame: &mut Frame, tally: &mut Tally) -> u64
+        ensures index { self.new.index ≡ self.old.index }
+        ensures known { IsPrefix self.old.docs self.new.docs }
+        ensures count { result ≡ length self.new.docs }
+        ensures counts { HasCounted (query_of frame.old) self.new.docs tally.old tally.new }
+    {
+        self.count_in::<Brand>(frame, tally, Blank::new(1))
+    }
+
+    fn count_in<L: Ledger>(&mut self, frame: &mut Frame, tally: &mut Tally, blank: Blank) -> u64
+        requires blank { (blank.name ≡ L.name) × (blank.parts ≡ L.parts) × (0 < blank.parts) }
+        ensures index { self.new.index ≡ self.old.index }
+        ensures known { IsPrefix self.old.docs self.new.docs }
+        ensures count { result ≡ length self.new.docs }
+        ensures counts { HasCounted (query_of frame.old) self.new.docs tally.old tally.new }
+    {
+        let mut steps = Steps::<L>::new(blank);
+        self.reader
+            .count(&self.index, frame, tally, &OpenGate, &mut steps)
     }
 }

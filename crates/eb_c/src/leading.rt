@@ -2,12 +2,14 @@
 ghost use Rattle.std.specs.Prelude.{◌≡◌, ◌<◌, ◌≤◌, [], true, false, IfOk, IfSome};
 ghost use Rattle.std.specs.Bool.{MatchBool};
 ghost use Rattle.eb_base.specs.Match.{answer as answer_of};
+ghost use Rattle.eb_count.specs.Tallies.{HasCounted};
 ghost use Rattle.eb_cursor.specs.Frames.{query_of, k_of, ids_of};
 ghost use Rattle.eb_place.specs.Room.{has_room};
 ghost use Rattle.eb_stream.specs.Turns.{FeedToken, history_of, stretch_of, counted, HasTaken, IsLetGo, IsOfNewest};
 ghost use Rattle.eb_c.specs.Streaming.{Takes, Hears, Learns};
 
 use eb_base::{Config, Document, NoMemory, OpenGate};
+use eb_count::Tally;
 use eb_cursor::Frame;
 use eb_place::Steps;
 use eb_stream::{FeedConverter, FeedWriter, Follower, Leader, Released, Spare};
@@ -160,6 +162,27 @@ impl HeldFollower {
         let mut steps = Steps::<L>::new(blank);
         let _met = self.follower.hear();
         self.seen = self.follower.search(frame, &OpenGate, &mut steps);
+        self.seen
+    }
+
+    // Takes in what it was told, counts the matches in the generations that it then holds, and gives how many documents it knows.
+    pub(crate) fn count(&mut self, frame: &mut Frame, tally: &mut Tally) -> u64
+        ensures learned { (g : FeedToken) × Hears self.old g × Learns g self.new }
+        ensures count { result ≡ counted (history_of self.new.log self.new.docs) }
+        ensures counts { HasCounted (query_of frame.old) (stretch_of self.new.held self.new.log self.new.docs) tally.old tally.new }
+    {
+        self.count_in::<Brand>(frame, tally, Blank::new(1))
+    }
+
+    fn count_in<L: Ledger>(&mut self, frame: &mut Frame, tally: &mut Tally, blank: Blank) -> u64
+        requires blank { (blank.name ≡ L.name) × (blank.parts ≡ L.parts) × (0 < blank.parts) }
+        ensures learned { (g : FeedToken) × Hears self.old g × Learns g self.new }
+        ensures count { result ≡ counted (history_of self.new.log self.new.docs) }
+        ensures counts { HasCounted (query_of frame.old) (stretch_of self.new.held self.new.log self.new.docs) tally.old tally.new }
+    {
+        let mut steps = Steps::<L>::new(blank);
+        let _met = self.follower.hear();
+        self.seen = self.follower.count(frame, tally, &OpenGate, &mut steps);
         self.seen
     }
 }

@@ -11,6 +11,8 @@
 
 mod adding;
 mod asking;
+mod counting;
+mod counts;
 mod exports;
 mod handle;
 mod held;
@@ -23,6 +25,8 @@ mod sealed;
 mod sharing;
 mod streaming;
 
+pub use counting::Count;
+pub use counts::{eb_count_text, eb_follower_count_text, eb_reader_count_text};
 pub use exports::{
     eb_add_line, eb_add_text, eb_ask_line, eb_ask_text, eb_begin, eb_documents, eb_last_segment,
     eb_segments, eb_words,

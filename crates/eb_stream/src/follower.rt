@@ -3,7 +3,8 @@ ghost use Rattle.std.specs.Prelude.{◌≡◌, ◌++◌, ◌∷◌, [], List, fa
 ghost use mathlib.Core.List.{IsPrefix};
 ghost use Rattle.eb_base.specs.Document.{Doc};
 ghost use Rattle.eb_base.specs.Match.{answer};
-ghost use Rattle.eb_cursor.specs.Frames.{query_of, k_of, ids_of};
+ghost use Rattle.eb_count.specs.Tallies.{HasCounted};
+ghost use Rattle.eb_cursor.specs.Frames.{query_of, k_of, ids_of, SeenAs};
 ghost use Rattle.eb_place.specs.Room.{has_room};
 ghost use Rattle.eb_feed.specs.Generations.{with_generation};
 ghost use Rattle.eb_stream.specs.Turns.{generations_of, history_of, stretch_of, counted, HasLapsed, HasTaken, IsLetGo, IsOfNewest};
@@ -15,6 +16,7 @@ use crate::released::Released;
 use crate::spare::Spare;
 use crate::writer::FeedWriter;
 use eb_base::{Config, Document, Gate, NoMemory};
+use eb_count::Tally;
 use eb_cursor::Frame;
 use eb_place::Steps;
 use std::alloc::Global;
@@ -75,6 +77,25 @@ impl Follower {
         ensures ids { ids_of frame.new ≡ answer (query_of frame.old) (k_of frame.old) (stretch_of self.new.held self.new.log self.new.docs) }
     {
         self.reader.search(frame, gate, steps)
+    }
+
+    /// Counts as [`FeedReader::count`].
+    pub fn count<G: Gate, L: Ledger>(
+        &mut self,
+        frame: &mut Frame,
+        tally: &mut Tally,
+        gate: &G,
+        steps: &mut Steps<L>,
+    ) -> u64
+        ensures book { self.new.book ≡ self.old.book }
+        ensures log { self.new.log ≡ self.old.log }
+        ensures held { self.new.held ≡ self.old.held }
+        ensures known { IsPrefix self.old.docs self.new.docs }
+        ensures count { result ≡ counted (history_of self.new.log self.new.docs) }
+        ensures seen { SeenAs frame.old frame.new }
+        ensures counts { HasCounted (query_of frame.old) (stretch_of self.new.held self.new.log self.new.docs) tally.old tally.new }
+    {
+        self.reader.count(frame, tally, gate, steps)
     }
 
     /// How many turns it knows.
