@@ -121,7 +121,8 @@ static void turns(void) {
 /* Refusals change nothing: what the follower was told is taken in by the next ask that is answered. */
 static void at_the_ends(void) {
     struct eb_handle leader = {NULL, 0}, follower = {NULL, 0};
-    uint64_t seen = 77;
+    struct eb_count count;
+    uint64_t seen = 77, buckets[2];
     EXPECT(OPEN(&leader), EB_OK);
     EXPECT(eb_follower(&leader, &follower), EB_OK);
     EXPECT(add(&leader, 1, ""), EB_OK);
@@ -142,6 +143,10 @@ static void at_the_ends(void) {
     EXPECT(eb_follower_ask_text(&follower, 10, bytes("train"), 5, ids, 1, &answer), EB_OK);
     EXPECT(answer.count, 2);
     EXPECT(ids[0], 3);
+    EXPECT(add(&leader, 4, "train"), EB_OK);
+    EXPECT(eb_follower_count_text(&follower, bytes("train"), 5, 3, 1, buckets, 2, &count), EB_OK);
+    EXPECT(count.seen * 1000 + count.total * 100 + buckets[0] * 10 + buckets[1], 4311);
+    EXPECT(eb_follower_count_text(&leader, bytes("train"), 5, 0, 0, NULL, 0, &count), EB_BAD_HANDLE);
     eb_close(&follower);
     eb_close(&leader);
 }

@@ -89,6 +89,8 @@ static void nothing_named(void) {
 
 /* Texts and rooms at their ends. */
 static void at_the_ends(void) {
+    struct eb_count count;
+    uint64_t buckets[2];
     struct eb_handle writer = {NULL, 0}, converter = {NULL, 0}, reader = {NULL, 0};
     uint64_t seen = 0;
     EXPECT(eb_open(&writer, &converter, 2, 2, 1024), EB_OK);
@@ -123,6 +125,12 @@ static void at_the_ends(void) {
     EXPECT(eb_reader_ask_text(&reader, 10, bytes("train"), 5, ids, SIZE_MAX, &answer), EB_OK);
     EXPECT(answer.count, 3);
     EXPECT(ids[2], 2);
+    EXPECT(eb_reader_count_text(&reader, bytes("train"), 5, 2, 2, buckets, 2, &count), EB_OK); /* the ids 2 and 3, and 4 */
+    EXPECT(count.seen * 1000 + count.total * 100 + buckets[0] * 10 + buckets[1], 4321);
+    EXPECT(eb_reader_count_text(&reader, bytes("train"), 5, 2, 0, buckets, 2, &count), EB_BAD_NUMBER);
+    EXPECT(count.seen * 10 + count.total, 0);
+    EXPECT(buckets[0] * 10 + buckets[1], 21);
+    EXPECT(eb_reader_count_text(&writer, bytes("train"), 5, 2, 2, buckets, 2, &count), EB_BAD_HANDLE);
     EXPECT(eb_reader_ask_line(&reader, bytes("?1 train"), 8, ids, SIZE_MAX, &answer), EB_OK);
     EXPECT(answer.count, 1);
     eb_close(&reader);

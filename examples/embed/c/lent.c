@@ -143,6 +143,49 @@ static void in_turn(void) {
     EXPECT(last.pool0, 5);
 }
 
+static struct eb_count count;
+static uint64_t buckets[4];
+
+static uint32_t number_of(size_t len, const char *query, uint64_t start, uint64_t width, size_t number) {
+    count.seen = count.total = count.column = 77;
+    return eb_count_text(words, len, &numbers, bytes(query), strlen(query), start, width, buckets, number, &count);
+}
+
+/* A count is refused, writes no bucket, and tells only this column. */
+#define UNCOUNTED(call, why, at)                                                                                                          \
+    do {                                                                                                                                  \
+        buckets[0] = 77;                                                                                                                  \
+        REFUSED(call, why);                                                                                                               \
+        EXPECT(count.seen + count.total, 0);                                                                                              \
+        EXPECT(count.column, at);                                                                                                         \
+        EXPECT(buckets[0], 77);                                                                                                           \
+    } while (0)
+
+/* Counts over three documents, of the ids 100, 160 and 230: in all, and in buckets. */
+static void counted(void) {
+    EXPECT(eb_begin(words, SIZE, &numbers, 1, 3, 1024), EB_OK);
+    EXPECT(number_of(SIZE, "error", 0, 1, 2), EB_OK);
+    EXPECT(count.seen + count.total + buckets[0] + buckets[1], 0);
+    EXPECT(add(SIZE, 100, "error: timeout"), EB_OK);
+    EXPECT(add(SIZE, 160, "timeout"), EB_OK);
+    EXPECT(add(SIZE, 230, "error, error"), EB_OK);
+    EXPECT(number_of(SIZE, "error", 0, 0, 0), EB_OK); /* without buckets the width isn't read */
+    EXPECT(count.seen * 10 + count.total, 32);
+    buckets[3] = 77;
+    EXPECT(number_of(SIZE, "error OR timeout", 100, 60, 3), EB_OK); /* from 100 on, from 160 on, from 220 on */
+    EXPECT(count.seen * 10 + count.total, 33);
+    EXPECT(buckets[0] * 100 + buckets[1] * 10 + buckets[2], 111);
+    EXPECT(buckets[3], 77);
+    EXPECT(number_of(SIZE, "error OR timeout", 101, 59, 1), EB_OK); /* neither 100 nor 160 */
+    EXPECT(count.total * 10 + buckets[0], 30);
+    EXPECT(number_of(SIZE, "error", UINT64_MAX, UINT64_MAX, 2), EB_OK);
+    EXPECT(count.total * 100 + buckets[0] * 10 + buckets[1], 200);
+    UNCOUNTED(number_of(SIZE, "error", 0, 0, 1), EB_BAD_NUMBER, 0);
+    UNCOUNTED(number_of(SIZE, "(error", 0, 1, 1), EB_BAD_QUERY, 7);
+    UNCOUNTED(number_of(SIZE, "\xff", 0, 1, 1), EB_BAD_TEXT, 0);
+    UNCOUNTED(number_of(SIZE - 1, "error", 0, 1, 1), EB_NOT_BEGUN, 0);
+}
+
 static long without_memory(void) {
     long tried = 0;
     EXPECT(eb_begin(words, SIZE, &numbers, 1, 3, 1024), EB_OK);
@@ -151,6 +194,8 @@ static long without_memory(void) {
     UNTIL_IT_GOES_WELL((keep(), ask(SIZE, 4, "night OR late", 4)), as_before())
     EXPECT(answer.count, 2);
     EXPECT(ids[0] * 10 + ids[1], 87);
+    UNTIL_IT_GOES_WELL((keep(), number_of(SIZE, "night OR late", 7, 1, 2)), as_before())
+    EXPECT(count.total * 100 + buckets[0] * 10 + buckets[1], 211);
     return tried;
 }
 
@@ -165,7 +210,8 @@ int main(void) {
     at_the_ends();
     nothing_named();
     in_turn();
-    EXPECT(without_memory() > 3, 1);
+    counted();
+    EXPECT(without_memory() > 4, 1);
     free(words);
     free(words_then);
     if (failures == 0)
