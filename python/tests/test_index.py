@@ -1,11 +1,15 @@
 """Each call of the package, and each refusal by its name."""
+import copy
 import doctest
+import pathlib
+import pickle
 import threading
 import unittest
 
 import earlybird
 from earlybird import (
     BadDocument,
+    BadHandle,
     BadLine,
     BadNumber,
     BadQuery,
@@ -56,6 +60,39 @@ class Calls(unittest.TestCase):
         self.index.add(7, "a b a")
         # two words of a letter each, of two words of text; each has a slice of the first pool
         self.assertEqual(Segment(1, 2, 4, 2, 0, 0, 0), self.index.last_segment)
+
+    def test_counts(self):
+        for id in (100, 160, 230, 100):
+            self.index.add(id, "error: timeout")
+        self.assertEqual((4, 4), self.index.count("timeout"))
+        self.assertEqual(([2, 1, 1], 4, 4), self.index.histogram("error", 100, 60, 3))
+        self.assertEqual(([0], 4, 4), self.index.histogram("error", 101, 59, 1))
+        self.assertEqual(([0], 4, 4), self.index.histogram("error", 2**64 - 1, 2**64 - 1, 1))
+        for why, call in [
+            (BadNumber, lambda: self.index.histogram("error", 0, 0, 1)),
+            (BadNumber, lambda: self.index.histogram("error", 0, 1, 0)),
+            (BadNumber, lambda: self.index.histogram("error", 0, 1, 1_000_001)),
+            (BadNumber, lambda: self.index.histogram("error", -1, 1, 1)),
+            (BadNumber, lambda: self.index.histogram("error", 0, 2**64, 1)),
+            (BadQuery, lambda: self.index.count("(error")),
+            (BadText, lambda: self.index.count("\ud800")),
+        ]:
+            self.assertRaises(why, call)
+
+    def test_closed(self):
+        with self.index as index:
+            index.add(7, "hello")
+        for call in (lambda: index.add(8, "x"), lambda: index.search("hello"), lambda: index.count("hello"), lambda: index.add_line(b"{}")):
+            self.assertRaises(BadHandle, call)
+        self.assertEqual((0, 0), (len(index), index.segments))
+        index.close()
+
+    def test_no_copies(self):
+        for call in (copy.copy, copy.deepcopy, pickle.dumps):
+            self.assertRaises(TypeError, call, self.index)
+
+    def test_version(self):
+        self.assertRegex((pathlib.Path(__file__).parent.parent / "pyproject.toml").read_text(), 'version = "%s"' % earlybird.__version__)
 
     def test_lines(self):
         self.index.add_line(b'{"id":7,"text":"hello"}')

@@ -69,6 +69,14 @@ struct Told {
     column: u64,
 }
 
+#[repr(C)]
+#[derive(Default)]
+struct Counted {
+    seen: u64,
+    total: u64,
+    column: u64,
+}
+
 extern "C" {
     fn eb_words(segments: u32, docs: u32, terms: u32) -> u64;
     fn eb_begin(words: *mut u64, words_len: usize, index: *mut Numbers, segments: u32, docs: u32, terms: u32) -> u32;
@@ -79,6 +87,10 @@ extern "C" {
     ) -> u32;
     fn eb_ask_text(
         words: *const u64, words_len: usize, index: *const Numbers, k: u32, text: *const u8, text_len: usize, ids: *mut u64, ids_len: usize, answer: *mut Told,
+    ) -> u32;
+    fn eb_count_text(
+        words: *const u64, words_len: usize, index: *const Numbers, text: *const u8, text_len: usize, start: u64, width: u64, buckets: *mut u64,
+        buckets_len: usize, count: *mut Counted,
     ) -> u32;
     fn eb_documents(index: *const Numbers) -> u64;
     fn eb_segments(index: *const Numbers) -> u32;
@@ -201,6 +213,17 @@ pub struct Answer {
     pub ids: Vec<u64>,
 }
 
+/// How many messages match.
+#[derive(Clone, Debug, PartialEq, Eq)]
+pub struct Count {
+    /// How many documents were accepted: the count is over all of them.
+    pub seen: u64,
+    /// How many of them match.
+    pub total: u64,
+    /// How many of these have an id in each bucket.
+    pub buckets: Vec<u64>,
+}
+
 /// An index. Any number of threads may search it at once; who adds to it has it alone.
 ///
 /// ```
@@ -294,6 +317,39 @@ impl Index {
         answer(done, ids, told)
     }
 
+    /// Counts all messages that match a query.
+    ///
+    /// Refused as [`Index::search`] is for its query.
+    ///
+    /// ```
+    /// # let mut index = earlybird::Index::new(1, 10, 1024)?;
+    /// index.add(7, "hello world")?;
+    /// assert_eq!(index.count("hello OR again")?.total, 1);
+    /// # Ok::<(), earlybird::Refusal>(())
+    /// ```
+    pub fn count(&self, query: &str) -> Result<Count, Refusal> {
+        self.histogram(query, 0, 1, 0)
+    }
+
+    /// Counts all messages that match a query, and how many of them have an id in each of `number` buckets: bucket `i` has the ids
+    /// from `start + i * width` on, `width` of them. Where ids are times, it is a histogram over time.
+    ///
+    /// [`Refusal::BadNumber`] where there are buckets and the width is 0, and as [`Index::search`] is for its query.
+    ///
+    /// ```
+    /// # let mut index = earlybird::Index::new(1, 10, 1024)?;
+    /// for id in [100, 130, 160] {
+    ///     index.add(id, "error")?;
+    /// }
+    /// assert_eq!(index.histogram("error", 100, 60, 2)?.buckets, [2, 1]);
+    /// # Ok::<(), earlybird::Refusal>(())
+    /// ```
+    pub fn histogram(&self, query: &str, start: u64, width: u64, number: usize) -> Result<Count, Refusal> {
+        counted(number, |buckets, len, count| unsafe {
+            eb_count_text(self.words.as_ptr(), self.words.len(), &self.numbers, query.as_ptr(), query.len(), start, width, buckets, len, count)
+        })
+    }
+
     /// Answers queries in order, each of them as [`Index::search`] does.
     ///
     /// ```
@@ -329,4 +385,12 @@ fn answer(done: u32, mut ids: Vec<u64>, told: Told) -> Result<Answer, Refusal> {
     Refusal::of(done, told.column)?;
     ids.truncate(told.count as usize);
     Ok(Answer { seen: told.seen, ids })
+}
+
+/// The count of a call that is given the room for its buckets and what it tells.
+fn counted(number: usize, count: impl FnOnce(*mut u64, usize, &mut Counted) -> u32) -> Result<Count, Refusal> {
+    let (mut buckets, mut told) = (vec![0; number], Counted::default());
+    let done = count(buckets.as_mut_ptr(), number, &mut told);
+    Refusal::of(done, told.column)?;
+    Ok(Count { seen: told.seen, total: told.total, buckets })
 }

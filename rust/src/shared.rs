@@ -2,7 +2,7 @@
 //! [`Converter`] packs the segments that are closed. No call waits for another.
 
 use crate::handle::{Handle, Room, Side};
-use crate::{Answer, Refusal, Told};
+use crate::{counted, Answer, Count, Counted, Refusal, Told};
 
 extern "C" {
     fn eb_open(writer: *mut Handle, converter: *mut Handle, segments: u32, docs: u32, terms: u32) -> u32;
@@ -12,6 +12,9 @@ extern "C" {
     fn eb_reader_ask_line(reader: *mut Handle, line: *const u8, line_len: usize, ids: *mut u64, ids_len: usize, answer: *mut Told) -> u32;
     fn eb_reader_ask_text(
         reader: *mut Handle, k: u32, text: *const u8, text_len: usize, ids: *mut u64, ids_len: usize, answer: *mut Told,
+    ) -> u32;
+    fn eb_reader_count_text(
+        reader: *mut Handle, text: *const u8, text_len: usize, start: u64, width: u64, buckets: *mut u64, buckets_len: usize, count: *mut Counted,
     ) -> u32;
     fn eb_reader_seen(reader: *mut Handle, seen: *mut u64) -> u32;
     fn eb_converter_convert(converter: *mut Handle, converted: *mut u32) -> u32;
@@ -103,6 +106,27 @@ impl Reader {
         let at = self.side.at();
         // SAFETY: a handle that no other call has, the bytes of a line, and the room for the ids.
         self.room.answer(|ids, len, told| unsafe { eb_reader_ask_line(at, line.as_ptr(), line.len(), ids, len, told) })
+    }
+
+    /// Counts all messages that match a query, among the documents over which [`Reader::search`] would answer.
+    pub fn count(&mut self, query: &str) -> Result<Count, Refusal> {
+        self.histogram(query, 0, 1, 0)
+    }
+
+    /// Counts as [`Reader::count`] does, and how many of the matches have an id in each of `number` buckets, as
+    /// [`Index::histogram`](crate::Index::histogram) does.
+    ///
+    /// ```
+    /// # let (mut writer, _converter) = earlybird::shared::open(1, 10, 1024)?;
+    /// # let mut reader = writer.reader()?;
+    /// writer.add(130, "error")?;
+    /// assert_eq!(reader.histogram("error", 100, 20, 2)?.buckets, [0, 1]);
+    /// # Ok::<(), earlybird::Refusal>(())
+    /// ```
+    pub fn histogram(&mut self, query: &str, start: u64, width: u64, number: usize) -> Result<Count, Refusal> {
+        let at = self.side.at();
+        // SAFETY: a handle that no other call has, the bytes of a query, and the room for the buckets.
+        counted(number, |buckets, len, count| unsafe { eb_reader_count_text(at, query.as_ptr(), query.len(), start, width, buckets, len, count) })
     }
 
     /// How many documents it knows.

@@ -3,7 +3,7 @@
 
 use crate::handle::{Handle, Room, Side};
 use crate::shared::Converter;
-use crate::{Answer, Refusal, Told};
+use crate::{counted, Answer, Count, Counted, Refusal, Told};
 
 extern "C" {
     fn eb_stream_open(leader: *mut Handle, segments: u32, docs: u32, terms: u32, keep: u32) -> u32;
@@ -18,6 +18,9 @@ extern "C" {
     fn eb_follower_ask_line(follower: *mut Handle, line: *const u8, line_len: usize, ids: *mut u64, ids_len: usize, answer: *mut Told) -> u32;
     fn eb_follower_ask_text(
         follower: *mut Handle, k: u32, text: *const u8, text_len: usize, ids: *mut u64, ids_len: usize, answer: *mut Told,
+    ) -> u32;
+    fn eb_follower_count_text(
+        follower: *mut Handle, text: *const u8, text_len: usize, start: u64, width: u64, buckets: *mut u64, buckets_len: usize, count: *mut Counted,
     ) -> u32;
     fn eb_follower_seen(follower: *mut Handle, seen: *mut u64) -> u32;
     fn eb_follower_held(follower: *mut Handle, held: *mut u64) -> u32;
@@ -194,6 +197,27 @@ impl Follower {
         let at = self.side.at();
         // SAFETY: a handle that no other call has, the bytes of a line, and the room for the ids.
         self.room.answer(|ids, len, told| unsafe { eb_follower_ask_line(at, line.as_ptr(), line.len(), ids, len, told) })
+    }
+
+    /// Counts all messages that match a query, among the documents over which [`Follower::search`] would answer.
+    pub fn count(&mut self, query: &str) -> Result<Count, Refusal> {
+        self.histogram(query, 0, 1, 0)
+    }
+
+    /// Counts as [`Follower::count`] does, and how many of the matches have an id in each of `number` buckets, as
+    /// [`Index::histogram`](crate::Index::histogram) does.
+    ///
+    /// ```
+    /// # let mut leader = earlybird::stream::open(1, 10, 1024, 2)?;
+    /// # let mut follower = leader.follower()?;
+    /// leader.add(130, "error")?;
+    /// assert_eq!(follower.histogram("error", 100, 20, 2)?.buckets, [0, 1]);
+    /// # Ok::<(), earlybird::Refusal>(())
+    /// ```
+    pub fn histogram(&mut self, query: &str, start: u64, width: u64, number: usize) -> Result<Count, Refusal> {
+        let at = self.side.at();
+        // SAFETY: a handle that no other call has, the bytes of a query, and the room for the buckets.
+        counted(number, |buckets, len, count| unsafe { eb_follower_count_text(at, query.as_ptr(), query.len(), start, width, buckets, len, count) })
     }
 
     /// How many documents of the leader it knows.

@@ -70,7 +70,7 @@ fn fresh(alloc: Global, axis: Axis, number: usize) -> Result<Tally, NoMemory>
 }
 
 // What a question asks to count, in so many buckets.
-pub(crate) fn counting(alloc: Global, read: Question, axis: Axis, number: usize) -> Counting
+pub(crate) fn prepare(alloc: Global, read: Question, axis: Axis, number: usize) -> Counting
     ensures wanted { (wanted result ≡ refused Refusal.NoMemory 0) ⊎ (wanted result ≡ in_buckets axis.width number (asked_of read)) }
     ensures prepared { IsPrepared axis number result }
 {

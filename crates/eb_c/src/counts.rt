@@ -10,7 +10,7 @@ ghost use Rattle.eb_c.specs.Holding.{IsBegunIndex, Holds, IsIndex};
 ghost use Rattle.eb_c.specs.Sharing.{kind_of, LeadsToReader};
 ghost use Rattle.eb_c.specs.Streaming.{LeadsToFollower, Follows};
 
-use crate::counting::{Axis, Count, Counting, count_read, counting, nothing, put_counts};
+use crate::counting::{Axis, Count, Counting, count_read, nothing, prepare, put_counts};
 use crate::handle::{BAD_HANDLE, Handle};
 use crate::held::Held;
 use crate::index::Index;
@@ -39,7 +39,7 @@ pub extern "C" fn eb_count_text(
         → Counts (TextAsks 1 text.now) docs (record { start = start; width = width }) result count.new buckets.old buckets.new }
 {
     let axis = Axis { start, width };
-    let asked = counting(alloc, question_in_text(alloc, 1, text), axis, buckets.len());
+    let asked = prepare(alloc, question_in_text(alloc, 1, text), axis, buckets.len());
     count_read(words, index, asked, axis, buckets, count)
 }
 
@@ -67,7 +67,7 @@ pub extern "C" fn eb_reader_count_text(
     };
     let mut held = held;
     let axis = Axis { start, width };
-    let asked = counting(alloc, question_in_text(alloc, 1, text), axis, buckets.len());
+    let asked = prepare(alloc, question_in_text(alloc, 1, text), axis, buckets.len());
     let number = count_by_reader(&mut held, asked, axis, buckets, count);
     *reader = Handle::of(held);
     number
@@ -132,7 +132,7 @@ pub extern "C" fn eb_follower_count_text(
     };
     let mut held = held;
     let axis = Axis { start, width };
-    let asked = counting(alloc, question_in_text(alloc, 1, text), axis, buckets.len());
+    let asked = prepare(alloc, question_in_text(alloc, 1, text), axis, buckets.len());
     let number = count_by_follower(&mut held, asked, axis, buckets, count);
     *follower = Handle::of(held);
     number

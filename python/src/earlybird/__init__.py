@@ -12,7 +12,7 @@ Where one thread adds while others search, `Writer` opens an index that they sha
 A message can be found as soon as `add` returns, and the newest matches come first. Queries are those of the program `earlybird`
 (docs/QUERIES.md), and so are the refusals, each an exception of its name.
 """
-from earlybird._index import Answer, Index, Segment
+from earlybird._index import Answer, Count, Histogram, Index, Segment
 from earlybird._refusals import (
     BadDocument,
     BadHandle,
@@ -33,8 +33,10 @@ from earlybird._refusals import (
 from earlybird._shared import Converter, Reader, Writer
 from earlybird._stream import Follower, Leader, Released, Spare
 
+__version__ = "0.5.0"
+
 __all__ = [
-    "Answer", "BadDocument", "BadHandle", "BadJson", "BadLine", "BadNumber", "BadQuery", "BadSetting", "BadText", "Converter", "Follower",
-    "Full", "Index", "Leader", "LongLine", "NoMemory", "QueryTooDeep", "QueryTooLarge", "Reader", "Refused", "Released", "Segment", "Spare", "TooLong",
+    "Answer", "BadDocument", "BadHandle", "BadJson", "BadLine", "BadNumber", "BadQuery", "BadSetting", "BadText", "Converter", "Count",
+    "Follower", "Full", "Histogram", "Index", "Leader", "LongLine", "NoMemory", "QueryTooDeep", "QueryTooLarge", "Reader", "Refused", "Released", "Segment", "Spare", "TooLong",
     "Writer",
 ]

@@ -1,10 +1,10 @@
 """What is common to the objects that threads share, each of which has a handle."""
 import ctypes
 import threading
-from typing import Any, Tuple
+from typing import Any, List, Tuple
 
 from earlybird import _library
-from earlybird._index import MOST_IDS, Answer, bytes_of
+from earlybird._index import MOST_IDS, Answer, Count, Histogram, at_least_one, bytes_of, counted
 from earlybird._refusals import BadDocument, BadNumber, BadSetting, refusal
 
 
@@ -29,6 +29,9 @@ class Side:
 
     def __exit__(self, *_: Any) -> None:
         self.close()
+
+    def __reduce__(self) -> Any:
+        raise TypeError("a %s can't be pickled or copied: its memory belongs to this process" % type(self).__name__)
 
     def __del__(self) -> None:
         self._calls.eb_close(self._at)
@@ -62,7 +65,7 @@ class Asking(Side):
 
     def __init__(self) -> None:
         super().__init__()
-        self._by_text, self._by_line = (getattr(self._calls, self._name + word) for word in ("_ask_text", "_ask_line"))
+        self._by_text, self._by_line, self._by_count = (getattr(self._calls, self._name + word) for word in ("_ask_text", "_ask_line", "_count_text"))
         self._ids, self._told = (ctypes.c_uint64 * MOST_IDS)(), _library.Told()
         self._room = (ctypes.addressof(self._ids), MOST_IDS, ctypes.addressof(self._told))
 
@@ -81,7 +84,25 @@ class Asking(Side):
         with self._alone:
             return self._answer(self._by_line(self._at, line, len(line), *self._room))
 
-    def _count(self, word: str) -> int:
+    def _counted(self, query: str, start: int, width: int, number: int) -> Tuple[List[int], int, int]:
+        with self._alone:
+            return counted(self._done, self._by_count, (self._at,), query, start, width, number)
+
+    def count(self, query: str) -> Count:
+        """Counts all messages that match a query, among those over which `search` would answer.
+
+        Raises what `search` raises for its query.
+        """
+        return Count(*self._counted(query, 0, 0, 0)[1:])
+
+    def histogram(self, query: str, start: int, width: int, number: int) -> Histogram:
+        """Counts as `count` does, and how many of the matches have an id in each of `number` buckets, as `Index.histogram` does.
+
+        Raises `BadNumber` where there is no bucket or the width is 0, and what `search` raises for its query.
+        """
+        return Histogram(*self._counted(query, start, width, at_least_one(number)))
+
+    def _number(self, word: str) -> int:
         count, call = ctypes.c_uint64(), getattr(self._calls, self._name + word)
         with self._alone:
             self._done(call(self._at, ctypes.addressof(count)))

@@ -1,12 +1,13 @@
 """The index, over memory of this process."""
 import ctypes
 import threading
-from typing import Iterable, List, NamedTuple, Tuple, Union
+from typing import Any, Callable, Iterable, List, NamedTuple, Tuple, Union
 
 from earlybird import _library
-from earlybird._refusals import BadDocument, BadNumber, BadSetting, BadText, Refused, refusal
+from earlybird._refusals import BadDocument, BadHandle, BadNumber, BadSetting, BadText, Refused, refusal
 
 MOST_IDS = 1000
+MOST_BUCKETS = 1_000_000
 
 
 class Segment(NamedTuple):
@@ -33,6 +34,21 @@ class Answer(List[int]):
         return "Answer(%s, seen=%d)" % (super().__repr__(), self.seen)
 
 
+class Count(NamedTuple):
+    """How many messages match, of those that were accepted before the count; `seen` says how many these are."""
+
+    total: int
+    seen: int
+
+
+class Histogram(NamedTuple):
+    """How many of the matches have an id in each bucket; `total` and `seen` are those of a `Count`."""
+
+    buckets: List[int]
+    total: int
+    seen: int
+
+
 class Index:
     """An index of `segments` segments, each with room for `docs` messages (1 to 16,777,216) and `terms` distinct words (a power
     of two from 1,024 to 1,048,576). It takes all its memory at once: 58 MiB by default, at most 1 GiB. Any thread may call
@@ -56,7 +72,7 @@ class Index:
         self._ids, self._told = (ctypes.c_uint64 * MOST_IDS)(), _library.Told()
         self._index = (ctypes.addressof(self._words), size, ctypes.addressof(self._numbers))
         self._room = (ctypes.addressof(self._ids), MOST_IDS, ctypes.addressof(self._told))
-        self._alone = threading.Lock()
+        self._alone, self._closed = threading.Lock(), False
         self._done(self._calls.eb_begin(*self._index, *self._setting))
 
     def __repr__(self) -> str:
@@ -64,7 +80,22 @@ class Index:
 
     def _done(self, number: int) -> None:
         if number:
-            raise refusal(number, self._told.column)
+            raise BadHandle() if self._closed else refusal(number, self._told.column)
+
+    def close(self) -> None:
+        """Gives its memory back; it then has no message, and calls that add or ask raise `BadHandle`."""
+        with self._alone:
+            self._closed, self._words, self._numbers = True, (ctypes.c_uint64 * 0)(), _library.Numbers()
+            self._index = (ctypes.addressof(self._words), 0, ctypes.addressof(self._numbers))
+
+    def __enter__(self) -> "Index":
+        return self
+
+    def __exit__(self, *_: Any) -> None:
+        self.close()
+
+    def __reduce__(self) -> Any:
+        raise TypeError("an Index can't be pickled or copied: its memory belongs to this process")
 
     def _answer(self, number: int) -> Answer:
         self._done(number)
@@ -140,6 +171,40 @@ class Index:
                 answers.append(why)
         return answers
 
+    def count(self, query: str) -> Count:
+        """Counts all messages that match a query.
+
+        Raises what `search` raises for its query.
+
+            >>> index = Index()
+            >>> index.add(7, "hello world")
+            >>> index.count("hello OR again")
+            Count(total=1, seen=1)
+        """
+        return Count(*self._counted(query, 0, 0, 0)[1:])
+
+    def histogram(self, query: str, start: int, width: int, number: int) -> Histogram:
+        """Counts all messages that match a query, and how many of them have an id in each of `number` buckets, 1 to 1,000,000: bucket
+        `i` has the ids from `start + i * width` on, `width` of them. Where ids are times, it is a histogram over time.
+
+        Raises `BadNumber` where there is no bucket or the width is 0, and what `search` raises for its query.
+
+            >>> index = Index()
+            >>> index.add_all([(100, "error"), (130, "error"), (160, "error")])
+            []
+            >>> index.histogram("error", start=100, width=60, number=2)
+            Histogram(buckets=[2, 1], total=3, seen=3)
+        """
+        return Histogram(*self._counted(query, start, width, at_least_one(number)))
+
+    def _counted(self, query: str, start: int, width: int, number: int) -> Tuple[List[int], int, int]:
+        with self._alone:
+            return counted(self._done_of, self._calls.eb_count_text, self._index, query, start, width, number)
+
+    def _done_of(self, number: int, column: int) -> None:
+        if number:
+            raise BadHandle() if self._closed else refusal(number, column)
+
     def add_line(self, line: bytes) -> None:
         """Adds the message of a line of `earlybird run`, as `{"id":7,"text":"hello world"}`, without its end.
 
@@ -184,3 +249,21 @@ def bytes_of(text: str) -> bytes:
         return text.encode()
     except UnicodeEncodeError:
         raise BadText() from None
+
+
+def at_least_one(number: int) -> int:
+    """A number of buckets, or `BadNumber`."""
+    if not (isinstance(number, int) and number >= 1):
+        raise BadNumber()
+    return number
+
+
+def counted(
+    done: Callable[[int, int], None], call: Any, at: Tuple[Any, ...], query: str, start: int, width: int, number: int
+) -> Tuple[List[int], int, int]:
+    """What a call counts of a query in so many buckets: their numbers, the total, and how many messages there are."""
+    if not all(isinstance(it, int) and 0 <= it <= most for it, most in ((start, 2**64 - 1), (width, 2**64 - 1), (number, MOST_BUCKETS))):
+        raise BadNumber()
+    data, buckets, told = bytes_of(query), (ctypes.c_uint64 * number)(), _library.Counted()
+    done(call(*at, data, len(data), start, width, ctypes.addressof(buckets), number, ctypes.addressof(told)), told.column)
+    return buckets[:], told.total, told.seen

@@ -20,6 +20,10 @@ class Told(ctypes.Structure):
     _fields_ = [("seen", ctypes.c_uint64), ("count", ctypes.c_uint64), ("column", ctypes.c_uint64)]
 
 
+class Counted(ctypes.Structure):
+    _fields_ = [("seen", ctypes.c_uint64), ("total", ctypes.c_uint64), ("column", ctypes.c_uint64)]
+
+
 class Handle(ctypes.Structure):
     _fields_ = [("at", ctypes.c_void_p), ("kind", ctypes.c_uint32)]
 
@@ -30,6 +34,7 @@ def load() -> ctypes.CDLL:
     u32, u64, size, pointer = ctypes.c_uint32, ctypes.c_uint64, ctypes.c_size_t, ctypes.c_void_p
     text = [ctypes.c_char_p, size]
     index, ids = [pointer, size, pointer], [pointer, size, pointer]
+    counts = [*text, u64, u64, pointer, size, pointer]
     for name, result, arguments in [
         ("eb_words", u64, [u32, u32, u32]),
         ("eb_begin", u32, [*index, u32, u32, u32]),
@@ -37,6 +42,7 @@ def load() -> ctypes.CDLL:
         ("eb_add_text", u32, [*index, u64, *text]),
         ("eb_ask_line", u32, [*index, *text, *ids]),
         ("eb_ask_text", u32, [*index, u32, *text, *ids]),
+        ("eb_count_text", u32, [*index, *counts]),
         ("eb_documents", u64, [pointer]),
         ("eb_segments", u32, [pointer]),
         ("eb_last_segment", None, [pointer, pointer]),
@@ -46,6 +52,7 @@ def load() -> ctypes.CDLL:
         ("eb_reader", u32, [pointer, pointer]),
         ("eb_reader_ask_line", u32, [pointer, *text, *ids]),
         ("eb_reader_ask_text", u32, [pointer, u32, *text, *ids]),
+        ("eb_reader_count_text", u32, [pointer, *counts]),
         ("eb_reader_seen", u32, [pointer, pointer]),
         ("eb_converter_convert", u32, [pointer, pointer]),
         ("eb_close", None, [pointer]),
@@ -60,6 +67,7 @@ def load() -> ctypes.CDLL:
         ("eb_follower", u32, [pointer, pointer]),
         ("eb_follower_ask_line", u32, [pointer, *text, *ids]),
         ("eb_follower_ask_text", u32, [pointer, u32, *text, *ids]),
+        ("eb_follower_count_text", u32, [pointer, *counts]),
         ("eb_follower_seen", u32, [pointer, pointer]),
         ("eb_follower_held", u32, [pointer, pointer]),
     ]:

@@ -77,7 +77,7 @@ class Reader(_Known, Asking):
     @property
     def seen(self) -> int:
         """How many messages it knows."""
-        return self._count("_seen")
+        return self._number("_seen")
 
 
 class Converter(Side):

@@ -159,9 +159,9 @@ class Follower(Asking):
     @property
     def seen(self) -> int:
         """How many messages of the leader it knows."""
-        return self._count("_seen")
+        return self._number("_seen")
 
     @property
     def held(self) -> int:
         """How many generations it holds."""
-        return self._count("_held")
+        return self._number("_held")
