@@ -261,7 +261,7 @@ def at_least_one(number: int) -> int:
 def counted(
     done: Callable[[int, int], None], call: Any, at: Tuple[Any, ...], query: str, start: int, width: int, number: int
 ) -> Tuple[List[int], int, int]:
-    """What a call counts of a query in so many buckets: their numbers, the total, and how many messages there are."""
+    """What a call counts of a query in N buckets: their numbers, the total, and how many messages there are."""
     if not all(isinstance(it, int) and 0 <= it <= most for it, most in ((start, 2**64 - 1), (width, 2**64 - 1), (number, MOST_BUCKETS))):
         raise BadNumber()
     data, buckets, told = bytes_of(query), (ctypes.c_uint64 * number)(), _library.Counted()
