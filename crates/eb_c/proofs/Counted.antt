@@ -27,9 +27,9 @@ no_width zero (suc n) k q e low = refl
 no_width (suc w) n k q e low = absurd (omega (arith, e))
 
 pub some_width : (w n k : ℕ) (q : Tree) → ((w ≡ 0) × (0 < n) → ⊥) → asks k q ≡ in_buckets w n (asks k q)
-some_width zero zero k q no = refl
-some_width zero (suc n) k q no = absurd (no (refl, omega arith))
-some_width (suc w) n k q no = refl
+some_width zero zero k q never = refl
+some_width zero (suc n) k q never = absurd (never (refl, omega arith))
+some_width (suc w) n k q never = refl
 
 pub counted_as : (IsAsked : Asked → Type 0) (w n : ℕ) (x y : Asked) → (y ≡ refused refusal.NoMemory 0) ⊎ IsAsked y
     → (x ≡ refused refusal.NoMemory 0) ⊎ (x ≡ in_buckets w n y) → IsCounted IsAsked w n x
