@@ -45,7 +45,7 @@ class Console:
             connection.close()
 
     def post(self, lines):
-        """What is told of lines that are handed in."""
+        """Posts lines, and returns what the console reports of them."""
         return self.ask("POST", "/messages?source=a", b"\n".join(lines))[1]
 
     def found(self, query, most=50):
