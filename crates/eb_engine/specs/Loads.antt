@@ -1,9 +1,10 @@
 -- How many loads a search of one word makes, and one of an and of words.
-use Rattle.std.specs.Prelude.{◌≡◌, ℕ, ◌+◌, ◌≤◌, List, length}
+use Rattle.std.specs.Prelude.{◌≡◌, ℕ, ◌+◌, ◌≤◌, List, length, None}
 use mathlib.Core.List.{IsPrefix}
 use Rattle.eb_base.specs.Document.{Doc}
 use Rattle.eb_base.specs.Setting.{Setting}
 use Rattle.eb_base.specs.Term.{Term}
+use Rattle.eb_place.specs.declared.moment.Documents.{Documents}
 use Rattle.eb_place.specs.declared.moment.Moment.{Moment}
 use Rattle.eb_place.specs.Moments.{IsMoment}
 use Rattle.eb_place.specs.Later.{IsNotBefore}
@@ -41,3 +42,37 @@ pub record IsAndBounded (σ : Setting) (knows : List Doc) (ts : List Term) (ids 
   pub setting : now.setting ≡ σ
   pub knows_now : IsPrefix knows now.documents.accepted
   pub loads : IsWithinAndBound now ts (length knows) ids before after
+
+-- ---- of the writer, which adds nothing meanwhile: its bounds are those of its documents
+
+-- this history is accepted, and nothing is being placed after it
+abbrev pub whole_of : List Doc → Documents
+whole_of docs = record { accepted = docs; current = None }
+
+-- a moment that comes not before another, of the same documents
+pub record IsAlone (was now : Moment) : Type 0 where
+  pub is : IsMoment now
+  pub later : IsNotBefore now was
+  pub documents : now.documents ≡ was.documents
+
+-- a search of the word over this history, of which so many segments were known to be converted when it began, and that answered so many
+-- ids, made no more loads than its bound, between two moments of exactly this history
+pub record IsBoundedAlone (σ : Setting) (docs : List Doc) (converted : ℕ) (t : Term) (ids before after : ℕ) : Type 0 where
+  pub was : Moment
+  pub now : Moment
+  pub is : IsMoment now
+  pub later : IsNotBefore now was
+  pub setting : now.setting ≡ σ
+  pub documents_then : was.documents ≡ whole_of docs
+  pub documents : now.documents ≡ whole_of docs
+  pub packed_then : converted ≤ was.conversions.converted
+  pub loads : IsWithinBound was now t (length docs) ids before after
+
+-- a search of an and of the words over this history that answered so many ids made no more loads than its bound, at a moment of exactly
+-- this history
+pub record IsAndBoundedAlone (σ : Setting) (docs : List Doc) (ts : List Term) (ids before after : ℕ) : Type 0 where
+  pub now : Moment
+  pub is : IsMoment now
+  pub setting : now.setting ≡ σ
+  pub documents : now.documents ≡ whole_of docs
+  pub loads : IsWithinAndBound now ts (length docs) ids before after

@@ -1,5 +1,5 @@
 //! What is done through a seat at the words: searches, adds and conversions.
-ghost use Rattle.std.specs.Prelude.{◌≡◌, ℕ, List, ◌+◌, ◌-◌, ◌++◌, ◌<◌, ◌≤◌, length, take, IfOk, OnErr};
+ghost use Rattle.std.specs.Prelude.{◌≡◌, ℕ, List, ◌+◌, ◌-◌, ◌++◌, ◌<◌, ◌≤◌, length, take, None, IfOk, OnErr};
 ghost use Rattle.eb_base.specs.Match.{answer};
 ghost use Rattle.eb_base.specs.Query.{word, conjunction};
 ghost use Rattle.eb_convert.specs.Converting.{IsConversion};
@@ -7,10 +7,12 @@ ghost use Rattle.eb_cursor.specs.AndCosts.{word_parts};
 ghost use Rattle.eb_count.specs.Tallies.{HasCounted};
 ghost use Rattle.eb_cursor.specs.Frames.{query_of, k_of, ids_of, SeenAs};
 ghost use Rattle.eb_place.specs.Later.{IsNotBefore};
-ghost use Rattle.eb_place.specs.Room.{HasRoom};
-ghost use Rattle.eb_engine.specs.Loads.{IsWithinBound, IsWithinAndBound};
+ghost use Rattle.eb_place.specs.declared.moment.Moment.{Moment};
+ghost use Rattle.eb_place.specs.Room.{cut, HasRoom};
+ghost use Rattle.eb_engine.specs.Loads.{IsWithinBound, IsWithinAndBound, IsAlone};
 ghost use Rattle.eb_search.specs.Counted.{CountedOn, CountedLikely};
 ghost use Rattle.eb_search.specs.Searched.{Searched, SearchedLikely};
+ghost use Rattle.eb_search.specs.Visible.{AreNone};
 ghost use Rattle.eb_table.specs.Known.{MadeWith};
 ghost use Rattle.eb_writer.specs.Progress.{PlacerStands, HasNoRoom};
 ghost use Rattle.eb_writer.specs.Storing.{IsAccepted};
@@ -70,6 +72,65 @@ pub(crate) fn search_words_likely<G: Gate, L: Ledger>(
 {
     let mut port = ReaderPort { seat, words };
     search_likely(&mut port, frame, gate, likely, steps)
+}
+
+// A search by a reader's seat that the writer's seat gives away and takes in again. Nothing is added meanwhile, so the reader finds
+// exactly what the writer knows.
+pub(crate) fn search_alone<G: Gate, L: Ledger>(
+    seat: &mut WriterSeat,
+    words: &SharedWords,
+    frame: &mut Frame,
+    gate: &G,
+    steps: &mut Steps<L>,
+) -> u64
+    requires made { MadeWith seat.old words.now }
+    requires idle { seat.old.moment.documents.current ≡ None }
+    ensures made { MadeWith seat.new words.now }
+    ensures later { IsNotBefore seat.new.moment seat.old.moment }
+    ensures documents { seat.new.moment.documents ≡ seat.old.moment.documents }
+    ensures query { query_of frame.new ≡ query_of frame.old }
+    ensures k { k_of frame.new ≡ k_of frame.old }
+    ensures count { result ≡ length seat.old.moment.documents.accepted }
+    ensures ids { ids_of frame.new ≡ answer (query_of frame.old) (k_of frame.old) seat.old.moment.documents.accepted }
+    ensures loads { (t : List ℕ) → query_of frame.old ≡ word t → (now : Moment) × IsAlone seat.old.moment now
+        × IsWithinBound seat.old.moment now t result (length (ids_of frame.new)) steps.old steps.new }
+    ensures rounds { (ts : List (List ℕ)) → query_of frame.old ≡ conjunction (word_parts ts) → (now : Moment) × IsAlone seat.old.moment now
+        × IsWithinAndBound now ts result (length (ids_of frame.new)) steps.old steps.new }
+{
+    let mut reader = seat.split(words);
+    let count = search_words(&mut reader, words, frame, gate, steps);
+    seat.meet(words, reader);
+    count
+}
+
+// The same, over all segments but those of which `likely` says false.
+pub(crate) fn search_alone_likely<G: Gate, L: Ledger>(
+    seat: &mut WriterSeat,
+    words: &SharedWords,
+    frame: &mut Frame,
+    gate: &G,
+    likely: &[bool; MAX_SEGMENTS as usize],
+    steps: &mut Steps<L>,
+) -> u64
+    requires made { MadeWith seat.old words.now }
+    requires idle { seat.old.moment.documents.current ≡ None }
+    ensures made { MadeWith seat.new words.now }
+    ensures later { IsNotBefore seat.new.moment seat.old.moment }
+    ensures documents { seat.new.moment.documents ≡ seat.old.moment.documents }
+    ensures query { query_of frame.new ≡ query_of frame.old }
+    ensures k { k_of frame.new ≡ k_of frame.old }
+    ensures count { result ≡ length seat.old.moment.documents.accepted }
+    ensures ids { AreNone (query_of frame.old) (cut words.now.setting seat.old.moment.documents.accepted) likely.now
+        → ids_of frame.new ≡ answer (query_of frame.old) (k_of frame.old) seat.old.moment.documents.accepted }
+    ensures loads { (t : List ℕ) → query_of frame.old ≡ word t → (now : Moment) × IsAlone seat.old.moment now
+        × IsWithinBound seat.old.moment now t result (length (ids_of frame.new)) steps.old steps.new }
+    ensures rounds { (ts : List (List ℕ)) → query_of frame.old ≡ conjunction (word_parts ts) → (now : Moment) × IsAlone seat.old.moment now
+        × IsWithinAndBound now ts result (length (ids_of frame.new)) steps.old steps.new }
+{
+    let mut reader = seat.split(words);
+    let count = search_words_likely(&mut reader, words, frame, gate, likely, steps);
+    seat.meet(words, reader);
+    count
 }
 
 // A search by a reader's seat of exactly the first `count` documents that it knows, after what the frame holds.

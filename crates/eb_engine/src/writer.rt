@@ -8,10 +8,10 @@ ghost use Rattle.eb_cursor.specs.Frames.{query_of, k_of, ids_of, SeenAs};
 ghost use Rattle.eb_place.specs.Moments.{IsMoment, empty_moment};
 ghost use Rattle.eb_place.specs.Room.{cut, HasRoom, has_room};
 ghost use Rattle.eb_search.specs.Visible.{AreNone};
-ghost use Rattle.eb_engine.specs.Loads.{IsBounded, IsAndBounded};
+ghost use Rattle.eb_engine.specs.Loads.{IsBoundedAlone, IsAndBoundedAlone};
 ghost use Rattle.eb_engine.specs.Tokens.{index_of, AreClosed};
 
-use crate::calls::add_to_words;
+use crate::calls::{add_to_words, search_alone, search_alone_likely};
 use crate::converter::Converter;
 use crate::index::Index;
 use crate::reader::Reader;
@@ -120,7 +120,8 @@ impl Writer {
 
     /// Searches the whole history, as one who reads his own writes: a reader that knows the history searches, and is
     /// taken in again. Since no document is added meanwhile, the answer is over exactly the history, and its length is
-    /// the result; else as `Reader::search`. The writer must have been made with this index. Takes no memory.
+    /// the result; else as `Reader::search`, and the bounds on loads are those of moments at which exactly the history is
+    /// stored (`IsBoundedAlone`, `IsAndBoundedAlone`). The writer must have been made with this index. Takes no memory.
     pub fn search<G: Gate, L: Ledger>(
         &mut self,
         index: &Index,
@@ -135,14 +136,11 @@ impl Writer {
         ensures k { k_of frame.new ≡ k_of frame.old }
         ensures ids { ids_of frame.new ≡ answer (query_of frame.old) (k_of frame.old) self.new.docs }
         ensures loads { (t : List ℕ) → query_of frame.old ≡ word t
-            → IsBounded index.now.setting self.new.docs self.new.converted self.new.docs t (length (ids_of frame.new)) steps.old steps.new }
+            → IsBoundedAlone index.now.setting self.new.docs self.new.converted t (length (ids_of frame.new)) steps.old steps.new }
         ensures rounds { (ts : List (List ℕ)) → query_of frame.old ≡ conjunction (word_parts ts)
-            → IsAndBounded index.now.setting self.new.docs ts (length (ids_of frame.new)) steps.old steps.new }
+            → IsAndBoundedAlone index.now.setting self.new.docs ts (length (ids_of frame.new)) steps.old steps.new }
     {
-        let mut reader = self.reader(index);
-        let count = reader.search(index, frame, gate, steps);
-        self.meet(index, reader);
-        count
+        search_alone(&mut self.seat, &index.words, frame, gate, steps)
     }
 
     /// Searches as [`Writer::search`] does, over all segments but those of which `likely` says false: the answer is that
@@ -164,14 +162,11 @@ impl Writer {
         ensures ids { AreNone (query_of frame.old) (cut index.now.setting self.new.docs) likely.now
             → ids_of frame.new ≡ answer (query_of frame.old) (k_of frame.old) self.new.docs }
         ensures loads { (t : List ℕ) → query_of frame.old ≡ word t
-            → IsBounded index.now.setting self.new.docs self.new.converted self.new.docs t (length (ids_of frame.new)) steps.old steps.new }
+            → IsBoundedAlone index.now.setting self.new.docs self.new.converted t (length (ids_of frame.new)) steps.old steps.new }
         ensures rounds { (ts : List (List ℕ)) → query_of frame.old ≡ conjunction (word_parts ts)
-            → IsAndBounded index.now.setting self.new.docs ts (length (ids_of frame.new)) steps.old steps.new }
+            → IsAndBoundedAlone index.now.setting self.new.docs ts (length (ids_of frame.new)) steps.old steps.new }
     {
-        let mut reader = self.reader(index);
-        let count = reader.search_likely(index, frame, gate, likely, steps);
-        self.meet(index, reader);
-        count
+        search_alone_likely(&mut self.seat, &index.words, frame, gate, likely, steps)
     }
 
     /// Counts, in the tally, all matches among the whole history, after what the tally held: a reader that knows the history

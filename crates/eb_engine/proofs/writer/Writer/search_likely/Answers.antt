@@ -1,36 +1,42 @@
-use Rattle.std.proofs.Common.{◌≡◌, ℕ, List, length, ap, sym, ◌∙◌, subst}
-use mathlib.Core.List.{IsPrefix}
+use Rattle.std.proofs.Common.{ℕ, List, length, ap, sym, ◌∙◌, subst}
 use Rattle.eb_base.specs.Document.{Doc}
-use Rattle.eb_base.specs.Match.{answer}
-use Rattle.eb_cursor.specs.Frames.{query_of, k_of, ids_of}
-use Rattle.eb_place.specs.Room.{cut}
-use Rattle.eb_search.specs.Visible.{AreNone}
-use Rattle.eb_engine.specs.Loads.{IsBounded, IsAndBounded}
+use Rattle.eb_cursor.specs.Frames.{ids_of}
+use Rattle.eb_place.specs.declared.moment.Documents.{Documents}
+use Rattle.eb_table.specs.Known.{Words}
 use Rattle.eb_engine.specs.Tokens.{HistoryToken}
-use Rattle.eb_engine.proofs.Knows.{same_fronts}
+use Rattle.eb_engine.proofs.Alone.{whole, bounded_alone, and_bounded_alone}
+use Rattle.eb_engine.proofs.Knows.{stays, packed_rises}
 use Rattle.eb_engine.proofs.writer.Writer.search_likely.Goals as goal
 
-pub returns-clause-ids : goal.returns-clause-ids
-returns-clause-ids g c =
-    let q = query_of c.args.frame.now in
-    let k = k_of c.args.frame.now in
-    let told = ap (λ (t : HistoryToken). t.docs) (sym (c.meet.ensures.this ∙ c.reader-reader.ensures.this ∙ sym c.reader-reader.ensures.reader)) in
-    let front = subst (λ (docs : List Doc). IsPrefix docs c.search_likely-count.new.self.docs) told c.search_likely-count.ensures.known in
-    subst (λ (docs : List Doc). AreNone q (cut c.args.index.now.setting docs) c.args.likely.now → ids_of c.search_likely-count.new.frame ≡ answer q k docs)
-    (same_fronts _ _ c.meet.ensures.reader front) c.search_likely-count.ensures.ids
+pub invariant_of-self : goal.invariant_of-self
+invariant_of-self g c =
+    let i = c.self.invariant in
+    let old = c.self.inside.seat.moment in
+    let e = c.search_alone_likely.ensures in
+    let new = c.search_alone_likely.new.seat.moment in
+    let s = stays c.self.inside.placer old new e.made.moment e.later e.documents i.1 in
+    (s.0, s.1, packed_rises old new c.self.inside.converted e.later i.2)
 
 pub returns-clause-loads : goal.returns-clause-loads
 returns-clause-loads g c = λ t is.
-    let told = ap (λ (t : HistoryToken). t.docs) (sym (c.meet.ensures.this ∙ c.reader-reader.ensures.this ∙ sym c.reader-reader.ensures.reader)) in
-    let front = subst (λ (docs : List Doc). IsPrefix docs c.search_likely-count.new.self.docs) told c.search_likely-count.ensures.known in
-    let same = same_fronts _ _ c.meet.ensures.reader front in
-    let packed = ap (λ (t : HistoryToken). t.converted) (sym (c.meet.ensures.this ∙ c.reader-reader.ensures.this ∙ sym c.reader-reader.ensures.reader)) in
-    subst (λ (x : List Doc × ℕ × List Doc). IsBounded c.args.index.now.setting x.0 x.1 x.2 t (length (ids_of c.search_likely-count.new.frame)) c.args.steps.now c.search_likely-count.new.steps)
-    (λ i. (told i, packed i, same i)) (c.search_likely-count.ensures.loads t is)
+    let was = c.self.inside.seat.moment in
+    let i = c.self.invariant in
+    let e = c.search_alone_likely.ensures in
+    let here = ap (λ (w : Words). w.setting) (ap (λ (t : HistoryToken). t.index) c.self.view_is ∙ c.requires) in
+    let docs : List Doc = c.search_alone_likely.new.seat.moment.documents.accepted in
+    let all = whole docs was.documents (ap (λ (x : Documents). x.accepted) (sym e.documents)) i.1.idle in
+    let a = e.loads t is in
+    let ids = length (ids_of c.search_alone_likely.new.frame) in
+    bounded_alone was a.0 c.args.index.now.setting docs here all a.1 c.self.inside.converted c.search_alone_likely.result t ids c.args.steps.now c.search_alone_likely.new.steps i.2 e.count a.2
 
 pub returns-clause-rounds : goal.returns-clause-rounds
 returns-clause-rounds g c = λ ts is.
-    let told = ap (λ (t : HistoryToken). t.docs) (sym (c.meet.ensures.this ∙ c.reader-reader.ensures.this ∙ sym c.reader-reader.ensures.reader)) in
-    let front = subst (λ (docs : List Doc). IsPrefix docs c.search_likely-count.new.self.docs) told c.search_likely-count.ensures.known in
-    subst (λ (docs : List Doc). IsAndBounded c.args.index.now.setting docs ts (length (ids_of c.search_likely-count.new.frame)) c.args.steps.now c.search_likely-count.new.steps)
-    (same_fronts _ _ c.meet.ensures.reader front) (c.search_likely-count.ensures.rounds ts is)
+    let was = c.self.inside.seat.moment in
+    let i = c.self.invariant in
+    let e = c.search_alone_likely.ensures in
+    let here = ap (λ (w : Words). w.setting) (ap (λ (t : HistoryToken). t.index) c.self.view_is ∙ c.requires) in
+    let docs : List Doc = c.search_alone_likely.new.seat.moment.documents.accepted in
+    let all = whole docs was.documents (ap (λ (x : Documents). x.accepted) (sym e.documents)) i.1.idle in
+    let a = e.rounds ts is in
+    let ids = length (ids_of c.search_alone_likely.new.frame) in
+    and_bounded_alone was a.0 c.args.index.now.setting docs here all a.1 c.search_alone_likely.result ts ids c.args.steps.now c.search_alone_likely.new.steps e.count a.2
