@@ -4,3 +4,7 @@ pub mod Gather
 pub mod Lists
 pub mod Changes
 pub mod Telling
+pub mod Standing
+pub mod Phrases
+pub mod Numbered
+pub mod Windowed

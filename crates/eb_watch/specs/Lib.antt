@@ -6,3 +6,5 @@ pub mod Index
 pub mod Held
 pub mod Seen
 pub mod Faults
+pub mod Message
+pub mod Ends

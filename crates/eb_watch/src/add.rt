@@ -7,7 +7,8 @@ ghost use Rattle.eb_watch.specs.Seen.{watches_of};
 
 use crate::candidates::candidate_numbers;
 use crate::faults::WatchFault;
-use crate::matching::matches;
+use crate::matching::matches_by;
+use crate::message::Message;
 use crate::watches::Watches;
 use eb_base::{Document, Gate, NoMemory};
 use eb_engine::{Index, Writer};
@@ -64,12 +65,16 @@ impl Watches {
         ensures tests { tests.new ≤ tests.old + length (candidates (watches_of self.now) document.now) }
     {
         let candidates = candidate_numbers(alloc, &self.by_term, &self.keyless, document)?;
+        let terms = document.terms().as_slice();
+        let message = Message::new(alloc, terms)?;
+        let mut room = vec![in alloc; 0; terms.len()]?;
+        let ends = room.as_mut_slice();
         let mut numbers = Vec::new(alloc);
         for number in &candidates {
             let Some(watch) = self.by_number.get(number) else {
                 continue;
             };
-            if matches(&watch.query, document, tests) {
+            if matches_by(&watch.query, document, &message, ends, tests) {
                 numbers.push(*number)?;
             }
         }

@@ -5,11 +5,13 @@
 
 mod add;
 mod candidates;
+mod ends;
 mod faults;
 mod index;
 mod key;
 mod laws;
 mod matching;
+mod message;
 mod watch;
 mod watches;
 

@@ -1,4 +1,4 @@
-use Rattle.std.proofs.Common.{◌≡◌, ◌+◌, ◌≤◌, take, filter}
+use Rattle.std.proofs.Common.{◌≡◌, ◌+◌, ◌≤◌, length, take, filter}
 use Rattle.eb_base.specs.Match.{is_match}
 use Rattle.eb_watch.specs.Index.{finds}
 use Rattle.eb_watch.specs.Seen.{watches_of}
@@ -8,3 +8,4 @@ abbrev pub invariant-loop-number : goal.invariant-loop-number
 invariant-loop-number g l =
     (l.numbers.items ≡ filter (finds (λ q. is_match q l.document) (watches_of l.self)) (take l.number-index l.number-items))
     × (l.tests ≤ l.initial.tests + l.number-index)
+    × (length l.ends ≡ length l.document.terms)
