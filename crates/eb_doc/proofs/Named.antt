@@ -1,28 +1,20 @@
 -- What an object tells with one more member.
-use Rattle.std.proofs.Common.{◌≡◌, ℕ, List, option_and_then, codes, sym, ap, ◌∙◌}
+use Rattle.std.proofs.Common.{◌≡◌, ℕ, List, option_and_then, ap, ◌∙◌}
 use Rattle.serde_json.specs.Data.{Data, Members, object, put}
 use Rattle.serde_json.specs.Find.{as_number, as_u64, as_str, get_member}
 use Rattle.serde_json.proofs.Views.{get_member-put, get_member-put_other}
-use Rattle.eb_doc.specs.DocumentLine.{id_in, text_in}
+use Rattle.eb_doc.specs.DocumentLine.{number_in, string_in}
 
-names_differ : codes "id" ≡ codes "text" → ⊥
-names_differ e = cc
+module _ (looked name : List ℕ) (d : Data) (ms : Members) where
+  pub number_here : name ≡ looked → number_in looked (object (put name d ms)) ≡ option_and_then as_u64 (as_number d)
+  number_here e = ap (λ k. option_and_then as_u64 (option_and_then as_number (get_member looked (put k d ms)))) e
+      ∙ ap (λ m. option_and_then as_u64 (option_and_then as_number m)) (get_member-put looked d ms)
 
-pub id_here : (name : List ℕ) (d : Data) (ms : Members) → name ≡ codes "id" → id_in (object (put name d ms)) ≡ option_and_then as_u64 (as_number d)
-id_here name d ms e = ap (λ k. option_and_then as_u64 (option_and_then as_number (get_member (codes "id") (put k d ms)))) e
-    ∙ ap (λ m. option_and_then as_u64 (option_and_then as_number m)) (get_member-put (codes "id") d ms)
+  pub string_here : name ≡ looked → string_in looked (object (put name d ms)) ≡ as_str d
+  string_here e = ap (λ k. option_and_then as_str (get_member looked (put k d ms))) e ∙ ap (λ m. option_and_then as_str m) (get_member-put looked d ms)
 
-pub text_here : (name : List ℕ) (d : Data) (ms : Members) → name ≡ codes "text" → text_in (object (put name d ms)) ≡ as_str d
-text_here name d ms e = ap (λ k. option_and_then as_str (get_member (codes "text") (put k d ms))) e ∙ ap (λ m. option_and_then as_str m) (get_member-put (codes "text") d ms)
+  pub number_stays : (looked ≡ name → ⊥) → number_in looked (object (put name d ms)) ≡ number_in looked (object ms)
+  number_stays other = ap (λ m. option_and_then as_u64 (option_and_then as_number m)) (get_member-put_other looked name d ms other)
 
-pub id_stays : (name : List ℕ) (d : Data) (ms : Members) → (codes "id" ≡ name → ⊥) → id_in (object (put name d ms)) ≡ id_in (object ms)
-id_stays name d ms other = ap (λ m. option_and_then as_u64 (option_and_then as_number m)) (get_member-put_other (codes "id") name d ms other)
-
-pub text_stays : (name : List ℕ) (d : Data) (ms : Members) → (codes "text" ≡ name → ⊥) → text_in (object (put name d ms)) ≡ text_in (object ms)
-text_stays name d ms other = ap (λ m. option_and_then as_str m) (get_member-put_other (codes "text") name d ms other)
-
-pub not_text : (name : List ℕ) → name ≡ codes "id" → codes "text" ≡ name → ⊥
-not_text name e f = names_differ (sym (f ∙ e))
-
-pub not_id : (name : List ℕ) → name ≡ codes "text" → codes "id" ≡ name → ⊥
-not_id name e f = names_differ (f ∙ e)
+  pub string_stays : (looked ≡ name → ⊥) → string_in looked (object (put name d ms)) ≡ string_in looked (object ms)
+  string_stays other = ap (λ m. option_and_then as_str m) (get_member-put_other looked name d ms other)

@@ -1,38 +1,36 @@
--- What a document line is with fields, step by step.
+-- What a document line is by the dialect, step by step.
 use Rattle.std.proofs.Common.{◌≡◌, ℕ, Bool, true, false, List, [], ◌++◌, Option, Some, None, refl, ap, ◌∙◌, append-nil, cond}
-use Rattle.std.specs.Prelude.{Err}
+use Rattle.std.specs.Prelude.{Err, codes}
 use Rattle.serde_json.specs.Data.{Data}
 use Rattle.eb_text.specs.Pieces.{tokens_by}
-use Rattle.eb_text.specs.declared.cutting.Cut.{Cut}
-use Rattle.eb_text.specs.declared.cutting.Cut.TheVariants.{Words}
-use Rattle.eb_fields.specs.Dialect.{Dialect}
+use Rattle.eb_fields.specs.Dialect.{Dialect, plain}
 use Rattle.eb_doc.specs.declared.LineFault.TheVariants.{TooLong, NoMemory}
-use Rattle.eb_doc.specs.DocumentLine.{value_of, id_in, text_in, message, with_members, with_value, document_of}
+use Rattle.eb_doc.specs.DocumentLine.{value_of, number_in, string_in, message, with_members, with_value, document_of}
 use Rattle.eb_doc.specs.FieldTerms.{field_terms, has_long_value}
-use Rattle.eb_doc.specs.WithFields.{message_with, read_with, document_with}
+use Rattle.eb_doc.specs.WithFields.{id_name, text_name, id_in, text_in, message_with, read_with, document_with}
 use Rattle.eb_doc.specs.Laws.{InPlain}
+use Rattle.eb_doc.specs.Looked.{IsLook}
+use Rattle.eb_doc.specs.declared.look.Look.{Look}
 use Rattle.eb_doc.proofs.Reading.{no_memory_message}
 
--- without fields
-abbrev cut_so : Cut → Dialect
-cut_so cut = record { names = []; cut = cut }
+-- where there is no field, the terms of the text are all
+pub no_names : (d : Dialect) (value : Data) (id : ℕ) (text : List ℕ) → d.names ≡ [] → message_with d value (Some id) (Some text) ≡ message id (tokens_by d.cut text)
+no_names d value id text none =
+    ap (λ (ns : List (List ℕ)). cond (has_long_value ns value) (Err TooLong) (message id (tokens_by d.cut text ++ field_terms ns value))) none
+    ∙ ap (message id) (append-nil (tokens_by d.cut text))
 
-same_message : (cut : Cut) (value : Data) (id : Option ℕ) (text : Option (List ℕ)) → message_with (cut_so cut) value id text ≡ with_members cut id text
-same_message cut value (Some id) (Some text) = ap (message id) (append-nil (tokens_by cut text))
-same_message cut value (Some id) None = refl
-same_message cut value None text = refl
+same_message : (value : Data) (id : Option ℕ) (text : Option (List ℕ)) → message_with plain value id text ≡ with_members id text
+same_message value (Some id) (Some text) = no_names plain value id text refl
+same_message value (Some id) None = refl
+same_message value None text = refl
 
-same_reading : (cut : Cut) (value : Option Data) → read_with (cut_so cut) value ≡ with_value cut value
-same_reading cut None = refl
-same_reading cut (Some value) = same_message cut value (id_in value) (text_in value)
-
-pub no_names : (names : List (List ℕ)) (cut : Cut) (line : List ℕ) → names ≡ [] → document_with (record { names = names; cut = cut }) line ≡ with_value cut (value_of line)
-unfolding document_with
-no_names names cut line e = ap (λ (ns : List (List ℕ)). read_with (record { names = ns; cut = cut }) (value_of line)) e ∙ same_reading cut (value_of line)
+same_reading : (value : Option Data) → read_with plain value ≡ with_value value
+same_reading None = refl
+same_reading (Some value) = same_message value (number_in (codes "id") value) (string_in (codes "text") value)
 
 pub in_plain : InPlain
 unfolding document_with document_of
-in_plain line = same_reading Words (value_of line)
+in_plain line = same_reading (value_of line)
 
 pub with_by_value : (d : Dialect) (line : List ℕ) (value : Option Data) → value_of line ≡ value → document_with d line ≡ read_with d value
 unfolding document_with
@@ -54,4 +52,9 @@ document_with-no_memory d line = go (value_of line)
   where
     go : (v : Option Data) → read_with d v ≡ Err NoMemory → ⊥
     go None h = let no : ⊥ = cc in no
-    go (Some v) h = no_memory_with d v (id_in v) (text_in v) h
+    go (Some v) h = no_memory_with d v (id_in d v) (text_in d v) h
+
+-- what is seen of a line by names that are the dialect's
+pub is_look : (how : Dialect) (first second : List ℕ) (seen look : Look) (value : Option Data) → first ≡ id_name how → second ≡ text_name how → seen ≡ look
+    → IsLook first second seen value → IsLook (id_name how) (text_name how) look value
+is_look how first second seen look value e f g h = rw (← e, ← f, ← g) h

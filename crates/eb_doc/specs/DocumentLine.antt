@@ -5,9 +5,7 @@ use Rattle.serde_json.specs.Data.{Data}
 use Rattle.serde_json.specs.Read.{read}
 use Rattle.serde_json.specs.Find.{get, as_number, as_u64, as_str}
 use Rattle.eb_base.specs.Document.{Doc, bytes_of, most_tokens, most_bytes}
-use Rattle.eb_text.specs.Pieces.{tokens_by}
-use Rattle.eb_text.specs.declared.cutting.Cut.{Cut}
-use Rattle.eb_text.specs.declared.cutting.Cut.TheVariants.{Words}
+use Rattle.eb_text.specs.Tokens.{tokens_of}
 use Rattle.eb_doc.specs.declared.LineFault.{LineFault}
 use Rattle.eb_doc.specs.declared.LineFault.TheVariants.{BadJson, BadDocument, TooLong}
 
@@ -15,29 +13,27 @@ use Rattle.eb_doc.specs.declared.LineFault.TheVariants.{BadJson, BadDocument, To
 unfoldable pub value_of : List ℕ → Option Data
 value_of line = if is_utf8 line then read line else None
 
--- the number of the member `id`, and the string of the member `text`; where a name stands twice, the
--- value keeps the last
-abbrev pub id_in : Data → Option ℕ
-id_in value = option_and_then as_u64 (option_and_then as_number (get (codes "id") value))
+-- the number of the member of this name, and its string; where a name stands twice, the value keeps the last
+abbrev pub number_in : List ℕ → Data → Option ℕ
+number_in name value = option_and_then as_u64 (option_and_then as_number (get name value))
 
-abbrev pub text_in : Data → Option (List ℕ)
-text_in value = option_and_then as_str (get (codes "text") value)
+abbrev pub string_in : List ℕ → Data → Option (List ℕ)
+string_in name value = option_and_then as_str (get name value)
 
 -- an id with these terms is a document, unless there are too many terms, or too many bytes in all
 abbrev pub message : ℕ → List (List ℕ) → Result Doc LineFault
 message id terms = if nat_lt most_tokens (length terms) || nat_lt most_bytes (bytes_of terms) then Err TooLong else Ok (record { id = id; terms = terms })
 
--- by how texts are cut
-abbrev pub with_members : Cut → Option ℕ → Option (List ℕ) → Result Doc LineFault
-with_members cut (Some id) (Some text) = message id (tokens_by cut text)
-with_members cut (Some id) None = Err BadDocument
-with_members cut None text = Err BadDocument
+abbrev pub with_members : Option ℕ → Option (List ℕ) → Result Doc LineFault
+with_members (Some id) (Some text) = message id (tokens_of text)
+with_members (Some id) None = Err BadDocument
+with_members None text = Err BadDocument
 
-abbrev pub with_value : Cut → Option Data → Result Doc LineFault
-with_value cut None = Err BadJson
-with_value cut (Some value) = with_members cut (id_in value) (text_in value)
+abbrev pub with_value : Option Data → Result Doc LineFault
+with_value None = Err BadJson
+with_value (Some value) = with_members (number_in (codes "id") value) (string_in (codes "text") value)
 
 -- the document that the line is, with the tokens of its text as terms, or the first refusal:
 --   BadJson without a value, BadDocument where a member is missing or of another kind, TooLong
 unfoldable pub document_of : List ℕ → Result Doc LineFault
-document_of line = with_value Words (value_of line)
+document_of line = with_value (value_of line)

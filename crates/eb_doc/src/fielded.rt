@@ -1,18 +1,19 @@
-//! Document lines with fields.
+//! Document lines by their values.
 ghost use Rattle.std.specs.Prelude.{◌≡◌, ◌⊎◌, Ok, Err, IfOk, IfErr, Some};
 ghost use Rattle.serde_json.specs.View.{view};
 ghost use Rattle.eb_fields.specs.Dialect.{dialect_of};
 ghost use Rattle.eb_doc.specs.WithFields.{document_with, read_with};
 
 use crate::fields::with_fields;
-use crate::{LineFault, id_in, message_of, read_value, text_in};
+use crate::given::{id_in, text_in};
+use crate::{LineFault, message_of, read_value};
 use eb_base::Document;
 use eb_fields::Dialect;
 use eb_text::tokens_by;
 use serde_json::Value;
 use std::alloc::Global;
 
-// The document that a line is with fields, by its value.
+// The document that a line is, by its value.
 pub(crate) fn read_with_fields(
     alloc: Global,
     dialect: Dialect<'_>,
@@ -27,7 +28,7 @@ pub(crate) fn read_with_fields(
     }
 }
 
-// The document that a value is with fields.
+// The document that a value is.
 fn fielded_document(
     alloc: Global,
     dialect: Dialect<'_>,
@@ -37,8 +38,8 @@ fn fielded_document(
     ensures refused { IfErr result (λ fault.
         (fault ≡ LineFault.NoMemory) ⊎ (read_with (dialect_of dialect.entry) (Some (view value.now)) ≡ Err fault)) }
 {
-    let id = id_in(value).ok_or(LineFault::BadDocument)?;
-    let text = text_in(value).ok_or(LineFault::BadDocument)?;
+    let id = id_in(dialect, value).ok_or(LineFault::BadDocument)?;
+    let text = text_in(dialect, value).ok_or(LineFault::BadDocument)?;
     let terms = with_fields(
         alloc,
         dialect.fields,

@@ -1,21 +1,19 @@
 //! Document lines: one JSON object a line (RFC 8259, read by `serde_json`), with a number as its `id`
-//! and a string as its `text`. With fields, the members of their names give terms too, so that a query finds a message
-//! by who wrote it, or in which room.
+//! and a string as its `text`, or as members of other names that a dialect says. With fields, the members of their names give terms too,
+//! so that a query finds a message by who wrote it, or in which room.
 #![tactic(auto)]
 
-ghost use Rattle.std.specs.Prelude.{◌≡◌, ◌⊎◌, Ok, Err, IfOk, IfErr, Some, None, option_map};
-ghost use Rattle.serde_json.specs.Data.{Data};
+ghost use Rattle.std.specs.Prelude.{◌≡◌, ◌⊎◌, Ok, Err, IfOk, IfErr, Some, None, []};
 ghost use Rattle.serde_json.specs.View.{view};
-ghost use Rattle.eb_text.specs.Pieces.{tokens_by as spec_tokens};
-ghost use Rattle.eb_doc.specs.DocumentLine.{document_of, value_of, message, with_value};
-ghost use Rattle.eb_doc.specs.DocumentLine as spec;
+ghost use Rattle.eb_doc.specs.DocumentLine.{document_of, value_of, message};
 ghost use Rattle.eb_doc.specs.WithFields.{document_with};
 ghost use Rattle.eb_fields.specs.Dialect.{dialect_of};
-ghost use Rattle.eb_doc.specs.Seen.{Tells};
+ghost use Rattle.eb_fields.specs.Fields.{names};
 ghost use Rattle.eb_doc.specs.declared.LineFault.TheVariants.{NoMemory as out_of_memory};
 
 mod fielded;
 mod fields;
+mod given;
 mod laws;
 mod look;
 mod members;
@@ -25,12 +23,11 @@ mod seen;
 
 use crate::fielded::read_with_fields;
 pub use crate::fields::MAX_ITEMS;
+use crate::given::{document_by, names_by};
 pub use crate::laws::in_plain;
 use crate::look::{Look, look_at};
-use crate::seen::Members;
 use eb_base::{Document, NoMemory, Terms};
 use eb_fields::Dialect;
-use eb_text::{Cut, tokens_by};
 use json::Scratch;
 use serde_json::Value;
 use std::alloc::Global;
@@ -42,8 +39,8 @@ use std::fmt;
 pub enum LineFault {
     /// The line isn't UTF-8, or isn't one JSON value with nothing after it.
     BadJson,
-    /// The value is no object, its `id` isn't a whole number below 2^64, or its `text` isn't a
-    /// string; a member that is missing counts as of another kind.
+    /// The value is no object, its id isn't a whole number below 2^64 (nor a string of its digits, where a dialect names the id's
+    /// member), or its text isn't a string; a member that is missing counts as of another kind.
     BadDocument,
     /// The text and the fields have 1,025 or more terms, or 16,385 or more bytes of folded terms, or a field has a value of
     /// 129 or more folded bytes.
@@ -95,42 +92,45 @@ impl DocumentReader {
     }
 
     /// The document that a line is, as [`read_document`] says.
-    #[tactic(auto, unfolding(crate::specs::DocumentLine::document_of))]
     pub fn read(&mut self, line: &[u8]) -> Result<Document, LineFault>
         ensures document { IfOk result (λ document. document_of line.now ≡ Ok document) }
         ensures refused { IfErr result (λ fault. (fault ≡ LineFault.NoMemory) ⊎ (document_of line.now ≡ Err fault)) }
     {
-        self.read_cut(Cut::Words, line)
-    }
-
-    // The document that a line is without fields, where texts are cut so.
-    fn read_cut(&mut self, cut: Cut, line: &[u8]) -> Result<Document, LineFault>
-        ensures document { IfOk result (λ document. with_value cut (value_of line.now) ≡ Ok document) }
-        ensures refused { IfErr result (λ fault. (fault ≡ LineFault.NoMemory) ⊎ (with_value cut (value_of line.now) ≡ Err fault)) }
-    {
-        match look_at(line, &mut self.scratch) {
-            Ok(Look::Object(found)) => document_by(self.alloc, cut, found),
-            Ok(Look::NoJson) => Err(LineFault::BadJson),
-            Ok(Look::Other) => read_by_value(self.alloc, cut, line),
-            Err(NoMemory) => Err(LineFault::NoMemory),
-        }
+        self.read_with(Dialect::plain(), line)
     }
 
     /// The document that a line is where lines are read so: with the tokens of its text, cut as the dialect says, and the terms of its
     /// fields behind them, name by name: of a
     /// member of such a name that is a string, a whole number or a boolean, the term of the name and the value; of an
     /// array of at most [`MAX_ITEMS`] of these, the terms of all. A number stands in decimal, and a boolean as `true` or
-    /// `false`. A member that is missing or anything else gives no term. Else as [`read_document`] says; a value of
-    /// more than 128 folded bytes is `TooLong`.
+    /// `false`. A member that is missing or anything else gives no term; a value of more than 128 folded bytes is `TooLong`. Where the
+    /// dialect names the member that is the id, its value is a whole number below 2^64, or a string of one to twenty digits of such a
+    /// value, leading zeros allowed; the member `id` is then one like others. Where it names the member that is the text, so is `text`.
+    /// Both names may be the same, and names of fields too. Else as [`read_document`] says.
     pub fn read_with(&mut self, dialect: Dialect<'_>, line: &[u8]) -> Result<Document, LineFault>
         ensures document { IfOk result (λ document. document_with (dialect_of dialect.entry) line.now ≡ Ok document) }
         ensures refused { IfErr result (λ fault.
             (fault ≡ LineFault.NoMemory) ⊎ (document_with (dialect_of dialect.entry) line.now ≡ Err fault)) }
     {
         if dialect.fields.is_none() {
-            return self.read_cut(dialect.cut, line);
+            return self.read_quickly(dialect, line);
         }
         read_with_fields(self.alloc, dialect, line)
+    }
+
+    // The document that a line is where there is no field: what is seen of its members tells it.
+    fn read_quickly(&mut self, dialect: Dialect<'_>, line: &[u8]) -> Result<Document, LineFault>
+        requires { names dialect.fields ≡ [] }
+        ensures document { IfOk result (λ document. document_with (dialect_of dialect.entry) line.now ≡ Ok document) }
+        ensures refused { IfErr result (λ fault.
+            (fault ≡ LineFault.NoMemory) ⊎ (document_with (dialect_of dialect.entry) line.now ≡ Err fault)) }
+    {
+        match look_at(line, &mut self.scratch, names_by(dialect)) {
+            Ok(Look::Object(found)) => document_by(self.alloc, dialect, found),
+            Ok(Look::NoJson) => Err(LineFault::BadJson),
+            Ok(Look::Other) => read_with_fields(self.alloc, dialect, line),
+            Err(NoMemory) => Err(LineFault::NoMemory),
+        }
     }
 }
 
@@ -147,31 +147,6 @@ pub fn read_document(alloc: Global, line: &[u8]) -> Result<Document, LineFault>
     reader.read(line)
 }
 
-// The document that a line is, by its value.
-fn read_by_value(alloc: Global, cut: Cut, line: &[u8]) -> Result<Document, LineFault>
-    ensures document { IfOk result (λ document. with_value cut (value_of line.now) ≡ Ok document) }
-    ensures refused { IfErr result (λ fault. (fault ≡ LineFault.NoMemory) ⊎ (with_value cut (value_of line.now) ≡ Err fault)) }
-{
-    match read_value(alloc, line) {
-        Ok(value) => document_in(alloc, cut, &value),
-        Err(fault) => Err(fault),
-    }
-}
-
-// The document of an object of which this is seen.
-fn document_by(alloc: Global, cut: Cut, found: Members<'_>) -> Result<Document, LineFault>
-    ensures document { IfOk result (λ document. (d : Data) → Tells found.entry d → with_value cut (Some d) ≡ Ok document) }
-    ensures refused { IfErr result (λ fault. (fault ≡ LineFault.NoMemory) ⊎ ((d : Data) → Tells found.entry d → with_value cut (Some d) ≡ Err fault)) }
-{
-    let Some(id) = found.id else {
-        return Err(LineFault::BadDocument);
-    };
-    let Some(text) = found.text else {
-        return Err(LineFault::BadDocument);
-    };
-    make_document(alloc, cut, id, text)
-}
-
 // The JSON value that the line is.
 fn read_value(alloc: Global, line: &[u8]) -> Result<Value, LineFault>
     ensures value { IfOk result (λ value. value_of line.now ≡ Some (view value)) }
@@ -186,39 +161,6 @@ fn read_value(alloc: Global, line: &[u8]) -> Result<Value, LineFault>
             Err(LineFault::BadJson)
         }
     }
-}
-
-// The number of the member `id`.
-fn id_in(value: &Value) -> Option<u64>
-    ensures { result ≡ spec.id_in (view value.now) }
-{
-    value.get("id").and_then(Value::as_u64)
-}
-
-// The string of the member `text`.
-fn text_in(value: &Value) -> Option<&str>
-    ensures { option_map (λ t. t.now) result ≡ spec.text_in (view value.now) }
-{
-    value.get("text").and_then(Value::as_str)
-}
-
-// The document that a value is.
-fn document_in(alloc: Global, cut: Cut, value: &Value) -> Result<Document, LineFault>
-    ensures document { IfOk result (λ document. with_value cut (Some (view value.now)) ≡ Ok document) }
-    ensures refused { IfErr result (λ fault. (fault ≡ LineFault.NoMemory) ⊎ (with_value cut (Some (view value.now)) ≡ Err fault)) }
-{
-    let id = id_in(value).ok_or(LineFault::BadDocument)?;
-    let text = text_in(value).ok_or(LineFault::BadDocument)?;
-    make_document(alloc, cut, id, text)
-}
-
-// The document with this id and the tokens of this text.
-fn make_document(alloc: Global, cut: Cut, id: u64, text: &str) -> Result<Document, LineFault>
-    ensures document { IfOk result (λ document. message id (spec_tokens cut text.now) ≡ Ok document) }
-    ensures refused { IfErr result (λ fault. (fault ≡ LineFault.NoMemory) ⊎ (message id (spec_tokens cut text.now) ≡ Err fault)) }
-{
-    let terms = tokens_by(alloc, cut, text)?;
-    message_of(id, terms)
 }
 
 // The document with this id and these terms.

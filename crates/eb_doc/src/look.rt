@@ -4,7 +4,7 @@ ghost use Rattle.eb_doc.specs.DocumentLine.{value_of};
 ghost use Rattle.eb_doc.specs.Looked.{IsLook};
 
 use crate::members::read_members;
-use crate::seen::Members;
+use crate::seen::{Members, Names};
 use eb_base::NoMemory;
 use json::{Reader, Scratch, Token};
 
@@ -18,8 +18,12 @@ pub(crate) enum Look<'a> {
     Other,
 }
 
-pub(crate) fn look_at<'a>(line: &'a [u8], scratch: &'a mut Scratch) -> Result<Look<'a>, NoMemory>
-    ensures { IfOk result (λ look. IsLook look (value_of line.now)) }
+pub(crate) fn look_at<'a>(
+    line: &'a [u8],
+    scratch: &'a mut Scratch,
+    names: Names<'_>,
+) -> Result<Look<'a>, NoMemory>
+    ensures { IfOk result (λ look. IsLook names.entry.id.now names.entry.text.now look (value_of line.now)) }
 {
     let Ok(text) = str::from_utf8(line) else {
         return Ok(Look::NoJson);
@@ -30,7 +34,7 @@ pub(crate) fn look_at<'a>(line: &'a [u8], scratch: &'a mut Scratch) -> Result<Lo
     let Some(Token::BeginObject) = reader.next() else {
         return Ok(Look::Other);
     };
-    let Some(found) = read_members(&mut reader, MAX_DEPTH - 1) else {
+    let Some(found) = read_members(&mut reader, MAX_DEPTH - 1, names) else {
         return Ok(Look::NoJson);
     };
     match reader.next() {

@@ -6,14 +6,8 @@ ghost use Rattle.serde_json.specs.Read.{of_json, of_items, of_members, converted
 ghost use Rattle.eb_doc.specs.Seen.{Shows};
 
 use crate::numbers::whole_number;
-use crate::seen::Seen;
+use crate::seen::{NEITHER, Seen};
 use json::{Reader, Token};
-
-// Of a value that is neither.
-const NEITHER: Seen<'static> = Seen {
-    number: None,
-    string: None,
-};
 
 // Passes the value that comes next, whose arrays and objects nest no deeper than this.
 #[cycle(pass)]

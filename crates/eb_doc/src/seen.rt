@@ -7,9 +7,22 @@ pub(crate) struct Seen<'a> {
     pub string: Option<&'a str>,
 }
 
-// What is seen of an object: the number that its last member `id` is, and the string that its last member `text` is.
+// Of a value that is neither, and of a member that is missing.
+pub(crate) const NEITHER: Seen<'static> = Seen {
+    number: None,
+    string: None,
+};
+
+// The names of the members that are looked at: the id, and the text.
+#[derive(Clone, Copy)]
+pub(crate) struct Names<'a> {
+    pub id: &'a str,
+    pub text: &'a str,
+}
+
+// What is seen of an object: its last member that is the id by its name, and its last one that is the text.
 #[derive(Clone, Copy)]
 pub(crate) struct Members<'a> {
-    pub id: Option<u64>,
-    pub text: Option<&'a str>,
+    pub id: Seen<'a>,
+    pub text: Seen<'a>,
 }

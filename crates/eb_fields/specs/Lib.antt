@@ -1,3 +1,5 @@
 pub mod Fields
 pub mod Laws
 pub mod Dialect
+pub mod Digits
+pub mod Ids

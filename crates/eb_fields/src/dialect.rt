@@ -1,5 +1,5 @@
 ghost use Rattle.std.specs.Prelude.{◌≡◌};
-ghost use Rattle.eb_fields.specs.Dialect.{dialect_of, plain};
+ghost use Rattle.eb_fields.specs.Dialect.{dialect_of, plain, uncounted};
 
 use crate::fields::Fields;
 use eb_text::Cut;
@@ -12,16 +12,36 @@ pub struct Dialect<'a> {
     pub fields: Fields<'a>,
     /// How the texts of documents and of queries are cut into tokens.
     pub cut: Cut,
+    /// The name of the member that is a document's id: a whole number, or a string of digits as [`read_id`](crate::read_id) takes it.
+    /// `None`: the member `id`, which is a whole number.
+    pub id: Option<&'a str>,
+    /// The name of the member that is a document's text. `None`: the member `text`.
+    pub text: Option<&'a str>,
+    /// Whether a line may ask for a count: one that begins with `#`.
+    pub counts: bool,
 }
 
 impl<'a> Dialect<'a> {
-    /// No field, and each word a token.
+    /// No field, each word a token, the members `id` and `text`, and no counts.
     pub fn plain() -> Dialect<'a>
         ensures { dialect_of result ≡ plain }
     {
         Dialect {
             fields: Fields::none(),
             cut: Cut::Words,
+            id: None,
+            text: None,
+            counts: false,
+        }
+    }
+
+    /// The same where no line asks for a count.
+    pub fn uncounted(self) -> Dialect<'a>
+        ensures { dialect_of result ≡ uncounted (dialect_of self.entry) }
+    {
+        Dialect {
+            counts: false,
+            ..self
         }
     }
 }

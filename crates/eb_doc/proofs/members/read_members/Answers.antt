@@ -6,7 +6,7 @@ use Rattle.eb_doc.proofs.Values.{member_read, member_refused, key_refused, membe
 use Rattle.eb_doc.proofs.members.read_members.Goals as goal
 
 pub members-init : goal.members-init
-members-init c = (length c.args.reader.now, omega arith, (no_members, refl, record { id = refl; text = refl }))
+members-init c = (length c.args.reader.now, omega arith, (no_members, refl, record { id = record { number = refl; string = refl }; text = record { number = refl; string = refl } }))
 
 pub returns-in_default-clause-err : goal.returns-in_default-clause-err
 returns-in_default-clause-err c =
@@ -36,7 +36,11 @@ members-preserved c =
     let lesser = done.shorter in (
       n - 1,
       omega (arith, l.invariant.1, less, lesser),
-      (put k d old, l.invariant.2.1 ∙ member_read p old n k l.reader s r d (omega (arith, l.invariant.1, less)) named done.ok.1, c.with_member-found.ensures old d l.invariant.2.2 done.ok.2),
+      (
+        put k d old,
+        l.invariant.2.1 ∙ member_read p old n k l.reader s r d (omega (arith, l.invariant.1, less)) named done.ok.1,
+        record { id = c.latest-id.ensures old d l.invariant.2.2.id done.ok.2; text = c.latest-text.ensures old d l.invariant.2.2.text done.ok.2 },
+      ),
     )
 
 pub returns-in_default-pass-clause-err : goal.returns-in_default-pass-clause-err

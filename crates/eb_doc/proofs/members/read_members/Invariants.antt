@@ -10,7 +10,7 @@ invariant-members l =
     (n : ℕ) × (length l.reader ≤ n)
     × ((old : Members) × (converted (λ ms. of_members ms no_members) (members (value l.depth) (length l.initial.reader) l.initial.reader)
     ≡ converted (λ ms. of_members ms old) (members (value l.depth) n l.reader))
-    × Tells l.found (object old))
+    × Tells l.names.id.now l.names.text.now l.found (object old))
 
 abbrev pub decreases-members : goal.decreases-members
 decreases-members l = length l.reader
