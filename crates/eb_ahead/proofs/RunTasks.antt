@@ -33,7 +33,7 @@ run_next tasks at task low is h run =
 abbrev pub raw_reading : Result Doc Other → Reading
 raw_reading (Ok d) = document d
 raw_reading (Err Blank) = blank
-raw_reading (Err (Ask q)) = query q.k (tree q.query)
+raw_reading (Err (Ask q)) = query q.ask (tree q.query)
 raw_reading (Err (Refuse x)) = refused x
 raw_reading (Err Leave) = blank
 
@@ -53,7 +53,7 @@ by_kind other how bad_line bytes task kept h = absurd (kept h)
 
 pub reads_raw : (other : Dialect → List ℕ → Reading → Type 0) (how : Dialect) (l : Line) (task : Result Doc Other) → (IsLeft task → ⊥) → IsTaskOf how l task
     → ReadsWith other how l (raw_reading task)
-reads_raw other how (line bytes) task kept h = by_kind other how (kind_of bytes) bytes task kept h
+reads_raw other how (line bytes) task kept h = by_kind other how (kind_of how bytes) bytes task kept h
 reads_raw other how long_line task kept h = ap raw_reading h
 
 -- ---- what lines print, from one of them on

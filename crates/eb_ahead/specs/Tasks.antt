@@ -26,7 +26,7 @@ line_of held.Long = long_line
 abbrev pub IsTaskOfKind : Dialect → Kind → List ℕ → Result Doc Other → Type 0
 IsTaskOfKind how kind bytes (Ok d) = ReadsByKind how kind bytes (document d)
 IsTaskOfKind how kind bytes (Err Blank) = ReadsByKind how kind bytes blank
-IsTaskOfKind how kind bytes (Err (Ask q)) = MayAsk q.k q.query × ReadsByKind how kind bytes (query q.k (tree q.query))
+IsTaskOfKind how kind bytes (Err (Ask q)) = MayAsk q.ask q.query × ReadsByKind how kind bytes (query q.ask (tree q.query))
 IsTaskOfKind how kind bytes (Err (Refuse x)) = ReadsByKind how kind bytes (refused x)
 IsTaskOfKind how kind bytes (Err Leave) = ⊥
 
@@ -45,7 +45,7 @@ IsTaskBy how bad_line bytes task = IsLeft task
 
 -- this is to be done for a line
 abbrev pub IsTaskOf : Dialect → Line → Result Doc Other → Type 0
-IsTaskOf how (line bytes) task = IsTaskBy how (kind_of bytes) bytes task
+IsTaskOf how (line bytes) task = IsTaskBy how (kind_of how bytes) bytes task
 IsTaskOf how long_line task = task ≡ Err (Refuse LongLine)
 
 -- a line may be among those whose documents are added many at once

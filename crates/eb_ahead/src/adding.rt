@@ -115,7 +115,7 @@ fn work_other<P: Store, G: Gate>(
         }
         Other::Ask(question) => {
             let query = question.query.copy(alloc)?;
-            answering.answer(question.k, query, text)
+            answering.answer(question.ask, query, text)
         }
         Other::Refuse(refusal) => answering.refuse(*refusal, text),
         Other::Leave => match line {

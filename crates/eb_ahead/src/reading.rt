@@ -1,8 +1,9 @@
 //! What lines that wait are read as, by several threads.
-ghost use Rattle.std.specs.Prelude.{◌≡◌, ℕ, ◌+◌, ◌*◌, ◌<◌, ◌≤◌, ◌^◌, ◌++◌, List, IfOk, OnOk, Ok, Some, length, vec_len, take, drop, slice_get};
+ghost use Rattle.std.specs.Prelude.{◌≡◌, ℕ, ◌+◌, ◌*◌, ◌<◌, ◌≤◌, ◌^◌, ◌++◌, List, true, IfOk, OnOk, Ok, length, vec_len, take, drop};
 ghost use Rattle.std.specs.List.{AllZip};
 ghost use Rattle.eb_ahead.specs.Tasks.{line_of, IsTaskOf, IsTaskOfKind, is_run_task, AreRun};
 ghost use Rattle.eb_fields.specs.Dialect.{Dialect as Spoken, dialect_of};
+ghost use Rattle.eb_query.specs.Head.{begins_query};
 ghost use Rattle.eb_ahead.specs.Pieces.{IsPiece, ArePieces};
 ghost use Rattle.eb_io.specs.Lines.{Line, line};
 ghost use Rattle.eb_lines.specs.Kinds.{document_line, query_line};
@@ -14,15 +15,16 @@ use eb_beside::each_place;
 use eb_doc::DocumentReader;
 use eb_fields::Dialect;
 use eb_lines::{LineKind, Refusal, line_kind, read_document_line_by};
+use eb_query::Ask;
 use rayon::current_num_threads;
 use std::alloc::Global;
 use std::thread;
 use std::thread::Threads;
 
-/// A query, and how many matches it asks for.
+/// A query, and what is asked of it.
 #[derive(Drop)]
 pub struct Question {
-    pub(crate) k: u32,
+    pub(crate) ask: Ask,
     pub(crate) query: Query,
 }
 
@@ -65,11 +67,11 @@ fn read_query(
     dialect: Dialect<'_>,
     text: &str,
 ) -> Result<Result<Document, Other>, NoMemory>
-    requires { slice_get text.now 0 ≡ Some 63 }
+    requires { begins_query (dialect_of dialect) text.now ≡ true }
     ensures { IfOk result (IsTaskOfKind (dialect_of dialect.entry) query_line text.now) }
 {
     match read_question(alloc, dialect, text)? {
-        Ok((k, query)) => Ok(Err(Other::Ask(Question { k, query }))),
+        Ok((ask, query)) => Ok(Err(Other::Ask(Question { ask, query }))),
         Err(refusal) => Ok(Err(Other::Refuse(refusal))),
     }
 }
@@ -83,7 +85,7 @@ fn read_bytes(
 ) -> Result<Result<Document, Other>, NoMemory>
     ensures { IfOk result (IsTaskOf (dialect_of dialect.entry) (line bytes.now)) }
 {
-    match line_kind(bytes) {
+    match line_kind(dialect, bytes) {
         LineKind::Blank => Ok(Err(Other::Blank)),
         LineKind::Document => read_document(reader, dialect, bytes),
         LineKind::Query(text) => read_query(alloc, dialect, text),

@@ -18,7 +18,7 @@ module _ (other : Dialect → List ℕ → Reading → Type 0) where
     one_kind how bad_line bytes a b e f = one how bytes a b e f
 
     one_line : (how : Dialect) (l : Line) (a b : Reading) → ReadsWith other how l a → ReadsWith other how l b → a ≡ b
-    one_line how (line bytes) a b e f = one_kind how (kind_of bytes) bytes a b e f
+    one_line how (line bytes) a b e f = one_kind how (kind_of how bytes) bytes a b e f
     one_line how long_line a b e f = e ∙ sym f
 
     raw_one : (how : Dialect) (ls : List Line) (rs ss : List Reading) → AllZip (ReadsWith other how) ls rs → AllZip (ReadsWith other how) ls ss → rs ≡ ss
@@ -42,7 +42,7 @@ module _ (other : Dialect → List ℕ → Reading → Type 0) where
     some_kind how bad_line bytes = some how bytes
 
     some_line : (how : Dialect) (l : Line) → (r : Reading) × ReadsWith other how l r
-    some_line how (line bytes) = some_kind how (kind_of bytes) bytes
+    some_line how (line bytes) = some_kind how (kind_of how bytes) bytes
     some_line how long_line = (refused LongLine, refl)
 
     raw_some : (how : Dialect) (ls : List Line) → (rs : List Reading) × AllZip (ReadsWith other how) ls rs

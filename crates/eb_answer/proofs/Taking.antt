@@ -4,9 +4,9 @@ use Rattle.std.proofs.Common.{◌≡◌, ℕ, ◌+◌, ◌≤◌, List, [], ◌�
 use Rattle.std.specs.Prelude.{◌^◌}
 use Rattle.std.proofs.lemmas.List.Sums.{count_by-le-length}
 use Rattle.eb_base.specs.Document.{Doc}
-use Rattle.eb_base.specs.Match.{answer}
 use Rattle.eb_base.specs.Query.{Tree}
 use Rattle.eb_io.specs.Lines.{Line}
+use Rattle.eb_query.specs.declared.ask.Ask.{Ask}
 use Rattle.eb_lines.specs.declared.form.Form.{Form}
 use Rattle.eb_lines.specs.declared.form.Tail.{Tail}
 use Rattle.eb_lines.specs.declared.refusal.Refusal.{Refusal}
@@ -15,7 +15,7 @@ use Rattle.eb_lines.specs.Passing.{Ends}
 use Rattle.eb_lines.specs.Programs.{IsRunning, WorksOn, Finishes}
 use Rattle.eb_lines.specs.Progress.{documents_in, accepted, queries, refusals, is_query, is_refused, one_if}
 use Rattle.eb_lines.specs.Reading.{Reading, blank, document, query, refused, watch}
-use Rattle.eb_lines.specs.Text.{answer_line, refusal_line, watch_line, summary_with}
+use Rattle.eb_lines.specs.Text.{asked_line, refusal_line, watch_line, summary_with}
 use Rattle.eb_lines.proofs.PassingLines.{ends_at_once}
 use Rattle.eb_lines.proofs.Advancing.{accepted-push, accepted_few, queries-push, refusals-push}
 use Rattle.eb_answer.specs.declared.answering.Answering.{Answering}
@@ -132,13 +132,14 @@ module _ {G S W : Type 0} (other : Dialect → List ℕ → Reading → Type 0) 
         text ∙ ap (λ (f : Form). t0 ++ refusal_line f (old.number + 1) x) (written rules docs ws h.store),
       )
 
-  pub takes_query : (old new : Answering G S) → dialect_of new.dialect ≡ dialect_of old.dialect → (k : ℕ) (q : Tree) (t0 t1 : List ℕ) → PutsAnswer holds old.store new.store (old.number + 1) k q t0 t1
+  pub takes_query : (old new : Answering G S) → dialect_of new.dialect ≡ dialect_of old.dialect → (k : Ask) (q : Tree) (t0 t1 : List ℕ) →
+      PutsAnswer holds old.store new.store (old.number + 1) k q t0 t1
       → new.number ≡ old.number + 1 → old.number ≤ 2 ^ 40 → new.queries ≡ old.queries + 1 → new.refused ≡ old.refused → TakesLine other holds old new t0 t1 (query k q)
   takes_query old new same k q t0 t1 puts number few asked failed = λ l reads rules given so_far h.
       let docs = held_behind rules h.readings in
       let ws = watches_behind rules h.readings in
       let put = puts rules docs ws h.store (few_held old rules given so_far h) in (
-        answer_line rules.form (old.number + 1) (length docs) (answer q k (rules.sees docs)),
+        asked_line rules.form (old.number + 1) (length docs) k q (rules.sees docs),
         one_more old new rules given so_far l (query k q) h reads same (query k q) refl (holds_more holds new.store rules docs ws put.0) number few asked (failed ∙ omega arith),
         put.1,
       )

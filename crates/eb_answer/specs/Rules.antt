@@ -3,7 +3,6 @@ use Rattle.eb_fields.specs.Dialect.{Dialect}
 use Rattle.std.specs.Prelude.{◌≡◌, ℕ, ◌+◌, ◌<◌, List, [], ◌∷◌, ◌++◌, length, Option, Some, None}
 use Rattle.std.specs.List.{AllZip}
 use Rattle.eb_base.specs.Document.{Doc}
-use Rattle.eb_base.specs.Match.{answer}
 use Rattle.eb_base.specs.Query.{Tree}
 use Rattle.eb_io.specs.Lines.{Line, line, long_line}
 use Rattle.eb_lines.specs.declared.form.Form.{Form}
@@ -14,7 +13,7 @@ use Rattle.eb_lines.specs.Kinds.{Kind, blank_line, document_line, query_line, ba
 use Rattle.eb_lines.specs.Progress.{documents_in, accepted, queries, refusals}
 use Rattle.eb_lines.specs.Reading.{Reading, blank, document, query, refused, watch}
 use Rattle.eb_lines.specs.Reads.{ReadsByKind}
-use Rattle.eb_lines.specs.Text.{answer_line, refusal_line, watch_line, summary_with}
+use Rattle.eb_lines.specs.Text.{asked_line, refusal_line, watch_line, summary_with}
 
 -- by which rules a store takes lines, where W is what it holds beside documents: how lines are read; what it holds before the first line; why it
 -- refuses a document after those that it has accepted, if it does, and which watches it tells else; over which of them a query is
@@ -45,7 +44,7 @@ watch_outcome n q (Some r) = refused r
 abbrev pub comes : {W : Type 0} → Rules W → List Doc → W → Reading → Reading
 comes rules docs ws blank = blank
 comes rules docs ws (document d) = document_outcome d (rules.refusal docs d)
-comes rules docs ws (query k q) = query k q
+comes rules docs ws (query a q) = query a q
 comes rules docs ws (refused r) = refused r
 comes rules docs ws (watch n q) = watch_outcome n q (rules.watch_refusal ws n q)
 
@@ -53,7 +52,7 @@ comes rules docs ws (watch n q) = watch_outcome n q (rules.watch_refusal ws n q)
 abbrev pub watches_after : {W : Type 0} → Rules W → W → Reading → W
 watches_after rules ws blank = ws
 watches_after rules ws (document d) = ws
-watches_after rules ws (query k q) = ws
+watches_after rules ws (query a q) = ws
 watches_after rules ws (refused r) = ws
 watches_after rules ws (watch n q) = rules.with_watch ws n q
 
@@ -75,7 +74,7 @@ ReadsKind other how query_line bytes r = ReadsByKind how query_line bytes r
 ReadsKind other how bad_line bytes r = other how bytes r
 
 abbrev pub ReadsWith : (Dialect → List ℕ → Reading → Type 0) → Dialect → Line → Reading → Type 0
-ReadsWith other how (line bytes) r = ReadsKind other how (kind_of bytes) bytes r
+ReadsWith other how (line bytes) r = ReadsKind other how (kind_of how bytes) bytes r
 ReadsWith other how long_line r = r ≡ refused LongLine
 
 -- the lines are read one by one, and come to these
@@ -93,7 +92,7 @@ watches_behind rules rs = watches_from rules rules.watches rs
 abbrev pub says : {W : Type 0} → Rules W → ℕ → List Doc → W → Reading → List ℕ
 says rules number docs ws blank = []
 says rules number docs ws (document d) = watch_line rules.form number (rules.tells ws d)
-says rules number docs ws (query k q) = answer_line rules.form number (length docs) (answer q k (rules.sees docs))
+says rules number docs ws (query a q) = asked_line rules.form number (length docs) a q (rules.sees docs)
 says rules number docs ws (refused r) = refusal_line rules.form number r
 says rules number docs ws (watch n q) = []
 

@@ -1,13 +1,13 @@
 -- What a store does with documents, queries and other lines.
 use Rattle.std.specs.Prelude.{◌≡◌, ℕ, ◌+◌, ◌≤◌, ◌^◌, List, ◌++◌, length, Option, Some, None}
 use Rattle.eb_base.specs.Document.{Doc}
-use Rattle.eb_base.specs.Match.{answer}
 use Rattle.eb_base.specs.Query.{Tree}
+use Rattle.eb_query.specs.declared.ask.Ask.{Ask}
 use Rattle.eb_lines.specs.declared.form.Form.{Form}
 use Rattle.eb_lines.specs.declared.refusal.Refusal.{Refusal}
 use Rattle.eb_lines.specs.Progress.{documents_in}
 use Rattle.eb_lines.specs.Reading.{Reading, blank, document, query, refused, watch}
-use Rattle.eb_lines.specs.Text.{answer_line}
+use Rattle.eb_lines.specs.Text.{asked_line}
 use Rattle.eb_answer.specs.Rules.{Rules, document_outcome, comes, watches_after}
 
 -- the store holds some documents by some rules, of which no more came from lines than an input may have
@@ -32,9 +32,9 @@ abbrev pub Tells : {P W : Type 0} → (P → Rules W → List Doc → W → Type
 Tells {P} {W} holds s d ns = (rules : Rules W) (docs : List Doc) (ws : W) → holds s rules docs ws → ns ≡ rules.tells ws d
 
 -- the answer of line `number` was put after the text
-abbrev pub PutsAnswer : {P W : Type 0} → (P → Rules W → List Doc → W → Type 0) → P → P → ℕ → ℕ → Tree → List ℕ → List ℕ → Type 0
-PutsAnswer {P} {W} holds old new number k q text_old text_new = (rules : Rules W) (docs : List Doc) (ws : W) → holds old rules docs ws → length docs ≤ length rules.start + 2 ^ 41
-    → holds new rules docs ws × (text_new ≡ text_old ++ answer_line rules.form number (length docs) (answer q k (rules.sees docs)))
+abbrev pub PutsAnswer : {P W : Type 0} → (P → Rules W → List Doc → W → Type 0) → P → P → ℕ → Ask → Tree → List ℕ → List ℕ → Type 0
+PutsAnswer {P} {W} holds old new number a q text_old text_new = (rules : Rules W) (docs : List Doc) (ws : W) → holds old rules docs ws → length docs ≤ length rules.start + 2 ^ 41
+    → holds new rules docs ws × (text_new ≡ text_old ++ asked_line rules.form number (length docs) a q (rules.sees docs))
 
 -- a watch line was taken, or a line refused
 abbrev pub IsOutcome : Reading → Option Refusal → Type 0
@@ -44,7 +44,7 @@ IsOutcome (watch n q) (Some r) = ⊥
 IsOutcome (refused x) None = ⊥
 IsOutcome blank r = ⊥
 IsOutcome (document d) r = ⊥
-IsOutcome (query k q) r = ⊥
+IsOutcome (query a q) r = ⊥
 
 -- a line that is neither blank, nor a document or query line was taken, or refused for this cause
 abbrev pub TakesOther : {P W : Type 0} → (P → Rules W → List Doc → W → Type 0) → P → P → Reading → Option Refusal → Type 0

@@ -1,9 +1,10 @@
-ghost use Rattle.std.specs.Prelude.{◌≡◌, ◌+◌, ◌≤◌, ◌^◌, ℕ, List, Some, [], slice_get, OnErr, OnOk};
+ghost use Rattle.std.specs.Prelude.{◌≡◌, ◌+◌, ◌≤◌, ◌^◌, ℕ, List, true, [], OnErr, OnOk};
 ghost use Rattle.eb_answer.specs.Answering.{HasAnswered, TakesLine};
 ghost use Rattle.eb_answer.specs.Questions.{MayAsk};
 ghost use Rattle.eb_answer.specs.Rules.{Rules};
 ghost use Rattle.eb_base.specs.Query.{tree};
 ghost use Rattle.eb_fields.specs.Dialect.{dialect_of};
+ghost use Rattle.eb_query.specs.Head.{begins_query};
 ghost use Rattle.eb_io.specs.Lines.{line};
 ghost use Rattle.eb_lines.specs.Kinds.{document_line, query_line, bad_line, kind_of};
 ghost use Rattle.eb_lines.specs.Programs.{IsRunning, WorksOn, WorksOnGiven};
@@ -19,6 +20,7 @@ use eb_lines::{
     LineKind, LineProgram, Refusal, line_kind, line_room, put_refusal, put_summary, put_watches,
     read_document_line_by,
 };
+use eb_query::Ask;
 use std::alloc::Global;
 
 /// A run over a store between two lines.
@@ -104,17 +106,18 @@ impl<'a, G: Gate, S: Store> Answering<'a, G, S> {
         Ok(())
     }
 
-    /// Answers a query: puts the ids of the newest `k` matches after the text. Where memory doesn't suffice, nothing is done.
-    pub fn answer(&mut self, k: u32, query: Query, text: &mut Vec<u8>) -> Result<(), NoMemory>
+    /// Puts what is asked of a query after the text: the ids of its newest matches, or its counts. Where memory doesn't suffice,
+    /// nothing is done.
+    pub fn answer(&mut self, ask: Ask, query: Query, text: &mut Vec<u8>) -> Result<(), NoMemory>
         requires state { IsRunning (HasAnswered S.other S.holds) self.old }
         requires number { self.old.number ≤ 2 ^ 40 }
-        requires asked { MayAsk k query }
-        ensures ok { OnOk result (TakesLine S.other S.holds self.old self.new text.old.items text.new.items (reads_query k (tree query))) }
+        requires asked { MayAsk ask query }
+        ensures ok { OnOk result (TakesLine S.other S.holds self.old self.new text.old.items text.new.items (reads_query ask (tree query))) }
         ensures err { OnErr result ((self.new ≡ self.old) × (text.new.items ≡ text.old.items)) }
     {
         let number = self.number + 1;
         self.store
-            .answer(self.alloc, number, k, query, self.gate, text)?;
+            .answer(self.alloc, number, ask, query, self.gate, text)?;
         self.number = number;
         self.queries += 1;
         Ok(())
@@ -124,7 +127,7 @@ impl<'a, G: Gate, S: Store> Answering<'a, G, S> {
     pub fn take_other(&mut self, bytes: &[u8], text: &mut Vec<u8>) -> Result<(), NoMemory>
         requires state { IsRunning (HasAnswered S.other S.holds) self.old }
         requires number { self.old.number ≤ 2 ^ 40 }
-        requires kind { kind_of bytes.now ≡ bad_line }
+        requires kind { kind_of (dialect_of self.old.dialect) bytes.now ≡ bad_line }
         ensures ok { OnOk result (WorksOnGiven (HasAnswered S.other S.holds) self.old self.new text.old.items text.new.items (line bytes.now)) }
         ensures err { OnErr result (WorksOn (HasAnswered S.other S.holds) self.old self.new text.old.items text.new.items) }
     {
@@ -145,7 +148,7 @@ impl<'a, G: Gate, S: Store> Answering<'a, G, S> {
     fn take_document(&mut self, bytes: &[u8], text: &mut Vec<u8>) -> Result<(), NoMemory>
         requires state { IsRunning (HasAnswered S.other S.holds) self.old }
         requires number { self.old.number ≤ 2 ^ 40 }
-        requires document { kind_of bytes.now ≡ document_line }
+        requires document { kind_of (dialect_of self.old.dialect) bytes.now ≡ document_line }
         ensures ok { OnOk result (WorksOnGiven (HasAnswered S.other S.holds) self.old self.new text.old.items text.new.items (line bytes.now)) }
         ensures err { OnErr result (WorksOn (HasAnswered S.other S.holds) self.old self.new text.old.items text.new.items) }
     {
@@ -159,13 +162,13 @@ impl<'a, G: Gate, S: Store> Answering<'a, G, S> {
     fn take_query(&mut self, query: &str, text: &mut Vec<u8>) -> Result<(), NoMemory>
         requires state { IsRunning (HasAnswered S.other S.holds) self.old }
         requires number { self.old.number ≤ 2 ^ 40 }
-        requires mark { slice_get query.now 0 ≡ Some 63 }
+        requires mark { begins_query (dialect_of self.old.dialect) query.now ≡ true }
         ensures ok { OnOk result ((r : Reading) × ReadsByKind (dialect_of self.old.dialect) query_line query.now r
             × TakesLine S.other S.holds self.old self.new text.old.items text.new.items r) }
         ensures err { OnErr result ((self.new ≡ self.old) × (text.new.items ≡ text.old.items)) }
     {
         match read_question(self.alloc, self.dialect, query)? {
-            Ok((k, query)) => self.answer(k, query, text),
+            Ok((ask, query)) => self.answer(ask, query, text),
             Err(refusal) => self.refuse(refusal, text),
         }
     }
@@ -193,7 +196,7 @@ impl<G: Gate, S: Store> LineProgram for Answering<'_, G, S> {
     ghost number = { λ p. p.number };
 
     fn take_line(&mut self, bytes: &[u8], text: &mut Vec<u8>) -> Result<(), NoMemory> {
-        match line_kind(bytes) {
+        match line_kind(self.dialect, bytes) {
             LineKind::Blank => {
                 self.pass();
                 Ok(())

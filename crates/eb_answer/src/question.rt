@@ -1,23 +1,24 @@
-ghost use Rattle.std.specs.Prelude.{◌≡◌, Some, IfOk, slice_get};
+ghost use Rattle.std.specs.Prelude.{◌≡◌, true, IfOk};
 ghost use Rattle.eb_answer.specs.Questions.{IsQuestion};
+ghost use Rattle.eb_query.specs.Head.{begins_query};
 ghost use Rattle.eb_fields.specs.Dialect.{dialect_of};
 
 use eb_base::{NoMemory, Query};
 use eb_fields::Dialect;
 use eb_lines::{Refusal, query_refusal};
-use eb_query::read_query_with;
+use eb_query::{Ask, read_ask};
 use std::alloc::Global;
 
-/// The query of a query line, which begins with `?` by this dialect, and how many matches it asks for, or why the line is refused.
+/// What a query line asks by this dialect, and the query of which it asks it, or why the line is refused.
 pub fn read_question(
     alloc: Global,
     dialect: Dialect<'_>,
     text: &str,
-) -> Result<Result<(u32, Query), Refusal>, NoMemory>
-    requires { slice_get text.now 0 ≡ Some 63 }
+) -> Result<Result<(Ask, Query), Refusal>, NoMemory>
+    requires { begins_query (dialect_of dialect) text.now ≡ true }
     ensures { IfOk result (λ read. IsQuestion (dialect_of dialect.entry) text.now read) }
 {
-    match read_query_with(alloc, dialect, text) {
+    match read_ask(alloc, dialect, text) {
         Ok(asked) => Ok(Ok(asked)),
         Err(fault) => Ok(Err(query_refusal(fault)?)),
     }

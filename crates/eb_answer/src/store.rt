@@ -11,6 +11,7 @@ ghost use Rattle.eb_fields.specs.Dialect.{Dialect as Spoken, dialect_of};
 use eb_base::{Document, Gate, NoMemory, Query};
 use eb_fields::Dialect;
 use eb_lines::{Form, Refusal, Tail};
+use eb_query::Ask;
 use std::alloc::Global;
 
 /// What the lines of an input fill and ask.
@@ -44,24 +45,24 @@ pub trait Store {
         bytes: &[u8],
     ) -> Result<Option<Refusal>, NoMemory>
         requires state { IsHolding holds self.old }
-        requires kind { kind_of bytes.now ≡ bad_line }
+        requires kind { kind_of (dialect_of dialect) bytes.now ≡ bad_line }
         ensures ok { IfOk result (λ refusal. (r : Reading) × other (dialect_of dialect.entry) bytes.now r × TakesOther holds self.old self.new r refusal) }
         ensures err { OnErr result (Keeps holds self.old self.new) };
 
-    /// Answers the query of line `number`: puts the ids of the newest `k` matches after the text. Where memory doesn't
-    /// suffice, nothing is done.
+    /// Answers line `number`: puts what it asks of the query after the text, the ids of the newest matches or the counts.
+    /// Where memory doesn't suffice, nothing is done.
     fn answer<G: Gate>(
         &mut self,
         alloc: Global,
         number: u64,
-        k: u32,
+        ask: Ask,
         query: Query,
         gate: &G,
         text: &mut Vec<u8>,
     ) -> Result<(), NoMemory>
         requires state { IsHolding holds self.old }
-        requires asked { MayAsk k query }
-        ensures ok { OnOk result (PutsAnswer holds self.old self.new number k (tree query) text.old.items text.new.items) }
+        requires asked { MayAsk ask query }
+        ensures ok { OnOk result (PutsAnswer holds self.old self.new number ask (tree query) text.old.items text.new.items) }
         ensures err { OnErr result ((self.new ≡ self.old) × (text.new.items ≡ text.old.items)) };
 
     /// The number of documents.

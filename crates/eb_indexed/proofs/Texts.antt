@@ -2,16 +2,15 @@
 use Rattle.std.proofs.Common.{◌≡◌, ℕ, ◌+◌, ◌<◌, ◌≤◌, List, [], ◌∷◌, ◌++◌, length, take, refl, sym, ap, ap₂, ◌∙◌, arith, append_assoc, append-nil}
 use Rattle.std.proofs.lemmas.List.{take-append-le}
 use Rattle.eb_base.specs.Document.{Doc}
-use Rattle.eb_base.specs.Match.{answer}
 use Rattle.eb_lines.specs.declared.form.Form.{Form}
 use Rattle.eb_lines.specs.Reading.{Reading, blank, document, query, refused, watch}
-use Rattle.eb_lines.specs.Text.{answer_line}
+use Rattle.eb_lines.specs.Text.{asked_line}
 use Rattle.eb_indexed.specs.Text.{output_of, body_from}
 
 pub output_same : (form : Form) (number n m : ℕ) (docs docs' : List Doc) (r : Reading) → n ≡ m → take n docs ≡ take n docs' → output_of form number n docs r ≡ output_of form number m docs' r
 output_same form number n m docs docs' blank e f = refl
 output_same form number n m docs docs' (document d) e f = refl
-output_same form number n m docs docs' (query k q) e f = ap₂ (λ s ds. answer_line form number s (answer q k ds)) e (f ∙ ap (λ s. take s docs') e)
+output_same form number n m docs docs' (query k q) e f = ap₂ (λ s ds. asked_line form number s k q ds) e (f ∙ ap (λ s. take s docs') e)
 output_same form number n m docs docs' (refused x) e f = refl
 output_same form number n m docs docs' (watch w q) e f = refl
 

@@ -11,7 +11,7 @@ use Rattle.eb_lines.specs.Progress.{documents_in}
 abbrev pub admit : Setting → List Doc → Reading → Reading
 admit σ docs blank = blank
 admit σ docs (document d) = if has_room σ docs d then document d else refused Full
-admit σ docs (query k q) = query k q
+admit σ docs (query a q) = query a q
 admit σ docs (refused r) = refused r
 admit σ docs (watch n q) = watch n q
 

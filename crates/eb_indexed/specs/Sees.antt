@@ -28,14 +28,14 @@ of_query_line r = is_of_query (row r).kind
 abbrev pub is_document_line : Reading → Bool
 is_document_line blank = false
 is_document_line (document d) = true
-is_document_line (query k q) = false
+is_document_line (query a q) = false
 is_document_line (refused r) = of_document_line r
 is_document_line (watch n q) = false
 
 abbrev pub is_query_line : Reading → Bool
 is_query_line blank = false
 is_query_line (document d) = false
-is_query_line (query k q) = true
+is_query_line (query a q) = true
 is_query_line (refused r) = of_query_line r
 is_query_line (watch n q) = false
 

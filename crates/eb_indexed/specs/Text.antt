@@ -1,19 +1,18 @@
 -- The text that a run over an index prints for some lines, by the documents that each query sees.
 use Rattle.std.specs.Prelude.{ℕ, ◌+◌, List, [], ◌∷◌, ◌++◌, length, take}
 use Rattle.eb_base.specs.Document.{Doc}
-use Rattle.eb_base.specs.Match.{answer}
 use Rattle.eb_base.specs.Setting.{Setting}
 use Rattle.eb_indexed.specs.IndexRules.{index_tail}
 use Rattle.eb_lines.specs.declared.form.Form.{Form}
 use Rattle.eb_lines.specs.Reading.{Reading, blank, document, query, refused, watch}
 use Rattle.eb_lines.specs.Progress.{accepted, queries, refusals}
-use Rattle.eb_lines.specs.Text.{answer_line, refusal_line, summary_with}
+use Rattle.eb_lines.specs.Text.{asked_line, refusal_line, summary_with}
 
 -- what line `number` prints, where a query sees the first `seen` of these documents
 abbrev pub output_of : Form → ℕ → ℕ → List Doc → Reading → List ℕ
 output_of form number seen docs blank = []
 output_of form number seen docs (document d) = []
-output_of form number seen docs (query k q) = answer_line form number seen (answer q k (take seen docs))
+output_of form number seen docs (query a q) = asked_line form number seen a q (take seen docs)
 output_of form number seen docs (refused r) = refusal_line form number r
 output_of form number seen docs (watch n q) = []
 

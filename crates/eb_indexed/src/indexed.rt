@@ -1,8 +1,13 @@
-ghost use Rattle.std.specs.Prelude.{◌≡◌, ◌≤◌, List, [], length, IfOk};
+ghost use Rattle.std.specs.Prelude.{◌≡◌, ◌≤◌, List, [], length, IfOk, OnErr, OnOk};
+ghost use Rattle.eb_answer.specs.Questions.{MayAsk};
+ghost use Rattle.eb_answer.specs.Stores.{IsHolding, PutsAnswer};
+ghost use Rattle.eb_base.specs.Query.{tree, IsWellFormed};
+ghost use Rattle.eb_query.specs.Head.{most_buckets};
+ghost use Rattle.eb_query.specs.declared.ask.Ask.TheVariants.{Newest, Counts};
 ghost use Rattle.eb_answer.specs.Rules.{Rules};
 ghost use Rattle.eb_base.specs.Document.{Doc};
 ghost use Rattle.eb_base.specs.Setting.{Setting};
-ghost use Rattle.eb_indexed.specs.Indexed.{Holds, WithPlaced};
+ghost use Rattle.eb_indexed.specs.Indexed.{Holds, WithPlaced, IsIndexed};
 ghost use Rattle.eb_indexed.specs.IndexRules.{index_tail};
 ghost use Rattle.eb_base.specs.Match.{answer};
 ghost use Rattle.eb_count.specs.Tallies.{AreCounts};
@@ -20,7 +25,8 @@ use eb_count::Tally;
 use eb_cursor::Frame;
 use eb_engine::{Converter, Index, Writer};
 use eb_fields::Dialect;
-use eb_lines::{Form, Refusal, Tail, line_room, put_answer};
+use eb_lines::{Form, Refusal, Tail, line_room, put_answer, put_count};
+use eb_query::Ask;
 use eb_writer::Full;
 use std::alloc::Global;
 
@@ -128,6 +134,68 @@ impl Indexed {
         )
     }
 
+    // Answers line `number` by the ids of the newest `k` matches.
+    fn answer_newest<G: Gate>(
+        &mut self,
+        alloc: Global,
+        number: u64,
+        k: u32,
+        query: Query,
+        gate: &G,
+        text: &mut Vec<u8>,
+    ) -> Result<(), NoMemory>
+        requires state { IsHolding IsIndexed self.old }
+        requires asked { MayAsk (Newest k) query }
+        ensures ok { OnOk result (PutsAnswer IsIndexed self.old self.new number (Newest k) (tree query) text.old.items text.new.items) }
+        ensures err { OnErr result ((self.new ≡ self.old) × (text.new.items ≡ text.old.items)) }
+    {
+        let mut frame = self.spare.frame(alloc, query, k)?;
+        text.reserve(line_room(k as usize))?;
+        let seen = search_all(
+            &self.index,
+            &self.filters,
+            &mut self.writer,
+            &mut frame,
+            gate,
+        );
+        put_answer(text, self.form, number, seen, frame.ids());
+        self.spare.keep(frame);
+        Ok(())
+    }
+
+    // Answers line `number` by the counts of this tally, in which nothing is counted yet.
+    fn answer_counts<G: Gate>(
+        &mut self,
+        alloc: Global,
+        number: u64,
+        tally: Tally,
+        query: Query,
+        gate: &G,
+        text: &mut Vec<u8>,
+    ) -> Result<(), NoMemory>
+        requires state { IsHolding IsIndexed self.old }
+        requires formed { IsWellFormed (tree query) }
+        requires few { length tally.buckets ≤ most_buckets }
+        ensures ok { OnOk result (PutsAnswer IsIndexed self.old self.new number (Counts tally.start tally.width (length tally.buckets)) (tree query)
+            text.old.items text.new.items) }
+        ensures err { OnErr result ((self.new ≡ self.old) × (text.new.items ≡ text.old.items)) }
+    {
+        let mut tally = tally;
+        let mut frame = self.spare.frame(alloc, query, 1)?;
+        text.reserve(line_room(1 + tally.buckets().len()))?;
+        let seen = self.count(&mut frame, &mut tally, gate);
+        put_count(
+            text,
+            self.form,
+            number,
+            seen,
+            tally.total(),
+            tally.buckets(),
+        );
+        self.spare.keep(frame);
+        Ok(())
+    }
+
     /// The number of documents.
     pub fn accepted(&self) -> u64
         ensures { (σ : Setting) (docs : List Doc) → Holds self.now σ docs → result ≡ length docs }
@@ -154,13 +222,13 @@ impl Indexed {
 
 impl Store for Indexed {
     ghost use Rattle.eb_answer.specs.Rules.{is_bad};
-    ghost use Rattle.eb_indexed.specs.Indexed.{IsIndexed};
+    ghost use Rattle.eb_indexed.specs.Indexed.{IsIndexed as IsIndexedBy};
 
     ghost Watches = { Unit {0} };
 
     ghost other = { is_bad };
 
-    ghost holds = { IsIndexed };
+    ghost holds = { IsIndexedBy };
 
     fn place<G: Gate>(&mut self, document: &Document, gate: &G) -> Option<Refusal> {
         if self.add(document, gate) {
@@ -187,23 +255,22 @@ impl Store for Indexed {
         &mut self,
         alloc: Global,
         number: u64,
-        k: u32,
+        ask: Ask,
         query: Query,
         gate: &G,
         text: &mut Vec<u8>,
     ) -> Result<(), NoMemory> {
-        let mut frame = self.spare.frame(alloc, query, k)?;
-        text.reserve(line_room(k as usize))?;
-        let seen = search_all(
-            &self.index,
-            &self.filters,
-            &mut self.writer,
-            &mut frame,
-            gate,
-        );
-        put_answer(text, self.form, number, seen, frame.ids());
-        self.spare.keep(frame);
-        Ok(())
+        match ask {
+            Ask::Newest(k) => self.answer_newest(alloc, number, k, query, gate, text),
+            Ask::Counts {
+                start,
+                width,
+                number: buckets,
+            } => {
+                let tally = Tally::with_buckets(alloc, start, width, buckets as usize)?;
+                self.answer_counts(alloc, number, tally, query, gate, text)
+            }
+        }
     }
 
     fn documents(&self) -> u64 {

@@ -8,3 +8,4 @@ pub mod Runs
 pub mod Refused
 pub mod JsonLines
 pub mod TextOfForm
+pub mod Counted

@@ -33,7 +33,7 @@ module _ (how : Dialect) where
   one_by_kind bad_line bytes a b e f = e ∙ sym f
 
   pub one_reading : (l : Line) (a b : Reading) → Reads how l a → Reads how l b → a ≡ b
-  one_reading (line bytes) a b e f = one_by_kind (kind_of bytes) bytes a b e f
+  one_reading (line bytes) a b e f = one_by_kind (kind_of how bytes) bytes a b e f
   one_reading long_line a b e f = e ∙ sym f
 
   pub raw_same : (ls : List Line) (rs ss : List Reading) → AllZip (Reads how) ls rs → AllZip (Reads how) ls ss → rs ≡ ss
@@ -61,7 +61,7 @@ module _ (how : Dialect) where
   some_by_kind bad_line bytes = (refused BadLine, refl)
 
   pub some_reading : (l : Line) → (r : Reading) × Reads how l r
-  some_reading (line bytes) = some_by_kind (kind_of bytes) bytes
+  some_reading (line bytes) = some_by_kind (kind_of how bytes) bytes
   some_reading long_line = (refused LongLine, refl)
 
   pub some_read : (ls : List Line) → (rs : List Reading) × AllZip (Reads how) ls rs

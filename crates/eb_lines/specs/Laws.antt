@@ -19,4 +19,4 @@ ReadsPlainly bad_line bytes r = r ≡ refused BadLine
 -- where no option says otherwise a line is read as by these rules, and as nothing else
 abbrev pub LinesInPlain : Type 0
 LinesInPlain = (bytes : List ℕ) (r : Reading)
-    → (Reads plain (line bytes) r → ReadsPlainly (kind_of bytes) bytes r) × (ReadsPlainly (kind_of bytes) bytes r → Reads plain (line bytes) r)
+    → (Reads plain (line bytes) r → ReadsPlainly (kind_of plain bytes) bytes r) × (ReadsPlainly (kind_of plain bytes) bytes r → Reads plain (line bytes) r)

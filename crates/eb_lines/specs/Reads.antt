@@ -21,7 +21,7 @@ IsOfDocument (Err fault.NoMemory) r = ⊥
 
 -- a query line asks its query, or it is refused
 abbrev pub of_query : Outcome → Reading
-of_query (asks k q) = query k q
+of_query (asks a q) = query a q
 of_query bad_number = refused BadNumber
 of_query (bad_query column) = refused (BadQuery column)
 of_query too_deep = refused QueryTooDeep
@@ -36,5 +36,5 @@ ReadsByKind how bad_line bytes r = r ≡ refused BadLine
 
 -- the line is read as this
 abbrev pub Reads : Dialect → Line → Reading → Type 0
-Reads how (line bytes) r = ReadsByKind how (kind_of bytes) bytes r
+Reads how (line bytes) r = ReadsByKind how (kind_of how bytes) bytes r
 Reads how long_line r = r ≡ refused LongLine

@@ -1,5 +1,12 @@
 -- What is printed for a line, and after the last one, in both forms.
-use Rattle.std.specs.Prelude.{ℕ, ◌+◌, ◌*◌, List, [], ◌∷◌, ◌++◌, if◌then◌else◌}
+use Rattle.std.specs.Prelude.{ℕ, ◌+◌, ◌*◌, List, [], ◌∷◌, ◌++◌, if◌then◌else◌, map}
+use Rattle.std.specs.List.{range_with_len}
+use Rattle.eb_base.specs.Document.{Doc}
+use Rattle.eb_base.specs.Match.{answer}
+use Rattle.eb_base.specs.Query.{Tree}
+use Rattle.eb_count.specs.Counts.{match_count, bucket_count}
+use Rattle.eb_query.specs.declared.ask.Ask.{Ask}
+use Rattle.eb_query.specs.declared.ask.Ask.TheVariants.{Newest, Counts}
 use Rattle.eb_lines.specs.declared.form.Form.{Form}
 use Rattle.eb_lines.specs.declared.form.Tail.{Tail}
 use Rattle.eb_lines.specs.declared.refusal.Refusal.{Refusal}
@@ -17,6 +24,20 @@ answer_line form number seen ids = if form.json then json_line (answer_value num
 -- the count of a query in line `number`: how many accepted documents it saw, how many it matches, and how many of these lie in each bucket
 unfoldable pub count_line : Form → ℕ → ℕ → ℕ → List ℕ → List ℕ
 count_line form number seen total buckets = if form.json then json_line (count_value number seen total buckets) else count_words number seen total buckets
+
+-- how many of the documents lie in each of so many buckets
+abbrev pub bucket_counts : Tree → ℕ → ℕ → ℕ → List Doc → List ℕ
+bucket_counts q x w n docs = map (λ i. bucket_count q x w i docs) (range_with_len 0 n)
+
+-- what line `number`, which saw so many accepted documents, prints where it asks this of these documents: their newest matches, or the counts
+abbrev pub asked_line : Form → ℕ → ℕ → Ask → Tree → List Doc → List ℕ
+asked_line form number seen (Newest k) q docs = answer_line form number seen (answer q k docs)
+asked_line form number seen (Counts x w n) q docs = count_line form number seen (match_count q docs) (bucket_counts q x w n docs)
+
+-- how many numbers it lists at most
+abbrev pub most_listed : Ask → ℕ
+most_listed (Newest k) = k
+most_listed (Counts x w n) = 1 + n
 
 -- the numbers of the watches that the document in line `number` matches, where there are any
 unfoldable pub some_watch_line : Form → ℕ → List ℕ → List ℕ

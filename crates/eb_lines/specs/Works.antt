@@ -3,6 +3,7 @@ use Rattle.std.specs.Prelude.{Option, Some, None, Result, Ok, Err}
 use Rattle.eb_base.specs.Document.{Doc}
 use Rattle.eb_cursor.specs.Frames.{query_of, k_of}
 use Rattle.eb_cursor.specs.declared.frame.Frame.{Frame}
+use Rattle.eb_query.specs.declared.ask.Ask.TheVariants.{Newest}
 use Rattle.eb_query.specs.declared.read.QueryFault.{QueryFault}
 use Rattle.eb_query.specs.declared.read.QueryFault.TheVariants as faults
 use Rattle.eb_lines.specs.declared.refusal.Refusal.{Refusal}
@@ -26,11 +27,11 @@ refusal_of faults.NoMemory = None
 
 -- a query line that is read
 abbrev pub query_reading : Result Frame Refusal → Reading
-query_reading (Ok frame) = query (k_of frame) (query_of frame)
+query_reading (Ok frame) = query (Newest (k_of frame)) (query_of frame)
 query_reading (Err r) = refused r
 
 abbrev pub reading_of : Work → Reading
 reading_of Nothing = blank
 reading_of (Add d) = document d
-reading_of (Answer frame) = query (k_of frame) (query_of frame)
+reading_of (Answer frame) = query (Newest (k_of frame)) (query_of frame)
 reading_of (Refuse r) = refused r

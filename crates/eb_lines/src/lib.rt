@@ -18,7 +18,7 @@ mod writing;
 
 pub use form::{Form, Tail};
 pub use gathered::{write_gathered, write_much};
-pub use kind::{LineKind, line_kind};
+pub use kind::{LineKind, line_kind, plain_kind};
 pub use laws::lines_in_plain;
 pub use passing::pass_lines;
 pub use program::LineProgram;

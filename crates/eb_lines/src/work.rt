@@ -1,6 +1,6 @@
 ghost use Rattle.std.specs.Prelude.{◌≡◌, Some, None, IfOk, OnErr, slice_get};
 ghost use Rattle.eb_doc.specs.WithFields.{document_with};
-ghost use Rattle.eb_fields.specs.Dialect.{dialect_of};
+ghost use Rattle.eb_fields.specs.Dialect.{dialect_of, uncounted_of};
 ghost use Rattle.eb_io.specs.Lines.{line};
 ghost use Rattle.eb_lines.specs.Kinds.{query_line};
 ghost use Rattle.eb_lines.specs.Reads.{IsOfDocument, Reads, ReadsByKind};
@@ -71,7 +71,7 @@ pub fn query_refusal(fault: QueryFault) -> Result<Refusal, NoMemory>
     }
 }
 
-/// A frame for the query of a query line, which begins with `?` by this dialect, or why the line is refused. Takes the memory of a
+/// A frame for the query of a line that begins with `?`, by this dialect, or why the line is refused. Takes the memory of a
 /// search, so that the search takes none.
 pub fn read_query_text(
     alloc: Global,
@@ -79,7 +79,7 @@ pub fn read_query_text(
     text: &str,
 ) -> Result<Result<Frame, Refusal>, NoMemory>
     requires { slice_get text.now 0 ≡ Some 63 }
-    ensures { IfOk result (λ read. ReadsByKind (dialect_of dialect.entry) query_line text.now (query_reading read)) }
+    ensures { IfOk result (λ read. ReadsByKind (uncounted_of dialect.entry) query_line text.now (query_reading read)) }
 {
     match read_query_with(alloc, dialect, text) {
         Ok((k, query)) => Ok(Ok(Frame::new(alloc, query, k)?)),
@@ -100,7 +100,7 @@ fn document_work(alloc: Global, dialect: Dialect<'_>, bytes: &[u8]) -> Result<Wo
 // The work of a query line that is UTF-8.
 fn text_work(alloc: Global, dialect: Dialect<'_>, text: &str) -> Result<Work, NoMemory>
     requires { slice_get text.now 0 ≡ Some 63 }
-    ensures { IfOk result (λ work. ReadsByKind (dialect_of dialect.entry) query_line text.now (reading_of work)) }
+    ensures { IfOk result (λ work. ReadsByKind (uncounted_of dialect.entry) query_line text.now (reading_of work)) }
 {
     match read_query_text(alloc, dialect, text)? {
         Ok(frame) => Ok(Work::Answer(frame)),
@@ -108,11 +108,13 @@ fn text_work(alloc: Global, dialect: Dialect<'_>, text: &str) -> Result<Work, No
     }
 }
 
-/// The work of a line that isn't long by this dialect. Takes the memory that the work needs.
+/// The work of a line that isn't long by this dialect, where no line asks for a count: one that begins with `#` is refused.
+/// Takes the memory that the work needs.
 pub fn read_line(alloc: Global, dialect: Dialect<'_>, bytes: &[u8]) -> Result<Work, NoMemory>
-    ensures { IfOk result (λ work. Reads (dialect_of dialect.entry) (line bytes.now) (reading_of work)) }
+    ensures { IfOk result (λ work. Reads (uncounted_of dialect.entry) (line bytes.now) (reading_of work)) }
 {
-    match line_kind(bytes) {
+    let dialect = dialect.uncounted();
+    match line_kind(dialect, bytes) {
         LineKind::Blank => Ok(Work::Nothing),
         LineKind::Document => document_work(alloc, dialect, bytes),
         LineKind::Query(text) => text_work(alloc, dialect, text),

@@ -1,8 +1,12 @@
 //! The parts that lines fill and ask.
 ghost use Rattle.eb_fields.specs.Dialect.{Dialect as Spoken};
-ghost use Rattle.std.specs.Prelude.{◌≡◌, ◌≤◌, ℕ, List, [], length, IfOk, OnErr};
+ghost use Rattle.std.specs.Prelude.{◌≡◌, ◌≤◌, ℕ, List, [], length, IfOk, OnErr, OnOk};
 ghost use Rattle.eb_ahead.specs.Placed.{IsHoldingFor, PlacesAll};
-ghost use Rattle.eb_answer.specs.Stores.{Keeps};
+ghost use Rattle.eb_answer.specs.Questions.{MayAsk};
+ghost use Rattle.eb_answer.specs.Stores.{IsHolding, PutsAnswer, Keeps};
+ghost use Rattle.eb_base.specs.Query.{tree, IsWellFormed};
+ghost use Rattle.eb_query.specs.Head.{most_buckets};
+ghost use Rattle.eb_query.specs.declared.ask.Ask.TheVariants.{Newest, Counts};
 ghost use Rattle.eb_parts.specs.Parted.{IsParted};
 ghost use Rattle.eb_parts.specs.Texts.{parts_rules};
 
@@ -10,9 +14,12 @@ use crate::store::Store as Parts;
 use eb_answer::Store;
 use eb_base::{Config, Document, Gate, NoMemory, Query};
 use eb_blend::BlendFrame;
+use eb_count::Tally;
+use eb_cursor::Frame;
 use eb_fields::Dialect;
 use eb_indexed::tell_segments;
-use eb_lines::{Form, Refusal, Tail, line_room, put_answer};
+use eb_lines::{Form, Refusal, Tail, line_room, put_answer, put_count};
+use eb_query::Ask;
 use std::alloc::Global;
 use std::thread::Threads;
 
@@ -58,6 +65,61 @@ impl Parted {
     {
         self.parts.add_all(rt, alloc, items, gate)
     }
+
+    // Answers line `number` by the ids of the newest `k` matches.
+    fn answer_newest<G: Gate>(
+        &mut self,
+        alloc: Global,
+        number: u64,
+        k: u32,
+        query: Query,
+        gate: &G,
+        text: &mut Vec<u8>,
+    ) -> Result<(), NoMemory>
+        requires state { IsHolding IsParted self.old }
+        requires asked { MayAsk (Newest k) query }
+        ensures ok { OnOk result (PutsAnswer IsParted self.old self.new number (Newest k) (tree query) text.old.items text.new.items) }
+        ensures err { OnErr result ((self.new ≡ self.old) × (text.new.items ≡ text.old.items)) }
+    {
+        let mut frame = BlendFrame::new(alloc, &query, k, self.number)?;
+        text.reserve(line_room(k as usize))?;
+        let seen = self.parts.search(&mut frame, gate);
+        put_answer(text, self.form, number, seen, frame.ids());
+        Ok(())
+    }
+
+    // Answers line `number` by the counts of this tally, in which nothing is counted yet.
+    fn answer_counts<G: Gate>(
+        &mut self,
+        alloc: Global,
+        number: u64,
+        tally: Tally,
+        query: Query,
+        gate: &G,
+        text: &mut Vec<u8>,
+    ) -> Result<(), NoMemory>
+        requires state { IsHolding IsParted self.old }
+        requires formed { IsWellFormed (tree query) }
+        requires few { length tally.buckets ≤ most_buckets }
+        ensures ok { OnOk result (PutsAnswer IsParted self.old self.new number (Counts tally.start tally.width (length tally.buckets)) (tree query)
+            text.old.items text.new.items) }
+        ensures err { OnErr result ((self.new ≡ self.old) × (text.new.items ≡ text.old.items)) }
+    {
+        let mut tally = tally;
+        tally.clear();
+        let mut frame = Frame::new(alloc, query, 1)?;
+        text.reserve(line_room(1 + tally.buckets().len()))?;
+        let seen = self.parts.count(alloc, &mut frame, &mut tally, gate)?;
+        put_count(
+            text,
+            self.form,
+            number,
+            seen,
+            tally.total(),
+            tally.buckets(),
+        );
+        Ok(())
+    }
 }
 
 impl Store for Parted {
@@ -91,16 +153,22 @@ impl Store for Parted {
         &mut self,
         alloc: Global,
         number: u64,
-        k: u32,
+        ask: Ask,
         query: Query,
         gate: &G,
         text: &mut Vec<u8>,
     ) -> Result<(), NoMemory> {
-        let mut frame = BlendFrame::new(alloc, &query, k, self.number)?;
-        text.reserve(line_room(k as usize))?;
-        let seen = self.parts.search(&mut frame, gate);
-        put_answer(text, self.form, number, seen, frame.ids());
-        Ok(())
+        match ask {
+            Ask::Newest(k) => self.answer_newest(alloc, number, k, query, gate, text),
+            Ask::Counts {
+                start,
+                width,
+                number: buckets,
+            } => {
+                let tally = Tally::with_buckets(alloc, start, width, buckets as usize)?;
+                self.answer_counts(alloc, number, tally, query, gate, text)
+            }
+        }
     }
 
     fn documents(&self) -> u64 {

@@ -8,7 +8,10 @@ ghost use Rattle.eb_base.specs.Setting.{Setting};
 ghost use Rattle.eb_blend.specs.Blended.{blended};
 ghost use Rattle.eb_blend.specs.Frames.{Asks, found_of};
 ghost use Rattle.eb_blend.specs.Laws.{cut_into};
-ghost use Rattle.eb_blend.specs.Parts.{counted, lengths_of};
+ghost use Rattle.eb_blend.specs.Counted.{all_of};
+ghost use Rattle.eb_blend.specs.Parts.{AreFronts, counted, lengths_of};
+ghost use Rattle.eb_count.specs.Tallies.{HasCounted};
+ghost use Rattle.eb_cursor.specs.Frames.{query_of};
 ghost use Rattle.eb_place.specs.Room.{cut};
 ghost use Rattle.eb_indexed.specs.Conversions.{most_converted};
 ghost use Rattle.eb_lines.specs.declared.form.Form.{Form};
@@ -18,7 +21,9 @@ ghost use Rattle.eb_parts.specs.Stores.{Holds, WithPlaced};
 ghost use Rattle.eb_parts.specs.Texts.{parts_rules};
 
 use eb_base::{Config, Document, Gate, NoMemory};
-use eb_blend::{Blend, BlendConverter, BlendFrame, BlendRefusal, BlendWriter};
+use eb_blend::{Blend, BlendConverter, BlendFrame, BlendReader, BlendRefusal, BlendWriter};
+use eb_count::Tally;
+use eb_cursor::Frame;
 use eb_indexed::SegmentCounts;
 use eb_lines::Refusal;
 use eb_place::Steps;
@@ -53,6 +58,26 @@ fn search_alone<G: Gate, L: Ledger>(
 {
     let mut steps = Steps::<L>::new(blank);
     writer.search(blend, frame, gate, &mut steps)
+}
+
+// Counts what matches among all documents that the reader comes to see, with a counter of its own, after what the tally held.
+// The frame stays as it is. Takes no memory.
+fn count_alone<G: Gate, L: Ledger>(
+    blend: &Blend,
+    reader: &mut BlendReader,
+    frame: &mut Frame,
+    tally: &mut Tally,
+    gate: &G,
+    blank: Blank,
+)
+    requires blank { (blank.name ≡ L.name) × (blank.parts ≡ L.parts) × (0 < blank.parts) }
+    requires made { reader.old.indexes ≡ blend.now.indexes }
+    ensures made { reader.new.indexes ≡ reader.old.indexes }
+    ensures known { AreFronts reader.old.histories reader.new.histories }
+    ensures counts { HasCounted (query_of frame.old) (all_of reader.new.histories) tally.old tally.new }
+{
+    let mut steps = Steps::<L>::new(blank);
+    reader.count(blend, frame, tally, gate, &mut steps);
 }
 
 // Why a document is refused that the blend refuses.
@@ -143,6 +168,27 @@ impl Store {
             → length (found_of frame.new) ≤ k }
     {
         search_alone::<G, Brand>(&self.blend, &mut self.writer, frame, gate, Blank::new(1))
+    }
+
+    // Counts what matches among all documents, after what the tally held, and gives their number. Takes memory for a reader of
+    // the parts; without it nothing is counted.
+    pub(crate) fn count<G: Gate>(
+        &mut self,
+        alloc: Global,
+        frame: &mut Frame,
+        tally: &mut Tally,
+        gate: &G,
+    ) -> Result<u64, NoMemory>
+        requires { (parts : ℕ) × (σ : Setting) × (docs : List Doc) × Holds self.old parts σ docs }
+        ensures store { self.new ≡ self.old }
+        ensures count { IfOk result (λ n. (parts : ℕ) (σ : Setting) (docs : List Doc) → Holds self.old parts σ docs → length docs < 2 ^ 64 → n ≡ length docs) }
+        ensures counts { OnOk result ((parts : ℕ) (σ : Setting) (docs : List Doc) → Holds self.old parts σ docs
+            → HasCounted (query_of frame.old) docs tally.old tally.new) }
+    {
+        let mut reader = self.writer.reader(alloc, &self.blend)?;
+        count_alone::<G, Brand>(&self.blend, &mut reader, frame, tally, gate, Blank::new(1));
+        self.writer.meet(&self.blend, reader);
+        Ok(self.writer.accepted())
     }
 
     // The number of documents.

@@ -1,6 +1,6 @@
 -- Phrases and windows are of texts.
 use Rattle.eb_fields.specs.Dialect.{Dialect}
-use Rattle.std.proofs.Common.{◌≡◌, ℕ, zero, suc, ◌+◌, ◌<◌, ◌≤◌, nat_lt, eqb, inl, inr, Bool, true, false, cond, List, [], ◌∷◌, ◌++◌, length, take, drop, codes}
+use Rattle.std.proofs.Common.{◌≡◌, ℕ, zero, suc, ◌+◌, ◌<◌, ◌≤◌, nat_lt, eqb, inl, inr, ◌==◌, ◌&&◌, Bool, true, false, cond, List, [], ◌∷◌, ◌++◌, length, take, drop, codes}
 use Rattle.std.proofs.Common.{Option, Some, None, option_map, option_and_then, refl, sym, arith, subst, zero-add}
 use Rattle.std.proofs.lemmas.Bool.{ltb-true, eqb-true}
 use Rattle.std.proofs.lemmas.List.{drop-drop, drop_all}
@@ -11,11 +11,15 @@ use Rattle.eb_base.specs.Query.{Tree, trees_of, and_of, or_of, leaf_of, window_o
 use Rattle.eb_text.specs.Pieces.{tokens_by}
 use Rattle.eb_fields.specs.Fields.{begun_name}
 use Rattle.eb_fields.proofs.Listed.{begun_colon}
-use Rattle.eb_query.specs.Digits.{is_no_digit}
+use Rattle.eb_fields.specs.Digits.{is_no_digit}
 use Rattle.eb_query.specs.Grammar.{Lexeme, opening, closing, minus, or_word, leaf, broken, IsUnary, a_leaf, a_minus, a_group, IsAnd, last, beside, IsOr, final, either, GivesTree}
-use Rattle.eb_query.specs.Lexemes.{Placed, is_blank, ends_run, is_quote, of_leaf, text_lexeme, reach_of, window_lexeme, has_tilde, quoted_lexeme, tilde_len, quoted, id_of, run_lexeme, bare, first}
+use Rattle.eb_fields.specs.Ids.{id_of}
+use Rattle.eb_query.specs.Lexemes.{Placed, is_blank, ends_run, is_quote, of_leaf, text_lexeme, reach_of, window_lexeme, has_tilde, quoted_lexeme, tilde_len, quoted, run_lexeme, bare, first}
 use Rattle.eb_query.specs.Lexemes.{bare_value, quoted_value, value_lexeme, named_lexeme, first_with, lexemes}
-use Rattle.eb_query.specs.Number.{digits_len, HasNumberUpTo, lexemes_of_line}
+use Rattle.eb_query.specs.Number.{digits_len, HasNumberUpTo, HasQueryNumber, lexemes_of_line}
+use Rattle.eb_query.specs.Head.{is_count, range_len, IsHead, HasHead}
+use Rattle.eb_query.specs.declared.ask.Ask.{Ask}
+use Rattle.eb_query.proofs.Asks.{text_lexemes}
 use Rattle.eb_query.specs.Reading.{Outcome, asks, IsOutcome, stands, cannot_stand, stands_too_deep, incomplete, large, complete, ReadsWith, without_number, with_number}
 use Rattle.eb_query.specs.WatchLine as watch
 use Rattle.eb_query.specs.WatchLine.{WatchOutcome, reads, ReadsWatchWith, alone, with_text}
@@ -82,8 +86,8 @@ abbrev ArePlacedOwn : List Placed → Type 0
 ArePlacedOwn [] = Unit {0}
 ArePlacedOwn (p ∷ ps) = IsOwn p.lexeme × ArePlacedOwn ps
 
-outcome_apart : {line : List ℕ} {before : List Lexeme} {ps : List Placed} {o : Outcome} → IsOutcome line before ps o
-    → (k : ℕ) (t : Tree) → o ≡ asks k t → AreOwn before → ArePlacedOwn ps → IsApart t
+outcome_apart : {line : List ℕ} {a : Ask} {before : List Lexeme} {ps : List Placed} {o : Outcome} → IsOutcome line a before ps o
+    → (k : Ask) (t : Tree) → o ≡ asks k t → AreOwn before → ArePlacedOwn ps → IsApart t
 outcome_apart (stands {before} {p} {ps} {o} c n r) k t e b s = outcome_apart r k t e (own_append before p.lexeme b s.0) s.1
 outcome_apart (cannot_stand n) k t e b s = cc
 outcome_apart (stands_too_deep c o n) k t e b s = cc
@@ -259,11 +263,34 @@ line_own how line digits most u h =
     let b = apart_boundary line (1 + digits_len line) (line_within line h.some) h.apart in
     lexemes_own how 0 (2 + digits_len line) (drop (1 + digits_len line) line) (IsUtf8-drop line (1 + digits_len line) u b)
 
-query_apart : {how : Dialect} {line : List ℕ} {o : Outcome} → ReadsWith how line o → (k : ℕ) (t : Tree) → o ≡ asks k t → IsUtf8 line → IsApart t
-query_apart (without_number n) k t e u = cc
-query_apart {how} {line} (with_number h r) k t e u = outcome_apart r k t e tt (line_own how line _ _ u h.up_to)
+both_so : (x y : Bool) → (x && y) ≡ true → y ≡ true
+both_so true y e = e
+both_so false y e = let no : ⊥ = cc in absurd no
 
-watch_apart : {how : Dialect} {line : List ℕ} {o : WatchOutcome} → ReadsWatchWith how line o → (k : ℕ) (t : Tree) → o ≡ reads (asks k t) → IsUtf8 line → IsApart t
+counts_own : (how : Dialect) (line : List ℕ) (n : ℕ) → is_count how line ≡ true → n ≡ 1 + range_len line → IsUtf8 line → ArePlacedOwn (lexemes how 0 (n + 1) (drop n line))
+unfolding range_len
+counts_own how [] n c e u = let no : ⊥ = cc in absurd no
+counts_own how (b ∷ bs) n c e u =
+    let mark : b ≡ 35 = eqb-true b 35 (both_so how.counts (b == 35) c) in
+    let rest = (cut_text is_blank bs blank_small (tail_text b bs (omega arith) u)).1 in
+    let next : n ≡ suc (range_len (b ∷ bs)) = omega (arith, e) in
+    lexemes_own how 0 (n + 1) (drop n (b ∷ bs)) (subst (λ (k : ℕ). IsUtf8 (drop k (b ∷ bs))) (sym next) rest)
+
+newest_own : (how : Dialect) (line : List ℕ) (n : ℕ) → HasQueryNumber line → n ≡ 1 + digits_len line → IsUtf8 line → ArePlacedOwn (lexemes how 0 (n + 1) (drop n line))
+newest_own how line n h e u = subst ArePlacedOwn (sym (text_lexemes how line n e)) (line_own how line _ _ u h.up_to)
+
+head_own : (how : Dialect) (line : List ℕ) (a : Ask) (n : ℕ) → HasHead how line a n → IsUtf8 line → ArePlacedOwn (lexemes how 0 (n + 1) (drop n line))
+head_own how line a n h u = go (is_count how line) refl h
+  where
+    go : (x : Bool) → is_count how line ≡ x → IsHead x line a n → ArePlacedOwn (lexemes how 0 (n + 1) (drop n line))
+    go true e i = counts_own how line n e i.1 u
+    go false e i = newest_own how line n i.0 i.2 u
+
+query_apart : {how : Dialect} {line : List ℕ} {o : Outcome} → ReadsWith how line o → (k : Ask) (t : Tree) → o ≡ asks k t → IsUtf8 line → IsApart t
+query_apart (without_number n) k t e u = cc
+query_apart {how} {line} (with_number {a} n h r) k t e u = outcome_apart r k t e tt (head_own how line a n h u)
+
+watch_apart : {how : Dialect} {line : List ℕ} {o : WatchOutcome} → ReadsWatchWith how line o → (k : Ask) (t : Tree) → o ≡ reads (asks k t) → IsUtf8 line → IsApart t
 watch_apart (watch.without_number n) k t e u = cc
 watch_apart (alone h n) k t e u = cc
 watch_apart {how} {line} (with_text {o} h n r) k t e u = let same : o ≡ asks k t = cc in outcome_apart r k t same tt (line_own how line _ _ u h)

@@ -4,23 +4,18 @@ use Rattle.std.proofs.Common.{◌≡◌, ℕ, zero, suc, ◌+◌, ◌-◌, ◌<�
 use Rattle.std.proofs.Common.{drop, get_or, Option, Some, None, refl, sym, ap, ◌∙◌, arith, subst, inl, inr, ◌⊎◌, ne_eqb, lt-ltb, le-ltb, ltb-false, drop-cons, length-drop}
 use Rattle.std.proofs.lemmas.Bool.{ltb-true, eqb-true, or_cases}
 use Rattle.std.proofs.lemmas.List.{get_or-drop, drop_all, drop-drop, take_all}
-use Rattle.std.proofs.lemmas.List.Sums.{position_or_len_is, passes_at_first, prefix_len-le-length}
+use Rattle.std.proofs.lemmas.List.Sums.{passes_at_first, prefix_len-le-length}
 use Rattle.std.proofs.lemmas.Str.{IsCharBoundary-before_ascii, IsCharBoundary-after_ascii}
 use Rattle.std.specs.List.{position_or_len}
 use Rattle.std.specs.Str.{IsUtf8, IsCharBoundary}
-use Rattle.eb_query.specs.Digits.{is_no_digit}
+use Rattle.eb_fields.specs.Digits.{is_no_digit}
 use Rattle.eb_query.specs.Grammar.{Lexeme, opening, closing, minus, broken}
 use Rattle.eb_query.specs.Lexemes.{Placed, is_blank, ends_run, is_quote, run_lexeme, is_run_end, has_tilde, quoted_lexeme, tilde_len, text_lexeme, window_lexeme, quoted, bare}
 use Rattle.eb_query.specs.Lexemes.{first, first_with, lexemes}
 use Rattle.eb_query.specs.Reading.{bad_query, too_deep}
 use Rattle.eb_base.specs.Query.{Tree}
+use Rattle.eb_query.specs.declared.ask.Ask.{Ask}
 use Rattle.eb_query.specs.Machine.{State, step, is_deep, finish, ending, outcome}
-
-pub found_at : (p : ℕ → Bool) (xs : List ℕ) (i : ℕ) → i < length xs → ((k : ℕ) → k < i → p (get_or xs k 0) ≡ false) → p (get_or xs i 0) ≡ true → i ≡ position_or_len p xs
-found_at p xs i h below here = sym (position_or_len_is p xs i 0 (omega arith) below (λ _. here))
-
-pub found_none : (p : ℕ → Bool) (xs : List ℕ) (i : ℕ) → length xs ≤ i → ((k : ℕ) → k < i → p (get_or xs k 0) ≡ false) → length xs ≡ position_or_len p xs
-found_none p xs i h below = sym (position_or_len_is p xs (length xs) 0 (omega arith) (λ k l. below k (omega arith)) (λ l. absurd (omega arith)))
 
 pub first_opening : (how : Dialect) (b : ℕ) (bs : List ℕ) → b ≡ 40 → first how b bs ≡ (opening, 0)
 unfolding first
@@ -181,18 +176,18 @@ unfolding lexemes
 lexemes_end how line at h = ap (lexemes how 0 (at + 1)) (drop_all at line h)
 
 -- what a step of the reader says of the outcome
-pub stood : (how : Dialect) (line : List ℕ) (at end : ℕ) (l : Lexeme) (s t : State) → at < length line → is_blank (get_or line at 0) ≡ false
+pub stood : (a : Ask) (how : Dialect) (line : List ℕ) (at end : ℕ) (l : Lexeme) (s t : State) → at < length line → is_blank (get_or line at 0) ≡ false
     → l ≡ (first_with how (get_or line at 0) (drop (at + 1) line)).0 → end ≡ at + 1 + (first_with how (get_or line at 0) (drop (at + 1) line)).1
-    → step l s ≡ Some t → is_deep l s ≡ false → outcome line (lexemes how 0 (at + 1) (drop at line)) s ≡ outcome line (lexemes how 0 (end + 1) (drop end line)) t
-stood how line at end l s t h b i e p q = rw (lexemes_next how line at end h b e, ← i, p, q) refl
+    → step l s ≡ Some t → is_deep l s ≡ false → outcome line a (lexemes how 0 (at + 1) (drop at line)) s ≡ outcome line a (lexemes how 0 (end + 1) (drop end line)) t
+stood a how line at end l s t h b i e p q = rw (lexemes_next how line at end h b e, ← i, p, q) refl
 
-pub misplaced : (how : Dialect) (line : List ℕ) (at : ℕ) (l : Lexeme) (s : State) → at < length line → is_blank (get_or line at 0) ≡ false
-    → l ≡ (first_with how (get_or line at 0) (drop (at + 1) line)).0 → step l s ≡ None → outcome line (lexemes how 0 (at + 1) (drop at line)) s ≡ bad_query (at + 1)
-misplaced how line at l s h b i p = rw (lexemes_next how line at _ h b refl, ← i, p) refl
+pub misplaced : (a : Ask) (how : Dialect) (line : List ℕ) (at : ℕ) (l : Lexeme) (s : State) → at < length line → is_blank (get_or line at 0) ≡ false
+    → l ≡ (first_with how (get_or line at 0) (drop (at + 1) line)).0 → step l s ≡ None → outcome line a (lexemes how 0 (at + 1) (drop at line)) s ≡ bad_query (at + 1)
+misplaced a how line at l s h b i p = rw (lexemes_next how line at _ h b refl, ← i, p) refl
 
-pub deep : (how : Dialect) (line : List ℕ) (at : ℕ) (l : Lexeme) (s t : State) → at < length line → is_blank (get_or line at 0) ≡ false
-    → l ≡ (first_with how (get_or line at 0) (drop (at + 1) line)).0 → step l s ≡ Some t → is_deep l s ≡ true → outcome line (lexemes how 0 (at + 1) (drop at line)) s ≡ too_deep
-deep how line at l s t h b i p q = rw (lexemes_next how line at _ h b refl, ← i, p, q) refl
+pub deep : (a : Ask) (how : Dialect) (line : List ℕ) (at : ℕ) (l : Lexeme) (s t : State) → at < length line → is_blank (get_or line at 0) ≡ false
+    → l ≡ (first_with how (get_or line at 0) (drop (at + 1) line)).0 → step l s ≡ Some t → is_deep l s ≡ true → outcome line a (lexemes how 0 (at + 1) (drop at line)) s ≡ too_deep
+deep a how line at l s t h b i p q = rw (lexemes_next how line at _ h b refl, ← i, p, q) refl
 
 -- what a range of the line reads
 pub rest_is : (line : List ℕ) (k : ℕ) → take (length line - k) (drop k line) ≡ drop k line
@@ -210,8 +205,9 @@ bare_part line part at n l h =
     let e : at + 1 + n - at ≡ suc n = omega arith in
     h ∙ ap (λ (k : ℕ). take k (drop at line)) e ∙ ap (take (suc n)) (placed_at line at l)
 
-pub at_end : (how : Dialect) (line : List ℕ) (at : ℕ) (s : State) (o : Option Tree) → length line ≤ at → finish s ≡ o → outcome line (lexemes how 0 (at + 1) (drop at line)) s ≡ ending line o
-at_end how line at s o h e = ap (λ (ps : List Placed). outcome line ps s) (lexemes_end how line at h) ∙ ap (ending line) e
+pub at_end : (a : Ask) (how : Dialect) (line : List ℕ) (at : ℕ) (s : State) (o : Option Tree) →
+    length line ≤ at → finish s ≡ o → outcome line a (lexemes how 0 (at + 1) (drop at line)) s ≡ ending line a o
+at_end a how line at s o h e = ap (λ (ps : List Placed). outcome line a ps s) (lexemes_end how line at h) ∙ ap (ending line a) e
 
 pub nothing_left : (how : Dialect) (d : ℕ) → lexemes how 0 d [] ≡ []
 unfolding lexemes

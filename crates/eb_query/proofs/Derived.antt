@@ -5,7 +5,7 @@ use Rattle.eb_base.specs.Query.{trees, trees_of, and_of, or_of, size, IsFormed, 
 use Rattle.eb_query.specs.Grammar.{Lexeme, opening, closing, minus, or_word, leaf, broken, IsUnary, a_leaf, a_minus, a_group, IsAnd, last, beside, IsOr, final, either, GivesTree}
 use Rattle.eb_query.specs.Lexemes.{Placed}
 use Rattle.eb_query.specs.Nesting.{Open, group, completed, closed, open_after, IsOpener, NestsWithin}
-use Rattle.eb_query.specs.Number.{number_in_line}
+use Rattle.eb_query.specs.declared.ask.Ask.{Ask}
 use Rattle.eb_query.specs.Reading.{asks, IsOutcome, stands, complete}
 use Rattle.eb_query.specs.Nesting as nestings
 use Rattle.eb_query.proofs.WrittenLexemes.{unary_lexemes, part_lexemes, and_lexemes, or_lexemes, or_more_lexemes, query_lexemes}
@@ -114,11 +114,11 @@ opened (or_word ∷ ls) l os i = opened ls l os i
 opened (broken ∷ ls) l os i = opened ls l os i
 
 -- a text that gives a query and doesn't nest too deep has this outcome
-pub reads : (line : List ℕ) (t : Tree) → size t ≤ most_size → (before : List Lexeme) (ps : List Placed)
-    → GivesTree (before ++ kinds ps) t → NestsWithin (before ++ kinds ps) → IsOutcome line before ps (asks (number_in_line line) t)
-reads line t fits before [] g n = complete (subst (λ (ks : List Lexeme). GivesTree ks t) (append-nil before) g) fits
-reads line t fits before (p ∷ ps) g n =
+pub reads : (line : List ℕ) (a : Ask) (t : Tree) → size t ≤ most_size → (before : List Lexeme) (ps : List Placed)
+    → GivesTree (before ++ kinds ps) t → NestsWithin (before ++ kinds ps) → IsOutcome line a before ps (asks a t)
+reads line a t fits before [] g n = complete (subst (λ (ks : List Lexeme). GivesTree ks t) (append-nil before) g) fits
+reads line a t fits before (p ∷ ps) g n =
     let e : before ++ p.lexeme ∷ kinds ps ≡ (before ++ p.lexeme ∷ []) ++ kinds ps = sym (append_assoc before (p.lexeme ∷ []) (kinds ps)) in
     let h = subst (λ (ks : List Lexeme). GivesTree ks t) e g in
     stands (kinds ps, t, h) (λ i. let o = opened before p.lexeme [] i in let m = n (before ++ p.lexeme ∷ []) (kinds ps) e in omega arith)
-    (reads line t fits (before ++ p.lexeme ∷ []) ps h (λ xs ys k. n xs ys (e ∙ k)))
+    (reads line a t fits (before ++ p.lexeme ∷ []) ps h (λ xs ys k. n xs ys (e ∙ k)))

@@ -13,7 +13,8 @@ use Rattle.eb_fields.proofs.Listed.{begun_colon}
 use Rattle.eb_query.specs.Grammar.{broken}
 use Rattle.eb_query.specs.Lexemes.{ends_run, is_quote, first, field_leaf, bare_value, quoted_value, has_quote, value_lexeme, first_with}
 use Rattle.eb_query.proofs.Cuts.{placed_at, is_quote_small}
-use Rattle.eb_query.proofs.Leaves.{bytes_rest, found_within}
+use Rattle.eb_query.proofs.Leaves.{bytes_rest}
+use Rattle.eb_fields.proofs.Found.{found_within}
 
 pub found_from : (p : ℕ → Bool) (bytes line : List ℕ) (from n : ℕ) → bytes ≡ line
     → n ≡ position_or_len p (take (length bytes - from) (drop from bytes)) → n ≡ position_or_len p (drop from line)

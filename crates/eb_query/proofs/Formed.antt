@@ -4,13 +4,14 @@ use Rattle.std.proofs.Common.{◌≡◌, ℕ, zero, suc, ◌+◌, nat_lt, Bool, 
 use Rattle.std.proofs.lemmas.Bool.{ltb-true, and_parts}
 use Rattle.eb_base.specs.Query.{Tree, trees_of, and_of, or_of, size, IsFormed, AreFormed, IsWellFormed, leaf_of, window_of, most_size, most_reach, since}
 use Rattle.eb_text.specs.Pieces.{tokens_by}
-use Rattle.eb_query.specs.Digits.{is_no_digit, decimal_after}
+use Rattle.eb_fields.specs.Digits.{is_no_digit, decimal_after}
 use Rattle.eb_fields.specs.Fields.{begun_name}
 use Rattle.eb_query.specs.Grammar.{Lexeme, opening, closing, minus, or_word, leaf, broken, IsUnary, a_leaf, a_minus, a_group, IsAnd, last, beside, IsOr, final, either, GivesTree}
+use Rattle.eb_fields.specs.Ids.{id_of}
 use Rattle.eb_query.specs.Lexemes.{Placed, is_blank, ends_run, text_lexeme, is_reach, reach_by, reach_of, window_lexeme, has_tilde, quoted_lexeme}
-use Rattle.eb_query.specs.Lexemes.{tilde_len, id_of, run_lexeme, of_leaf, quoted, bare, first, bare_value, quoted_value, has_quote, value_lexeme, named_lexeme}
+use Rattle.eb_query.specs.Lexemes.{tilde_len, run_lexeme, of_leaf, quoted, bare, first, bare_value, quoted_value, has_quote, value_lexeme, named_lexeme}
 use Rattle.eb_query.specs.Lexemes.{first_with, lexemes, is_quote}
-use Rattle.eb_query.specs.Number.{number_in_line}
+use Rattle.eb_query.specs.declared.ask.Ask.{Ask}
 use Rattle.eb_query.specs.Reading.{Outcome, asks, too_many_nodes, IsOutcome, stands, cannot_stand, stands_too_deep, incomplete, large, complete}
 use Rattle.eb_query.specs.Machine.{start, sized, outcome}
 use Rattle.std.specs.List.{position_or_len, starts_with}
@@ -74,8 +75,8 @@ abbrev pub ArePlacedSound : List Placed → Type 0
 ArePlacedSound [] = Unit {0}
 ArePlacedSound (p ∷ ps) = IsSound p.lexeme × ArePlacedSound ps
 
-outcome_formed : {line : List ℕ} {before : List Lexeme} {ps : List Placed} {o : Outcome} → IsOutcome line before ps o
-    → (t : Tree) → o ≡ asks (number_in_line line) t → AreSound before → ArePlacedSound ps → IsWellFormed t
+outcome_formed : {line : List ℕ} {a : Ask} {before : List Lexeme} {ps : List Placed} {o : Outcome} → IsOutcome line a before ps o
+    → (t : Tree) → o ≡ asks a t → AreSound before → ArePlacedSound ps → IsWellFormed t
 outcome_formed (stands {before} {p} {ps} {o} c n r) t e b s = outcome_formed r t e (sound_append before p.lexeme b s.0) s.1
 outcome_formed (cannot_stand n) t e b s = cc
 outcome_formed (stands_too_deep c o n) t e b s = cc
@@ -198,20 +199,20 @@ lexemes_sound how zero c (b ∷ bs) = go (is_blank b) (lexemes_sound how zero (s
     go false h i = (first_with_sound how b bs, i)
 
 -- what the reader gives is formed well
-pub given_formed : (how : Dialect) (line : List ℕ) (c : ℕ) (bs : List ℕ) (t : Tree) → outcome line (lexemes how 0 c bs) start ≡ asks (number_in_line line) t → IsWellFormed t
-given_formed how line c bs t e = outcome_formed (found line [] (lexemes how 0 c bs) start refl) t e tt (lexemes_sound how 0 c bs)
+pub given_formed : (a : Ask) (how : Dialect) (line : List ℕ) (c : ℕ) (bs : List ℕ) (t : Tree) → outcome line a (lexemes how 0 c bs) start ≡ asks a t → IsWellFormed t
+given_formed a how line c bs t e = outcome_formed (found line a [] (lexemes how 0 c bs) start refl) t e tt (lexemes_sound how 0 c bs)
 
-pub sized_fits : (line : List ℕ) (t : Tree) → IsWellFormed t → sized line t ≡ asks (number_in_line line) t
-sized_fits line t w = go (nat_lt most_size (size t)) refl
+pub sized_fits : (a : Ask) (line : List ℕ) (t : Tree) → IsWellFormed t → sized a t ≡ asks a t
+sized_fits a line t w = go (nat_lt most_size (size t)) refl
   where
-    go : (b : Bool) → nat_lt most_size (size t) ≡ b → cond b too_many_nodes (asks (number_in_line line) t) ≡ asks (number_in_line line) t
+    go : (b : Bool) → nat_lt most_size (size t) ≡ b → cond b too_many_nodes (asks a t) ≡ asks a t
     go true h = let k = ltb-true _ _ h in let l = w.within in absurd (omega arith)
     go false h = refl
 
-pub sized_large : (how : Dialect) (line : List ℕ) (c : ℕ) (bs : List ℕ) (t : Tree) → outcome line (lexemes how 0 c bs) start ≡ sized line t
-    → (IsWellFormed t → ⊥) → outcome line (lexemes how 0 c bs) start ≡ too_many_nodes
-sized_large how line c bs t e n = go (nat_lt most_size (size t)) refl
+pub sized_large : (a : Ask) (how : Dialect) (line : List ℕ) (c : ℕ) (bs : List ℕ) (t : Tree) → outcome line a (lexemes how 0 c bs) start ≡ sized a t
+    → (IsWellFormed t → ⊥) → outcome line a (lexemes how 0 c bs) start ≡ too_many_nodes
+sized_large a how line c bs t e n = go (nat_lt most_size (size t)) refl
   where
-    go : (b : Bool) → nat_lt most_size (size t) ≡ b → outcome line (lexemes how 0 c bs) start ≡ too_many_nodes
-    go true h = e ∙ ap (λ (b : Bool). cond b too_many_nodes (asks (number_in_line line) t)) h
-    go false h = absurd (n (given_formed how line c bs t (e ∙ ap (λ (b : Bool). cond b too_many_nodes (asks (number_in_line line) t)) h)))
+    go : (b : Bool) → nat_lt most_size (size t) ≡ b → outcome line a (lexemes how 0 c bs) start ≡ too_many_nodes
+    go true h = e ∙ ap (λ (b : Bool). cond b too_many_nodes (asks a t)) h
+    go false h = absurd (n (given_formed a how line c bs t (e ∙ ap (λ (b : Bool). cond b too_many_nodes (asks a t)) h)))

@@ -1,26 +1,21 @@
 -- Where window texts end, and what window texts and bounds write.
 use Rattle.eb_fields.specs.Dialect.{Dialect}
-use Rattle.std.proofs.Common.{◌≡◌, ℕ, zero, suc, ◌+◌, ◌-◌, ◌<◌, ◌≤◌, ◌^◌, nat_lt, nat_le, not, Bool, true, false, true≢false, List, length, take, drop}
-use Rattle.std.proofs.Common.{get_or, Option, Some, None, cond, option_and_then, Result, Ok, Err, refl, sym, ap, ◌∙◌, arith, subst, le-leb, ltb-false, eq-eqb, leb-true, length-drop}
+use Rattle.std.proofs.Common.{◌≡◌, ℕ, zero, suc, ◌+◌, ◌-◌, ◌<◌, ◌≤◌, nat_lt, Bool, true, false, true≢false, List, length, take, drop}
+use Rattle.std.proofs.Common.{get_or, Option, option_and_then, refl, sym, ap, ◌∙◌, arith, subst, ltb-false, length-drop}
 use Rattle.std.proofs.lemmas.Bool.{ltb-true, eqb-true}
 use Rattle.std.proofs.lemmas.List.{get_or-drop, drop_all, drop-drop}
-use Rattle.std.proofs.lemmas.List.Sums.{fails_before_first, prefix_len-le-length}
+use Rattle.std.proofs.lemmas.List.Sums.{fails_before_first}
 use Rattle.std.proofs.lemmas.Str.{IsCharBoundary-after_ascii}
-use Rattle.std.proofs.lemmas.Str.Parse.{parse_digits}
 use Rattle.std.specs.List.{position_or_len}
-use Rattle.std.specs.Result.{OkIff, result_ok}
 use Rattle.std.specs.Str.{IsUtf8, IsCharBoundary}
-use Rattle.std.specs.Str.Parse.{ParsesUnsigned}
 use Rattle.eb_base.specs.Query.{window_of}
 use Rattle.eb_text.specs.Pieces.{tokens_by}
-use Rattle.eb_query.specs.Digits.{is_no_digit, decimal_after}
+use Rattle.eb_fields.specs.Digits.{is_no_digit}
 use Rattle.eb_query.specs.Grammar.{Lexeme}
-use Rattle.eb_query.specs.Lexemes.{is_quote, of_leaf, reach_by, reach_of, window_lexeme, has_tilde, quoted_lexeme, tilde_len, quoted, most_id, id_of}
+use Rattle.eb_query.specs.Lexemes.{is_quote, of_leaf, reach_by, reach_of, window_lexeme, has_tilde, quoted_lexeme, tilde_len, quoted}
 use Rattle.eb_query.proofs.Cuts.{rest_is, placed_at, quoted_some, quoted_part, quoted_window, tilde_digits}
-use Rattle.eb_query.proofs.Decimals.{own, in_range, all_digits}
-
-pub found_within : (p : ℕ → Bool) (xs : List ℕ) (n : ℕ) → n ≡ position_or_len p xs → n ≤ length xs
-found_within p xs n e = let l : position_or_len p xs ≤ length xs = prefix_len-le-length (λ b. not (p b)) xs in omega (arith, e)
+use Rattle.eb_fields.proofs.Found.{found_within}
+use Rattle.eb_fields.proofs.Decimals.{in_range}
 
 -- what a range of the line's bytes reads, up to their end
 pub bytes_rest : (bytes line : List ℕ) (from : ℕ) → bytes ≡ line → take (length bytes - from) (drop from bytes) ≡ drop from line
@@ -82,19 +77,3 @@ quoted_is how line part at n e less is =
 pub quoted_end : (how : Dialect) (line : List ℕ) (at n : ℕ) (l : Lexeme) → quoted how (drop (at + 1) line) ≡ (l, n + 1 + tilde_len (drop (at + 1 + n + 1) line))
     → at + 1 + (quoted how (drop (at + 1) line)).1 ≡ at + 1 + n + 1 + tilde_len (drop (at + 1 + n + 1) line)
 quoted_end how line at n l e = let k = ap (λ (p : Lexeme × ℕ). p.1) e in omega (arith, k)
-
--- what `parse` gives of one to twenty digits
-pub parsed : {E : Type 0} (ds : List ℕ) (r : Result ℕ E) → 1 ≤ length ds → length ds ≤ 20 → length ds ≤ position_or_len is_no_digit ds → ParsesUnsigned 64 10 ds r → result_ok r ≡ id_of ds
-unfolding id_of
-parsed {E = E} ds r some few all parses =
-    let within = found_within is_no_digit ds (position_or_len is_no_digit ds) refl in
-    let whole : position_or_len is_no_digit ds ≡ length ds = omega arith in
-    rw (eq-eqb (position_or_len is_no_digit ds) (length ds) whole, le-leb 1 (length ds) some, le-leb (length ds) 20 few)
-    (go r (parse_digits own 64 ds r parses (all_digits ds all)) (nat_le (decimal_after 0 ds) most_id) refl)
-  where
-    go : (r : Result ℕ E) → OkIff r ((0 < length ds) × (decimal_after 0 ds < 2 ^ 64)) (decimal_after 0 ds) → (b : Bool) → nat_le (decimal_after 0 ds) most_id ≡ b
-        → result_ok r ≡ cond (nat_le (decimal_after 0 ds) most_id) (Some (decimal_after 0 ds)) None
-    go (Ok x) k true e = rw e (ap (λ (n : ℕ). Some n) k.1)
-    go (Ok x) k false e = let small = k.0.1 in absurd (true≢false (sym (le-leb (decimal_after 0 ds) most_id (omega arith)) ∙ e))
-    go (Err x) k true e = let small = leb-true _ _ e in absurd (k (omega arith, omega arith))
-    go (Err x) k false e = rw e refl

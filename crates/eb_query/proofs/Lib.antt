@@ -4,7 +4,6 @@ pub mod Machine
 pub mod Outcomes
 pub mod Cuts
 pub mod Values
-pub mod Decimals
 pub mod Formed
 pub mod Asks
 pub mod Leaves
@@ -17,3 +16,4 @@ pub mod ReadBack
 pub mod Joins
 pub mod FieldValues
 pub mod Apartness
+pub mod Heads

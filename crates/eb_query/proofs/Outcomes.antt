@@ -6,7 +6,7 @@ use Rattle.eb_base.specs.Query.{Tree, size, or_of, most_size}
 use Rattle.eb_query.specs.Grammar.{Lexeme, opening, closing, minus, or_word, leaf, broken}
 use Rattle.eb_query.specs.Lexemes.{Placed}
 use Rattle.eb_query.specs.Nesting.{Open, group, negation, completed, closed, open_after, nesting, IsOpener, most_open}
-use Rattle.eb_query.specs.Number.{number_in_line}
+use Rattle.eb_query.specs.declared.ask.Ask.{Ask}
 use Rattle.eb_query.specs.Reading.{asks, too_many_nodes, IsOutcome, stands, cannot_stand, stands_too_deep, incomplete, large, complete}
 use Rattle.eb_query.proofs.Machine as machine
 use Rattle.eb_query.proofs.Machine.{run_append}
@@ -75,11 +75,11 @@ run_one before l s e = run_append before (l ∷ []) start ∙ ap (option_and_the
     go None = refl
     go (Some r) = refl
 
-ended : (line : List ℕ) (before : List Lexeme) (o : Option Tree) → option_and_then finish (run before start) ≡ o → IsOutcome line before [] (ending line o)
-ended line before None e = incomplete (λ t g. let h = machine.complete g in cc)
-ended line before (Some t) e = go (nat_lt most_size (size t)) refl
+ended : (line : List ℕ) (a : Ask) (before : List Lexeme) (o : Option Tree) → option_and_then finish (run before start) ≡ o → IsOutcome line a before [] (ending line a o)
+ended line a before None e = incomplete (λ t g. let h = machine.complete g in cc)
+ended line a before (Some t) e = go (nat_lt most_size (size t)) refl
   where
-    go : (b : Bool) → nat_lt most_size (size t) ≡ b → IsOutcome line before [] (cond b too_many_nodes (asks (number_in_line line) t))
+    go : (b : Bool) → nat_lt most_size (size t) ≡ b → IsOutcome line a before [] (cond b too_many_nodes (asks a t))
     go true h = large (machine.sound before t e) (ltb-true _ _ h)
     go false h = complete (machine.sound before t e) (ltb-false _ _ h)
 
@@ -100,12 +100,12 @@ not_deep (leaf t) s h i = absurd i
 not_deep broken s h i = absurd i
 
 -- From a state that these lexemes lead to, the machine finds the outcome of the rules.
-pub found : (line : List ℕ) (before : List Lexeme) (ps : List Placed) (s : State) → run before start ≡ Some s → IsOutcome line before ps (outcome line ps s)
-found line before [] s e = ended line before (finish s) (ap (option_and_then finish) e)
-found line before (p ∷ ps) s e = go (λ r h. found line (before ++ p.lexeme ∷ []) ps r h) (step p.lexeme s) refl (is_deep p.lexeme s) refl
+pub found : (line : List ℕ) (a : Ask) (before : List Lexeme) (ps : List Placed) (s : State) → run before start ≡ Some s → IsOutcome line a before ps (outcome line a ps s)
+found line a before [] s e = ended line a before (finish s) (ap (option_and_then finish) e)
+found line a before (p ∷ ps) s e = go (λ r h. found line a (before ++ p.lexeme ∷ []) ps r h) (step p.lexeme s) refl (is_deep p.lexeme s) refl
   where
-    go : ((r : State) → run (before ++ p.lexeme ∷ []) start ≡ Some r → IsOutcome line (before ++ p.lexeme ∷ []) ps (outcome line ps r))
-        → (o : Option State) → step p.lexeme s ≡ o → (b : Bool) → is_deep p.lexeme s ≡ b → IsOutcome line before (p ∷ ps) (stepped (outcome line ps) p.column b o)
+    go : ((r : State) → run (before ++ p.lexeme ∷ []) start ≡ Some r → IsOutcome line a (before ++ p.lexeme ∷ []) ps (outcome line a ps r))
+        → (o : Option State) → step p.lexeme s ≡ o → (b : Bool) → is_deep p.lexeme s ≡ b → IsOutcome line a before (p ∷ ps) (stepped (outcome line a ps) p.column b o)
     go more None h b k = cannot_stand (machine.stops (before ++ p.lexeme ∷ []) (run_one before p.lexeme s e ∙ h))
     go more (Some r) h true k =
         let d = deep_is p.lexeme s k in

@@ -4,14 +4,16 @@ use Rattle.std.proofs.Common.{◌≡◌, ℕ, suc, ◌+◌, ◌≤◌, List, [],
 use Rattle.eb_base.specs.Query.{Tree, IsWellFormed}
 use Rattle.eb_query.specs.Grammar.{Lexeme, GivesTree}
 use Rattle.eb_query.specs.Nesting.{NestsWithin}
-use Rattle.eb_query.specs.Lexemes.{lexemes}
-use Rattle.eb_query.specs.Digits.{decimal_after}
+use Rattle.eb_query.specs.Lexemes.{Placed, lexemes}
+use Rattle.eb_query.specs.declared.ask.Ask.TheVariants.{Newest}
+use Rattle.eb_query.proofs.Asks.{text_lexemes}
+use Rattle.eb_fields.specs.Digits.{decimal_after}
 use Rattle.eb_query.specs.Number.{digits_len, number_in_line, is_blank_or_end, HasQueryNumber, lexemes_of_line}
 use Rattle.eb_query.specs.Reading.{asks, IsOutcome, ReadsAs, with_number}
 use Rattle.eb_query.specs.Writing.{line_text, query_text, AreNamed}
 use Rattle.eb_query.specs.Laws.{kinds_of_line}
 use Rattle.eb_query.proofs.Cuts.{at_blank}
-use Rattle.eb_query.proofs.Decimals.{IsDecimal, decimal_is, digits_first, front_taken, front_dropped}
+use Rattle.eb_fields.proofs.Decimals.{IsDecimal, decimal_is, digits_first, front_taken, front_dropped}
 use Rattle.eb_query.proofs.WrittenLexemes.{query_lexemes}
 use Rattle.eb_query.proofs.Written.{kinds, written_lexemes}
 use Rattle.eb_query.proofs.Derived.{query_derives, reads}
@@ -44,7 +46,7 @@ module _ (k : ℕ) (ds text : List ℕ) (d : IsDecimal 4 k ds) where
       let c = 2 + digits_len (63 ∷ ds ++ 32 ∷ text) in
       (suc c, ap (lexemes plain 0 c) line_rest ∙ at_blank plain c 32 text refl)
 
-pub read_back : (k : ℕ) (t : Tree) → 1 ≤ k → k ≤ most_matches → IsWellFormed t → AreNamed t → NestsWithin (kinds_of_line (line_text k t)) → ReadsAs (line_text k t) (asks k t)
+pub read_back : (k : ℕ) (t : Tree) → 1 ≤ k → k ≤ most_matches → IsWellFormed t → AreNamed t → NestsWithin (kinds_of_line (line_text k t)) → ReadsAs (line_text k t) (asks (Newest k) t)
 read_back k t low high w named nests =
     let ds = decimal k in
     let text = query_text t in
@@ -52,5 +54,8 @@ read_back k t low high w named nests =
     let d = decimal_is 4 k (omega arith) (omega arith) (omega arith) in
     let l = line_lexemes k ds text d in
     let e : kinds (lexemes_of_line plain line) ≡ query_lexemes t = ap kinds l.1 ∙ written_lexemes t l.0 w.formed named in
-    let r = reads line t w.within [] (lexemes_of_line plain line) (subst (λ (ks : List Lexeme). GivesTree ks t) (sym e) (query_derives t w.formed)) nests in
-    with_number (line_has k ds text d low high) (subst (λ (n : ℕ). IsOutcome line [] (lexemes_of_line plain line) (asks n t)) (line_number k ds text d) r)
+    let m = 1 + digits_len line in
+    let number : Newest (number_in_line line) ≡ Newest k = ap (λ n. Newest n) (line_number k ds text d) in
+    let r = reads line (Newest k) t w.within [] (lexemes_of_line plain line) (subst (λ (ks : List Lexeme). GivesTree ks t) (sym e) (query_derives t w.formed)) nests in
+    with_number m (line_has k ds text d low high, sym number, refl)
+    (subst (λ (ps : List Placed). IsOutcome line (Newest k) [] ps (asks (Newest k) t)) (sym (text_lexemes plain line m refl)) r)

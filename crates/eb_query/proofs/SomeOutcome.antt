@@ -1,9 +1,12 @@
 -- Each line has a reading.
 use Rattle.eb_fields.specs.Dialect.{Dialect}
-use Rattle.std.proofs.Common.{◌≡◌, ℕ, ◌+◌, nat_lt, Bool, true, false, true≢false, ◌⊎◌, inl, inr, List, [], ◌∷◌, drop, refl, sym, ◌∙◌, arith, ltb-false}
+use Rattle.std.proofs.Common.{◌≡◌, ℕ, ◌+◌, nat_lt, Bool, true, false, true≢false, ◌⊎◌, inl, inr, List, [], ◌∷◌, drop, Option, Some, None, refl, sym, ◌∙◌, arith, ltb-false}
 use Rattle.std.proofs.lemmas.Bool.{ltb-true}
 use Rattle.eb_base.specs.Match.{most_matches}
-use Rattle.eb_query.specs.Lexemes.{Placed}
+use Rattle.eb_query.specs.Lexemes.{Placed, lexemes}
+use Rattle.eb_query.specs.Head.{is_count, counts_in, range_text, range_len, IsHead}
+use Rattle.eb_query.specs.declared.ask.Ask.{Ask}
+use Rattle.eb_query.specs.declared.ask.Ask.TheVariants.{Newest}
 use Rattle.eb_query.specs.Number.{digits_len, number_in_line, is_blank_or_end, HasNumberUpTo, HasQueryNumber, HasWatchNumber, lexemes_of_line}
 use Rattle.eb_query.specs.Reading.{Outcome, bad_number, ReadsWith, without_number, with_number}
 use Rattle.eb_query.specs.WatchLine as watch
@@ -31,10 +34,22 @@ has_number line = go (has_number_up_to 4 most_matches line) (nat_lt 0 (number_in
     go (inl u) true e = inl (record { up_to = u; positive = ltb-true _ _ e })
     go (inl u) false e = inr (λ h. let i = ltb-false _ _ e in let j = h.positive in omega arith)
 
+some_head_by : (counts : Bool) (line : List ℕ) → ((a : Ask) × (n : ℕ) × IsHead counts line a n) ⊎ ((a : Ask) (n : ℕ) → IsHead counts line a n → ⊥)
+some_head_by true line = go (counts_in (range_text line)) refl
+  where
+    go : (x : Option Ask) → counts_in (range_text line) ≡ x → ((a : Ask) × (n : ℕ) × IsHead true line a n) ⊎ ((a : Ask) (n : ℕ) → IsHead true line a n → ⊥)
+    go None e = inr (λ a n h. let no = sym e ∙ h.0 in cc)
+    go (Some a) e = inl (a, 1 + range_len line, (e, refl))
+some_head_by false line =
+    elim (has_number line) [
+      | inl h ↦ inl (Newest (number_in_line line), 1 + digits_len line, (h, refl, refl))
+      | inr n ↦ inr (λ a m h. n h.0)
+    ]
+
 pub some_outcome : (how : Dialect) (line : List ℕ) → (o : Outcome) × ReadsWith how line o
 some_outcome how line =
-    elim (has_number line) [
-      | inl h ↦ (outcome line (lexemes_of_line how line) start, with_number h (found line [] (lexemes_of_line how line) start refl))
+    elim (some_head_by (is_count how line) line) [
+      | inl (a, n, h) ↦ (outcome line a (lexemes how 0 (n + 1) (drop n line)) start, with_number n h (found line a [] (lexemes how 0 (n + 1) (drop n line)) start refl))
       | inr n ↦ (bad_number, without_number n)
     ]
 
@@ -46,4 +61,4 @@ some_watch_outcome how line = go (has_number_up_to 10 4294967295 line) (lexemes_
     go (inl h) [] e = (removes (number_in_line line), alone h e)
     go (inl h) (p ∷ ps) e =
         let some : lexemes_of_line how line ≡ [] → ⊥ = λ none. cc in
-        (reads (outcome line (lexemes_of_line how line) start), with_text h some (found line [] (lexemes_of_line how line) start refl))
+        (reads (outcome line (Newest (number_in_line line)) (lexemes_of_line how line) start), with_text h some (found line (Newest (number_in_line line)) [] (lexemes_of_line how line) start refl))

@@ -8,7 +8,7 @@ use Rattle.std.specs.List.{position_or_len}
 use Rattle.std.specs.Str.{IsCharBoundary}
 use Rattle.std.proofs.Common.{not}
 use Rattle.eb_query.proofs.Cuts.{rest_is, placed_at, blank_small}
-use Rattle.eb_query.specs.Digits.{decimal_after, is_no_digit}
+use Rattle.eb_fields.specs.Digits.{decimal_after, is_no_digit}
 use Rattle.eb_query.specs.Number.{digits_len, number_in_line, is_blank_or_end}
 
 -- more than the value of n bytes

@@ -7,11 +7,12 @@ use Rattle.std.specs.List.{AllByRecursion, position_or_len}
 use Rattle.eb_base.specs.Query.{Tree, word, phrase, window, since, negation, conjunction, disjunction, Trees, no_trees, trees, IsFormed, AreFormed, leaf_of, window_of, most_reach}
 use Rattle.eb_query.specs.Grammar.{Lexeme, opening, closing, minus, or_word, leaf}
 use Rattle.eb_text.specs.Tokens.{tokens_of}
-use Rattle.eb_query.specs.Lexemes.{Placed, is_blank, is_run_end, text_lexeme, window_lexeme, quoted_lexeme, tilde_len, most_id, run_lexeme, of_leaf, bare, first, lexemes, is_quote}
+use Rattle.eb_fields.specs.Ids.{most_id}
+use Rattle.eb_query.specs.Lexemes.{Placed, is_blank, is_run_end, text_lexeme, window_lexeme, quoted_lexeme, tilde_len, run_lexeme, of_leaf, bare, first, lexemes, is_quote}
 use Rattle.eb_query.specs.Writing.{spaced_terms, in_quotes, window_text, since_text, in_parentheses, unary_text, part_text, and_text}
 use Rattle.eb_query.specs.Writing.{and_more_text, or_text, or_more_text, query_text, IsNamed, AreNamed, AllNamed}
 use Rattle.eb_query.proofs.WrittenLexemes.{unary_lexemes, part_lexemes, and_lexemes, or_lexemes, or_more_lexemes, query_lexemes}
-use Rattle.eb_query.proofs.Decimals.{IsDecimal, decimal_is, digits_first, front_taken, front_dropped}
+use Rattle.eb_fields.proofs.Decimals.{IsDecimal, decimal_is, digits_first, front_taken, front_dropped}
 use Rattle.eb_query.proofs.WrittenLeaves.{end_no_digit, reach_written, since_first}
 use Rattle.eb_query.proofs.Cuts.{end_no_tilde, quoted_text, quoted_window, no_tilde_len, tilde_digits, nothing_left, first_none, first_opening}
 use Rattle.eb_query.proofs.Cuts.{first_closing, first_minus, first_quoted, quoted_some, skip, at_blank, at_lexeme}

@@ -3,11 +3,12 @@ use Rattle.eb_fields.specs.Dialect.{plain}
 use Rattle.std.proofs.Common.{◌≡◌, ℕ, suc, ◌+◌, ◌≤◌, true, false, List, [], ◌∷◌, ◌++◌, length, take, Some, refl, ap, ◌∙◌, arith, le-leb, eq-eqb, ne_eqb}
 use Rattle.std.specs.List.{position_or_len}
 use Rattle.eb_base.specs.Query.{since, most_reach}
-use Rattle.eb_query.specs.Digits.{is_no_digit}
+use Rattle.eb_fields.specs.Digits.{is_no_digit}
 use Rattle.eb_query.specs.Grammar.{Lexeme, leaf}
-use Rattle.eb_query.specs.Lexemes.{ends_run, is_run_end, reach_by, reach_of, most_id, id_of, run_lexeme, first}
+use Rattle.eb_query.specs.Lexemes.{ends_run, is_run_end, reach_by, reach_of, run_lexeme, first}
+use Rattle.eb_fields.specs.Ids.{most_id, id_of}
 use Rattle.eb_query.proofs.Cuts.{ends_run_by, first_bare, bare_is}
-use Rattle.eb_query.proofs.Decimals.{IsDecimal, AreDigits, in_range, digits_first, digits_all, front_taken, front_dropped}
+use Rattle.eb_fields.proofs.Decimals.{IsDecimal, AreDigits, in_range, digits_first, digits_all, front_taken, front_dropped}
 
 -- where a run ends, no digit stands
 pub end_no_digit : (bs : List ℕ) → is_run_end bs ≡ true → position_or_len is_no_digit bs ≡ 0

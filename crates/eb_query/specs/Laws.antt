@@ -1,12 +1,14 @@
 -- What holds of reading and writing, over the definitions alone.
 use Rattle.eb_fields.specs.Dialect.{Dialect, plain}
-use Rattle.std.specs.Prelude.{◌≡◌, ◌⊎◌, ℕ, ◌≤◌, List, map}
+use Rattle.std.specs.Prelude.{◌≡◌, ◌⊎◌, ℕ, ◌≤◌, false, List, map}
 use Rattle.std.specs.Str.{IsUtf8}
 use Rattle.eb_base.specs.Query.{Tree, IsWellFormed}
 use Rattle.eb_query.specs.Grammar.{Lexeme}
 use Rattle.eb_query.specs.Nesting.{NestsWithin}
 use Rattle.eb_query.specs.Lexemes.{Placed, first, first_with}
 use Rattle.eb_query.specs.Number.{lexemes_of_line}
+use Rattle.eb_query.specs.declared.ask.Ask.{Ask}
+use Rattle.eb_query.specs.declared.ask.Ask.TheVariants.{Newest}
 use Rattle.eb_query.specs.Reading.{Outcome, asks, ReadsWith, ReadsAs}
 use Rattle.eb_query.specs.WatchLine.{WatchOutcome, reads, ReadsWatchWith}
 use Rattle.eb_query.specs.Apart.{IsApart}
@@ -38,7 +40,7 @@ kinds_of_line line = map (λ (p : Placed). p.lexeme) (lexemes_of_line plain line
 -- the texts of its leaves can be named and the written text doesn't nest too deep
 abbrev pub ReadsBack : Type 0
 ReadsBack = (k : ℕ) (t : Tree) → 1 ≤ k → k ≤ most_matches → IsWellFormed t → AreNamed t
-    → NestsWithin (kinds_of_line (line_text k t)) → ReadsAs (line_text k t) (asks k t)
+    → NestsWithin (kinds_of_line (line_text k t)) → ReadsAs (line_text k t) (asks (Newest k) t)
 
 -- without fields a lexeme is what it is where nothing of fields is known
 abbrev pub InPlain : Type 0
@@ -46,5 +48,9 @@ InPlain = (b : ℕ) (bs : List ℕ) → first_with plain b bs ≡ first plain b 
 
 -- whatever fields are read, a query's phrases and windows are of texts, so that no field's term stands in them
 abbrev pub FieldsApart : Type 0
-FieldsApart = (how : Dialect) (line : List ℕ) (k : ℕ) (t : Tree) → IsUtf8 line
-    → ReadsWith how line (asks k t) ⊎ ReadsWatchWith how line (reads (asks k t)) → IsApart t
+FieldsApart = (how : Dialect) (line : List ℕ) (a : Ask) (t : Tree) → IsUtf8 line
+    → ReadsWith how line (asks a t) ⊎ ReadsWatchWith how line (reads (asks a t)) → IsApart t
+
+-- where the dialect has no counts, a query line asks for the newest matches alone
+abbrev pub NewestAlone : Type 0
+NewestAlone = (how : Dialect) (line : List ℕ) (a : Ask) (t : Tree) → how.counts ≡ false → ReadsWith how line (asks a t) → (k : ℕ) × (a ≡ Newest k)

@@ -8,7 +8,8 @@ use Rattle.std.specs.Str.{bytes_eq}
 use Rattle.eb_base.specs.Query.{Tree, word, since, leaf_of, window_of, most_reach}
 use Rattle.eb_text.specs.Pieces.{tokens_by}
 use Rattle.eb_fields.specs.Fields.{begun_name, field_term}
-use Rattle.eb_query.specs.Digits.{is_no_digit, decimal_after}
+use Rattle.eb_fields.specs.Digits.{is_no_digit, decimal_after}
+use Rattle.eb_fields.specs.Ids.{id_of}
 use Rattle.eb_query.specs.Grammar.{Lexeme, opening, closing, minus, or_word, leaf, broken}
 
 -- a lexeme, and the place of its first byte in the line, counted from 1
@@ -83,19 +84,6 @@ quoted how bs =
       position_or_len is_quote bs + 1 + tilde_len (drop (position_or_len is_quote bs + 1) bs),
     )
     else (broken, length bs)
-
--- the greatest id of a document
-abbrev pub most_id : ℕ
-most_id = 18446744073709551615
-
--- the bytes are one to twenty digits of a value that an id may have
-abbrev pub is_id : List ℕ → Bool
-is_id ds =
-    (nat_le 1 (length ds) && nat_le (length ds) 20) && (eqb (position_or_len is_no_digit ds) (length ds) && nat_le (decimal_after 0 ds) most_id)
-
--- the id that the bytes write, if they do
-unfoldable pub id_of : List ℕ → Option ℕ
-id_of ds = if is_id ds then Some (decimal_after 0 ds) else None
 
 -- a run: `OR` is the operator, one that begins with `since:` is a bound, any other is a text
 unfoldable pub run_lexeme : Dialect → List ℕ → Lexeme

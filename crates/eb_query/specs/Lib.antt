@@ -1,9 +1,9 @@
 -- What contracts promise: the grammar of query texts, what a line asks or why it is refused, and how a query is written.
 pub mod Grammar
 pub mod Nesting
-pub mod Digits
 pub mod Lexemes
 pub mod Number
+pub mod Head
 pub mod Reading
 pub mod WatchLine
 pub mod Refusal

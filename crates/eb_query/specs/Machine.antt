@@ -4,7 +4,7 @@ use Rattle.std.specs.Prelude.{ℕ, zero, suc, ◌+◌, nat_lt, Bool, true, false
 use Rattle.eb_base.specs.Query.{Tree, negation, and_of, or_of, size, most_size}
 use Rattle.eb_query.specs.Grammar.{Lexeme, opening, closing, minus, or_word, leaf, broken}
 use Rattle.eb_query.specs.Lexemes.{Placed}
-use Rattle.eb_query.specs.Number.{number_in_line}
+use Rattle.eb_query.specs.declared.ask.Ask.{Ask}
 use Rattle.eb_query.specs.Reading.{Outcome, asks, bad_query, too_deep, too_many_nodes}
 use Rattle.eb_query.specs.Nesting.{most_open}
 
@@ -82,13 +82,13 @@ abbrev pub is_deep : Lexeme → State → Bool
 is_deep l s = cond (is_opener l) (nat_le most_open (nest s)) false
 
 -- the outcome of a whole query
-abbrev pub sized : List ℕ → Tree → Outcome
-sized line t = cond (nat_lt most_size (size t)) too_many_nodes (asks (number_in_line line) t)
+abbrev pub sized : Ask → Tree → Outcome
+sized a t = cond (nat_lt most_size (size t)) too_many_nodes (asks a t)
 
 -- the outcome at the end of the line
-abbrev pub ending : List ℕ → Option Tree → Outcome
-ending line None = bad_query (length line + 1)
-ending line (Some t) = sized line t
+abbrev pub ending : List ℕ → Ask → Option Tree → Outcome
+ending line a None = bad_query (length line + 1)
+ending line a (Some t) = sized a t
 
 -- the outcome after a step, which is too deep where the flag says so
 abbrev pub stepped : (State → Outcome) → ℕ → Bool → Option State → Outcome
@@ -96,7 +96,7 @@ stepped more column deep None = bad_query column
 stepped more column true (Some s) = too_deep
 stepped more column false (Some s) = more s
 
--- the outcome of these lexemes of the line
-abbrev pub outcome : List ℕ → List Placed → State → Outcome
-outcome line [] s = ending line (finish s)
-outcome line (p ∷ ps) s = stepped (outcome line ps) p.column (is_deep p.lexeme s) (step p.lexeme s)
+-- the outcome of these lexemes of the line, which asks this of its query
+abbrev pub outcome : List ℕ → Ask → List Placed → State → Outcome
+outcome line a [] s = ending line a (finish s)
+outcome line a (p ∷ ps) s = stepped (outcome line a ps) p.column (is_deep p.lexeme s) (step p.lexeme s)

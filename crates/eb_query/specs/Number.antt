@@ -2,7 +2,7 @@
 use Rattle.std.specs.Prelude.{◌≡◌, ℕ, ◌+◌, ◌≤◌, Bool, true, List, [], ◌∷◌, take, drop}
 use Rattle.std.specs.List.{position_or_len}
 use Rattle.eb_fields.specs.Dialect.{Dialect}
-use Rattle.eb_query.specs.Digits.{is_no_digit, decimal_after}
+use Rattle.eb_fields.specs.Digits.{is_no_digit, decimal_after}
 use Rattle.eb_query.specs.Lexemes.{Placed, is_blank, lexemes}
 use Rattle.eb_base.specs.Match.{most_matches}
 

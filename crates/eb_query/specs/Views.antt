@@ -1,9 +1,9 @@
 -- What the values of the reader stand for in its machine.
-use Rattle.std.specs.Prelude.{◌≡◌, ℕ, ◌≤◌, true, false, List, [], ◌∷◌, map, reverse, Some, None, Result, Ok, Err}
+use Rattle.std.specs.Prelude.{◌≡◌, ◌≤◌, true, false, List, [], ◌∷◌, map, reverse, Some, None, Result, Ok, Err}
 use Rattle.eb_base.specs.Query.{Tree, tree, parts_of}
 use Rattle.eb_base.specs.declared.query.Query.{Query}
 use Rattle.eb_query.specs.Grammar.{Lexeme, opening, closing, minus, or_word, leaf, broken}
-use Rattle.eb_query.specs.Number.{number_in_line}
+use Rattle.eb_query.specs.declared.ask.Ask.{Ask}
 use Rattle.eb_query.specs.Reading.{Outcome, asks, bad_query, too_deep, too_many_nodes}
 use Rattle.eb_query.specs.Machine.{Level, level, State, state, step, nest, is_deep}
 use Rattle.eb_query.specs.declared.lexeme.Lexeme as found
@@ -51,11 +51,11 @@ Steps Stood l s t = (step l s ≡ Some t) × (is_deep l s ≡ false)
 Steps Misplaced l s t = step l s ≡ None
 Steps Deep l s t = (r : State) × (step l s ≡ Some r) × (is_deep l s ≡ true)
 
--- the query text of the line has this outcome, unless memory ran out
-abbrev pub Finds : List ℕ → Outcome → Result Query QueryFault → Type 0
-Finds line o (Ok q) = o ≡ asks (number_in_line line) (tree q)
-Finds line o (Err faults.BadNumber) = ⊥
-Finds line o (Err (faults.BadQuery c)) = o ≡ bad_query c
-Finds line o (Err faults.TooDeep) = o ≡ too_deep
-Finds line o (Err faults.TooManyNodes) = o ≡ too_many_nodes
-Finds line o (Err faults.NoMemory) = Unit {0}
+-- the query text has this outcome, where the line asks this of its query, unless memory ran out
+abbrev pub Finds : Ask → Outcome → Result Query QueryFault → Type 0
+Finds a o (Ok q) = o ≡ asks a (tree q)
+Finds a o (Err faults.BadNumber) = ⊥
+Finds a o (Err (faults.BadQuery c)) = o ≡ bad_query c
+Finds a o (Err faults.TooDeep) = o ≡ too_deep
+Finds a o (Err faults.TooManyNodes) = o ≡ too_many_nodes
+Finds a o (Err faults.NoMemory) = Unit {0}

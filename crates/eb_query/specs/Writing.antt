@@ -2,7 +2,7 @@
 -- and 41 the parentheses, 45 the minus, 63 the question mark, 126 the tilde, and 79 82 is `OR`.
 use Rattle.std.specs.Prelude.{◌≡◌, ℕ, ◌≤◌, ◌≢◌, List, [], ◌∷◌, ◌++◌, codes, decimal}
 use Rattle.std.specs.List.{AllByRecursion}
-use Rattle.eb_query.specs.Lexemes.{most_id}
+use Rattle.eb_fields.specs.Ids.{most_id}
 use Rattle.eb_base.specs.Query.{Tree, word, phrase, window, since, negation, conjunction, disjunction, Trees, no_trees, trees}
 use Rattle.eb_text.specs.Tokens.{tokens_of}
 

@@ -1,4 +1,4 @@
-ghost use Rattle.eb_query.specs.Laws.{SomeReading, OneReading, SomeWatchReading, OneWatchReading, ReadsBack, InPlain, FieldsApart};
+ghost use Rattle.eb_query.specs.Laws.{SomeReading, OneReading, SomeWatchReading, OneWatchReading, ReadsBack, InPlain, FieldsApart, NewestAlone};
 
 /// The rules of reading leave no line out, whatever fields are read: each has an outcome, which asks
 /// something or is a refusal. The call does nothing.
@@ -53,4 +53,9 @@ pub fn in_plain()
 /// is only ever asked for as a word. The call does nothing.
 pub fn fields_apart()
     ensures { FieldsApart }
+{}
+
+/// A law: where the dialect has no counts, a query line asks for the newest matches alone. The call does nothing.
+pub fn newest_alone()
+    ensures { NewestAlone }
 {}

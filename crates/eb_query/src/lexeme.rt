@@ -5,11 +5,10 @@ ghost use Rattle.eb_fields.specs.Dialect.{dialect_of};
 ghost use Rattle.eb_query.specs.Lexemes.{is_blank, ends_run, text_lexeme, run_lexeme, bare, first, first_with};
 ghost use Rattle.eb_query.specs.Views.{lexeme_of};
 
-use crate::bound::read_id;
 use crate::quoted::quoted_at;
 use crate::value::value_at;
 use eb_base::{NoMemory, Query};
-use eb_fields::Dialect;
+use eb_fields::{Dialect, read_id};
 use eb_text::{plain_token, tokens_by};
 use std::alloc::Global;
 

@@ -2,15 +2,17 @@
 //! ids, `OR`, `-` and parentheses; and watch lines: `!`, the number of a watch, and the query that it is set
 //! to, or nothing where it is removed (this project's profile, docs/FORMATS.md). [`read_query`] reads a query
 //! line, [`write_query`] writes one, and [`read_watch`] reads a watch line. What a line asks, and where and why
-//! another is refused, is told by the rules in `specs/`. With fields, [`read_query_with`] and [`read_watch_with`] read
+//! another is refused, is told by the rules in `specs/`. [`read_ask`] reads a line by a [`Dialect`](eb_fields::Dialect), and a count line
+//! besides: `#`, the buckets that are wanted, if any, and a query.  With fields, [`read_query_with`] and [`read_watch_with`] read
 //! the same lines, where a field's name and value ask for the documents that have them. That they give each line a reading, and one alone, and
 //! that what is written reads back, are the laws [`some_reading`], [`one_reading`], [`some_watch_reading`],
 //! [`one_watch_reading`] and [`reads_back`]; that without fields nothing of
 //! them is read is [`in_plain`], and that a field's term stands in no phrase or window is [`fields_apart`].
 #![tactic(auto)]
 
-mod bound;
+mod ask;
 mod digits;
+mod head;
 mod laws;
 mod lexeme;
 mod number;
@@ -22,12 +24,14 @@ mod value;
 mod watch;
 mod write;
 
+pub use ask::Ask;
+pub use head::{MAX_BUCKETS, begins_query};
 pub use laws::{
-    fields_apart, in_plain, one_reading, one_watch_reading, reads_back, some_reading,
+    fields_apart, in_plain, newest_alone, one_reading, one_watch_reading, reads_back, some_reading,
     some_watch_reading,
 };
 pub use number::MAX_NUMBER;
-pub use read::{QueryFault, read_query, read_query_with};
+pub use read::{QueryFault, read_ask, read_query, read_query_with};
 pub use reader::MAX_NESTING;
 pub use watch::{read_watch, read_watch_with};
 pub use write::write_query;

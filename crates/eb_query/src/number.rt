@@ -1,8 +1,9 @@
 ghost use Rattle.std.specs.Prelude.{◌≡◌, ◌+◌, ◌<◌, ◌≤◌, length, drop, IfSome, IfNone};
 ghost use Rattle.eb_query.specs.Number.{is_blank_or_end, digits_len, number_in_line, HasNumberUpTo, HasQueryNumber};
 
-use crate::digits::{digits_at, value_of};
+use crate::digits::value_of;
 use crate::lexeme::is_blank_byte;
+use eb_fields::digits_at;
 
 /// The most matches that a query may ask for (this project's profile, docs/FORMATS.md).
 pub const MAX_NUMBER: u32 = 1000;

@@ -4,14 +4,14 @@ ghost use Rattle.std.specs.Str.{IsCharBoundary};
 ghost use Rattle.eb_base.specs.Query.{window_of};
 ghost use Rattle.eb_fields.specs.Dialect.{dialect_of};
 ghost use Rattle.eb_text.specs.Pieces as spec;
-ghost use Rattle.eb_query.specs.Digits.{is_no_digit};
+ghost use Rattle.eb_fields.specs.Digits.{is_no_digit};
 ghost use Rattle.eb_query.specs.Lexemes.{is_quote, of_leaf, is_run_end, reach_by, has_tilde, window_lexeme, quoted_lexeme, tilde_len, quoted};
 ghost use Rattle.eb_query.specs.Views.{lexeme_of};
 
-use crate::digits::{digits_at, value_of};
+use crate::digits::value_of;
 use crate::lexeme::{Found, Lexeme, ends_run_byte, text_of};
 use eb_base::{MAX_REACH, NoMemory, Query};
-use eb_fields::Dialect;
+use eb_fields::{Dialect, digits_at};
 use eb_text::{Cut, tokens_by};
 use std::alloc::Global;
 

@@ -1,16 +1,19 @@
-ghost use Rattle.std.specs.Prelude.{◌≡◌, ◌+◌, ◌≤◌, length, drop, slice_get, IfOk, IfErr};
+ghost use Rattle.std.specs.Prelude.{◌≡◌, ◌+◌, ◌≤◌, true, length, drop, slice_get, IfOk, IfErr};
 ghost use Rattle.std.specs.Str.{IsCharBoundary};
 ghost use Rattle.eb_base.specs.Query.{tree, IsWellFormed};
 ghost use Rattle.eb_query.specs.Lexemes.{lexemes};
-ghost use Rattle.eb_fields.specs.Dialect.{dialect_of};
+ghost use Rattle.eb_fields.specs.Dialect.{dialect_of, uncounted};
+ghost use Rattle.eb_query.specs.Head.{begins_query, IsWithin};
+ghost use Rattle.eb_query.specs.declared.ask.Ask.TheVariants.{Newest};
 ghost use Rattle.eb_query.specs.Reading.{asks, ReadsAs, ReadsWith};
 ghost use Rattle.eb_query.specs.Refusal.{IsRefused, IsRefusedWith};
 ghost use Rattle.eb_query.specs.Machine.{start, outcome};
 ghost use Rattle.eb_query.specs.Views.{Finds};
 ghost use Rattle.eb_base.specs.Match.{most_matches};
 
+use crate::ask::Ask;
+use crate::head::{Head, head_at};
 use crate::lexeme::{is_blank_byte, lexeme_at};
-use crate::number::number_at;
 use crate::reader::{Reader, Step};
 use eb_base::{NoMemory, Query};
 use eb_fields::Dialect;
@@ -23,7 +26,8 @@ use std::fmt;
 #[derive(Clone, Copy, Debug, PartialEq, Eq)]
 pub enum QueryFault {
     /// The question mark isn't followed by one to four digits of a value from 1 to 1,000, or the exclamation mark by
-    /// one to ten of a value that 32 bits hold, with a blank or the end of the line after them.
+    /// one to ten of a value that 32 bits hold, with a blank or the end of the line after them; or the `#` of a count
+    /// line is followed neither by a blank or the end, nor by buckets and a blank or the end.
     BadNumber,
     /// A lexeme can't stand at its place, is a quote that isn't closed, has no token, or is a window
     /// text without a reach, a bound without an id or a field without a value; or the line ends before the query is
@@ -72,20 +76,20 @@ impl From<NoMemory> for QueryFault {
     }
 }
 
-// What the text that begins at this place asks.
+// What the text after the head of this line asks.
 pub(crate) fn read_text(
     alloc: Global,
     dialect: Dialect<'_>,
     line: &str,
-    from: usize,
+    head: Head,
 ) -> Result<Query, QueryFault>
-    requires boundary { IsCharBoundary line.now from }
-    requires within { from ≤ length line.now }
-    ensures { Finds line.now
-        (outcome line.now (lexemes (dialect_of dialect.entry) 0 (from + 1) (drop from line.now)) start) result }
+    requires boundary { IsCharBoundary line.now head.end }
+    requires within { head.end ≤ length line.now }
+    ensures { Finds head.ask
+        (outcome line.now head.ask (lexemes (dialect_of dialect.entry) 0 (head.end + 1) (drop head.end line.now)) start) result }
 {
     let mut reader = Reader::new(alloc);
-    let mut at = from;
+    let mut at = head.end;
     while at < line.len() {
         if is_blank_byte(line.as_bytes()[at]) {
             at += 1;
@@ -137,7 +141,7 @@ pub(crate) fn read_text(
 /// Each [`QueryFault`] says when it comes; `NoMemory` comes where a growth was refused.
 pub fn read_query(alloc: Global, line: &str) -> Result<(u32, Query), QueryFault>
     requires question_mark { slice_get line.now 0 ≡ Some 63 }
-    ensures asks { IfOk result (λ asked. ReadsAs line.now (asks asked.0 (tree asked.1))) }
+    ensures asks { IfOk result (λ asked. ReadsAs line.now (asks (Newest asked.0) (tree asked.1))) }
     ensures refused { IfErr result (IsRefused line.now) }
     ensures some { IfOk result (λ asked. 1 ≤ asked.0) }
     ensures within { IfOk result (λ asked. asked.0 ≤ most_matches) }
@@ -160,15 +164,36 @@ pub fn read_query_with(
     line: &str,
 ) -> Result<(u32, Query), QueryFault>
     requires question_mark { slice_get line.now 0 ≡ Some 63 }
-    ensures asks { IfOk result (λ asked. ReadsWith (dialect_of dialect.entry) line.now (asks asked.0 (tree asked.1))) }
-    ensures refused { IfErr result (IsRefusedWith (dialect_of dialect.entry) line.now) }
+    ensures asks { IfOk result (λ asked. ReadsWith (uncounted (dialect_of dialect.entry)) line.now (asks (Newest asked.0) (tree asked.1))) }
+    ensures refused { IfErr result (IsRefusedWith (uncounted (dialect_of dialect.entry)) line.now) }
     ensures some { IfOk result (λ asked. 1 ≤ asked.0) }
     ensures within { IfOk result (λ asked. asked.0 ≤ most_matches) }
     ensures well_formed { IfOk result (λ asked. IsWellFormed (tree asked.1)) }
 {
-    let Some(number) = number_at(line.as_bytes()) else {
+    match read_ask(alloc, dialect.uncounted(), line) {
+        Ok((Ask::Newest(k), query)) => Ok((k, query)),
+        Ok((Ask::Counts { .. }, _)) => unreachable!(),
+        Err(fault) => Err(fault),
+    }
+}
+
+/// What a query line asks of its query by this dialect, and the query, which is well formed: a line that begins with `?`,
+/// as [`read_query_with`] says, or where the dialect has counts one that begins with `#`. After the `#` stands nothing,
+/// where the total alone is asked for, or `X+W*N`, for the total and `N` buckets, each `W` wide, from the id `X` on: `X` is
+/// one to twenty digits of a value that 64 bits hold, `W` the same from 1 on, `N` one to four digits of a value from 1 to
+/// [`MAX_BUCKETS`](crate::MAX_BUCKETS). Then come a blank or the end, and a query text as after the number of a `?` line.
+///
+/// Each [`QueryFault`] says when it comes; `NoMemory` comes where a growth was refused.
+pub fn read_ask(alloc: Global, dialect: Dialect<'_>, line: &str) -> Result<(Ask, Query), QueryFault>
+    requires begins { begins_query (dialect_of dialect) line.now ≡ true }
+    ensures asks { IfOk result (λ asked. ReadsWith (dialect_of dialect.entry) line.now (asks asked.0 (tree asked.1))) }
+    ensures refused { IfErr result (IsRefusedWith (dialect_of dialect.entry) line.now) }
+    ensures within { IfOk result (λ asked. IsWithin asked.0) }
+    ensures well_formed { IfOk result (λ asked. IsWellFormed (tree asked.1)) }
+{
+    let Some(head) = head_at(dialect, line) else {
         return Err(QueryFault::BadNumber);
     };
-    let query = read_text(alloc, dialect, line, number.end)?;
-    Ok((number.value, query))
+    let query = read_text(alloc, dialect, line, head)?;
+    Ok((head.ask, query))
 }

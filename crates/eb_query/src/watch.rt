@@ -6,6 +6,8 @@ ghost use Rattle.eb_fields.specs.Dialect.{dialect_of};
 ghost use Rattle.eb_query.specs.WatchLine.{watch_asked, ReadsWatchAs, ReadsWatchWith};
 ghost use Rattle.eb_query.specs.Refusal.{IsWatchRefused, IsWatchRefusedWith};
 
+use crate::ask::Ask;
+use crate::head::Head;
 use crate::lexeme::is_blank_byte;
 use crate::number::number_up_to;
 use crate::read::{QueryFault, read_text};
@@ -62,6 +64,10 @@ pub fn read_watch_with(
     if is_blank_from(line.as_bytes(), number.end) {
         return Ok((number.value, None));
     }
-    let query = read_text(alloc, dialect, line, number.end)?;
+    let head = Head {
+        ask: Ask::Newest(number.value),
+        end: number.end,
+    };
+    let query = read_text(alloc, dialect, line, head)?;
     Ok((number.value, Some(query)))
 }

@@ -40,7 +40,7 @@ reads_asked how bytes n q e utf8 reads = subst (ReadsOther how bytes) (asked_is 
 
 -- a refused query text refuses its watch line
 watch_refused : (o : Outcome) (r : Refusal) → refused r ≡ of_query o → of_watch_text o ≡ refused r
-watch_refused (asks n q) r e = absurd (cc e)
+watch_refused (asks a q) r e = absurd (cc e)
 watch_refused bad_number r e = sym e
 watch_refused (bad_query column) r e = sym e
 watch_refused too_deep r e = sym e

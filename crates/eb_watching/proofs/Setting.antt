@@ -5,13 +5,13 @@ use Rattle.std.proofs.lemmas.Bool.{false_from_ne_true}
 use Rattle.eb_answer.specs.Rules.{Rules, watch_outcome, watches_after}
 use Rattle.eb_answer.specs.Stores.{IsHolding, IsOutcome, Places, PutsAnswer, TakesOther}
 use Rattle.eb_base.specs.Document.{Doc}
-use Rattle.eb_base.specs.Match.{answer}
 use Rattle.eb_base.specs.Query.{Tree}
+use Rattle.eb_query.specs.declared.ask.Ask.{Ask}
 use Rattle.eb_lines.specs.declared.form.Tail.{Tail}
 use Rattle.eb_lines.specs.declared.refusal.Refusal.{Refusal}
 use Rattle.eb_lines.specs.declared.refusal.Refusal.TheVariants.{NoWatch, WatchTaken, WatchesFull}
 use Rattle.eb_lines.specs.Reading.{watch}
-use Rattle.eb_lines.specs.Text.{answer_line}
+use Rattle.eb_lines.specs.Text.{asked_line}
 use Rattle.eb_watch.specs.Seen.{watches_of}
 use Rattle.eb_watch.specs.declared.watches.Watches.{Watches}
 use Rattle.eb_watch.specs.Watches.{Watched, is_set}
@@ -48,11 +48,11 @@ module _ {S W : Type 0} (holds : S → Rules W → List Doc → W → Type 0) wh
           record { plain = h.plain; beside = h.beside; by_rules = h.by_rules; held = placed.1; set = same ∙ h.set },
         )
 
-    pub answers : (number k : ℕ) (q : Tree) (t0 t1 : List ℕ) → PutsAnswer holds old.store new.store number k q t0 t1 → PutsAnswer (IsWatched holds) old new number k q t0 t1
+    pub answers : (number : ℕ) (k : Ask) (q : Tree) (t0 t1 : List ℕ) → PutsAnswer holds old.store new.store number k q t0 t1 → PutsAnswer (IsWatched holds) old new number k q t0 t1
     answers number k q t0 t1 p = λ rules docs ws h few.
         let put = p h.plain docs h.beside h.held (few_plain old rules docs ws h few) in (
           record { plain = h.plain; beside = h.beside; by_rules = h.by_rules; held = put.0; set = same ∙ h.set },
-          subst (λ (r : Rules (List Watched)). t1 ≡ t0 ++ answer_line r.form number (length docs) (answer q k (r.sees docs))) (sym h.by_rules) put.1,
+          subst (λ (r : Rules (List Watched)). t1 ≡ t0 ++ asked_line r.form number (length docs) k q (r.sees docs)) (sym h.by_rules) put.1,
         )
 
   pub closes : {E : Type 0} (s : Watching S) (r : Result Tail E) → IfOk r (λ tail. (rules : Rules W) (docs : List Doc) (ws : W) → holds s.store rules docs ws → tail ≡ rules.tail docs)

@@ -7,6 +7,7 @@ use Rattle.eb_base.specs.Query.{tree, IsWellFormed}
 use Rattle.eb_lines.specs.Reading.{Reading, refused, watch}
 use Rattle.eb_lines.specs.declared.refusal.Refusal.{Refusal}
 use Rattle.eb_lines.specs.declared.refusal.Refusal.TheVariants.{BadLine, BadNumber, BadQuery, QueryTooLarge, QueryTooDeep}
+use Rattle.eb_query.specs.declared.ask.Ask.TheVariants.{Newest, Counts}
 use Rattle.eb_query.specs.Reading.{Outcome, asks, bad_number, bad_query, too_deep, too_many_nodes}
 use Rattle.eb_query.specs.WatchLine.{WatchOutcome, removes, reads, ReadsWatchWith}
 
@@ -15,9 +16,10 @@ abbrev pub is_watch_line : List ℕ → Bool
 is_watch_line [] = false
 is_watch_line (b ∷ bs) = b == 33 && is_utf8 (b ∷ bs)
 
--- a watch line sets or removes its watch, or it is refused
+-- a watch line sets or removes its watch, or it is refused; none asks for counts
 abbrev pub of_watch_text : Outcome → Reading
-of_watch_text (asks n q) = watch n (Some q)
+of_watch_text (asks (Newest n) q) = watch n (Some q)
+of_watch_text (asks (Counts x w n) q) = refused BadNumber
 of_watch_text bad_number = refused BadNumber
 of_watch_text (bad_query column) = refused (BadQuery column)
 of_watch_text too_deep = refused QueryTooDeep

@@ -19,6 +19,7 @@ use eb_base::{Document, Gate, NoMemory, Query};
 use eb_fields::Dialect;
 use eb_lines::{Form, Refusal, Tail};
 use eb_place::Steps;
+use eb_query::Ask;
 use eb_watch::{NoWatch, SetFault, Watches};
 use std::alloc::Global;
 use std::marker::Brand;
@@ -121,12 +122,12 @@ impl<S: Store> Store for Watching<S> {
         &mut self,
         alloc: Global,
         number: u64,
-        k: u32,
+        ask: Ask,
         query: Query,
         gate: &G,
         text: &mut Vec<u8>,
     ) -> Result<(), NoMemory> {
-        self.store.answer(alloc, number, k, query, gate, text)
+        self.store.answer(alloc, number, ask, query, gate, text)
     }
 
     fn documents(&self) -> u64 {

@@ -22,7 +22,7 @@ returns-in_ok-query-in-Ask-clause-ok g c =
     let ns = dialect_of c.args.answering.now.dialect in
     let own = c.in-Ask.question in
     let read = reads_raw g.P.Store.other ns l (Err (Ask own)) (λ x. x) (subst (λ (o : Other). IsTaskOf ns l (Err o)) c.in-Ask.is c.requires.task) in
-    let reads = subst (λ (t : Tree). ReadsWith g.P.Store.other ns l (query own.k t)) (sym c.in_ok-query-in-Ask.ensures) read in
+    let reads = subst (λ (t : Tree). ReadsWith g.P.Store.other ns l (query own.ask t)) (sym c.in_ok-query-in-Ask.ensures) read in
     ok_on c.answer.result c.answer.ensures.ok (λ takes. takes l reads)
 
 pub returns-in_ok-query-in-Ask-clause-err : goal.returns-in_ok-query-in-Ask-clause-err

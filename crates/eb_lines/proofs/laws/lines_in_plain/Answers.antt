@@ -16,4 +16,4 @@ of_kind same query_line bytes r = (λ h. h, λ h. h)
 of_kind same bad_line bytes r = (λ h. h, λ h. h)
 
 pub returns : goal.returns
-returns c = λ bytes r. of_kind c.in_plain.ensures (kind_of bytes) bytes r
+returns c = λ bytes r. of_kind c.in_plain.ensures (kind_of plain bytes) bytes r

@@ -1,5 +1,5 @@
 use Rattle.std.proofs.Common.{arith, ◌∙◌, sym, refl, ap, ℕ, ◌+◌, ◌*◌, drop}
-use Rattle.eb_query.specs.Digits.{decimal_after}
+use Rattle.eb_fields.specs.Digits.{decimal_after}
 use Rattle.eb_query.proofs.Values.{cap, cap_next, cap_small, value_next}
 use Rattle.eb_query.proofs.digits.value_of.Goals as goal
 

@@ -1,5 +1,5 @@
 use Rattle.std.proofs.Common.{◌≡◌, ◌<◌, drop}
-use Rattle.eb_query.specs.Digits.{decimal_after}
+use Rattle.eb_fields.specs.Digits.{decimal_after}
 use Rattle.eb_query.proofs.Values.{cap}
 use Rattle.eb_query.proofs.digits.value_of.Given as goal
 

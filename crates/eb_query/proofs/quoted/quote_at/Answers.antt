@@ -1,6 +1,6 @@
 use Rattle.std.proofs.Common.{eq-eqb}
 use Rattle.eb_query.specs.Lexemes.{is_quote}
-use Rattle.eb_query.proofs.Cuts.{found_at, found_none}
+use Rattle.eb_fields.proofs.Found.{found_at, found_none}
 use Rattle.eb_query.proofs.quoted.quote_at.Goals as goal
 
 pub returns-then-byte-eq34 : goal.returns-then-byte-eq34

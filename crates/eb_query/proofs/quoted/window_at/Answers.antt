@@ -1,8 +1,9 @@
 use Rattle.eb_fields.specs.Dialect.{dialect_of}
 use Rattle.std.proofs.Common.{◌≡◌, ◌∙◌, drop, ap}
 use Rattle.std.specs.List.{position_or_len}
-use Rattle.eb_query.specs.Digits.{is_no_digit}
-use Rattle.eb_query.proofs.Leaves.{found_within, bytes_rest, window_is, digits_boundary}
+use Rattle.eb_fields.specs.Digits.{is_no_digit}
+use Rattle.eb_query.proofs.Leaves.{bytes_rest, window_is, digits_boundary}
+use Rattle.eb_fields.proofs.Found.{found_within}
 use Rattle.eb_query.proofs.quoted.window_at.Goals as goal
 
 pub reach_at-requires : goal.reach_at-requires

@@ -1,44 +1,12 @@
-use Rattle.eb_fields.specs.Dialect.{dialect_of}
-use Rattle.std.proofs.Common.{◌+◌, ℕ, arith, ◌∙◌, ap, drop}
-use Rattle.std.proofs.lemmas.Option.{slice_get_within}
+use Rattle.std.proofs.Common.{◌≡◌, ap, ◌∙◌, sym, false}
 use Rattle.eb_base.specs.Query.{tree}
-use Rattle.eb_query.specs.Number.{is_blank_or_end}
-use Rattle.eb_query.specs.Reading.{without_number}
-use Rattle.eb_query.specs.Refusal.{IsRefusedWith}
-use Rattle.eb_query.proofs.Values.{digits_within, apart_boundary}
-use Rattle.eb_query.proofs.Asks.{asked, faulted, handed_on}
-use Rattle.eb_query.proofs.Formed.{given_formed}
+use Rattle.eb_fields.specs.Dialect.{Dialect, dialect_of}
+use Rattle.eb_query.proofs.OneOutcome.{newest_alone}
 use Rattle.eb_query.proofs.read.read_query_with.Goals as goal
 
-pub returns-in_default-clause-refused : goal.returns-in_default-clause-refused
-returns-in_default-clause-refused c = without_number (rw c.as_bytes.ensures.value at c.in_default.ensures.none)
-
-pub read_text-requires-clause-within : goal.read_text-requires-clause-within
-read_text-requires-clause-within c =
-    let e = rw c.as_bytes.ensures.value at c.in-Some.ensures.end in
-    let w = digits_within c.args.line.now (slice_get_within c.args.line.now 0 63 c.requires.question_mark) in omega arith
-
-pub read_text-requires-clause-boundary : goal.read_text-requires-clause-boundary
-read_text-requires-clause-boundary c =
-    let h = rw c.as_bytes.ensures.value at c.in-Some.ensures.some in
-    let e = rw c.as_bytes.ensures.value at c.in-Some.ensures.end in
-    let w = digits_within c.args.line.now (slice_get_within c.args.line.now 0 63 c.requires.question_mark) in
-    apart_boundary c.args.line.now c.in-Some.number.end (omega arith) (ap (λ (k : ℕ). is_blank_or_end (drop k c.args.line.now)) e ∙ h.up_to.apart)
-
-pub returns-in_err-query-clause-refused : goal.returns-in_err-query-clause-refused
-returns-in_err-query-clause-refused c =
-    let h = rw c.as_bytes.ensures.value at c.in-Some.ensures.some in
-    let e = rw c.as_bytes.ensures.value at c.in-Some.ensures.end in
-    handed_on (IsRefusedWith (dialect_of c.args.dialect) c.args.line.now) c.in_err-query.field-0.0 c.from_residual.result c.from_residual.ensures.1
-    (faulted (dialect_of c.args.dialect) c.args.line.now c.in-Some.number.end h e c.in_err-query.field-0.0 c.in_err-query.ensures)
-
-pub returns-clause-asks : goal.returns-clause-asks
-returns-clause-asks c =
-    let h = rw c.as_bytes.ensures.value at c.in-Some.ensures.some in
-    let v = rw c.as_bytes.ensures.value at c.in-Some.ensures.value in
-    let e = rw c.as_bytes.ensures.value at c.in-Some.ensures.end in
-    asked (dialect_of c.args.dialect) c.args.line.now c.in-Some.number.end c.in-Some.number.value c.in_ok-query.query h e v c.in_ok-query.ensures
-
-pub returns-clause-well_formed : goal.returns-clause-well_formed
-returns-clause-well_formed c =
-    given_formed (dialect_of c.args.dialect) c.args.line.now (c.in-Some.number.end + 1) (drop c.in-Some.number.end c.args.line.now) (tree c.in_ok-query.query) c.in_ok-query.ensures
+pub unreachable-requires : goal.unreachable-requires
+unreachable-requires c =
+    let none : (dialect_of c.uncounted.result).counts ≡ false = ap (λ (how : Dialect). how.counts) c.uncounted.ensures in
+    let found = newest_alone (dialect_of c.uncounted.result) c.args.line.now c.in-Ok-Counts-default.field-0-0 (tree c.in-Ok-Counts-default.field-0-1) none c.in-Ok-Counts-default.ensures.asks in
+    let same = sym c.in-Ok-Counts-default.field-0-0-is ∙ found.1 in
+    cc

@@ -8,8 +8,8 @@ use Rattle.eb_query.proofs.read.read_text.Given as goal
 
 abbrev pub invariant-loop-at : goal.invariant-loop-at
 invariant-loop-at l = record {
-  told : outcome l.line (lexemes (dialect_of l.dialect) 0 (l.at + 1) (drop l.at l.line)) (state_of l.reader) ≡ outcome l.line
-      (lexemes (dialect_of l.dialect) 0 (l.fn.from + 1) (drop l.fn.from l.line)) start;
+  told : outcome l.line l.fn.head.ask (lexemes (dialect_of l.dialect) 0 (l.at + 1) (drop l.at l.line)) (state_of l.reader) ≡ outcome l.line l.fn.head.ask
+      (lexemes (dialect_of l.dialect) 0 (l.fn.head.end + 1) (drop l.fn.head.end l.line)) start;
   counted : IsCounted l.reader;
   boundary : IsCharBoundary l.line l.at;
 }

@@ -4,6 +4,7 @@ use Rattle.std.proofs.lemmas.Option.{slice_get_within}
 use Rattle.eb_base.specs.Query.{tree}
 use Rattle.eb_query.specs.Number.{is_blank_or_end}
 use Rattle.eb_query.specs.WatchLine.{without_number}
+use Rattle.eb_query.specs.declared.ask.Ask.TheVariants.{Newest}
 use Rattle.eb_query.specs.Refusal.{IsWatchRefusedWith}
 use Rattle.eb_query.proofs.Values.{digits_within, apart_boundary}
 use Rattle.eb_query.proofs.Asks.{removed, watch_set, watch_faulted, handed_on}
@@ -41,10 +42,11 @@ read_text-requires-clause-boundary c =
 pub returns-in_err-query-clause-refused : goal.returns-in_err-query-clause-refused
 returns-in_err-query-clause-refused c =
     let h = rw c.as_bytes.ensures.value at c.in-Some.ensures.some in
+    let v = rw c.as_bytes.ensures.value at c.in-Some.ensures.value in
     let e = rw c.as_bytes.ensures.value at c.in-Some.ensures.end in
     let b = rw c.as_bytes-2.ensures.value at (sym c.is_blank_from.ensures ∙ c.if-is_blank_from.false) in
     handed_on (IsWatchRefusedWith (dialect_of c.args.dialect) c.args.line.now) c.in_err-query.field-0.0 c.from_residual.result c.from_residual.ensures.1
-    (watch_faulted (dialect_of c.args.dialect) c.args.line.now c.in-Some.number.end h e b c.in_err-query.field-0.0 c.in_err-query.ensures)
+    (watch_faulted (dialect_of c.args.dialect) c.args.line.now c.in-Some.number.end c.in-Some.number.value h e v b c.in_err-query.field-0.0 c.in_err-query.ensures)
 
 pub returns-clause-asks : goal.returns-clause-asks
 returns-clause-asks c =
@@ -56,4 +58,5 @@ returns-clause-asks c =
 
 pub returns-clause-well_formed : goal.returns-clause-well_formed
 returns-clause-well_formed c =
-    given_formed (dialect_of c.args.dialect) c.args.line.now (c.in-Some.number.end + 1) (drop c.in-Some.number.end c.args.line.now) (tree c.in_ok-query.query) c.in_ok-query.ensures
+    given_formed (Newest c.in-Some.number.value) (dialect_of c.args.dialect) c.args.line.now
+    (c.in-Some.number.end + 1) (drop c.in-Some.number.end c.args.line.now) (tree c.in_ok-query.query) c.in_ok-query.ensures

@@ -8,7 +8,7 @@ answer-requires-clause-state g c = holding g.S.Store.holds c.args.self.now c.req
 
 pub returns-clause-ok : goal.returns-clause-ok
 returns-clause-ok g c =
-    on_ok c.answer.result (answers g.S.Store.holds c.args.self.now _ refl c.args.number c.args.k (tree c.args.query) c.args.text.now.items c.answer.new.text.items) c.answer.ensures.ok
+    on_ok c.answer.result (answers g.S.Store.holds c.args.self.now _ refl c.args.number c.args.ask (tree c.args.query) c.args.text.now.items c.answer.new.text.items) c.answer.ensures.ok
 
 pub returns-clause-err : goal.returns-clause-err
 returns-clause-err g c = on_err c.answer.result (same_store c.args.self.now _ c.args.text.now.items c.answer.new.text.items refl) c.answer.ensures.err
