@@ -1,12 +1,12 @@
 -- A load of an image and of lines after it ends in time.
 use Rattle.eb_fields.specs.Dialect.{Dialect}
-use Rattle.std.proofs.Common.{◌≡◌, ℕ, ◌<◌, ◌⊎◌, inl, inr, List, [], ◌++◌, length, Option, Some, None, refl, sym, ap, ap₂, subst, ◌∙◌, arith, append-nil, length-append}
+use Rattle.std.proofs.Common.{◌≡◌, ℕ, ◌<◌, ◌⊎◌, inl, inr, List, [], ◌++◌, length, Option, Some, None, refl, sym, ap, ap₂, subst, ◌∙◌, arith, append-nil, length-append, append_assoc}
 use Rattle.std.proofs.lemmas.Bool.{cases_lt}
 use Rattle.std.proofs.lemmas.List.{append_cancel_left}
 use Rattle.eb_base.specs.Document.{Doc}
 use Rattle.eb_base.specs.Setting.{Setting, IsSetting}
 use Rattle.eb_image.specs.Image.{image_of}
-use Rattle.eb_image.specs.Reading.{IsBad}
+use Rattle.eb_image.specs.Reading.{IsBad, HasNone}
 use Rattle.eb_image.proofs.Parts.{images_differ_all}
 use Rattle.eb_image.proofs.Taken.{front_both}
 use Rattle.eb_io.specs.Lines.{longest_input}
@@ -17,7 +17,7 @@ use Rattle.eb_lines.specs.declared.status.Status.TheVariants.{Done, Refused, Usa
 use Rattle.eb_lines.specs.Outcomes.{IsWorkedOff}
 use Rattle.eb_lines.proofs.Told.{completes, ends_told, ends_mean}
 use Rattle.eb_place.specs.Room.{IsLawful}
-use Rattle.eb_archive.specs.Loaded.{Loaded, IsLoadable, IsImage, IsUnread, EndsLoad, WroteLoaded, MeansLoaded, IsBodyBehind, IsTextBehind, HasRefusalBehind, HasNoRefusalBehind}
+use Rattle.eb_archive.specs.Loaded.{Loaded, IsLoadable, IsImage, IsUnread, IsCutShort, EndsLoad, WroteLoaded, MeansLoaded, IsBodyBehind, IsTextBehind, HasRefusalBehind, HasNoRefusalBehind}
 
 told : (bytes taken : List ℕ) (left : Option (List ℕ)) → after taken left ≡ Some bytes → (rest : List ℕ) × (left ≡ Some rest) × (taken ++ rest ≡ bytes)
 told bytes taken None e = let no : ⊥ = cc in absurd no
@@ -40,6 +40,20 @@ module _ (σ : Setting) (docs : List Doc) (rest : List ℕ) (allowed : IsSetting
               absurd (omega (arith, short, ap length d.2, length-append taken d.0, ap length none, length-append (image_of σ docs) rest))
         ]
         | inr long ↦ bad.none (image_of σ docs) whole (front_both (image_of σ docs) taken rest d.0 (sym d.2) long)
+      ]
+
+  -- and where none came, some of its bytes are left
+  cut_short : (taken : List ℕ) (left : Option (List ℕ)) → after taken left ≡ Some (image_of σ docs ++ rest) → HasNone IsImage taken
+      → (t : List ℕ) × (0 < length t) × (left ≡ Some (t ++ rest))
+  cut_short taken left e none =
+      let d = told (image_of σ docs ++ rest) taken left e in
+      elim (cases_lt (length taken) (length (image_of σ docs))) [
+        | inl short ↦
+            let front = front_both taken (image_of σ docs) d.0 rest d.2 (omega (arith, short)) in
+            let t = front.rest in
+            let lines : d.0 ≡ t ++ rest = append_cancel_left taken d.0 (t ++ rest) (d.2 ∙ ap (λ b. b ++ rest) front.is ∙ append_assoc taken t rest) in
+            (t, omega (arith, short, ap length front.is, length-append taken t), d.1 ∙ ap Some lines)
+        | inr long ↦ absurd (none (image_of σ docs) whole (front_both (image_of σ docs) taken rest d.0 (sym d.2) long))
       ]
 
   -- and no other
@@ -88,9 +102,9 @@ module _ (σ : Setting) (docs : List Doc) (rest : List ℕ) (allowed : IsSetting
 
   -- what is told of the lines
   module _ (how : Dialect) (form : Form) (status : Status) (l0 l1 p0 p1 : Option (List ℕ)) (e : EndsLoad how form status l0 l1 p0 p1) (source : l0 ≡ Some (image_of σ docs ++ rest)) where
-    maybe_unread : (s : Status) → IsUnread s l0 l1 p0 p1 → (s ≡ ReadFault) ⊎ (s ≡ NoMemory)
-    maybe_unread ReadFault u = inl refl
-    maybe_unread NoMemory u = inr refl
+    maybe_unread : (s : Status) → IsUnread s l0 l1 p0 p1 → IsCutShort s rest l1
+    maybe_unread ReadFault u = (inl refl, cut_short u.taken l1 (sym u.left ∙ source) u.why.0)
+    maybe_unread NoMemory u = (inr refl, cut_short u.taken l1 (sym u.left ∙ source) u.why)
     maybe_unread BadImage u = absurd (is_image u.taken l1 (sym u.left ∙ source) u.why)
     maybe_unread Done u = absurd u.why
     maybe_unread Refused u = absurd u.why

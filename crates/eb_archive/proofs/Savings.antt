@@ -111,7 +111,7 @@ saved_none s w q how index setting writer number refused_none = record {
 }
 
 -- a line is read by its kind
-pub reads_to_save : (how : Dialect) (bytes : List ℕ) (k : Kind) (r : Reading) → kind_of bytes ≡ k → ReadsByKind how (kind_to_save k) bytes r → ReadsToSave how (line bytes) r
+pub reads_to_save : (how : Dialect) (bytes : List ℕ) (k : Kind) (r : Reading) → kind_of how bytes ≡ k → ReadsByKind how (kind_to_save k) bytes r → ReadsToSave how (line bytes) r
 reads_to_save how bytes k r is h = subst (λ (x : Kind). ReadsByKind how (kind_to_save x) bytes r) (sym is) h
 
 -- ---- the end

@@ -1,11 +1,11 @@
 -- The reading of an image takes one part more, or stops.
-use Rattle.std.proofs.Common.{◌≡◌, ℕ, false, List, [], ◌∷◌, ◌++◌, Option, refl, sym, ap, ◌∙◌}
+use Rattle.std.proofs.Common.{◌≡◌, ℕ, inl, inr, false, List, [], ◌∷◌, ◌++◌, Option, refl, sym, ap, ◌∙◌}
 use Rattle.std.proofs.Common.{arith, append_assoc, append-nil}
 use Rattle.std.specs.List.{flat_map}
 use Rattle.eb_base.specs.Document.{Doc, IsDocument}
 use Rattle.eb_base.specs.Setting.{Setting, IsSetting}
 use Rattle.eb_image.specs.Image.{head_of, document_part, last_byte, image_of}
-use Rattle.eb_image.specs.Reading.{IsHead, IsNextPart, IsPart, IsBad, HasNone}
+use Rattle.eb_image.specs.Reading.{IsHead, IsNextPart, IsPart, IsBad, HasBegun}
 use Rattle.eb_image.specs.declared.fault.ImageFault.TheVariants as fault
 use Rattle.eb_image.specs.declared.fault.ImageFault.{ImageFault}
 use Rattle.eb_io.specs.Source.{after}
@@ -33,8 +33,15 @@ module _ (s : Indexed) (σ : Setting) (docs : List Doc) (first now left : Option
     taken = on (read_bytes σ docs) last_byte first now left h.taken e ∙ ap (λ b. after b left) (append_assoc (head_of σ) (flat_map document_part docs) last_byte);
   }
 
-  pub takes_none : (t : List ℕ) → now ≡ after t left → HasNone IsNextPart t → IsReadingStopped fault.ReadFault first left
-  takes_none t e none = record { bytes = read_bytes σ docs ++ t; taken = on (read_bytes σ docs) t first now left h.taken e; why = none_next σ docs allowed h.lawful.documents t none }
+  pub takes_none : (t : List ℕ) → now ≡ after t left → HasBegun IsNextPart t → IsReadingStopped fault.ReadFault first left
+  takes_none t e begun = record {
+    bytes = read_bytes σ docs ++ t;
+    taken = on (read_bytes σ docs) t first now left h.taken e;
+    why = (
+      none_next σ docs allowed h.lawful.documents t begun.none,
+      inr (record { setting = σ; documents = docs; allowed = allowed; lawful = h.lawful; next = t; begun = begun; is = refl }),
+    );
+  }
 
   pub takes_bad : (t : List ℕ) → now ≡ after t left → IsBad IsNextPart t left → IsReadingStopped fault.BadImage first left
   takes_bad t e bad = record { bytes = read_bytes σ docs ++ t; taken = on (read_bytes σ docs) t first now left h.taken e; why = bad_next σ docs allowed h.lawful.documents t left bad }
@@ -48,7 +55,7 @@ module _ (s : Indexed) (σ : Setting) (docs : List Doc) (first now left : Option
 
   -- the reader stopped
   pub takes_fault : (f : ImageFault) → (f ≡ fault.BadImage → (t : List ℕ) × (now ≡ after t left) × IsBad IsNextPart t left)
-      → (f ≡ fault.ReadFault → (t : List ℕ) × (now ≡ after t left) × HasNone IsNextPart t) → (f ≡ fault.NoMemory → (t : List ℕ) × (now ≡ after t left) × IsPart t) → IsReadingStopped f first left
+      → (f ≡ fault.ReadFault → (t : List ℕ) × (now ≡ after t left) × HasBegun IsNextPart t) → (f ≡ fault.NoMemory → (t : List ℕ) × (now ≡ after t left) × IsPart t) → IsReadingStopped f first left
   takes_fault fault.BadImage bad failed short = let t = bad refl in takes_bad t.0 t.1 t.2
   takes_fault fault.ReadFault bad failed short = let t = failed refl in takes_none t.0 t.1 t.2
   takes_fault fault.NoMemory bad failed short = let t = short refl in takes_short t.0 t.1 t.2
@@ -86,8 +93,8 @@ stops_head σ first left allowed e = record {
   why = none_read σ [] allowed (λ k d lt. absurd (omega (arith, lt)));
 }
 
-pub no_head : (t : List ℕ) (first left : Option (List ℕ)) → first ≡ after t left → HasNone IsHead t → IsReadingStopped fault.ReadFault first left
-no_head t first left e none = record { bytes = t; taken = e; why = none_head t none }
+pub no_head : (t : List ℕ) (first left : Option (List ℕ)) → first ≡ after t left → HasBegun IsHead t → IsReadingStopped fault.ReadFault first left
+no_head t first left e begun = record { bytes = t; taken = e; why = (none_head t begun.none, inl begun) }
 
 pub no_image : (t : List ℕ) (first left : Option (List ℕ)) → first ≡ after t left → IsBad IsHead t left → IsReadingStopped fault.BadImage first left
 no_image t first left e bad = record { bytes = t; taken = e; why = bad_head t left bad }

@@ -1,11 +1,12 @@
 -- What `load` makes of an image and of the lines after it.
 use Rattle.eb_fields.specs.Dialect.{Dialect}
-use Rattle.std.specs.Prelude.{◌≡◌, ℕ, ◌⊎◌, List, [], Option}
+use Rattle.std.specs.Prelude.{◌≡◌, ℕ, ◌<◌, ◌⊎◌, List, [], ◌++◌, length, Option, Some}
+use Rattle.std.specs.List.{flat_map}
 use Rattle.eb_answer.specs.Rules.{Rules, is_bad, IsBody, IsText, HasRefusal, HasNoRefusal}
 use Rattle.eb_base.specs.Document.{Doc}
 use Rattle.eb_base.specs.Setting.{Setting, IsSetting}
-use Rattle.eb_image.specs.Image.{image_of}
-use Rattle.eb_image.specs.Reading.{IsBad, HasNone}
+use Rattle.eb_image.specs.Image.{head_of, document_part, image_of}
+use Rattle.eb_image.specs.Reading.{IsBad, IsHead, IsNextPart, HasBegun, HasNone}
 use Rattle.eb_indexed.specs.IndexRules.{index_rules}
 use Rattle.eb_io.specs.Lines.{Line}
 use Rattle.eb_io.specs.Source.{after}
@@ -54,11 +55,26 @@ HasRefusalBehind a = HasRefusal is_bad (rules_of a)
 abbrev pub HasNoRefusalBehind : Loaded → List Line → Type 0
 HasNoRefusalBehind a = HasNoRefusal is_bad (rules_of a)
 
+-- the head of a setting and the parts of documents that its index has room for, and then the first bytes of what may
+-- stand after them
+pub record HasBegunPart (taken : List ℕ) : Type 0 where
+  pub setting : Setting
+  pub documents : List Doc
+  pub allowed : IsSetting setting
+  pub lawful : IsLawful setting documents
+  pub next : List ℕ
+  pub begun : HasBegun IsNextPart next
+  pub is : taken ≡ (head_of setting ++ flat_map document_part documents) ++ next
+
+-- an image has begun and isn't whole: the first bytes of a head, or a head, parts and the first bytes of the next one
+abbrev pub HasBegunImage : List ℕ → Type 0
+HasBegunImage taken = HasNone IsImage taken × (HasBegun IsHead taken ⊎ HasBegunPart taken)
+
 -- why no image was read, where these bytes were taken and this is left: no image comes first in them and none can come;
--- or none came yet
+-- or one has begun and isn't whole; or none came yet
 abbrev pub WhyUnread : Status → List ℕ → Option (List ℕ) → Type 0
 WhyUnread BadImage taken left = IsBad IsImage taken left
-WhyUnread ReadFault taken left = HasNone IsImage taken
+WhyUnread ReadFault taken left = HasBegunImage taken
 WhyUnread NoMemory taken left = HasNone IsImage taken
 WhyUnread Done taken left = ⊥
 WhyUnread Refused taken left = ⊥
@@ -87,12 +103,17 @@ pub record IsRead (how : Dialect) (form : Form) (status : Status) (left_old left
 abbrev pub EndsLoad : Dialect → Form → Status → Option (List ℕ) → Option (List ℕ) → Option (List ℕ) → Option (List ℕ) → Type 0
 EndsLoad how form status l0 l1 p0 p1 = IsUnread status l0 l1 p0 p1 ⊎ IsRead how form status l0 l1 p0 p1
 
+-- the image wasn't read to its end, for a read fault or want of memory: some of its bytes are left, and all those of the
+-- lines
+abbrev pub IsCutShort : Status → List ℕ → Option (List ℕ) → Type 0
+IsCutShort status bytes left = ((status ≡ ReadFault) ⊎ (status ≡ NoMemory)) × ((t : List ℕ) × (0 < length t) × (left ≡ Some (t ++ bytes)))
+
 -- what a load that ends so has printed, of these bytes of lines after the image of the loaded documents, of which this is
--- left: nothing where the image wasn't read to its end, for a read fault or want of memory
+-- left: nothing where the image wasn't read to its end
 abbrev pub WroteLoaded : Loaded → Status → List ℕ → Option (List ℕ) → List ℕ → Type 0
-WroteLoaded a status bytes left printed = (((status ≡ ReadFault) ⊎ (status ≡ NoMemory)) × (printed ≡ []))
+WroteLoaded a status bytes left printed = (IsCutShort status bytes left × (printed ≡ []))
     ⊎ Wrote (IsBodyBehind a) (IsTextBehind a) (HasRefusalBehind a) (HasNoRefusalBehind a) status bytes left printed
 
 -- what its status says of these bytes of lines, whatever became of the output
 abbrev pub MeansLoaded : Loaded → Status → List ℕ → Option (List ℕ) → Type 0
-MeansLoaded a status bytes left = ((status ≡ ReadFault) ⊎ (status ≡ NoMemory)) ⊎ Means (HasRefusalBehind a) (HasNoRefusalBehind a) status bytes left
+MeansLoaded a status bytes left = IsCutShort status bytes left ⊎ Means (HasRefusalBehind a) (HasNoRefusalBehind a) status bytes left

@@ -31,7 +31,7 @@ kind_to_save bad_line = bad_line
 
 -- the line is read as this, to be saved
 abbrev pub ReadsToSave : Dialect → Line → Reading → Type 0
-ReadsToSave how (line bytes) r = ReadsByKind how (kind_to_save (kind_of bytes)) bytes r
+ReadsToSave how (line bytes) r = ReadsByKind how (kind_to_save (kind_of how bytes)) bytes r
 ReadsToSave how long_line r = r ≡ refused LongLine
 
 -- the lines come to these in an index of this setting

@@ -26,8 +26,9 @@ use std::alloc::Global;
 /// Lines are read by this dialect; the form says how what is printed is written, and whether the segments are told after the summary.
 ///
 /// `BadImage` says that what was read begins no image of documents that an index of its setting has room for, or that
-/// the source ended in it; then nothing was printed, as wherever the image wasn't read to its end. A source that gives
-/// few bytes a call is slow here. Takes the memory of the index at once.
+/// the source ended in it; then nothing was printed, as wherever the image wasn't read to its end. At a `ReadFault` before
+/// that end, what was read begins an image, or the next part after documents that the index has room for. A source that
+/// gives few bytes a call is slow here. Takes the memory of the index at once.
 pub fn load_lines<S: Source, K: Sink, G: Gate>(
     alloc: Global,
     dialect: Dialect<'_>,

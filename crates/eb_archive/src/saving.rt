@@ -107,7 +107,7 @@ impl<'a, G: Gate> Saving<'a, G> {
     fn take_document(&mut self, bytes: &[u8], text: &mut Vec<u8>) -> Result<(), NoMemory>
         requires state { IsRunning HasSaved self.old }
         requires number { self.old.number ≤ 2 ^ 40 }
-        requires document { kind_of bytes.now ≡ document_line }
+        requires document { kind_of (dialect_of self.old.dialect) bytes.now ≡ document_line }
         ensures ok { OnOk result (WorksOnGiven HasSaved self.old self.new text.old.items text.new.items (line bytes.now)) }
         ensures err { OnErr result ((self.new ≡ self.old) × (text.new.items ≡ text.old.items)) }
     {
@@ -145,7 +145,7 @@ impl<G: Gate> LineProgram for Saving<'_, G> {
     ghost number = { λ p. p.number };
 
     fn take_line(&mut self, bytes: &[u8], text: &mut Vec<u8>) -> Result<(), NoMemory> {
-        match line_kind(bytes) {
+        match line_kind(self.dialect, bytes) {
             LineKind::Blank => self.pass(),
             LineKind::Document => return self.take_document(bytes, text),
             LineKind::Query(_) => self.refuse(Refusal::BadLine),

@@ -8,7 +8,7 @@ pub returns-in-Err-BadImage-clause-all : goal.returns-in-Err-BadImage-clause-all
 returns-in-Err-BadImage-clause-all g c = let t = c.in-Err-BadImage.ensures.bad (ap Err c.in-Err-BadImage.field-0-is) in no_image t.0 _ _ t.1 t.2
 
 pub returns-in-Err-ReadFault-clause-all : goal.returns-in-Err-ReadFault-clause-all
-returns-in-Err-ReadFault-clause-all g c = let t = c.in-Err-ReadFault.ensures.fault (ap Err c.in-Err-ReadFault.field-0-is) in no_head t.0 _ _ t.1 t.2.none
+returns-in-Err-ReadFault-clause-all g c = let t = c.in-Err-ReadFault.ensures.fault (ap Err c.in-Err-ReadFault.field-0-is) in no_head t.0 _ _ t.1 t.2
 
 pub returns-in_default-clause-all : goal.returns-in_default-clause-all
 returns-in_default-clause-all g c = let head = c.in-Ok.ensures.ok in stops_head c.in-Ok.read.0 _ _ head.0 head.1

@@ -10,7 +10,7 @@ returns-in_err-next-clause-next g c = λ σ docs first allowed h.
     let p = err_from_is_err_and c.from_residual.result c.from_residual.ensures.1 in
     let own = c.in_err-next.ensures in
     rw (p.1, p.2) (takes_fault c.args.store.now σ docs first _ _ allowed h c.in_err-next.field-0.0
-    (λ e. own.bad (ap Err e)) (λ e. let t = own.fault (ap Err e) in (t.0, t.1, t.2.none)) (λ e. let t = own.memory (ap Err e) in (t.0, t.2, t.1)))
+    (λ e. own.bad (ap Err e)) (λ e. let t = own.fault (ap Err e) in (t.0, t.1, t.2)) (λ e. let t = own.memory (ap Err e) in (t.0, t.2, t.1)))
 
 pub returns-then-not-add-clause-next : goal.returns-then-not-add-clause-next
 returns-then-not-add-clause-next g c = λ σ docs first allowed h.
