@@ -11,9 +11,9 @@ ABOUT = "earlybird %s\nSPDX-License-Identifier: %s\n" % (VERSION, LICENCE)
 NAME = "earlybird: a real-time search index for messages, in memory"
 
 # An option. `value` is what its value is called, or None where it takes none: N is a whole number from `low` to `high`, LIST a list of
-# names, SIZE an amount of memory, DIR a folder, and any other name a word. `usual` is the value where the option isn't given. `offers` are
+# names, NAME any one name, SIZE an amount of memory, DIR a folder, and any other name a word. `usual` is the value where the option isn't given. `offers` are
 # the values that a completion offers, and with `only` no other is taken. `text` is what the option does, as the help says it, `letter` its
-# one letter, `example` a value. The launcher turns a `launcher` option into others, so the program doesn't know it.
+# one letter where the command has a `parser`, `example` a value. The launcher turns a `launcher` option into others, so the program doesn't know it.
 Option = namedtuple("Option", "value low high usual offers text letter launcher only example", defaults=(None, None, None, None, (), "", "", False, False, ""))
 
 # the powers of two from 1,024 to 1,048,576
@@ -26,6 +26,9 @@ OPTIONS = {
     "watch": Option(text="take lines !N QUERY and !N, which set and remove a watch: each message prints the watches that it matches"),
     "fields": Option("LIST", None, None, None, (), "find messages by their members of these names, as by from:mara; LIST is 1 to 8 names with commas between"),
     "words": Option("pieces", None, None, None, ("pieces",), "find words by their pieces too, as billing in com.acme.billing: cut them at each ASCII sign", only=True, example="pieces"),
+    "counts": Option(text="take lines # QUERY and #X+W*N QUERY: how many messages match, and how many in each of N buckets, W ids wide, from the id X on; in run not beside --overlap without --parts"),
+    "id": Option("NAME", text="the member that is a message's id, in place of id: a whole number, or a string of its digits", example="seq"),
+    "text": Option("NAME", text="the member that is a message's text, in place of text", letter="t", example="message"),
     "stats": Option(text="print the number of segments, and how many are converted, after the summary; of a feed those that it keeps, and the number of generations"),
     "json": Option(text="print each line of the output as one JSON object"),
     "segments": Option("N", 1, 64, 12, (1, 2, 3, 6, 9, 12, 15, 20, 32, 64), "segments of the index"),
@@ -39,7 +42,6 @@ OPTIONS = {
     "query": Option("QUERY", text="print the newest matches, and end; with --follow print each new one as it comes", letter="q", example="timeout"),
     "number": Option("N", 1, 1000, 20, (5, 10, 20, 50, 100, 1000), "how many matches are printed at most", "n"),
     "count": Option(text="with --query: print how many match, and end", letter="c"),
-    "text": Option("NAME", text="of JSON lines: the member that has the text; without it the first of message, msg, text, log, event and body", letter="t", example="message"),
     "color": Option("WHEN", usual="auto", offers=("auto", "always", "never"), only=True, text="mark the words that matched"),
 }
 
@@ -60,19 +62,20 @@ LINES = (
     "  ?5 hello                        a query: the newest 5 messages that match, newest first\n"
     "  ?5 \"night train\" OR (late -rain)   a phrase, OR, groups, minus; more: docs/QUERIES.md")
 COMMANDS = {
-    "run": Command((), ("overlap", "workers", "parts", "watch"), ("fields", "words", "stats", "json", *SETTING, "memory"), "read messages and queries, and print answers", beside={"parts": ("overlap",)},
+    "run": Command((), ("overlap", "workers", "parts", "watch"), ("fields", "words", "counts", "id", "text", "stats", "json", *SETTING, "memory"), "read messages and queries, and print answers", beside={"parts": ("overlap",)}, apart={"workers": ("counts",)},
                    about=LINES + "\n\nOnce the index is full it refuses the newest messages; feed drops the oldest instead.",
                    examples=(("earlybird run < examples/first.jsonl", "the first answers"), ("{ cat old.jsonl; cat; } | earlybird run", "messages of a file, then ask by hand"),
-                             ("earlybird run --memory 800M < big.jsonl", "room for more messages"), ("earlybird run --json < lines.jsonl | jq .", "answers as JSON"))),
-    "feed": Command((), ("overlap", "workers", "watch"), ("keep", "fields", "words", "stats", "json", *SETTING, "memory"), "the same, without end: the oldest messages go where there is no room", apart={"workers": ("stats",)},
+                             ("earlybird run --memory 800M < big.jsonl", "room for more messages"), ("earlybird run --json < lines.jsonl | jq .", "answers as JSON"),
+                             ("earlybird run --id seq --text message < app.jsonl", "messages whose members have other names"))),
+    "feed": Command((), ("overlap", "workers", "watch"), ("keep", "fields", "words", "counts", "id", "text", "stats", "json", *SETTING, "memory"), "the same, without end: the oldest messages go where there is no room", apart={"workers": ("counts", "stats")},
                     about=LINES,
                     examples=(("tail -n +1 -F app.jsonl | earlybird feed --memory 400M", "the newest messages of a log"),
                               ("{ echo '!1 timeout'; tail -F app.jsonl; } | earlybird feed --watch", "tell which messages match"))),
-    "save": Command((), (), ("fields", "words", *SETTING, "memory"), "read messages, and write an image of the index",
+    "save": Command((), (), ("fields", "words", "id", "text", *SETTING, "memory"), "read messages, and write an image of the index",
                     about="Standard input has messages, one a line; standard output gets an image, with which load begins.",
                     examples=(("earlybird save < messages.jsonl > messages.image", ""),)),
-    "load": Command((), (), ("fields", "words", "stats", "json"), "read an image, and then go on as run does",
-                    about="Standard input has an image that save wrote, and behind it messages and queries. Its setting is the image's; --fields and --words are what save had.",
+    "load": Command((), (), ("fields", "words", "counts", "id", "text", "stats", "json"), "read an image, and then go on as run does",
+                    about="Standard input has an image that save wrote, and behind it messages and queries. Its setting is the image's; --fields and --words are what save had, --id and --text are of the messages behind it.",
                     examples=(("{ cat messages.image; echo '?5 hello'; } | earlybird load", "one query"), ("cat messages.image - | earlybird load", "then ask by hand"))),
     "bench": Command(("START", "DOCS"), (), (), "process DOCS messages (1 to 40000) that the number START makes, and print one line of figures",
                      examples=(("earlybird bench 1 10000", ""),)),
@@ -83,7 +86,8 @@ COMMANDS = {
                               ("journalctl -o cat | earlybird live", "a pipe; the prompt is on the terminal"), ("earlybird live -q 'timeout -retry' -n 5 app.log", "print the newest 5, and end"),
                               ("earlybird live -fq timeout app.log", "print each new match as it comes")), parser="live/earlybird-live",
                     says={"memory": "the most memory of all its indexes, 2G by default: beyond it the oldest lines go", "json": "print each match as one JSON object: file, line, message or text",
-                          "fields": "the members that are fields; without it the first lines tell"}),
+                          "fields": "the members that are fields; without it the first lines tell",
+                          "text": "of JSON lines: the member that has the text; without it the first of message, msg, text, log, event and body"}),
     "console": Command(("[WORDS]",), (), (), "a page over a feed, for a browser: docs/CONSOLE.md", True, examples=(("earlybird console --help", "its options"),), parser="console/earlybird-console"),
     "cluster": Command(("[WORDS]",), (), (), "several machines: docs/CLUSTER.md", True, examples=(("earlybird cluster --help", "its commands and options"),), parser="cluster/earlybird-cluster"),
     "install": Command((), (), ("prefix",), "install the program, its manual, completions, and the library for C", True),
@@ -113,6 +117,11 @@ STATUSES = [
     (7, "bad image", "what `load` read begins no image; nothing was printed"),
     (70, "not built, or not installed", "the launcher could not build the program of changed sources, or could not install or uninstall"),
 ]
+
+
+def letter_of(command, name):
+    """The one letter of an option of a command: of those alone that the launcher passes on to a program of their own."""
+    return OPTIONS[name].letter if COMMANDS[command].parser else ""
 
 
 def shown(name):

@@ -1,5 +1,5 @@
 """Completions for bash, zsh and fish: commands, options that are still free, and numbers in their ranges."""
-from made.commands import ALONE, COMMANDS, OPTIONS, excluded, range_of, said
+from made.commands import ALONE, COMMANDS, OPTIONS, excluded, letter_of, range_of, said
 
 MADE = "# Completion of the command earlybird for %s; made by .ci/pages from .ci/made/commands.py.\n"
 
@@ -12,9 +12,13 @@ def offered(name):
     return " ".join(str(it) for it in OPTIONS[name].offers)
 
 
-def written(name):
+def forms(name, letter):
     """The forms of an option: its name, and its letter where it has one."""
-    return ["--" + name, *(["-" + OPTIONS[name].letter] if OPTIONS[name].letter else [])]
+    return ["--" + name, *(["-" + letter] if letter else [])]
+
+
+def written(name):
+    return forms(name, OPTIONS[name].letter)
 
 
 def bash():
@@ -91,7 +95,7 @@ def quoted(text):
 def zsh():
     def row(command, name):
         it = OPTIONS[name]
-        others = " ".join(form for other in (name, *excluded(command, name)) for form in written(other))
+        others = " ".join(form for other in (name, *excluded(command, name)) for form in forms(other, letter_of(command, other)))
         value = ""
         if it.value == "N":
             value = ":%s:(%s)" % (range_of(name), offered(name))
@@ -103,8 +107,9 @@ def zsh():
             value = ":%s:(%s)" % (it.value.lower(), offered(name))
         shown = "--%s=" % name if it.value else "--" + name
         rest = "[%s]%s" % (COMMANDS[command].says.get(name, it.text).replace(":", "\\:"), value)
-        if it.letter:
-            return "                '(%s)'{-%s,%s}%s" % (others, it.letter + "+" * bool(it.value), shown, quoted(rest))
+        letter = letter_of(command, name)
+        if letter:
+            return "                '(%s)'{-%s,%s}%s" % (others, letter + "+" * bool(it.value), shown, quoted(rest))
         return "                " + quoted("(%s)%s%s" % (others, shown, rest))
 
     cases = []
@@ -145,9 +150,10 @@ def fish():
         folders = " -a '(__fish_complete_directories)'" if it.value == "DIR" else ""
         value = " -x -a %s" % quoted(offered(name)) if it.offers else " -x" + folders if it.value else ""
         takers = [command for command, its in COMMANDS.items() if name in (*its.ways, *its.options)]
-        # commands beside whose option the same ones can't stand share a line
-        for others in dict.fromkeys(tuple(excluded(command, name)) for command in takers):
-            seen = " ".join(command for command in takers if tuple(excluded(command, name)) == others)
-            condition = "__fish_seen_subcommand_from %s" % seen + "".join("; and not __fish_contains_opt %s" % other for other in others)
-            lines.append("complete -c earlybird -n %s -l %s%s%s -d %s" % (quoted(condition), name, " -s " + it.letter if it.letter else "", value, quoted(said(name))))
+        # commands beside whose option the same ones can't stand, and where it has the same letter, share a line
+        alike = lambda command: (tuple(excluded(command, name)), letter_of(command, name))
+        for others, letter in dict.fromkeys(map(alike, takers)):
+            seen = [command for command in takers if alike(command) == (others, letter)]
+            condition = "__fish_seen_subcommand_from %s" % " ".join(seen) + "".join("; and not __fish_contains_opt %s" % other for other in others)
+            lines.append("complete -c earlybird -n %s -l %s%s%s -d %s" % (quoted(condition), name, " -s " + letter if letter else "", value, quoted(said(name, seen[0]))))
     return MADE % "fish" + "\n" + "\n".join(lines) + "\n"

@@ -1,7 +1,7 @@
 """The help, as `earlybird --help` prints it."""
 import textwrap
 
-from made.commands import ALONE, COMMANDS, GROUPS, NAME, OPTIONS, STATUSES, said, shown, synopsis, wrapped
+from made.commands import ALONE, COMMANDS, GROUPS, NAME, STATUSES, letter_of, said, shown, synopsis, wrapped
 
 WIDTH = 100
 
@@ -42,8 +42,9 @@ def usage():
 
 def option(name, width=14, command=None):
     """The rows of an option (of a command)."""
-    letter = "-%s, " % OPTIONS[name].letter if OPTIONS[name].letter else ""
-    return filled(said(name, command), "  %-*s " % (width, letter + shown(name)), " " * (width + 3))
+    letter = letter_of(command, name) if command else ""
+    form = ("-%s, " % letter if letter else "") + shown(name)
+    return filled(said(name, command), "  %-*s " % (width, form), " " * (width + 3))
 
 
 def commands(width=14):
@@ -76,7 +77,7 @@ def of(name):
     if command.about:
         parts += [part if part.startswith("  ") else textwrap.fill(part, WIDTH) for part in command.about.split("\n\n")]
     if command.ways or command.options:
-        width = max(len(shown(it)) + (4 if OPTIONS[it].letter else 0) for it in (*command.ways, *command.options))
+        width = max(len(shown(it)) + (4 if letter_of(name, it) else 0) for it in (*command.ways, *command.options))
         ways = "\n".join(option(it, width, name) for it in command.ways)
         options = "\n".join(option(it, width, name) for it in command.options)
         if ways:
@@ -100,7 +101,7 @@ def text():
     run, feed = COMMANDS["run"], COMMANDS["feed"]
     of_run = "\n".join(option(it) for it in (*run.ways, *run.options))
     of_feed = "\n".join(option(it) for it in feed.options if it not in (*run.ways, *run.options))
-    of_live = "\n".join(option(it, 18) for it in COMMANDS["live"].options if it not in run.options)
+    of_live = "\n".join(option(it, 18, "live") for it in COMMANDS["live"].options if it not in run.options or letter_of("live", it))
     of_install = "\n".join(option(it) for it in COMMANDS["install"].options)
     return "\n".join([
         NAME + "\n", usage() + "\n", commands() + "\n", HEAD, of_run + "\n",

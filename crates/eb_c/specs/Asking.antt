@@ -6,6 +6,7 @@ use Rattle.eb_base.specs.Document.{Doc}
 use Rattle.eb_base.specs.Query.{Tree}
 use Rattle.eb_base.specs.Match.{answer}
 use Rattle.eb_cursor.specs.Frames.{query_of, k_of}
+use Rattle.eb_query.specs.declared.ask.Ask.TheVariants.{Newest, Counts}
 use Rattle.eb_query.specs.Reading as reading
 use Rattle.eb_c.specs.declared.index.Answer.{Answer}
 use Rattle.eb_c.specs.declared.refusal.Refusal.{Refusal}
@@ -20,9 +21,10 @@ pub data Asked : Type 0 where
   asks : ℕ → Tree → Asked
   refused : Refusal → ℕ → Asked
 
--- what a query line comes to, with the columns counted from after so many bytes
+-- what a query line comes to, with the columns counted from after so many bytes; here no line asks for counts
 abbrev pub asked_behind : ℕ → reading.Outcome → Asked
-asked_behind n (reading.asks k q) = asks k q
+asked_behind n (reading.asks (Newest k) q) = asks k q
+asked_behind n (reading.asks (Counts x w m) q) = refused refusal.BadLine 0
 asked_behind n reading.bad_number = refused refusal.BadNumber 0
 asked_behind n (reading.bad_query column) = refused refusal.BadQuery (column - n)
 asked_behind n reading.too_deep = refused refusal.QueryTooDeep 0

@@ -1,5 +1,5 @@
 -- Before the first line.
-use Rattle.eb_fields.specs.Dialect.{Dialect, dialect_of}
+use Rattle.eb_fields.specs.Dialect.{Dialect, uncounted_of}
 use Rattle.std.proofs.Common.{◌≡◌, ℕ, ◌+◌, inr, List, [], ◌∷◌, length, sym, ap, subst, ◌∙◌, arith}
 use Rattle.std.specs.Prelude.{Option, Some}
 use Rattle.std.proofs.lemmas.List.Elements.{All-nil}
@@ -32,7 +32,7 @@ taken_none w e = let none : taken_by w ≡ [] = ap joined_generations e in (none
 
 pub served_none : (s : Serving) (o : Office) (how : Dialect) (σ : Setting) (keep : ℕ) (form : _) → s.office ≡ o → o.clerk ≡ new_clerk o.desk.now.queues (feed_name o.feed)
     → o.feed.setting ≡ σ → o.feed.keep ≡ keep → generations_of o.feed.feed.log o.feed.feed.docs ≡ [] ∷ []
-    → dialect_of s.dialect ≡ how → s.form ≡ form → (s.number ≡ 0) × (s.queries ≡ 0) × (s.refused ≡ 0) → s.waiting.items ≡ [] → HasServed s (asked how σ keep form) [] []
+    → uncounted_of s.dialect ≡ how → s.form ≡ form → (s.number ≡ 0) × (s.queries ≡ 0) × (s.refused ≡ 0) → s.waiting.items ≡ [] → HasServed s (asked how σ keep form) [] []
 unfolding accepted queries refusals
 served_none s o how σ keep form office clerk setting keeps empty names_told told counts items =
     let taken = taken_none o.feed empty in

@@ -35,7 +35,7 @@ by_kind how query_line bytes e = of_outcome e.0 e.2
 by_kind how bad_line bytes e = cc
 
 by_line : (how : Dialect) (l : Line) → Reads how l (refused Full) → ⊥
-by_line how (line bytes) e = by_kind how (kind_of bytes) bytes e
+by_line how (line bytes) e = by_kind how (kind_of how bytes) bytes e
 by_line how long_line e = cc
 
 pub none_is_full : NoneIsFull

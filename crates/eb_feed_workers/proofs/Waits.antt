@@ -6,6 +6,7 @@ use Rattle.eb_base.specs.Match.{answer}
 use Rattle.eb_base.specs.Query.{tree}
 use Rattle.eb_cursor.specs.declared.frame.Frame.{Frame}
 use Rattle.eb_cursor.specs.Frames.{query_of, k_of, ids_of}
+use Rattle.eb_query.specs.declared.ask.Ask.TheVariants.{Newest}
 use Rattle.eb_lines.specs.Progress.{documents_in, accepted}
 use Rattle.eb_lines.specs.Reading.{Reading, query}
 use Rattle.eb_feed.specs.Generations.{kept}
@@ -64,5 +65,5 @@ pub as_answered : (a : Asked) (docs : List Doc) (t : ℕ) (r : Reading) (w : Wai
 as_answered a docs t r waits.Nothing frame seen awaits le ids h = absurd awaits
 as_answered a docs t r (waits.Refused x) frame seen awaits le ids h = absurd awaits
 as_answered a docs t r (waits.Asked told k q) frame seen awaits le ids h =
-    let same : query k (tree q) ≡ query (k_of frame) (query_of frame) = rw (awaits.1, awaits.2) refl in (h.0 ∙ same, omega (arith, awaits.0, h.1), le, ids)
+    let same : query (Newest k) (tree q) ≡ query (Newest (k_of frame)) (query_of frame) = rw (awaits.1, awaits.2) refl in (h.0 ∙ same, omega (arith, awaits.0, h.1), le, ids)
 as_answered a docs t r (waits.Answered s f) frame seen awaits le ids h = absurd awaits

@@ -14,7 +14,7 @@ use Rattle.eb_lines.specs.Outcomes.{Wrote, Means}
 use Rattle.eb_lines.specs.Progress.{accepted, queries, refusals, told}
 use Rattle.eb_lines.specs.Reading.{Reading, blank, document, query, refused, watch}
 use Rattle.eb_lines.specs.Reads.{Reads}
-use Rattle.eb_lines.specs.Text.{answer_line, refusal_line, summary_with}
+use Rattle.eb_lines.specs.Text.{asked_line, refusal_line, summary_with}
 use Rattle.eb_indexed.specs.Sees.{IsAsked}
 
 -- how lines are read, the setting of an index and how many generations of it are kept, and how what is
@@ -48,7 +48,7 @@ pub record SeesTold (rs : List Reading) (n : ℕ → ℕ) : Type 0 where
 abbrev pub output_of : Asked → ℕ → ℕ → List Doc → Reading → List ℕ
 output_of a number seen docs blank = []
 output_of a number seen docs (document d) = []
-output_of a number seen docs (query k q) = answer_line a.form number seen (answer q k (kept a.setting a.keep (take seen docs)))
+output_of a number seen docs (query k q) = asked_line a.form number seen k q (kept a.setting a.keep (take seen docs))
 output_of a number seen docs (refused r) = refusal_line a.form number r
 output_of a number seen docs (watch n q) = []
 

@@ -1,5 +1,5 @@
 -- How far a feed with workers has come between two lines.
-use Rattle.eb_fields.specs.Dialect.{dialect_of}
+use Rattle.eb_fields.specs.Dialect.{uncounted_of}
 use Rattle.std.specs.Prelude.{◌≡◌, ℕ, ◌+◌, ◌-◌, ◌^◌, ◌<◌, ◌≤◌, List, [], ◌∷◌, ◌++◌, length}
 use Rattle.eb_io.specs.Lines.{Line}
 use Rattle.eb_lines.specs.Progress.{accepted, queries, refusals, told}
@@ -17,7 +17,7 @@ pub record HasServed (s : Serving) (a : Asked) (given : List Line) (so_far : Lis
   pub staffed : IsStaffed s.office
   pub setting : s.office.feed.setting ≡ a.setting
   pub keep : s.office.feed.keep ≡ a.keep
-  pub dialect : dialect_of s.dialect ≡ a.dialect
+  pub dialect : uncounted_of s.dialect ≡ a.dialect
   pub form : s.form ≡ a.form
   pub done : List Reading
   pub ahead : List Reading
@@ -42,7 +42,7 @@ pub record IsFurther (old new : Serving) : Type 0 where
   pub keeps : Keeps old.office new.office
   pub feed : new.office.feed ≡ old.office.feed
   pub put : new.office.clerk.put ≡ old.office.clerk.put
-  pub dialect : dialect_of new.dialect ≡ dialect_of old.dialect
+  pub dialect : uncounted_of new.dialect ≡ uncounted_of old.dialect
   pub form : new.form ≡ old.form
   pub number : new.number ≡ old.number
   pub queries : new.queries ≡ old.queries

@@ -5,13 +5,13 @@ use Rattle.eb_base.specs.Document.{Doc}
 use Rattle.eb_base.specs.Match.{answer}
 use Rattle.eb_feed.specs.Generations.{kept}
 use Rattle.eb_lines.specs.Reading.{Reading, blank, document, query, refused, watch}
-use Rattle.eb_lines.specs.Text.{answer_line}
+use Rattle.eb_lines.specs.Text.{asked_line}
 use Rattle.eb_feed_workers.specs.Output.{Asked, output_of, body_from}
 
 pub output_same : (a : Asked) (number n m : ℕ) (docs docs' : List Doc) (r : Reading) → n ≡ m → take n docs ≡ take n docs' → output_of a number n docs r ≡ output_of a number m docs' r
 output_same a number n m docs docs' blank e f = refl
 output_same a number n m docs docs' (document d) e f = refl
-output_same a number n m docs docs' (query k q) e f = ap₂ (λ s ds. answer_line a.form number s (answer q k (kept a.setting a.keep ds))) e (f ∙ ap (λ s. take s docs') e)
+output_same a number n m docs docs' (query k q) e f = ap₂ (λ s ds. asked_line a.form number s k q (kept a.setting a.keep ds)) e (f ∙ ap (λ s. take s docs') e)
 output_same a number n m docs docs' (refused x) e f = refl
 output_same a number n m docs docs' (watch w q) e f = refl
 

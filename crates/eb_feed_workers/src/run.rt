@@ -1,6 +1,6 @@
 //! Workers and the clerk's part run at once.
 ghost use Rattle.std.specs.Prelude.{◌≡◌, ◌≤◌, ◌<◌, ◌++◌, ℕ, List, [], Some, length, All};
-ghost use Rattle.eb_fields.specs.Dialect.{dialect_of};
+ghost use Rattle.eb_fields.specs.Dialect.{uncounted_of};
 ghost use Rattle.eb_io.specs.Faults.{HasRisen};
 ghost use Rattle.eb_io.specs.Lines.{longest_input};
 ghost use Rattle.eb_lines.specs.Outcomes.{IsWorkedOff};
@@ -64,7 +64,7 @@ fn serve<'a, R: Threads + Wait + Sync, S: Source, K: Sink, G: Gate + Sync>(
 ) -> (Status, Clerk)
     requires { IsNewSide desk.now.queues config keep side.old }
     ensures stops { result.1.stops ≡ workers }
-    ensures ends { let a = asked (dialect_of dialect.entry) config keep form in
+    ensures ends { let a = asked (uncounted_of dialect.entry) config keep form in
         Ends (IsFeedBody a) (IsFeedText a) (HasRefusal a.dialect) (HasNoRefusal a.dialect) result.0
         (S.left source.old) (S.left source.new) (K.taken out.old) (K.taken out.new) }
     ensures read_fault { result.0 ≡ Status.ReadFault → HasRisen (S.faults source.old) (S.faults source.new) }
@@ -126,7 +126,7 @@ fn serve_beside<R: Threads + Wait + Sync, S: Source, K: Sink, G: Gate + Sync>(
 ) -> Status
     requires workers { All (λ w. IsWorkerOf desk.now.queues w) workers.old }
     requires side { IsNewSide desk.now.queues config keep side.old }
-    ensures ends { let a = asked (dialect_of dialect.entry) config keep form in
+    ensures ends { let a = asked (uncounted_of dialect.entry) config keep form in
         Ends (IsFeedBody a) (IsFeedText a) (HasRefusal a.dialect) (HasNoRefusal a.dialect) result
         (S.left source.old) (S.left source.new) (K.taken out.old) (K.taken out.new) }
     ensures read_fault { result ≡ Status.ReadFault → HasRisen (S.faults source.old) (S.faults source.new) }
@@ -139,7 +139,7 @@ fn serve_beside<R: Threads + Wait + Sync, S: Source, K: Sink, G: Gate + Sync>(
         workers,
         &mut ||
             requires { IsNewSide desk.now.queues config keep side.now }
-            ensures ends { let a = asked (dialect_of dialect.entry) config keep form in
+            ensures ends { let a = asked (uncounted_of dialect.entry) config keep form in
                 Ends (IsFeedBody a) (IsFeedText a) (HasRefusal a.dialect) (HasNoRefusal a.dialect) result.0
                 (S.left source.entry.now) (S.left source.exit.now) (K.taken out.entry.now) (K.taken out.exit.now) }
             ensures read_fault { result.0 ≡ Status.ReadFault → HasRisen (S.faults source.entry.now) (S.faults source.exit.now) }
@@ -167,7 +167,7 @@ fn pass_at_desk<R: Threads + Wait + Sync, S: Source, K: Sink, G: Gate + Sync>(
 ) -> Status
     requires workers { (1 ≤ workers) × (workers ≤ 16) }
     requires keep { (2 ≤ keep) × (keep ≤ 64) }
-    ensures ends { let a = asked (dialect_of dialect.entry) config keep form in
+    ensures ends { let a = asked (uncounted_of dialect.entry) config keep form in
         Ends (IsFeedBody a) (IsFeedText a) (HasRefusal a.dialect) (HasNoRefusal a.dialect) result
         (S.left source.old) (S.left source.new) (K.taken out.old) (K.taken out.new) }
     ensures read_fault { result ≡ Status.ReadFault → HasRisen (S.faults source.old) (S.faults source.new) }
@@ -225,16 +225,16 @@ where
     G: Gate + Sync,
     requires workers { (1 ≤ workers) × (workers ≤ 16) }
     requires keep { (2 ≤ keep) × (keep ≤ 64) }
-    ensures ends { let a = asked (dialect_of dialect.entry) config keep form in
+    ensures ends { let a = asked (uncounted_of dialect.entry) config keep form in
         Ends (IsFeedBody a) (IsFeedText a) (HasRefusal a.dialect) (HasNoRefusal a.dialect) result
         (S.left source.old) (S.left source.new) (K.taken out.old) (K.taken out.new) }
     // Where source and `out` tell their bytes, `out` took what the status says, of the lines of the input.
     ensures output { (bytes before : List ℕ) → S.left source.old ≡ Some bytes → K.taken out.old ≡ Some before
         → (printed : List ℕ) × (K.taken out.new ≡ Some (before ++ printed))
-        × WroteFeed (asked (dialect_of dialect.entry) config keep form) result bytes (S.left source.new) printed }
+        × WroteFeed (asked (uncounted_of dialect.entry) config keep form) result bytes (S.left source.new) printed }
     // What the status says of the input holds whatever becomes of the output.
     ensures means { (bytes : List ℕ) → S.left source.old ≡ Some bytes
-        → MeansFeed (asked (dialect_of dialect.entry) config keep form) result bytes (S.left source.new) }
+        → MeansFeed (asked (uncounted_of dialect.entry) config keep form) result bytes (S.left source.new) }
     // Faults come only from outside.
     ensures read_fault { result ≡ Status.ReadFault → HasRisen (S.faults source.old) (S.faults source.new) }
     ensures write_fault { result ≡ Status.WriteFault → HasRisen (K.faults out.old) (K.faults out.new) }

@@ -8,7 +8,7 @@ use Rattle.eb_base.specs.Setting.{Setting}
 use Rattle.eb_lines.specs.declared.form.Form.{Form}
 use Rattle.eb_lines.specs.Reading.{Reading, blank, document, query, refused, watch}
 use Rattle.eb_lines.specs.Progress.{is_query, is_refused}
-use Rattle.eb_lines.specs.Text.{room_of}
+use Rattle.eb_lines.specs.Text.{room_of, most_listed}
 use Rattle.eb_indexed.specs.Text.{output_of}
 use Rattle.eb_rounds.specs.Inputs.{HeldLine, Entry, ReadsLine, admitted_in, added}
 
@@ -82,7 +82,7 @@ WorksOff how form σ held docs_old docs_new text_old text_new d q r = (before af
 abbrev pub need : Reading → ℕ
 need blank = room_of 0
 need (document d) = room_of 0
-need (query k q) = room_of k
+need (query a q) = room_of (most_listed a)
 need (refused r) = room_of 0
 need (watch n q) = room_of 0
 

@@ -18,6 +18,7 @@ use Rattle.eb_rounds.specs.declared.tasks.AskedWork.{AskedWork}
 use Rattle.eb_rounds.specs.declared.tasks.AskedWork.TheVariants as asked
 use Rattle.eb_rounds.specs.declared.tasks.GivenWork.{GivenWork}
 use Rattle.eb_rounds.specs.declared.tasks.GivenWork.TheVariants as given
+use Rattle.eb_query.specs.declared.ask.Ask.TheVariants.{Newest}
 use Rattle.eb_lines.specs.Reading.{Reading, document, query, refused}
 use Rattle.eb_lines.specs.Progress.{is_query}
 use Rattle.eb_lines.specs.Text.{room_of}
@@ -38,7 +39,7 @@ abbrev pub then_line : ThenLine → HeldLine
 then_line l = record { number = l.number; input = then_input l.input }
 
 abbrev pub asked_reading : AskedWork → Reading
-asked_reading (asked.Answer frame) = query (k_of frame) (query_of frame)
+asked_reading (asked.Answer frame) = query (Newest (k_of frame)) (query_of frame)
 asked_reading (asked.Refuse r) = refused r
 
 abbrev pub given_reading : GivenWork → Reading

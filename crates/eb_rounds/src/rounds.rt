@@ -13,7 +13,7 @@ ghost use Rattle.std.specs.Prelude.{◌≡◌, ◌+◌, ◌<◌, ◌≤◌, ◌^
 ghost use Rattle.std.specs.Prelude.{length, vec_len, vec_capacity, IfOk, OnErr, OnOk, IsTrue, ◌↔◌};
 ghost use Rattle.std.specs.List.{AllZip};
 ghost use mathlib.Core.List.{IsPrefix};
-ghost use Rattle.eb_fields.specs.Dialect.{dialect_of};
+ghost use Rattle.eb_fields.specs.Dialect.{uncounted_of};
 ghost use Rattle.eb_indexed.specs.Conversions.{AreConverted};
 ghost use Rattle.eb_rounds.specs.Inputs.{ReadsLine, document_line, query_line, refused_line};
 ghost use Rattle.eb_rounds.specs.Passed.{input_of, input_kind, HasMark};
@@ -243,8 +243,8 @@ impl Rounds {
         text: &mut Vec<u8>,
     ) -> Result<(Tasks, Tasks), NoMemory>
         ensures few { (length self.now.ahead ≤ 2 ^ 14) × (length self.now.held ≤ 2 ^ 14) }
-        ensures ahead { IfOk result (λ r. AllZip (ReadsLine (dialect_of dialect.entry)) self.now.ahead (entries_of r.0)) }
-        ensures held { IfOk result (λ r. AllZip (ReadsLine (dialect_of dialect.entry)) self.now.held (entries_of r.1)) }
+        ensures ahead { IfOk result (λ r. AllZip (ReadsLine (uncounted_of dialect.entry)) self.now.ahead (entries_of r.0)) }
+        ensures held { IfOk result (λ r. AllZip (ReadsLine (uncounted_of dialect.entry)) self.now.held (entries_of r.1)) }
         ensures text { text.new.items ≡ text.old.items }
         ensures room { IfOk result (λ r. vec_len text.new + (need_of_tasks r.0 + need_of_tasks r.1) ≤ vec_capacity text.new) }
         ensures refusals { IfOk result (λ r. HasRoomForRefusals r.0 × HasRoomForRefusals r.1) }
@@ -299,7 +299,7 @@ impl Rounds {
         ensures reader { reader.new.index ≡ reader.old.index }
         ensures converter { converter.new.index ≡ converter.old.index }
         ensures ok { IfOk result
-            (λ text. WorkedOffBoth (dialect_of dialect.entry) form index.now.setting self.old.ahead self.old.held writer.old.docs writer.new.docs
+            (λ text. WorkedOffBoth (uncounted_of dialect.entry) form index.now.setting self.old.ahead self.old.held writer.old.docs writer.new.docs
             self.old.counts self.new.counts text.items) }
         ensures held { OnOk result ((self.new.ahead ≡ []) × (self.new.held ≡ []) × (self.new.greatest ≡ self.old.greatest)) }
         ensures told { OnOk result (IsPrefix writer.new.docs converter.new.docs × IsPrefix writer.new.docs reader.new.docs) }
@@ -334,7 +334,7 @@ impl Rounds {
         ensures writer { writer.new.index ≡ writer.old.index }
         ensures converter { converter.new.index ≡ converter.old.index }
         ensures ok { OnOk result ((printed : List ℕ)
-            × WorkedOffBoth (dialect_of dialect.entry) form index.now.setting self.old.ahead self.old.held writer.old.docs writer.new.docs
+            × WorkedOffBoth (uncounted_of dialect.entry) form index.now.setting self.old.ahead self.old.held writer.old.docs writer.new.docs
             self.old.counts self.new.counts printed
             × (text.new.items ≡ text.old.items ++ printed)) }
         ensures held { OnOk result ((self.new.ahead ≡ []) × (self.new.held ≡ []) × (self.new.greatest ≡ self.old.greatest)) }

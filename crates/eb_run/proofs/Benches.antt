@@ -12,6 +12,7 @@ use Rattle.eb_gen.specs.Made.{made}
 use Rattle.eb_io.specs.Lines.{Line, lines_of}
 use Rattle.eb_io.specs.Sink.{grown}
 use Rattle.eb_run.specs.declared.bench.Bench.{Bench}
+use Rattle.eb_query.specs.declared.ask.Ask.TheVariants.{Newest, Counts}
 use Rattle.eb_lines.specs.declared.status.Status.{Status}
 use Rattle.eb_lines.specs.declared.status.Status.TheVariants as status
 use Rattle.eb_lines.specs.Reading.{Reading, blank, document, query, refused, watch}
@@ -60,7 +61,8 @@ answer_short k q docs =
 answer_few : (docs : List Doc) (r : Reading) → length (answer_in docs r) ≤ length docs
 answer_few docs blank = omega arith
 answer_few docs (document d) = omega arith
-answer_few docs (query k q) = answer_short k q docs
+answer_few docs (query (Newest k) q) = answer_short k q docs
+answer_few docs (query (Counts x w n) q) = omega arith
 answer_few docs (refused x) = omega arith
 answer_few docs (watch n q) = omega arith
 
@@ -126,11 +128,11 @@ takes_quiet b c r same none quiet nothing indexed asked failed ids sums = λ lin
 
 pub takes_query : (b c : Bench) (k : ℕ) (q : Tree) (own : List ℕ) → c.indexed ≡ b.indexed
     → ((docs : List Doc) → Holds b.indexed usual docs → own ≡ answer q k docs) → c.queries ≡ b.queries + 1 → c.refused ≡ b.refused
-    → c.ids ≡ b.ids + length own → c.sum ≡ b.sum + sum own → sum own ≤ 2 ^ 64 * length own → Takes b c (query k q)
+    → c.ids ≡ b.ids + length own → c.sum ≡ b.sum + sum own → sum own ≤ 2 ^ 64 * length own → Takes b c (query (Newest k) q)
 takes_query b c k q own indexed found asked failed ids sums small = λ lines l reads h few.
     let docs = accepted h.readings in
     let holds : Holds c.indexed usual (docs ++ []) = subst (λ (i : Indexed). Holds i usual (docs ++ [])) (sym indexed) (subst (Holds b.indexed usual) (sym (append-nil docs)) h.holds) in
-    counted_push b lines h few l (query k q) reads c own holds asked (failed ∙ omega arith) (found docs h.holds) ids sums small
+    counted_push b lines h few l (query (Newest k) q) reads c own holds asked (failed ∙ omega arith) (found docs h.holds) ids sums small
 
 -- a document that is placed; one that has no room
 module _ (b c : Bench) (d : Doc) (asked : c.queries ≡ b.queries) (ids : c.ids ≡ b.ids) (sums : c.sum ≡ b.sum) where

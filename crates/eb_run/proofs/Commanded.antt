@@ -1,5 +1,5 @@
 -- What follows from how a command ends.
-use Rattle.eb_fields.specs.Dialect.{Dialect}
+use Rattle.eb_fields.specs.Dialect.{Dialect, uncounted}
 use Rattle.std.proofs.Common.{◌≡◌, ◌⊎◌, ℕ, inl, inr, List, [], ◌++◌, Option, Some, None, refl, sym, ap, subst, ◌∙◌, append-nil}
 use Rattle.std.specs.Prelude.{IfSome}
 use Rattle.eb_archive.specs.Loaded.{EndsLoad, IsUnread, IsRead, IsBodyBehind, IsTextBehind, HasRefusalBehind, HasNoRefusalBehind, Loaded}
@@ -8,7 +8,7 @@ use Rattle.eb_archive.proofs.LoadEnds.{load_completes, load_told, load_means}
 use Rattle.eb_io.specs.Source.{after}
 use Rattle.eb_lines.specs.declared.form.Form.{Form}
 use Rattle.eb_lines.specs.declared.status.Status.{Status}
-use Rattle.eb_lines.specs.declared.status.Status.TheVariants.{Done, Refused, ReadFault, WriteFault, NoMemory}
+use Rattle.eb_lines.specs.declared.status.Status.TheVariants.{Done, Refused, ReadFault, WriteFault, NoMemory, BadImage}
 use Rattle.eb_lines.specs.Outcomes as outcomes
 use Rattle.eb_lines.proofs.Told.{ends_told, ends_mean, completes}
 use Rattle.eb_answer.specs.Rules.{is_bad}
@@ -91,6 +91,19 @@ module _ (status : Status) (l0 l1 p0 p1 : Option (List ℕ)) where
     bad_image = λ bad. (bad_told how form status l0 l1 p0 p1 e bad).0;
   }
 
+  -- no other command ends at a bad image
+  pub only_load : (how : Dialect) (c : Command) → EndsBy how c status l0 l1 p0 p1 → status ≡ BadImage → (form : Form) × (c ≡ Load form)
+  only_load how c e is = go c (subst (λ (s : Status). EndsBy how c s l0 l1 p0 p1) is e)
+    where
+      go : (d : Command) → EndsBy how d BadImage l0 l1 p0 p1 → (form : Form) × (d ≡ Load form)
+      go (Run overlap form σ) r = absurd r.ends
+      go (RunWorkers n form σ) r = absurd r.ends
+      go (RunParts n overlap form σ) r = absurd r.ends
+      go (RunWatches form σ) r = absurd r.ends
+      go (Bench start count) r = absurd r.2
+      go (Save σ) r = absurd r.ends
+      go (Load form) r = (form, refl)
+
   pub means_of : (how : Dialect) (c : Command) → EndsBy how c status l0 l1 p0 p1 → Means how c status l0 l1
   means_of how (Run overlap form σ) e = λ bytes source. ends_mean _ _ _ _ status _ _ _ _ bytes e source
   means_of how (RunWorkers n form σ) e = λ bytes source. ends_mean _ _ _ _ status _ _ _ _ bytes e source
@@ -125,9 +138,9 @@ ends_asked o a how c status l0 l1 p0 p1 own is ends = subst (λ (x : Option Asks
 -- ---- where memory ran out before anything was done
 
 pub none_done : (how : Dialect) (c : Command) (left printed : Option (List ℕ)) → EndsBy how c NoMemory left left printed printed
-none_done how (Run overlap form σ) left printed = let a = output.asked how σ overlap form in passing.ends_at_once _ _ _ _ (body_first a) left printed [] (body_none a)
+none_done how (Run overlap form σ) left printed = let a = output.asked (output.read_by overlap how) σ overlap form in passing.ends_at_once _ _ _ _ (body_first a) left printed [] (body_none a)
 none_done how (RunWorkers n form σ) left printed =
-    passing.ends_at_once _ _ _ _ (serving.body_first (workers.asked how σ form)) left printed [] (body_none_given (workers.asked how σ form))
+    passing.ends_at_once _ _ _ _ (serving.body_first (workers.asked (uncounted how) σ form)) left printed [] (body_none_given (workers.asked (uncounted how) σ form))
 none_done how (RunParts n overlap form σ) left printed = ends_none is_bad (parts_rules how n σ form) left printed
 none_done how (RunWatches form σ) left printed = ends_none ReadsOther (watch_rules how σ form) left printed
 none_done how (Bench start count) left printed = figures_none _ printed

@@ -15,7 +15,7 @@ use Rattle.eb_run.specs.declared.feed.command.FeedCommand.{FeedCommand}
 use Rattle.eb_run.specs.declared.feed.command.FeedWay.{FeedWay}
 use Rattle.eb_run.specs.declared.feed.command.FeedWay.TheVariants.{InOrder, Watches, Overlap, Workers}
 use Rattle.eb_run.specs.FeedLaws.{IsSettledWay}
-use Rattle.eb_run.specs.FeedOutput.{rules_of, asked_of, IsBodyFed, IsTextFed, HasRefusalFed, HasNoRefusalFed}
+use Rattle.eb_run.specs.FeedOutput.{read_in, rules_of, asked_of, IsBodyFed, IsTextFed, HasRefusalFed, HasNoRefusalFed}
 use Rattle.eb_run.proofs.FeedsInOrder.{some_text}
 use Rattle.eb_watching.proofs.OtherLines.{one_other, some_other}
 use Rattle.eb_watching.specs.Others.{ReadsOther}
@@ -25,8 +25,9 @@ use Rattle.eb_watching.specs.WatchRules.{with_watches}
 abbrev pub EndsFed : FeedWay → Dialect → FeedCommand → Status → Option (List ℕ) → Option (List ℕ) → Option (List ℕ) → Option (List ℕ) → Type 0
 EndsFed w how c = Ends (IsBodyFed w how c) (IsTextFed w how c) (HasRefusalFed w how c) (HasNoRefusalFed w how c)
 
-pub ended : (v w : FeedWay) (how : Dialect) (c : FeedCommand) (s : Status) (l0 l1 p0 p1 : Option (List ℕ)) → v ≡ w → EndsFed w how c s l0 l1 p0 p1 → EndsFed v how c s l0 l1 p0 p1
-ended v w how c s l0 l1 p0 p1 same e = subst (λ (x : FeedWay). EndsFed x how c s l0 l1 p0 p1) (sym same) e
+pub ended : (v w : FeedWay) (how : Dialect) (c : FeedCommand) (s : Status) (l0 l1 p0 p1 : Option (List ℕ)) → v ≡ w → EndsFed w (read_in w how) c s l0 l1 p0 p1
+    → EndsFed v (read_in v how) c s l0 l1 p0 p1
+ended v w how c s l0 l1 p0 p1 same e = subst (λ (x : FeedWay). EndsFed x (read_in x how) c s l0 l1 p0 p1) (sym same) e
 
 -- where nothing was read
 pub fed_none : (w : FeedWay) (how : Dialect) (c : FeedCommand) (left printed : Option (List ℕ)) → EndsFed w how c NoMemory left left printed printed

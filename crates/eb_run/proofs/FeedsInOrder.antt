@@ -5,13 +5,12 @@ use Rattle.std.specs.Prelude.{if◌then◌else◌}
 use Rattle.std.proofs.Math.Seq.{take-append_seam}
 use Rattle.eb_answer.specs.Rules.{Rules, is_bad, comes, come_behind, AreRead, says, body_from, body, end_of, IsText}
 use Rattle.eb_base.specs.Document.{Doc}
-use Rattle.eb_base.specs.Match.{answer}
 use Rattle.eb_feed.specs.Generations.{generations, kept, kept_segments}
 use Rattle.eb_io.specs.Lines.{Line}
 use Rattle.eb_lines.specs.declared.form.Tail.TheVariants.{Kept, Generations}
 use Rattle.eb_lines.specs.Progress.{documents_in, accepted, queries, refusals, told}
 use Rattle.eb_lines.specs.Reading.{Reading, blank, document, query, refused, watch}
-use Rattle.eb_lines.specs.Text.{answer_line, summary_with}
+use Rattle.eb_lines.specs.Text.{asked_line, summary_with}
 use Rattle.eb_lines.proofs.Advancing.{told_within}
 use Rattle.eb_lines.proofs.OneReading.{some_read}
 use Rattle.eb_feed_workers.specs.Output as workers
@@ -53,7 +52,7 @@ module _ (how : Dialect) (c : FeedCommand) where
   says_same : (number seen : ℕ) (all docs : List Doc) (r : Reading) → seen ≡ length docs → take seen all ≡ docs → says rules number docs tt r ≡ workers.output_of (asked_of how c) number seen all r
   says_same number seen all docs blank e f = refl
   says_same number seen all docs (document d) e f = refl
-  says_same number seen all docs (query k q) e f = ap₂ (λ n ds. answer_line c.form number n (answer q k (kept c.config c.keep ds))) (sym e) (sym f)
+  says_same number seen all docs (query k q) e f = ap₂ (λ n ds. asked_line c.form number n k q (kept c.config c.keep ds)) (sym e) (sym f)
   says_same number seen all docs (refused r) e f = refl
   says_same number seen all docs (watch n q) e f = refl
 

@@ -14,8 +14,7 @@ use Rattle.eb_lines.specs.Reading.{Reading, blank, document, query, refused, wat
 use Rattle.eb_lines.specs.Progress.{documents_in, is_query, is_refused, one_if, accepted, queries, refusals}
 use Rattle.eb_indexed.specs.Admitted.{admit, admitted_from}
 use Rattle.eb_indexed.specs.Text.{output_of, body_from}
-use Rattle.eb_lines.specs.Text.{answer_line}
-use Rattle.eb_base.specs.Match.{answer}
+use Rattle.eb_lines.specs.Text.{asked_line}
 use Rattle.eb_rounds.specs.Inputs.{ReadsLine, admitted_in, added}
 use Rattle.eb_rounds.specs.Shown.{shown_entry, shown_text, Counted, asks, fails, WorkedOff}
 use Rattle.eb_indexed.specs.Sees.{is_document_line, is_query_line, IsAsked, SeesBetween}
@@ -81,7 +80,7 @@ output_asked form number n m docs more blank h = refl
 output_asked form number n m docs more (document d) h = refl
 output_asked form number n m docs more (query k q) h =
     let a = h refl in
-    ap (λ ds. answer_line form number n (answer q k ds)) (sym (take-append-le n docs more a.1)) ∙ ap (λ x. answer_line form number x (answer q k (take x (docs ++ more)))) (sym a.0)
+    ap (λ ds. asked_line form number n k q ds) (sym (take-append-le n docs more a.1)) ∙ ap (λ x. asked_line form number x k q (take x (docs ++ more))) (sym a.0)
 output_asked form number n m docs more (refused x) h = refl
 output_asked form number n m docs more (watch w q) h = refl
 

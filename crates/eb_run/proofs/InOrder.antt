@@ -6,7 +6,6 @@ use Rattle.std.proofs.Math.Seq.{take-append_seam}
 use Rattle.eb_answer.specs.Rules as answered
 use Rattle.eb_answer.specs.Rules.{Rules, is_bad, document_outcome, comes, come_behind, ReadsKind, ReadsWith, says, body_from, body, IsBody, IsText}
 use Rattle.eb_base.specs.Document.{Doc}
-use Rattle.eb_base.specs.Match.{answer}
 use Rattle.eb_base.specs.Setting.{Setting}
 use Rattle.eb_indexed.specs.IndexRules.{index_rules}
 use Rattle.eb_io.specs.Lines.{Line, line, long_line}
@@ -14,7 +13,7 @@ use Rattle.eb_lines.specs.declared.form.Form.{Form}
 use Rattle.eb_lines.specs.declared.refusal.Refusal.TheVariants.{Full}
 use Rattle.eb_lines.specs.Progress.{documents_in, accepted, told}
 use Rattle.eb_lines.specs.Reading.{Reading, blank, document, query, refused, watch}
-use Rattle.eb_lines.specs.Text.{answer_line}
+use Rattle.eb_lines.specs.Text.{asked_line}
 use Rattle.eb_place.specs.Room.{has_room}
 use Rattle.eb_indexed.specs.Admitted.{admit, admitted_from}
 use Rattle.eb_indexed.specs.LinesRead.{AreReadBehind, HasRefusal, HasNoRefusal}
@@ -49,7 +48,7 @@ kind_read how query_line bytes r h = h
 kind_read how bad_line bytes r h = h
 
 line_read : (how : Dialect) (l : Line) (r : Reading) → ReadsWith is_bad how l r → Reads how l r
-line_read how (line bytes) r h = kind_read how (kind_of bytes) bytes r h
+line_read how (line bytes) r h = kind_read how (kind_of how bytes) bytes r h
 line_read how long_line r h = h
 
 pub raw_read : (how : Dialect) (ls : List Line) (rs : List Reading) → AllZip (ReadsWith is_bad how) ls rs → AllZip (Reads how) ls rs
@@ -85,7 +84,7 @@ module _ (how : Dialect) (σ : Setting) (form : Form) (start : List Doc) where
   says_same : (number seen : ℕ) (all docs : List Doc) (r : Reading) → seen ≡ length docs → take seen all ≡ docs → says rules number docs tt r ≡ rounds.output_of form number seen all r
   says_same number seen all docs blank e f = refl
   says_same number seen all docs (document d) e f = refl
-  says_same number seen all docs (query k q) e f = ap₂ (λ n ds. answer_line form number n (answer q k ds)) (sym e) (sym f)
+  says_same number seen all docs (query k q) e f = ap₂ (λ n ds. asked_line form number n k q ds) (sym e) (sym f)
   says_same number seen all docs (refused r) e f = refl
   says_same number seen all docs (watch n q) e f = refl
 

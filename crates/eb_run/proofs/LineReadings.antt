@@ -56,12 +56,12 @@ free_by how kind.query_line bytes r e h = ap is_document_line h.2 ∙ of_query_f
 free_by how bad_line bytes r e h = rw h refl
 
 -- a line that isn't held as a query line
-pub reads_quiet : (how : Dialect) (l : Line) (r : Reading) → asks_query (held_as l) ≡ false → Reads how l r → is_query_line r ≡ false
-reads_quiet how (line bytes) r e h = quiet_by how (kind_of bytes) bytes r e h
+pub reads_quiet : (how : Dialect) (l : Line) (r : Reading) → asks_query (held_as how l) ≡ false → Reads how l r → is_query_line r ≡ false
+reads_quiet how (line bytes) r e h = quiet_by how (kind_of how bytes) bytes r e h
 reads_quiet how long_line r e h = rw h refl
 
-reads_free : (how : Dialect) (l : Line) (r : Reading) → gives_document (held_as l) ≡ false → Reads how l r → is_document_line r ≡ false
-reads_free how (line bytes) r e h = free_by how (kind_of bytes) bytes r e h
+reads_free : (how : Dialect) (l : Line) (r : Reading) → gives_document (held_as how l) ≡ false → Reads how l r → is_document_line r ≡ false
+reads_free how (line bytes) r e h = free_by how (kind_of how bytes) bytes r e h
 reads_free how long_line r e h = rw h refl
 
 documents_cons : (number : ℕ) (o : Option HeldInput) (hs : List HeldLine) → documents_held (before_held number o hs) ≡ one_if (gives_document o) + documents_held hs
@@ -75,11 +75,11 @@ none_given true n e = absurd (omega (arith, e))
 none_given false n e = (refl, omega (arith, e))
 
 -- lines of which none is held as a document line
-pub free_of : (how : Dialect) (k : ℕ) (ls : List Line) → documents_held (held_from k ls) ≡ 0 → (rs : List Reading) → AllZip (Reads how) ls rs
+pub free_of : (how : Dialect) (k : ℕ) (ls : List Line) → documents_held (held_from how k ls) ≡ 0 → (rs : List Reading) → AllZip (Reads how) ls rs
     → AllByRecursion (λ x. is_document_line x ≡ false) rs
 free_of how k [] e [] h = tt
 free_of how k [] e (r ∷ rs) h = absurd h
 free_of how k (l ∷ ls) e [] h = absurd h
 free_of how k (l ∷ ls) e (r ∷ rs) h =
-    let n = none_given (gives_document (held_as l)) (documents_held (held_from (k + 1) ls)) (sym (documents_cons (k + 1) (held_as l) (held_from (k + 1) ls)) ∙ e) in
+    let n = none_given (gives_document (held_as how l)) (documents_held (held_from how (k + 1) ls)) (sym (documents_cons (k + 1) (held_as how l) (held_from how (k + 1) ls)) ∙ e) in
     (reads_free how l r n.0 h.0, free_of how (k + 1) ls n.1 rs h.1)

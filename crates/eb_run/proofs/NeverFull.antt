@@ -12,6 +12,7 @@ use Rattle.eb_doc.specs.declared.LineFault.{LineFault}
 use Rattle.eb_doc.specs.declared.LineFault.TheVariants as fault
 use Rattle.eb_query.specs.Reading.{Outcome, asks, bad_number, bad_query, too_deep, too_many_nodes}
 use Rattle.eb_query.specs.WatchLine as outcome
+use Rattle.eb_query.specs.declared.ask.Ask.TheVariants.{Newest, Counts}
 use Rattle.eb_lines.specs.declared.refusal.Refusal.{Refusal}
 use Rattle.eb_lines.specs.declared.refusal.Refusal.TheVariants.{Full, NoWatch, WatchTaken, WatchesFull}
 use Rattle.eb_lines.specs.Kinds.{Kind, blank_line, document_line, query_line, bad_line, kind_of}
@@ -47,7 +48,8 @@ of_asked too_many_nodes e = (cc e)
 
 of_watch : (o : outcome.WatchOutcome) → refused Full ≡ of_watch_line o → ⊥
 of_watch (outcome.removes n) e = (cc e)
-of_watch (outcome.reads (asks n q)) e = (cc e)
+of_watch (outcome.reads (asks (Newest n) q)) e = (cc e)
+of_watch (outcome.reads (asks (Counts start width number) q)) e = (cc e)
 of_watch (outcome.reads bad_number) e = (cc e)
 of_watch (outcome.reads (bad_query column)) e = (cc e)
 of_watch (outcome.reads too_deep) e = (cc e)
@@ -71,7 +73,7 @@ module _ (other : Dialect → List ℕ → Reading → Type 0) (none : (how : Di
   by_kind how bad_line bytes e = none how bytes e
 
   of_line : (how : Dialect) (l : Line) → ReadsWith other how l (refused Full) → ⊥
-  of_line how (line bytes) e = by_kind how (kind_of bytes) bytes e
+  of_line how (line bytes) e = by_kind how (kind_of how bytes) bytes e
   of_line how long_line e = (cc e)
 
   raw_none : (how : Dialect) (ls : List Line) (rs : List Reading) → AllZip (ReadsWith other how) ls rs → AllByRecursion IsNotFull rs
@@ -129,7 +131,7 @@ kind_none how query_line bytes e = of_asked e.0 e.2
 kind_none how bad_line bytes e = (cc e)
 
 reads_none : (how : Dialect) (l : Line) → Reads how l (refused Full) → ⊥
-reads_none how (line bytes) e = kind_none how (kind_of bytes) bytes e
+reads_none how (line bytes) e = kind_none how (kind_of how bytes) bytes e
 reads_none how long_line e = (cc e)
 
 all_none : (how : Dialect) (ls : List Line) (rs : List Reading) → AllZip (Reads how) ls rs → AllByRecursion IsNotFull rs

@@ -1,5 +1,5 @@
 -- A run takes lines, and processes them.
-use Rattle.eb_fields.specs.Dialect.{dialect_of, Dialect}
+use Rattle.eb_fields.specs.Dialect.{uncounted_of, Dialect}
 use Rattle.std.proofs.Common.{◌≡◌, ℕ, ◌+◌, ◌≤◌, true, false, List, [], ◌∷◌, ◌++◌, length, Some, None, refl, sym, ap, ap₂, subst, ◌∙◌, arith, append_assoc, append-nil, length-append}
 use Rattle.std.specs.Prelude.{Result, Ok, Err, OnOk, OnErr}
 use Rattle.std.proofs.lemmas.Bool.Decides.{nat_tests}
@@ -66,20 +66,20 @@ pub goes_beside : (T : Type 0) (old new : Running) (t0 t1 : List ℕ) (l : Line)
 goes_beside T old new t0 t1 l goes a given so_far h = let w = goes a given so_far h.1 in (w.0, (h.0, w.1), w.2)
 
 module _ (old new : Running) (a : Asked) (given : List Line) (so_far : List ℕ)
-    (h : HasRun old a given so_far) (how : dialect_of new.dialect ≡ dialect_of old.dialect) (form : new.form ≡ old.form) (index : new.index ≡ old.index)
+    (h : HasRun old a given so_far) (how : uncounted_of new.dialect ≡ uncounted_of old.dialect) (form : new.form ≡ old.form) (index : new.index ≡ old.index)
     (writer : new.writer.index ≡ old.writer.index) (converter : new.converter.index ≡ old.converter.index) where
   setting_is : old.index.setting ≡ a.setting
   setting_is = ap (λ (x : Words). x.setting) h.index ∙ h.setting
 
   -- the held lines are processed
   pub run_off : (printed : List ℕ) → new.number ≡ old.number
-      → WorkedOffBoth (dialect_of old.dialect) old.form old.index.setting old.rounds.ahead old.rounds.held old.writer.docs new.writer.docs old.rounds.counts new.rounds.counts printed
+      → WorkedOffBoth (uncounted_of old.dialect) old.form old.index.setting old.rounds.ahead old.rounds.held old.writer.docs new.writer.docs old.rounds.counts new.rounds.counts printed
       → HoldsNone new → new.rounds.greatest ≡ old.rounds.greatest → HasRun new a given (so_far ++ printed)
   run_off printed number w none greatest =
       let W : Dialect → Form → Setting → Type 0 = λ ns f s.
       WorkedOffBoth ns f s old.rounds.ahead old.rounds.held old.writer.docs new.writer.docs old.rounds.counts new.rounds.counts printed in
       let worked = subst (λ (ns : Dialect). W ns a.form a.setting) h.dialect
-      (subst (λ (f : Form). W (dialect_of old.dialect) f a.setting) h.form (subst (λ (s : Setting). W (dialect_of old.dialect) old.form s) setting_is w)) in
+      (subst (λ (f : Form). W (uncounted_of old.dialect) f a.setting) h.form (subst (λ (s : Setting). W (uncounted_of old.dialect) old.form s) setting_is w)) in
       let s = both_off a.dialect a.form a.setting given old.writer.docs new.writer.docs old.rounds new.rounds.counts so_far printed h.worked worked in
       record {
         words = h.words;
@@ -136,7 +136,7 @@ module _ (old new : Running) (a : Asked) (given : List Line) (so_far : List ℕ)
     free_round : documents_held old.rounds.held ≡ 0 → AreRound a.dialect (h.worked.behind ++ l ∷ [])
     free_round none = round_free a.dialect h.worked.behind l (free_of a.dialect (length h.worked.before) h.worked.behind (sym (ap documents_held h.worked.lines) ∙ none))
 
-    quiet_round : asks_query (held_as l) ≡ false → AreRound a.dialect (h.worked.behind ++ l ∷ [])
+    quiet_round : asks_query (held_as a.dialect l) ≡ false → AreRound a.dialect (h.worked.behind ++ l ∷ [])
     quiet_round quiet = round_quiet a.dialect h.worked.behind l h.worked.round (λ r reads. reads_quiet a.dialect l r quiet reads)
 
     no_documents : documents_held [] ≡ 0
@@ -145,7 +145,7 @@ module _ (old new : Running) (a : Asked) (given : List Line) (so_far : List ℕ)
 
     -- the line is held, or passed over
     more : (docs : new.writer.docs ≡ old.writer.docs) → AreRound a.dialect (h.worked.behind ++ l ∷ []) → new.rounds.ahead ≡ old.rounds.ahead
-        → new.rounds.held ≡ old.rounds.held ++ before_held (length given + 1) (held_as l) [] → new.rounds.counts ≡ old.rounds.counts → new.rounds.greatest ≤ length given + 1
+        → new.rounds.held ≡ old.rounds.held ++ before_held (length given + 1) (held_as a.dialect l) [] → new.rounds.counts ≡ old.rounds.counts → new.rounds.greatest ≤ length given + 1
         → HasRun new a (given ++ l ∷ []) so_far
     more docs round ahead lines counts greatest = record {
       words = h.words;
@@ -161,25 +161,27 @@ module _ (old new : Running) (a : Asked) (given : List Line) (so_far : List ℕ)
           (one_more a.dialect a.form a.setting given l old.writer.docs old.rounds new.rounds so_far h.worked round ahead lines counts greatest);
     }
 
-    input_round : (input : Input) → takes_kind old.rounds.held (input_kind input) ≡ true → held_as l ≡ Some (input_of input) → AreRound a.dialect (h.worked.behind ++ l ∷ [])
+    input_round : (input : Input) → takes_kind old.rounds.held (input_kind input) ≡ true → held_as a.dialect l ≡ Some (input_of input) → AreRound a.dialect (h.worked.behind ++ l ∷ [])
     input_round (passed.DocumentLine bytes) takes is = quiet_round (ap asks_query is)
     input_round (passed.QueryLine text) takes is = free_round (grind (arith, nat_tests))
     input_round (passed.RefusedLine r) takes is = quiet_round (ap asks_query is)
 
-    pub run_held : (input : Input) → new.writer.docs ≡ old.writer.docs → takes_kind old.rounds.held (input_kind input) ≡ true → held_as l ≡ Some (input_of input)
+    pub run_held : (input : Input) → new.writer.docs ≡ old.writer.docs → takes_kind old.rounds.held (input_kind input) ≡ true → held_as (uncounted_of old.dialect) l ≡ Some (input_of input)
         → new.rounds ≡ with_held old.rounds (old.number + 1) (input_of input) → HasRun new a (given ++ l ∷ []) so_far
-    run_held input docs takes is rounds =
+    run_held input docs takes is_held rounds =
+        let is : held_as a.dialect l ≡ Some (input_of input) = ap (λ d. held_as d l) (sym h.dialect) ∙ is_held in
         let held = ap (λ (s : Standing). s.held) rounds in
         let counts = ap (λ (s : Standing). s.counts) rounds in
         let greatest = ap (λ (s : Standing). s.greatest) rounds in
-        let lines : new.rounds.held ≡ old.rounds.held ++ before_held (length given + 1) (held_as l) [] =
+        let lines : new.rounds.held ≡ old.rounds.held ++ before_held (length given + 1) (held_as a.dialect l) [] =
         held ∙ ap₂ (λ n o. old.rounds.held ++ before_held (n + 1) o []) h.number (sym is) in
         more docs (input_round input takes is) (ap (λ (s : Standing). s.ahead) rounds) lines counts (omega (arith, greatest, h.number))
 
-    pub run_blank : new.writer.docs ≡ old.writer.docs → held_as l ≡ None → new.rounds ≡ old.rounds → HasRun new a (given ++ l ∷ []) so_far
-    run_blank docs is rounds =
+    pub run_blank : new.writer.docs ≡ old.writer.docs → held_as (uncounted_of old.dialect) l ≡ None → new.rounds ≡ old.rounds → HasRun new a (given ++ l ∷ []) so_far
+    run_blank docs is_held rounds =
+        let is : held_as a.dialect l ≡ None = ap (λ d. held_as d l) (sym h.dialect) ∙ is_held in
         let held = ap (λ (s : Standing). s.held) rounds in
-        let lines : new.rounds.held ≡ old.rounds.held ++ before_held (length given + 1) (held_as l) [] =
+        let lines : new.rounds.held ≡ old.rounds.held ++ before_held (length given + 1) (held_as a.dialect l) [] =
         held ∙ sym (append-nil old.rounds.held) ∙ ap (λ o. old.rounds.held ++ before_held (length given + 1) o []) (sym is) in
         let ahead = ap (λ (s : Standing). s.ahead) rounds in
         more docs (quiet_round (ap asks_query is)) ahead lines (ap (λ (s : Standing). s.counts) rounds)
@@ -187,7 +189,7 @@ module _ (old new : Running) (a : Asked) (given : List Line) (so_far : List ℕ)
 
 -- ---- the held lines, processed or not
 
-module _ (old new : Running) (t0 t1 : List ℕ) (how : dialect_of new.dialect ≡ dialect_of old.dialect) (form : new.form ≡ old.form) (index : new.index ≡ old.index)
+module _ (old new : Running) (t0 t1 : List ℕ) (how : uncounted_of new.dialect ≡ uncounted_of old.dialect) (form : new.form ≡ old.form) (index : new.index ≡ old.index)
     (writer : new.writer.index ≡ old.writer.index)
     (converter : new.converter.index ≡ old.converter.index) (number : new.number ≡ old.number) where
   pub unchanged_on : new.rounds ≡ old.rounds → new.writer.docs ≡ old.writer.docs → t1 ≡ t0 → WorksOn HasRun old new t0 t1
@@ -200,7 +202,7 @@ module _ (old new : Running) (t0 t1 : List ℕ) (how : dialect_of new.dialect �
 
   pub held_on : {T E : Type 0} (r : Result T E)
       → OnOk r ((printed : List ℕ)
-      × WorkedOffBoth (dialect_of old.dialect) old.form old.index.setting old.rounds.ahead old.rounds.held old.writer.docs new.writer.docs old.rounds.counts new.rounds.counts printed
+      × WorkedOffBoth (uncounted_of old.dialect) old.form old.index.setting old.rounds.ahead old.rounds.held old.writer.docs new.writer.docs old.rounds.counts new.rounds.counts printed
       × (t1 ≡ t0 ++ printed))
       → OnOk r ((new.rounds.ahead ≡ []) × (new.rounds.held ≡ []) × (new.rounds.greatest ≡ old.rounds.greatest)) → OnErr r (WorksOn HasRun old new t0 t1) → WorksOn HasRun old new t0 t1
   held_on (Ok x) done held err = λ a given so_far h. (done.0, run_off old new a given so_far h how form index writer converter done.0 number done.1 (held.0, held.1) held.2, done.2)

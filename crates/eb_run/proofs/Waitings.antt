@@ -50,8 +50,8 @@ not_blank how (query_line bytes) r number es h = subst (λ (x : Reading). before
 not_blank how (refused_line x) r number es h = rw h refl
 
 -- a line that isn't held is blank, and one that is held is read as its input
-blank_reads : (how : Dialect) (l : Line) → held_as l ≡ None → Reads how l blank
-blank_reads how (line bytes) e = by_kind (kind_of bytes) e where
+blank_reads : (how : Dialect) (l : Line) → held_as how l ≡ None → Reads how l blank
+blank_reads how (line bytes) e = by_kind (kind_of how bytes) e where
   by_kind : (k : Kind) → input_by k bytes ≡ None → ReadsByKind how k bytes blank
   by_kind blank_line e = refl
   by_kind kind.document_line e = absurd (cc e)
@@ -59,8 +59,8 @@ blank_reads how (line bytes) e = by_kind (kind_of bytes) e where
   by_kind bad_line e = absurd (cc e)
 blank_reads how long_line e = absurd (cc e)
 
-held_reads : (how : Dialect) (l : Line) (i : HeldInput) (r : Reading) → held_as l ≡ Some i → ReadsInput how i r → Reads how l r
-held_reads how (line bytes) i r e h = by_kind (kind_of bytes) e where
+held_reads : (how : Dialect) (l : Line) (i : HeldInput) (r : Reading) → held_as how l ≡ Some i → ReadsInput how i r → Reads how l r
+held_reads how (line bytes) i r e h = by_kind (kind_of how bytes) e where
   by_kind : (k : Kind) → input_by k bytes ≡ Some i → ReadsByKind how k bytes r
   by_kind blank_line e = absurd (cc e)
   by_kind kind.document_line e = (let same : i ≡ document_line bytes = cc e in subst (λ x. ReadsInput how x r) same h)
@@ -72,9 +72,9 @@ held_reads how long_line i r e h = (let same : i ≡ refused_line _ = cc e in su
 abbrev pub Back : Dialect → ℕ → List Line → List Entry → Type 0
 Back how k ls raw = (rs : List Reading) × AllZip (Reads how) ls rs × (raw ≡ entries_from k rs)
 
-back_one : (how : Dialect) (k : ℕ) (l : Line) (ls : List Line) (o : Option HeldInput) → held_as l ≡ o
-    → ((raw : List Entry) → AllZip (ReadsLine how) (held_from (k + 1) ls) raw → Back how (k + 1) ls raw)
-    → (raw : List Entry) → AllZip (ReadsLine how) (before_held (k + 1) o (held_from (k + 1) ls)) raw → Back how k (l ∷ ls) raw
+back_one : (how : Dialect) (k : ℕ) (l : Line) (ls : List Line) (o : Option HeldInput) → held_as how l ≡ o
+    → ((raw : List Entry) → AllZip (ReadsLine how) (held_from how (k + 1) ls) raw → Back how (k + 1) ls raw)
+    → (raw : List Entry) → AllZip (ReadsLine how) (before_held (k + 1) o (held_from how (k + 1) ls)) raw → Back how k (l ∷ ls) raw
 back_one how k l ls None is more raw h = let rest = more raw h in (blank ∷ rest.0, (blank_reads how l is, rest.1), rest.2)
 back_one how k l ls (Some i) is more [] h = absurd h
 back_one how k l ls (Some i) is more (e ∷ raw) h =
@@ -85,10 +85,10 @@ back_one how k l ls (Some i) is more (e ∷ raw) h =
       ap₂ (λ x xs. x ∷ xs) own rest.2 ∙ sym (not_blank how i e.reading (k + 1) (entries_from (k + 1) rest.0) h.0.reading),
     )
 
-pub read_back : (how : Dialect) (k : ℕ) (ls : List Line) (raw : List Entry) → AllZip (ReadsLine how) (held_from k ls) raw → Back how k ls raw
+pub read_back : (how : Dialect) (k : ℕ) (ls : List Line) (raw : List Entry) → AllZip (ReadsLine how) (held_from how k ls) raw → Back how k ls raw
 read_back how k [] [] h = ([], tt, refl)
 read_back how k [] (e ∷ raw) h = absurd h
-read_back how k (l ∷ ls) raw h = back_one how k l ls (held_as l) refl (λ rest t. read_back how (k + 1) ls rest t) raw h
+read_back how k (l ∷ ls) raw h = back_one how k l ls (held_as how l) refl (λ rest t. read_back how (k + 1) ls rest t) raw h
 
 -- ---- entries and readings
 

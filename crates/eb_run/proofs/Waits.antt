@@ -68,10 +68,10 @@ settled how form σ given docs held so_far a none =
 
 -- ---- a line more
 
-held_push : (k : ℕ) (ls : List Line) (l : Line) → held_from k (ls ++ l ∷ []) ≡ held_from k ls ++ before_held (k + length ls + 1) (held_as l) []
-held_push k [] l = ap (λ n. before_held (n + 1) (held_as l) []) (let same : k ≡ k + 0 = omega arith in same)
-held_push k (x ∷ ls) l = one _ (held_from (k + 1) ls) (before_held (k + suc (length ls) + 1) (held_as l) []) (held_as x) (held_push (k + 1) ls l
-    ∙ ap (λ n. held_from (k + 1) ls ++ before_held (n + 1) (held_as l) []) (let same : k + 1 + length ls ≡ k + suc (length ls) = omega arith in same)) where
+held_push : (how : Dialect) (k : ℕ) (ls : List Line) (l : Line) → held_from how k (ls ++ l ∷ []) ≡ held_from how k ls ++ before_held (k + length ls + 1) (held_as how l) []
+held_push how k [] l = ap (λ n. before_held (n + 1) (held_as how l) []) (let same : k ≡ k + 0 = omega arith in same)
+held_push how k (x ∷ ls) l = one _ (held_from how (k + 1) ls) (before_held (k + suc (length ls) + 1) (held_as how l) []) (held_as how x) (held_push how (k + 1) ls l
+    ∙ ap (λ n. held_from how (k + 1) ls ++ before_held (n + 1) (held_as how l) []) (let same : k + 1 + length ls ≡ k + suc (length ls) = omega arith in same)) where
       one : (hs gs more : List HeldLine) (o : Option HeldInput) → hs ≡ gs ++ more → before_held (k + 1) o hs ≡ before_held (k + 1) o gs ++ more
       one hs gs more None e = e
       one hs gs more (Some i) e = ap (λ l. record { number = k + 1; input = i } ∷ l) e
@@ -109,7 +109,7 @@ round_free how ls l free rs h = let m = zip_split (Reads how) ls l rs h in subst
 
 -- where all lines are done but some, these are a round
 abbrev wait_behind : (how : Dialect) (form : Form) (σ : Setting) (before behind given : List Line) (docs : List Doc) (held : Standing) (so_far : List ℕ)
-    → HasSettled how form σ before docs held.counts so_far → given ≡ before ++ behind → held.held ≡ held_from (length before) behind → AreRound how behind → held.greatest ≤ length given
+    → HasSettled how form σ before docs held.counts so_far → given ≡ before ++ behind → held.held ≡ held_from how (length before) behind → AreRound how behind → held.greatest ≤ length given
     → HasWorkedOff how form σ given docs held so_far
 wait_behind how form σ before behind given docs held so_far s parts lines round le = record {
   done = before;
@@ -175,7 +175,7 @@ round_opened how form σ given docs s so_far g ahead =
 -- a line is given, and held if it isn't blank; the open round stays one
 pub one_more : (how : Dialect) (form : Form) (σ : Setting) (given : List Line) (l : Line) (docs : List Doc) (s s_new : Standing) (so_far : List ℕ)
     (g : HasGathered how form σ given docs s so_far)
-    → AreRound how (g.behind ++ l ∷ []) → s_new.ahead ≡ s.ahead → s_new.held ≡ s.held ++ before_held (length given + 1) (held_as l) [] → s_new.counts ≡ s.counts
+    → AreRound how (g.behind ++ l ∷ []) → s_new.ahead ≡ s.ahead → s_new.held ≡ s.held ++ before_held (length given + 1) (held_as how l) [] → s_new.counts ≡ s.counts
     → s_new.greatest ≤ length given + 1 → HasGathered how form σ (given ++ l ∷ []) docs s_new so_far
 one_more how form σ given l docs s s_new so_far g round ahead lines counts greatest = record {
   before = g.before;
@@ -186,7 +186,7 @@ one_more how form σ given l docs s s_new so_far g round ahead lines counts grea
       subst (λ c. W s_new.ahead c) (sym counts) (subst (λ hs. W hs s.counts) (sym ahead) g.worked);
   lines =
       let all : length given ≡ length g.before + length g.behind = ap length g.parts ∙ length-append g.before g.behind in
-      lines ∙ ap₂ (λ x n. x ++ before_held (n + 1) (held_as l) []) g.lines all ∙ sym (held_push (length g.before) g.behind l);
+      lines ∙ ap₂ (λ x n. x ++ before_held (n + 1) (held_as how l) []) g.lines all ∙ sym (held_push how (length g.before) g.behind l);
   round = round;
   greatest = omega (arith, greatest, length-append given (l ∷ []));
 }

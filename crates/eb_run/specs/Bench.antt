@@ -9,6 +9,7 @@ use Rattle.eb_gen.specs.Made.{made, made_line, made_query}
 use Rattle.eb_io.specs.Lines.{Line, line, lines_of}
 use Rattle.eb_io.specs.Sink.{grown}
 use Rattle.eb_run.specs.declared.bench.Bench.{Bench}
+use Rattle.eb_query.specs.declared.ask.Ask.TheVariants.{Newest, Counts}
 use Rattle.eb_lines.specs.declared.status.Status.{Status}
 use Rattle.eb_lines.specs.declared.status.Status.TheVariants as status
 use Rattle.eb_lines.specs.Reading.{Reading, blank, document, query, refused, watch}
@@ -25,7 +26,8 @@ usual = record { segments = 12; docs = 4096; terms = 8192 }
 abbrev pub answer_in : List Doc → Reading → List ℕ
 answer_in docs blank = []
 answer_in docs (document d) = []
-answer_in docs (query k q) = answer q k docs
+answer_in docs (query (Newest k) q) = answer q k docs
+answer_in docs (query (Counts x w n) q) = []
 answer_in docs (refused r) = []
 answer_in docs (watch n q) = []
 

@@ -1,6 +1,6 @@
 -- What the words of a command line ask; they are without the program's name.
 use Rattle.eb_fields.specs.Dialect.{Dialect, plain}
-use Rattle.std.specs.Prelude.{◌≡◌, ℕ, ◌*◌, ◌^◌, ◌&&◌, Bool, true, false, List, [], ◌∷◌, codes, nat_le, Option, Some, None, if◌then◌else◌, option_map, option_and_then}
+use Rattle.std.specs.Prelude.{ℕ, ◌*◌, ◌^◌, ◌&&◌, not, Bool, true, false, List, [], ◌∷◌, ◌++◌, codes, nat_le, Option, Some, None, if◌then◌else◌, option_map, option_and_then}
 use Rattle.std.specs.Str.{bytes_eq}
 use Rattle.eb_base.specs.Setting.{Setting, words_of}
 use Rattle.eb_lines.specs.declared.form.Form.{Form}
@@ -18,11 +18,32 @@ use Rattle.eb_run.specs.declared.command.Command.TheVariants.{Run, RunWorkers, R
 abbrev pub form_of : Items → Form
 form_of items = record { json = has (codes "json") items; stats = has (codes "stats") items }
 
+-- ---- counts
+
+-- a command, and whether its lines may ask for counts
+pub record Counting : Type 0 where
+  pub counts : Bool
+  pub command : Command
+
+-- this command answers them: a run in order, over parts or with watches, and a load
+abbrev pub may_count : Command → Bool
+may_count (Run overlap form σ) = not overlap
+may_count (RunWorkers n form σ) = false
+may_count (RunParts n overlap form σ) = true
+may_count (RunWatches form σ) = true
+may_count (Bench start count) = false
+may_count (Save σ) = false
+may_count (Load form) = true
+
+-- they are asked for only where it does
+abbrev pub with_counts : Bool → Command → Option Counting
+with_counts counts c = if counts && not (may_count c) then None else Some (record { counts = counts; command = c })
+
 -- ---- `run`
 
 -- its flags and its options
 abbrev pub run_flags : List (List ℕ)
-run_flags = codes "overlap" ∷ codes "watch" ∷ codes "json" ∷ codes "stats" ∷ []
+run_flags = codes "overlap" ∷ codes "watch" ∷ codes "json" ∷ codes "stats" ∷ codes "counts" ∷ []
 
 abbrev pub run_options : List (List ℕ)
 run_options = codes "workers" ∷ codes "parts" ∷ setting_options
@@ -53,8 +74,8 @@ run_with items = option_and_then (λ σ. run_by (has (codes "overlap") items) (h
     (form_of items) σ) (setting_of items)
 
 -- what the words after `run` ask for: its flags and options, in any order, each at most once
-abbrev pub run_of : List (List ℕ) → Option Command
-run_of words = option_and_then run_with (items_of run_flags run_options words)
+abbrev pub run_of : List (List ℕ) → Option Counting
+run_of words = option_and_then (λ items. option_and_then (with_counts (has (codes "counts") items)) (run_with items)) (items_of run_flags run_options words)
 
 -- ---- `bench`
 
@@ -74,19 +95,19 @@ abbrev pub save_with : Items → Option Command
 save_with items = option_map (λ σ. Save σ) (setting_of items)
 
 -- what the words after `save` ask for: the options of a setting
-abbrev pub save_of : List (List ℕ) → Option Command
-save_of words = option_and_then save_with (items_of [] setting_options words)
+abbrev pub save_of : List (List ℕ) → Option Counting
+save_of words = option_and_then (with_counts false) (option_and_then save_with (items_of [] setting_options words))
 
 abbrev pub load_flags : List (List ℕ)
-load_flags = codes "json" ∷ codes "stats" ∷ []
+load_flags = codes "json" ∷ codes "stats" ∷ codes "counts" ∷ []
 
 -- what the items after `load` ask for
 abbrev pub load_with : Items → Command
 load_with items = Load (form_of items)
 
 -- what the words after `load` ask for: its flags, in any order, each at most once
-abbrev pub load_of : List (List ℕ) → Option Command
-load_of words = option_map load_with (items_of load_flags [] words)
+abbrev pub load_of : List (List ℕ) → Option Counting
+load_of words = option_and_then (λ items. with_counts (has (codes "counts") items) (load_with items)) (items_of load_flags [] words)
 
 -- ---- how lines are read
 
@@ -105,15 +126,39 @@ abbrev pub cut_in : Option (List ℕ) → Option Cut
 cut_in None = Some Words
 cut_in (Some text) = if bytes_eq text (codes "pieces") then Some Pieces else None
 
--- how lines are read, by the texts of both options
-abbrev pub dialect_in : Option (List ℕ) → Option (List ℕ) → Option Dialect
-dialect_in fields words = option_and_then (λ names. option_map (λ cut. record { names = names; cut = cut }) (cut_in words)) (fields_in fields)
+-- the name of a member: any text that isn't empty; none where nothing is said
+abbrev pub member_in : Option (List ℕ) → Option (Option (List ℕ))
+member_in None = Some None
+member_in (Some []) = None
+member_in (Some (b ∷ bs)) = Some (Some (b ∷ bs))
 
--- the words after the name of a command that has these options with numbers, with `--fields` and `--words` apart
+-- the options that say how lines are read, each with a text
+abbrev pub text_options : List (List ℕ)
+text_options = codes "fields" ∷ codes "words" ∷ codes "id" ∷ codes "text" ∷ []
+
+-- the text of the option of this name, if it stands among words whose options with a value are these; and the words without it
+abbrev pub text_of : List ℕ → List (List ℕ) → List (List ℕ) → Option (Option (List ℕ))
+text_of name options words = option_map (λ (a : Apart). a.text) (text_apart name options words)
+
+abbrev pub without : List ℕ → List (List ℕ) → List (List ℕ) → Option (List (List ℕ))
+without name options words = option_map (λ (a : Apart). a.others) (text_apart name options words)
+
+-- how lines are read, by these options among the words
+abbrev pub dialect_in : List (List ℕ) → List (List ℕ) → Option Dialect
+dialect_in options words =
+    option_and_then (λ names. option_and_then (λ cut. option_and_then (λ id. option_map (λ text. record plain { names = names; cut = cut; id = id; text = text })
+    (option_and_then member_in (text_of (codes "text") options words))) (option_and_then member_in (text_of (codes "id") options words)))
+    (option_and_then cut_in (text_of (codes "words") options words))) (option_and_then fields_in (text_of (codes "fields") options words))
+
+-- the words without these options
+abbrev pub others_in : List (List ℕ) → List (List ℕ) → Option (List (List ℕ))
+others_in options words =
+    option_and_then (without (codes "text") options) (option_and_then (without (codes "id") options)
+    (option_and_then (without (codes "words") options) (without (codes "fields") options words)))
+
+-- the words after the name of a command whose options with a value are these, with those apart that say how lines are read
 abbrev pub dialect_apart : List (List ℕ) → List (List ℕ) → Option DialectApart
-dialect_apart options words =
-    option_and_then (λ (a : Apart). option_and_then (λ (b : Apart). option_map (λ how. record { dialect = how; others = b.others }) (dialect_in a.text b.text))
-    (text_apart (codes "words") options a.others)) (text_apart (codes "fields") (codes "words" ∷ options) words)
+dialect_apart options words = option_and_then (λ how. option_map (λ others. record { dialect = how; others = others }) (others_in options words)) (dialect_in options words)
 
 -- ---- the command
 
@@ -125,9 +170,13 @@ pub record Asks : Type 0 where
 abbrev pub asks : Dialect → Command → Asks
 asks how command = record { dialect = how; command = command }
 
--- the words after a command's name, which say how lines are read beside what they ask else
-abbrev pub with_dialect : List (List ℕ) → (List (List ℕ) → Option Command) → List (List ℕ) → Option Asks
-with_dialect options ask words = option_and_then (λ (a : DialectApart). option_map (asks a.dialect) (ask a.others)) (dialect_apart options words)
+-- a command, of which lines are read so, with counts where they are asked for
+abbrev pub asks_counting : Dialect → Counting → Asks
+asks_counting how c = asks (record how { counts = c.counts }) c.command
+
+-- the words after the name of a command that has these options with numbers, which say how lines are read beside what they ask else
+abbrev pub with_dialect : List (List ℕ) → (List (List ℕ) → Option Counting) → List (List ℕ) → Option Asks
+with_dialect options ask words = option_and_then (λ (a : DialectApart). option_map (asks_counting a.dialect) (ask a.others)) (dialect_apart (text_options ++ options) words)
 
 -- what the words ask for, if they are in the grammar
 abbrev pub asked_of : List (List ℕ) → Option Asks

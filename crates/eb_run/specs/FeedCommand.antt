@@ -1,6 +1,6 @@
 -- What the words of a command line ask of a feed; they are without the program's name and the word `feed`.
 use Rattle.eb_fields.specs.Dialect.{Dialect}
-use Rattle.std.specs.Prelude.{◌≡◌, ℕ, ◌+◌, ◌*◌, ◌^◌, ◌≤◌, ◌&&◌, Bool, true, false, List, [], ◌∷◌, codes, nat_le, Option, Some, None, unwrap_or, if◌then◌else◌, option_and_then, option_map}
+use Rattle.std.specs.Prelude.{◌≡◌, ℕ, ◌+◌, ◌*◌, ◌^◌, ◌≤◌, ◌&&◌, not, Bool, true, false, List, [], ◌∷◌, ◌++◌, codes, nat_le, Option, Some, None, unwrap_or, if◌then◌else◌, option_and_then, option_map}
 use Rattle.eb_base.specs.Setting.{Setting, words_of}
 use Rattle.eb_lines.specs.declared.form.Form.{Form}
 use Rattle.eb_options.specs.Items.{Items, has, items_of, option_number}
@@ -8,11 +8,11 @@ use Rattle.eb_options.specs.Settings.{setting_of, setting_options}
 use Rattle.eb_run.specs.declared.feed.command.FeedCommand.{FeedCommand}
 use Rattle.eb_run.specs.declared.feed.command.FeedWay.{FeedWay}
 use Rattle.eb_run.specs.declared.feed.command.FeedWay.TheVariants.{InOrder, Watches, Overlap, Workers}
-use Rattle.eb_run.specs.Command.{DialectApart, dialect_apart, form_of, is_few}
+use Rattle.eb_run.specs.Command.{DialectApart, dialect_apart, text_options, form_of, is_few}
 
 -- the flags of a feed, and its options: how many workers it has, how many generations it keeps, and those of their setting
 abbrev pub feed_flags : List (List ℕ)
-feed_flags = codes "overlap" ∷ codes "watch" ∷ codes "json" ∷ codes "stats" ∷ []
+feed_flags = codes "overlap" ∷ codes "watch" ∷ codes "json" ∷ codes "stats" ∷ codes "counts" ∷ []
 
 abbrev pub feed_options : List (List ℕ)
 feed_options = codes "workers" ∷ codes "keep" ∷ setting_options
@@ -51,18 +51,35 @@ feed_of keep form way σ = if is_feed keep σ then Some (record { keep = keep; w
 abbrev pub feed_with : Items → Option FeedCommand
 feed_with items = option_and_then (λ way. option_and_then (feed_of (unwrap_or (option_number (codes "keep") items) 4) (form_of items) way) (setting_of items)) (way_of items)
 
--- the feed that the words ask for beside the fields: its flags and options in any order, each at most once
-abbrev pub feed_command_of : List (List ℕ) → Option FeedCommand
-feed_command_of words = option_and_then feed_with (items_of feed_flags feed_options words)
+-- a feed, and whether its lines may ask for counts, which one with workers doesn't answer
+pub record FeedCounting : Type 0 where
+  pub counts : Bool
+  pub command : FeedCommand
+
+abbrev pub way_counts : FeedWay → Bool
+way_counts InOrder = true
+way_counts Watches = true
+way_counts Overlap = true
+way_counts (Workers n) = false
+
+abbrev pub feed_counting : Bool → FeedCommand → Option FeedCounting
+feed_counting counts c = if counts && not (way_counts c.way) then None else Some (record { counts = counts; command = c })
+
+-- the feed that the words ask for beside how its lines are read: its flags and options in any order, each at most once
+abbrev pub feed_command_of : List (List ℕ) → Option FeedCounting
+feed_command_of words = option_and_then (λ items. option_and_then (feed_counting (has (codes "counts") items)) (feed_with items)) (items_of feed_flags feed_options words)
 
 -- what words ask for: how lines are read, and a feed
 pub record FeedAsks : Type 0 where
   pub dialect : Dialect
   pub command : FeedCommand
 
+abbrev pub feed_asks : Dialect → FeedCounting → FeedAsks
+feed_asks how c = record { dialect = record how { counts = c.counts }; command = c.command }
+
 abbrev pub feed_asked_of : List (List ℕ) → Option FeedAsks
 feed_asked_of words =
-    option_and_then (λ (a : DialectApart). option_map (λ command. record { dialect = a.dialect; command = command }) (feed_command_of a.others)) (dialect_apart feed_options words)
+    option_and_then (λ (a : DialectApart). option_map (feed_asks a.dialect) (feed_command_of a.others)) (dialect_apart (text_options ++ feed_options) words)
 
 -- the words ask for this feed, of which lines are read so
 abbrev pub AsksFeed : List (List ℕ) → Dialect → FeedCommand → Type 0

@@ -10,7 +10,7 @@ use Rattle.eb_run.specs.declared.feed.command.FeedWay.{FeedWay}
 use Rattle.eb_run.specs.declared.feed.command.FeedWay.TheVariants.{InOrder, Watches, Overlap, Workers}
 use Rattle.eb_run.specs.FeedOutput.{AreFed, IsTextFed, IsFeedOutput}
 
--- each input has a text, whatever the fields are and a feed is asked for
+-- each input has a text, however lines are read and whatever feed is asked for
 abbrev pub SomeFeedText : Type 0
 SomeFeedText = (how : Dialect) (c : FeedCommand) (bytes : List ℕ) → (printed : List ℕ) × IsFeedOutput how c bytes printed
 

@@ -1,5 +1,5 @@
 -- What a feed prints for the bytes of an input.
-use Rattle.eb_fields.specs.Dialect.{Dialect}
+use Rattle.eb_fields.specs.Dialect.{Dialect, uncounted}
 use Rattle.std.specs.Prelude.{ℕ, List, [], length, Option, None, if◌then◌else◌}
 use Rattle.eb_answer.specs.Rules.{Rules, plain_rules, is_bad, AreRead, IsBody, IsText, HasRefusal, HasNoRefusal}
 use Rattle.eb_base.specs.Document.{Doc}
@@ -76,18 +76,27 @@ HasNoRefusalFed (Workers n) how c = workers.HasNoRefusal how
 
 -- ---- of what the words ask for
 
+-- how it reads lines: with workers none asks for counts
+abbrev pub read_in : FeedWay → Dialect → Dialect
+read_in InOrder how = how
+read_in Watches how = how
+read_in Overlap how = how
+read_in (Workers n) how = uncounted how
+
 -- the text of an input of these bytes
 abbrev pub IsFeedOutput : Dialect → FeedCommand → List ℕ → List ℕ → Type 0
-IsFeedOutput how c bytes printed = IsTextFed c.way how c (lines_of bytes) printed
+IsFeedOutput how c bytes printed = IsTextFed c.way (read_in c.way how) c (lines_of bytes) printed
 
 -- how a feed ends so of an input, by what was left and taken before and after
 abbrev pub EndsFeed : Dialect → FeedCommand → Status → Option (List ℕ) → Option (List ℕ) → Option (List ℕ) → Option (List ℕ) → Type 0
-EndsFeed how c = passing.Ends (IsBodyFed c.way how c) (IsTextFed c.way how c) (HasRefusalFed c.way how c) (HasNoRefusalFed c.way how c)
+EndsFeed how c =
+    let d = read_in c.way how in passing.Ends (IsBodyFed c.way d c) (IsTextFed c.way d c) (HasRefusalFed c.way d c) (HasNoRefusalFed c.way d c)
 
 -- what a feed that ends so has printed, of an input of these bytes of which this is left
 abbrev pub WroteFeed : Dialect → FeedCommand → Status → List ℕ → Option (List ℕ) → List ℕ → Type 0
-WroteFeed how c = outcomes.Wrote (IsBodyFed c.way how c) (IsTextFed c.way how c) (HasRefusalFed c.way how c) (HasNoRefusalFed c.way how c)
+WroteFeed how c =
+    let d = read_in c.way how in outcomes.Wrote (IsBodyFed c.way d c) (IsTextFed c.way d c) (HasRefusalFed c.way d c) (HasNoRefusalFed c.way d c)
 
 -- what a status says of an input of these bytes of which this is left, whatever became of the output
 abbrev pub FeedMeans : Dialect → FeedCommand → Status → List ℕ → Option (List ℕ) → Type 0
-FeedMeans how c = outcomes.Means (HasRefusalFed c.way how c) (HasNoRefusalFed c.way how c)
+FeedMeans how c = let d = read_in c.way how in outcomes.Means (HasRefusalFed c.way d c) (HasNoRefusalFed c.way d c)

@@ -1,4 +1,4 @@
--- Fields, and the text of a list, as contracts see them.
+-- Fields, the text of an option, and the name of a member, as contracts see them.
 use Rattle.std.specs.Prelude.{ℕ, List, Option, option_map}
 use Rattle.std.specs.Borrow.{Bor}
 use Rattle.eb_fields.specs.Fields.{names}
@@ -9,3 +9,6 @@ told_text text = option_map (λ (t : Bor (List ℕ)). t.now) text
 
 abbrev pub told_fields : Option Fields → Option (List (List ℕ))
 told_fields fields = option_map names fields
+
+abbrev pub told_member : Option (Option (Bor (List ℕ))) → Option (Option (List ℕ))
+told_member member = option_map told_text member

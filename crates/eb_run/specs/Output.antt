@@ -1,6 +1,6 @@
 -- What a run prints for the bytes of an input.
-use Rattle.eb_fields.specs.Dialect.{Dialect}
-use Rattle.std.specs.Prelude.{◌≡◌, ℕ, Bool, List, ◌++◌, Option}
+use Rattle.eb_fields.specs.Dialect.{Dialect, uncounted}
+use Rattle.std.specs.Prelude.{◌≡◌, ℕ, Bool, true, false, List, ◌++◌, Option}
 use Rattle.eb_base.specs.Setting.{Setting}
 use Rattle.eb_io.specs.Lines.{Line, lines_of}
 use Rattle.eb_lines.specs.Outcomes as outcomes
@@ -21,6 +21,11 @@ pub record Asked : Type 0 where
 
 abbrev pub asked : Dialect → Setting → Bool → Form → Asked
 asked how σ overlap form = record { dialect = how; setting = σ; overlap = overlap; form = form }
+
+-- how a run reads lines: with overlap none asks for counts
+abbrev pub read_by : (overlap : Bool) → Dialect → Dialect
+read_by true how = uncounted how
+read_by false how = how
 
 -- what these lines print, with or without overlap: the answers and refusals, in order
 pub record IsBodyOf (a : Asked) (lines : List Line) (printed : List ℕ) : Type 0 where

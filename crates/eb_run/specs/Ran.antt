@@ -1,6 +1,6 @@
 -- What the program leaves, by the command that the words ask for and by the dialect: `l0` and `l1` are what the source has left before and
 -- after it, and `p0` and `p1` what `out` has taken, each where that is told.
-use Rattle.eb_fields.specs.Dialect.{Dialect}
+use Rattle.eb_fields.specs.Dialect.{Dialect, uncounted}
 use Rattle.std.specs.Prelude.{◌≡◌, ◌⊎◌, ℕ, ◌<◌, Bool, true, false, List, [], ◌++◌, length, Option, Some, None}
 use Rattle.eb_answer.specs.Rules.{is_bad, IsBody, IsText}
 use Rattle.eb_answer.specs.Rules as answered
@@ -27,15 +27,15 @@ use Rattle.eb_workers.specs.Output as workers
 use Rattle.eb_run.specs.declared.command.Command.{Command}
 use Rattle.eb_run.specs.declared.command.Command.TheVariants.{Run, RunWorkers, RunParts, RunWatches, Bench, Save, Load}
 use Rattle.eb_run.specs.Bench.{WroteBench, MeansBench, PrintsFigures}
-use Rattle.eb_run.specs.Output.{Ends, Wrote}
+use Rattle.eb_run.specs.Output.{Ends, Wrote, read_by}
 use Rattle.eb_run.specs.Output as output
 
 -- ---- how a command ends, also where source and `out` tell no bytes
 
 abbrev pub EndsBy : Dialect → Command → Status → (l0 l1 p0 p1 : Option (List ℕ)) → Type 0
-EndsBy how (Run overlap form σ) status l0 l1 p0 p1 = Ends how σ overlap form status l0 l1 p0 p1
+EndsBy how (Run overlap form σ) status l0 l1 p0 p1 = Ends (read_by overlap how) σ overlap form status l0 l1 p0 p1
 EndsBy how (RunWorkers n form σ) status l0 l1 p0 p1 =
-    let a = workers.asked how σ form in passing.Ends (workers.IsWorkersBody a) (workers.IsWorkersText a) (HasRefusal how σ) (HasNoRefusal how σ) status l0 l1 p0 p1
+    let a = workers.asked (uncounted how) σ form in passing.Ends (workers.IsWorkersBody a) (workers.IsWorkersText a) (HasRefusal a.dialect σ) (HasNoRefusal a.dialect σ) status l0 l1 p0 p1
 EndsBy how (RunParts n overlap form σ) status l0 l1 p0 p1 =
     let rules = parts_rules how n σ form in passing.Ends (IsBody is_bad rules) (IsText is_bad rules) (answered.HasRefusal is_bad rules) (answered.HasNoRefusal is_bad rules) status l0 l1 p0 p1
 EndsBy how (RunWatches form σ) status l0 l1 p0 p1 =
@@ -75,8 +75,8 @@ pub record RanLoad (how : Dialect) (form : Form) (status : Status) (l0 l1 p0 p1 
   pub bad_image : status ≡ BadImage → p1 ≡ p0
 
 abbrev pub Ran : Dialect → Command → Status → (l0 l1 p0 p1 : Option (List ℕ)) → Type 0
-Ran how (Run overlap form σ) status l0 l1 p0 p1 = Prints (Wrote how σ overlap form status) l0 l1 p0 p1
-Ran how (RunWorkers n form σ) status l0 l1 p0 p1 = Prints (workers.WroteWorkers (workers.asked how σ form) status) l0 l1 p0 p1
+Ran how (Run overlap form σ) status l0 l1 p0 p1 = Prints (Wrote (read_by overlap how) σ overlap form status) l0 l1 p0 p1
+Ran how (RunWorkers n form σ) status l0 l1 p0 p1 = Prints (workers.WroteWorkers (workers.asked (uncounted how) σ form) status) l0 l1 p0 p1
 Ran how (RunParts n overlap form σ) status l0 l1 p0 p1 = Prints (WroteInParts (parts_rules how n σ form) status) l0 l1 p0 p1
 Ran how (RunWatches form σ) status l0 l1 p0 p1 = Prints (WroteWatches (watch_rules how σ form) status) l0 l1 p0 p1
 Ran how (Bench start count) status l0 l1 p0 p1 = (before : List ℕ) → p0 ≡ Some before → (printed : List ℕ) × (p1 ≡ Some (before ++ printed)) × WroteBench status start count printed
@@ -96,8 +96,8 @@ pub record LoadMeans (how : Dialect) (form : Form) (status : Status) (l0 l1 : Op
   pub bad_image : status ≡ BadImage → (taken : List ℕ) × (l0 ≡ after taken l1) × IsBad IsImage taken l1
 
 abbrev pub Means : Dialect → Command → Status → (l0 l1 : Option (List ℕ)) → Type 0
-Means how (Run overlap form σ) status l0 l1 = Told (output.Means how σ status) l0 l1
-Means how (RunWorkers n form σ) status l0 l1 = Told (workers.MeansWorkers (workers.asked how σ form) status) l0 l1
+Means how (Run overlap form σ) status l0 l1 = Told (output.Means (read_by overlap how) σ status) l0 l1
+Means how (RunWorkers n form σ) status l0 l1 = Told (workers.MeansWorkers (workers.asked (uncounted how) σ form) status) l0 l1
 Means how (RunParts n overlap form σ) status l0 l1 = Told (MeansInParts (parts_rules how n σ form) status) l0 l1
 Means how (RunWatches form σ) status l0 l1 = Told (MeansWatches (watch_rules how σ form) status) l0 l1
 Means how (Bench start count) status l0 l1 = MeansBench status start count

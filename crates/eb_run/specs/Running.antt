@@ -1,5 +1,5 @@
 -- What the index of a run holds, and which lines of the input wait; and that what a run printed is a front of a whole text.
-use Rattle.eb_fields.specs.Dialect.{dialect_of}
+use Rattle.eb_fields.specs.Dialect.{uncounted_of}
 use Rattle.std.specs.Prelude.{◌≡◌, ℕ, true, List, [], ◌++◌, length, Result, OnOk}
 use Rattle.std.specs.declared.vec.Vec.{Vec}
 use denote.MutBor.{MutBor}
@@ -26,7 +26,7 @@ pub record HasRun (r : Running) (a : Asked) (given : List Line) (so_far : List �
   pub writer : r.writer.index ≡ words
   pub converter : r.converter.index ≡ words
   pub mode : a.overlap ≡ true
-  pub dialect : dialect_of r.dialect ≡ a.dialect
+  pub dialect : uncounted_of r.dialect ≡ a.dialect
   pub form : r.form ≡ a.form
   pub number : r.number ≡ length given
   pub worked : HasGathered a.dialect a.form a.setting given r.writer.docs r.rounds so_far

@@ -34,7 +34,7 @@ pub record HasWorkedOff (how : Dialect) (form : Form) (σ : Setting) (given : Li
   pub read : AreRead how σ done readings
   pub sees : SeesBetween readings numbers
   pub adds : docs ≡ accepted readings
-  pub lines : held.held ≡ held_from (length done) waiting
+  pub lines : held.held ≡ held_from how (length done) waiting
   pub round : AreRound how waiting
   pub counts : held.counts ≡ counts_of readings
   pub greatest : held.greatest ≤ length given
@@ -50,7 +50,7 @@ pub record HasGathered (how : Dialect) (form : Form) (σ : Setting) (given : Lis
   pub behind : List Line
   pub parts : given ≡ before ++ behind
   pub worked : HasWorkedOff how form σ before docs (round_ahead s) so_far
-  pub lines : s.held ≡ held_from (length before) behind
+  pub lines : s.held ≡ held_from how (length before) behind
   pub round : AreRound how behind
   pub greatest : s.greatest ≤ length given
 

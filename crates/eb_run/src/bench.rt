@@ -4,6 +4,7 @@ ghost use Rattle.eb_cursor.specs.Frames.{query_of, k_of};
 ghost use Rattle.eb_gen.specs.Made.{made};
 ghost use Rattle.eb_io.specs.Faults.{HasRisen};
 ghost use Rattle.eb_io.specs.Lines.{Line, line, lines_of};
+ghost use Rattle.eb_query.specs.declared.ask.Ask.TheVariants.{Newest};
 ghost use Rattle.eb_lines.specs.Reading.{document as reads_document, query, refused};
 ghost use Rattle.eb_run.specs.Bench.{Closes, HasCounted, Takes, lines_until, bench_line, PrintsFigures};
 
@@ -65,7 +66,7 @@ impl Bench {
     // Answers a query, and counts the ids of its answer.
     fn answer<G: Gate>(&mut self, frame: Frame, gate: &G)
         requires { (lines : List Line) × HasCounted self.old lines × (length lines < 2 ^ 17) }
-        ensures { Takes self.old self.new (query (k_of frame) (query_of frame)) }
+        ensures { Takes self.old self.new (query (Newest (k_of frame)) (query_of frame)) }
     {
         let mut frame = frame;
         self.indexed.search(&mut frame, gate);

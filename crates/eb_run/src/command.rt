@@ -1,8 +1,9 @@
-ghost use Rattle.std.specs.Prelude.{◌≡◌, [], Some, None, IfOk, IsErrOf, map, string_bytes};
+ghost use Rattle.std.specs.Prelude.{◌≡◌, [], Some, None, IfOk, IsErrOf, map, option_map, string_bytes};
 ghost use Rattle.eb_options.specs.Items.{texts};
 ghost use Rattle.eb_run.specs.Command.{asked_of, with_dialect, run_of, run_options, save_of, load_of};
 ghost use Rattle.eb_options.specs.Settings.{setting_options};
-ghost use Rattle.eb_run.specs.Requests.{request_view};
+ghost use Rattle.eb_run.specs.Command as spec;
+ghost use Rattle.eb_run.specs.Requests.{request_view, counting_view};
 
 mod bench;
 pub(crate) mod form;
@@ -14,9 +15,8 @@ use bench::read_bench;
 use eb_base::Config;
 use eb_fields::Dialect;
 use eb_lines::Form;
-use eb_options::SETTING_OPTIONS;
-use images::{LOAD_BESIDE, LOAD_OPTIONS, SETTING_BESIDE, read_load, read_save};
-use lines::{RUN_BESIDE, RUN_OPTIONS, read_run};
+use images::{LOAD_VALUES, SAVE_VALUES, read_load, read_save};
+use lines::{RUN_VALUES, read_run};
 use std::alloc::Global;
 
 /// What the words of a command line ask for.
@@ -78,12 +78,12 @@ pub enum Command {
     },
 }
 
-/// What the words of a command line ask for, and the fields that they say.
+/// What the words of a command line ask for, and how its lines are read.
 #[derive(Clone, Copy, Debug)]
 pub struct Request<'a> {
     /// The command.
     pub command: Command,
-    /// The fields by which its lines are read (`--fields`); none for `bench`.
+    /// How its lines are read (`--fields`, `--words`, `--id`, `--text` and `--counts`); plain for `bench`.
     pub dialect: Dialect<'a>,
 }
 
@@ -96,16 +96,51 @@ pub enum CommandFault {
     NoMemory,
 }
 
+// A command, and whether its lines may ask for counts (`--counts`).
+#[derive(Clone, Copy)]
+pub(crate) struct Counting {
+    pub(crate) counts: bool,
+    pub(crate) command: Command,
+}
+
+// Whether this command answers counts: a run in order, over parts or with watches, and a load.
+fn may_count(command: &Command) -> bool
+    ensures { result ≡ spec.may_count command.now }
+{
+    match command {
+        Command::Run { overlap, .. } => !*overlap,
+        Command::RunParts { .. } => true,
+        Command::RunWatches { .. } => true,
+        Command::Load { .. } => true,
+        Command::RunWorkers { .. } => false,
+        Command::Bench { .. } => false,
+        Command::Save { .. } => false,
+    }
+}
+
+// The command, of which lines may ask for counts where that is asked for and it answers them.
+pub(crate) fn with_counts(counts: bool, command: Command) -> Option<Counting>
+    ensures { option_map counting_view result ≡ spec.with_counts counts command }
+{
+    if counts && !may_count(&command) {
+        return None;
+    }
+    Some(Counting { counts, command })
+}
+
 // What the words after `run` ask for.
 fn ask_run<'a>(alloc: Global, words: &'a [String]) -> Result<Request<'a>, CommandFault>
     ensures request { IfOk result (λ request. with_dialect run_options run_of (map string_bytes words.entry.now) ≡ Some (request_view request)) }
     ensures usage { IsErrOf result CommandFault.Usage → with_dialect run_options run_of (map string_bytes words.entry.now) ≡ None }
 {
-    match take_dialect(alloc, words, &RUN_BESIDE, &RUN_OPTIONS) {
+    match take_dialect(alloc, words, &RUN_VALUES) {
         Ok(apart) => match read_run(alloc, apart.others.as_slice()) {
-            Ok(command) => Ok(Request {
+            Ok(Counting { counts, command }) => Ok(Request {
                 command,
-                dialect: apart.dialect,
+                dialect: Dialect {
+                    counts,
+                    ..apart.dialect
+                },
             }),
             Err(fault) => Err(fault),
         },
@@ -118,11 +153,14 @@ fn ask_save<'a>(alloc: Global, words: &'a [String]) -> Result<Request<'a>, Comma
     ensures request { IfOk result (λ request. with_dialect setting_options save_of (map string_bytes words.entry.now) ≡ Some (request_view request)) }
     ensures usage { IsErrOf result CommandFault.Usage → with_dialect setting_options save_of (map string_bytes words.entry.now) ≡ None }
 {
-    match take_dialect(alloc, words, &SETTING_BESIDE, &SETTING_OPTIONS) {
+    match take_dialect(alloc, words, &SAVE_VALUES) {
         Ok(apart) => match read_save(alloc, apart.others.as_slice()) {
-            Ok(command) => Ok(Request {
+            Ok(Counting { counts, command }) => Ok(Request {
                 command,
-                dialect: apart.dialect,
+                dialect: Dialect {
+                    counts,
+                    ..apart.dialect
+                },
             }),
             Err(fault) => Err(fault),
         },
@@ -135,11 +173,14 @@ fn ask_load<'a>(alloc: Global, words: &'a [String]) -> Result<Request<'a>, Comma
     ensures request { IfOk result (λ request. with_dialect [] load_of (map string_bytes words.entry.now) ≡ Some (request_view request)) }
     ensures usage { IsErrOf result CommandFault.Usage → with_dialect [] load_of (map string_bytes words.entry.now) ≡ None }
 {
-    match take_dialect(alloc, words, &LOAD_BESIDE, &LOAD_OPTIONS) {
+    match take_dialect(alloc, words, &LOAD_VALUES) {
         Ok(apart) => match read_load(alloc, apart.others.as_slice()) {
-            Ok(command) => Ok(Request {
+            Ok(Counting { counts, command }) => Ok(Request {
                 command,
-                dialect: apart.dialect,
+                dialect: Dialect {
+                    counts,
+                    ..apart.dialect
+                },
             }),
             Err(fault) => Err(fault),
         },
@@ -159,8 +200,9 @@ fn ask_load<'a>(alloc: Global, words: &'a [String]) -> Result<Request<'a>, Comma
 /// - `save`, and then the options of a setting as after `run`.
 /// - `load`, and then `--json` and `--stats`, each at most once.
 ///
-/// After `run`, `save` and `load` the two words `--fields LIST` or the one word `--fields=LIST` may stand among these items, once;
-/// LIST is as `Fields::read` takes it.
+/// After `run`, `save` and `load` there may stand among these items, each once and as two words `--x V` or one word `--x=V`: `--fields`
+/// with a list that `Fields::read` takes, `--words pieces`, and `--id` and `--text` with any text that isn't empty, the names of the
+/// members that are a document's id and text.
 ///
 /// Usage comes exactly where the words are none of these; NoMemory is free.
 pub fn read_command<'a>(alloc: Global, words: &'a Vec<String>) -> Result<Request<'a>, CommandFault>

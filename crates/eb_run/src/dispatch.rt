@@ -1,9 +1,9 @@
 ghost use Rattle.std.specs.Prelude.{◌≡◌, ◌≤◌, ◌⊎◌, ◌++◌, true, false, List, [], ℕ, None, Some, OnOk, map, option_map, string_bytes};
-ghost use Rattle.eb_fields.specs.Dialect.{Dialect as Spoken, dialect_of};
+ghost use Rattle.eb_fields.specs.Dialect.{Dialect as Spoken, dialect_of, uncounted_of};
 ghost use Rattle.eb_io.specs.Faults.{HasRisen};
 ghost use Rattle.eb_lines.specs.Programs.{IsRunning, WorksOn};
 ghost use Rattle.eb_run.specs.Command.{asked_of, asks};
-ghost use Rattle.eb_run.specs.Output.{Ends};
+ghost use Rattle.eb_run.specs.Output.{Ends, read_by};
 ghost use Rattle.eb_run.specs.Ran.{EndsBy, Ran, Means, Completes, reads_source};
 ghost use Rattle.eb_run.specs.Running.{HasRun, HoldsNone};
 ghost use Rattle.eb_run.specs.StatusLine.{status_line};
@@ -61,6 +61,9 @@ where
     // What the status says of the input holds whatever becomes of the output.
     ensures means { (how : Spoken) (c : Command) → asked_of (map string_bytes words.now.items) ≡ Some (asks how c)
         → Means how c result (S.left source.old) (S.left source.new) }
+    // A bad image is told by `load` alone.
+    ensures bad_image { (how : Spoken) (c : Command) → asked_of (map string_bytes words.now.items) ≡ Some (asks how c)
+        → result ≡ Status.BadImage → (form : Form) × (c ≡ Command.Load form) }
     // Without a fault and with an end in time, the input is processed.
     ensures completes { (how : Spoken) (c : Command) → asked_of (map string_bytes words.now.items) ≡ Some (asks how c)
         → Completes c (HasRisen (S.faults source.old) (S.faults source.new)) (HasRisen (K.faults out.old) (K.faults out.new)) result (S.left source.old) }
@@ -163,7 +166,8 @@ fn run_lines<R: Threads + Sync, S: Source, K: Sink, G: Gate + Sync>(
     out: &mut K,
     gate: &G,
 ) -> Status
-    ensures ends { Ends (dialect_of dialect.entry) config overlap form result (S.left source.old) (S.left source.new) (K.taken out.old) (K.taken out.new) }
+    ensures ends { Ends (read_by overlap (dialect_of dialect.entry)) config overlap form result
+        (S.left source.old) (S.left source.new) (K.taken out.old) (K.taken out.new) }
     ensures read_fault { result ≡ Status.ReadFault → HasRisen (S.faults source.old) (S.faults source.new) }
     ensures write_fault { result ≡ Status.WriteFault → HasRisen (K.faults out.old) (K.faults out.new) }
 {
@@ -205,7 +209,7 @@ fn run_beside<R: Threads + Sync, S: Source, K: Sink, G: Gate + Sync>(
     out: &mut K,
     gate: &G,
 ) -> Status
-    ensures ends { Ends (dialect_of dialect.entry) config true form result (S.left source.old) (S.left source.new) (K.taken out.old) (K.taken out.new) }
+    ensures ends { Ends (uncounted_of dialect.entry) config true form result (S.left source.old) (S.left source.new) (K.taken out.old) (K.taken out.new) }
     ensures read_fault { result ≡ Status.ReadFault → HasRisen (S.faults source.old) (S.faults source.new) }
     ensures write_fault { result ≡ Status.WriteFault → HasRisen (K.faults out.old) (K.faults out.new) }
 {

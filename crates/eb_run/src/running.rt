@@ -1,5 +1,5 @@
 ghost use Rattle.std.specs.Prelude.{◌≡◌, ◌+◌, ◌<◌, ◌^◌, true, Some, None, ℕ, List, [], length, IfOk, OnErr, OnOk, IsTrue};
-ghost use Rattle.eb_fields.specs.Dialect.{dialect_of};
+ghost use Rattle.eb_fields.specs.Dialect.{uncounted_of};
 ghost use Rattle.eb_io.specs.Lines.{Line, line, long_line};
 ghost use Rattle.eb_rounds.specs.Passed.{HasMark, input_of, input_kind};
 ghost use Rattle.eb_rounds.specs.Standing.{queries_held};
@@ -20,7 +20,7 @@ use eb_rounds::{Input, Kind, Rounds};
 use std::alloc::Global;
 use std::thread::Threads;
 
-// A run with overlap between two lines: the fields by which lines are read, how what is printed is written, the index of the
+// A run with overlap between two lines: how lines are read, how what is printed is written, the index of the
 // accepted documents, the lines that are held, and the number of the last line given.
 #[derive(Drop)]
 pub(crate) struct Running<'a> {
@@ -41,7 +41,7 @@ impl<'a> Running<'a> {
         form: Form,
         config: Config,
     ) -> Result<Running<'a>, NoMemory>
-        ensures { IfOk result (λ running. HasRun running (asked (dialect_of dialect.entry) config true form) [] []) }
+        ensures { IfOk result (λ running. HasRun running (asked (uncounted_of dialect.entry) config true form) [] []) }
     {
         let (index, writer, converter) = Index::open(alloc, config)?;
         Ok(Running {
@@ -154,7 +154,8 @@ impl<'a> Running<'a> {
         requires number { self.old.number + 1 < 2 ^ 64 }
         requires takes { takes_kind self.old.rounds.held (input_kind input) ≡ true }
         requires question_mark { HasMark input }
-        ensures ok { OnOk result ((l : Line) → held_as l ≡ Some (input_of input.entry) → (text : List ℕ) → WorksOnGiven HasRun self.old self.new text text l) }
+        ensures ok { OnOk result ((l : Line) → held_as (uncounted_of self.old.dialect) l ≡ Some (input_of input.entry)
+            → (text : List ℕ) → WorksOnGiven HasRun self.old self.new text text l) }
         ensures err { OnErr result (self.new ≡ self.old) }
     {
         let number = self.number + 1;
@@ -174,7 +175,7 @@ impl<'a> Running<'a> {
         requires worker { WorksOffHeld W.pre W.post worker.now }
         requires number { self.old.number + 1 < 2 ^ 64 }
         requires question_mark { HasMark input }
-        ensures ok { OnOk result ((l : Line) → held_as l ≡ Some (input_of input.entry)
+        ensures ok { OnOk result ((l : Line) → held_as (uncounted_of self.old.dialect) l ≡ Some (input_of input.entry)
             → WorksOnGiven HasRun self.old self.new text.old.items text.new.items l) }
         ensures err { OnErr result (WorksOn HasRun self.old self.new text.old.items text.new.items) }
     {
@@ -186,7 +187,7 @@ impl<'a> Running<'a> {
     fn pass(&mut self)
         requires state { IsRunning HasRun self.old }
         requires number { self.old.number + 1 < 2 ^ 64 }
-        ensures { (l : Line) → held_as l ≡ None → (text : List ℕ) → WorksOnGiven HasRun self.old self.new text text l }
+        ensures { (l : Line) → held_as (uncounted_of self.old.dialect) l ≡ None → (text : List ℕ) → WorksOnGiven HasRun self.old self.new text text l }
     {
         self.number += 1;
     }
@@ -219,7 +220,7 @@ impl<'a> Running<'a> {
         ensures ok { OnOk result (WorksOnGiven HasRun self.old self.new text.old.items text.new.items (line bytes.now)) }
         ensures err { OnErr result (WorksOn HasRun self.old self.new text.old.items text.new.items) }
     {
-        match line_kind(bytes) {
+        match line_kind(self.dialect.uncounted(), bytes) {
             LineKind::Blank => {
                 self.pass();
                 Ok(())

@@ -1,5 +1,5 @@
 -- Before the first line.
-use Rattle.eb_fields.specs.Dialect.{Dialect, dialect_of}
+use Rattle.eb_fields.specs.Dialect.{Dialect, uncounted_of}
 use Rattle.std.proofs.Common.{◌≡◌, ℕ, ◌+◌, List, [], sym, ap, subst, ◌∙◌, arith}
 use Rattle.std.specs.Prelude.{Option, Some}
 use Rattle.std.proofs.lemmas.List.Elements.{All-nil}
@@ -37,7 +37,7 @@ none_closed σ n = record { each = λ s h. absurd (omega (arith, h)) }
 
 pub served_none : (s : Serving) (o : Office) (how : Dialect) (form : _) → s.office ≡ o → o.clerk ≡ new_clerk o.desk.now.queues o.index.now
     → o.writer.index ≡ o.index.now → o.writer.docs ≡ [] → o.converter.index ≡ o.index.now
-    → dialect_of s.dialect ≡ how → s.form ≡ form → (s.number ≡ 0) × (s.queries ≡ 0) × (s.refused ≡ 0) → s.waiting.items ≡ [] → HasServed s (asked how o.index.now.setting form) [] []
+    → uncounted_of s.dialect ≡ how → s.form ≡ form → (s.number ≡ 0) × (s.queries ≡ 0) × (s.refused ≡ 0) → s.waiting.items ≡ [] → HasServed s (asked how o.index.now.setting form) [] []
 unfolding accepted queries refusals
 served_none s o how form office clerk writer docs converter names_told told counts items =
     let none : s.office.writer.docs ≡ [] = ap (λ (x : Office). x.writer.docs) office ∙ docs in

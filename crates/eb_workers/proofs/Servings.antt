@@ -1,5 +1,5 @@
 -- A run with workers goes on.
-use Rattle.eb_fields.specs.Dialect.{dialect_of}
+use Rattle.eb_fields.specs.Dialect.{uncounted_of}
 use Rattle.std.proofs.Common.{◌≡◌, ℕ, ◌+◌, ◌-◌, ◌<◌, ◌≤◌, List, [], ◌∷◌, ◌++◌, length, take, set, sym, ap, ap₂, subst, ◌∙◌, arith, append_assoc, append-nil, length-append}
 use Rattle.std.proofs.lemmas.List.Elements.{All-weaker}
 use Rattle.std.proofs.Math.Seq.{take-append_seam}
@@ -72,7 +72,7 @@ on_on old mid new t0 t1 t2 f g = λ a given so_far h.
     let y = g a given (so_far ++ x.0) x.1 in
     (x.0 ++ y.0, subst (HasServed new a given) (append_assoc so_far x.0 y.0) y.1, y.2 ∙ ap (λ t. t ++ y.0) x.2 ∙ append_assoc t0 x.0 y.0)
 
-pub on_line : (old mid new : Serving) (t0 t1 : List ℕ) (l : Line) (r : Reading) → WorksOn HasServed old mid t0 t1 → TakesLine mid new r → Reads (dialect_of mid.dialect) l r
+pub on_line : (old mid new : Serving) (t0 t1 : List ℕ) (l : Line) (r : Reading) → WorksOn HasServed old mid t0 t1 → TakesLine mid new r → Reads (uncounted_of mid.dialect) l r
     → WorksOnGiven HasServed old new t0 t1 l
 on_line old mid new t0 t1 l r f g reads = λ a given so_far h.
     let x = f a given so_far h in (x.0, g a given (so_far ++ x.0) l x.1 (subst (λ ns. Reads ns l r) x.1.dialect reads), x.2)
@@ -83,7 +83,8 @@ goes_running old new t0 t1 r f = let w = f r.0 r.1 r.2 r.3 in (r.0, r.1, r.2 ++ 
 -- an answer is taken in
 pub further_in : (old new : Serving) (at seen : ℕ) (frame : Frame) (known : List Doc) → Keeps old.office new.office
     → new.office.writer ≡ old.office.writer → new.office.clerk.put ≡ old.office.clerk.put
-    → dialect_of new.dialect ≡ dialect_of old.dialect → new.form ≡ old.form → new.number ≡ old.number → new.queries ≡ old.queries → new.refused ≡ old.refused → AwaitsAt old.waiting.items at frame seen
+    → uncounted_of new.dialect ≡ uncounted_of old.dialect → new.form ≡ old.form → new.number ≡ old.number
+    → new.queries ≡ old.queries → new.refused ≡ old.refused → AwaitsAt old.waiting.items at frame seen
     → new.waiting.items ≡ set old.waiting.items at (waits.Answered seen frame) → ids_of frame ≡ answer (query_of frame) (k_of frame) known → seen ≡ length known
     → IsPrefix known new.office.writer.docs → IsFurther old new
 further_in old new at seen frame known keeps writer put how form number queries refused awaits items ids count prefix =
@@ -108,7 +109,7 @@ further_in old new at seen frame known keeps writer put how form number queries 
 
 -- ---- the next line is printed
 
-module _ (old new : Serving) (w : Waiting) (ws : List Waiting) (text text_new : List ℕ) (n : ℕ) (office : new.office ≡ old.office) (how : dialect_of new.dialect ≡ dialect_of old.dialect)
+module _ (old new : Serving) (w : Waiting) (ws : List Waiting) (text text_new : List ℕ) (n : ℕ) (office : new.office ≡ old.office) (how : uncounted_of new.dialect ≡ uncounted_of old.dialect)
     (form : new.form ≡ old.form) (number : new.number ≡ old.number)
     (queries_same : new.queries ≡ old.queries) (refused_same : new.refused ≡ old.refused) (first : old.waiting.items ≡ w ∷ ws) (rest : new.waiting.items ≡ ws) (ready : IsReady w)
     (is : n ≡ old.number - length ws) (put : text_new ≡ text ++ printed_by old.form n w) where
@@ -156,7 +157,7 @@ module _ (old new : Serving) (w : Waiting) (ws : List Waiting) (text text_new : 
 
 module _ (old new : Serving) (r : Reading) (w : Waiting) (own : Reading) (is : admit old.office.index.now.setting old.office.writer.docs r ≡ own) (keeps : Keeps old.office new.office)
     (docs : new.office.writer.docs ≡ old.office.writer.docs ++ documents_in own)
-    (how : dialect_of new.dialect ≡ dialect_of old.dialect) (form : new.form ≡ old.form) (number : new.number ≡ old.number + 1) (asks : new.queries ≡ old.queries + one_if (is_query own))
+    (how : uncounted_of new.dialect ≡ uncounted_of old.dialect) (form : new.form ≡ old.form) (number : new.number ≡ old.number + 1) (asks : new.queries ≡ old.queries + one_if (is_query own))
     (fails : new.refused ≡ old.refused + one_if (is_refused own)) (low : (one_if (is_query own) ≤ 1) × (one_if (is_refused own) ≤ 1)) (above : IsAboveEach (new.number + 1) new.office.clerk.put)
     (items : new.waiting.items ≡ old.waiting.items ++ w ∷ []) (stands : WaitsAs (old.office.writer.docs ++ documents_in own) (length old.office.writer.docs) own w) where
   pub served_line : TakesLine old new r
@@ -202,7 +203,7 @@ pub above_more : (n : ℕ) (ps : List Pair) → IsAboveEach n ps → IsAboveEach
 above_more n ps a = All-weaker (λ (q : Pair). q.number < n) (λ q. q.number < n + 1) (λ q h. omega (arith, h)) ps a
 
 -- the same lines wait
-pub further_items : (old new : Serving) → IsStaffed old.office → new.office ≡ old.office → dialect_of new.dialect ≡ dialect_of old.dialect → new.form ≡ old.form → new.number ≡ old.number
+pub further_items : (old new : Serving) → IsStaffed old.office → new.office ≡ old.office → uncounted_of new.dialect ≡ uncounted_of old.dialect → new.form ≡ old.form → new.number ≡ old.number
     → new.queries ≡ old.queries → new.refused ≡ old.refused
     → new.waiting.items ≡ old.waiting.items → IsFurther old new
 further_items old new staffed office how form number asks fails items = record {
@@ -221,7 +222,7 @@ pub next_is : (items : List Waiting) (need : ℕ) (w : Waiting) (ws : List Waiti
 next_is items need w ws h e = subst (λ (xs : List Waiting). NextNeeds xs need) e h
 
 pub room_on : (old mid new : Serving) (t0 t1 : List ℕ) → IsRunning HasServed old → WorksOn HasServed old mid t0 t1
-    → new.office ≡ mid.office → dialect_of new.dialect ≡ dialect_of mid.dialect → new.form ≡ mid.form → new.number ≡ mid.number → new.queries ≡ mid.queries
+    → new.office ≡ mid.office → uncounted_of new.dialect ≡ uncounted_of mid.dialect → new.form ≡ mid.form → new.number ≡ mid.number → new.queries ≡ mid.queries
     → new.refused ≡ mid.refused → new.waiting.items ≡ mid.waiting.items → WorksOn HasServed old new t0 t1
 room_on old mid new t0 t1 r f office how form number asks fails items =
     on_on old mid new t0 t1 t1 f (further_on mid new t1 (further_items mid new (goes_running old mid t0 t1 r f).3.staffed office how form number asks fails items))

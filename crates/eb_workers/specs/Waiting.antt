@@ -5,6 +5,7 @@ use Rattle.eb_base.specs.Match.{answer}
 use Rattle.eb_base.specs.Query.{tree}
 use Rattle.eb_cursor.specs.declared.frame.Frame.{Frame}
 use Rattle.eb_cursor.specs.Frames.{query_of, k_of, ids_of}
+use Rattle.eb_query.specs.declared.ask.Ask.TheVariants.{Newest}
 use Rattle.eb_lines.specs.declared.form.Form.{Form}
 use Rattle.eb_lines.specs.Progress.{documents_in, is_query}
 use Rattle.eb_lines.specs.Reading.{Reading, query, refused}
@@ -59,8 +60,8 @@ pub record IsQuiet (r : Reading) : Type 0 where
 abbrev pub WaitsAs : List Doc → ℕ → Reading → Waiting → Type 0
 WaitsAs docs told r waits.Nothing = IsQuiet r
 WaitsAs docs told r (waits.Refused x) = r ≡ refused x
-WaitsAs docs told r (waits.Asked t k q) = (r ≡ query k (tree q)) × (t ≡ told)
-WaitsAs docs told r (waits.Answered seen frame) = (r ≡ query (k_of frame) (query_of frame)) × (told ≤ seen) × (seen ≤ length docs)
+WaitsAs docs told r (waits.Asked t k q) = (r ≡ query (Newest k) (tree q)) × (t ≡ told)
+WaitsAs docs told r (waits.Answered seen frame) = (r ≡ query (Newest (k_of frame)) (query_of frame)) × (told ≤ seen) × (seen ≤ length docs)
     × (ids_of frame ≡ answer (query_of frame) (k_of frame) (take seen docs))
 
 -- these lines wait as these

@@ -1,6 +1,6 @@
 //! Workers and the clerk's part run at once.
 ghost use Rattle.std.specs.Prelude.{◌≡◌, ◌≤◌, ◌<◌, ◌++◌, ℕ, List, [], Some, length, All};
-ghost use Rattle.eb_fields.specs.Dialect.{dialect_of};
+ghost use Rattle.eb_fields.specs.Dialect.{uncounted_of};
 ghost use Rattle.eb_io.specs.Faults.{HasRisen};
 ghost use Rattle.eb_io.specs.Lines.{longest_input};
 ghost use Rattle.eb_lines.specs.Outcomes.{IsWorkedOff};
@@ -64,7 +64,7 @@ fn serve<'a, R: Threads + Wait + Sync, S: Source, K: Sink, G: Gate + Sync>(
 ) -> (Status, Clerk)
     requires { IsNewSide desk.now.queues index.now side.old }
     ensures stops { result.1.stops ≡ workers }
-    ensures ends { let a = asked (dialect_of dialect.entry) index.now.setting form in
+    ensures ends { let a = asked (uncounted_of dialect.entry) index.now.setting form in
         Ends (IsWorkersBody a) (IsWorkersText a) (HasRefusal a.dialect a.setting) (HasNoRefusal a.dialect a.setting) result.0
         (S.left source.old) (S.left source.new) (K.taken out.old) (K.taken out.new) }
     ensures read_fault { result.0 ≡ Status.ReadFault → HasRisen (S.faults source.old) (S.faults source.new) }
@@ -136,7 +136,7 @@ fn serve_beside<R: Threads + Wait + Sync, S: Source, K: Sink, G: Gate + Sync>(
 ) -> Status
     requires workers { All (λ w. IsWorkerOf desk.now.queues index.now w) workers.old }
     requires side { IsNewSide desk.now.queues index.now side.old }
-    ensures ends { let a = asked (dialect_of dialect.entry) index.now.setting form in
+    ensures ends { let a = asked (uncounted_of dialect.entry) index.now.setting form in
         Ends (IsWorkersBody a) (IsWorkersText a) (HasRefusal a.dialect a.setting) (HasNoRefusal a.dialect a.setting) result
         (S.left source.old) (S.left source.new) (K.taken out.old) (K.taken out.new) }
     ensures read_fault { result ≡ Status.ReadFault → HasRisen (S.faults source.old) (S.faults source.new) }
@@ -150,7 +150,7 @@ fn serve_beside<R: Threads + Wait + Sync, S: Source, K: Sink, G: Gate + Sync>(
         workers,
         &mut ||
             requires { IsNewSide desk.now.queues index.now side.now }
-            ensures ends { let a = asked (dialect_of dialect.entry) index.entry.now.setting form in
+            ensures ends { let a = asked (uncounted_of dialect.entry) index.entry.now.setting form in
                 Ends (IsWorkersBody a) (IsWorkersText a) (HasRefusal a.dialect a.setting) (HasNoRefusal a.dialect a.setting) result.0
                 (S.left source.entry.now) (S.left source.exit.now) (K.taken out.entry.now) (K.taken out.exit.now) }
             ensures read_fault { result.0 ≡ Status.ReadFault → HasRisen (S.faults source.entry.now) (S.faults source.exit.now) }
@@ -176,7 +176,7 @@ fn pass_at_desk<R: Threads + Wait + Sync, S: Source, K: Sink, G: Gate + Sync>(
     gate: &G,
 ) -> Status
     requires { (1 ≤ workers) × (workers ≤ 16) }
-    ensures ends { let a = asked (dialect_of dialect.entry) config form in
+    ensures ends { let a = asked (uncounted_of dialect.entry) config form in
         Ends (IsWorkersBody a) (IsWorkersText a) (HasRefusal a.dialect a.setting) (HasNoRefusal a.dialect a.setting) result
         (S.left source.old) (S.left source.new) (K.taken out.old) (K.taken out.new) }
     ensures read_fault { result ≡ Status.ReadFault → HasRisen (S.faults source.old) (S.faults source.new) }
@@ -235,16 +235,16 @@ where
     K: Sink,
     G: Gate + Sync,
     requires { (1 ≤ workers) × (workers ≤ 16) }
-    ensures ends { let a = asked (dialect_of dialect.entry) config form in
+    ensures ends { let a = asked (uncounted_of dialect.entry) config form in
         Ends (IsWorkersBody a) (IsWorkersText a) (HasRefusal a.dialect a.setting) (HasNoRefusal a.dialect a.setting) result
         (S.left source.old) (S.left source.new) (K.taken out.old) (K.taken out.new) }
     // Where source and `out` tell their bytes, `out` took what the status says, of the lines of the input.
     ensures output { (bytes before : List ℕ) → S.left source.old ≡ Some bytes → K.taken out.old ≡ Some before
         → (printed : List ℕ) × (K.taken out.new ≡ Some (before ++ printed))
-        × WroteWorkers (asked (dialect_of dialect.entry) config form) result bytes (S.left source.new) printed }
+        × WroteWorkers (asked (uncounted_of dialect.entry) config form) result bytes (S.left source.new) printed }
     // What the status says of the input holds whatever becomes of the output.
     ensures means { (bytes : List ℕ) → S.left source.old ≡ Some bytes
-        → MeansWorkers (asked (dialect_of dialect.entry) config form) result bytes (S.left source.new) }
+        → MeansWorkers (asked (uncounted_of dialect.entry) config form) result bytes (S.left source.new) }
     // Faults come only from outside.
     ensures read_fault { result ≡ Status.ReadFault → HasRisen (S.faults source.old) (S.faults source.new) }
     ensures write_fault { result ≡ Status.WriteFault → HasRisen (K.faults out.old) (K.faults out.new) }

@@ -2,8 +2,9 @@
 ghost use Rattle.std.specs.Prelude.{◌≡◌, ◌+◌, ◌<◌, ◌≤◌, ◌^◌, ℕ, List, [], true, IfOk, IfSome, OnErr, OnOk, IsTrue};
 ghost use Rattle.std.specs.VecDeque.{deque_len, deque_capacity};
 ghost use Rattle.eb_cursor.specs.Frames.{query_of, k_of};
-ghost use Rattle.eb_fields.specs.Dialect.{dialect_of};
+ghost use Rattle.eb_fields.specs.Dialect.{uncounted_of};
 ghost use Rattle.eb_io.specs.Lines.{Line, line, long_line};
+ghost use Rattle.eb_query.specs.declared.ask.Ask.TheVariants.{Newest};
 ghost use Rattle.eb_lines.specs.Programs.{IsRunning, WorksOn, WorksOnGiven, Finishes};
 ghost use Rattle.eb_lines.specs.Reading.{blank, document as reads_document, query as reads_query, refused as is_refused};
 ghost use Rattle.eb_base.specs.Query.{tree};
@@ -57,7 +58,7 @@ impl<'a> Serving<'a> {
         form: Form,
     ) -> Serving<'a>
         ensures office { result.office ≡ office.entry }
-        ensures dialect { dialect_of result.dialect ≡ dialect_of dialect.entry }
+        ensures dialect { uncounted_of result.dialect ≡ uncounted_of dialect.entry }
         ensures form { result.form ≡ form }
         ensures number { (result.number ≡ 0) × (result.queries ≡ 0) × (result.refused ≡ 0) }
         ensures waiting { result.waiting.items ≡ [] }
@@ -287,7 +288,7 @@ impl<'a> Serving<'a> {
         requires number { self.old.number ≤ 2 ^ 40 }
         requires room { deque_len self.old.waiting + 1 ≤ deque_capacity self.old.waiting }
         requires same { tree query ≡ query_of frame }
-        ensures { TakesLine self.old self.new (reads_query (k_of frame) (query_of frame)) }
+        ensures { TakesLine self.old self.new (reads_query (Newest (k_of frame)) (query_of frame)) }
     {
         self.number += 1;
         self.queries += 1;

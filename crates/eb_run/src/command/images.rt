@@ -1,26 +1,30 @@
 ghost use Rattle.std.specs.Prelude.{◌≡◌, Some, None, IfOk, IsErrOf, map, string_bytes};
 ghost use Rattle.eb_run.specs.Command.{save_of, load_of};
+ghost use Rattle.eb_run.specs.Requests.{counting_view};
 
 use crate::command::form::read_form;
-use crate::command::{Command, CommandFault};
+use crate::command::{Command, CommandFault, Counting};
 use eb_options::{OptionFault, SETTING_OPTIONS, read_options, read_setting};
 use std::alloc::Global;
 
 // The flags of `save`: none; and of `load`.
 const SAVE_FLAGS: [&str; 0] = [];
 
-const LOAD_FLAGS: [&str; 2] = ["json", "stats"];
+const LOAD_FLAGS: [&str; 3] = ["json", "stats", "counts"];
 
-// The options of `load`: none.
-pub(super) const LOAD_OPTIONS: [&str; 0] = [];
+// The options of `load` with a number: none.
+const LOAD_OPTIONS: [&str; 0] = [];
 
-pub(super) const LOAD_BESIDE: [&str; 1] = ["words"];
+// The options with a value of both, those that say how lines are read in front.
+pub(super) const LOAD_VALUES: [&str; 4] = ["fields", "words", "id", "text"];
 
-pub(super) const SETTING_BESIDE: [&str; 4] = ["words", "segments", "docs", "terms"];
+pub(super) const SAVE_VALUES: [&str; 7] = [
+    "fields", "words", "id", "text", "segments", "docs", "terms",
+];
 
 // What the words after `save` ask for.
-pub(super) fn read_save(alloc: Global, words: &[String]) -> Result<Command, CommandFault>
-    ensures command { IfOk result (λ command. save_of (map string_bytes words.now) ≡ Some command) }
+pub(super) fn read_save(alloc: Global, words: &[String]) -> Result<Counting, CommandFault>
+    ensures command { IfOk result (λ command. save_of (map string_bytes words.now) ≡ Some (counting_view command)) }
     ensures usage { IsErrOf result CommandFault.Usage → save_of (map string_bytes words.now) ≡ None }
 {
     let items = match read_options(alloc, words, &SAVE_FLAGS, &SETTING_OPTIONS) {
@@ -29,19 +33,25 @@ pub(super) fn read_save(alloc: Global, words: &[String]) -> Result<Command, Comm
         Err(OptionFault::NoMemory) => return Err(CommandFault::NoMemory),
     };
     match read_setting(&items) {
-        Some(config) => Ok(Command::Save { config }),
+        Some(config) => Ok(Counting {
+            counts: false,
+            command: Command::Save { config },
+        }),
         None => Err(CommandFault::Usage),
     }
 }
 
 // What the words after `load` ask for.
-pub(super) fn read_load(alloc: Global, words: &[String]) -> Result<Command, CommandFault>
-    ensures command { IfOk result (λ command. load_of (map string_bytes words.now) ≡ Some command) }
+pub(super) fn read_load(alloc: Global, words: &[String]) -> Result<Counting, CommandFault>
+    ensures command { IfOk result (λ command. load_of (map string_bytes words.now) ≡ Some (counting_view command)) }
     ensures usage { IsErrOf result CommandFault.Usage → load_of (map string_bytes words.now) ≡ None }
 {
     match read_options(alloc, words, &LOAD_FLAGS, &LOAD_OPTIONS) {
-        Ok(items) => Ok(Command::Load {
-            form: read_form(&items),
+        Ok(items) => Ok(Counting {
+            counts: items.has("counts"),
+            command: Command::Load {
+                form: read_form(&items),
+            },
         }),
         Err(OptionFault::Usage) => Err(CommandFault::Usage),
         Err(OptionFault::NoMemory) => Err(CommandFault::NoMemory),

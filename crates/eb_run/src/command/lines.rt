@@ -1,20 +1,24 @@
 ghost use Rattle.std.specs.Prelude.{◌≡◌, Some, None, IfOk, IsErrOf, map, string_bytes};
 ghost use Rattle.eb_options.specs.Items.{items_of};
 ghost use Rattle.eb_run.specs.Command.{run_by, run_flags, run_of, run_options, run_with, over_parts, with_workers};
+ghost use Rattle.eb_run.specs.Requests.{counting_view};
 
 use crate::command::form::read_form;
-use crate::command::{Command, CommandFault};
+use crate::command::{Command, CommandFault, Counting, with_counts};
 use eb_base::{Config, MAX_WORDS};
 use eb_lines::Form;
 use eb_options::{Items, OptionFault, read_options, read_setting};
 use std::alloc::Global;
 
 // The flags and the options of `run`.
-const RUN_FLAGS: [&str; 4] = ["overlap", "watch", "json", "stats"];
+const RUN_FLAGS: [&str; 5] = ["overlap", "watch", "json", "stats", "counts"];
 
-pub(super) const RUN_OPTIONS: [&str; 5] = ["workers", "parts", "segments", "docs", "terms"];
+const RUN_OPTIONS: [&str; 5] = ["workers", "parts", "segments", "docs", "terms"];
 
-pub(super) const RUN_BESIDE: [&str; 6] = ["words", "workers", "parts", "segments", "docs", "terms"];
+// Its options with a value, those that say how lines are read in front.
+pub(super) const RUN_VALUES: [&str; 9] = [
+    "fields", "words", "id", "text", "workers", "parts", "segments", "docs", "terms",
+];
 
 // The most workers and the most parts of a run.
 const MOST: u32 = 16;
@@ -98,12 +102,15 @@ fn read_items(alloc: Global, words: &[String]) -> Result<Items, CommandFault>
 }
 
 // What the words after `run` ask for.
-pub(super) fn read_run(alloc: Global, words: &[String]) -> Result<Command, CommandFault>
-    ensures command { IfOk result (λ command. run_of (map string_bytes words.now) ≡ Some command) }
+pub(super) fn read_run(alloc: Global, words: &[String]) -> Result<Counting, CommandFault>
+    ensures command { IfOk result (λ command. run_of (map string_bytes words.now) ≡ Some (counting_view command)) }
     ensures usage { IsErrOf result CommandFault.Usage → run_of (map string_bytes words.now) ≡ None }
 {
     let items = read_items(alloc, words)?;
-    match read_way(&items) {
+    let Some(command) = read_way(&items) else {
+        return Err(CommandFault::Usage);
+    };
+    match with_counts(items.has("counts"), command) {
         Some(command) => Ok(command),
         None => Err(CommandFault::Usage),
     }

@@ -1,8 +1,9 @@
-ghost use Rattle.std.specs.Prelude.{◌≡◌, ◌≤◌, Some, None, IfSome, IfOk, IsErrOf, map, string_bytes};
+ghost use Rattle.std.specs.Prelude.{◌≡◌, ◌≤◌, Some, None, IfSome, IfOk, IsErrOf, map, option_map, string_bytes};
 ghost use Rattle.eb_options.specs.Items.{items_of};
 ghost use Rattle.eb_run.specs.FeedCommand.{feed_asked_of, feed_command_of, feed_flags, feed_of, feed_options, feed_with, way_by, way_with};
 ghost use Rattle.eb_run.specs.FeedCommand.{HasFewWorkers};
-ghost use Rattle.eb_run.specs.FeedRequests.{feed_request_view};
+ghost use Rattle.eb_run.specs.FeedCommand as spec;
+ghost use Rattle.eb_run.specs.FeedRequests.{feed_request_view, feed_counting_view};
 
 use crate::command::CommandFault;
 use crate::command::form::read_form;
@@ -14,11 +15,14 @@ use eb_options::{Items, OptionFault, read_options, read_setting};
 use std::alloc::Global;
 
 // The flags of a feed, and its options: how many workers it has, how many generations it keeps, and those of their setting.
-const FEED_FLAGS: [&str; 4] = ["overlap", "watch", "json", "stats"];
+const FEED_FLAGS: [&str; 5] = ["overlap", "watch", "json", "stats", "counts"];
 
 const FEED_OPTIONS: [&str; 5] = ["workers", "keep", "segments", "docs", "terms"];
 
-const FEED_BESIDE: [&str; 6] = ["words", "workers", "keep", "segments", "docs", "terms"];
+// Its options with a value, those that say how lines are read in front.
+const FEED_VALUES: [&str; 9] = [
+    "fields", "words", "id", "text", "workers", "keep", "segments", "docs", "terms",
+];
 
 // The most workers of a feed.
 const MOST: u32 = 16;
@@ -49,22 +53,22 @@ pub struct FeedCommand {
     pub config: Config,
 }
 
-/// What the words after `feed` ask for, and the fields that they say.
+/// What the words after `feed` ask for, and how its lines are read.
 #[derive(Clone, Copy, Debug)]
 pub struct FeedRequest<'a> {
     /// The feed.
     pub command: FeedCommand,
-    /// The fields by which its lines are read (`--fields`).
+    /// How its lines are read (`--fields`, `--words`, `--id`, `--text` and `--counts`).
     pub dialect: Dialect<'a>,
 }
 
 /// The feed that the words ask for; they are without the program's name and the word `feed`.
 ///
-/// They are items in any order, each at most once: `--overlap`, `--watch`, `--json`, `--stats`, for x of `workers`, `keep`, `segments`,
-/// `docs` and `terms` the two words `--x V` or the one word `--x=V`, and the two words `--fields LIST` or the one word
-/// `--fields=LIST`. V is one to nine digits, leading zeros allowed; what isn't named is 4 generations, and else as in
-/// `Config::usual`; LIST is as `Fields::read` takes it. At most one of `--overlap`, `--watch` and `--workers` stands there, and
-/// `--stats` not beside `--workers`, of which there are 1 to 16. `Config::new` has to allow the setting, and keep is 2 to 64;
+/// They are items in any order, each at most once: `--overlap`, `--watch`, `--json`, `--stats`, `--counts`, and for x of `workers`, `keep`, `segments`,
+/// `docs` and `terms` the two words `--x V` or the one word `--x=V`; and `--fields`, `--words`, `--id` and `--text` as after `run`.
+/// V is one to nine digits, leading zeros allowed; what isn't named is 4 generations, and else as in
+/// `Config::usual`. At most one of `--overlap`, `--watch` and `--workers` stands there, and
+/// neither `--stats` nor `--counts` beside `--workers`, of which there are 1 to 16. `Config::new` has to allow the setting, and keep is 2 to 64;
 /// keep + 1 indexes have at most 134,217,728 words together.
 ///
 /// Usage comes exactly where the words are none of these; NoMemory is free.
@@ -77,11 +81,14 @@ pub fn read_feed_command<'a>(
     ensures workers { IfOk result (λ request. HasFewWorkers request.command.way) }
     ensures usage { IsErrOf result CommandFault.Usage → feed_asked_of (map string_bytes words.entry.now) ≡ None }
 {
-    match take_dialect(alloc, words, &FEED_BESIDE, &FEED_OPTIONS) {
+    match take_dialect(alloc, words, &FEED_VALUES) {
         Ok(apart) => match read_command(alloc, apart.others.as_slice()) {
-            Ok(command) => Ok(FeedRequest {
+            Ok(FeedCounting { counts, command }) => Ok(FeedRequest {
                 command,
-                dialect: apart.dialect,
+                dialect: Dialect {
+                    counts,
+                    ..apart.dialect
+                },
             }),
             Err(fault) => Err(fault),
         },
@@ -89,21 +96,54 @@ pub fn read_feed_command<'a>(
     }
 }
 
-// The feed that the words ask for beside the fields.
-fn read_command(alloc: Global, words: &[String]) -> Result<FeedCommand, CommandFault>
-    ensures command { IfOk result (λ command. feed_command_of (map string_bytes words.now) ≡ Some command) }
-    ensures keep { IfOk result (λ command. (2 ≤ command.keep) × (command.keep ≤ 64)) }
-    ensures workers { IfOk result (λ command. HasFewWorkers command.way) }
+// The feed that the words ask for beside how its lines are read.
+fn read_command(alloc: Global, words: &[String]) -> Result<FeedCounting, CommandFault>
+    ensures command { IfOk result (λ c. feed_command_of (map string_bytes words.now) ≡ Some (feed_counting_view c)) }
+    ensures keep { IfOk result (λ c. (2 ≤ c.command.keep) × (c.command.keep ≤ 64)) }
+    ensures workers { IfOk result (λ c. HasFewWorkers c.command.way) }
     ensures usage { IsErrOf result CommandFault.Usage → feed_command_of (map string_bytes words.now) ≡ None }
 {
     let items = read_items(alloc, words)?;
-    match read_feed(&items) {
+    let Some(command) = read_feed(&items) else {
+        return Err(CommandFault::Usage);
+    };
+    match counting(items.has("counts"), command) {
         Some(command) => Ok(command),
         None => Err(CommandFault::Usage),
     }
 }
 
-// The items that the words beside the fields are.
+// A feed, and whether its lines may ask for counts (`--counts`).
+#[derive(Clone, Copy)]
+struct FeedCounting {
+    counts: bool,
+    command: FeedCommand,
+}
+
+// Whether a feed whose lines are processed so answers counts.
+fn way_counts(way: FeedWay) -> bool
+    ensures { result ≡ spec.way_counts way }
+{
+    match way {
+        FeedWay::InOrder => true,
+        FeedWay::Watches => true,
+        FeedWay::Overlap => true,
+        FeedWay::Workers(_) => false,
+    }
+}
+
+// The feed, of which lines may ask for counts where that is asked for and it answers them.
+fn counting(counts: bool, command: FeedCommand) -> Option<FeedCounting>
+    ensures counting { option_map feed_counting_view result ≡ spec.feed_counting counts command }
+    ensures command { IfSome result (λ c. c.command ≡ command) }
+{
+    if counts && !way_counts(command.way) {
+        return None;
+    }
+    Some(FeedCounting { counts, command })
+}
+
+// The items that the words are without those that say how lines are read.
 fn read_items(alloc: Global, words: &[String]) -> Result<Items, CommandFault>
     ensures items { IfOk result (λ items. items_of feed_flags feed_options (map string_bytes words.now) ≡ Some items) }
     ensures usage { IsErrOf result CommandFault.Usage → items_of feed_flags feed_options (map string_bytes words.now) ≡ None }

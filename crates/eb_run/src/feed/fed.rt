@@ -1,9 +1,15 @@
 //! The feed that lines fill and ask.
 ghost use Rattle.eb_fields.specs.Dialect.{Dialect as Spoken};
-ghost use Rattle.std.specs.Prelude.{◌≡◌, ◌<◌, ◌≤◌, ℕ, List, [], length, IfOk};
+ghost use Rattle.std.specs.Prelude.{◌≡◌, ◌<◌, ◌≤◌, ℕ, List, [], length, IfOk, OnErr, OnOk};
 ghost use Rattle.eb_answer.specs.Rules.{Rules};
+ghost use Rattle.eb_answer.specs.Questions.{MayAsk};
+ghost use Rattle.eb_answer.specs.Stores.{IsHolding, PutsAnswer};
 ghost use Rattle.eb_base.specs.Document.{Doc};
 ghost use Rattle.eb_base.specs.Match.{answer};
+ghost use Rattle.eb_base.specs.Query.{tree, IsWellFormed};
+ghost use Rattle.eb_count.specs.Tallies.{HasCounted};
+ghost use Rattle.eb_query.specs.Head.{most_buckets};
+ghost use Rattle.eb_query.specs.declared.ask.Ask.TheVariants.{Newest, Counts};
 ghost use Rattle.eb_base.specs.Setting.{Setting};
 ghost use Rattle.eb_cursor.specs.Frames.{query_of, k_of, ids_of};
 ghost use Rattle.eb_feed.specs.Generations.{kept};
@@ -13,11 +19,13 @@ ghost use Rattle.eb_run.specs.FeedOutput.{feed_rules, feed_tail};
 
 use eb_answer::Store;
 use eb_base::{Config, Document, Gate, NoMemory, Query};
+use eb_count::Tally;
 use eb_cursor::Frame;
 use eb_feed::Feed;
 use eb_fields::Dialect;
-use eb_lines::{Form, Refusal, Tail, line_room, put_answer};
+use eb_lines::{Form, Refusal, Tail, line_room, put_answer, put_count};
 use eb_place::Steps;
+use eb_query::Ask;
 use std::alloc::Global;
 use std::marker::Brand;
 use std::sync::ledger::{Blank, Ledger};
@@ -48,6 +56,26 @@ fn search_kept<G: Gate, L: Ledger>(
     feed.search(frame, gate, &mut steps)
 }
 
+// Counts what matches among what the feed keeps, after what the tally held, and gives the number of accepted documents. The
+// frame stays as it is. Takes no memory.
+fn count_kept<G: Gate, L: Ledger>(
+    feed: &mut Feed,
+    frame: &mut Frame,
+    tally: &mut Tally,
+    gate: &G,
+    blank: Blank,
+) -> u64
+    requires blank { (blank.name ≡ L.name) × (blank.parts ≡ L.parts) × (0 < blank.parts) }
+    requires feed { (σ : Setting) × (keep : ℕ) × (history : List Doc) × IsFedWith feed.old σ keep history }
+    ensures taken { (σ : Setting) (keep : ℕ) (history : List Doc) → IsFedWith feed.old σ keep history → IsFedWith feed.new σ keep history }
+    ensures seen { (σ : Setting) (keep : ℕ) (history : List Doc) → IsFedWith feed.old σ keep history → result ≡ length history }
+    ensures counts { (σ : Setting) (keep : ℕ) (history : List Doc) → IsFedWith feed.old σ keep history
+        → HasCounted (query_of frame.old) (kept σ keep history) tally.old tally.new }
+{
+    let mut steps = Steps::<L>::new(blank);
+    feed.count(frame, tally, gate, &mut steps)
+}
+
 impl Fed {
     // An empty feed. Takes all its memory.
     pub(crate) fn new(alloc: Global, keep: u32, form: Form, config: Config) -> Result<Fed, NoMemory>
@@ -56,6 +84,67 @@ impl Fed {
     {
         let feed = Feed::open(alloc, config, keep)?;
         Ok(Fed { feed, form })
+    }
+
+    // Answers line `number` by the ids of the newest `k` matches.
+    fn answer_newest<G: Gate>(
+        &mut self,
+        alloc: Global,
+        number: u64,
+        k: u32,
+        query: Query,
+        gate: &G,
+        text: &mut Vec<u8>,
+    ) -> Result<(), NoMemory>
+        requires state { IsHolding IsFed self.old }
+        requires asked { MayAsk (Newest k) query }
+        ensures ok { OnOk result (PutsAnswer IsFed self.old self.new number (Newest k) (tree query) text.old.items text.new.items) }
+        ensures err { OnErr result ((self.new ≡ self.old) × (text.new.items ≡ text.old.items)) }
+    {
+        let mut frame = Frame::new(alloc, query, k)?;
+        text.reserve(line_room(k as usize))?;
+        let seen = search_kept::<G, Brand>(&mut self.feed, &mut frame, gate, Blank::new(1));
+        put_answer(text, self.form, number, seen, frame.ids());
+        Ok(())
+    }
+
+    // Answers line `number` by the counts of this tally, in which nothing is counted yet.
+    fn answer_counts<G: Gate>(
+        &mut self,
+        alloc: Global,
+        number: u64,
+        tally: Tally,
+        query: Query,
+        gate: &G,
+        text: &mut Vec<u8>,
+    ) -> Result<(), NoMemory>
+        requires state { IsHolding IsFed self.old }
+        requires formed { IsWellFormed (tree query) }
+        requires few { length tally.buckets ≤ most_buckets }
+        ensures ok { OnOk result (PutsAnswer IsFed self.old self.new number (Counts tally.start tally.width (length tally.buckets)) (tree query)
+            text.old.items text.new.items) }
+        ensures err { OnErr result ((self.new ≡ self.old) × (text.new.items ≡ text.old.items)) }
+    {
+        let mut tally = tally;
+        tally.clear();
+        let mut frame = Frame::new(alloc, query, 1)?;
+        text.reserve(line_room(1 + tally.buckets().len()))?;
+        let seen = count_kept::<G, Brand>(
+            &mut self.feed,
+            &mut frame,
+            &mut tally,
+            gate,
+            Blank::new(1),
+        );
+        put_count(
+            text,
+            self.form,
+            number,
+            seen,
+            tally.total(),
+            tally.buckets(),
+        );
+        Ok(())
     }
 
     // What is told beside the counts at the end.
@@ -98,7 +187,7 @@ impl Store for Fed {
     fn take_other(
         &mut self,
         _alloc: Global,
-        _fields: Dialect<'_>,
+        _dialect: Dialect<'_>,
         _bytes: &[u8],
     ) -> Result<Option<Refusal>, NoMemory> {
         Ok(Some(Refusal::BadLine))
@@ -108,16 +197,22 @@ impl Store for Fed {
         &mut self,
         alloc: Global,
         number: u64,
-        k: u32,
+        ask: Ask,
         query: Query,
         gate: &G,
         text: &mut Vec<u8>,
     ) -> Result<(), NoMemory> {
-        let mut frame = Frame::new(alloc, query, k)?;
-        text.reserve(line_room(k as usize))?;
-        let seen = search_kept::<G, Brand>(&mut self.feed, &mut frame, gate, Blank::new(1));
-        put_answer(text, self.form, number, seen, frame.ids());
-        Ok(())
+        match ask {
+            Ask::Newest(k) => self.answer_newest(alloc, number, k, query, gate, text),
+            Ask::Counts {
+                start,
+                width,
+                number: buckets,
+            } => {
+                let tally = Tally::with_buckets(alloc, start, width, buckets as usize)?;
+                self.answer_counts(alloc, number, tally, query, gate, text)
+            }
+        }
     }
 
     fn documents(&self) -> u64 {

@@ -69,6 +69,9 @@ fn by(fields: Fields<'_>) -> Dialect<'_> {
     Dialect {
         fields,
         cut: Cut::Words,
+        id: None,
+        text: None,
+        counts: false,
     }
 }
 

@@ -6,7 +6,7 @@ use eb_base::{Config, OpenGate};
 use eb_engine::{Converter, Index, Reader, Writer};
 use eb_fields::Dialect;
 use eb_indexed::Counts;
-use eb_lines::{Form, LineKind, Refusal, line_kind};
+use eb_lines::{Form, LineKind, Refusal, plain_kind};
 use eb_rounds::{Input, Rounds};
 use std::alloc::Global;
 use std::test::Fail;
@@ -105,7 +105,7 @@ impl Desk {
         ensures { (self.new.writer.index ≡ self.new.index) × (self.new.reader.index ≡ self.new.index) × (self.new.converter.index ≡ self.new.index)
             × (self.new.rounds.greatest ≤ self.new.number) }
     {
-        match line_kind(line.as_bytes()) {
+        match plain_kind(line.as_bytes()) {
             LineKind::Blank => {
                 self.number = self.number.saturating_add(1);
                 Ok(())
