@@ -18,7 +18,7 @@ def run():
     with Stage() as stage:
         documents, last = make_documents(20000, 0, rng)
         queries = make_queries(200, rng)
-        check("up", 0, stage.up(3))
+        check("up", 0, stage.up(3, "--", "run", "--counts"))
         router = stage.router()
         killed = interrupted(documents, 10000, lambda: stage.signal("worker-earlybird-1"))
         check("add, a worker killed in the middle", [], list(router.add(killed)))
@@ -27,6 +27,7 @@ def run():
         _missing(stage, router, want, queries)
         _refusals(stage)
         more, last = _one_cut(stage, last)
+        _counts(stage, documents + more, last - 30000)
         _redis_dies(stage, documents + more, last, queries, rng)
         _feed(stage, documents, queries)
 
@@ -39,7 +40,7 @@ def _missing(stage, router, want, queries):
     whole = [each for each in zip(want, got) if not each[1].missing]
     check("answers without it name it", True, len(whole) < 200 and all(each.missing in ([], [2]) for each in got))
     check("those that don't are whole", [each[0] for each in whole], [each[1].text for each in whole])
-    check("the command names it", True, b" missing 2:" in stage.ask_all([b"?1 w0"])[0])
+    check("the command names it", [(True, True)] * 2, [(each.startswith(kind), b" missing 2:" in each) for kind, each in zip((b"seen ", b"count "), stage.ask_all([b"?1 w0", b"# w0"]))])
     printed, status, _ = stage.command("status")
     check("status names the killed worker", (True, 1), (b"partition 2: no worker" in printed, status))
     check("up again", 0, stage.up(3))
@@ -93,6 +94,17 @@ def _one_cut(stage, last):
     return lines, first + 30000
 
 
+def _counts(stage, documents, first):
+    """Counts are sums over the partitions. The 30,000 last documents have the word `cut` and the ids behind `first`, which has nothing."""
+    cases = [(b"# cut", b"30000"), (b"#%d+10000*3 cut" % (first + 1), b"30000 10000 10000 10000"), (b"#%d+1*3 cut" % (first - 1), b"30000 0 0 1"), (b"# cut since:%d" % (first + 29998), b"2"),
+             (b"#0+%d*1 cut -since:%d" % (first, first + 7), b"7 0"), (b"# w%d" % (first + 12345), b"1"), (b"# -cut", b"20000"), (b"# nothing", b"0"), (b"#18446744073709551615+1*1000 cut", b"30000" + b" 0" * 1000)]
+    check("counts", [b"count 50000: " + numbers for _, numbers in cases], stage.ask_all([line for line, _ in cases]))
+    refused = [b"#5 cut", b"#1+0*2 cut", b"# cut (", b"#", b"!1 cut"]
+    check("counts that are refused", [b"refused: " + why for why in (b"bad number", b"bad number", b"bad query at 8", b"bad query at 2", b"bad line")], stage.ask_all(refused))
+    mixed = [line for n in range(60) for line in (b"?3 cut", b"# w%d" % n, b"#%d+5000*7 cut -w%d" % (first, n))]
+    check("counts among queries", run_alone(["run", "--counts", "--segments", "32"], documents, mixed), stage.ask_all(mixed))
+
+
 def _redis_dies(stage, documents, last, queries, rng):
     """Redis is killed while lines are added: the supervisor starts it, and `add` goes on."""
     more, last = make_documents(20000, last, rng)
@@ -127,6 +139,7 @@ def _feed(stage, documents, queries):
     alone = [run_alone(feed, [line for _, text in part for line in text.split(b"\n")[:-1]], queries) for part in parts]
     want = [blend([b"1 " + each + b"\n" for each in pair], [count_of(line)])[0] if pair[0].startswith(b"seen") else pair[0] for line, pair in zip(queries, zip(*alone))]
     check("200 queries of a feed", want, stage.ask_all(queries, "feed"))
+    check("programs without --counts refuse counts", [b"refused: bad line"], stage.ask_all([b"# w0"], "feed"))
     until(lambda: all(len(part) <= 5000 for part in stage.documents("feed")))
     check("the logs of a feed are cut", [], [len(part) for part in stage.documents("feed") if not 1000 <= len(part) <= 5000])
 

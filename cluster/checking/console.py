@@ -24,7 +24,7 @@ class Console:
         self._log = open(os.path.join(stage.folder, "console.log"), "wb")
         self.process = subprocess.Popen(
             [sys.executable, "-B", SCRIPT, "--cluster", "earlybird", "--redis", stage.url, "--program", PROGRAM, "--listen", "127.0.0.1:0",
-             "--texts", os.path.join(stage.folder, texts), *words], stdin=subprocess.DEVNULL, stderr=self._log)
+             "--texts", os.path.join(stage.folder, texts), *words], stdin=subprocess.DEVNULL, stderr=self._log, env={**os.environ, "TZ": "UTC"})
         until(lambda: b"http://" in self.said() or self.process.poll() is not None)
         found = self.said().partition(b"http://")[2].split(b"\n")[0].rstrip(b"/")
         self.port = int(found.rsplit(b":", 1)[1]) if found else None
@@ -88,11 +88,13 @@ def run():
     """All of it."""
     with Stage() as stage:
         check("a console without a Redis", (3, True), _begins(refused(stage), "earlybird-console: Redis: "))
-        check("up", 0, stage.up(3, "--", "run"))
-        check("a cluster without the fields", (3, True), _begins(refused(stage), THE_CLUSTER + "hasn't the console's fields: earlybird-cluster --name"))
+        for words, why in ((("run", "--counts"), THE_CLUSTER + "hasn't the console's fields: earlybird-cluster --name"),
+                           (("run", "--fields", FIELDS), "earlybird-console: the programs of the cluster 'earlybird' don't count: earlybird-cluster --name")):
+            check("up", 0, stage.up(3, "--", *words))
+            check("a cluster of other words", (3, True), _begins(refused(stage), why))
         check("words of a program beside a cluster", (2, True), _has(refused(stage, "texts", "--", "run"), "--cluster needs --texts FILE"))
     with Stage() as stage:
-        check("up with the fields", 0, stage.up(3, "--", "run", "--fields", FIELDS))
+        check("up with the fields", 0, stage.up(3, "--", "run", "--counts", "--fields", FIELDS))
         console = Console(stage)
         check("it listens", True, console.port is not None)
         _found(console)
@@ -120,9 +122,11 @@ def _found(console):
     check("a field", texts_of([10, 20]), console.found("level:error", 2))
     check("a range of time", texts_of(range(5, 8)), console.found("rain since:2026-11-30T10:59:52Z until:2026-11-30T10:59:55Z"))
     told = console.ask("GET", "/histogram?q=level:error&bars=10")[1]
-    check("the axis", (300, True), (told["total"], told["exact"]))
-    values = {value: count for value, count, _ in console.ask("GET", "/values?q=&name=level")[1]["values"]}
-    check("values", ({"error", "info"}, 300), (set(values), values.get("error")))
+    check("the axis", (300, 300), (told["total"], sum(told["counts"])))
+    # (all but the last 10 minutes of the 50, by a second each)
+    told = console.ask("GET", "/histogram?q=rain&bars=6&from=2026-11-30T10:10:00Z&to=2026-11-30T11:00:00Z")[1]
+    check("the axis of more than an answer has", ([600, 600, 600, 600, 599], 2999), (told["counts"], told["total"]))
+    check("values", {"info": 2700, "error": 300}, dict(console.ask("GET", "/values?q=&name=level")[1]["values"]))
     check("a watch has counted", {"level:error": 300}, console.watches())
     status, told = console.ask("GET", "/search?" + urllib.parse.urlencode({"q": "rain ("}))
     check("a query that is refused", (400, "bad query", 7), (status, told["error"], told["column"]))
@@ -148,7 +152,7 @@ def _faults(stage, console):
     with concurrent.futures.ThreadPoolExecutor(1) as beside:
         posting = beside.submit(console.post, lines_of(range(3001, 3301), long))
         check("it tells what messages wait for", True, until(lambda: waits in console.said()))
-        check("up again", 0, stage.up(3, "--", "run", "--fields", FIELDS))
+        check("up again", 0, stage.up(3, "--", "run", "--counts", "--fields", FIELDS))
         told = posting.result()
     check("messages waited for it", (300, 0), (told["taken"], told["refused"]))
     check("and are found", texts_of([3300], long), console.found("n3300"))

@@ -10,9 +10,11 @@ def run():
     rng = seeded(13)
     with Stage() as stage:
         folder = os.path.join(stage.folder, "images")
-        check("up", 0, stage.up(2, "--replicas", "2", "--images", folder))
+        words = ["run", "--words", "pieces", "--counts"]
+        check("up", 0, stage.up(2, "--replicas", "2", "--images", folder, "--", *words))
         documents, last = make_documents(8000, 0, rng)
-        queries = make_queries(100, rng)
+        documents[17] = b'{"id":18,"text":"com.acme.billing"}'
+        queries = make_queries(100, rng) + [b"?5 billing", b"# billing", b"# acme OR w3", b"?5 acme.billing"]
         check("add", [], list(stage.router().add(documents)))
         check("cut without an image", (1, True), _cut_without(stage, folder))
         entries = []
@@ -26,7 +28,8 @@ def run():
             check("add after an image", [], list(stage.router().add(more)))
             del round_
         check("the logs are short", True, all(each < 2000 for row in entries for each in row))
-        want = run_alone(["run"], documents, queries)
+        want = run_alone(words, documents, queries)
+        check("a word by its piece, and how many have it", [b"seen 20000: 18", b"count 20000: 1"], want[100:102])
         for part in range(2):
             for replica in ("", "-1"):
                 stage.signal("worker-earlybird-%d%s" % (part, replica))

@@ -7,7 +7,8 @@ import sys
 import tempfile
 import threading
 
-from earlybird_cluster.lines import blend, blocks_of, count_of, lines_of, whole_line
+from earlybird_cluster.image import words_for
+from earlybird_cluster.lines import MOST, QUERY, blend, blocks_of, count_of, lines_of, refusal_of, whole_line
 from earlybird_cluster.supervisor import Delays
 from earlybird_cluster.wire import Push, Wire
 
@@ -21,6 +22,7 @@ def run():
     _blends(rng)
     _replies()
     _delays()
+    _words()
     _without_module()
 
 
@@ -29,6 +31,9 @@ def _lines(rng):
           [whole_line(line) for line in (b"a", b"a\n", b"a\r\n", b"a\r", b"", b"\n", b"a\nb", b"\na", b"a\rb\n", b"a\n\n", b"a\r\r\n")])
     check("texts of lines", [1, 2, None, None, None, None, None],
           [lines_of(text, b"{") for text in (b"{}\n", b"{}\n{\n", b"", b"{}", b"{}\n\n", b"{}\n?\n", b"\n{}\n")])
+    check("texts of lines that ask", [3, None, None], [lines_of(text, *QUERY) for text in (b"?1 a\n# a\n#1+2*3 a\n", b"?1 a\n!1 a\n", b"# a")])
+    check("lines that ask", [None, None, b"bad line", b"bad line", b"long line"], [refusal_of(line, QUERY) for line in (b"?1 a", b"# a", b"", b" # a", b"#" * 65537)])
+    check("how many numbers a line asks for", [1, 1, 4, 1001, 10000, 1, 1], [count_of(line) for line in (b"#", b"# a", b"#1+2*3 a", b"#0+1*1000 a", b"#0+1*9999 a", b"#5 a", b"#" + b"1" * 60000)])
     check("how many ids a line asks for", [5, 1000, 9999, 0, 0, 0, 0], [count_of(line) for line in (b"?5 a", b"?1000 a", b"?99999999999 a", b"?", b"?-5 a", b"? 5 a", b"{}")])
     wrong = []
     for _ in range(300):
@@ -53,7 +58,19 @@ def _blends(rng):
         if blend(texts, counts) != want:
             wrong.append((texts, want))
     check("blends", [], wrong[:1])
+    texts = [b"4 count 5: 3\n5 seen 5: 9 7\n6 count 5: 3 1 2\n7 refused: bad number\n", b"8 count 6: 4\n9 seen 6: 8\n10 count 6: 4 0 4\n11 refused: bad number\n"]
+    check("counts among them are sums", [b"count 11: 7", b"seen 11: 9 8", b"count 11: 7 1 6", b"refused: bad number"], blend(texts, [1, 2, 3, 1]))
+    check("counts of one partition", [b"count 5: 3"], blend([b"4 count 5: 3\n"], [1]))
+    check("a sum is at most the greatest number", [b"count 2: %d 5 %d" % (MOST, MOST)], blend([b"1 count 1: %d 2 %d\n" % (MOST, MOST - 1), b"1 count 1: 1 3 1\n"], [3]))
     check("a refusal among them", [b"seen 3: 9", b"refused: bad query at 5"], blend([b"4 seen 1:\n5 refused: bad query at 5\n", b"8 seen 2: 9\n9 refused: bad query at 5\n"], [1, 1]))
+
+
+def _words():
+    """What an image is saved with, and loaded: it is read and answers as the partition's program does."""
+    words = "run --fields a,b --words=pieces --counts --segments 3 --id seq --text=message --docs=9 --terms 1024 --stats".split()
+    check("the words of save", "save --fields a,b --words pieces --segments 3 --id seq --text message --docs 9 --terms 1024".split(), words_for(words, "save"))
+    check("the words of load", "load --fields a,b --words pieces --counts --id seq --text message".split(), words_for(words, "load"))
+    check("names that look like words", ["load", "--id", "--counts", "--text", "--id"], words_for(["run", "--id", "--counts", "--text=--id"], "load"))
 
 
 class _Pool:

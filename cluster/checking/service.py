@@ -39,7 +39,7 @@ class Client:
 def run():
     """All of it."""
     with Stage() as stage:
-        check("up", 0, stage.up(2))
+        check("up", 0, stage.up(2, "--", "run", "--counts"))
         service = Client(stage)
         try:
             _documents(service)
@@ -78,11 +78,15 @@ def _queries(service):
     status, said = service.ask("POST", "/queries", b"?3 rain\n?2 w7\r\n?5 (\nfoo\n?1 w2010")
     check("POST /queries", (200, [{"line": 1, "seen": 2010, "ids": [2010, 2009, 2008]}, {"line": 2, "seen": 2010, "ids": [7]}, {"line": 3, "refused": "bad query", "column": 5},
                                   {"line": 4, "refused": "bad line"}, {"line": 5, "seen": 2010, "ids": [2010]}]), (status, [json.loads(line) for line in said.splitlines()]))
+    status, said = service.ask("POST", "/queries", b"# rain\n#1+1000*3 rain since:10\n#1 rain")
+    check("counts", (200, [{"line": 1, "seen": 2010, "count": 2010}, {"line": 2, "seen": 2010, "count": 2000, "buckets": [990, 1000, 10]}, {"line": 3, "refused": "bad number"}]),
+          (status, [json.loads(line) for line in said.splitlines()]))
     check("no queries", (200, b""), service.ask("POST", "/queries", b""))
 
 
 def _refused(service):
     check("more ids than one may ask for", 413, service.ask("POST", "/queries", b"?1000 rain\n" * 101)[0])
+    check("more numbers", 413, service.ask("POST", "/queries", b"#0+1*1000 rain\n" * 100)[0])
     check("more queries", 413, service.ask("POST", "/queries", b"?1 a\n" * 1001)[0])
     check("more bytes of queries", 413, service.ask("POST", "/queries", b"x" * 300000)[0])
     told = json.loads(service.ask("POST", "/documents", b"x\n" * 300000)[1])

@@ -4,12 +4,12 @@ import time
 from collections import deque, namedtuple
 
 from . import names, scripts
-from .lines import BATCH, blend, count_of, refusal_of, whole_line
+from .lines import BATCH, QUERY, blend, count_of, refusal_of, whole_line
 from .wire import LOST, is_cluster
 
 BYTES = 65536  # of query lines that go together, at most, but for one longer line by its LF
 WINDOW = 16  # batches that may wait for their answers
-IDS = 65536  # ids that may be asked for by the queries that wait, but for those of one batch
+IDS = 65536  # ids, and numbers of counts, that may be asked for by the queries that wait, but for those of one batch
 GLANCE = 0.02  # seconds without a word after which is looked whether a worker that was asked is gone
 HEDGE = 0.25  # seconds of a worker's silence after which another replica is asked, too; twice as long with each try
 SAME = 2.0  # seconds of it after which the same one is asked again, where there is no other: the answer may have been lost
@@ -187,14 +187,14 @@ class Asker:
     # ---- a stream of lines
 
     def ask_many(self, lines, cut=False):
-        """Answers to the query lines of an iterable of bytes, in order. None among them says that no line is there at the
+        """Answers to the query lines and count lines of an iterable of bytes, in order. None among them says that no line is there at the
         moment: all before it are then answered. With `cut` no line has a LF."""
         under_way, held, refused, size, weight = deque(), [], [], 0, 0
         for line in itertools.chain(lines, [None]):
             if line is not None:
                 if not cut:
                     line = whole_line(line)
-                why = b"bad line" if line is None else refusal_of(line, b"?")
+                why = b"bad line" if line is None else refusal_of(line, QUERY)
                 if why is None and held and size + len(line) >= BYTES:
                     weight = yield from self._room(under_way, weight, held)
                     weight += self._send(under_way, held, refused)

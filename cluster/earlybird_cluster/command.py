@@ -144,7 +144,7 @@ def do_ask(words, redis):
     for text, missing in router.ask_many(lines(), cut=True):
         if text is None:
             text = b"refused: no partition answered"
-        elif missing and text.startswith(b"seen "):
+        elif missing and not text.startswith(b"refused: "):
             head, colon, rest = text.partition(b":")
             text = head + b" missing " + b",".join(b"%d" % each for each in missing) + colon + rest
         refused = refused or text.startswith(b"refused: ")

@@ -11,7 +11,8 @@ from .life import ask_all
 from .wire import Wire
 
 HEAD = 20  # bytes of an image before its documents; the end is one byte 0
-SETTING = ("--fields", "--segments", "--docs", "--terms")
+READING = ("--fields", "--words", "--id", "--text")  # how lines are read: of `save`, and of `load`, which answers besides
+SETTING = ("--segments", "--docs", "--terms")
 ENTRIES = 64  # that are read at once
 
 Image = namedtuple("Image", "path last sum whole")
@@ -24,12 +25,16 @@ class NoImage(Exception):
 
 def words_for(words, which):
     """The words of `save` or of `load` for those of `run`."""
-    wanted = SETTING if which == "save" else SETTING[:1]
-    pieces = [piece for word in words[1:] for piece in word.split("=", 1)]
-    found = [which]
-    for name, value in zip(pieces, pieces[1:]):
+    wanted = READING + SETTING if which == "save" else READING
+    found, rest = [which], iter(words[1:])
+    for word in rest:
+        name, sign, value = word.partition("=")
+        if name in READING + SETTING and not sign:
+            value = next(rest, "")
         if name in wanted:
             found += [name, value]
+        elif word == "--counts" and which == "load":
+            found.append(word)
     return found
 
 

@@ -3,7 +3,9 @@ import re
 
 LONGEST = 65536  # the most bytes of a line; the program refuses a longer one
 BATCH = 64  # query lines that go together, at most, and of 64 KiB but for one longer line
-NUMBER = re.compile(rb"\?(\d{1,4})")
+QUERY = (b"?", b"#")  # what a line begins with that asks: a query line, and a count line, which programs with `--counts` take
+NUMBER = re.compile(rb"\?(\d{1,4})|#\d{1,20}\+\d{1,20}\*(\d{1,4})|#")
+MOST = (1 << 64) - 1  # a greater sum is this one, as the program's is
 
 
 def whole_line(given):
@@ -14,21 +16,22 @@ def whole_line(given):
 
 
 def refusal_of(line, begin):
-    """Why a line can't go to a program: `long line` or `bad line`; None where it can. `begin` is its first byte."""
+    """Why a line can't go to a program: `long line` or `bad line`; None where it can. `begin` is its first byte, or those of which
+    it has one."""
     if len(line) > LONGEST:
         return b"long line"
     return None if line.startswith(begin) else b"bad line"
 
 
-def lines_of(text, begin):
-    """How many lines a text has, where each ends with LF and begins with this byte; else None."""
+def lines_of(text, *begins):
+    """How many lines a text has, where each ends with LF and begins with one of these bytes; else None."""
     lines = text.count(b"\n")
-    return lines if all_begin(text, lines, begin) else None
+    return lines if all_begin(text, lines, *begins) else None
 
 
-def all_begin(text, lines, begin):
-    """Whether each line of a text, which has `lines` LF, ends with LF and begins with this byte."""
-    return lines > 0 and text.endswith(b"\n") and text.count(b"\n" + begin) + text.startswith(begin) == lines
+def all_begin(text, lines, *begins):
+    """Whether each line of a text, which has `lines` LF, ends with LF and begins with one of these bytes."""
+    return lines > 0 and text.endswith(b"\n") and sum([text.count(b"\n" + each) for each in begins]) + text.startswith(begins) == lines
 
 
 def blocks_of(text, most):
@@ -43,29 +46,41 @@ def blocks_of(text, most):
 
 
 def count_of(line):
-    """How many ids a query line asks for, at most: 0 to 9999. What isn't such a line is refused by the programs."""
+    """How many ids a query line asks for, or how many numbers a count line, at most: 0 to 10,000. What is neither is refused by
+    the programs."""
     found = NUMBER.match(line)
-    return int(found[1]) if found else 0
+    return int(found[1] or 1 + int(found[2] or 0)) if found else 0
 
 
 def seen_of(lines):
     """The number of documents that the answers of one batch saw, which is the same for all of it."""
     for line in lines:
         words = line.split(b" ", 3)
-        if words[1] == b"seen":
+        if words[1] in (b"seen", b"count"):
             return int(words[2].split(b":", 1)[0])
     return 0
 
 
+def added(lines):
+    """The numbers of the answers to one count line, the total and the buckets, each the sum over the partitions."""
+    numbers = [map(int, line[line.index(b":") + 1:].split()) for line in lines]
+    return b" ".join([b"%d" % min(sum(each), MOST) for each in zip(*numbers)])
+
+
 def blend(texts, counts):
     """Answers from what the partitions printed for a batch of queries, a line each; `counts` is how many ids each asks for at
-    most. `seen` is the sum, the ids are the greatest ones, falling. A refusal is that of the first partition."""
+    most. `seen` is the sum, the ids are the greatest ones, falling, and numbers of a count are sums. A refusal is that of the first
+    partition."""
     rows = [text.split(b"\n") for text in texts]
-    head = b"seen %d:" % sum([seen_of(row[:-1]) for row in rows])
+    seen = sum([seen_of(row[:-1]) for row in rows])
+    head = b"seen %d:" % seen
     answers = []
     for most, line, *others in zip(counts, *rows):
         if b"f" in line:  # of `refused`; no answer has the letter
             answers.append(line.split(b" ", 1)[1])
+            continue
+        if b"c" in line:  # of `count`; no other answer has the letter
+            answers.append(b"count %d: %b" % (seen, added([line, *others])))
             continue
         ids, parts = line[line.index(b":") + 1:], 1
         for other in others:

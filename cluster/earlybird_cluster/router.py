@@ -47,13 +47,13 @@ class Router:
         return self.adder.add_blocks(texts, wait, progress)
 
     def ask_many(self, lines, cut=False):
-        """Yields an Answer for each query line of an iterable of bytes, in order; lines are taken as by `add`. None among them
+        """Yields an Answer for each query line or count line of an iterable of bytes, in order; lines are taken as by `add`. None among them
         says that no line is there at the moment. With `cut` it is known that no line has a LF. Raises one of LOST where Redis
         is gone for longer than the patience."""
         return self._asker.ask_many(lines, cut)
 
     def ask(self, line):
-        """The Answer to one query line (bytes, as `b"?5 hello"`)."""
+        """The Answer to one query line or count line (bytes, as `b"?5 hello"`, `b"# hello"`)."""
         return next(self.ask_many([line]))
 
     def close(self):

@@ -21,7 +21,7 @@ PACE = 1 << 18  # bytes a second with which a larger one has to come, after its 
 LOOK = 0.25  # seconds between two looks for one that is slower
 TOLD = 10000  # lines that one answer tells of as refused or pending
 QUERIES = 1000  # lines of one request
-IDS = 100000  # ids that they may ask for together
+IDS = 100000  # ids, and numbers of counts, that they may ask for together
 LINES = "application/x-ndjson"
 
 
@@ -129,7 +129,7 @@ class Service:
             lines = text.split(b"\n")
             lines = lines if lines[-1] else lines[:-1]
             if len(lines) > QUERIES or sum(map(count_of, lines)) > IDS:
-                raise Fault(413, "at most %d queries, which ask for at most %d ids" % (QUERIES, IDS))
+                raise Fault(413, "at most %d queries, which ask for at most %d ids and numbers" % (QUERIES, IDS))
             answers = await self._in_thread(self._with_router, lambda router: list(router.ask_many(lines, cut=True)))
         if any(each.text is None for each in answers):
             raise Fault(503, "no partition answered")
@@ -171,8 +171,14 @@ def as_json(number, answer):
         name, at, column = text[len(b"refused: "):].decode("utf-8", "replace").partition(" at ")
         told = {"line": number, "refused": name, **({"column": int(column)} if at else {})}
     else:
-        head, _, ids = text.partition(b":")
-        told = {"line": number, "seen": int(head.split()[1]), "ids": [int(each) for each in ids.split()]}
+        head, _, rest = text.partition(b":")
+        what, seen = head.split()
+        numbers = [int(each) for each in rest.split()]
+        told = {"line": number, "seen": int(seen)}
+        if what == b"seen":
+            told["ids"] = numbers
+        else:
+            told.update(count=numbers[0], **({"buckets": numbers[1:]} if numbers[1:] else {}))
     return json.dumps({**told, **({"missing": missing} if missing else {})}, separators=(",", ":")).encode() + b"\n"
 
 

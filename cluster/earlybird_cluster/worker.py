@@ -15,7 +15,7 @@ import redis as client
 from . import image, names, scripts
 from .entries import after, documents_of, entry_key, text_of
 from .life import Life, Rates
-from .lines import BATCH, LONGEST, lines_of
+from .lines import BATCH, LONGEST, QUERY, lines_of
 from .program import ANSWER, MARK, Program, ProgramEnded
 from .replies import Replies
 from .wire import LOST, Push, Wire, pack
@@ -240,7 +240,7 @@ class Worker:
             lines = int(lines)
             if lines == 0:
                 text = place
-            elif lines_of(text, b"?") != lines or lines > BATCH or len(text) > LONGEST + 1:
+            elif lines_of(text, *QUERY) != lines or lines > BATCH or len(text) > LONGEST + 1:
                 raise ValueError("another number of query lines, or more than go together")
             if len(self._held) >= HELD:
                 raise ValueError("more than a worker can hold")
