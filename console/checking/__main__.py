@@ -10,6 +10,7 @@ import earlybird_console  # noqa: F401 (it finds what it shares)
 
 from . import browser
 from .compare import FAILED, PASSED, check
+from .counting import check_counts
 from .hostile import check_hostile
 from .machine import Machine, complaints
 from .measure import measure
@@ -21,7 +22,7 @@ from .serving import Served, check_alarms, check_feed, check_pieces, check_sourc
 def check_alone(folder):
     """What needs no process, and consoles of their own."""
     check_plain(folder)
-    for each in (check_token, check_usage, check_feed, check_sources, check_pieces, check_alarms):
+    for each in (check_token, check_usage, check_feed, check_counts, check_sources, check_pieces, check_alarms):
         each(folder)
 
 

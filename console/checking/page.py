@@ -217,7 +217,7 @@ class Page:
         self._asks("")
         check("fields", True, wait("return !!%s" % FIELD % "service"))
         run("%s.querySelector('summary').click()" % FIELD % "service")
-        counted = {value: count for value, count, _ in self._machine.get("/values", q="", name="service")["values"]}
+        counted = dict(self._machine.get("/values", q="", name="service")["values"])
         script = "return Object.fromEntries([...%s.querySelectorAll('li')].map(each => [each.querySelector('span').textContent, Number(each.querySelector('b').textContent.replace(/\\D/g, ''))]))" % FIELD % "service"
         check("values are counted over all matches", counted, wait_for(counted, lambda: run(script)))
         run("[...%s.querySelectorAll('li')].find(each => each.querySelector('span').textContent === 'auth').querySelector('.sign').click()" % FIELD % "service")

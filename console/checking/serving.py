@@ -146,10 +146,7 @@ class Served:
                 counts = [0] * len(told["counts"])
                 for number in want:
                     counts[(self.made[number].at - told["first"]) // told["step"]] += 1
-                good = all(got == count if place not in told["least"] else got <= count for place, (got, count) in enumerate(zip(told["counts"], counts)))
-                check("%s: the axis of %r %r" % (name, query, bounds), (True, not told["least"]), (good, told["exact"]))
-                if told["exact"]:
-                    check("%s: the total of %r %r" % (name, query, bounds), len(want), told["total"])
+                check("%s: the axis of %r %r" % (name, query, bounds), (counts, len(want)), (told["counts"], told["total"]))
 
     def check_lines(self):
         """Lines of any kind are messages, and come back as they were."""
@@ -196,8 +193,8 @@ class Served:
         check("of how many", min(len(want), 1000), told["of"])
         check("the level stands first", ("level", min(len(want), 1000)), (told["fields"][0]["name"], dict(told["fields"][0]["values"])["error"]))
         values = self.machine.get("/values", q="rain", name="city")["values"]
-        counted = {city: len(self.model(lambda each, city=city: "rain" in each.words and each.city == city)) for city, _, _ in values}
-        check("values are counted over all matches", (counted, True), ({city: count for city, count, _ in values}, all(exact for _, _, exact in values)))
+        counted = {city: len(self.model(lambda each, city=city: "rain" in each.words and each.city == city)) for city, _ in values}
+        check("values are counted over all matches", (8, counted), (len(values), dict(values)))
         data = self.machine.ask("GET", "/export?q=level:error&most=100000")[1].splitlines()
         at = [json.loads(line)["id"] for line in data]
         check("an export of all matches, the newest first", (len(self.machine_numbers("level:error")), sorted(at, key=int, reverse=True)), (len(at), at))
@@ -412,7 +409,8 @@ def check_token(folder):
 def check_usage(folder):
     """Words that aren't taken, and what says so."""
     path = os.path.join(folder, "token")
-    for words, why in ((["run", "--workers", "2"], b"--workers"), (["feed", "--overlap"], b"--overlap"), (["--fields", "a"], b"its fields"), (["--words", "pieces"], b"--words"), (["run", "--json"], b"--json")):
+    for words, why in ((["run", "--workers", "2"], b"--workers"), (["feed", "--overlap"], b"--overlap"), (["--fields", "a"], b"its fields"), (["--words", "pieces"], b"--words"), (["run", "--json"], b"--json"),
+                       (["--id", "seq"], b"--id"), (["feed", "--text=message"], b"--text")):
         check("words that the console can't have: %s" % words, (2, True), tried(["--", *words], why))
     usages = [(["--listen", "0.0.0.0:0"], b"--token-file"), (["--listen", "nowhere"], b"HOST:PORT"), (["--token-file", "/dev/null"], b"16 characters")]
     usages += [(["--cluster", "a"], b"--cluster needs --texts"), (["--cluster", "a", "--texts", path, "--", "run"], b"--cluster needs --texts"),

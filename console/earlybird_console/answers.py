@@ -23,8 +23,6 @@ FIELDS, VALUES = 100, 8
 READING = 0.5
 # the most lines around a message, before it and behind it
 AROUND = 200
-# ids are below this
-END = (1 << 63) - 1
 
 
 def axis(begin, end, bars):
@@ -110,9 +108,8 @@ class Answers:
             end = (documents.time_of(keys[-1]) if keys else begin) + 1
         end = max(end, begin + 1)
         first, step, edges = axis(begin, end, bars)
-        counts, exact = await self._console.counts.bars(asked, [documents.first_key(max(each, 1)) - 1 for each in edges])
-        await request.answer_json(200, {"from": begin, "to": end, "first": first, "step": step, "counts": counts, "total": sum(counts),
-                                        "exact": all(exact), "least": [place for place, each in enumerate(exact) if not each]})
+        counts = await self._console.counts.bars(asked, edges)
+        await request.answer_json(200, {"from": begin, "to": end, "first": first, "step": step, "counts": counts, "total": sum(counts)})
 
     async def _sample(self, asked, low, high):
         """The fields of the last matches, at most as many as an answer of the index has: how many were read, and by name the values."""
@@ -152,8 +149,7 @@ class Answers:
             if '"' in value or any(each in name for each in ' \t()"'):
                 continue
             with_value = self._asking.read(("(%s) " % query if query else "") + '%s:"%s"' % (name, value))
-            count, exact = await self._console.counts.total(with_value, low or 0, high or END)
-            told.append([value, count, exact])
+            told.append([value, await self._console.counts.total(with_value, low, high)])
         await request.answer_json(200, {"values": sorted(told, key=lambda each: -each[1])})
 
     async def context(self, request):

@@ -52,9 +52,13 @@ class Asking:
     async def found(self, asked, low, high, most):
         """How many messages the index has seen, and the ids of the last `most` that came of those that match and are above `low` and up to
         `high`. Raises Refused where the index refuses the query."""
-        head = b"?%d " % most
+        return await self.answered(b"?%d " % most, asked, low, high)
+
+    async def answered(self, head, asked, low, high):
+        """What the index answers to a line that begins with `head` and asks for matches that are above `low` and up to `high`, as `read_printed`
+        tells it. Raises Refused where the index refuses the query."""
         kind, value = await self.order(head + asked.within(low, high).encode())
-        if kind == "seen":
+        if kind != "refused":
             return value
         if (low, high) != (None, None):
             # (so that the column is that of the query alone)

@@ -23,6 +23,8 @@ WATCHING = ("feed", "--keep", "2", "--segments", "1", "--docs", "4096", "--terms
 ASKERS = 3
 TOGETHER = 16
 PAUSE = 0.5
+# how a cluster is set up for a console, but for the names of the fields
+SET_UP = "earlybird-cluster --name NAME up N -- run --counts --fields"
 # where the texts have the mark
 PLACE = "the cluster %s"
 
@@ -86,7 +88,9 @@ class Cluster:
             raise Stopped(str(fault)) from fault
         wanted = ",".join(SLOTS)
         if not any(pair == ("--fields", wanted) for pair in zip(words, words[1:])) and "--fields=" + wanted not in words:
-            raise Stopped("the cluster '%s' hasn't the console's fields: earlybird-cluster --name NAME up N -- run --fields %s" % (self.name, wanted))
+            raise Stopped("the cluster '%s' hasn't the console's fields: %s %s" % (self.name, SET_UP, wanted))
+        if "--counts" not in words:
+            raise Stopped("the programs of the cluster '%s' don't count: %s %s" % (self.name, SET_UP, wanted))
         return words
 
     @property

@@ -68,7 +68,7 @@ def over_program(asked, words, texts, alerts):
     """A console over one index program."""
     # (where the program has the parts of words by itself, they are its matter)
     pieces = ["--words", "pieces"] if takes(asked.program, ["run", "--segments", "1", "--docs", "256", "--terms", "1024", "--words", "pieces"]) else []
-    program = [asked.program, *words, "--fields", ",".join(SLOTS), "--watch", *pieces]
+    program = [asked.program, *words, "--fields", ",".join(SLOTS), "--watch", "--counts", *pieces]
     return Console(program, texts, alerts, drops=words[0] == "feed", parts=not pieces, words_only=asked.words_only)
 
 
@@ -129,13 +129,13 @@ def main():
     if asked.redis and not asked.cluster:
         parser.error("--redis says where a --cluster is")
     give_back()
-    # (the console asks for watches itself)
-    words = [word for word in words if word != "--watch"]
+    # (the console asks for watches and counts itself)
+    words = [word for word in words if word not in ("--watch", "--counts")]
     words = words if words[:1] in (["feed"], ["run"]) else ["feed", *words]
     if any(word.startswith("--fields") for word in words):
         parser.error("the console gives the index its fields: all members of messages")
-    if any(word.startswith(("--overlap", "--workers", "--parts", "--json", "--words")) for word in words):
-        parser.error("the index program runs here without --overlap, --workers, --parts, --json and --words")
+    if any(word.startswith(("--overlap", "--workers", "--parts", "--json", "--words", "--id", "--text")) for word in words):
+        parser.error("the index program runs here without --overlap, --workers, --parts, --json, --words, --id and --text")
     try:
         asyncio.run(serve(asked, words, host, port, token))
     except (Stopped, TextsFault, OSError) as fault:

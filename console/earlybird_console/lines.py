@@ -3,7 +3,7 @@ import re
 
 # a longer line is cut here
 LONGEST = 65536
-PRINTED = re.compile(rb"(\d+) (?:seen (\d+):((?: \d+)*)|watch:((?: \d+)*)|refused: (.*))")
+PRINTED = re.compile(rb"(\d+) (?:seen (\d+):((?: \d+)*)|count (\d+): (\d+)((?: \d+)*)|watch:((?: \d+)*)|refused: (.*))")
 COLUMN = re.compile(r"bad query at (\d+)")
 # a query that is answered at once, and settles all lines before it
 PROBE = b"?1 a"
@@ -15,14 +15,16 @@ def numbers(text):
 
 
 def read_printed(line):
-    """The number of the line that is answered, what came of it, and more of it: ("seen", (count, ids)), ("watch", numbers) or ("refused",
-    name). None for other lines, as the summary."""
+    """The number of the line that is answered, what came of it, and more of it: ("seen", (seen, ids)), ("count", (seen, total, numbers of the
+    buckets)), ("watch", numbers) or ("refused", name). None for other lines, as the summary."""
     found = PRINTED.fullmatch(line)
     if not found:
         return None
-    number, seen, ids, watches, refused = found.groups()
+    number, seen, ids, counted, total, buckets, watches, refused = found.groups()
     if seen is not None:
         return int(number), "seen", (int(seen), numbers(ids))
+    if counted is not None:
+        return int(number), "count", (int(counted), int(total), numbers(buckets))
     if watches is not None:
         return int(number), "watch", numbers(watches)
     return int(number), "refused", refused.decode("ascii", "replace")

@@ -20,20 +20,14 @@ const label = (ms, step) => (step >= 86400000 ? day(ms) : step >= 60000 ? clock(
 export function showHistogram(told) {
   shown = told;
   anchor = cursor = null;
-  const { counts, least, first, step } = told;
+  const { counts, first, step } = told;
   const most = Math.max(1, ...counts);
   const size = counts.length || 1;
   const svg = draw("svg", { viewBox: `0 0 ${size} 100`, preserveAspectRatio: "none", role: "img",
     "aria-label": `${number(told.total)} matches in ${size} bars of ${length(step)}, at most ${number(most)} in one` });
-  const defs = draw("defs", {});
-  const hatched = draw("pattern", { id: "hatched", width: 6, height: 6, patternUnits: "userSpaceOnUse", patternTransform: `scale(${size / 1000} 1) rotate(45)` });
-  hatched.append(draw("path", { d: "M0 0V6" }));
-  defs.append(hatched);
-  svg.append(defs);
   counts.forEach((count, place) => {
     const height = count ? Math.max((count / most) * 96, 2) : 0;
-    const open = least.includes(place);
-    svg.append(draw("rect", { ...(open ? { fill: "url(#hatched)" } : { class: "bar" }), x: place + 0.06, width: 0.88, y: open ? 0 : 100 - height, height: open ? 100 : height }));
+    svg.append(draw("rect", { class: "bar", x: place + 0.06, width: 0.88, y: 100 - height, height }));
   });
   svg.append(draw("rect", { class: "at", y: 0, height: 100, width: 0 }), draw("rect", { class: "dragged", y: 0, height: 100, width: 0 }));
   const labels = [];
@@ -51,8 +45,8 @@ export function showHistogram(told) {
   bar.setAttribute("role", "status");
   bar.hidden = true;
   chart.replaceChildren(svg, ...labels, make("span", "most", counts.length ? number(most) : ""), bar);
-  put(at("total"), `${told.exact ? "" : "at least "}${number(told.total)} ${told.total === 1 ? "match" : "matches"}`);
-  put(at("span"), `${when(told.from)} to ${when(told.to)} · a bar is ${length(step)}${least.length ? " · hatched bars have 1,000 or more" : ""}`);
+  put(at("total"), `${number(told.total)} ${told.total === 1 ? "match" : "matches"}`);
+  put(at("span"), `${when(told.from)} to ${when(told.to)} · a bar is ${length(step)}`);
 }
 
 function placeOf(event) {
@@ -69,9 +63,9 @@ function mark(kind, one, other) {
 }
 function tell(place) {
   const told = chart.querySelector(".told");
-  const { counts, least, first, step } = shown;
+  const { counts, first, step } = shown;
   told.hidden = false;
-  put(told, `${when(first + place * step)} + ${length(step)}: ${least.includes(place) ? "at least " : ""}${number(counts[place] ?? 0)}`);
+  put(told, `${when(first + place * step)} + ${length(step)}: ${number(counts[place] ?? 0)}`);
   const left = ((place + 0.5) / counts.length) * 100;
   told.style.left = left < 60 ? `${left}%` : "auto";
   told.style.right = left < 60 ? "auto" : `${100 - left}%`;

@@ -6,12 +6,12 @@ const box = at("fields");
 const open = new Set(["level", "source"]);
 let path = () => "";
 
-function valueOf(name, value, count, of, exact) {
+function valueOf(name, value, count, of) {
   const bar = make("i", "");
   bar.style.width = `${Math.max(1, Math.round((72 * count) / Math.max(of, 1)))}%`;
   const text = make("span", "", value);
   text.title = value;
-  return make("li", "", bar, text, make("b", "", `${exact ? "" : "≥"}${number(count)}`), ...signs(name, value));
+  return make("li", "", bar, text, make("b", "", number(count)), ...signs(name, value));
 }
 
 async function countAll(field, list, note) {
@@ -19,13 +19,13 @@ async function countAll(field, list, note) {
     const { values } = await ask(path("/values", { name: field.name }));
     if (!values.length) return;
     const most = Math.max(...values.map((each) => each[1]));
-    list.replaceChildren(...values.map(([value, count, exact]) => valueOf(field.name, value, count, most, exact)));
+    list.replaceChildren(...values.map(([value, count]) => valueOf(field.name, value, count, most)));
     put(note, "");
   } catch { /* the counts of the newest stay */ }
 }
 
 function fieldOf(field, of) {
-  const list = make("ul", "", ...field.values.map(([value, count]) => valueOf(field.name, value, count, of, true)));
+  const list = make("ul", "", ...field.values.map(([value, count]) => valueOf(field.name, value, count, of)));
   const note = make("span", "", field.distinct > field.values.length ? `${number(field.distinct)} values` : "");
   const summary = make("summary", "", make("b", "", field.name), make("span", "", number(field.distinct)));
   summary.title = `${number(field.distinct)} values in ${number(field.in)} of ${number(of)} messages`;
