@@ -76,6 +76,7 @@ def random_logs(folder, rounds):
                 if len(want) > 20:
                     check("seed %d, %s: older ones" % (seed, query), want[20:40], loader.ask(query, 20, want[19])[1])
                 check("seed %d, %s: all" % (seed, query), want, all_of(loader, query))
+                check("seed %d, %s: how many" % (seed, query), (loader.ask(query, 1)[0], len(want)), loader.count(query))
             some = sorted(chance.sample(range(1, len(lines) + 1), 50))
             check("seed %d: lines again" % seed, [(at, lines[at - 1][:-1] if lines[at - 1].endswith(b"\r") else lines[at - 1]) for at in some],
                   [(line, data) for _, _, line, data in loader.blocks.lines(some)])
@@ -94,6 +95,7 @@ def dropped(folder):
         got, want = all_of(loader, "w1"), found_plainly(map(words_of, lines), "w1")
         check("from there on all are there", [it for it in want if it >= first], [it for it in got if it >= first])
         check("and what is older is a match", [], [it for it in got if it not in want])
+        check("what is there is counted", len(got), loader.count("w1")[1])
         check("blocks of dropped lines are forgotten", [], lines_at(loader, [1]))
         check("and others aren't", [lines[it - 1][:-1] if lines[it - 1].endswith(b"\r") else lines[it - 1] for it in got], list(reversed(lines_at(loader, got[::-1]))))
     loading.LEAST, loading.MOST_PART = before
@@ -110,6 +112,9 @@ def json_lines(folder):
         check("JSON: lines that are none are texts", [3003, 3002, 3001], loader.ask("w1", 3)[1])
         check("JSON: members beside the text are words of it", [3000], loader.ask("at 2999", 5)[1])
         check("JSON: all", 3003, loader.ask("w1", 1)[0])
+        # (429 rows, 1, 8 .. 2997, and the three lines behind them; each second row; behind line 2990 the rows 2990 and 2997, and the three)
+        counted = [loader.count(*asked)[1] for asked in (("w1",), ("level:error",), ("-level:error",), ("w1", 2990), ("w1 level:none",))]
+        check("JSON: counts", [432, 1500, 1503, 5, 0], counted)
     write(path, "".join(json.dumps({"id": 7, "text": "w1 %d" % n, "user": "Mara"}) + " \n" for n in range(50)))
     with loaded([path]) as loader:
         check("JSON: ids of their own are members like others", list(range(50, 30, -1)), loader.ask("w1 user:mara", 20)[1])

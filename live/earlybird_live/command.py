@@ -125,8 +125,7 @@ def once(loader, shown, asked, shows):
     query = asked.query
     wait_until_loaded(loader, shows)
     if asked.count:
-        loader.ask(query, 1)
-        count = sum(len(page) for page in loader.pages(query))
+        _, count = loader.count(query)
         print(count)
         return 0 if count else 1
     came = follow(loader, query)[0] if asked.follow else None

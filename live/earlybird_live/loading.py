@@ -59,15 +59,23 @@ class Loader(threading.Thread):
 
     def ask(self, query, count, before=None, behind=None):
         """Parts.ask, of a query as it was typed; a refusal's column is counted in its characters."""
+        return self._answered(lambda line: self.parts.ask(line, count, before, behind), query) or (0, [])
+
+    def count(self, query, behind=None):
+        """Parts.count, of a query as it was typed."""
+        return self._answered(lambda line: self.parts.count(line, behind), query) or (0, 0)
+
+    def _answered(self, call, query):
+        """What comes of a query as it was typed, or None where no index is there."""
         place = next((query.find(end) for end in "\n\r" if end in query), None)
         if place is not None:
             raise Refused("a query is one line", place + 1)
         if not self._is_there():
-            return 0, []
+            return None
         asked = Asked(query, self.fields)
         line = as_bytes(asked.text)
         try:
-            return self._locked(self.parts.ask, line, count, before, behind)
+            return self._locked(call, line)
         except Refused as fault:
             column = fault.column and asked.column(len(line[:fault.column - 1].decode("utf-8", "ignore")) + 1)
             raise Refused(fault.name, column) from None
@@ -137,7 +145,7 @@ class Loader(threading.Thread):
             self.with_source = len(others) < MOST_FIELDS
             self.fields = (*others, "file") if self.with_source else tuple(others)
         self.documents = Documents(self.fields, self.text, self.with_source)
-        self.parts = Parts([*self._program, "run", "--json"] + (["--fields=" + ",".join(self.fields)] if self.fields else []), self._most)
+        self.parts = Parts([*self._program, "run", "--json", "--counts"] + (["--fields=" + ",".join(self.fields)] if self.fields else []), self._most)
         mean = max(1, sum(map(len, lines)) / max(1, len(lines)))
         self._expected = self.sized / mean if self.sized else 0
         self._begin(self.blocks.next)

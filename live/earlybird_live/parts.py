@@ -81,16 +81,16 @@ class Part:
         return asked
 
     def end(self, asked):
-        """The answer to a query: the number of messages that were there, and ids."""
+        """The answer to a query, as the program tells it with `--json`."""
         asked[0].wait()
         if asked[1] is None:
             raise Gone(self._ending())
         if "refused" in asked[1]:
             raise Refused(asked[1]["refused"], asked[1].get("column"))
-        return asked[1]["seen"], asked[1]["ids"]
+        return asked[1]
 
     def ask(self, query):
-        """Both."""
+        """Both: sends it, and gives its answer."""
         return self.end(self.begin(query))
 
     def settle(self):
@@ -174,8 +174,16 @@ class Parts:
         """How many messages there are, and the newest `count` that match, newest first: those with a number below `before` and above `behind`,
         where these are given."""
         # (a late line is before newer ones in an answer: asked for as many more, none of the newest is missing)
-        line = bounded(query, before, behind)
-        heads = [b"?%d " % min(MOST, count + part.late) for part in self.all]
+        told = self._answers([b"?%d " % min(MOST, count + part.late) for part in self.all], query, bounded(query, before, behind))
+        return sum(each["seen"] for each in told), heapq.nlargest(count, [it for each in told for it in each["ids"]])
+
+    def count(self, query, behind=None):
+        """How many messages there are, and how many of them match: those with a number above `behind`, where it is given."""
+        told = self._answers([b"# " for _ in self.all], query, bounded(query, None, behind))
+        return sum(each["seen"] for each in told), sum(each["count"] for each in told)
+
+    def _answers(self, heads, query, line):
+        """What each program answers to its head and the line, which is the query or begins with it. All work beside each other."""
         begun = [part.begin(head + line) for part, head in zip(self.all, heads)]
         told = []
         for part, head, asked in zip(self.all, heads, begun):
@@ -185,14 +193,14 @@ class Parts:
                 # (told of the query alone, in which nothing stands before it)
                 before_query = len(head) + line.startswith(b"(" + query) * (line != query)
                 raise Refused(fault.name, fault.column and max(1, fault.column - before_query)) from None
-        return sum(seen for seen, _ in told), heapq.nlargest(count, [it for _, ids in told for it in ids])
+        return told
 
     def pages(self, query, behind=None):
         """All that match, of one part after the other, newest first, in pages of at most 1,000."""
         for part in reversed(list(self.all)):
             before = None
             while part in self.all:
-                ids = part.ask(b"?%d %s" % (MOST, bounded(query, before, behind)))[1]
+                ids = part.ask(b"?%d %s" % (MOST, bounded(query, before, behind)))["ids"]
                 if len(ids) == MOST and part.late:
                     yield from self._by_number(part, query, before, behind)
                     break
@@ -205,7 +213,7 @@ class Parts:
         """The same of a part with late lines, by bounds of 1,000 numbers, since the newest of an answer aren't the greatest numbers there."""
         high = part.last if before is None else before - 1
         while part in self.all and high >= part.first and high > (behind or 0):
-            yield sorted(part.ask(b"?%d %s" % (MOST, bounded(query, high + 1, max(high - MOST, behind or 0))))[1], reverse=True)
+            yield sorted(part.ask(b"?%d %s" % (MOST, bounded(query, high + 1, max(high - MOST, behind or 0))))["ids"], reverse=True)
             high -= MOST
 
     def close(self):

@@ -216,8 +216,7 @@ class Prompt:
 
     def _count(self, query):
         begun = time.monotonic()
-        seen, _ = self._loader.ask(query, 1)
-        count = sum(len(page) for page in self._loader.pages(query))
+        seen, count = self._loader.count(query)
         self.say("-- %s of %s; %s" % (grouped(count), self.progress(seen), span(time.monotonic() - begun)))
 
     def _follow(self, query):
@@ -268,18 +267,17 @@ def why(line, fault):
     return " " * (fault.column + 1) + "^ " + reason
 
 
-def whenever_grown(loader, query, take):
-    """Has `take` called on the loader's thread with the numbers of new matches, where some came; with None at the end of all sources; and
-    where the query is refused or can't be asked, with that fault. Gives what ends it."""
+def whenever_grown(loader, query, ask, take):
+    """Has `take` called on the loader's thread with what `ask` finds of the query among lines behind one of a number, where some match; with
+    None at the end of all sources; and where the query is refused or can't be asked, with that fault. Gives what ends it."""
     last = [loader.blocks.next - 1]
 
     def grown():
         try:
             newest = loader.blocks.next - 1
             if newest > last[0]:
-                pages = list(loader.pages(query, last[0]))
+                found = ask(query, last[0])
                 last[0] = newest
-                found = [number for page in pages for number in page]
                 if found:
                     take(found)
         except (Refused, Gone) as fault:
@@ -296,9 +294,9 @@ def whenever_grown(loader, query, take):
 
 
 def follow(loader, query):
-    """A queue of what `whenever_grown` gives, and what ends it."""
+    """A queue of the numbers of new matches, as `whenever_grown` gives them, and what ends it."""
     came = queue.Queue()
-    return came, whenever_grown(loader, query, came.put)
+    return came, whenever_grown(loader, query, lambda *asked: [number for page in loader.pages(*asked) for number in page], came.put)
 
 
 class Watch:
@@ -307,13 +305,13 @@ class Watch:
     def __init__(self, loader, query):
         self.count = 0
         self.fault = None
-        self.stop = whenever_grown(loader, query, self._take)
+        self.stop = whenever_grown(loader, query, lambda *asked: loader.count(*asked)[1], self._take)
 
     def _take(self, found):
         if isinstance(found, Exception):
             self.fault = found
         elif found:
-            self.count += len(found)
+            self.count += found
 
 
 def new_matches(came):
