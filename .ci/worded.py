@@ -13,7 +13,7 @@ from terminal import on_a_terminal
 
 ROOT = os.getcwd()
 PROGRAM = os.path.join(ROOT, "earlybird")
-TABLE = os.path.join(ROOT, "share/earlybird/words.awk")
+TABLE, WORDED = (os.path.join(ROOT, "share/earlybird", it) for it in ("table.awk", "words.awk"))
 LISTS = 5000
 # letters by which lists of words are told apart
 WORD, LINE = "\x1e", "\x1d"
@@ -97,12 +97,12 @@ class Made:
 def ask_table(mode, words):
     """What the table says of words, as the launcher asks it."""
     how = {"stdout": subprocess.PIPE, "stderr": subprocess.STDOUT, "env": {**os.environ, "LC_ALL": "C"}}
-    return subprocess.run(["awk", "-v", "mode=" + mode, "-f", TABLE, "--", *words], **how).stdout.decode("utf-8", "replace")
+    return subprocess.run(["awk", "-v", "mode=" + mode, "-f", TABLE, "-f", WORDED, "--", *words], **how).stdout.decode("utf-8", "replace")
 
 
 def reasons(lists):
     """What the table says of each of many lists, in one run: its functions over lists that are lines."""
-    with open(TABLE, encoding="utf-8") as file:
+    with open(WORDED, encoding="utf-8") as file:
         functions = re.sub(r"^BEGIN \{.*?^\}$", "", file.read(), flags=re.M | re.S)
     loop = functions + """
         BEGIN {
@@ -121,7 +121,7 @@ def reasons(lists):
     with tempfile.NamedTemporaryFile("w", suffix=".awk", encoding="utf-8") as file:
         file.write(loop)
         file.flush()
-        done = subprocess.run(["awk", "-f", file.name], input=text.encode(), stdout=subprocess.PIPE, env={**os.environ, "LC_ALL": "C"}, check=True)
+        done = subprocess.run(["awk", "-f", TABLE, "-f", file.name], input=text.encode(), stdout=subprocess.PIPE, env={**os.environ, "LC_ALL": "C"}, check=True)
     return done.stdout.decode("utf-8", "replace").splitlines()
 
 

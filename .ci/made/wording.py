@@ -1,8 +1,8 @@
-"""Why words ask for no command, and the numbers that a size in memory stands for: a program in POSIX awk over the table, which the launcher
-asks where standard error is a terminal, and wherever --memory is given."""
+"""The table of commands and options as share/earlybird/words.awk reads it: that says in POSIX awk why words ask for no command, and the
+numbers that a size in memory stands for. The launcher asks it where standard error is a terminal, and wherever --memory is given."""
 from made.commands import ALONE, COMMANDS, LETTERS, MOST_MEMORY, OPTIONS, POWERS, SETTLED, alternatives, excluded
 
-MADE = "# Made by .ci/pages from .ci/made/commands.py and .ci/made/words.awk.\n"
+MADE = "# Made by .ci/pages from .ci/made/commands.py: what words.awk knows of commands and options.\n"
 
 
 def quoted(text):
@@ -32,8 +32,8 @@ def of_option(name, it):
     return ["    %s[%s] = %s" % (what, quoted(name), value if isinstance(value, int) else quoted(value)) for what, value in rows]
 
 
-def table():
-    """The table as assignments in awk."""
+def text():
+    """The table as a function of awk."""
     rows = ["    most = %d" % MOST_MEMORY, "    commands = %s" % quoted(" ".join(COMMANDS)), "    alone = %s" % quoted(" ".join([*ALONE, *LETTERS, "help"])),
             "    settled_by_memory = %s" % quoted(" ".join(SETTLED))]
     for name, it in OPTIONS.items():
@@ -47,9 +47,4 @@ def table():
             apart = excluded(name, option)
             if apart:
                 rows.append("    apart[%s] = %s" % (quoted(name + " " + option), quoted(" ".join(apart))))
-    return "\n".join(rows)
-
-
-def text(logic):
-    """The whole program, over this logic."""
-    return MADE + "function set_table() {\n" + table() + "\n}\n\n" + logic
+    return MADE + "function set_table() {\n" + "\n".join(rows) + "\n}\n"

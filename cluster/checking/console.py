@@ -1,6 +1,5 @@
 """The console over a cluster: `earlybird-console --cluster`."""
 import concurrent.futures
-import http.client
 import json
 import os
 import signal
@@ -9,6 +8,7 @@ import sys
 import urllib.parse
 
 from earlybird_cluster.words import ROOT
+from http_client import ask
 
 from .stage import PROGRAM, Stage, check, until
 
@@ -36,13 +36,8 @@ class Console:
 
     def ask(self, method, path, body=None):
         """The status and the value of an answer."""
-        connection = http.client.HTTPConnection("127.0.0.1", self.port, timeout=60)
-        try:
-            connection.request(method, path, body)
-            answer = connection.getresponse()
-            return answer.status, json.loads(answer.read())
-        finally:
-            connection.close()
+        status, data = ask(self.port, method, path, body)
+        return status, json.loads(data)
 
     def post(self, lines):
         """Posts lines, and returns what the console reports of them."""

@@ -5,7 +5,7 @@ import time
 
 from earlybird_cluster import LOST, names
 
-from .stage import Stage, check, text_of, until
+from .stage import Stage, check, send, text_of, until
 
 
 def run(messages=1000000, kills=20):
@@ -23,7 +23,7 @@ def run(messages=1000000, kills=20):
                 killer = threading.Thread(target=_kill, args=(stage, kills, messages, killed))
                 killer.start()
                 adding = stage.start("add", "--client", "long")  # the client dies, too
-                _feed(adding, text[:len(text) // 3])
+                send(adding, text[:len(text) // 3])
                 adding.kill()
                 adding.communicate()
             printed, status, said = stage.command("--patience", "30", "add", "--client", "long", text=text)
@@ -44,14 +44,6 @@ def run(messages=1000000, kills=20):
             want += [b"seen %d:%b" % (messages, b"".join(b" %d" % each for each in found[:most])) for found in ([number], both)]
         check("%d answers after it" % len(queries), want, stage.ask_all(queries))
         print("cluster: %d messages in %.0f s, %d kills (%d of Redis), %d adds" % (messages, seconds, len(killed), killed.count("redis"), adds))
-
-
-def _feed(process, text):
-    try:
-        process.stdin.write(text)
-        process.stdin.flush()
-    except BrokenPipeError:
-        pass
 
 
 def _kill(stage, kills, messages, killed):

@@ -8,7 +8,7 @@ from earlybird_cluster import OtherInput, names
 from earlybird_cluster.adding import Adder, Block
 from earlybird_cluster.lines import blocks_of
 
-from .stage import Stage, check, numbered, text_of, until
+from .stage import Stage, check, numbered, send, text_of, until
 
 
 def run():
@@ -37,7 +37,7 @@ def _client_dies(stage):
     check("an input that was cut off within a line", (1, True), (status, "it isn't added" in said))
     for place in (300000, 900000, 1300000):
         adding = stage.start("add", "--client", "monday")
-        _send(adding, text[:place])
+        send(adding, text[:place])
         time.sleep(random.random() / 10)
         adding.kill()
         adding.communicate()
@@ -49,14 +49,6 @@ def _client_dies(stage):
     once(stage, "each line once after that", 1, 40000)
     check("the numbers go on", 0, stage.command("add", "--client", "monday", "--first", "40001", text=text_of(numbered(range(40001, 40011))))[1])
     once(stage, "each line once with those", 1, 40010)
-
-
-def _send(process, text):
-    try:
-        process.stdin.write(text)
-        process.stdin.flush()
-    except BrokenPipeError:
-        pass
 
 
 def _names(stage):

@@ -1,11 +1,12 @@
 """The cluster over HTTP."""
 import contextlib
-import http.client
 import json
 import os
 import signal
 import socket
 import threading
+
+from http_client import ask
 
 from .stage import Stage, check, numbered, text_of
 
@@ -21,13 +22,7 @@ class Client:
 
     def ask(self, method, path, body=None, **head):
         """The status and the body of an answer."""
-        connection = http.client.HTTPConnection("127.0.0.1", self.port, timeout=60)
-        try:
-            connection.request(method, path, body, {key.replace("_", "-"): value for key, value in head.items()})
-            answer = connection.getresponse()
-            return answer.status, answer.read()
-        finally:
-            connection.close()
+        return ask(self.port, method, path, body, **head)
 
     def end(self):
         """Ends it: its status."""

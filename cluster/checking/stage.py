@@ -7,8 +7,8 @@ import signal
 import subprocess
 import sys
 import tempfile
-import time
 
+from comparing import FAILED, PASSED, check, wait_for  # noqa: F401 (for the other parts)
 from earlybird_cluster import Router, machine, names
 from earlybird_cluster.entries import documents_of
 from earlybird_cluster.words import ROOT
@@ -16,26 +16,11 @@ from earlybird_cluster.words import ROOT
 PROGRAM = os.environ.get("EARLYBIRD_PROGRAM", os.path.join(ROOT, "earlybird"))
 COMMAND = machine.COMMAND
 WORDS = ["w%d" % number for number in range(400)]
-PASSED, FAILED = [], []
-
-
-def check(name, want, got):
-    """Counts a comparison, and shows one that fails."""
-    if want == got:
-        PASSED.append(name)
-    else:
-        FAILED.append(name)
-        print("%s\n  want %.300r\n  got  %.300r" % (name, want, got), flush=True)
 
 
 def until(what, seconds=30.0):
     """Waits until it holds, for so long at most. Gives whether it does."""
-    end = time.monotonic() + seconds
-    while not what():
-        if time.monotonic() > end:
-            return False
-        time.sleep(0.05)
-    return True
+    return wait_for(True, lambda: bool(what()), seconds)
 
 
 # ---- what goes in
@@ -90,6 +75,15 @@ def run_alone(words, documents, queries):
 def bare(printed):
     """Printed lines without their numbers."""
     return [line.split(b" ", 1)[1] for line in printed.splitlines()]
+
+
+def send(process, text):
+    """Gives text to a process, which may have ended."""
+    try:
+        process.stdin.write(text)
+        process.stdin.flush()
+    except BrokenPipeError:
+        pass
 
 
 def interrupted(lines, place, act):

@@ -7,9 +7,9 @@ import tempfile
 import time
 
 import earlybird_console  # noqa: F401 (it finds what it shares)
+from comparing import FAILED, PASSED, check
 
 from . import browser
-from .compare import FAILED, PASSED, check
 from .counting import check_counts
 from .hostile import check_hostile
 from .machine import Machine, complaints

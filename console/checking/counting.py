@@ -3,7 +3,8 @@ import json
 import os
 import random
 
-from .compare import check
+from comparing import check
+
 from .machine import Machine
 from .made import BASE
 

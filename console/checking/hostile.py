@@ -8,7 +8,8 @@ import threading
 import time
 import urllib.parse
 
-from .compare import check, wait_for
+from comparing import check, wait_for
+
 from .machine import Machine, memory
 
 # limits that let a check end soon

@@ -1,6 +1,5 @@
 """A console of its own, requests to it, and what the index program says alone."""
 import contextlib
-import http.client
 import json
 import os
 import re
@@ -10,6 +9,8 @@ import subprocess
 import sys
 import time
 import urllib.parse
+
+from http_client import ask
 
 # a console with limits of a check's own, given as words NAME=NUMBER before its own words
 LIMITED = """
@@ -99,13 +100,7 @@ class Machine:
 
     def ask(self, method, path, body=None, **headers):
         """One request: its status and the answer's bytes."""
-        connection = http.client.HTTPConnection("127.0.0.1", self.port, timeout=60)
-        try:
-            connection.request(method, path, body, {name.replace("_", "-"): value for name, value in headers.items()})
-            answer = connection.getresponse()
-            return answer.status, answer.read()
-        finally:
-            connection.close()
+        return ask(self.port, method, path, body, **headers)
 
     def value(self, method, path, body=None, **headers):
         """One request: its status and its value."""

@@ -5,8 +5,9 @@ import random
 import time
 import urllib.parse
 
+from comparing import check, wait_for
+
 from .browser import KEYS, Browser
-from .compare import check, wait_for
 from .machine import Machine
 from .made import MARKUP, SCRIPTS, make_harmful
 

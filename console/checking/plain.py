@@ -4,6 +4,7 @@ import os
 import random
 import sqlite3
 
+from comparing import check
 from earlybird_console import limits
 from earlybird_console.alerts import Watch
 from earlybird_console.answers import axis
@@ -18,7 +19,6 @@ from earlybird_console.shown import as_csv, shown_line
 from earlybird_console.texts import BEFORE, Texts, TextsFault
 from earlybird_logs import message
 
-from .compare import check
 
 # 2026-11-30 12:00 UTC
 NOW = 1796040000000

@@ -13,7 +13,8 @@ import sys
 import threading
 import time
 
-from .compare import check, wait_for
+from comparing import check, wait_for
+
 from .machine import COMMAND, PROGRAM, Events, Machine
 from .made import ASKED, BASE, DAY, MARKUP, Made, make_harmful
 

@@ -1,13 +1,12 @@
 """Queries as operators write them, as the index gets them: times become ids, and `name:value` a value of the field that the name chooses. All
 is read from left to right, once, without recursion."""
-import bisect
 import collections
 import re
 
 from earlybird_logs import pieces
 from earlybird_logs.fields import value_asked
 from earlybird_logs.hints import meant
-from earlybird_logs.query import LEXEME
+from earlybird_logs.rewriting import Rewritten
 from earlybird_logs.words import words
 
 from . import limits, ranges
@@ -27,7 +26,7 @@ class Refused(Exception):
         self.why = why
 
 
-class Named(pieces.Asked):
+class Named(Rewritten):
     """A query without names and times of its own. `fields` are the (name, value) that it asks for."""
 
     def __init__(self, query, names, now):
@@ -38,32 +37,9 @@ class Named(pieces.Asked):
         self._repeated = collections.Counter()
         super().__init__(query)
 
-    def _read(self):
-        query, place = self._query, 0
-        while True:
-            found = LEXEME.match(query, place)
-            if not found:
-                break
-            begin, end = found.start(), found.end()
-            _, quoted, _, bare = found.groups()
-            if bare is None:
-                self._put(query[begin:end], begin)
-                if quoted:
-                    self._bound_work(quoted, begin)
-            elif bare.startswith(("since:", "until:")):
-                self._put(query[begin:found.start(4)], begin)
-                self._put(self._bound(bare, found.start(4)), found.start(4))
-            else:
-                self._put(query[begin:found.start(4)], begin)
-                end = self._bare(bare, found.start(4), end)
-            place = end
-        self._put(query[place:], place)
-
-    def column(self, column):
-        """The column of the query, from 1, for one of the text: what replaces a name and a value is longer than these are."""
-        at = bisect.bisect_right(self._begins, column - 1) - 1
-        end = self._from[at + 1] if at + 1 < len(self._from) else len(self._query)
-        return min(self._from[at] + column - 1 - self._begins[at], end) + 1
+    def _quoted(self, lexeme, quoted, place):
+        self._put(lexeme, place)
+        self._bound_work(quoted, place)
 
     def _bound_work(self, text, place):
         found = [word for _, _, word in words(pieces.apart(text))]
@@ -82,7 +58,10 @@ class Named(pieces.Asked):
         return "%ssince:%d" % ("-" if bare.startswith("until") else "", first_key(when) - 1)
 
     def _bare(self, bare, begin, end):
-        """A word, or a field where a known name stands before a colon; gives the place behind it."""
+        """A bound of time, a word, or a field where a known name stands before a colon."""
+        if bare.startswith(("since:", "until:")):
+            self._put(self._bound(bare, begin), begin)
+            return end
         name = self._name_of(bare)
         if name is None:
             self._put(bare, begin)

@@ -2,8 +2,9 @@
 import signal
 import tempfile
 
+from comparing import FAILED, PASSED
+
 from . import commands, growing, harmful, logs
-from .compare import FAILED, PASSED
 
 
 def main(rounds):

@@ -8,12 +8,13 @@ import subprocess
 import sys
 import time
 
+from comparing import check
 from earlybird_live.command import make_parser, read_words
 from made.commands import COMMANDS, OPTIONS
 from terminal import Terminal
 from terminal import on_a_terminal as shown_on_a_terminal
 
-from .compare import PROGRAM, check, write
+from .loads import PROGRAM, write
 
 # seconds for the first answer over a large log, where much else runs
 SOON = 4

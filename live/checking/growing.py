@@ -4,9 +4,10 @@ import io
 import os
 import threading
 
+from comparing import check, wait_for
 from earlybird_live.prompt import MOST_WATCHED, Prompt, follow, new_matches
 
-from .compare import check, lines_at, loaded, wait_for, write
+from .loads import lines_at, loaded, write
 
 
 def files(folder):

@@ -2,13 +2,14 @@
 import os
 import random
 
+from comparing import check
 from earlybird_live import sources
 from earlybird_live.blocks import Blocks, lines_of
 from earlybird_live.documents import Documents, fields_of
 from earlybird_live.parts import Gone, Refused
 from earlybird_live.sources import LONGEST, Source, Spool
 
-from .compare import check, lines_at, loaded, write
+from .loads import lines_at, loaded, write
 
 HARMFUL = [
     b"\x00" * 100, b"\x00w1", b"\x1b[31mw1\x07", b"\xff\xfe w1", b'{"id":1,"text":"w1"} x', b'{"text":"w1","text":"w2"}', b'{"text":"\\ud800 w1"}', b"[" * 9000, b'{"a":' * 9000,

@@ -4,13 +4,14 @@ import json
 import os
 import random
 
+from comparing import check
 from earlybird_live import documents, loading
 from earlybird_logs.marks import met
 from earlybird_logs.pieces import apart
 from earlybird_logs.query import read
 from earlybird_logs.words import words
 
-from .compare import check, lines_at, loaded, write
+from .loads import lines_at, loaded, write
 
 VOCABULARY = ["w%d" % n for n in range(40)] + ["Straße", "can't", "a.b", "x:y", "über", "e-mail", "ERR_TIMEOUT"]
 QUERIES = ["w1", "w1 w2", "w1 -w2", '"w3 w4"', "w5 OR STRASSE", "-w1 -w2 -w3", '"w6 w7"~4', "can't (w1 OR w2)", "e-mail", "err_timeout", "since:100 w1", "a.b", "b", "timeout", "a b", "x:y a.b", "zzz", "-zzz"]

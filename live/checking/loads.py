@@ -1,31 +1,12 @@
-"""Comparisons, counted; and a loader without a command."""
+"""A loader without a command, and the files that it reads."""
 import argparse
 import contextlib
 import os
-import time
 
 from earlybird_live.loading import Loader
 
 ROOT = os.path.dirname(os.path.dirname(os.path.dirname(os.path.abspath(__file__))))
 PROGRAM = os.path.join(ROOT, "earlybird")
-PASSED, FAILED = [], []
-
-
-def check(name, want, got):
-    """Counts a comparison, and shows one that fails."""
-    (PASSED if want == got else FAILED).append(name)
-    if want != got:
-        print("FAILED: %s\n  want %.500r\n  got  %.500r" % (name, want, got), flush=True)
-
-
-def wait_for(want, ask, seconds=30):
-    """Asks until this is the answer, and gives the last one."""
-    ends = time.monotonic() + seconds
-    while True:
-        got = ask()
-        if got == want or time.monotonic() > ends:
-            return got
-        time.sleep(0.02)
 
 
 def write(path, text, mode="wb"):

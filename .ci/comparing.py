@@ -1,4 +1,4 @@
-"""Comparisons, counted."""
+"""Comparisons of a check, counted: for the checks of the console, the cluster, the prompt over logs, and what they share."""
 import time
 
 PASSED, FAILED = [], []
@@ -10,7 +10,7 @@ def check(name, want, got):
         PASSED.append(name)
     else:
         FAILED.append(name)
-        print("FAILED: %s\n  want %.400r\n  got  %.400r" % (name, want, got), flush=True)
+        print("FAILED: %s\n  want %.500r\n  got  %.500r" % (name, want, got), flush=True)
 
 
 def wait_for(want, ask, seconds=30):
