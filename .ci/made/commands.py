@@ -24,7 +24,7 @@ OPTIONS = {
     "workers": Option("N", 1, 16, None, range(1, 17), "answer queries by N threads while messages come in: a query may see later ones"),
     "parts": Option("N", 1, 16, None, range(1, 17), "spread the messages over N indexes by their ids, which have to rise"),
     "watch": Option(text="take lines !N QUERY and !N, which set and remove a watch: each message prints the watches that it matches"),
-    "fields": Option("LIST", None, None, None, (), "find messages by their members of these names, as by from:mara; LIST is 1 to 8 names with commas between"),
+    "fields": Option("LIST", None, None, None, (), "find messages by their members of these names, as by from:mara; LIST is 1 to 8 names with commas between", example="from,level"),
     "words": Option("pieces", None, None, None, ("pieces",), "find words by their pieces too, as billing in com.acme.billing: cut them at each ASCII sign", only=True, example="pieces"),
     "counts": Option(text="take lines # QUERY and #X+W*N QUERY: how many messages match, and how many in each of N buckets, W ids wide, from the id X on; in run not beside --overlap without --parts"),
     "id": Option("NAME", text="the member that is a message's id, in place of id: a whole number, or a string of its digits", example="seq"),

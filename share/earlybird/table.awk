@@ -15,7 +15,7 @@ function set_table() {
     example["parts"] = "1"
     kind["watch"] = "flag"
     kind["fields"] = "LIST"
-    example["fields"] = "None"
+    example["fields"] = "from,level"
     kind["words"] = "pieces"
     only["words"] = "pieces"
     offered["words"] = "pieces"
