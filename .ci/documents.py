@@ -56,10 +56,20 @@ def figures_are_those_measured(check):
     check("README's figures: three rows, with their date", (3, True), (len(shown), date in read("README.md").partition("\n## Why not")[2].partition("\n## ")[0]))
 
 
+def section_of(head):
+    """A section of docs/QUERIES.md."""
+    return read("docs/QUERIES.md").partition("\n## %s\n" % head)[2].partition("\n## ")[0]
+
+
+def printed(program, words, lines):
+    """What the program prints for lines, without its summary."""
+    return subprocess.run([program, *words], input="".join(line + "\n" for line in lines).encode(), stdout=subprocess.PIPE).stdout.decode().splitlines()[:-1]
+
+
 def queries_find(check, program):
     """Each query of the tables of docs/QUERIES.md finds in the messages before it what the table says, without fields and with them."""
     for section, words, least in (("By examples", ["run"], 15), ("Fields", ["run", "--fields", "from,room,level"], 8)):
-        text = read("docs/QUERIES.md").partition("\n## %s\n" % section)[2].partition("\n## ")[0]
+        text = section_of(section)
         messages = re.search(r"^```\n(\{.*?)^```$", text, re.M | re.S).group(1)
         rows = re.findall(r"^\| `(\?\d+ .*?)` \| ([\d ]+|nothing) \|", text, re.M)
         asked = messages + "".join(query.replace("\\|", "|") + "\n" for query, _ in rows)
@@ -67,6 +77,28 @@ def queries_find(check, program):
         found = [line.partition(":")[2].strip() or "nothing" for line in done.splitlines()[:-1]]
         check("docs/QUERIES.md, %s: what its queries find" % section, rows, [(query, ids) for (query, _), ids in zip(rows, found)])
         check("docs/QUERIES.md, %s has queries" % section, True, len(rows) > least)
+
+
+def pieces_find(check, program):
+    """Each text of the table of pieces is found by what stands beside it, and by all of that only with `--words pieces`."""
+    rows = re.findall(r"^\| `(.*?)` \| (`.*`) \|$", section_of("Pieces of words"), re.M)
+    for text, queries in rows:
+        lines = ['{"id":1,"text":"%s"}' % text, *("?9 " + query for query in re.findall("`(.*?)`", queries))]
+        want = ["%d seen 1: 1" % number for number in range(2, len(lines) + 1)]
+        check("docs/QUERIES.md, pieces: %s" % text, want, printed(program, ["run", "--words", "pieces"], lines))
+        check("docs/QUERIES.md, pieces: %s, whole words" % text, False, want == printed(program, ["run"], lines))
+    check("docs/QUERIES.md: the table of pieces", 6, len(rows))
+
+
+def counts_answer(check, program):
+    """Each count of the table, behind the messages of the examples, has the answer that stands beside it."""
+    messages = re.search(r"^```\n(\{.*?)^```$", section_of("By examples"), re.M | re.S).group(1).splitlines()
+    rows = re.findall(r"^\| (`#.*?`) \| (.*?) \|", section_of("Counts"), re.M)
+    counts = [(count, answer.replace("`", "")) for shown, answer in rows for count in re.findall("`(.*?)`", shown)]
+    want = [answer if " count " in answer else "%d %s" % (number, answer) for number, (_, answer) in enumerate(counts, 6)]
+    check("docs/QUERIES.md: counts", want, printed(program, ["run", "--counts"], [*messages, *(count for count, _ in counts)]))
+    check("docs/QUERIES.md: counts, without the option", ["6 refused: bad line"], printed(program, ["run"], [*messages, counts[0][0]]))
+    check("docs/QUERIES.md has counts", 8, len(counts))
 
 
 def names_in(text):
@@ -156,6 +188,8 @@ def try_all(check, program):
     commands_print(check, program)
     figures_are_those_measured(check)
     queries_find(check, program)
+    pieces_find(check, program)
+    counts_answer(check, program)
     files_exist(check)
     definitions_exist(check)
     changes_are_worked(check)
