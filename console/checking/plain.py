@@ -8,6 +8,7 @@ from comparing import check
 from earlybird_console import limits
 from earlybird_console.alerts import Watch
 from earlybird_console.answers import axis
+from earlybird_console.counts import runs
 from earlybird_console.documents import LOW, SLOTS, SPAN, document, first_key, key_of, number_of, shorter, slot_of, time_of
 from earlybird_console.figures import Seconds, nearest
 from earlybird_console.keys import Keys
@@ -145,6 +146,8 @@ def check_times():
              (str(NOW), NOW), (str(NOW // 1000), NOW), ("0", None), ("x", None), ("", None), ("99999999h", None), ("25:00", None), ("2026-13-01", None), ("9" * 30, None), ("\u0661m", None), ("x" * 5000, None)]
     check("times that people write", [want for _, want in cases], [of_word(word, NOW) for word, _ in cases])
     check("times of today and days", True, None not in (of_word("00:00", NOW), of_word("2026-11-30", NOW)) and of_word("12:30", NOW) - of_word("12:00", NOW) == 1800000)
+    check("bars of one length", [[(10, 5, 3)], [(12, 3, 1), (15, 5, 2)], [(12, 3, 1), (15, 5, 1), (20, 1, 1)], [(1, 4, 1)]],
+          [list(runs(edges)) for edges in ([10, 15, 20, 25], [12, 15, 20, 25], [12, 15, 20, 21], [1, 5])])
     chance = random.Random(4)
     for _ in range(2000):
         begin = chance.randrange(1, 1 << 42)

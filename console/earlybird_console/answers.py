@@ -99,15 +99,20 @@ class Answers:
     async def histogram(self, request):
         """How many matches there are, in all and in each bar of a time axis."""
         asked = self._query(request)
-        begin, end, _, _ = self._range(request)
+        since, until, _, _ = self._range(request)
         bars = self._number(request, "bars", 60, limits.BARS, 2)
-        keys = self._console.keys
+        keys, begin, end = self._console.keys, since, until
         if begin is None:
             begin = documents.time_of(keys[0]) if keys else int(time.time() * 1000)
         if end is None:
             end = (documents.time_of(keys[-1]) if keys else begin) + 1
         end = max(end, begin + 1)
         first, step, edges = axis(begin, end, bars)
+        # (nothing is asked for to be left out there)
+        if since is None:
+            edges[0] = max(first, 0)
+        if until is None:
+            edges[-1] = first + step * (len(edges) - 1)
         counts = await self._console.counts.bars(asked, edges)
         await request.answer_json(200, {"from": begin, "to": end, "first": first, "step": step, "counts": counts, "total": sum(counts)})
 

@@ -2,9 +2,19 @@
 a bar of time is a bucket of ids. One line walks all matches, so few are asked at once, and other queries come between them."""
 import asyncio
 import bisect
+import itertools
 
 from . import limits
 from .documents import first_key
+
+
+def runs(edges):
+    """Neighbouring bars of one length, as (where the first begins, the length, how many), for the edges of all bars."""
+    begin = edges[0]
+    for length, bars in itertools.groupby(other - one for one, other in zip(edges, edges[1:])):
+        count = len(list(bars))
+        yield begin, length, count
+        begin += length * count
 
 
 class Counts:
@@ -15,25 +25,20 @@ class Counts:
         self._turns = asyncio.Semaphore(limits.COUNTING)
 
     async def bars(self, asked, edges):
-        """How many matches there are from each edge, a time in milliseconds from 1, to below the next one. The first bar and the last may be
-        shorter than those between, which have one length. Raises Refused where the index refuses the query."""
-        keys, bounds = self._console.keys, [first_key(edge) for edge in edges]
+        """How many matches there are from each edge, a time in milliseconds, to below the next one. The bars between have one length, and the
+        first and the last may be shorter: they are lines of their own then, since bounds of ids would cost more. Raises Refused where the
+        index refuses the query."""
         if asked.everything:
             # (the ids of all messages are here, in order)
-            places = [bisect.bisect_left(keys, bound) for bound in bounds]
+            places = [bisect.bisect_left(self._console.keys, first_key(edge)) for edge in edges]
             return [other - one for one, other in zip(places, places[1:])]
-        head = "#"
-        if len(bounds) > 2:
-            # (the first bar may be shorter, and has what the buckets leave; the last one ends where the range does)
-            head = "#%d+%d*%d" % (bounds[1], bounds[2] - bounds[1], len(bounds) - 2)
-        total, counts = await self._counted(head, asked, bounds[0] - 1, bounds[-1] - 1)
-        return [total - sum(counts), *counts]
+        heads = ["#%d+%d*%d " % (first_key(begin), first_key(length), count) for begin, length, count in runs(edges)]
+        async with self._turns:
+            told = await asyncio.gather(*(self._console.asking.answered(head.encode(), asked, None, None) for head in heads))
+        return [count for _, _, counts in told for count in counts]
 
     async def total(self, asked, low, high):
         """How many matches have an id above `low` and up to `high`, either of which may be None."""
-        return (await self._counted("#", asked, low, high))[0]
-
-    async def _counted(self, head, asked, low, high):
         async with self._turns:
-            _, total, counts = await self._console.asking.answered(head.encode() + b" ", asked, low, high)
-            return total, counts
+            _, total, _ = await self._console.asking.answered(b"# ", asked, low, high)
+            return total
