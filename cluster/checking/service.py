@@ -34,7 +34,7 @@ class Client:
 def run():
     """All of it."""
     with Stage() as stage:
-        check("up", 0, stage.up(2, "--", "run", "--counts"))
+        check("up", 0, stage.up(2))
         service = Client(stage)
         try:
             _documents(service)

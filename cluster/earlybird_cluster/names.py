@@ -77,9 +77,9 @@ def read_config(redis, name):
 
 
 def words_of(redis, name):
-    """The words of the program: those of the cluster that is there, else `run`."""
+    """The words of the program: those of the cluster that is there, else those of an index that counts, too."""
     found = redis.hget(config(name), "words")
-    return ["run"] if found is None else json.loads(found)
+    return ["run", "--counts"] if found is None else json.loads(found)
 
 
 def tags_of(redis, name, parts):

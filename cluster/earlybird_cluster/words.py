@@ -81,7 +81,7 @@ def read_words():
     up.add_argument("--safe", type=at_least(0), metavar="S", help="acknowledge only what S replicas of Redis have, too (0)")
     up.add_argument("--retain", type=at_least(0), metavar="DOCUMENTS", help="cut each log to this many documents, at least; with a feed to what it keeps")
     up.add_argument("--images", metavar="FOLDER", help="workers start from the newest image in it, and the log behind it")
-    up.epilog = "What comes after -- are the program's words: up 4 -- feed --keep 8; without them those of before, at first: run."
+    up.epilog = "What comes after -- are the program's words: up 4 -- feed --keep 8; without them those of before, at first: run --counts."
     command("down", "end all that `up` started in the folder")
     commands.add_parser("supervise", parents=[where])  # what `up` starts
 
