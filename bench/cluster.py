@@ -17,7 +17,7 @@ import time
 ROOT = os.path.dirname(os.path.dirname(os.path.abspath(__file__)))
 sys.path.insert(0, os.path.join(ROOT, "cluster"))
 
-import kept  # noqa: E402
+import result_files  # noqa: E402
 from checking.stage import PROGRAM, Stage, until  # noqa: E402
 from earlybird_cluster.lines import blocks_of  # noqa: E402
 from earlybird_cluster.router import ENTRY  # noqa: E402
@@ -183,7 +183,7 @@ def main():
     parser.add_argument("--out", metavar="FILE", help="where the result goes in place of bench/results/")
     given = parser.parse_args()
     material = made(given.messages)
-    told = kept.begun(messages=given.messages, load_before=os.getloadavg()[0], rounds={})
+    told = result_files.begun(messages=given.messages, load_before=os.getloadavg()[0], rounds={})
     for _ in range(given.rounds):
         told["rounds"].setdefault("pipe", []).append(pipe(*material))
         for parts in (1, 2, 3):
@@ -195,7 +195,7 @@ def main():
     for who, rows in told["rounds"].items():
         print(row(who, rows, whole))
     print("load %.1f before, %.1f after" % (told["load_before"], told["load_after"]))
-    kept.keep(told, "cluster-", given.out)
+    result_files.keep(told, "cluster-", given.out)
 
 
 if __name__ == "__main__":

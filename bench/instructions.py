@@ -9,7 +9,7 @@ twelve segments of 4,000: a rare word, a common one, both of two, one of two, a 
 input takes, or the documents alone, is taken off. Bytes that one instruction sets to 0 (`rep stos`), which callgrind counts one by
 one, are told apart.
 
-With --plain, the same documents and queries by an index in plain Rust (bench/plain, which bench/turns.py builds) stand beside.
+With --plain, the same documents and queries by an index in plain Rust (bench/plain, which bench/plain_rust.py builds) stand beside.
 
 Then each class once more over 20,000 documents in one segment, which holds them in live slices, and over the same segment with one
 document in the next, which closes it, so that it is read from packed lists. And so of leaps: the word `a` stands in each of these
@@ -28,7 +28,7 @@ import subprocess
 import tempfile
 import textwrap
 
-import kept
+import result_files
 from corpora import ROOT, Zipf, made_words
 
 SETTINGS = ["--segments", "12", "--docs", "20000", "--terms", "65536"]
@@ -192,12 +192,12 @@ def main():
     parser.add_argument("--plain", metavar="FILE", help="the program of bench/plain, to be counted beside")
     parser.add_argument("--documents", type=int, default=5_000)
     parser.add_argument("--queries", type=int, default=2_000)
-    kept.takes_files(parser, "count")
+    result_files.takes_files(parser, "count")
     given = parser.parse_args()
     if given.table:
-        return print(table(kept.read(given.table), result_before(given.table)))
+        return print(table(result_files.read(given.table), result_before(given.table)))
     count = lambda settings, text: counted(given.program, ["run", *settings], text)
-    told = kept.begun(documents=given.documents, queries=given.queries)
+    told = result_files.begun(documents=given.documents, queries=given.queries)
     held = zipf_lines(QUERIED_DOCUMENTS)
     asked = {kind: queries(kind, given.queries) for kind in KINDS}
     told["each"] = by_each(count, held, asked, given)
@@ -208,7 +208,7 @@ def main():
     matches = {str(n): min(100, QUERIED_DOCUMENTS // n) for n in LEAPS}
     leaps = live_and_packed(count, leap_lines(QUERIED_DOCUMENTS), {str(n): "?100 a b%d\n" % n * LEAP_QUERIES for n in LEAPS}, LEAP_QUERIES)
     told["leaps"] = {state: {name: round(it / matches[name]) for name, it in whole.items()} for state, whole in leaps.items()}
-    kept.keep(told, "instructions-", given.out)
+    result_files.keep(told, "instructions-", given.out)
     print(table(told))
 
 

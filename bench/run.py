@@ -21,7 +21,7 @@ import sys
 import textwrap
 import time
 
-import kept
+import result_files
 from corpora import KINDS, messages, queries
 from engines import ENGINES
 
@@ -149,17 +149,17 @@ def main():
     parser.add_argument("--queries", type=int, default=5_000)
     parser.add_argument("--seconds", type=float, default=5, help="how long queries are asked beside a writer")
     parser.add_argument("--engines", nargs="+", choices=ENGINES, default=list(ENGINES))
-    kept.takes_files(parser, "measure")
+    result_files.takes_files(parser, "measure")
     parser.add_argument("--one", choices=ENGINES, help=argparse.SUPPRESS)
     options = parser.parse_args()
     if options.table:
-        return print(table(kept.read(options.table)))
+        return print(table(result_files.read(options.table)))
     if options.one:
         documents = list(enumerate(messages(options.documents), 1))
         asked = {kind: queries(kind, options.queries, [words for _, words in documents[:10_000]]) for kind in KINDS}
         return json.dump(measured(ENGINES[options.one](), documents, asked, options.seconds), sys.stdout)
 
-    told = kept.begun(machine=machine(), documents=options.documents, queries=options.queries, engines={}, **{"left out": {}})
+    told = result_files.begun(machine=machine(), documents=options.documents, queries=options.queries, engines={}, **{"left out": {}})
     for key in options.engines:
         engine = ENGINES[key]()
         why = engine.missing()
@@ -172,7 +172,7 @@ def main():
         done = subprocess.run(words, stdout=subprocess.PIPE, check=True)
         told["engines"][engine.name] = {"version": engine.version(), **json.loads(done.stdout)}
     compare(told["engines"])
-    kept.keep(told, "", options.out)
+    result_files.keep(told, "", options.out)
     print(table(told))
 
 

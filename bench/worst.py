@@ -9,7 +9,7 @@ over few and many documents of 1,024 words, over short ones, and in several sett
 
 The processor time of a line is that of a whole run with it, told by the system, less that of the run without it: each the least of
 N runs (2). So a line that takes less than some milliseconds isn't told from none, and nothing here is for comparing programs: that
-do bench/instructions.py and bench/turns.py. Every line has to be answered. Nothing of this runs in the gate. The program is the
+do bench/instructions.py and bench/plain_rust.py. Every line has to be answered. Nothing of this runs in the gate. The program is the
 launcher at the root, if no other is named.
 """
 import argparse

@@ -4,10 +4,10 @@ import concurrent.futures
 import sys
 import time
 
-from . import answers, console, faults, growing, images, long, nodes, pieces, repeats, replicas, service
+from . import answers, console, faults, growing, images, long, nodes, repeats, replicas, service, units
 from .stage import FAILED, PASSED
 
-PARTS = {"pieces": pieces.run, "answers": answers.run, "faults": faults.run, "repeats": repeats.run, "replicas": replicas.run, "growing": growing.run, "images": images.run,
+PARTS = {"units": units.run, "answers": answers.run, "faults": faults.run, "repeats": repeats.run, "replicas": replicas.run, "growing": growing.run, "images": images.run,
          "nodes": nodes.run, "service": service.run, "console": console.run, "kills": lambda: long.run(60000, 4)}
 
 

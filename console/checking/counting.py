@@ -6,7 +6,7 @@ import random
 from comparing import check
 
 from .machine import Machine
-from .made import BASE
+from .messages import BASE
 
 SECOND, MINUTE = 1000, 60_000
 # 1,200 in the third minute, one a millisecond; 300 in one millisecond of the sixth

@@ -9,7 +9,7 @@ from comparing import check, wait_for
 
 from .browser import KEYS, Browser
 from .machine import Machine
-from .made import MARKUP, SCRIPTS, make_harmful
+from .messages import MARKUP, SCRIPTS, make_harmful
 
 IDS = "return [...document.querySelectorAll('#matches > li')].map(each => each.dataset.id)"
 SHOWN = "return [...document.querySelectorAll('#matches .text')].map(each => each.firstElementChild.textContent)"

@@ -16,7 +16,7 @@ import time
 from comparing import check, wait_for
 
 from .machine import COMMAND, PROGRAM, Events, Machine
-from .made import ASKED, BASE, DAY, MARKUP, Made, make_harmful
+from .messages import ASKED, BASE, DAY, MARKUP, Made, make_harmful
 
 SMALL = ("--keep", "2", "--segments", "1", "--docs", "256", "--terms", "1024")
 COUNT = 9000

@@ -10,7 +10,7 @@ import time
 
 from comparing import check
 from earlybird_live.command import make_parser, read_words
-from made.commands import COMMANDS, OPTIONS
+from generators.commands import COMMANDS, OPTIONS
 from terminal import Terminal
 from terminal import on_a_terminal as shown_on_a_terminal
 

@@ -58,7 +58,7 @@ class Parser(argparse.ArgumentParser):
 
 
 def make_parser():
-    """What reads the words; .ci/made/commands.py has the same options, for the help."""
+    """What reads the words; .ci/generators/commands.py has the same options, for the help."""
     parser = Parser(prog="earlybird live", add_help=False, allow_abbrev=False)
     parser.add_argument("files", nargs="*", metavar="FILE")
     parser.add_argument("-f", "--follow", action="store_true")

@@ -1,4 +1,4 @@
-# Made by .ci/pages from .ci/made/commands.py: what words.awk knows of commands and options.
+# Made by .ci/generate from .ci/generators/commands.py: what words.awk knows of commands and options.
 function set_table() {
     most = 1073741824
     commands = "run feed save load bench live console cluster install uninstall build"

@@ -1,4 +1,4 @@
-# Completion of the command earlybird for fish; made by .ci/pages from .ci/made/commands.py.
+# Completion of the command earlybird for fish; made by .ci/generate from .ci/generators/commands.py.
 
 complete -c earlybird -f
 complete -c earlybird -n '__fish_seen_subcommand_from live console cluster' -F

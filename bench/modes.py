@@ -1,8 +1,8 @@
 #!/usr/bin/env python3
 """Times the ways to run over the same lines, in turn, on one, two and four processors.
 
-    python3 bench/ways.py [--program FILE] [--times N] [--out FILE]
-    python3 bench/ways.py --table FILE
+    python3 bench/modes.py [--program FILE] [--times N] [--out FILE]
+    python3 bench/modes.py --table FILE
 
 The ways are order mode, --overlap, and so many parts (1, 2 and 4) with and without --overlap; the lines are 100,000 Zipf
 documents whose ids rise, alone and with a query after each 1,000. Each runs N times (5), in turn with the others, on each
@@ -24,7 +24,7 @@ import textwrap
 import threading
 import time
 
-import kept
+import result_files
 from corpora import ROOT
 from instructions import queries, zipf_lines
 from running import give, started
@@ -123,14 +123,14 @@ def main():
     parser = argparse.ArgumentParser(description=__doc__.split("\n")[0])
     parser.add_argument("--program", default=os.path.join(ROOT, "earlybird"))
     parser.add_argument("--times", type=int, default=5)
-    kept.takes_files(parser, "time")
+    result_files.takes_files(parser, "time")
     given = parser.parse_args()
     if given.table:
-        return print(table(kept.read(given.table)))
-    told = kept.begun(times=given.times, runs={})
+        return print(table(result_files.read(given.table)))
+    told = result_files.begun(times=given.times, runs={})
     for name, text in texts().items():
         told["runs"][name] = {str(count): ways for count, ways in figures(given.program, text, given.times).items()}
-    kept.keep(told, "ways-", given.out)
+    result_files.keep(told, "modes-", given.out)
     print(table(told))
 
 

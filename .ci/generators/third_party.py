@@ -8,7 +8,7 @@ import subprocess
 import sys
 import textwrap
 
-from made.layers import rows_of
+from generators.layers import rows_of
 
 WIDTH = 100
 # the crates that dist/ is built from
@@ -32,7 +32,7 @@ The program and the library for C are built from the crates of this repository, 
 or Apache-2.0 at your choice (`LICENSE-MIT`, `LICENSE-APACHE`), and from crates of the kit of
 Rattle. Most of these were written for the kit after a Rust crate. The table has each crate of the
 kit that the two depend on, directly or through others, by `crates.txt` and the kit's libraries: its
-code may stand in `dist/`. `.ci/pages` makes the page from the kit's folder and compares it: the
+code may stand in `dist/`. `.ci/generate` makes the page from the kit's folder and compares it: the
 version is that of the Rust crate that its README names, and the licence and the copyright are those
 of the texts of its LICENSE files. Where a cell says "not told", the folder says nothing of it.
 """
@@ -121,7 +121,7 @@ def unicode_text(kit, names):
     """The text of Unicode's licence, which is one in all crates that have it."""
     texts = {read(path) for name in names for path in licence_files(os.path.join(kit, "rattle", name)) if path.endswith("-UNICODE")}
     if len(texts) != 1:
-        raise SystemExit("pages: the kit has %d texts of Unicode's licence" % len(texts))
+        raise SystemExit("generate: the kit has %d texts of Unicode's licence" % len(texts))
     return textwrap.indent(texts.pop().strip(), "    ", lambda line: line.strip())
 
 
@@ -143,7 +143,7 @@ def text(now, crates, noted):
     made = page(crates, kit) if kit else now
     if made == now or not now or subprocess.run(["rt", "version"], stdout=subprocess.PIPE).stdout.decode().strip() == noted:
         return made or ""
-    print("pages: docs/THIRD-PARTY.md is of another kit than this one, and isn't compared", file=sys.stderr)
+    print("generate: docs/THIRD-PARTY.md is of another kit than this one, and isn't compared", file=sys.stderr)
     return now
 
 

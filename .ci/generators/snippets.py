@@ -34,7 +34,7 @@ def pieces(comments, read):
         names = named.split("\n")
         found = piece(read(path), names[0], names[-1]) if len(names) <= 2 else None
         if found is None:
-            raise SystemExit("pages: %s has no lines from '%s' to '%s'" % (path, names[0], names[-1]))
+            raise SystemExit("generate: %s has no lines from '%s' to '%s'" % (path, names[0], names[-1]))
         yield found
 
 

@@ -3,7 +3,7 @@ of their layers by crates.txt."""
 import re
 import textwrap
 
-from made.manual import with_parts
+from generators.manual import with_parts
 
 WIDTH = 100
 # what a crate stands on tells its column: these hold lines and texts, and these the index
@@ -97,7 +97,7 @@ def faults(crates):
     """Each crate that has no box, and each that depends on one of a later box."""
     below = stands_on(crates)
     box = {name: at for at, names in enumerate(BOXES.values()) for name in names.split()}
-    out = ["no box of .ci/made/layers.py has the crate `%s`" % name for name in below if name not in box]
+    out = ["no box of .ci/generators/layers.py has the crate `%s`" % name for name in below if name not in box]
     names = list(BOXES)
     for name, its in below.items():
         later = [it for it in its if name in box and box.get(it, -1) > box[name]]

@@ -1,4 +1,4 @@
-"""What .ci/use asks of the documents: commands print what stands below them, the files that are named exist, and lines are short."""
+"""What .ci/test-program asks of the documents: commands print what stands below them, the files that are named exist, and lines are short."""
 import glob
 import os
 import re
@@ -173,7 +173,7 @@ def lines_are_short(check):
         for number, line in outside_code(read(path)):
             if len(line) > WIDTH and not line.lstrip().startswith("|"):
                 long.append("%s:%d" % (path, number))
-    check("no line over %d characters but in tables: .ci/fill FILE" % WIDTH, [], long)
+    check("no line over %d characters but in tables: .ci/wrap-documents FILE" % WIDTH, [], long)
     check("README has at most %d lines" % README_LINES, True, len(read("README.md").splitlines()) <= README_LINES)
 
 

@@ -1,5 +1,5 @@
 """The commands of Earlybird, their words and their numbers: the one table that the help, the completions and the manual are made
-from (.ci/pages), and that .ci/use compares with the program."""
+from (.ci/generate), and that .ci/test-program compares with the program."""
 import re
 import textwrap
 from collections import namedtuple

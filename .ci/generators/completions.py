@@ -1,7 +1,7 @@
 """Completions for bash, zsh and fish: commands, options that are still free, and numbers in their ranges."""
-from made.commands import ALONE, COMMANDS, OPTIONS, excluded, letter_of, range_of, said
+from generators.commands import ALONE, COMMANDS, OPTIONS, excluded, letter_of, range_of, said
 
-MADE = "# Completion of the command earlybird for %s; made by .ci/pages from .ci/made/commands.py.\n"
+MADE = "# Completion of the command earlybird for %s; made by .ci/generate from .ci/generators/commands.py.\n"
 
 
 # commands whose other words are files

@@ -1,4 +1,4 @@
-"""What .ci/use tries of an install: in a clean folder, with an environment of nothing but a home of its own and the commands of the
+"""What .ci/test-program tries of an install: in a clean folder, with an environment of nothing but a home of its own and the commands of the
 system, among which is no rt."""
 import json
 import os
@@ -10,7 +10,7 @@ import tempfile
 import time
 import urllib.request
 
-from made.commands import ABOUT, ALONE, COMMANDS, LICENCE, OPTIONS, VERSION
+from generators.commands import ABOUT, ALONE, COMMANDS, LICENCE, OPTIONS, VERSION
 
 ROOT = os.getcwd()
 FIRST = os.path.join(ROOT, "examples", "first.jsonl")
@@ -103,7 +103,7 @@ def snippet(path, language):
 
 
 def left_out(what, why):
-    print("use: %s isn't tried: %s" % (what, why))
+    print("test-program: %s isn't tried: %s" % (what, why))
 
 
 def the_program(place, first_answers):

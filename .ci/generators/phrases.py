@@ -7,7 +7,7 @@ import tokenize
 
 # what people read: documents, help, and what the packages and the programs in Python say of themselves
 READ = ("*.md", "docs/*.md", "bench/*.md", "crates/*/README.md", "examples/*/README.md", "python/README.md", "rust/README.md", "include/*.h",
-        ".ci/made/commands.py", ".ci/made/helping.py", "share/earlybird/words.awk", "python/src/**/*.py", "rust/src/**/*.rs",
+        ".ci/generators/commands.py", ".ci/generators/helping.py", "share/earlybird/words.awk", "python/src/**/*.py", "rust/src/**/*.rs",
         "console/earlybird_console/page/*.html", "console/earlybird_console/page/*.js")
 # programs of which people read the strings alone, those that document them too
 PROGRAMS = tuple("%s/earlybird_%s/**/*.py" % (it, it) for it in ("console", "cluster", "live", "logs", "web"))

@@ -2,7 +2,7 @@
 import re
 import textwrap
 
-from made.commands import ALONE, COMMANDS, OPTIONS, STATUSES, VERSION, said, synopsis, wrapped
+from generators.commands import ALONE, COMMANDS, OPTIONS, STATUSES, VERSION, said, synopsis, wrapped
 
 WIDTH = 100
 DATE = "2026-11-28"
@@ -37,7 +37,7 @@ def with_parts(text, made=None):
     for name, part in (made or parts()).items():
         mark = re.compile(r"(<!-- made: %s -->\n).*?(<!-- end -->\n)" % name, re.S)
         if not mark.search(text):
-            raise SystemExit("pages: no place is marked for %s" % name)
+            raise SystemExit("generate: no place is marked for %s" % name)
         text = mark.sub(lambda found: found.group(1) + "\n" + part + "\n\n" + found.group(2), text)
     return text
 
@@ -72,7 +72,7 @@ def cells(row):
 def page(text):
     """The manual page that a manual in Markdown is: heads, paragraphs, lists, tables and indented examples."""
     text = re.sub(r"<!--.*?-->\n", "", text, flags=re.S)
-    out = ["'\\\" t", ".\\\" Made by .ci/pages from docs/MANUAL.md.", '.TH EARLYBIRD 1 "%s" "earlybird %s" "User Commands"' % (DATE, VERSION)]
+    out = ["'\\\" t", ".\\\" Made by .ci/generate from docs/MANUAL.md.", '.TH EARLYBIRD 1 "%s" "earlybird %s" "User Commands"' % (DATE, VERSION)]
     for block in re.split(r"\n{2,}(?!    )|\n\n(?=    )", text.strip("\n")):
         block = block.strip("\n")
         if not block or block.startswith("# "):

@@ -1,8 +1,8 @@
 """The table of commands and options as share/earlybird/words.awk reads it: that says in POSIX awk why words ask for no command, and the
 numbers that a size in memory stands for. The launcher asks it where standard error is a terminal, and wherever --memory is given."""
-from made.commands import ALONE, COMMANDS, LETTERS, MOST_MEMORY, OPTIONS, POWERS, SETTLED, alternatives, excluded
+from generators.commands import ALONE, COMMANDS, LETTERS, MOST_MEMORY, OPTIONS, POWERS, SETTLED, alternatives, excluded
 
-MADE = "# Made by .ci/pages from .ci/made/commands.py: what words.awk knows of commands and options.\n"
+MADE = "# Made by .ci/generate from .ci/generators/commands.py: what words.awk knows of commands and options.\n"
 
 
 def quoted(text):

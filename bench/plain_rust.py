@@ -1,8 +1,8 @@
 #!/usr/bin/env python3
 """Times the program and an index in plain Rust in turn, over the same documents and queries.
 
-    python3 bench/turns.py [--program FILE] [--plain FILE] [--times N] [--out FILE]
-    python3 bench/turns.py --table FILE
+    python3 bench/plain_rust.py [--program FILE] [--plain FILE] [--times N] [--out FILE]
+    python3 bench/plain_rust.py --table FILE
 
 The plain one is bench/plain: one map from words to lists, unshared, in memory that grows as it needs. It is built here where
 --plain names none, which wants cargo and Debian's librust-serde-json-dev and librust-unicode-segmentation-dev. The program is the
@@ -33,7 +33,7 @@ import tempfile
 import textwrap
 import threading
 
-import kept
+import result_files
 from corpora import ROOT
 from instructions import KINDS, QUERIED, QUERIED_DOCUMENTS, SETTINGS, made_lines, queries, zipf_lines
 from running import give, started, wait_for_input
@@ -157,14 +157,14 @@ def main():
     parser.add_argument("--program", default=os.path.join(ROOT, "earlybird"))
     parser.add_argument("--plain", help="the plain program, which is built where none is named")
     parser.add_argument("--times", type=int, default=10)
-    kept.takes_files(parser, "time")
+    result_files.takes_files(parser, "time")
     given = parser.parse_args()
     if given.table:
-        return print(table(kept.read(given.table)))
+        return print(table(result_files.read(given.table)))
     plain = given.plain or build()
     both = lambda settings: [[given.program, "run", *settings], [plain]]
     timed = lambda settings, before, lines: in_turn(both(settings), given.times, lambda command: of_lines(command, before, lines))
-    told = kept.begun(times=given.times, seconds={})
+    told = result_files.begun(times=given.times, seconds={})
 
     def tell(name, count, **runs):
         """Keeps the seconds of each run of Earlybird and of plain Rust."""
@@ -178,7 +178,7 @@ def main():
     held = zipf_lines(QUERIED_DOCUMENTS).splitlines(keepends=True)
     for kind in KINDS:
         tell(kind, QUERIES, runs=timed(QUERIED, held, queries(kind, QUERIES).splitlines(keepends=True)))
-    kept.keep(told, "turns-", given.out)
+    result_files.keep(told, "plain-rust-", given.out)
     print(table(told))
 
 

@@ -1,4 +1,4 @@
-"""What .ci/use tries of the words of the command line: each form of help; that there is a reason exactly where the program answers usage, over
+"""What .ci/test-program tries of the words of the command line: each form of help; that there is a reason exactly where the program answers usage, over
 random lists of words; what some wrong words are told; that the numbers of --memory fit and are most of it; and what is said to people on a
 terminal of a closed pipe and of `save`."""
 import os
@@ -8,7 +8,7 @@ import shlex
 import subprocess
 import tempfile
 
-from made.commands import COMMANDS, OPTIONS
+from generators.commands import COMMANDS, OPTIONS
 from terminal import on_a_terminal
 
 ROOT = os.getcwd()

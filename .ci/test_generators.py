@@ -1,11 +1,11 @@
-"""What .ci/use tries of .ci/pages --check: in a copy, each thing that it has to find, and what it finds without a kit, with the kit that
+"""What .ci/test-program tries of .ci/generate --check: in a copy, each thing that it has to find, and what it finds without a kit, with the kit that
 built dist/ and with another one."""
 import contextlib
 import os
 import subprocess
 import tempfile
 
-from made import layers, names, phrases, third_party
+from generators import layers, names, phrases, third_party
 
 KIT = """#!/bin/sh
 case $1 in
@@ -57,7 +57,7 @@ def make_kit(folder, crates):
 
 def try_phrases(check):
     """Each phrase of the list is found, whole or over the end of a line, in any case of letters, and no part of a longer word is one."""
-    listed = read(".ci/made/phrases.txt")
+    listed = read(".ci/generators/phrases.txt")
     instead = dict(phrases.rows(listed))
     # (a list that lost phrases would find fewer)
     check("the list of phrases has none fewer", True, len(instead) >= 58)
@@ -87,7 +87,7 @@ def try_phrases(check):
 def try_boxes(check):
     """A crate without a box, and one that depends on a crate of a later box."""
     crates = "# NAME: the libraries\neb_base: smallvec\neb_gen: eb_base eb_lines\neb_lines staticlib: eb_base\neb_other: eb_gen\n"
-    wanted = ["no box of .ci/made/layers.py has the crate `eb_other`", "`eb_gen`, of the box 'Lines and queries', depends on `eb_lines` of 'Ways to run'"]
+    wanted = ["no box of .ci/generators/layers.py has the crate `eb_other`", "`eb_gen`, of the box 'Lines and queries', depends on `eb_lines` of 'Ways to run'"]
     check("boxes: what is found", wanted, layers.faults(crates))
     check("boxes: each has crates, and no crate is in two", (True, []), (all(layers.BOXES.values()), repeated(" ".join(layers.BOXES.values()).split())))
 
@@ -102,36 +102,36 @@ def try_all(check, a_copy):
     with a_copy() as (copy, commands):
         def told(kit=""):
             how = {"stdout": subprocess.PIPE, "stderr": subprocess.PIPE, "env": {**os.environ, "PATH": commands, "KIT": kit}}
-            done = subprocess.run([os.path.join(copy, ".ci/pages"), "--check"], **how)
+            done = subprocess.run([os.path.join(copy, ".ci/generate"), "--check"], **how)
             return done.stdout.decode().splitlines(), done.stderr.decode().splitlines(), done.returncode
 
         source, readme, other = "crates/line_trials/src/tests/texts.rt", "crates/eb_text/README.md", "crates/eb_gen/README.md"
-        check("pages, without a kit", ([], [], 0), told())
+        check("generated, without a kit", ([], [], 0), told())
         changes = [(source, "bytes.push(b'|')?;", "bytes.push(b'-')?;"), (other, "<!-- code:", "<!-- once:"),
                    ("crates.txt", "eb_gen: eb_base", "eb_gen: eb_base uuid"), *((path, old, new) for path, old, new, _ in PUBLIC),
                    ("README.md", "# Earlybird\n", "# Earlybird, which lets\ngo of messages\n")]
-        wanted = ["%s isn't what .ci/pages makes of its source" % readme, "docs/THIRD-PARTY.md has no row of `uuid`",
+        wanted = ["%s isn't what .ci/generate makes of its source" % readme, "docs/THIRD-PARTY.md has no row of `uuid`",
                   "%s shows code, and no comment above it names its source" % other, "%s names calls, and shows none in use" % other,
-                  "README.md:1 says 'lets go'; write: %s" % dict(phrases.rows(read(".ci/made/phrases.txt")))["lets go"],
+                  "README.md:1 says 'lets go'; write: %s" % dict(phrases.rows(read(".ci/generators/phrases.txt")))["lets go"],
                   *("%s gives no `%s`, which the specification names" % (path.split("/")[1], name) for path, _, _, name in PUBLIC)]
         with contextlib.ExitStack() as stack:
             for it in changes:
                 stack.enter_context(changed(copy, *it))
             printed, said, code = told()
         what = "a changed letter of a README's code, code without a source, a crate of the kit without a row, public names that went, and a phrase"
-        check("pages: " + what, (sorted("pages: " + it for it in wanted), [], 1), (sorted(printed), said, code))
+        check("generate: " + what, (sorted("generate: " + it for it in wanted), [], 1), (sorted(printed), said, code))
         with changed(copy, source, "for term in tokens(alloc, text)?", "for term in tokens(alloc, line)?"):
-            why = "pages: %s has no lines from 'for term in tokens(alloc, text)?.as_slice() {' to '}'" % source
-            check("pages: a line that a README names is gone", ([], [why], 1), told())
+            why = "generate: %s has no lines from 'for term in tokens(alloc, text)?.as_slice() {' to '}'" % source
+            check("generate: a line that a README names is gone", ([], [why], 1), told())
         # (a list that lost names would be found to be there)
-        check("the list of public names has none fewer", True, len(set(names.rows(read(os.path.join(copy, ".ci/made/names.txt"))))) >= 367)
+        check("the list of public names has none fewer", True, len(set(names.rows(read(os.path.join(copy, ".ci/generators/names.txt"))))) >= 367)
         kit, noted = os.path.join(os.path.dirname(copy), "kit"), read(os.path.join(copy, "dist/SOURCES")).splitlines()[1]
         make_kit(kit, read(os.path.join(copy, "crates.txt")))
         write(os.path.join(commands, "rt"), KIT % kit)
         os.chmod(os.path.join(commands, "rt"), 0o755)
-        note = ["pages: docs/THIRD-PARTY.md is of another kit than this one, and isn't compared"]
-        check("pages, with another kit that tells other licences", ([], note, 0), told("other"))
-        check("pages, with the noted kit", (["pages: docs/THIRD-PARTY.md isn't what .ci/pages makes of its source"], [], 1), told(noted))
-        subprocess.run([os.path.join(copy, ".ci/pages")], env={**os.environ, "PATH": commands, "KIT": noted}, stdout=subprocess.DEVNULL, check=True)
+        note = ["generate: docs/THIRD-PARTY.md is of another kit than this one, and isn't compared"]
+        check("generated, with another kit that tells other licences", ([], note, 0), told("other"))
+        check("generated, with the noted kit", (["generate: docs/THIRD-PARTY.md isn't what .ci/generate makes of its source"], [], 1), told(noted))
+        subprocess.run([os.path.join(copy, ".ci/generate")], env={**os.environ, "PATH": commands, "KIT": noted}, stdout=subprocess.DEVNULL, check=True)
         row = "| `serde_json` | `serde_json` 1.2.3 | Unicode-3.0 | Copyright (c) somebody |"
-        check("pages, once it was written by the noted kit", (True, ([], [], 0)), (row in read(os.path.join(copy, "docs/THIRD-PARTY.md")).splitlines(), told("other")))
+        check("generated, once it was written by the noted kit", (True, ([], [], 0)), (row in read(os.path.join(copy, "docs/THIRD-PARTY.md")).splitlines(), told("other")))

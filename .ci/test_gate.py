@@ -1,12 +1,12 @@
-"""What .ci/use tries of the gate: .ci/run in a copy, with a stand-in for the kit, and steps that only say where they run and what they
+"""What .ci/test-program tries of the gate: .ci/run in a copy, with a stand-in for the kit, and steps that only say where they run and what they
 would try. It goes by the bytes of dist/, not by the kit's name, and leaves nothing behind."""
 import os
 import shutil
 import subprocess
 import tempfile
 
-BEFORE = (".ci/edits", ".ci/pages", "crates/rows/plain.py")
-TRIED = (".ci/use", "examples/embed/check", "cluster/check", "console/check")
+BEFORE = (".ci/check-edits", ".ci/generate", "crates/rows/plain.py")
+TRIED = (".ci/test-program", "examples/embed/check", "cluster/check", "console/check")
 
 # proves nothing, and builds what is in $BUILT
 KIT = """#!/bin/sh

@@ -1,7 +1,7 @@
 """The help, as `earlybird --help` prints it."""
 import textwrap
 
-from made.commands import ALONE, COMMANDS, GROUPS, NAME, STATUSES, letter_of, said, shown, synopsis, wrapped
+from generators.commands import ALONE, COMMANDS, GROUPS, NAME, STATUSES, letter_of, said, shown, synopsis, wrapped
 
 WIDTH = 100
 

@@ -1,4 +1,4 @@
-"""What .ci/use tries of docs/RECIPES.md: commands of the page, run as they are over small files, print what they should."""
+"""What .ci/test-program tries of docs/RECIPES.md: commands of the page, run as they are over small files, print what they should."""
 import json
 import os
 import re
@@ -81,7 +81,7 @@ def texts(check, page, folder):
     if shutil.which("sqlite3"):
         check("recipes: CSV", ("4 seen 3: 3 1\n" + end(3), "", 0), run(folder, recipe(page, "names the columns:")))
     else:
-        print("use: the recipe for CSV isn't tried: there is no sqlite3")
+        print("test-program: the recipe for CSV isn't tried: there is no sqlite3")
 
 
 def words_of_logs(check, page, folder):
@@ -146,7 +146,7 @@ def try_all(check):
     with open("docs/RECIPES.md", encoding="utf-8") as file:
         page = file.read()
     if not shutil.which("jq"):
-        print("use: recipes aren't tried: there is no jq")
+        print("test-program: recipes aren't tried: there is no jq")
         return
     with tempfile.TemporaryDirectory(prefix="recipes ") as folder:
         texts(check, page, folder)
