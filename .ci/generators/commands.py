@@ -47,9 +47,9 @@ OPTIONS = {
 
 # A command: its words that aren't options; the options of which at most one is given (`ways`), and the others; and what it does. The
 # launcher has some commands of its own, which the program doesn't know. `beside` says which of the ways may be given together, and
-# `apart` which others may not. Its own help has `about`, what it reads and prints, and `examples`. `parser` is the program that reads
+# `apart` which others may not; `unless` has pairs that may not but beside a third. Its own help has `about`, what it reads and prints, and `examples`. `parser` is the program that reads
 # the command's words, where that is one in Python, and `says` what an option does there, where that differs.
-Command = namedtuple("Command", "words ways options text launcher beside apart about examples parser says", defaults=((), (), (), "", False, {}, {}, "", (), "", {}))
+Command = namedtuple("Command", "words ways options text launcher beside apart about examples parser says unless", defaults=((), (), (), "", False, {}, {}, "", (), "", {}, {}))
 
 SETTING = ("segments", "docs", "terms")
 # what --memory stands for
@@ -66,7 +66,8 @@ COMMANDS = {
                    about=LINES + "\n\nOnce the index is full it refuses the newest messages; feed drops the oldest instead.",
                    examples=(("earlybird run < examples/first.jsonl", "the first answers"), ("{ cat old.jsonl; cat; } | earlybird run", "messages of a file, then ask by hand"),
                              ("earlybird run --memory 800M < big.jsonl", "room for more messages"), ("earlybird run --json < lines.jsonl | jq .", "answers as JSON"),
-                             ("earlybird run --id seq --text message < app.jsonl", "messages whose members have other names"))),
+                             ("earlybird run --id seq --text message < app.jsonl", "messages whose members have other names")),
+                   unless={("overlap", "counts"): "parts"}),
     "feed": Command((), ("overlap", "workers", "watch"), ("keep", "fields", "words", "counts", "id", "text", "stats", "json", *SETTING, "memory"), "the same, without end: the oldest messages go where there is no room", apart={"workers": ("counts", "stats")},
                     about=LINES,
                     examples=(("tail -n +1 -F app.jsonl | earlybird feed --memory 400M", "the newest messages of a log"),

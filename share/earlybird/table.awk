@@ -75,6 +75,7 @@ function set_table() {
     apart["run docs"] = "memory"
     apart["run terms"] = "memory"
     apart["run memory"] = "segments docs terms"
+    unless["run overlap counts"] = "parts"
     takes["feed"] = "overlap workers watch keep fields words counts id text stats json segments docs terms memory"
     apart["feed overlap"] = "workers watch"
     apart["feed workers"] = "overlap watch counts stats"

@@ -146,8 +146,7 @@ function strange(word, option, i,    near) {
     }
     if (word ~ /^-/) {
         sub(/^--?/, "", word); sub(/=.*/, "", word)
-        near = nearest(word, takes[name])
-        if (near == "" && length(word) == 1) near = begins_with(word, takes[name])
+        near = length(word) == 1 ? begins_with(word, takes[name]) : nearest(word, takes[name])
         say("there is no option " plain(ARGV[i]) " of " name (near == "" ? "; earlybird help " name " names all" : ": did you mean --" near "?"))
         return
     }
@@ -229,6 +228,12 @@ function check_list(option, value,    list, n, i, seen) {
 function check_together(    names, n, list, m, i, k, one, other) {
     # (in the order of the table, so that the same words get the same reason on each machine)
     n = split(takes[name], names, " ")
+    for (i = 1; i <= n; i++) for (k = 1; k <= n; k++) if (names[i] in given && names[k] in given && ((name " " names[i] " " names[k]) in unless)) {
+        other = unless[name " " names[i] " " names[k]]
+        if (other in given) continue
+        say("--" names[i] " and --" names[k] " are given together only beside --" other ": leave one of them out")
+        return
+    }
     for (i = 1; i <= n; i++) if (names[i] in given && ((name " " names[i]) in apart)) {
         one = names[i]
         m = split(apart[name " " one], list, " ")
