@@ -20,30 +20,6 @@ from .messages import ASKED, BASE, DAY, MARKUP, Made, make_harmful
 
 SMALL = ("--keep", "2", "--segments", "1", "--docs", "256", "--terms", "1024")
 COUNT = 9000
-# a program that parts words by itself, as `--words pieces` asks for: the index program behind one that parts those of messages and queries
-PIECES = """#!%s -B
-import json, os, subprocess, sys, threading
-words = sys.argv[1:]
-parts = "--words" in words
-if parts:
-    place = words.index("--words")
-    assert words[place + 1] == "pieces"
-    del words[place:place + 2]
-marks = str.maketrans("._:@", "    ")
-inner = subprocess.Popen([%r, *words], stdin=subprocess.PIPE)
-for line in sys.stdin.buffer:
-    if parts and line.startswith(b"{"):
-        members = json.loads(line)
-        assert "com.acme" in members["text"] or "@" in members["text"], members
-        members["text"] = members["text"].translate(marks)
-        line = json.dumps(members).encode() + b"\\n"
-    elif parts and b"com.acme" in line:
-        line = line.replace(b"com.acme", b'"com acme"')
-    inner.stdin.write(line)
-    inner.stdin.flush()
-inner.stdin.close()
-sys.exit(inner.wait())
-"""
 # a journalctl of a check: entries as the journal has them, from behind a cursor
 JOURNAL = """#!%s -B
 import json, os, sys, time
@@ -457,15 +433,11 @@ def check_sources(folder):
 
 
 def check_pieces(folder):
-    """A program that parts words by itself gets texts and queries as they are."""
-    path = os.path.join(folder, "pieces")
-    with open(path, "w", encoding="utf-8") as file:
-        file.write(PIECES % (sys.executable, PROGRAM))
-    os.chmod(path, 0o755)
-    machine = Machine(folder, "--", *SMALL, name="pieces", program=path)
+    """Words are found by their pieces, whatever sign of ASCII joins them; values of fields are whole."""
+    machine = Machine(folder, "--", *SMALL, name="pieces")
     machine.post([b'{"msg":"slow com.acme.Billing","user":"a.b"}', b"by mara@example.org"])
-    found = [len(machine.search(query)) for query in ("billing", "com.acme", "mara", "user:a.b", "user:a", '"a b"')]
-    check("a program that parts words", [1, 1, 1, 1, 0, 1], found)
+    found = [len(machine.search(query)) for query in ("billing", "com.acme", "acme.com", "mara", "example", "user:a.b", "user:a", '"a b"')]
+    check("words by their pieces", [1, 1, 0, 1, 1, 1, 0, 1], found)
     marked = [[each["text"][begin:end] for each in machine.search(query, **{"for": "page"}) for begin, end in each["marks"]] for query in ("billing", "mara")]
     check("and what is set off", [["Billing"], ["mara"]], marked)
     check("it ends", (0, []), machine.end())

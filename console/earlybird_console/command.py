@@ -4,7 +4,6 @@ import asyncio
 import ctypes
 import os
 import signal
-import subprocess
 import sys
 
 from earlybird_web.guard import read_guarded
@@ -21,8 +20,6 @@ from .texts import Texts, TextsFault
 ROOT = os.path.dirname(os.path.dirname(os.path.dirname(os.path.abspath(__file__))))
 # what glibc calls the size from which memory is taken by itself, and given back once it is free; and that size
 MMAP_THRESHOLD, LARGE = -3, 1 << 17
-# seconds for the program to tell whether it takes some words
-PATIENCE = 20
 
 
 def read_words(words):
@@ -55,21 +52,10 @@ def give_back():
         pass
 
 
-def takes(program, words):
-    """Whether the index program takes these words: it tells so by its status, over no lines at all."""
-    try:
-        done = subprocess.run([program, *words], stdin=subprocess.DEVNULL, stdout=subprocess.DEVNULL, stderr=subprocess.DEVNULL, check=False, timeout=PATIENCE)
-    except (OSError, subprocess.TimeoutExpired):
-        return False
-    return done.returncode == 0
-
-
 def over_program(asked, words, texts, alerts):
     """A console over one index program."""
-    # (where the program has the parts of words by itself, they are its matter)
-    pieces = ["--words", "pieces"] if takes(asked.program, ["run", "--segments", "1", "--docs", "256", "--terms", "1024", "--words", "pieces"]) else []
-    program = [asked.program, *words, "--fields", ",".join(SLOTS), "--watch", "--counts", *pieces]
-    return Console(program, texts, alerts, drops=words[0] == "feed", parts=not pieces, words_only=asked.words_only)
+    program = [asked.program, *words, "--fields", ",".join(SLOTS), "--watch", "--counts", "--words", "pieces"]
+    return Console(program, texts, alerts, drops=words[0] == "feed", words_only=asked.words_only)
 
 
 def over_cluster(asked, texts, alerts):

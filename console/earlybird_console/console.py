@@ -63,10 +63,10 @@ class Group:
 
 class Console:
     """All of it but the requests. `drops` is whether the index drops its oldest messages where it has no room; `parts`, whether the console
-    has to part the words that are put together of others; `words_only` are names of members whose values are no fields. `make_index` makes
+    has to part the words that are put together of others, since the index doesn't; `words_only` are names of members whose values are no fields. `make_index` makes
     one run of the index of what takes its outcomes, and `keeps` is whether a new run has the messages of the one before."""
 
-    def __init__(self, program, texts, alerts, drops=True, parts=True, words_only=(), make_index=Index, keeps=False):
+    def __init__(self, program, texts, alerts, drops=True, parts=False, words_only=(), make_index=Index, keeps=False):
         self.texts = texts
         self.figures = Figures()
         self.names = Names(texts.names, words_only)
