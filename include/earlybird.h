@@ -14,8 +14,8 @@
  * an index that was begun, or the number of words isn't that of its setting.
  *
  * What the caller owes, and no call can test. Where it breaks one of these, what a call does is undefined: no proof speaks of it.
- *  - each pointer leads to as many elements as are named, aligned as C aligns them, and isn't null, even for none;
- *    what a call writes overlaps nothing else that it is given;
+ *  - each pointer, also of a struct eb_reading, leads to as many elements as are named, aligned as C aligns them, and isn't null, even
+ *    for none; what a call writes overlaps nothing else that it is given;
  *  - words and numbers that pass those tests are as the last call left them, and of one index: copy, move or store them
  *    only together, between two calls;
  *  - eb_begin and an add have the index for themselves; asks, and what only reads the numbers, may go on beside one
@@ -50,7 +50,8 @@ enum {
     EB_BAD_SETTING = 13,     /* the three numbers are no setting */
     EB_BAD_SIZE = 14,        /* not as many words as the setting needs */
     EB_NOT_BEGUN = 15,       /* the numbers aren't those of an index that was begun, or the number of words isn't that of its setting */
-    EB_BAD_HANDLE = 16       /* a handle is closed or of the wrong type, or one that the call is to make isn't closed */
+    EB_BAD_HANDLE = 16,      /* a handle is closed or of the wrong type, or one that the call is to make isn't closed */
+    EB_BAD_READING = 17      /* how lines are to be read isn't as struct eb_reading has it */
 };
 
 /* How much of a segment is used. It has room for `docs` documents, `terms` distinct terms, 4 * terms text words (1 and the
@@ -72,6 +73,7 @@ struct eb_answer {
     uint64_t seen;   /* how many documents were accepted: the answer is over all of them */
     uint64_t count;  /* how many ids the answer has; more than ids_len where there wasn't room for all */
     uint64_t column; /* where EB_BAD_QUERY: the place of the fault, counted in bytes from 1; else 0 */
+    uint64_t written; /* how many ids were written: the lesser of count and ids_len, so read no more of `ids` than this */
 };
 
 /* What a count tells beside the numbers of its buckets; all 0 where it is refused, but the column. */
@@ -118,6 +120,45 @@ uint32_t eb_ask_text(const uint64_t *words, size_t words_len, const struct eb_in
  * EB_QUERY_TOO_DEEP, EB_QUERY_TOO_LARGE, EB_NO_MEMORY. Where it isn't EB_OK, no bucket is written. */
 uint32_t eb_count_text(const uint64_t *words, size_t words_len, const struct eb_index *index, const unsigned char *text, size_t text_len,
                        uint64_t start, uint64_t width, uint64_t *buckets, size_t buckets_len, struct eb_count *count);
+
+/* How lines and texts are read, as the options of the program say it. Each name is any bytes of its length, without an end. Begin
+ * with EB_PLAIN_READING, which reads as the calls do that are given no reading, and set what is to be otherwise:
+ *
+ *     struct eb_reading how = EB_PLAIN_READING;
+ *     how.fields = (const unsigned char *)"user,room";
+ *     how.fields_len = 9;
+ */
+struct eb_reading {
+    const unsigned char *fields; /* as --fields: the members by whose values a query finds documents, as "room:kitchen"; one to 8 names with */
+    size_t fields_len;           /* commas between, each of one to 32 of a to z, 0 to 9 and _, not `since`, none twice; none where the length is 0 */
+    const unsigned char *id;     /* as --id: the name of the member that is the id, in UTF-8: a number, or a string of its digits; */
+    size_t id_len;               /* where the length is 0 it is "id", a number */
+    const unsigned char *text;   /* as --text: the name of the member that is the text, in UTF-8; */
+    size_t text_len;             /* where the length is 0 it is "text" */
+    uint32_t words;              /* how texts are cut: EB_WORDS, or EB_PIECES as --words pieces: a word's parts between its marks are words */
+};
+
+enum { EB_WORDS = 0, EB_PIECES = 1 };
+
+#define EB_PLAIN_READING {(const unsigned char *)"", 0, (const unsigned char *)"", 0, (const unsigned char *)"", 0, EB_WORDS}
+
+/* EB_OK where lines and texts can be read so, else EB_BAD_READING, as each call answers that is given this reading. */
+uint32_t eb_check_reading(const struct eb_reading *how);
+
+/* The calls above where lines and texts are read so. The members that are fields are those of a document line: eb_add_text_with cuts
+ * its text as `words` says, and adds no field. Ask with the fields and the words with which documents were added. EB_BAD_READING: `how`
+ * isn't as above, as EB_BAD_LINE and the others are, where the call would not be refused as EB_NOT_BEGUN. */
+uint32_t eb_add_line_with(uint64_t *words, size_t words_len, struct eb_index *index, const struct eb_reading *how, const unsigned char *line,
+                          size_t line_len);
+uint32_t eb_add_text_with(uint64_t *words, size_t words_len, struct eb_index *index, const struct eb_reading *how, uint64_t id,
+                          const unsigned char *text, size_t text_len);
+uint32_t eb_ask_line_with(const uint64_t *words, size_t words_len, const struct eb_index *index, const struct eb_reading *how,
+                          const unsigned char *line, size_t line_len, uint64_t *ids, size_t ids_len, struct eb_answer *answer);
+uint32_t eb_ask_text_with(const uint64_t *words, size_t words_len, const struct eb_index *index, const struct eb_reading *how, uint32_t k,
+                          const unsigned char *text, size_t text_len, uint64_t *ids, size_t ids_len, struct eb_answer *answer);
+uint32_t eb_count_text_with(const uint64_t *words, size_t words_len, const struct eb_index *index, const struct eb_reading *how,
+                            const unsigned char *text, size_t text_len, uint64_t start, uint64_t width, uint64_t *buckets,
+                            size_t buckets_len, struct eb_count *count);
 
 /* How many documents are accepted; how many segments are begun; how much of the last of them is used, all 0 where none is
  * begun. These look at the numbers alone, and take them as they are. */
@@ -173,6 +214,17 @@ uint32_t eb_reader_ask_text(struct eb_handle *reader, uint32_t k, const unsigned
 uint32_t eb_reader_count_text(struct eb_handle *reader, const unsigned char *text, size_t text_len, uint64_t start, uint64_t width,
                               uint64_t *buckets, size_t buckets_len, struct eb_count *count);
 
+/* The same where lines and texts are read so, as of eb_add_line_with and those beside it. The reading is the call's own: readers of one
+ * index may read in different ways. */
+uint32_t eb_writer_add_line_with(struct eb_handle *writer, const struct eb_reading *how, const unsigned char *line, size_t line_len);
+uint32_t eb_writer_add_text_with(struct eb_handle *writer, const struct eb_reading *how, uint64_t id, const unsigned char *text, size_t text_len);
+uint32_t eb_reader_ask_line_with(struct eb_handle *reader, const struct eb_reading *how, const unsigned char *line, size_t line_len,
+                                 uint64_t *ids, size_t ids_len, struct eb_answer *answer);
+uint32_t eb_reader_ask_text_with(struct eb_handle *reader, const struct eb_reading *how, uint32_t k, const unsigned char *text,
+                                 size_t text_len, uint64_t *ids, size_t ids_len, struct eb_answer *answer);
+uint32_t eb_reader_count_text_with(struct eb_handle *reader, const struct eb_reading *how, const unsigned char *text, size_t text_len,
+                                   uint64_t start, uint64_t width, uint64_t *buckets, size_t buckets_len, struct eb_count *count);
+
 /* Tells how many documents a reader knows. */
 uint32_t eb_reader_seen(struct eb_handle *reader, uint64_t *seen);
 
@@ -226,9 +278,9 @@ uint32_t eb_leader_converter(struct eb_handle *leader, struct eb_handle *convert
 uint32_t eb_spare_open(struct eb_handle *spare, uint32_t segments, uint32_t docs, uint32_t terms);
 
 /* Lends the leader a spare index of its feed's setting: the add that begins the next generation takes it, and opens none. The
- * spare's handle then leads to the one that the leader had been lent before and hasn't taken, or it is closed where there was none, or no
- * memory for its handle, and then that one is dropped: so a program may lend before each add, and have another one opened where the
- * handle comes back closed. EB_BAD_SETTING: both are as before. Tested, and not proved: that the next generation takes it, and that one
+ * spare's handle then leads to the one that the leader had been lent before and hasn't taken, or it is closed where there was none: so a
+ * program may lend before each add, and have another one opened where the handle comes back closed. It takes no memory, so none is lost
+ * for want of it. EB_BAD_SETTING: both are as before. Tested, and not proved: that the next generation takes it, and that one
  * that isn't taken comes back. */
 uint32_t eb_leader_lend(struct eb_handle *leader, struct eb_handle *spare);
 
@@ -258,6 +310,16 @@ uint32_t eb_follower_ask_text(struct eb_handle *follower, uint32_t k, const unsi
 uint32_t eb_follower_count_text(struct eb_handle *follower, const unsigned char *text, size_t text_len, uint64_t start, uint64_t width,
                                 uint64_t *buckets, size_t buckets_len, struct eb_count *count);
 
+/* The same where lines and texts are read so, as of eb_add_line_with and those beside it. */
+uint32_t eb_leader_add_line_with(struct eb_handle *leader, const struct eb_reading *how, const unsigned char *line, size_t line_len);
+uint32_t eb_leader_add_text_with(struct eb_handle *leader, const struct eb_reading *how, uint64_t id, const unsigned char *text, size_t text_len);
+uint32_t eb_follower_ask_line_with(struct eb_handle *follower, const struct eb_reading *how, const unsigned char *line, size_t line_len,
+                                   uint64_t *ids, size_t ids_len, struct eb_answer *answer);
+uint32_t eb_follower_ask_text_with(struct eb_handle *follower, const struct eb_reading *how, uint32_t k, const unsigned char *text,
+                                   size_t text_len, uint64_t *ids, size_t ids_len, struct eb_answer *answer);
+uint32_t eb_follower_count_text_with(struct eb_handle *follower, const struct eb_reading *how, const unsigned char *text, size_t text_len,
+                                     uint64_t start, uint64_t width, uint64_t *buckets, size_t buckets_len, struct eb_count *count);
+
 /* Tell how many documents of the leader a follower knows; and how many generations it holds. */
 uint32_t eb_follower_seen(struct eb_handle *follower, uint64_t *seen);
 uint32_t eb_follower_held(struct eb_handle *follower, uint64_t *held);
@@ -266,7 +328,7 @@ uint32_t eb_follower_held(struct eb_handle *follower, uint64_t *held);
 static inline const char *eb_name(uint32_t number) {
     static const char *const names[] = {
         "ok", "bad line", "long line", "bad json", "bad document", "too long", "full", "bad number", "bad query",
-        "query too deep", "query too large", "bad text", "no memory", "bad setting", "bad size", "not begun", "bad handle",
+        "query too deep", "query too large", "bad text", "no memory", "bad setting", "bad size", "not begun", "bad handle", "bad reading",
     };
     return number < sizeof names / sizeof *names ? names[number] : "unknown";
 }

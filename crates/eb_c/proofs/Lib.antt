@@ -3,3 +3,4 @@ pub mod Addings
 pub mod Sealing
 pub mod Sharings
 pub mod Counted
+pub mod Dialected

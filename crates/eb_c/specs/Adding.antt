@@ -1,5 +1,5 @@
 -- What an add reads, answers and leaves.
-use Rattle.std.specs.Prelude.{◌≡◌, ◌⊎◌, ℕ, ◌==◌, Bool, true, false, List, [], ◌∷◌, ◌++◌, length, nat_lt, Result, Ok, Err, if◌then◌else◌}
+use Rattle.std.specs.Prelude.{◌≡◌, ◌⊎◌, ℕ, ◌==◌, Bool, true, false, List, [], ◌∷◌, ◌++◌, length, nat_lt, Option, Some, None, Result, Ok, Err, if◌then◌else◌}
 use Rattle.std.specs.Str.{is_utf8}
 use Rattle.eb_base.specs.Document.{Doc}
 use Rattle.eb_base.specs.Setting.{Setting}
@@ -8,7 +8,10 @@ use Rattle.eb_place.specs.Room.{has_room}
 use Rattle.eb_flat.specs.Flat.{Flat, StandsFor}
 use Rattle.eb_writer.specs.Progress.{PlacerProgress, PlacerStands}
 use Rattle.eb_text.specs.Tokens.{tokens_of}
+use Rattle.eb_text.specs.Pieces.{tokens_by}
+use Rattle.eb_fields.specs.Dialect.{Dialect}
 use Rattle.eb_doc.specs.DocumentLine.{document_of, message}
+use Rattle.eb_doc.specs.WithFields as doc
 use Rattle.eb_doc.specs.declared.LineFault.{LineFault}
 use Rattle.eb_doc.specs.declared.LineFault.TheVariants as fault
 use Rattle.eb_c.specs.declared.index.Index.{Index}
@@ -16,6 +19,8 @@ use Rattle.eb_c.specs.declared.refusal.Refusal.{Refusal}
 use Rattle.eb_c.specs.declared.refusal.Refusal.TheVariants as refusal
 use Rattle.eb_c.specs.Numbers.{refusal_number}
 use Rattle.eb_c.specs.Holding.{Holds}
+use Rattle.eb_c.specs.declared.dialects.Reading.{Reading}
+use Rattle.eb_c.specs.Dialects.{dialect_by}
 
 -- a line of more bytes is a long line
 abbrev pub is_long : List ℕ → Bool
@@ -44,6 +49,31 @@ document_in line = if is_long line then Err refusal.LongLine else (if begins_wit
 -- the document of an id and a text
 abbrev pub document_with : ℕ → List ℕ → Result Doc Refusal
 document_with id text = if is_utf8 text then or_refused (message id (tokens_of text)) else Err refusal.BadText
+
+-- ---- where lines are read by a dialect
+
+-- the document of a document line
+abbrev pub document_in_by : Dialect → List ℕ → Result Doc Refusal
+document_in_by how line =
+    if is_long line then Err refusal.LongLine else (if begins_with 123 line then or_refused (doc.document_with how line) else Err refusal.BadLine)
+
+-- the document of an id and a text, which is cut by it
+abbrev pub document_by : Dialect → ℕ → List ℕ → Result Doc Refusal
+document_by how id text = if is_utf8 text then or_refused (message id (tokens_by how.cut text)) else Err refusal.BadText
+
+-- what is read by this, or that it says nothing how
+abbrev pub read_by : (Dialect → Result Doc Refusal) → Option Dialect → Result Doc Refusal
+read_by read None = Err refusal.BadReading
+read_by read (Some how) = read how
+
+-- and so where a caller says how
+abbrev pub document_in_as : Reading → List ℕ → Result Doc Refusal
+document_in_as how line = read_by (λ d. document_in_by d line) (dialect_by how)
+
+abbrev pub document_as : Reading → ℕ → List ℕ → Result Doc Refusal
+document_as how id text = read_by (λ d. document_by d id text) (dialect_by how)
+
+-- ---- what comes of it
 
 -- what an add answers after these documents: 0 where there is room
 abbrev pub number_after : Setting → List Doc → Result Doc Refusal → ℕ

@@ -1,5 +1,6 @@
 pub mod Numbers
 pub mod Holding
+pub mod Dialects
 pub mod Adding
 pub mod Asking
 pub mod Sealing

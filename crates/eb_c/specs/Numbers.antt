@@ -3,7 +3,7 @@ use Rattle.std.specs.Prelude.{ℕ}
 use Rattle.eb_c.specs.declared.refusal.Refusal.{Refusal}
 use Rattle.eb_c.specs.declared.refusal.Refusal.TheVariants as refusal
 
--- 0 is no refusal
+-- 0 is no refusal, and 16 is that of a handle
 abbrev pub refusal_number : Refusal → ℕ
 refusal_number refusal.BadLine = 1
 refusal_number refusal.LongLine = 2
@@ -20,3 +20,4 @@ refusal_number refusal.NoMemory = 12
 refusal_number refusal.BadSetting = 13
 refusal_number refusal.BadSize = 14
 refusal_number refusal.NotBegun = 15
+refusal_number refusal.BadReading = 17

@@ -25,7 +25,7 @@ LeadsToFollower h f = h ≡ Some (Follower f)
 
 -- it leads to an index that was opened ahead
 abbrev pub LeadsToSpare : Option Held → Words → Type 0
-LeadsToSpare h s = h ≡ Some (Spare s)
+LeadsToSpare h s = h ≡ Some (Spare (Some s))
 
 -- it leads to a generation that a feed let go
 abbrev pub LeadsToReleased : Option Held → PieceToken → Type 0
@@ -34,6 +34,10 @@ LeadsToReleased h p = h ≡ Some (Released p)
 -- after it was lent, it leads to another one of this setting, which was lent before it, or to nothing
 abbrev pub LeadsBack : Option Held → Setting → Type 0
 LeadsBack h σ = (h ≡ None) ⊎ ((s : Words) × LeadsToSpare h s × (s.setting ≡ σ))
+
+-- what was lent is another one of this setting, or nothing
+abbrev pub GivesBack : Held → Setting → Type 0
+GivesBack h σ = (h ≡ Spare None) ⊎ ((s : Words) × (h ≡ Spare (Some s)) × (s.setting ≡ σ))
 
 -- the document was added, to the newest generation where that has room for it, else to a new one
 pub record Takes (old new : WriterToken) (d : Doc) : Type 0 where

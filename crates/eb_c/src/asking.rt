@@ -1,12 +1,12 @@
 //! Questions to an index that was begun.
-ghost use Rattle.std.specs.Prelude.{◌≡◌, ◌<◌, List, length, min};
+ghost use Rattle.std.specs.Prelude.{◌≡◌, ◌<◌, List, length};
 ghost use Rattle.eb_base.specs.Document.{Doc};
 ghost use Rattle.eb_base.specs.Match.{answer as answer_of};
 ghost use Rattle.eb_place.specs.declared.moment.Moment.{Moment};
 ghost use Rattle.eb_flat.specs.Flat.{StandsFor};
 ghost use Rattle.eb_cursor.specs.Frames.{query_of, k_of, ids_of};
 ghost use Rattle.eb_c.specs.Holding.{IsBegunIndex, Holds, IsIndex};
-ghost use Rattle.eb_c.specs.Asking.{asked_of, written, nothing_told, Tells};
+ghost use Rattle.eb_c.specs.Asking.{asked_of, ids_told, written, nothing_told, Tells};
 
 use crate::index::{Answer, Index, begun_setting};
 use crate::reading::Question;
@@ -27,6 +27,7 @@ pub(crate) fn refused(column: u64) -> Answer
         seen: 0,
         count: 0,
         column,
+        written: 0,
     }
 }
 
@@ -43,12 +44,19 @@ fn search_words<L: Ledger>(words: &[u64], config: Config, frame: &mut Frame, bla
     search(&mut port, frame, &OpenGate, &mut steps)
 }
 
-// Writes the first of the ids, as many as there is room for.
-pub(crate) fn write_ids(found: &[u64], ids: &mut [u64])
-    ensures { ids.new ≡ written found.now ids.old }
+// Writes the first of the ids, as many as there is room for, and tells of them and over how many documents they are.
+pub(crate) fn put_ids(found: &[u64], seen: u64, ids: &mut [u64], answer: &mut Answer)
+    ensures ids { ids.new ≡ written found.now ids.old }
+    ensures answer { answer.new ≡ ids_told seen found.now (length ids.old) }
 {
     let number = found.len().min(ids.len());
     ids[..number].copy_from_slice(&found[..number]);
+    *answer = Answer {
+        seen,
+        count: found.len() as u64,
+        column: 0,
+        written: number as u64,
+    };
 }
 
 // Answers what was read of a question, over an index that was begun: 0, or the number of the refusal.
@@ -71,13 +79,7 @@ pub(crate) fn ask_read(
         Question::Asks(frame) => {
             let mut frame = frame;
             let seen = search_words::<Brand>(words, config, &mut frame, Blank::new(1));
-            let found = frame.ids();
-            write_ids(found, ids);
-            *answer = Answer {
-                seen,
-                count: found.len() as u64,
-                column: 0,
-            };
+            put_ids(frame.ids(), seen, ids, answer);
             0
         }
         Question::Refused(refusal, column) => {

@@ -50,7 +50,7 @@ pub(crate) enum Counting {
     Refused(Refusal, u64),
 }
 
-// What is told of a count that is refused.
+// The answer to a count that is refused.
 pub(crate) fn nothing(column: u64) -> Count
     ensures { result ≡ nothing_counted column }
 {
@@ -61,7 +61,7 @@ pub(crate) fn nothing(column: u64) -> Count
     }
 }
 
-// A tally with so many buckets, and no match yet.
+// A tally of this number of buckets, before the first match.
 fn fresh(alloc: Global, axis: Axis, number: usize) -> Result<Tally, NoMemory>
     requires { (0 < number) → 1 ≤ axis.width }
     ensures { IfOk result (λ t. IsFresh axis number t) }
@@ -69,7 +69,7 @@ fn fresh(alloc: Global, axis: Axis, number: usize) -> Result<Tally, NoMemory>
     Tally::with_buckets(alloc, axis.start, axis.width.max(1), number)
 }
 
-// What a question asks to count, in so many buckets.
+// What is to be counted for a question: its matches, in this number of buckets.
 pub(crate) fn prepare(alloc: Global, read: Question, axis: Axis, number: usize) -> Counting
     ensures wanted { (wanted result ≡ refused Refusal.NoMemory 0) ⊎ (wanted result ≡ in_buckets axis.width number (asked_of read)) }
     ensures prepared { IsPrepared axis number result }

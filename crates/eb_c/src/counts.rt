@@ -61,19 +61,38 @@ pub extern "C" fn eb_reader_count_text(
     ensures bad { kind_of reader.old.seal.held ≢ 2
         → (result ≡ 16) × (count.new ≡ nothing_counted 0) × (buckets.new ≡ buckets.old) × (reader.new.seal.held ≡ reader.old.seal.held) }
 {
+    let axis = Axis { start, width };
+    let asked = prepare(alloc, question_in_text(alloc, 1, text), axis, buckets.len());
+    count_by_reader(alloc, reader, asked, axis, buckets, count)
+}
+
+// Counts what is to be counted: 0, or the number of the refusal; 16 where the handle leads to no reader.
+pub(crate) fn count_by_reader(
+    alloc: Global,
+    reader: &mut Handle,
+    asked: Counting,
+    axis: Axis,
+    buckets: &mut [u64],
+    count: &mut Count,
+) -> u32
+    requires { IsPrepared axis (length buckets.old) asked }
+    ensures told { (r : HistoryToken) → LeadsToReader reader.old.seal.held r
+        → (s : HistoryToken) × LeadsToReader reader.new.seal.held s × (s.index ≡ r.index) × IsPrefix r.docs s.docs
+        × CountsOver (length s.docs) s.docs axis (wanted asked) result count.new buckets.old buckets.new }
+    ensures bad { kind_of reader.old.seal.held ≢ 2
+        → (result ≡ 16) × (count.new ≡ nothing_counted 0) × (buckets.new ≡ buckets.old) × (reader.new.seal.held ≡ reader.old.seal.held) }
+{
     let Some(held) = reader.take(alloc) else {
         *count = nothing(0);
         return BAD_HANDLE;
     };
     let mut held = held;
-    let axis = Axis { start, width };
-    let asked = prepare(alloc, question_in_text(alloc, 1, text), axis, buckets.len());
-    let number = count_by_reader(&mut held, asked, axis, buckets, count);
+    let number = count_read_by(&mut held, asked, axis, buckets, count);
     *reader = Handle::of(held);
     number
 }
 
-fn count_by_reader(
+fn count_read_by(
     held: &mut Held,
     asked: Counting,
     axis: Axis,
@@ -126,19 +145,38 @@ pub extern "C" fn eb_follower_count_text(
     ensures bad { kind_of follower.old.seal.held ≢ 5
         → (result ≡ 16) × (count.new ≡ nothing_counted 0) × (buckets.new ≡ buckets.old) × (follower.new.seal.held ≡ follower.old.seal.held) }
 {
+    let axis = Axis { start, width };
+    let asked = prepare(alloc, question_in_text(alloc, 1, text), axis, buckets.len());
+    count_by_follower(alloc, follower, asked, axis, buckets, count)
+}
+
+// Counts what is to be counted: 0, or the number of the refusal; 16 where the handle leads to no follower.
+pub(crate) fn count_by_follower(
+    alloc: Global,
+    follower: &mut Handle,
+    asked: Counting,
+    axis: Axis,
+    buckets: &mut [u64],
+    count: &mut Count,
+) -> u32
+    requires { IsPrepared axis (length buckets.old) asked }
+    ensures told { (f : FeedToken) → LeadsToFollower follower.old.seal.held f
+        → (g : FeedToken) × LeadsToFollower follower.new.seal.held g × Follows (wanted asked) f g
+        × FollowerCountsOver g axis (wanted asked) result count.new buckets.old buckets.new }
+    ensures bad { kind_of follower.old.seal.held ≢ 5
+        → (result ≡ 16) × (count.new ≡ nothing_counted 0) × (buckets.new ≡ buckets.old) × (follower.new.seal.held ≡ follower.old.seal.held) }
+{
     let Some(held) = follower.take(alloc) else {
         *count = nothing(0);
         return BAD_HANDLE;
     };
     let mut held = held;
-    let axis = Axis { start, width };
-    let asked = prepare(alloc, question_in_text(alloc, 1, text), axis, buckets.len());
-    let number = count_by_follower(&mut held, asked, axis, buckets, count);
+    let number = count_heard_by(&mut held, asked, axis, buckets, count);
     *follower = Handle::of(held);
     number
 }
 
-fn count_by_follower(
+fn count_heard_by(
     held: &mut Held,
     asked: Counting,
     axis: Axis,

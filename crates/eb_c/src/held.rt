@@ -95,8 +95,8 @@ pub enum Held {
     Follower(HeldFollower),
     /// The converter of a generation of a feed.
     FeedConverter(FeedConverter),
-    /// A spare index: one that was opened ahead, for the next generation of a feed.
-    Spare(Spare),
+    /// A spare index: one that was opened ahead, for the next generation of a feed. Nothing where it was just lent, and none came back.
+    Spare(Option<Spare>),
     /// A generation that a feed let go.
     Released(Released),
 }

@@ -52,10 +52,12 @@ pub struct Index {
 pub struct Answer {
     /// How many documents were accepted; the answer is over all of them. 0 where the call is refused.
     pub seen: u64,
-    /// How many ids the answer has. 0 where the call is refused.
+    /// How many ids the answer has, also where there is no room for all of them. 0 where the call is refused.
     pub count: u64,
     /// The column of a bad query's fault, counted from 1; else 0.
     pub column: u64,
+    /// How many ids were written: all of the answer, or as many as there is room for. 0 where the call is refused.
+    pub written: u64,
 }
 
 // The mark of an index that was begun: `earl`.

@@ -1,5 +1,5 @@
 //! What a handle of a feed leads to: its leader, or a follower.
-ghost use Rattle.std.specs.Prelude.{◌≡◌, ◌<◌, ◌≤◌, [], true, false, IfOk, IfSome};
+ghost use Rattle.std.specs.Prelude.{◌≡◌, ◌<◌, ◌≤◌, [], true, false, is_some, IfOk, IfSome};
 ghost use Rattle.std.specs.Bool.{MatchBool};
 ghost use Rattle.eb_base.specs.Match.{answer as answer_of};
 ghost use Rattle.eb_count.specs.Tallies.{HasCounted};
@@ -97,20 +97,38 @@ impl HeldLeader {
         self.leader.converter()
     }
 
-    // Whether an index is of the feed's setting.
-    pub(crate) fn fits(&self, spare: &Spare) -> bool
-        ensures { MatchBool result (spare.now.setting ≡ self.now.setting) (spare.now.setting ≡ self.now.setting → ⊥) }
+    // Takes an index for the next generation, and puts in its place the one that it had for it, if it had one. False where there is no
+    // index of the feed's setting; all is then as before.
+    pub(crate) fn exchange(&mut self, spare: &mut Option<Spare>) -> bool
+        ensures this { self.new ≡ self.old }
+        ensures taken { result ≡ true → IfSome spare.new (λ s. s.setting ≡ self.old.setting) }
+        ensures fits { IfSome spare.old (λ s. MatchBool result (s.setting ≡ self.old.setting) (s.setting ≡ self.old.setting → ⊥)) }
+        ensures unchanged { result ≡ false → spare.new ≡ spare.old }
     {
-        self.leader.config() == spare.config()
+        let Some(lent) = spare else {
+            return false;
+        };
+        if self.leader.config() != lent.config() {
+            return false;
+        }
+        self.take_from(spare)
     }
 
-    // Takes an index for the next generation, and gives back the one that it had for it.
-    pub(crate) fn take(&mut self, spare: Spare) -> Option<Spare>
-        requires { spare.setting ≡ self.old.setting }
+    // Takes an index of the feed's setting, and puts in its place the one that it had. False where there is none.
+    fn take_from(&mut self, spare: &mut Option<Spare>) -> bool
+        requires { IfSome spare.old (λ s. s.setting ≡ self.old.setting) }
         ensures this { self.new ≡ self.old }
-        ensures back { IfSome result (λ s. s.setting ≡ self.old.setting) }
+        ensures taken { result ≡ true → IfSome spare.new (λ s. s.setting ≡ self.old.setting) }
+        ensures some { result ≡ is_some spare.old }
+        ensures unchanged { result ≡ false → spare.new ≡ spare.old }
     {
-        self.leader.lend(spare)
+        match spare.take() {
+            Some(lent) => {
+                *spare = self.leader.lend(lent);
+                true
+            }
+            None => false,
+        }
     }
 
     // The generation that the last turn let go, where that one began a lent index, and it wasn't taken.

@@ -13,20 +13,25 @@ mod adding;
 mod asking;
 mod counting;
 mod counts;
+mod dialects;
 mod exports;
 mod handle;
 mod held;
 mod index;
 mod leading;
+mod lent_with;
 mod parts;
 mod reading;
 mod refusal;
 mod sealed;
 mod sharing;
+mod sharing_with;
 mod streaming;
+mod streaming_with;
 
 pub use counting::Count;
 pub use counts::{eb_count_text, eb_follower_count_text, eb_reader_count_text};
+pub use dialects::Reading;
 pub use exports::{
     eb_add_line, eb_add_text, eb_ask_line, eb_ask_text, eb_begin, eb_documents, eb_last_segment,
     eb_segments, eb_words,
@@ -35,14 +40,26 @@ pub use handle::Handle;
 pub use held::{Held, HeldConverter, HeldReader, HeldWriter};
 pub use index::{Answer, Index, Segment};
 pub use leading::{HeldFollower, HeldLeader};
+pub use lent_with::{
+    eb_add_line_with, eb_add_text_with, eb_ask_line_with, eb_ask_text_with, eb_check_reading,
+    eb_count_text_with,
+};
 pub use refusal::Refusal;
 pub use sealed::Sealed;
 pub use sharing::{
     eb_close, eb_converter_convert, eb_open, eb_reader, eb_reader_ask_line, eb_reader_ask_text,
     eb_reader_seen, eb_writer_add_line, eb_writer_add_text,
 };
+pub use sharing_with::{
+    eb_reader_ask_line_with, eb_reader_ask_text_with, eb_reader_count_text_with,
+    eb_writer_add_line_with, eb_writer_add_text_with,
+};
 pub use streaming::{
     eb_follower, eb_follower_ask_line, eb_follower_ask_text, eb_follower_held, eb_follower_seen,
-    eb_leader_add_line, eb_leader_add_text, eb_leader_converter, eb_leader_released,
-    eb_leader_tell, eb_stream_open,
+    eb_leader_add_line, eb_leader_add_text, eb_leader_converter, eb_leader_lend,
+    eb_leader_released, eb_leader_tell, eb_spare_open, eb_stream_open,
+};
+pub use streaming_with::{
+    eb_follower_ask_line_with, eb_follower_ask_text_with, eb_follower_count_text_with,
+    eb_leader_add_line_with, eb_leader_add_text_with,
 };

@@ -1,18 +1,23 @@
-//! What documents and questions the bytes of a caller are.
+//! What documents and questions the bytes of a caller are, by a dialect: by that of no option, or by one that the caller says.
 ghost use Rattle.std.specs.Prelude.{◌≡◌, ◌⊎◌, ◌++◌, false, Err, IfOk, Some, slice_get, length};
 ghost use Rattle.std.specs.Str.{is_utf8};
 ghost use Rattle.std.specs.String.{string_bytes};
-ghost use Rattle.eb_text.specs.Tokens.{tokens_of};
-ghost use Rattle.eb_doc.specs.DocumentLine.{document_of, message};
-ghost use Rattle.eb_c.specs.Adding.{document_in, document_with, or_refused};
-ghost use Rattle.eb_c.specs.Asking.{asked_of, refused, line_front, Reads, AsksBy, LineAsks, TextAsks};
+ghost use Rattle.eb_text.specs.Pieces.{tokens_by};
+ghost use Rattle.eb_fields.specs.Dialect.{dialect_of};
+ghost use Rattle.eb_doc.specs.DocumentLine.{message};
+ghost use Rattle.eb_doc.specs.WithFields as doc;
+ghost use Rattle.eb_c.specs.Adding.{document_in, document_in_by, document_in_as, document_with, document_by, document_as, or_refused};
+ghost use Rattle.eb_c.specs.Asking.{asked_of, refused, line_front, ReadsBy, AsksBy, LineAsks, LineAsksBy, LineAsksAs};
+ghost use Rattle.eb_c.specs.Asking.{TextAsks, TextAsksBy, TextAsksAs};
 
+use crate::dialects::{Reading, read_dialect};
 use crate::refusal::{Refusal, refusal_of};
 use eb_base::{Document, NoMemory, Query};
 use eb_cursor::Frame;
-use eb_doc::read_document;
-use eb_query::{QueryFault, read_query};
-use eb_text::tokens;
+use eb_doc::DocumentReader;
+use eb_fields::Dialect;
+use eb_query::{QueryFault, read_query_with};
+use eb_text::tokens_by;
 use std::alloc::Global;
 use std::fmt::Write;
 use std::str;
@@ -29,42 +34,74 @@ pub(crate) enum Question {
     Refused(Refusal, u64),
 }
 
-// The document of a document line.
-pub(crate) fn document_in_line(alloc: Global, line: &[u8]) -> Result<Document, Refusal>
-    ensures { (result ≡ Err Refusal.NoMemory) ⊎ (result ≡ document_in line.now) }
+// The document of a document line, by a dialect.
+fn line_document(alloc: Global, dialect: Dialect<'_>, line: &[u8]) -> Result<Document, Refusal>
+    ensures { (result ≡ Err Refusal.NoMemory) ⊎ (result ≡ document_in_by (dialect_of dialect.entry) line.now) }
 {
     if line.len() > MAX_LINE {
         return Err(Refusal::LongLine);
     }
     match line.first() {
-        Some(b'{') => document_of_line(alloc, line),
+        Some(b'{') => document_of_line(alloc, dialect, line),
         _ => Err(Refusal::BadLine),
     }
 }
 
-fn document_of_line(alloc: Global, line: &[u8]) -> Result<Document, Refusal>
-    ensures { (result ≡ Err Refusal.NoMemory) ⊎ (result ≡ or_refused (document_of line.now)) }
+fn document_of_line(alloc: Global, dialect: Dialect<'_>, line: &[u8]) -> Result<Document, Refusal>
+    ensures { (result ≡ Err Refusal.NoMemory) ⊎ (result ≡ or_refused (doc.document_with (dialect_of dialect.entry) line.now)) }
 {
-    match read_document(alloc, line) {
+    let mut reader = DocumentReader::new(alloc);
+    match reader.read_with(dialect, line) {
         Ok(document) => Ok(document),
         Err(fault) => Err(refusal_of(fault)),
     }
 }
 
-// The document of an id and a text.
-pub(crate) fn document_with(alloc: Global, id: u64, text: &[u8]) -> Result<Document, Refusal>
-    ensures { (result ≡ Err Refusal.NoMemory) ⊎ (result ≡ document_with id text.now) }
+// The document of a document line.
+pub(crate) fn document_in_line(alloc: Global, line: &[u8]) -> Result<Document, Refusal>
+    ensures { (result ≡ Err Refusal.NoMemory) ⊎ (result ≡ document_in line.now) }
+{
+    line_document(alloc, Dialect::plain(), line)
+}
+
+// The same where lines are read so.
+pub(crate) fn document_in_line_as(
+    alloc: Global,
+    how: &Reading<'_>,
+    line: &[u8],
+) -> Result<Document, Refusal>
+    ensures { (result ≡ Err Refusal.NoMemory) ⊎ (result ≡ document_in_as how.now line.now) }
+{
+    match read_dialect(how) {
+        Some(dialect) => line_document(alloc, dialect, line),
+        None => Err(Refusal::BadReading),
+    }
+}
+
+// The document of an id and a text, by a dialect.
+fn text_document(
+    alloc: Global,
+    dialect: Dialect<'_>,
+    id: u64,
+    text: &[u8],
+) -> Result<Document, Refusal>
+    ensures { (result ≡ Err Refusal.NoMemory) ⊎ (result ≡ document_by (dialect_of dialect.entry) id text.now) }
 {
     match str::from_utf8(text) {
-        Ok(text) => document_of_text(alloc, id, text),
+        Ok(text) => document_of_text(alloc, dialect, id, text),
         Err(_) => Err(Refusal::BadText),
     }
 }
 
-fn document_of_text(alloc: Global, id: u64, text: &str) -> Result<Document, Refusal>
-    ensures { (result ≡ Err Refusal.NoMemory) ⊎ (result ≡ or_refused (message id (tokens_of text.now))) }
+fn document_of_text(
+    alloc: Global,
+    dialect: Dialect<'_>,
+    id: u64,
+    text: &str,
+) -> Result<Document, Refusal>
+    ensures { (result ≡ Err Refusal.NoMemory) ⊎ (result ≡ or_refused (message id (tokens_by (dialect_of dialect.entry).cut text.now))) }
 {
-    let Ok(terms) = tokens(alloc, text) else {
+    let Ok(terms) = tokens_by(alloc, dialect.cut, text) else {
         return Err(Refusal::NoMemory);
     };
     match Document::new(id, terms) {
@@ -73,41 +110,81 @@ fn document_of_text(alloc: Global, id: u64, text: &str) -> Result<Document, Refu
     }
 }
 
-// What a query line asks.
-pub(crate) fn question_in_line(alloc: Global, line: &[u8]) -> Question
-    ensures { (asked_of result ≡ refused Refusal.NoMemory 0) ⊎ LineAsks line.now (asked_of result) }
+// The document of an id and a text.
+pub(crate) fn document_with(alloc: Global, id: u64, text: &[u8]) -> Result<Document, Refusal>
+    ensures { (result ≡ Err Refusal.NoMemory) ⊎ (result ≡ document_with id text.now) }
+{
+    text_document(alloc, Dialect::plain(), id, text)
+}
+
+// The same where texts are read so.
+pub(crate) fn document_as(
+    alloc: Global,
+    how: &Reading<'_>,
+    id: u64,
+    text: &[u8],
+) -> Result<Document, Refusal>
+    ensures { (result ≡ Err Refusal.NoMemory) ⊎ (result ≡ document_as how.now id text.now) }
+{
+    match read_dialect(how) {
+        Some(dialect) => text_document(alloc, dialect, id, text),
+        None => Err(Refusal::BadReading),
+    }
+}
+
+// What a query line asks, by a dialect.
+fn line_question(alloc: Global, dialect: Dialect<'_>, line: &[u8]) -> Question
+    ensures { (asked_of result ≡ refused Refusal.NoMemory 0) ⊎ LineAsksBy (dialect_of dialect.entry) line.now (asked_of result) }
 {
     if line.len() > MAX_LINE {
         return Question::Refused(Refusal::LongLine, 0);
     }
     match line.first() {
-        Some(b'?') => question_of_line(alloc, line),
+        Some(b'?') => question_of_line(alloc, dialect, line),
         _ => Question::Refused(Refusal::BadLine, 0),
     }
 }
 
-fn question_of_line(alloc: Global, line: &[u8]) -> Question
+fn question_of_line(alloc: Global, dialect: Dialect<'_>, line: &[u8]) -> Question
     requires { slice_get line.now 0 ≡ Some 63 }
-    ensures { (asked_of result ≡ refused Refusal.NoMemory 0) ⊎ AsksBy false (is_utf8 line.now) line.now (asked_of result) }
+    ensures { (asked_of result ≡ refused Refusal.NoMemory 0) ⊎ AsksBy (dialect_of dialect.entry) false (is_utf8 line.now) line.now (asked_of result) }
 {
     match str::from_utf8(line) {
-        Ok(line) => question_behind(alloc, line, 0),
+        Ok(line) => question_behind(alloc, dialect, line, 0),
         Err(_) => Question::Refused(Refusal::BadLine, 0),
     }
 }
 
-// What a query text asks of which k matches are wanted.
-pub(crate) fn question_in_text(alloc: Global, k: u32, text: &[u8]) -> Question
-    ensures { (asked_of result ≡ refused Refusal.NoMemory 0) ⊎ TextAsks k text.now (asked_of result) }
+// What a query line asks.
+pub(crate) fn question_in_line(alloc: Global, line: &[u8]) -> Question
+    ensures { (asked_of result ≡ refused Refusal.NoMemory 0) ⊎ LineAsks line.now (asked_of result) }
+{
+    line_question(alloc, Dialect::plain(), line)
+}
+
+// The same where lines are read so.
+pub(crate) fn question_in_line_as(alloc: Global, how: &Reading<'_>, line: &[u8]) -> Question
+    ensures { (asked_of result ≡ refused Refusal.NoMemory 0) ⊎ LineAsksAs how.now line.now (asked_of result) }
+{
+    match read_dialect(how) {
+        Some(dialect) => line_question(alloc, dialect, line),
+        None => Question::Refused(Refusal::BadReading, 0),
+    }
+}
+
+// What a query text asks of which k matches are wanted, by a dialect.
+fn text_question(alloc: Global, dialect: Dialect<'_>, k: u32, text: &[u8]) -> Question
+    ensures { (asked_of result ≡ refused Refusal.NoMemory 0) ⊎ TextAsksBy (dialect_of dialect.entry) k text.now (asked_of result) }
 {
     match str::from_utf8(text) {
-        Ok(text) => question_of_text(alloc, k, text),
+        Ok(text) => question_of_text(alloc, dialect, k, text),
         Err(_) => Question::Refused(Refusal::BadText, 0),
     }
 }
 
-fn question_of_text(alloc: Global, k: u32, text: &str) -> Question
-    ensures { (asked_of result ≡ refused Refusal.NoMemory 0) ⊎ Reads (length (line_front k)) (line_front k ++ text.now) (asked_of result) }
+fn question_of_text(alloc: Global, dialect: Dialect<'_>, k: u32, text: &str) -> Question
+    ensures { (asked_of result ≡ refused Refusal.NoMemory 0)
+        ⊎ ReadsBy (dialect_of dialect.entry) (length (line_front k)) (line_front k ++ text.now) (asked_of result) }
 {
     let Ok(mut line) = line_front(alloc, k) else {
         return Question::Refused(Refusal::NoMemory, 0);
@@ -116,7 +193,24 @@ fn question_of_text(alloc: Global, k: u32, text: &str) -> Question
     if line.push_str(text).is_err() {
         return Question::Refused(Refusal::NoMemory, 0);
     }
-    question_behind(alloc, line.as_str(), front as u64)
+    question_behind(alloc, dialect, line.as_str(), front as u64)
+}
+
+// What a query text asks of which k matches are wanted.
+pub(crate) fn question_in_text(alloc: Global, k: u32, text: &[u8]) -> Question
+    ensures { (asked_of result ≡ refused Refusal.NoMemory 0) ⊎ TextAsks k text.now (asked_of result) }
+{
+    text_question(alloc, Dialect::plain(), k, text)
+}
+
+// The same where texts are read so.
+pub(crate) fn question_in_text_as(alloc: Global, how: &Reading<'_>, k: u32, text: &[u8]) -> Question
+    ensures { (asked_of result ≡ refused Refusal.NoMemory 0) ⊎ TextAsksAs how.now k text.now (asked_of result) }
+{
+    match read_dialect(how) {
+        Some(dialect) => text_question(alloc, dialect, k, text),
+        None => Question::Refused(Refusal::BadReading, 0),
+    }
 }
 
 // What stands before the query text in the line that asks for k matches of it.
@@ -129,11 +223,11 @@ fn line_front(alloc: Global, k: u32) -> Result<String, NoMemory>
 }
 
 // What a line asks that begins with a question mark, the columns counted from after so many bytes.
-fn question_behind(alloc: Global, line: &str, front: u64) -> Question
+fn question_behind(alloc: Global, dialect: Dialect<'_>, line: &str, front: u64) -> Question
     requires { slice_get line.now 0 ≡ Some 63 }
-    ensures { (asked_of result ≡ refused Refusal.NoMemory 0) ⊎ Reads front line.now (asked_of result) }
+    ensures { (asked_of result ≡ refused Refusal.NoMemory 0) ⊎ ReadsBy (dialect_of dialect.entry) front line.now (asked_of result) }
 {
-    match read_query(alloc, line) {
+    match read_query_with(alloc, dialect, line) {
         Ok((k, query)) => match Frame::new(alloc, query, k) {
             Ok(frame) => Question::Asks(frame),
             Err(NoMemory) => Question::Refused(Refusal::NoMemory, 0),

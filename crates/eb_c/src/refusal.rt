@@ -4,8 +4,8 @@ ghost use Rattle.eb_c.specs.Numbers.{refusal_number};
 
 use eb_doc::LineFault;
 
-/// Why a call did nothing. C sees its number, from 1; the first ten have the names and the meaning of the refusals of
-/// the program `earlybird`.
+/// Why a call did nothing. C sees its number, from 1, and 16 where a handle isn't what the call takes; the first ten have the names
+/// and the meaning of the refusals of the program `earlybird`.
 #[derive(Clone, Copy, Debug, PartialEq, Eq)]
 pub enum Refusal {
     /// The line is no document line or no query line, as the call wants one.
@@ -38,6 +38,8 @@ pub enum Refusal {
     BadSize,
     /// The numbers aren't those of an index that was begun, or there are not as many words as its setting needs.
     NotBegun,
+    /// How lines are to be read isn't in the grammar of the options that say it.
+    BadReading,
 }
 
 impl Refusal {
@@ -61,6 +63,7 @@ impl Refusal {
             Refusal::BadSetting => 13,
             Refusal::BadSize => 14,
             Refusal::NotBegun => 15,
+            Refusal::BadReading => 17,
         }
     }
 }

@@ -15,7 +15,7 @@ ghost use Rattle.eb_c.specs.Adding.{document_in, document_with, number_after, do
 ghost use Rattle.eb_c.specs.Asking.{asked_of, nothing_told, LineAsks, TextAsks, Answers, Tells};
 ghost use Rattle.eb_c.specs.Sharing.{kind_of, LeadsNowhere, LeadsToWriter, LeadsToReader, IsConverter, LeadsToConverter};
 
-use crate::asking::{refused, write_ids};
+use crate::asking::{put_ids, refused};
 use crate::handle::{BAD_HANDLE, Handle, crosses, handle_of};
 use crate::held::{Held, HeldConverter, HeldReader, HeldWriter};
 use crate::index::{Answer, setting};
@@ -109,13 +109,7 @@ pub extern "C" fn eb_writer_add_text(
         × LeadsToWriter writer.new.seal.held (record { index = w.index; docs = docs_after w.index.setting w.docs r; converted = w.converted }) }
     ensures bad { kind_of writer.old.seal.held ≢ 1 → (result ≡ 16) × (writer.new.seal.held ≡ writer.old.seal.held) }
 {
-    let Some(held) = writer.take(alloc) else {
-        return BAD_HANDLE;
-    };
-    let mut held = held;
-    let number = add_read(&mut held, document_with(alloc, id, text));
-    *writer = Handle::of(held);
-    number
+    add_by(alloc, writer, document_with(alloc, id, text))
 }
 
 /// Adds the document of a document line, the bytes of one line without its end, as `eb_writer_add_text` does.
@@ -127,11 +121,20 @@ pub extern "C" fn eb_writer_add_line(alloc: Global, writer: &mut Handle, line: &
         × LeadsToWriter writer.new.seal.held (record { index = w.index; docs = docs_after w.index.setting w.docs r; converted = w.converted }) }
     ensures bad { kind_of writer.old.seal.held ≢ 1 → (result ≡ 16) × (writer.new.seal.held ≡ writer.old.seal.held) }
 {
+    add_by(alloc, writer, document_in_line(alloc, line))
+}
+
+// Adds what was read of a document: 0, or the number of the refusal; 16 where the handle leads to no writer.
+pub(crate) fn add_by(alloc: Global, writer: &mut Handle, read: Result<Document, Refusal>) -> u32
+    ensures added { (w : HistoryToken) → LeadsToWriter writer.old.seal.held w → (result ≡ number_after w.index.setting w.docs read)
+        × LeadsToWriter writer.new.seal.held (record { index = w.index; docs = docs_after w.index.setting w.docs read; converted = w.converted }) }
+    ensures bad { kind_of writer.old.seal.held ≢ 1 → (result ≡ 16) × (writer.new.seal.held ≡ writer.old.seal.held) }
+{
     let Some(held) = writer.take(alloc) else {
         return BAD_HANDLE;
     };
     let mut held = held;
-    let number = add_read(&mut held, document_in_line(alloc, line));
+    let number = add_read(&mut held, read);
     *writer = Handle::of(held);
     number
 }
@@ -220,14 +223,7 @@ pub extern "C" fn eb_reader_ask_text(
     ensures bad { kind_of reader.old.seal.held ≢ 2
         → (result ≡ 16) × (answer.new ≡ nothing_told 0) × (ids.new ≡ ids.old) × (reader.new.seal.held ≡ reader.old.seal.held) }
 {
-    let Some(held) = reader.take(alloc) else {
-        *answer = refused(0);
-        return BAD_HANDLE;
-    };
-    let mut held = held;
-    let number = ask_held(&mut held, question_in_text(alloc, k, text), ids, answer);
-    *reader = Handle::of(held);
-    number
+    ask_by(alloc, reader, question_in_text(alloc, k, text), ids, answer)
 }
 
 /// Answers a query line, the bytes of one line without its end, as `eb_reader_ask_text` does.
@@ -245,12 +241,29 @@ pub extern "C" fn eb_reader_ask_line(
     ensures bad { kind_of reader.old.seal.held ≢ 2
         → (result ≡ 16) × (answer.new ≡ nothing_told 0) × (ids.new ≡ ids.old) × (reader.new.seal.held ≡ reader.old.seal.held) }
 {
+    ask_by(alloc, reader, question_in_line(alloc, line), ids, answer)
+}
+
+// Answers what was read of a question: 0, or the number of the refusal; 16 where the handle leads to no reader.
+pub(crate) fn ask_by(
+    alloc: Global,
+    reader: &mut Handle,
+    read: Question,
+    ids: &mut [u64],
+    answer: &mut Answer,
+) -> u32
+    ensures told { (r : HistoryToken) → LeadsToReader reader.old.seal.held r
+        → (s : HistoryToken) × LeadsToReader reader.new.seal.held s × (s.index ≡ r.index) × IsPrefix r.docs s.docs
+        × Tells s.docs (asked_of read) result answer.new ids.old ids.new }
+    ensures bad { kind_of reader.old.seal.held ≢ 2
+        → (result ≡ 16) × (answer.new ≡ nothing_told 0) × (ids.new ≡ ids.old) × (reader.new.seal.held ≡ reader.old.seal.held) }
+{
     let Some(held) = reader.take(alloc) else {
         *answer = refused(0);
         return BAD_HANDLE;
     };
     let mut held = held;
-    let number = ask_held(&mut held, question_in_line(alloc, line), ids, answer);
+    let number = ask_held(&mut held, read, ids, answer);
     *reader = Handle::of(held);
     number
 }
@@ -269,13 +282,7 @@ fn ask_held(held: &mut Held, read: Question, ids: &mut [u64], answer: &mut Answe
         Question::Asks(frame) => {
             let mut frame = frame;
             let seen = reader.search(&mut frame);
-            let found = frame.ids();
-            write_ids(found, ids);
-            *answer = Answer {
-                seen,
-                count: found.len() as u64,
-                column: 0,
-            };
+            put_ids(frame.ids(), seen, ids, answer);
             0
         }
         Question::Refused(refusal, column) => {

@@ -1,6 +1,6 @@
 //! The feed that threads share, for C: it never ends and is never full. One leader adds, and any number of followers search
 //! the newest generations that the feed keeps, each behind a handle, as those of `sharing` are.
-ghost use Rattle.std.specs.Prelude.{◌≡◌, ◌≢◌, ◌⊎◌, ◌≤◌, None, Some, Err, Result, [], IfOk, IfErr, IfSome, IsErr, MatchResult};
+ghost use Rattle.std.specs.Prelude.{◌≡◌, ◌≢◌, ◌⊎◌, ◌≤◌, false, None, Some, Err, Result, [], IfOk, IfSome};
 ghost use Rattle.std.specs.Bool.{MatchBool};
 ghost use Rattle.eb_base.specs.Document.{Doc};
 ghost use Rattle.eb_base.specs.Setting.{Setting, IsSetting};
@@ -10,10 +10,10 @@ ghost use Rattle.eb_stream.specs.Turns.{FeedToken, PieceToken, WriterToken, hist
 ghost use Rattle.eb_c.specs.Adding.{document_in, document_with};
 ghost use Rattle.eb_c.specs.Asking.{asked_of, nothing_told, LineAsks, TextAsks};
 ghost use Rattle.eb_c.specs.Sharing.{kind_of, LeadsNowhere, LeadsToConverter};
-ghost use Rattle.eb_c.specs.Streaming.{LeadsToLeader, LeadsToFollower, LeadsToSpare, LeadsToReleased, LeadsBack};
+ghost use Rattle.eb_c.specs.Streaming.{LeadsToLeader, LeadsToFollower, LeadsToSpare, LeadsToReleased, LeadsBack, GivesBack};
 ghost use Rattle.eb_c.specs.Streaming.{LeaderAdds, Follows, FollowerTells, FollowerAnswers};
 
-use crate::asking::{refused, write_ids};
+use crate::asking::{put_ids, refused};
 use crate::handle::{BAD_HANDLE, Handle, crosses, handle_of};
 use crate::held::Held;
 use crate::index::{Answer, setting};
@@ -92,13 +92,7 @@ pub extern "C" fn eb_leader_add_text(
         × (v : WriterToken) × LeadsToLeader leader.new.seal.held v × LeaderAdds r w result v }
     ensures bad { kind_of leader.old.seal.held ≢ 4 → (result ≡ 16) × (leader.new.seal.held ≡ leader.old.seal.held) }
 {
-    let Some(held) = leader.take(alloc) else {
-        return BAD_HANDLE;
-    };
-    let mut held = held;
-    let number = add_read(&mut held, document_with(alloc, id, text));
-    *leader = Handle::of(held);
-    number
+    add_by(alloc, leader, document_with(alloc, id, text))
 }
 
 /// Adds the document of a document line, the bytes of one line without its end, as `eb_leader_add_text` does.
@@ -109,11 +103,20 @@ pub extern "C" fn eb_leader_add_line(alloc: Global, leader: &mut Handle, line: &
         × (v : WriterToken) × LeadsToLeader leader.new.seal.held v × LeaderAdds r w result v }
     ensures bad { kind_of leader.old.seal.held ≢ 4 → (result ≡ 16) × (leader.new.seal.held ≡ leader.old.seal.held) }
 {
+    add_by(alloc, leader, document_in_line(alloc, line))
+}
+
+// Adds what was read of a document: 0, or the number of the refusal; 16 where the handle leads to no leader.
+pub(crate) fn add_by(alloc: Global, leader: &mut Handle, read: Result<Document, Refusal>) -> u32
+    ensures added { (w : WriterToken) → LeadsToLeader leader.old.seal.held w
+        → (v : WriterToken) × LeadsToLeader leader.new.seal.held v × LeaderAdds read w result v }
+    ensures bad { kind_of leader.old.seal.held ≢ 4 → (result ≡ 16) × (leader.new.seal.held ≡ leader.old.seal.held) }
+{
     let Some(held) = leader.take(alloc) else {
         return BAD_HANDLE;
     };
     let mut held = held;
-    let number = add_read(&mut held, document_in_line(alloc, line));
+    let number = add_read(&mut held, read);
     *leader = Handle::of(held);
     number
 }
@@ -252,16 +255,15 @@ fn open_spare(alloc: Global, config: Config) -> Result<Handle, NoMemory>
     ensures { IfOk result (λ h. (s : Words) × LeadsToSpare h.seal.held s × (s.setting ≡ config)) }
 {
     match Spare::open(alloc, config) {
-        Ok(spare) => handle_of(alloc, Held::Spare(spare)),
+        Ok(spare) => handle_of(alloc, Held::Spare(Some(spare))),
         Err(NoMemory) => Err(NoMemory),
     }
 }
 
 /// Gives this leader an index that was opened ahead: the add that begins the next generation takes it, and opens none. The
-/// spare's handle leads then to the one that the leader was given before and didn't begin yet, or it is closed: 0; else
-/// `BadSetting` (13) where its setting isn't that of the feed, or 16 where the one handle leads to no leader, or the other to no
-/// spare index, and both are as before. Takes memory for the handle of the one that comes back: where there is none, that
-/// index is dropped, and the spare's handle is closed.
+/// spare's handle leads then to the one that the leader was given before and didn't begin yet, or it is closed where there is
+/// none: 0; else `BadSetting` (13) where its setting isn't that of the feed, or 16 where the one handle leads to no leader, or the
+/// other to no spare index, and both are as before. Takes no memory.
 #[unsafe(no_mangle)]
 pub extern "C" fn eb_leader_lend(alloc: Global, leader: &mut Handle, spare: &mut Handle) -> u32
     ensures leader { leader.new.seal.held ≡ leader.old.seal.held }
@@ -294,65 +296,37 @@ fn lend_by(alloc: Global, held: &mut Held, spare: &mut Handle) -> u32
     let Some(lent) = spare.take(alloc) else {
         return BAD_HANDLE;
     };
-    match lend_held(held, lent) {
-        Ok(back) => {
-            put_back(alloc, spare, back);
-            0
-        }
-        Err(lent) => {
-            *spare = Handle::of(lent);
-            Refusal::BadSetting.number()
-        }
+    // The handle of the one that comes back is that of the one that is lent, so that none is lost for want of memory.
+    let mut lent = lent;
+    if !lend_held(held, &mut lent) {
+        *spare = Handle::of(lent);
+        return Refusal::BadSetting.number();
     }
+    if !is_out(&lent) {
+        *spare = Handle::of(lent);
+    }
+    0
 }
 
-// Has a closed handle lead to an index, where there is one, and memory for the handle.
-fn put_back(alloc: Global, spare: &mut Handle, back: Option<Spare>)
-    requires { LeadsNowhere spare.old.seal.held }
-    ensures { LeadsNowhere spare.new.seal.held ⊎ ((t : Words) × (back ≡ Some t) × LeadsToSpare spare.new.seal.held t) }
+// Whether this is a spare index that was lent, and none came back.
+fn is_out(lent: &Held) -> bool
+    ensures { MatchBool result (lent.now ≡ Held.Spare None) (lent.now ≢ Held.Spare None) }
 {
-    let Some(back) = back else {
-        return;
-    };
-    if let Ok(handle) = handle_of(alloc, Held::Spare(back)) {
-        *spare = handle;
-    }
+    matches!(lent, Held::Spare(None))
 }
 
-// Gives an index to a leader, and gives back the one that it had; or the same one, where its setting isn't that of the feed.
-fn lend_held(held: &mut Held, lent: Box<Held, Global>) -> Result<Option<Spare>, Box<Held, Global>>
+// Gives an index to a leader, and has the one that it had in its place, or nothing. False where these are no leader and no index of its
+// feed's setting; both are then as before.
+fn lend_held(held: &mut Held, lent: &mut Held) -> bool
     ensures held { held.new ≡ held.old }
-    ensures err { IfErr result (λ b. b.value ≡ lent.value) }
-    ensures lent { (w : WriterToken) (s : Words) → held.old ≡ Held.Leader w → lent.value ≡ Held.Spare s
-        → MatchResult result (λ back. (s.setting ≡ w.setting) × ((t : Words) → back ≡ Some t → t.setting ≡ w.setting)) (λ b. s.setting ≡ w.setting → ⊥) }
-    ensures bad { (kind_of (Some held.old) ≢ 4) ⊎ (kind_of (Some lent.value) ≢ 6) → IsErr result }
-{
-    if !fits(held, &lent) {
-        return Err(lent);
-    }
-    Ok(give(held, Box::into_inner(lent)))
-}
-
-// Whether this is a leader, and that a spare index of its feed's setting.
-fn fits(held: &Held, lent: &Held) -> bool
-    ensures { MatchBool result ((w : WriterToken) × (s : Words) × (held.now ≡ Held.Leader w) × (lent.now ≡ Held.Spare s) × (s.setting ≡ w.setting))
-        ((w : WriterToken) (s : Words) → held.now ≡ Held.Leader w → lent.now ≡ Held.Spare s → s.setting ≡ w.setting → ⊥) }
+    ensures lent { (w : WriterToken) (s : Words) → held.old ≡ Held.Leader w → lent.old ≡ Held.Spare (Some s)
+        → MatchBool result ((s.setting ≡ w.setting) × GivesBack lent.new w.setting) (s.setting ≡ w.setting → ⊥) }
+    ensures unchanged { result ≡ false → lent.new ≡ lent.old }
+    ensures bad { (kind_of (Some held.old) ≢ 4) ⊎ (kind_of (Some lent.old) ≢ 6) → result ≡ false }
 {
     match (held, lent) {
-        (Held::Leader(leader), Held::Spare(spare)) => leader.fits(spare),
+        (Held::Leader(leader), Held::Spare(spare)) => leader.exchange(spare),
         _ => false,
-    }
-}
-
-// Gives a leader a spare index of its feed's setting, and gives back the one that it had.
-fn give(held: &mut Held, lent: Held) -> Option<Spare>
-    requires { (w : WriterToken) × (s : Words) × (held.old ≡ Held.Leader w) × (lent ≡ Held.Spare s) × (s.setting ≡ w.setting) }
-    ensures held { held.new ≡ held.old }
-    ensures back { (w : WriterToken) (t : Words) → held.old ≡ Held.Leader w → result ≡ Some t → t.setting ≡ w.setting }
-{
-    match (held, lent) {
-        (Held::Leader(leader), Held::Spare(spare)) => leader.take(spare),
-        _ => None,
     }
 }
 
@@ -465,14 +439,13 @@ pub extern "C" fn eb_follower_ask_text(
     ensures bad { kind_of follower.old.seal.held ≢ 5
         → (result ≡ 16) × (answer.new ≡ nothing_told 0) × (ids.new ≡ ids.old) × (follower.new.seal.held ≡ follower.old.seal.held) }
 {
-    let Some(held) = follower.take(alloc) else {
-        *answer = refused(0);
-        return BAD_HANDLE;
-    };
-    let mut held = held;
-    let number = ask_held(&mut held, question_in_text(alloc, k, text), ids, answer);
-    *follower = Handle::of(held);
-    number
+    ask_by(
+        alloc,
+        follower,
+        question_in_text(alloc, k, text),
+        ids,
+        answer,
+    )
 }
 
 /// Answers a query line, the bytes of one line without its end, as `eb_follower_ask_text` does.
@@ -489,12 +462,29 @@ pub extern "C" fn eb_follower_ask_line(
     ensures bad { kind_of follower.old.seal.held ≢ 5
         → (result ≡ 16) × (answer.new ≡ nothing_told 0) × (ids.new ≡ ids.old) × (follower.new.seal.held ≡ follower.old.seal.held) }
 {
+    ask_by(alloc, follower, question_in_line(alloc, line), ids, answer)
+}
+
+// Answers what was read of a question: 0, or the number of the refusal; 16 where the handle leads to no follower.
+pub(crate) fn ask_by(
+    alloc: Global,
+    follower: &mut Handle,
+    read: Question,
+    ids: &mut [u64],
+    answer: &mut Answer,
+) -> u32
+    ensures told { (f : FeedToken) → LeadsToFollower follower.old.seal.held f
+        → (g : FeedToken) × LeadsToFollower follower.new.seal.held g × Follows (asked_of read) f g
+        × FollowerTells g (asked_of read) result answer.new ids.old ids.new }
+    ensures bad { kind_of follower.old.seal.held ≢ 5
+        → (result ≡ 16) × (answer.new ≡ nothing_told 0) × (ids.new ≡ ids.old) × (follower.new.seal.held ≡ follower.old.seal.held) }
+{
     let Some(held) = follower.take(alloc) else {
         *answer = refused(0);
         return BAD_HANDLE;
     };
     let mut held = held;
-    let number = ask_held(&mut held, question_in_line(alloc, line), ids, answer);
+    let number = ask_held(&mut held, read, ids, answer);
     *follower = Handle::of(held);
     number
 }
@@ -513,13 +503,7 @@ fn ask_held(held: &mut Held, read: Question, ids: &mut [u64], answer: &mut Answe
         Question::Asks(frame) => {
             let mut frame = frame;
             let seen = follower.search(&mut frame);
-            let found = frame.ids();
-            write_ids(found, ids);
-            *answer = Answer {
-                seen,
-                count: found.len() as u64,
-                column: 0,
-            };
+            put_ids(frame.ids(), seen, ids, answer);
             0
         }
         Question::Refused(refusal, column) => {

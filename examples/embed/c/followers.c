@@ -31,7 +31,7 @@ static void refused(void) {
     EXPECT(eb_follower_ask_line(&none, bytes("?1 a"), 4, ids, 10, &answer), EB_BAD_HANDLE);
     EXPECT(eb_follower_seen(&none, &number), EB_BAD_HANDLE);
     EXPECT(eb_follower_held(&none, &number), EB_BAD_HANDLE);
-    EXPECT(answer.seen + answer.count + answer.column, 0);
+    EXPECT(answer.seen + answer.count + answer.column + answer.written, 0);
     EXPECT(eb_stream_open(&leader, 0, 2, 1024, 2), EB_BAD_SETTING);
     EXPECT(eb_stream_open(&leader, 1, 2, 1024, 1), EB_BAD_SETTING);
     EXPECT(eb_stream_open(&leader, 1, 2, 1024, 65), EB_BAD_SETTING);
@@ -273,6 +273,15 @@ static long without_memory(void) {
     EXPECT(converter.kind, 0);
     UNTIL_IT_GOES_WELL(eb_spare_open(&spare, 1, 2, 1024), spare.kind == 0)
     EXPECT(eb_leader_lend(&leader, &spare), EB_OK);
+    EXPECT(spare.kind, 0);
+    EXPECT(eb_spare_open(&spare, 1, 2, 1024), EB_OK);
+    left = 0; /* the one that was lent before comes back, also where there is no memory */
+    EXPECT(eb_leader_lend(&leader, &spare), EB_OK);
+    EXPECT(spare.kind, 6);
+    EXPECT(eb_leader_lend(&leader, &spare), EB_OK);
+    EXPECT(spare.kind, 6);
+    left = -1;
+    eb_close(&spare);
     for (uint64_t n = 1; n <= 4; n++)
         UNTIL_IT_GOES_WELL(add(&leader, n, "night train"), leader.kind == 4)
     EXPECT(eb_spare_open(&spare, 1, 2, 1024), EB_OK);

@@ -44,7 +44,7 @@ static void refused(void) {
     EXPECT(seen, 77);
     EXPECT(eb_converter_convert(&reader, &packed), EB_BAD_HANDLE);
     EXPECT(packed, 77);
-    EXPECT(answer.seen + answer.count + answer.column, 0);
+    EXPECT(answer.seen + answer.count + answer.column + answer.written, 0);
     EXPECT(add(&writer, 1, "train"), EB_OK);
     EXPECT(ask(&reader, "train"), EB_OK);
     EXPECT(answer.seen, 1);

@@ -34,7 +34,7 @@ static uint32_t add(size_t len, uint64_t id, const char *text) {
 }
 
 static uint32_t ask(size_t len, uint32_t k, const char *query, size_t room) {
-    answer.seen = answer.count = answer.column = 77;
+    answer.seen = answer.count = answer.column = answer.written = 77;
     return eb_ask_text(words, len, &numbers, k, bytes(query), strlen(query), ids, room, &answer);
 }
 
@@ -42,7 +42,7 @@ static uint32_t ask(size_t len, uint32_t k, const char *query, size_t room) {
 #define UNASKED(call, why, at)                                                                                                            \
     do {                                                                                                                                  \
         REFUSED(call, why);                                                                                                               \
-        EXPECT(answer.seen + answer.count, 0);                                                                                            \
+        EXPECT(answer.seen + answer.count + answer.written, 0);                                                                           \
         EXPECT(answer.column, at);                                                                                                        \
         EXPECT(ids[0], 77);                                                                                                               \
     } while (0)
@@ -87,16 +87,17 @@ static void at_the_ends(void) {
     UNASKED(eb_ask_line(words, SIZE, &numbers, bytes(""), 0, ids, 4, &answer), EB_BAD_LINE, 0);
     EXPECT(ask(SIZE, 4, "train", 0), EB_OK);
     EXPECT(answer.seen * 10 + answer.count, 32);
+    EXPECT(answer.written, 0);
     EXPECT(ids[0], 77);
     EXPECT(ask(SIZE, 4, "train", 1), EB_OK);
-    EXPECT(answer.count, 2);
+    EXPECT(answer.count * 10 + answer.written, 21);
     EXPECT(ids[0], UINT64_MAX);
     EXPECT(ids[1], 77);
     EXPECT(eb_ask_line(words, SIZE, &numbers, bytes("?4 train"), 8, ids, SIZE_MAX, &answer), EB_OK);
     EXPECT(ids[1], 2);
     EXPECT(ids[2], 77);
     EXPECT(ask(SIZE, 1, "train", SIZE_MAX), EB_OK);
-    EXPECT(answer.count, 1);
+    EXPECT(answer.count * 10 + answer.written, 11);
 }
 
 /* Null pointers where nothing is named: the header asks for others, but a program that passes them is answered all the same. */

@@ -10,7 +10,7 @@
 /* A line of `earlybird run`: an answer, or a refusal. */
 static void print_answer(uint64_t number, const struct eb_answer *answer, const uint64_t *ids) {
     printf("%" PRIu64 " seen %" PRIu64 ":", number, answer->seen);
-    for (uint64_t at = 0; at < answer->count; at++)
+    for (uint64_t at = 0; at < answer->written; at++)
         printf(" %" PRIu64, ids[at]);
     putchar('\n');
 }
@@ -51,7 +51,7 @@ int main(int argc, char **argv) {
         if (len == 0)
             continue;
         const unsigned char *text = (const unsigned char *)line;
-        struct eb_answer answer = {0, 0, 0};
+        struct eb_answer answer = {0, 0, 0, 0};
         uint32_t done;
         if (line[0] == '?') {
             done = eb_ask_line(words, size, &index, text, len, ids, MOST_IDS, &answer);

@@ -1,4 +1,4 @@
-use Rattle.std.proofs.Common.{◌≡◌, List, length, ap, ◌∙◌, sym, subst}
+use Rattle.std.proofs.Common.{List, length, ap, ◌∙◌, sym, subst}
 use Rattle.eb_base.specs.Document.{Doc}
 use Rattle.eb_base.specs.Setting.{Setting}
 use Rattle.eb_count.specs.Tallies.{HasCounted}
