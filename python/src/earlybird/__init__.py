@@ -20,6 +20,7 @@ from earlybird._refusals import (
     BadLine,
     BadNumber,
     BadQuery,
+    BadReading,
     BadSetting,
     BadText,
     Full,
@@ -36,7 +37,7 @@ from earlybird._stream import Follower, Leader, Released, Spare
 __version__ = "0.5.0"
 
 __all__ = [
-    "Answer", "BadDocument", "BadHandle", "BadJson", "BadLine", "BadNumber", "BadQuery", "BadSetting", "BadText", "Converter", "Count",
-    "Follower", "Full", "Histogram", "Index", "Leader", "LongLine", "NoMemory", "QueryTooDeep", "QueryTooLarge", "Reader", "Refused", "Released", "Segment", "Spare", "TooLong",
-    "Writer",
+    "Answer", "BadDocument", "BadHandle", "BadJson", "BadLine", "BadNumber", "BadQuery", "BadReading", "BadSetting", "BadText", "Converter",
+    "Count", "Follower", "Full", "Histogram", "Index", "Leader", "LongLine", "NoMemory", "QueryTooDeep", "QueryTooLarge", "Reader", "Refused",
+    "Released", "Segment", "Spare", "TooLong", "Writer",
 ]

@@ -1,10 +1,11 @@
 """What is common to the objects that threads share, each of which has a handle."""
 import ctypes
 import threading
-from typing import Any, List, Tuple
+from typing import Any, List, Optional, Tuple
 
 from earlybird import _library
 from earlybird._index import MOST_IDS, Answer, Count, Histogram, at_least_one, bytes_of, counted
+from earlybird._reading import Reading
 from earlybird._refusals import BadDocument, BadNumber, BadSetting, refusal
 
 
@@ -42,20 +43,21 @@ class Adding(Side):
 
     _name: str
 
-    def __init__(self) -> None:
+    def __init__(self, *reading: Any) -> None:
         super().__init__()
-        self._by_text, self._by_line = (getattr(self._calls, self._name + word) for word in ("_add_text", "_add_line"))
+        self._by_text, self._by_line = (getattr(self._calls, self._name + word) for word in ("_add_text_with", "_add_line_with"))
+        self._reading = Reading(self._calls, *reading)
 
     def _add(self, id: int, text: str) -> None:
         if not (isinstance(id, int) and 0 <= id < 2**64):
             raise BadDocument()
         data = bytes_of(text)
         with self._alone:
-            self._done(self._by_text(self._at, id, data, len(data)))
+            self._done(self._by_text(self._at, self._reading.at, id, data, len(data)))
 
     def _add_line(self, line: bytes) -> None:
         with self._alone:
-            self._done(self._by_line(self._at, line, len(line)))
+            self._done(self._by_line(self._at, self._reading.at, line, len(line)))
 
 
 class Asking(Side):
@@ -63,30 +65,32 @@ class Asking(Side):
 
     _name: str
 
-    def __init__(self) -> None:
+    def __init__(self, reading: Optional[Reading] = None) -> None:
         super().__init__()
-        self._by_text, self._by_line, self._by_count = (getattr(self._calls, self._name + word) for word in ("_ask_text", "_ask_line", "_count_text"))
+        words = ("_ask_text_with", "_ask_line_with", "_count_text_with")
+        self._by_text, self._by_line, self._by_count = (getattr(self._calls, self._name + word) for word in words)
+        self._reading = reading or Reading(self._calls, (), None, None, None)
         self._ids, self._told = (ctypes.c_uint64 * MOST_IDS)(), _library.Told()
         self._room = (ctypes.addressof(self._ids), MOST_IDS, ctypes.addressof(self._told))
 
     def _answer(self, number: int) -> Answer:
         self._done(number, self._told.column)
-        return Answer(self._ids[: self._told.count], self._told.seen)
+        return Answer(self._ids[: self._told.written], self._told.seen)
 
     def _ask(self, query: str, k: int) -> Answer:
         if not (isinstance(k, int) and 0 <= k < 2**32):
             raise BadNumber()
         data = bytes_of(query)
         with self._alone:
-            return self._answer(self._by_text(self._at, k, data, len(data), *self._room))
+            return self._answer(self._by_text(self._at, self._reading.at, k, data, len(data), *self._room))
 
     def _ask_line(self, line: bytes) -> Answer:
         with self._alone:
-            return self._answer(self._by_line(self._at, line, len(line), *self._room))
+            return self._answer(self._by_line(self._at, self._reading.at, line, len(line), *self._room))
 
     def _counted(self, query: str, start: int, width: int, number: int) -> Tuple[List[int], int, int]:
         with self._alone:
-            return counted(self._done, self._by_count, (self._at,), query, start, width, number)
+            return counted(self._done, self._by_count, (self._at, self._reading.at), query, start, width, number)
 
     def count(self, query: str) -> Count:
         """Counts all messages that match a query, among those over which `search` would answer.

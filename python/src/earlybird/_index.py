@@ -1,9 +1,10 @@
 """The index, over memory of this process."""
 import ctypes
 import threading
-from typing import Any, Callable, Iterable, List, NamedTuple, Tuple, Union
+from typing import Any, Callable, Iterable, List, NamedTuple, Optional, Tuple, Union
 
 from earlybird import _library
+from earlybird._reading import Reading
 from earlybird._refusals import BadDocument, BadHandle, BadNumber, BadSetting, BadText, Refused, refusal
 
 MOST_IDS = 1000
@@ -54,17 +55,37 @@ class Index:
     of two from 1,024 to 1,048,576). It takes all its memory at once: 58 MiB by default, at most 1 GiB. Any thread may call
     it; calls on one index go one after another.
 
-    Raises `BadSetting` where no index can have these numbers, and MemoryError where there is no room for it.
+    Lines and texts are read as the options of `earlybird run` say: `fields` names the members of a line of JSON by whose values
+    messages are found too, one to 8 names; with `words="pieces"` the parts of a word between its marks are words; `id` and `text`
+    name the members that are a line's id and text.
+
+    Raises `BadSetting` where no index can have these numbers, `BadReading` where lines can't be read so, and MemoryError where there
+    is no room for it.
 
         >>> Index(segments=1, docs=1000, terms=1024)
         Index(segments=1, docs=1000, terms=1024)
+        >>> index = Index(fields=["user"], words="pieces")
+        >>> index.add_line(b'{"id":7,"text":"com.acme.billing failed","user":"Ann"}')
+        >>> index.search("user:ann billing")
+        Answer([7], seen=1)
     """
 
-    def __init__(self, segments: int = 12, docs: int = 4096, terms: int = 8192) -> None:
+    def __init__(
+        self,
+        segments: int = 12,
+        docs: int = 4096,
+        terms: int = 8192,
+        *,
+        fields: Iterable[str] = (),
+        words: Optional[str] = None,
+        id: Optional[str] = None,
+        text: Optional[str] = None,
+    ) -> None:
         self._setting = (segments, docs, terms)
         if not all(isinstance(it, int) and 0 <= it < 2**32 for it in self._setting):
             raise BadSetting()
         self._calls = _library.load()
+        self._reading = Reading(self._calls, fields, words, id, text)
         size = self._calls.eb_words(*self._setting)
         if size == 0:
             raise BadSetting()
@@ -99,7 +120,7 @@ class Index:
 
     def _answer(self, number: int) -> Answer:
         self._done(number)
-        return Answer(self._ids[: self._told.count], self._told.seen)
+        return Answer(self._ids[: self._told.written], self._told.seen)
 
     def add(self, id: int, text: str) -> None:
         """Adds the message of an id (0 to 2**64 - 1) and a text; the next search finds it.
@@ -117,7 +138,7 @@ class Index:
             raise BadDocument()
         data = bytes_of(text)
         with self._alone:
-            self._done(self._calls.eb_add_text(*self._index, id, data, len(data)))
+            self._done(self._calls.eb_add_text_with(*self._index, self._reading.at, id, data, len(data)))
 
     def add_all(self, messages: Iterable[Tuple[int, str]]) -> List[Tuple[int, Refused]]:
         """Adds messages in order, each an id and a text, and goes on after a refusal. Answers the refused ones: where each stands
@@ -153,7 +174,7 @@ class Index:
             raise BadNumber()
         data = bytes_of(query)
         with self._alone:
-            return self._answer(self._calls.eb_ask_text(*self._index, k, data, len(data), *self._room))
+            return self._answer(self._calls.eb_ask_text_with(*self._index, self._reading.at, k, data, len(data), *self._room))
 
     def search_all(self, queries: Iterable[str], k: int = 10) -> List[Union[Answer, Refused]]:
         """Answers queries in order; in the place of one that is refused stands why.
@@ -199,7 +220,7 @@ class Index:
 
     def _counted(self, query: str, start: int, width: int, number: int) -> Tuple[List[int], int, int]:
         with self._alone:
-            return counted(self._done_of, self._calls.eb_count_text, self._index, query, start, width, number)
+            return counted(self._done_of, self._calls.eb_count_text_with, (*self._index, self._reading.at), query, start, width, number)
 
     def _done_of(self, number: int, column: int) -> None:
         if number:
@@ -211,7 +232,7 @@ class Index:
         Raises `BadLine`, `LongLine`, `BadJson`, `BadDocument`, `TooLong`, `Full` or `NoMemory`; then nothing is changed.
         """
         with self._alone:
-            self._done(self._calls.eb_add_line(*self._index, line, len(line)))
+            self._done(self._calls.eb_add_line_with(*self._index, self._reading.at, line, len(line)))
 
     def search_line(self, line: bytes) -> Answer:
         """Answers a query line of `earlybird run`, as `?10 train`, without its end. A column counts from the `?`.
@@ -219,7 +240,7 @@ class Index:
         Raises `BadLine`, `LongLine`, and what `search` raises.
         """
         with self._alone:
-            return self._answer(self._calls.eb_ask_line(*self._index, line, len(line), *self._room))
+            return self._answer(self._calls.eb_ask_line_with(*self._index, self._reading.at, line, len(line), *self._room))
 
     def __len__(self) -> int:
         """How many messages are accepted."""

@@ -17,11 +17,18 @@ class Numbers(ctypes.Structure):
 
 
 class Told(ctypes.Structure):
-    _fields_ = [("seen", ctypes.c_uint64), ("count", ctypes.c_uint64), ("column", ctypes.c_uint64)]
+    _fields_ = [(name, ctypes.c_uint64) for name in ("seen", "count", "column", "written")]
 
 
 class Counted(ctypes.Structure):
     _fields_ = [("seen", ctypes.c_uint64), ("total", ctypes.c_uint64), ("column", ctypes.c_uint64)]
+
+
+class How(ctypes.Structure):
+    _fields_ = [
+        *((name + end, kind) for name in ("fields", "id", "text") for end, kind in (("", ctypes.c_char_p), ("_len", ctypes.c_size_t))),
+        ("words", ctypes.c_uint32),
+    ]
 
 
 class Handle(ctypes.Structure):
@@ -38,36 +45,37 @@ def load() -> ctypes.CDLL:
     for name, result, arguments in [
         ("eb_words", u64, [u32, u32, u32]),
         ("eb_begin", u32, [*index, u32, u32, u32]),
-        ("eb_add_line", u32, [*index, *text]),
-        ("eb_add_text", u32, [*index, u64, *text]),
-        ("eb_ask_line", u32, [*index, *text, *ids]),
-        ("eb_ask_text", u32, [*index, u32, *text, *ids]),
-        ("eb_count_text", u32, [*index, *counts]),
+        ("eb_check_reading", u32, [pointer]),
+        ("eb_add_line_with", u32, [*index, pointer, *text]),
+        ("eb_add_text_with", u32, [*index, pointer, u64, *text]),
+        ("eb_ask_line_with", u32, [*index, pointer, *text, *ids]),
+        ("eb_ask_text_with", u32, [*index, pointer, u32, *text, *ids]),
+        ("eb_count_text_with", u32, [*index, pointer, *counts]),
         ("eb_documents", u64, [pointer]),
         ("eb_segments", u32, [pointer]),
         ("eb_last_segment", None, [pointer, pointer]),
         ("eb_open", u32, [pointer, pointer, u32, u32, u32]),
-        ("eb_writer_add_line", u32, [pointer, *text]),
-        ("eb_writer_add_text", u32, [pointer, u64, *text]),
+        ("eb_writer_add_line_with", u32, [pointer, pointer, *text]),
+        ("eb_writer_add_text_with", u32, [pointer, pointer, u64, *text]),
         ("eb_reader", u32, [pointer, pointer]),
-        ("eb_reader_ask_line", u32, [pointer, *text, *ids]),
-        ("eb_reader_ask_text", u32, [pointer, u32, *text, *ids]),
-        ("eb_reader_count_text", u32, [pointer, *counts]),
+        ("eb_reader_ask_line_with", u32, [pointer, pointer, *text, *ids]),
+        ("eb_reader_ask_text_with", u32, [pointer, pointer, u32, *text, *ids]),
+        ("eb_reader_count_text_with", u32, [pointer, pointer, *counts]),
         ("eb_reader_seen", u32, [pointer, pointer]),
         ("eb_converter_convert", u32, [pointer, pointer]),
         ("eb_close", None, [pointer]),
         ("eb_stream_open", u32, [pointer, u32, u32, u32, u32]),
-        ("eb_leader_add_line", u32, [pointer, *text]),
-        ("eb_leader_add_text", u32, [pointer, u64, *text]),
+        ("eb_leader_add_line_with", u32, [pointer, pointer, *text]),
+        ("eb_leader_add_text_with", u32, [pointer, pointer, u64, *text]),
         ("eb_leader_tell", u32, [pointer, pointer]),
         ("eb_leader_converter", u32, [pointer, pointer]),
         ("eb_spare_open", u32, [pointer, u32, u32, u32]),
         ("eb_leader_lend", u32, [pointer, pointer]),
         ("eb_leader_released", u32, [pointer, pointer]),
         ("eb_follower", u32, [pointer, pointer]),
-        ("eb_follower_ask_line", u32, [pointer, *text, *ids]),
-        ("eb_follower_ask_text", u32, [pointer, u32, *text, *ids]),
-        ("eb_follower_count_text", u32, [pointer, *counts]),
+        ("eb_follower_ask_line_with", u32, [pointer, pointer, *text, *ids]),
+        ("eb_follower_ask_text_with", u32, [pointer, pointer, u32, *text, *ids]),
+        ("eb_follower_count_text_with", u32, [pointer, pointer, *counts]),
         ("eb_follower_seen", u32, [pointer, pointer]),
         ("eb_follower_held", u32, [pointer, pointer]),
     ]:

@@ -104,9 +104,19 @@ class BadHandle(Refused, ValueError):
     number, name = 16, "bad handle"
 
 
+class BadReading(Refused, ValueError):
+    """Lines can't be read so: a name of a field isn't one to 32 of `a` to `z`, `0` to `9` and `_`, or is `since`; there are more than 8 of
+    them, or one stands twice; the name of a member is empty, or isn't UTF-8; or `words` is neither None nor `pieces`."""
+
+    number, name = 17, "bad reading"
+
+
 BY_NUMBER: Dict[int, Type[Refused]] = {
     it.number: it
-    for it in (BadLine, LongLine, BadJson, BadDocument, TooLong, Full, BadNumber, QueryTooDeep, QueryTooLarge, BadText, NoMemory, BadSetting, BadHandle)
+    for it in (
+        BadLine, LongLine, BadJson, BadDocument, TooLong, Full, BadNumber, QueryTooDeep, QueryTooLarge, BadText, NoMemory, BadSetting, BadHandle,
+        BadReading,
+    )
 }
 
 

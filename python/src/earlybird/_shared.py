@@ -1,19 +1,23 @@
 """The index that threads share: one writer adds while any number of readers search, and a converter packs what is closed."""
 import ctypes
+from typing import Iterable, Optional
 
 from earlybird._handles import Adding, Asking, Side, numbers_of
 from earlybird._index import Answer
+from earlybird._reading import Reading
 
 
 class _Known(Side):
-    """A side that readers are made from."""
+    """A side that readers are made from, which read as it does."""
+
+    _reading: Reading
 
     def reader(self) -> "Reader":
         """A reader that knows all that this writer added, or all that this reader knows.
 
         Raises `BadHandle` or `NoMemory`.
         """
-        made = Reader()
+        made = Reader(self._reading)
         with self._alone:
             self._done(self._calls.eb_reader(self._at, made._at))
         return made
@@ -21,9 +25,11 @@ class _Known(Side):
 
 class Writer(_Known, Adding):
     """The one writer of a new index, whose numbers are those of `Index`; `converter` is its one converter, and `reader()` makes its
-    readers. Other threads may search and convert while it adds.
+    readers. Other threads may search and convert while it adds. Lines and texts are read as by an `Index` of the same `fields`, `words`, `id`
+    and `text`, also by the readers.
 
-    Raises `BadSetting` where no index can have these numbers, and `NoMemory` where there is no room for it.
+    Raises `BadSetting` where no index can have these numbers, `BadReading` where lines can't be read so, and `NoMemory` where there is no
+    room for it.
 
         >>> writer = Writer(segments=1, docs=1000, terms=1024)
         >>> reader = writer.reader()
@@ -34,8 +40,18 @@ class Writer(_Known, Adding):
 
     _name = "eb_writer"
 
-    def __init__(self, segments: int = 12, docs: int = 4096, terms: int = 8192) -> None:
-        super().__init__()
+    def __init__(
+        self,
+        segments: int = 12,
+        docs: int = 4096,
+        terms: int = 8192,
+        *,
+        fields: Iterable[str] = (),
+        words: Optional[str] = None,
+        id: Optional[str] = None,
+        text: Optional[str] = None,
+    ) -> None:
+        super().__init__(fields, words, id, text)
         self.converter = Converter()
         self._done(self._calls.eb_open(self._at, self.converter._at, *numbers_of(segments, docs, terms)))
 

@@ -1,6 +1,6 @@
 """The feed that threads share, which never ends: one leader adds, and any number of followers search the newest generations."""
 import ctypes
-from typing import Optional
+from typing import Iterable, Optional
 
 from earlybird._handles import Adding, Asking, Side, numbers_of
 from earlybird._index import Answer
@@ -10,9 +10,11 @@ from earlybird._shared import Converter
 class Leader(Adding):
     """The one leader of a new feed, which keeps `keep` generations, 2 to 64, of an index with the numbers of `Index`; `follower()`
     makes its followers. It is never full: where the newest generation has no room for a message, another is begun, and the oldest
-    is dropped. Other threads may search while it adds.
+    is dropped. Other threads may search while it adds. Lines and texts are read as by an `Index` of the same `fields`, `words`, `id` and
+    `text`, also by the followers.
 
-    Raises `BadSetting` where no feed can have these numbers, and `NoMemory` where there is no room for it.
+    Raises `BadSetting` where no feed can have these numbers, `BadReading` where lines can't be read so, and `NoMemory` where there is no
+    room for it.
 
         >>> leader = Leader(segments=1, docs=2, terms=1024, keep=2)
         >>> follower = leader.follower()
@@ -24,8 +26,19 @@ class Leader(Adding):
 
     _name = "eb_leader"
 
-    def __init__(self, segments: int = 12, docs: int = 4096, terms: int = 8192, keep: int = 4) -> None:
-        super().__init__()
+    def __init__(
+        self,
+        segments: int = 12,
+        docs: int = 4096,
+        terms: int = 8192,
+        keep: int = 4,
+        *,
+        fields: Iterable[str] = (),
+        words: Optional[str] = None,
+        id: Optional[str] = None,
+        text: Optional[str] = None,
+    ) -> None:
+        super().__init__(fields, words, id, text)
         self._done(self._calls.eb_stream_open(self._at, *numbers_of(segments, docs, terms, keep)))
 
     def add(self, id: int, text: str) -> None:
@@ -92,7 +105,7 @@ class Leader(Adding):
 
         Raises `BadHandle` or `NoMemory`.
         """
-        made = Follower()
+        made = Follower(self._reading)
         with self._alone:
             self._done(self._calls.eb_follower(self._at, made._at))
         return made
