@@ -55,6 +55,6 @@ impl Room {
         let mut told = Told::default();
         let done = ask(self.0.as_mut_ptr(), self.0.len(), &mut told);
         Refusal::of(done, told.column)?;
-        Ok(Answer { seen: told.seen, ids: self.0[..told.count as usize].to_vec() })
+        Ok(Answer { seen: told.seen, ids: self.0[..told.written as usize].to_vec() })
     }
 }

@@ -18,9 +18,12 @@
 //! private, belong together, and only the calls write them. What the calls answer is proved (`crates/eb_c`); these types are
 //! tested.
 
+pub use reading::Reading;
+use reading::How;
 use std::fmt;
 
 mod handle;
+mod reading;
 pub mod shared;
 pub mod stream;
 
@@ -67,6 +70,7 @@ struct Told {
     seen: u64,
     count: u64,
     column: u64,
+    written: u64,
 }
 
 #[repr(C)]
@@ -80,17 +84,21 @@ struct Counted {
 extern "C" {
     fn eb_words(segments: u32, docs: u32, terms: u32) -> u64;
     fn eb_begin(words: *mut u64, words_len: usize, index: *mut Numbers, segments: u32, docs: u32, terms: u32) -> u32;
-    fn eb_add_line(words: *mut u64, words_len: usize, index: *mut Numbers, line: *const u8, line_len: usize) -> u32;
-    fn eb_add_text(words: *mut u64, words_len: usize, index: *mut Numbers, id: u64, text: *const u8, text_len: usize) -> u32;
-    fn eb_ask_line(
-        words: *const u64, words_len: usize, index: *const Numbers, line: *const u8, line_len: usize, ids: *mut u64, ids_len: usize, answer: *mut Told,
+    fn eb_add_line_with(words: *mut u64, words_len: usize, index: *mut Numbers, how: *const How, line: *const u8, line_len: usize) -> u32;
+    fn eb_add_text_with(
+        words: *mut u64, words_len: usize, index: *mut Numbers, how: *const How, id: u64, text: *const u8, text_len: usize,
     ) -> u32;
-    fn eb_ask_text(
-        words: *const u64, words_len: usize, index: *const Numbers, k: u32, text: *const u8, text_len: usize, ids: *mut u64, ids_len: usize, answer: *mut Told,
+    fn eb_ask_line_with(
+        words: *const u64, words_len: usize, index: *const Numbers, how: *const How, line: *const u8, line_len: usize, ids: *mut u64, ids_len: usize,
+        answer: *mut Told,
     ) -> u32;
-    fn eb_count_text(
-        words: *const u64, words_len: usize, index: *const Numbers, text: *const u8, text_len: usize, start: u64, width: u64, buckets: *mut u64,
-        buckets_len: usize, count: *mut Counted,
+    fn eb_ask_text_with(
+        words: *const u64, words_len: usize, index: *const Numbers, how: *const How, k: u32, text: *const u8, text_len: usize, ids: *mut u64,
+        ids_len: usize, answer: *mut Told,
+    ) -> u32;
+    fn eb_count_text_with(
+        words: *const u64, words_len: usize, index: *const Numbers, how: *const How, text: *const u8, text_len: usize, start: u64, width: u64,
+        buckets: *mut u64, buckets_len: usize, count: *mut Counted,
     ) -> u32;
     fn eb_documents(index: *const Numbers) -> u64;
     fn eb_segments(index: *const Numbers) -> u32;
@@ -143,6 +151,8 @@ pub enum Refusal {
     NotBegun,
     /// The handle is closed, or one of another kind; no type of this crate has this.
     BadHandle,
+    /// A name of a [`Reading`] isn't one, or there are too many, or one stands twice.
+    BadReading,
 }
 
 impl Refusal {
@@ -165,6 +175,7 @@ impl Refusal {
             13 => Refusal::BadSetting,
             14 => Refusal::BadSize,
             15 => Refusal::NotBegun,
+            17 => Refusal::BadReading,
             _ => Refusal::BadHandle,
         })
     }
@@ -189,6 +200,7 @@ impl fmt::Display for Refusal {
             Refusal::BadSize => "bad size",
             Refusal::NotBegun => "not begun",
             Refusal::BadHandle => "bad handle",
+            Refusal::BadReading => "bad reading",
         })
     }
 }
@@ -242,6 +254,7 @@ pub struct Count {
 pub struct Index {
     words: Vec<u64>,
     numbers: Numbers,
+    reading: Reading,
 }
 
 impl Index {
@@ -250,11 +263,19 @@ impl Index {
     ///
     /// [`Refusal::BadSetting`] where no index can have these numbers, and [`Refusal::NoMemory`] where there is no room for it.
     pub fn new(segments: u32, docs: u32, terms: u32) -> Result<Index, Refusal> {
+        Index::with_reading(segments, docs, terms, Reading::new())
+    }
+
+    /// The same, whose lines and texts are read so.
+    ///
+    /// [`Refusal::BadReading`] where they can't be, and what [`Index::new`] is refused for.
+    pub fn with_reading(segments: u32, docs: u32, terms: u32, reading: Reading) -> Result<Index, Refusal> {
+        let reading = reading.checked()?;
         let size = unsafe { eb_words(segments, docs, terms) } as usize;
         let mut words = Vec::new();
         words.try_reserve_exact(size).map_err(|_| Refusal::NoMemory)?;
         words.resize(size, 0);
-        let mut index = Index { words, numbers: Numbers::default() };
+        let mut index = Index { words, numbers: Numbers::default(), reading };
         let done = unsafe { eb_begin(index.words.as_mut_ptr(), size, &mut index.numbers, segments, docs, terms) };
         Refusal::of(done, 0)?;
         Ok(index)
@@ -264,7 +285,8 @@ impl Index {
     ///
     /// [`Refusal::BadLine`], `LongLine`, `BadJson`, `BadDocument`, `TooLong`, `Full` or `NoMemory`; then nothing is changed.
     pub fn add_line(&mut self, line: &[u8]) -> Result<(), Refusal> {
-        let done = unsafe { eb_add_line(self.words.as_mut_ptr(), self.words.len(), &mut self.numbers, line.as_ptr(), line.len()) };
+        let how = self.reading.how();
+        let done = unsafe { eb_add_line_with(self.words.as_mut_ptr(), self.words.len(), &mut self.numbers, &how, line.as_ptr(), line.len()) };
         Refusal::of(done, 0)
     }
 
@@ -272,7 +294,8 @@ impl Index {
     ///
     /// [`Refusal::TooLong`], `Full` or `NoMemory`; then nothing is changed.
     pub fn add(&mut self, id: u64, text: &str) -> Result<(), Refusal> {
-        let done = unsafe { eb_add_text(self.words.as_mut_ptr(), self.words.len(), &mut self.numbers, id, text.as_ptr(), text.len()) };
+        let how = self.reading.how();
+        let done = unsafe { eb_add_text_with(self.words.as_mut_ptr(), self.words.len(), &mut self.numbers, &how, id, text.as_ptr(), text.len()) };
         Refusal::of(done, 0)
     }
 
@@ -297,8 +320,9 @@ impl Index {
     pub fn search_line(&self, line: &[u8]) -> Result<Answer, Refusal> {
         let (mut ids, mut told) = (vec![0; MOST_IDS], Told::default());
         let done = unsafe {
-            eb_ask_line(
-                self.words.as_ptr(), self.words.len(), &self.numbers, line.as_ptr(), line.len(), ids.as_mut_ptr(), ids.len(), &mut told,
+            eb_ask_line_with(
+                self.words.as_ptr(), self.words.len(), &self.numbers, &self.reading.how(), line.as_ptr(), line.len(), ids.as_mut_ptr(), ids.len(),
+                &mut told,
             )
         };
         answer(done, ids, told)
@@ -310,8 +334,9 @@ impl Index {
     pub fn search(&self, k: u32, query: &str) -> Result<Answer, Refusal> {
         let (mut ids, mut told) = (vec![0; MOST_IDS.min(k as usize)], Told::default());
         let done = unsafe {
-            eb_ask_text(
-                self.words.as_ptr(), self.words.len(), &self.numbers, k, query.as_ptr(), query.len(), ids.as_mut_ptr(), ids.len(), &mut told,
+            eb_ask_text_with(
+                self.words.as_ptr(), self.words.len(), &self.numbers, &self.reading.how(), k, query.as_ptr(), query.len(), ids.as_mut_ptr(),
+                ids.len(), &mut told,
             )
         };
         answer(done, ids, told)
@@ -346,7 +371,10 @@ impl Index {
     /// ```
     pub fn histogram(&self, query: &str, start: u64, width: u64, number: usize) -> Result<Count, Refusal> {
         counted(number, |buckets, len, count| unsafe {
-            eb_count_text(self.words.as_ptr(), self.words.len(), &self.numbers, query.as_ptr(), query.len(), start, width, buckets, len, count)
+            let how = self.reading.how();
+            eb_count_text_with(
+                self.words.as_ptr(), self.words.len(), &self.numbers, &how, query.as_ptr(), query.len(), start, width, buckets, len, count,
+            )
         })
     }
 
@@ -383,7 +411,7 @@ impl Index {
 
 fn answer(done: u32, mut ids: Vec<u64>, told: Told) -> Result<Answer, Refusal> {
     Refusal::of(done, told.column)?;
-    ids.truncate(told.count as usize);
+    ids.truncate(told.written as usize);
     Ok(Answer { seen: told.seen, ids })
 }
 

@@ -2,30 +2,35 @@
 //! [`Converter`] packs the segments that are closed. No call waits for another.
 
 use crate::handle::{Handle, Room, Side};
-use crate::{counted, Answer, Count, Counted, Refusal, Told};
+use crate::reading::How;
+use crate::{counted, Answer, Count, Counted, Reading, Refusal, Told};
+use std::sync::Arc;
 
 extern "C" {
     fn eb_open(writer: *mut Handle, converter: *mut Handle, segments: u32, docs: u32, terms: u32) -> u32;
-    fn eb_writer_add_line(writer: *mut Handle, line: *const u8, line_len: usize) -> u32;
-    fn eb_writer_add_text(writer: *mut Handle, id: u64, text: *const u8, text_len: usize) -> u32;
+    fn eb_writer_add_line_with(writer: *mut Handle, how: *const How, line: *const u8, line_len: usize) -> u32;
+    fn eb_writer_add_text_with(writer: *mut Handle, how: *const How, id: u64, text: *const u8, text_len: usize) -> u32;
     fn eb_reader(from: *mut Handle, reader: *mut Handle) -> u32;
-    fn eb_reader_ask_line(reader: *mut Handle, line: *const u8, line_len: usize, ids: *mut u64, ids_len: usize, answer: *mut Told) -> u32;
-    fn eb_reader_ask_text(
-        reader: *mut Handle, k: u32, text: *const u8, text_len: usize, ids: *mut u64, ids_len: usize, answer: *mut Told,
+    fn eb_reader_ask_line_with(
+        reader: *mut Handle, how: *const How, line: *const u8, line_len: usize, ids: *mut u64, ids_len: usize, answer: *mut Told,
     ) -> u32;
-    fn eb_reader_count_text(
-        reader: *mut Handle, text: *const u8, text_len: usize, start: u64, width: u64, buckets: *mut u64, buckets_len: usize, count: *mut Counted,
+    fn eb_reader_ask_text_with(
+        reader: *mut Handle, how: *const How, k: u32, text: *const u8, text_len: usize, ids: *mut u64, ids_len: usize, answer: *mut Told,
+    ) -> u32;
+    fn eb_reader_count_text_with(
+        reader: *mut Handle, how: *const How, text: *const u8, text_len: usize, start: u64, width: u64, buckets: *mut u64, buckets_len: usize,
+        count: *mut Counted,
     ) -> u32;
     fn eb_reader_seen(reader: *mut Handle, seen: *mut u64) -> u32;
     fn eb_converter_convert(converter: *mut Handle, converted: *mut u32) -> u32;
 }
 
 impl Side {
-    fn reader(&self) -> Result<Reader, Refusal> {
+    fn reader(&self, reading: &Arc<Reading>) -> Result<Reader, Refusal> {
         let made = Side::closed();
         // SAFETY: two handles that no other call has.
         Refusal::of(unsafe { eb_reader(self.at(), made.at()) }, 0)?;
-        Ok(Reader { side: made, room: Room::new() })
+        Ok(Reader { side: made, reading: Arc::clone(reading), room: Room::new() })
     }
 }
 
@@ -40,10 +45,26 @@ impl Side {
 /// # Ok::<(), earlybird::Refusal>(())
 /// ```
 pub fn open(segments: u32, docs: u32, terms: u32) -> Result<(Writer, Converter), Refusal> {
+    open_with(segments, docs, terms, Reading::new())
+}
+
+/// The same, whose lines and texts are read so, also by the readers.
+///
+/// [`Refusal::BadReading`] where they can't be.
+///
+/// ```
+/// use earlybird::{shared, Reading};
+/// let (mut writer, _converter) = shared::open_with(12, 4096, 8192, Reading::new().fields(["room"]))?;
+/// writer.add_line(br#"{"id":7,"text":"dinner","room":"kitchen"}"#)?;
+/// assert_eq!(writer.reader()?.search(10, "room:kitchen")?.ids, [7]);
+/// # Ok::<(), earlybird::Refusal>(())
+/// ```
+pub fn open_with(segments: u32, docs: u32, terms: u32, reading: Reading) -> Result<(Writer, Converter), Refusal> {
+    let reading = Arc::new(reading.checked()?);
     let (writer, converter) = (Side::closed(), Side::closed());
     // SAFETY: two handles that no other call has.
     Refusal::of(unsafe { eb_open(writer.at(), converter.at(), segments, docs, terms) }, 0)?;
-    Ok((Writer { side: writer }, Converter { side: converter }))
+    Ok((Writer { side: writer, reading }, Converter { side: converter }))
 }
 
 /// The one writer of an index. It may go to another thread, and can't be cloned.
@@ -55,24 +76,25 @@ pub fn open(segments: u32, docs: u32, terms: u32) -> Result<(Writer, Converter),
 /// ```
 pub struct Writer {
     side: Side,
+    reading: Arc<Reading>,
 }
 
 impl Writer {
     /// Adds the message of an id and a text, after those before it.
     pub fn add(&mut self, id: u64, text: &str) -> Result<(), Refusal> {
         // SAFETY: a handle that no other call has, and the bytes of a text.
-        Refusal::of(unsafe { eb_writer_add_text(self.side.at(), id, text.as_ptr(), text.len()) }, 0)
+        Refusal::of(unsafe { eb_writer_add_text_with(self.side.at(), &self.reading.how(), id, text.as_ptr(), text.len()) }, 0)
     }
 
     /// Adds the message of a line of JSON, without its end.
     pub fn add_line(&mut self, line: &[u8]) -> Result<(), Refusal> {
         // SAFETY: a handle that no other call has, and the bytes of a line.
-        Refusal::of(unsafe { eb_writer_add_line(self.side.at(), line.as_ptr(), line.len()) }, 0)
+        Refusal::of(unsafe { eb_writer_add_line_with(self.side.at(), &self.reading.how(), line.as_ptr(), line.len()) }, 0)
     }
 
     /// A reader that knows all that was added.
     pub fn reader(&mut self) -> Result<Reader, Refusal> {
-        self.side.reader()
+        self.side.reader(&self.reading)
     }
 }
 
@@ -89,6 +111,7 @@ impl Writer {
 /// ```
 pub struct Reader {
     side: Side,
+    reading: Arc<Reading>,
     room: Room,
 }
 
@@ -96,16 +119,16 @@ impl Reader {
     /// Answers a query of which the newest `k` matches are wanted, 1 to 1,000, over the first `seen` documents of the writer: all
     /// that were accepted when the call counted them. They begin with all that this reader knew, and it knows them from then on.
     pub fn search(&mut self, k: u32, query: &str) -> Result<Answer, Refusal> {
-        let at = self.side.at();
+        let (at, how) = (self.side.at(), self.reading.how());
         // SAFETY: a handle that no other call has, the bytes of a query, and the room for the ids.
-        self.room.answer(|ids, len, told| unsafe { eb_reader_ask_text(at, k, query.as_ptr(), query.len(), ids, len, told) })
+        self.room.answer(|ids, len, told| unsafe { eb_reader_ask_text_with(at, &how, k, query.as_ptr(), query.len(), ids, len, told) })
     }
 
     /// Answers a query line, without its end, as [`Reader::search`] does.
     pub fn search_line(&mut self, line: &[u8]) -> Result<Answer, Refusal> {
-        let at = self.side.at();
+        let (at, how) = (self.side.at(), self.reading.how());
         // SAFETY: a handle that no other call has, the bytes of a line, and the room for the ids.
-        self.room.answer(|ids, len, told| unsafe { eb_reader_ask_line(at, line.as_ptr(), line.len(), ids, len, told) })
+        self.room.answer(|ids, len, told| unsafe { eb_reader_ask_line_with(at, &how, line.as_ptr(), line.len(), ids, len, told) })
     }
 
     /// Counts all messages that match a query, among the documents over which [`Reader::search`] would answer.
@@ -124,9 +147,11 @@ impl Reader {
     /// # Ok::<(), earlybird::Refusal>(())
     /// ```
     pub fn histogram(&mut self, query: &str, start: u64, width: u64, number: usize) -> Result<Count, Refusal> {
-        let at = self.side.at();
+        let (at, how) = (self.side.at(), self.reading.how());
         // SAFETY: a handle that no other call has, the bytes of a query, and the room for the buckets.
-        counted(number, |buckets, len, count| unsafe { eb_reader_count_text(at, query.as_ptr(), query.len(), start, width, buckets, len, count) })
+        counted(number, |buckets, len, count| unsafe {
+            eb_reader_count_text_with(at, &how, query.as_ptr(), query.len(), start, width, buckets, len, count)
+        })
     }
 
     /// How many documents it knows.
@@ -139,7 +164,7 @@ impl Reader {
 
     /// A reader that knows what this one knows.
     pub fn try_clone(&self) -> Result<Reader, Refusal> {
-        self.side.reader()
+        self.side.reader(&self.reading)
     }
 }
 

@@ -3,24 +3,29 @@
 
 use crate::handle::{Handle, Room, Side};
 use crate::shared::Converter;
-use crate::{counted, Answer, Count, Counted, Refusal, Told};
+use crate::reading::How;
+use crate::{counted, Answer, Count, Counted, Reading, Refusal, Told};
+use std::sync::Arc;
 
 extern "C" {
     fn eb_stream_open(leader: *mut Handle, segments: u32, docs: u32, terms: u32, keep: u32) -> u32;
-    fn eb_leader_add_line(leader: *mut Handle, line: *const u8, line_len: usize) -> u32;
-    fn eb_leader_add_text(leader: *mut Handle, id: u64, text: *const u8, text_len: usize) -> u32;
+    fn eb_leader_add_line_with(leader: *mut Handle, how: *const How, line: *const u8, line_len: usize) -> u32;
+    fn eb_leader_add_text_with(leader: *mut Handle, how: *const How, id: u64, text: *const u8, text_len: usize) -> u32;
     fn eb_leader_tell(leader: *mut Handle, told: *mut u32) -> u32;
     fn eb_leader_converter(leader: *mut Handle, converter: *mut Handle) -> u32;
     fn eb_spare_open(spare: *mut Handle, segments: u32, docs: u32, terms: u32) -> u32;
     fn eb_leader_lend(leader: *mut Handle, spare: *mut Handle) -> u32;
     fn eb_leader_released(leader: *mut Handle, released: *mut Handle) -> u32;
     fn eb_follower(leader: *mut Handle, follower: *mut Handle) -> u32;
-    fn eb_follower_ask_line(follower: *mut Handle, line: *const u8, line_len: usize, ids: *mut u64, ids_len: usize, answer: *mut Told) -> u32;
-    fn eb_follower_ask_text(
-        follower: *mut Handle, k: u32, text: *const u8, text_len: usize, ids: *mut u64, ids_len: usize, answer: *mut Told,
+    fn eb_follower_ask_line_with(
+        follower: *mut Handle, how: *const How, line: *const u8, line_len: usize, ids: *mut u64, ids_len: usize, answer: *mut Told,
     ) -> u32;
-    fn eb_follower_count_text(
-        follower: *mut Handle, text: *const u8, text_len: usize, start: u64, width: u64, buckets: *mut u64, buckets_len: usize, count: *mut Counted,
+    fn eb_follower_ask_text_with(
+        follower: *mut Handle, how: *const How, k: u32, text: *const u8, text_len: usize, ids: *mut u64, ids_len: usize, answer: *mut Told,
+    ) -> u32;
+    fn eb_follower_count_text_with(
+        follower: *mut Handle, how: *const How, text: *const u8, text_len: usize, start: u64, width: u64, buckets: *mut u64, buckets_len: usize,
+        count: *mut Counted,
     ) -> u32;
     fn eb_follower_seen(follower: *mut Handle, seen: *mut u64) -> u32;
     fn eb_follower_held(follower: *mut Handle, held: *mut u64) -> u32;
@@ -39,10 +44,26 @@ extern "C" {
 /// # Ok::<(), earlybird::Refusal>(())
 /// ```
 pub fn open(segments: u32, docs: u32, terms: u32, keep: u32) -> Result<Leader, Refusal> {
+    open_with(segments, docs, terms, keep, Reading::new())
+}
+
+/// The same, whose lines and texts are read so, also by the followers.
+///
+/// [`Refusal::BadReading`] where they can't be.
+///
+/// ```
+/// use earlybird::{stream, Reading};
+/// let mut leader = stream::open_with(1, 10, 1024, 2, Reading::new().pieces())?;
+/// leader.add(7, "com.acme.billing failed")?;
+/// assert_eq!(leader.follower()?.search(10, "acme")?.ids, [7]);
+/// # Ok::<(), earlybird::Refusal>(())
+/// ```
+pub fn open_with(segments: u32, docs: u32, terms: u32, keep: u32, reading: Reading) -> Result<Leader, Refusal> {
+    let reading = Arc::new(reading.checked()?);
     let side = Side::closed();
     // SAFETY: a handle that no other call has.
     Refusal::of(unsafe { eb_stream_open(side.at(), segments, docs, terms, keep) }, 0)?;
-    Ok(Leader { side })
+    Ok(Leader { side, reading })
 }
 
 /// The one leader of a feed. It may go to another thread, and can't be cloned. Its followers go on where it is dropped.
@@ -56,6 +77,7 @@ pub fn open(segments: u32, docs: u32, terms: u32, keep: u32) -> Result<Leader, R
 /// ```
 pub struct Leader {
     side: Side,
+    reading: Arc<Reading>,
 }
 
 impl Leader {
@@ -65,13 +87,13 @@ impl Leader {
     /// [`Refusal::TooLong`] or `NoMemory`; then nothing is changed.
     pub fn add(&mut self, id: u64, text: &str) -> Result<(), Refusal> {
         // SAFETY: a handle that no other call has, and the bytes of a text.
-        Refusal::of(unsafe { eb_leader_add_text(self.side.at(), id, text.as_ptr(), text.len()) }, 0)
+        Refusal::of(unsafe { eb_leader_add_text_with(self.side.at(), &self.reading.how(), id, text.as_ptr(), text.len()) }, 0)
     }
 
     /// Adds the message of a line of JSON, without its end, as [`Leader::add`] does.
     pub fn add_line(&mut self, line: &[u8]) -> Result<(), Refusal> {
         // SAFETY: a handle that no other call has, and the bytes of a line.
-        Refusal::of(unsafe { eb_leader_add_line(self.side.at(), line.as_ptr(), line.len()) }, 0)
+        Refusal::of(unsafe { eb_leader_add_line_with(self.side.at(), &self.reading.how(), line.as_ptr(), line.len()) }, 0)
     }
 
     /// Tells each follower of the generations that were begun, as [`Leader::add`] does too. False where one couldn't hear of them,
@@ -120,7 +142,7 @@ impl Leader {
         let made = Side::closed();
         // SAFETY: two handles that no other call has.
         Refusal::of(unsafe { eb_follower(self.side.at(), made.at()) }, 0)?;
-        Ok(Follower { side: made, room: Room::new() })
+        Ok(Follower { side: made, reading: Arc::clone(&self.reading), room: Room::new() })
     }
 }
 
@@ -179,6 +201,7 @@ pub struct Released {
 /// ```
 pub struct Follower {
     side: Side,
+    reading: Arc<Reading>,
     room: Room,
 }
 
@@ -187,16 +210,16 @@ impl Follower {
     /// the end of the first `seen` documents of the leader, once it took in what it had heard of. They begin with all that this
     /// follower knew, and it knows them from then on.
     pub fn search(&mut self, k: u32, query: &str) -> Result<Answer, Refusal> {
-        let at = self.side.at();
+        let (at, how) = (self.side.at(), self.reading.how());
         // SAFETY: a handle that no other call has, the bytes of a query, and the room for the ids.
-        self.room.answer(|ids, len, told| unsafe { eb_follower_ask_text(at, k, query.as_ptr(), query.len(), ids, len, told) })
+        self.room.answer(|ids, len, told| unsafe { eb_follower_ask_text_with(at, &how, k, query.as_ptr(), query.len(), ids, len, told) })
     }
 
     /// Answers a query line, without its end, as [`Follower::search`] does.
     pub fn search_line(&mut self, line: &[u8]) -> Result<Answer, Refusal> {
-        let at = self.side.at();
+        let (at, how) = (self.side.at(), self.reading.how());
         // SAFETY: a handle that no other call has, the bytes of a line, and the room for the ids.
-        self.room.answer(|ids, len, told| unsafe { eb_follower_ask_line(at, line.as_ptr(), line.len(), ids, len, told) })
+        self.room.answer(|ids, len, told| unsafe { eb_follower_ask_line_with(at, &how, line.as_ptr(), line.len(), ids, len, told) })
     }
 
     /// Counts all messages that match a query, among the documents over which [`Follower::search`] would answer.
@@ -215,9 +238,11 @@ impl Follower {
     /// # Ok::<(), earlybird::Refusal>(())
     /// ```
     pub fn histogram(&mut self, query: &str, start: u64, width: u64, number: usize) -> Result<Count, Refusal> {
-        let at = self.side.at();
+        let (at, how) = (self.side.at(), self.reading.how());
         // SAFETY: a handle that no other call has, the bytes of a query, and the room for the buckets.
-        counted(number, |buckets, len, count| unsafe { eb_follower_count_text(at, query.as_ptr(), query.len(), start, width, buckets, len, count) })
+        counted(number, |buckets, len, count| unsafe {
+            eb_follower_count_text_with(at, &how, query.as_ptr(), query.len(), start, width, buckets, len, count)
+        })
     }
 
     /// How many documents of the leader it knows.
