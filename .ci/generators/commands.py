@@ -25,7 +25,7 @@ OPTIONS = {
     "parts": Option("N", 1, 16, None, range(1, 17), "spread the messages over N indexes by their ids, which have to rise"),
     "watch": Option(text="take lines !N QUERY and !N, which set and remove a watch: each message prints the watches that it matches"),
     "fields": Option("LIST", None, None, None, (), "find messages by their members of these names, as by from:mara; LIST is 1 to 8 names with commas between", example="from,level"),
-    "words": Option("pieces", None, None, None, ("pieces",), "find words by their pieces too, as billing in com.acme.billing: cut them at each ASCII sign", only=True, example="pieces"),
+    "words": Option("pieces", None, None, None, ("pieces",), "find words by their pieces too, as billing in com.acme.billing: cut them at each ASCII character that is no letter or digit", only=True, example="pieces"),
     "counts": Option(text="take lines # QUERY and #X+W*N QUERY: how many messages match, and how many in each of N buckets, W ids wide, from the id X on; in run not beside --overlap without --parts"),
     "id": Option("NAME", text="the member that is a message's id, in place of id: a whole number, or a string of its digits", example="seq"),
     "text": Option("NAME", text="the member that is a message's text, in place of text", letter="t", example="message"),
@@ -154,7 +154,7 @@ def range_of(name):
     option = OPTIONS[name]
     usual = "%s by default" % option.usual if option.usual is not None else ""
     values = "%s is %d to %d" % (option.value, option.low, option.high) if option.low is not None else ""
-    values = "%s is %s" % (option.value, alternatives(option.offers)) if option.only else values
+    values = "%s is %s" % (option.value, alternatives(option.offers)) if option.only and len(option.offers) > 1 else values
     return ", ".join(filter(None, [values, usual]))
 
 
