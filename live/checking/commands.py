@@ -68,7 +68,11 @@ def over_pipes(folder):
     path = made_log(folder)
     check("-q", ("w1 line 994\nw1 line 997\n", "", 0), command(["-q", "w1", "-n", "2", path]))
     check("-q, nothing", ("", "", 1), command(["-q", "zzz", path]))
-    check("-q, a bad query", ("", "earlybird: bad query at 2 of the query\n", 2), command(["-q", "(", path]))
+    for query, said in (("(", "bad query at 2 of the query: the query ends too early: a parenthesis is open, or a word is missing"),
+                        ("w1)", "bad query at 3 of the query: no parenthesis is open, or nothing is in it"),
+                        ('w2 "w1', "bad query at 4 of the query: the quote isn't closed, or no right number follows ~"),
+                        ("w1 OR", "bad query at 6 of the query: the query ends too early: a parenthesis is open, or a word is missing")):
+        check("-q, the bad query %s" % query, ("", "earlybird: %s\n" % said, 2), command(["-q", query, path]))
     check("-q, two lines", ("", "earlybird: a query is one line at 3 of the query\n", 2), command(["-q", "w1\nw2", path]))
     check("-c", ("333\n", "", 0), command(["-cq", "w1", path]))
     check("-c, nothing", ("0\n", "", 1), command(["-cq", "zzz", path]))

@@ -11,7 +11,7 @@ from .documents import MOST_FIELDS, NAME
 from .hints import hints
 from .loading import LEAST, Loader
 from .parts import Gone, Refused
-from .prompt import Prompt, follow, grouped, new_matches
+from .prompt import Prompt, follow, grouped, new_matches, reason
 from .showing import Shown, seen_safely, tree_of
 
 ROOT = os.path.dirname(os.path.dirname(os.path.dirname(os.path.abspath(__file__))))
@@ -165,6 +165,14 @@ def run(parser, asked):
             loader.parts.close()
 
 
+def refusal(query, fault):
+    """What is said of a query that is refused: the fault, where it is, and why where its name doesn't say it."""
+    if fault.column is None:
+        return fault.name
+    text, why = "%s at %d of the query" % (fault.name, fault.column), reason(query, fault)
+    return text if why == fault.name else "%s: %s" % (text, why)
+
+
 def main():
     """The command. Its status: 0 (with --query: where something matched), 1 nothing matched, 2 usage or a bad query, 3 a fault of reading or of
     the index, 4 a write fault, 130 Ctrl-C."""
@@ -181,7 +189,7 @@ def main():
     try:
         return run(parser, asked)
     except Refused as fault:
-        print("earlybird: %s%s" % (fault.name, "" if fault.column is None else " at %d of the query" % fault.column), file=sys.stderr)
+        print("earlybird: %s" % refusal(asked.query, fault), file=sys.stderr)
         return 2
     except Gone as fault:
         print("earlybird: %s" % seen_safely(str(fault)), file=sys.stderr)

@@ -253,18 +253,21 @@ class Prompt:
             self._watches.pop(each).stop()
 
 
+def reason(line, fault):
+    """Why a line was refused, in words: its name where that says it."""
+    if fault.name != "bad query" or fault.column is None:
+        return fault.name
+    rest = line[fault.column - 1:]
+    if not rest:
+        return "the query ends too early: a parenthesis is open, or a word is missing"
+    return {'"': "the quote isn't closed, or no right number follows ~", ")": "no parenthesis is open, or nothing is in it", "O": "a side of OR is missing"}.get(rest[0], "this is no word")
+
+
 def why(line, fault):
     """Why a line was refused, below the column where that is known."""
     if fault.column is None or line.startswith(":"):
         return fault.name
-    rest = line[fault.column - 1:]
-    if fault.name != "bad query":
-        reason = fault.name
-    elif not rest:
-        reason = "the query ends too early: a parenthesis is open, or a word is missing"
-    else:
-        reason = {'"': "the quote isn't closed, or no right number follows ~", ")": "no parenthesis is open, or nothing is in it", "O": "a side of OR is missing"}.get(rest[0], "this is no word")
-    return " " * (fault.column + 1) + "^ " + reason
+    return " " * (fault.column + 1) + "^ " + reason(line, fault)
 
 
 def whenever_grown(loader, query, ask, take):
