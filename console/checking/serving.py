@@ -1,4 +1,5 @@
 """Checks by requests: what is taken, found, counted, shown, told, dropped, and what comes back."""
+import concurrent.futures
 import contextlib
 import gzip
 import http.client
@@ -20,6 +21,8 @@ from .messages import ASKED, BASE, DAY, MARKUP, Made, make_harmful
 
 SMALL = ("--keep", "2", "--segments", "1", "--docs", "256", "--terms", "1024")
 COUNT = 9000
+# those that ask for fields at once: longer than one may read
+CROWD = 40
 # a journalctl of a check: entries as the journal has them, from behind a cursor
 JOURNAL = """#!%s -B
 import json, os, sys, time
@@ -172,6 +175,9 @@ class Served:
         values = self.machine.get("/values", q="rain", name="city")["values"]
         counted = {city: len(self.model(lambda each, city=city: "rain" in each.words and each.city == city)) for city, _ in values}
         check("values are counted over all matches", (8, counted), (len(values), dict(values)))
+        with concurrent.futures.ThreadPoolExecutor(CROWD) as many:
+            told = list(many.map(lambda _: self.machine.get("/fields", q="")["of"], range(CROWD)))
+        check("who waits for others' fields has those of all 1,000 matches", [1000] * CROWD, told)
         data = self.machine.ask("GET", "/export?q=level:error&most=100000")[1].splitlines()
         at = [json.loads(line)["id"] for line in data]
         check("an export of all matches, the newest first", (len(self.machine_numbers("level:error")), sorted(at, key=int, reverse=True)), (len(at), at))

@@ -19,7 +19,7 @@ STEPS = (1, 2, 5, 10, 20, 50, 100, 200, 500, *(each * SECOND for each in (1, 2, 
          *(each * HOUR for each in (1, 2, 3, 6, 12)), *(each * DAY for each in (1, 2, 7, 14, 30, 90, 365, 3650)))
 # the fields that an answer has, and the values of each
 FIELDS, VALUES = 100, 8
-# seconds in which the fields of matches are read
+# seconds of the processor in which the fields of matches are read
 READING = 0.5
 # the most lines around a message, before it and behind it
 AROUND = 200
@@ -119,17 +119,20 @@ class Answers:
     async def _sample(self, asked, low, high):
         """The fields of the last matches, at most as many as an answer of the index has: how many were read, and by name the values."""
         _, ids = await self._asking.found(asked, low, high, MOST)
-        values, size, begun, turn = {}, 0, time.monotonic(), Turn()
+        values, size, spent, turn = {}, 0, 0.0, Turn()
         async with self._large:
             found, _ = await self._console.texts_of(ids)
             for _, at, source, raw in found:
                 size += 1
+                # (neither a wait for other large answers nor what comes between counts)
+                begun = time.thread_time()
                 fields = message.read(raw, at).fields
                 fields["source"] = source
                 for name, each in fields.items():
                     values.setdefault(name, collections.Counter())[each] += 1
+                spent += time.thread_time() - begun
                 await turn.rest()
-                if time.monotonic() - begun > READING:
+                if spent > READING:
                     break
         return size, values
 
