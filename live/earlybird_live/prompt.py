@@ -260,7 +260,8 @@ def reason(line, fault):
     rest = line[fault.column - 1:]
     if not rest:
         return "the query ends too early: a parenthesis is open, or a word is missing"
-    return {'"': "the quote isn't closed, or no right number follows ~", ")": "no parenthesis is open, or nothing is in it", "O": "a side of OR is missing"}.get(rest[0], "this is no word")
+    reasons = {'"': "the quote isn't closed, or no right number follows ~", ")": "no parenthesis is open, or nothing is in it", "O": "a side of OR is missing"}
+    return reasons.get(rest[0], "this is no word")
 
 
 def why(line, fault):
