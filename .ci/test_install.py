@@ -234,6 +234,9 @@ def from_python(place, first_answers):
     # (pip builds in the folder: a copy leaves the checkout as it is)
     copy = os.path.join(place.home, "python")
     shutil.copytree("python", copy, ignore=shutil.ignore_patterns("__pycache__", "*.so", "build", "*.egg-info"))
+    # (its tests read the lines that the examples in C read)
+    os.makedirs(os.path.join(place.home, "examples/embed"))
+    shutil.copy("examples/embed/fields.jsonl", os.path.join(place.home, "examples/embed"))
     known = {"PKG_CONFIG_PATH": os.path.join(place.prefix, "lib/pkgconfig"), "PATH": os.path.join(venv, "bin") + ":" + commands}
     out, said, code = place.run(["pip", "install", "--quiet", "--disable-pip-version-check", "--no-index", copy], **known)
     place.check("Python: pip install", 0, code)
