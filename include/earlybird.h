@@ -146,8 +146,8 @@ enum { EB_WORDS = 0, EB_PIECES = 1 };
 uint32_t eb_check_reading(const struct eb_reading *how);
 
 /* The calls above where lines and texts are read so. The members that are fields are those of a document line: eb_add_text_with cuts
- * its text as `words` says, and adds no field. Ask with the fields and the words with which documents were added. EB_BAD_READING: `how`
- * isn't as above, as EB_BAD_LINE and the others are, where the call would not be refused as EB_NOT_BEGUN. */
+ * its text as `words` says, and adds no field. Ask with the fields and the words with which documents were added. EB_BAD_READING, before
+ * every other refusal but EB_NOT_BEGUN: `how` isn't as above. */
 uint32_t eb_add_line_with(uint64_t *words, size_t words_len, struct eb_index *index, const struct eb_reading *how, const unsigned char *line,
                           size_t line_len);
 uint32_t eb_add_text_with(uint64_t *words, size_t words_len, struct eb_index *index, const struct eb_reading *how, uint64_t id,

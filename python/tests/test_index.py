@@ -20,6 +20,7 @@ from earlybird import (
     LongLine,
     QueryTooDeep,
     QueryTooLarge,
+    Refused,
     Segment,
     TooLong,
 )
@@ -27,7 +28,8 @@ from earlybird import (
 
 def load_tests(loader, tests, pattern):
     tests.addTests(doctest.DocTestSuite(earlybird, optionflags=doctest.IGNORE_EXCEPTION_DETAIL))
-    tests.addTests(doctest.DocTestSuite(earlybird._index, optionflags=doctest.IGNORE_EXCEPTION_DETAIL))
+    for module in (earlybird._index, earlybird.refusals, earlybird.shared, earlybird.stream):
+        tests.addTests(doctest.DocTestSuite(module, optionflags=doctest.IGNORE_EXCEPTION_DETAIL))
     return tests
 
 
@@ -91,6 +93,12 @@ class Calls(unittest.TestCase):
         for call in (copy.copy, copy.deepcopy, pickle.dumps):
             self.assertRaises(TypeError, call, self.index)
 
+    def test_names(self):
+        self.assertEqual(9, len(earlybird.__all__))
+        for module in (earlybird.refusals, earlybird.shared, earlybird.stream):
+            for name in module.__all__:
+                self.assertIs(getattr(module, name), getattr(earlybird, name))
+
     def test_version(self):
         self.assertRegex((pathlib.Path(__file__).parent.parent / "pyproject.toml").read_text(), 'version = "%s"' % earlybird.__version__)
 
@@ -132,6 +140,29 @@ class Refusals(unittest.TestCase):
             with self.subTest(why.__name__), self.assertRaises(why):
                 call()
         self.assertEqual(0, len(self.index))
+
+
+    def test_details(self):
+        for detail, call in [
+            ("id is -1, and not a whole number from 0 to 18446744073709551615", lambda: self.index.add(-1, "x")),
+            ("id is a str, and not a whole number from 0 to 18446744073709551615", lambda: self.index.add("7", "x")),
+            ("id is a number of 3000001 bits, and not a whole number from 0 to 18446744073709551615", lambda: self.index.add(1 << 3_000_000, "x")),
+            ("k is 1001, and not a whole number from 1 to 1000", lambda: self.index.search("x", 1001)),
+            ("width is 0, and not a whole number from 1 to 18446744073709551615", lambda: self.index.histogram("x", 0, 0, 1)),
+            ("the number of buckets is 0, and not a whole number from 1 to 1000000", lambda: self.index.histogram("x", 0, 1, 0)),
+            ("segments is 0, docs is 4096, terms is 8192", lambda: Index(segments=0)),
+            ("segments is 12, docs is a float, terms is 8192", lambda: Index(docs=1.5)),
+            ("a half of a surrogate pair stands at 2", lambda: self.index.add(1, "ab\ud800")),
+            ("", lambda: self.index.add_line(b"{}")),
+        ]:
+            with self.subTest(detail), self.assertRaises(Refused) as caught:
+                call()
+            why = caught.exception
+            self.assertEqual((detail, why.name), (why.detail, str(why)))
+            for again in (copy.copy(why), pickle.loads(pickle.dumps(why))):
+                self.assertEqual((type(why), detail, str(why)), (type(again), again.detail, str(again)))
+        again = pickle.loads(pickle.dumps(BadQuery(7)))
+        self.assertEqual((7, "bad query at 7"), (again.column, str(again)))
 
 
 class Threads(unittest.TestCase):

@@ -225,6 +225,25 @@ pub struct Answer {
     pub ids: Vec<u64>,
 }
 
+impl IntoIterator for Answer {
+    type Item = u64;
+    type IntoIter = std::vec::IntoIter<u64>;
+
+    /// The ids, newest first.
+    ///
+    /// ```
+    /// # let mut index = earlybird::Index::new(1, 10, 1024)?;
+    /// index.add(7, "hello world")?;
+    /// for id in index.search(10, "hello")? {
+    ///     assert_eq!(id, 7);
+    /// }
+    /// # Ok::<(), earlybird::Refusal>(())
+    /// ```
+    fn into_iter(self) -> Self::IntoIter {
+        self.ids.into_iter()
+    }
+}
+
 /// How many messages match.
 #[derive(Clone, Debug, PartialEq, Eq)]
 pub struct Count {

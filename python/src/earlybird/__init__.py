@@ -7,11 +7,13 @@
     >>> index.search("train -late", 10)
     Answer([101], seen=2)
 
-Where one thread adds while others search, `Writer` opens an index that they share, and `Leader` a feed that never ends.
+Where one thread adds while others search, `Writer` of `earlybird.shared` opens an index that they share, and `Leader` of
+`earlybird.stream` a feed that never ends. `earlybird.refusals` has the reasons why a call did nothing.
 
 A message can be found as soon as `add` returns, and the newest matches come first. Queries are those of the program `earlybird`
-(docs/QUERIES.md), and so are the refusals, each an exception of its name.
+(docs/QUERIES.md), and so are the refusals, each an exception of its name. The classes of the three modules are names of this one, too.
 """
+from earlybird import refusals, shared, stream
 from earlybird._index import Answer, Count, Histogram, Index, Segment
 from earlybird._refusals import (
     BadDocument,
@@ -36,8 +38,5 @@ from earlybird._stream import Follower, Leader, Released, Spare
 
 __version__ = "0.5.0"
 
-__all__ = [
-    "Answer", "BadDocument", "BadHandle", "BadJson", "BadLine", "BadNumber", "BadQuery", "BadReading", "BadSetting", "BadText", "Converter",
-    "Count", "Follower", "Full", "Histogram", "Index", "Leader", "LongLine", "NoMemory", "QueryTooDeep", "QueryTooLarge", "Reader", "Refused",
-    "Released", "Segment", "Spare", "TooLong", "Writer",
-]
+# the first page; the other names are those of the modules
+__all__ = ["Answer", "Count", "Histogram", "Index", "Refused", "Segment", "refusals", "shared", "stream"]

@@ -4,9 +4,9 @@ import threading
 from typing import Any, List, Optional, Tuple
 
 from earlybird import _library
-from earlybird._index import MOST_IDS, Answer, Count, Histogram, at_least_one, bytes_of, counted
+from earlybird._index import MOST_ID, MOST_IDS, Answer, Count, Histogram, at_least_one, bytes_of, counted
 from earlybird._reading import Reading
-from earlybird._refusals import BadDocument, BadNumber, BadSetting, refusal
+from earlybird._refusals import BadDocument, BadNumber, refusal, whole
 
 
 class Side:
@@ -49,8 +49,7 @@ class Adding(Side):
         self._reading = Reading(self._calls, *reading)
 
     def _add(self, id: int, text: str) -> None:
-        if not (isinstance(id, int) and 0 <= id < 2**64):
-            raise BadDocument()
+        whole(id, 0, MOST_ID, "id", BadDocument)
         data = bytes_of(text)
         with self._alone:
             self._done(self._by_text(self._at, self._reading.at, id, data, len(data)))
@@ -78,8 +77,7 @@ class Asking(Side):
         return Answer(self._ids[: self._told.written], self._told.seen)
 
     def _ask(self, query: str, k: int) -> Answer:
-        if not (isinstance(k, int) and 0 <= k < 2**32):
-            raise BadNumber()
+        whole(k, 1, MOST_IDS, "k", BadNumber)
         data = bytes_of(query)
         with self._alone:
             return self._answer(self._by_text(self._at, self._reading.at, k, data, len(data), *self._room))
@@ -111,10 +109,3 @@ class Asking(Side):
         with self._alone:
             self._done(call(self._at, ctypes.addressof(count)))
         return count.value
-
-
-def numbers_of(*numbers: int) -> Tuple[int, ...]:
-    """Numbers of 32 bits, or `BadSetting`."""
-    if not all(isinstance(it, int) and 0 <= it < 2**32 for it in numbers):
-        raise BadSetting()
-    return numbers

@@ -5,9 +5,10 @@ from typing import Any, Callable, Iterable, List, NamedTuple, Optional, Tuple, U
 
 from earlybird import _library
 from earlybird._reading import Reading
-from earlybird._refusals import BadDocument, BadHandle, BadNumber, BadSetting, BadText, Refused, refusal
+from earlybird._refusals import BadDocument, BadHandle, BadNumber, BadSetting, BadText, Refused, refusal, shown, whole
 
 MOST_IDS = 1000
+MOST_ID = 2**64 - 1
 MOST_BUCKETS = 1_000_000
 
 
@@ -81,14 +82,12 @@ class Index:
         id: Optional[str] = None,
         text: Optional[str] = None,
     ) -> None:
-        self._setting = (segments, docs, terms)
-        if not all(isinstance(it, int) and 0 <= it < 2**32 for it in self._setting):
-            raise BadSetting()
+        self._setting = numbers_of(segments, docs, terms)
         self._calls = _library.load()
         self._reading = Reading(self._calls, fields, words, id, text)
         size = self._calls.eb_words(*self._setting)
         if size == 0:
-            raise BadSetting()
+            raise BadSetting(told_setting(*self._setting))
         self._words, self._numbers = (ctypes.c_uint64 * size)(), _library.Numbers()
         self._ids, self._told = (ctypes.c_uint64 * MOST_IDS)(), _library.Told()
         self._index = (ctypes.addressof(self._words), size, ctypes.addressof(self._numbers))
@@ -134,8 +133,7 @@ class Index:
                 ...
             earlybird._refusals.Full: full
         """
-        if not (isinstance(id, int) and 0 <= id < 2**64):
-            raise BadDocument()
+        whole(id, 0, MOST_ID, "id", BadDocument)
         data = bytes_of(text)
         with self._alone:
             self._done(self._calls.eb_add_text_with(*self._index, self._reading.at, id, data, len(data)))
@@ -170,8 +168,7 @@ class Index:
                 ...
             earlybird._refusals.BadQuery: bad query at 7
         """
-        if not (isinstance(k, int) and 0 <= k < 2**32):
-            raise BadNumber()
+        whole(k, 1, MOST_IDS, "k", BadNumber)
         data = bytes_of(query)
         with self._alone:
             return self._answer(self._calls.eb_ask_text_with(*self._index, self._reading.at, k, data, len(data), *self._room))
@@ -268,23 +265,32 @@ def bytes_of(text: str) -> bytes:
         raise TypeError("a text is a str, not a %s" % type(text).__name__)
     try:
         return text.encode()
-    except UnicodeEncodeError:
-        raise BadText() from None
+    except UnicodeEncodeError as why:
+        raise BadText("a half of a surrogate pair stands at %d" % why.start) from None
+
+
+def numbers_of(*numbers: int) -> Tuple[int, ...]:
+    """The numbers of a setting, of 32 bits, or `BadSetting`."""
+    if not all(isinstance(it, int) and 0 <= it < 2**32 for it in numbers):
+        raise BadSetting(told_setting(*numbers))
+    return numbers
+
+
+def told_setting(*numbers: int) -> str:
+    return ", ".join("%s is %s" % pair for pair in zip(("segments", "docs", "terms", "keep"), map(shown, numbers)))
 
 
 def at_least_one(number: int) -> int:
     """A number of buckets, or `BadNumber`."""
-    if not (isinstance(number, int) and number >= 1):
-        raise BadNumber()
-    return number
+    return whole(number, 1, MOST_BUCKETS, "the number of buckets", BadNumber)
 
 
 def counted(
     done: Callable[[int, int], None], call: Any, at: Tuple[Any, ...], query: str, start: int, width: int, number: int
 ) -> Tuple[List[int], int, int]:
     """What a call counts of a query in N buckets: their numbers, the total, and how many messages there are."""
-    if not all(isinstance(it, int) and 0 <= it <= most for it, most in ((start, 2**64 - 1), (width, 2**64 - 1), (number, MOST_BUCKETS))):
-        raise BadNumber()
+    for value, least, most, what in ((start, 0, MOST_ID, "start"), (width, min(number, 1), MOST_ID, "width"), (number, 0, MOST_BUCKETS, "number")):
+        whole(value, least, most, what, BadNumber)
     data, buckets, told = bytes_of(query), (ctypes.c_uint64 * number)(), _library.Counted()
     done(call(*at, data, len(data), start, width, ctypes.addressof(buckets), number, ctypes.addressof(told)), told.column)
     return buckets[:], told.total, told.seen

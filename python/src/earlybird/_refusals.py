@@ -1,15 +1,22 @@
 """Why a call did nothing: an exception for each refusal of include/earlybird.h."""
-from typing import Dict, Type
+from typing import Any, Dict, Tuple, Type
 
 
 class Refused(Exception):
-    """A call did nothing, and all is as before. `str()` of it is the refusal's name, as the program prints it."""
+    """A call did nothing, and all is as before. `str()` of it is the refusal's name, as the program prints it; `detail` names the value that
+    is refused, where this package looks at it, and is a note of the traceback then."""
 
     number = 0
     name = "refused"
 
-    def __init__(self) -> None:
+    def __init__(self, detail: str = "") -> None:
         super().__init__(self.name)
+        self.detail = detail
+        if detail and hasattr(self, "add_note"):
+            self.add_note(detail)
+
+    def __reduce__(self) -> Tuple[Any, ...]:
+        return type(self), (self.detail,)
 
 
 class BadLine(Refused):
@@ -63,6 +70,9 @@ class BadQuery(Refused):
         super().__init__()
         self.column = column
         self.args = (column,)
+
+    def __reduce__(self) -> Tuple[Any, ...]:
+        return type(self), (self.column,)
 
     def __str__(self) -> str:
         return "bad query at %d" % self.column
@@ -118,6 +128,20 @@ BY_NUMBER: Dict[int, Type[Refused]] = {
         BadReading,
     )
 }
+
+
+def shown(value: Any) -> str:
+    """A value in a few words, whatever it is."""
+    if not isinstance(value, int):
+        return "a %s" % type(value).__name__
+    return str(value) if value.bit_length() <= 128 else "a number of %d bits" % value.bit_length()
+
+
+def whole(value: Any, least: int, most: int, what: str, why: Type[Refused]) -> int:
+    """A whole number from `least` to `most`; else the refusal, with what it is of."""
+    if not (isinstance(value, int) and least <= value <= most):
+        raise why("%s is %s, and not a whole number from %d to %d" % (what, shown(value), least, most))
+    return value
 
 
 def refusal(number: int, column: int) -> Refused:

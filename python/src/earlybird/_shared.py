@@ -2,8 +2,8 @@
 import ctypes
 from typing import Iterable, Optional
 
-from earlybird._handles import Adding, Asking, Side, numbers_of
-from earlybird._index import Answer
+from earlybird._handles import Adding, Asking, Side
+from earlybird._index import Answer, numbers_of
 from earlybird._reading import Reading
 
 
