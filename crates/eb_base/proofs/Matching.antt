@@ -32,7 +32,7 @@ found_at p (t ∷ ts) (suc i) e = or_right _ _ (found_at p ts i e)
 
 -- ---- windows
 
--- with one more term in front, the places are one further on
+-- with one more term before them, the places are one further on
 raise : (t : List ℕ) (us ts : List (List ℕ)) (p l : ℕ) → Stand us ts p l → Stand (t ∷ us) ts (suc p) (suc l)
 raise t us [] p l h = h
 raise t us (v ∷ []) p l h = (h.0, ap suc h.1)
@@ -49,7 +49,7 @@ lower t us (v ∷ x ∷ ts) p l h = go h.1.0 h.1.1 h.1.2 (λ q s. lower t us (x 
     go zero less s below = absurd (omega (arith, less))
     go (suc q) less s below = let k = below q s in (k.0, k.1, (h.0, (q, omega (arith, less), k.2)))
 
--- what stands in a front stands in the list
+-- an element of a prefix is an element of the list
 get_front : (n : ℕ) (us : List (List ℕ)) (p : ℕ) (t : List ℕ) → slice_get (take n us) p ≡ Some t → slice_get us p ≡ Some t
 get_front zero us p t h = let no : ⊥ = cc in absurd no
 get_front (suc n) [] p t h = h
@@ -61,7 +61,7 @@ front n us [] p l h = h
 front n us (v ∷ []) p l h = (get_front n us p v h.0, h.1)
 front n us (v ∷ x ∷ ts) p l h = (get_front n us p v h.0, (h.1.0, h.1.1, front n us (x ∷ ts) h.1.0 l h.1.2))
 
--- terms that stand in their order after a first one have places
+-- terms that occur in their order after a first one have places
 order_stands : (t : List ℕ) (ts us : List (List ℕ)) → has_in_order ts us ≡ true → (l : ℕ) × Stand (t ∷ us) (t ∷ ts) 0 l × (l ≤ length us)
 order_stands t [] us h = (0, (refl, refl), omega arith)
 order_stands t (v ∷ ts) [] h = let no : ⊥ = cc in absurd no
@@ -103,7 +103,7 @@ first_is : (u : List ℕ) (us : List (List ℕ)) (t : List ℕ) (ts : List (List
 first_is u us t [] l h = let e : u ≡ t = cc (h.0) in (bytes_eq-Decides t u).1 (sym e)
 first_is u us t (v ∷ ts) l h = let e : u ≡ t = cc (h.0) in (bytes_eq-Decides t u).1 (sym e)
 
--- where terms stand before an end, they are found in their order in front of it
+-- terms that occur before an end are found in their order before it
 order_found : (ts us : List (List ℕ)) (n p l : ℕ) → Stand us ts p l → l < n → has_in_order ts (take n us) ≡ true
 order_found [] us n p l h less = refl
 order_found (t ∷ ts) [] n p l h less = absurd (none_at ts h)

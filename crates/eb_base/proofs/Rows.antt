@@ -26,7 +26,8 @@ each p q = conjunction (trees p (trees q no_trees))
 abbrev some : Tree → Tree → Tree
 some p q = disjunction (trees p (trees q no_trees))
 
--- the newest k, newest first; two documents with one id are two, and a term that stands twice counts once
+-- the newest k, newest first; two documents with one id are two, and a term that occurs twice
+-- counts once
 newest_first : answer (word a) 2 (doc 1 (a ∷ []) ∷ doc 2 (a ∷ []) ∷ doc 3 (a ∷ []) ∷ []) ≡ 3 ∷ 2 ∷ []
 unfolding answer
 newest_first = refl
@@ -72,7 +73,7 @@ or_both : answer (some (word b) (word c)) 5 pairs ≡ 2 ∷ 1 ∷ []
 unfolding answer
 or_both = refl
 
--- a window: in order, at most so far apart, and two equal terms at two places
+-- a window: in order, at most this far apart, and two equal terms at two places
 window_near : answer (window (a ∷ a ∷ []) 2) 5 repeated ≡ 1 ∷ []
 unfolding answer
 window_near = refl

@@ -21,7 +21,7 @@ most_tokens = 1024
 abbrev pub most_bytes : ℕ
 most_bytes = 16384
 
--- so many terms, with so many bytes in all, are a document's at most
+-- the terms are within the limits of a document
 pub record AreWithinLimits (terms : List (List ℕ)) : Type 0 where
   pub tokens : length terms ≤ most_tokens
   pub bytes : bytes_of terms ≤ most_bytes

@@ -5,12 +5,12 @@ use Rattle.eb_base.specs.declared.document.DocFault.TheVariants.{TooManyTokens, 
 use Rattle.eb_base.specs.declared.config.ConfigFault.{ConfigFault}
 use Rattle.eb_base.specs.declared.config.ConfigFault.TheVariants.{Segments, Docs, Terms, Words}
 
--- why a list of terms is no document's
+-- why a list of terms isn't a document's
 abbrev pub doc_fault_text : DocFault → List ℕ
 doc_fault_text TooManyTokens = codes "more than 1,024 terms"
 doc_fault_text TooManyBytes = codes "more than 16,384 bytes of terms"
 
--- why the numbers are no setting
+-- why the numbers aren't a setting
 abbrev pub config_fault_text : ConfigFault → List ℕ
 config_fault_text Segments = codes "not 1 to 64 segments"
 config_fault_text Docs = codes "not 1 to 16,777,216 documents a segment"

@@ -4,8 +4,8 @@ use Rattle.std.specs.List.{Contains, list_any, starts_with}
 use Rattle.eb_base.specs.Document.{Doc}
 use Rattle.eb_base.specs.Query.{Tree, Trees, word, phrase, window, since, negation, conjunction, disjunction, no_trees, trees}
 
--- the terms of the list `ts` stand in `terms` at places that rise, the first of them at `first` and the last
--- at `last`
+-- the terms of the list `ts` occur in `terms` at places that rise, the first of them at `first` and
+-- the last at `last`
 abbrev pub Stand : List (List ℕ) → List (List ℕ) → ℕ → ℕ → Type 0
 Stand terms [] first last = ⊥
 Stand terms (t ∷ []) first last = (slice_get terms first ≡ Some t) × (last ≡ first)
@@ -13,8 +13,8 @@ Stand terms (t ∷ u ∷ ts) first last = (slice_get terms first ≡ Some t) × 
 
 -- the query matches the document
 --   word: the term is one of the document's
---   phrase: from some place of the document on its terms stand one after another
---   window: its terms stand in their order at places of which the last is at most `w` after the first
+--   phrase: from some place of the document on its terms follow one another
+--   window: its terms occur in their order, the last at most `w` places after the first
 --   since: the document's id is greater
 --   negation: its part doesn't match; conjunction: each part does; disjunction: some part does
 abbrev mutual
@@ -40,13 +40,14 @@ abbrev pub has_phrase : List (List ℕ) → List (List ℕ) → Bool
 has_phrase p [] = starts_with bytes_eq [] p
 has_phrase p (t ∷ ts) = starts_with bytes_eq (t ∷ ts) p || has_phrase p ts
 
--- the terms of the first list stand in the second in their order
+-- the terms of the first list occur in the second in their order
 abbrev pub has_in_order : List (List ℕ) → List (List ℕ) → Bool
 has_in_order [] terms = true
 has_in_order (t ∷ ts) [] = false
 has_in_order (t ∷ ts) (u ∷ us) = if bytes_eq t u then has_in_order ts us else has_in_order (t ∷ ts) us
 
--- the window begins at some place of the list: its further terms stand in their order in the next `w` places
+-- the window begins at some place of the list: its further terms occur in their order in the next
+-- `w` places
 abbrev pub has_window : List (List ℕ) → ℕ → List (List ℕ) → Bool
 has_window [] w terms = false
 has_window (t ∷ ts) w [] = false

@@ -4,7 +4,7 @@ use Rattle.eb_base.specs.Document.{Doc}
 use Rattle.eb_base.specs.Query.{Tree}
 use Rattle.eb_base.specs.Match.{Matches, is_match}
 
--- the test is true exactly where the query matches the document, so that the documents of an answer are
--- those that match
+-- the test is true exactly where the query matches the document, so that the documents of an answer
+-- are those that match
 abbrev pub MatchIsDecided : Type 0
 MatchIsDecided = (q : Tree) (d : Doc) → Decides (is_match q d) (Matches q d)

@@ -1,10 +1,10 @@
--- Queries as plain trees: what a query asks, however it lies in memory.
+-- Queries as plain trees: what a query asks, whatever its form in memory.
 use Rattle.std.specs.Prelude.{◌≡◌, ℕ, ◌+◌, ◌<◌, ◌≤◌, List, [], ◌∷◌, length, map, Option, Some, None}
 use Rattle.eb_base.specs.declared.query.Query.{Query, fold-Query}
 use Rattle.eb_base.specs.declared.query.Query.TheOpen.{Query-F, Queries-F}
 use Rattle.eb_base.specs.declared.query.Queries.{Queries}
 
--- what a query is, however it lies in memory
+-- what a query is, whatever its form in memory
 mutual
   pub data Tree : Type 0 where
     word : List ℕ → Tree
@@ -48,7 +48,7 @@ queries_of qs = qs.parts.items
 abbrev pub parts_of : Queries → List Tree
 parts_of qs = map tree qs.parts.items
 
--- what an and or an or of these parts is: one part is that part
+-- what an and or an or of these parts is; of one part it is that part
 abbrev pub and_of : List Tree → Tree
 and_of [] = conjunction no_trees
 and_of (t ∷ []) = t
@@ -88,7 +88,7 @@ most_size = 64
 abbrev pub most_reach : ℕ
 most_reach = 1023
 
--- phrases and windows of at least two terms, windows with a reach from 1 to 1,023, and ands and ors of at
+-- phrases and windows have at least two terms, windows a reach from 1 to 1,023, and ands and ors at
 -- least two parts
 abbrev mutual
   pub IsFormed : Tree → Type 0
@@ -108,18 +108,19 @@ pub record IsWellFormed (t : Tree) : Type 0 where
   pub formed : IsFormed t
   pub within : size t ≤ most_size
 
--- what is left of the room after what holds under F and takes n of it: nothing where F fails or there is less room
+-- what is left of the room when F holds and takes n of it: nothing where F fails or there is less
+-- room
 abbrev pub IsLeft : Type 0 → ℕ → ℕ → Option ℕ → Type 0
 IsLeft F n room None = F → room < n
 IsLeft F n room (Some left) = F × (n + left ≡ room)
 
--- what a text with these terms asks: nothing without a term
+-- what a text with these terms asks: nothing where there is no term
 abbrev pub leaf_of : List (List ℕ) → Option Tree
 leaf_of [] = None
 leaf_of (t ∷ []) = Some (word t)
 leaf_of (t ∷ u ∷ ts) = Some (phrase (t ∷ u ∷ ts))
 
--- what a window text with these terms and this reach asks: one term is a word, none is no query
+-- what a window text with these terms and this reach asks: one term is a word; no term is no query
 abbrev pub window_of : List (List ℕ) → ℕ → Option Tree
 window_of [] w = None
 window_of (t ∷ []) w = Some (word t)

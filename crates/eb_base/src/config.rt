@@ -69,7 +69,8 @@ impl fmt::Display for ConfigFault {
 impl Error for ConfigFault {}
 
 impl Config {
-    /// The setting with these numbers; else the first of them that is out of range. Takes no memory.
+    /// The setting with these numbers; else the first of them that is out of range. Takes no
+    /// memory.
     pub fn new(segments: u32, docs: u32, terms: u32) -> Result<Config, ConfigFault>
         ensures ok { IfOk result (λ config. config ≡ record { segments = segments; docs = docs; terms = terms }) }
         ensures segments { IsErrOf result ConfigFault.Segments ↔ (AreSegments segments → ⊥) }

@@ -12,8 +12,9 @@ pub const MAX_TOKENS: usize = 1024;
 /// The most bytes of a document's folded tokens, summed.
 pub const MAX_BYTES: usize = 16_384;
 
-/// A message that can be found: its id, and its terms in the order of its words, at most
-/// [`MAX_TOKENS`] with at most [`MAX_BYTES`] bytes in all (this project's profile, docs/FORMATS.md).
+/// A message that can be found: its id, and its terms in the order of its words. It has at most
+/// [`MAX_TOKENS`] terms, of at most [`MAX_BYTES`] bytes in all (this project's profile,
+/// docs/FORMATS.md).
 #[derive(Debug, Drop)]
 pub struct Document {
     id: u64,
@@ -30,12 +31,12 @@ impl Model for Document {
     ghost invariant = { λ d. IsDocument (record { id = d.id; terms = d.terms }) };
 }
 
-/// Why a list of terms is no document's.
+/// Why a list of terms isn't a document's.
 #[derive(Clone, Copy, Debug, PartialEq, Eq)]
 pub enum DocFault {
     /// There are more than [`MAX_TOKENS`] terms.
     TooManyTokens,
-    /// There are no more than that, and they have more than [`MAX_BYTES`] bytes in all.
+    /// There are at most [`MAX_TOKENS`] terms, and they have more than [`MAX_BYTES`] bytes in all.
     TooManyBytes,
 }
 
@@ -56,9 +57,9 @@ impl fmt::Display for DocFault {
 impl Error for DocFault {}
 
 impl Document {
-    /// The document with this id and these terms. Refused as `TooManyTokens` exactly at 1,025 or more
-    /// terms, else as `TooManyBytes` exactly at 16,385 or more bytes; the terms are dropped then.
-    /// Takes no memory.
+    /// The document with this id and these terms. `TooManyTokens` exactly at 1,025 or more terms,
+    /// else `TooManyBytes` exactly at 16,385 or more bytes; the terms are dropped then. Takes no
+    /// memory.
     pub fn new(id: u64, terms: Terms) -> Result<Document, DocFault>
         ensures ok { IfOk result (λ document. document ≡ record { id = id; terms = terms }) }
         ensures tokens { IsErrOf result DocFault.TooManyTokens ↔ most_tokens < length terms }
@@ -89,7 +90,7 @@ impl Document {
     }
 }
 
-// Whether the terms have no more bytes than a document may have.
+// Whether the terms have at most the bytes that a document may have.
 fn is_short(terms: &Terms) -> bool
     ensures { IsTrue result ↔ (bytes_of terms.now ≤ most_bytes) }
 {

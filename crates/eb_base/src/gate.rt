@@ -3,16 +3,16 @@
 pub enum Point {
     /// A search loaded the count of accepted documents, and found this number.
     CountLoaded(u64),
-    /// A document was accepted, and so many are accepted now.
+    /// A document was accepted, and this many are accepted now.
     Added(u64),
 }
 
-/// Who is told of the points that an index reaches, on the thread that reaches them.
+/// An observer that a writer or a reader calls at points of its work, on its own thread.
 ///
-/// It says and changes nothing that a contract sees: an answer doesn't depend on the gate. Tests
-/// hold a writer or a reader at a point with it.
+/// A gate changes nothing that a contract sees: no answer depends on it. Tests use it to hold a
+/// writer or a reader at a point.
 pub trait Gate {
-    /// The point is reached; the caller goes on when this call returns.
+    /// The point is reached. The caller goes on when this call returns.
     fn reached(&self, point: Point);
 }
 

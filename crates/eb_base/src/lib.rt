@@ -1,5 +1,5 @@
 //! The base of Earlybird: terms, documents and their limits, queries, the setting of an index, and
-//! the gate that a caller may watch an index through. `specs/` has the two definitions that
+//! the gate through which a caller can observe an index. `specs/` has the two definitions that
 //! everything serves: which documents a query matches, and what the answer to a query is.
 #![tactic(auto)]
 

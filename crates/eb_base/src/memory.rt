@@ -2,8 +2,8 @@ use std::alloc::{AllocError, AllocFailed};
 use std::error::Error;
 use std::fmt;
 
-/// Memory ran out. Every call of this project that takes memory answers it by name, and nothing
-/// that was there before the call is lost.
+/// Memory ran out. Every call of this project that takes memory returns it, and loses nothing that
+/// was there before the call.
 #[derive(Clone, Copy, Debug, PartialEq, Eq)]
 pub struct NoMemory;
 

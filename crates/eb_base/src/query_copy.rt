@@ -1,4 +1,4 @@
-//! A query once more.
+//! Copies of queries.
 ghost use Rattle.std.specs.Prelude.{◌≡◌, IfOk};
 ghost use Rattle.eb_base.specs.Query.{tree, parts_of};
 

@@ -6,7 +6,8 @@ use crate::query::{Queries, Query};
 use crate::terms::Terms;
 
 impl Query {
-    /// Whether the other query is equal to this one: they ask the same, in the same form. Takes no memory.
+    /// Whether the other query is equal to this one: they ask the same, in the same form. Takes no
+    /// memory.
     pub fn is(&self, other: &Query) -> bool
         ensures { IsTrue result ↔ (tree self.now ≡ tree other.now) }
     {

@@ -5,10 +5,11 @@ use smallvec::SmallVec;
 use std::alloc::Global;
 use std::marker::Model;
 
-/// The most bytes of a term that lie in the term itself; a longer one has an allocation of its own.
+/// The most bytes of a term that are kept in the term itself; a longer one has an allocation of its
+/// own.
 const BYTES_WITHIN: usize = 16;
 
-/// A term: one folded word of a text, as a list of bytes. A short one lies in the term itself.
+/// A term: one folded word of a text, as a list of bytes. A short one is kept in the term itself.
 #[derive(Debug, Drop)]
 pub struct Term {
     bytes: SmallVec<u8, BYTES_WITHIN>,
@@ -90,7 +91,7 @@ impl Terms {
         }
     }
 
-    /// No terms, with room for so many, which is taken at once. `NoMemory` where there is none.
+    /// No terms, with room for this many, which is taken at once. `NoMemory` where memory runs out.
     pub fn with_capacity(alloc: Global, room: usize) -> Result<Terms, NoMemory>
         ensures { IfOk result (λ t. t ≡ []) }
     {
@@ -108,7 +109,7 @@ impl Terms {
         Ok(())
     }
 
-    // Takes the last term away.
+    // Removes the last term.
     pub(crate) fn pop(&mut self) -> Option<Term>
         ensures { MatchOption result (self.old ≡ []) (λ term. self.old ≡ self.new ++ term ∷ []) }
     {

@@ -1,4 +1,5 @@
--- What may be called at which place, and what the calls leave there, of two elements whose places are counted from 3.
+-- What may be called at which place, and what the calls leave there, of two elements whose places
+-- are counted from 3.
 use Rattle.std.proofs.Common.{◌≡◌, ℕ, ◌+◌, [], ◌∷◌, arith}
 use Rattle.eb_beside.specs.Each.{AcceptsFrom, ChangesFrom}
 use denote.Ref.{MutBor}

@@ -1,7 +1,8 @@
 //! A call at each place of a list.
 //!
-//! The calling thread begins all threads, one after the other. Where threads that have just begun begin others at the same
-//! time, as where a list is halved again and again, two of them are often put on one processor while another has none.
+//! The calling thread starts all threads, one after the other. Where threads that have just started
+//! start others at the same time, as where a list is halved again and again, two of them are often
+//! put on one processor while another has none.
 ghost use Rattle.std.specs.Prelude.{◌+◌, ◌<◌, ◌^◌, [], ◌∷◌, length};
 ghost use Rattle.std.specs.Fork.{AcceptsAt, AcceptsEach, ChangesAt, ChangesEach};
 ghost use Rattle.eb_beside.specs.Each.{AcceptsFrom, ChangesFrom};
@@ -10,9 +11,10 @@ ghost use denote.Param.Send.{IsSend, IsSync};
 use std::thread;
 use std::thread::{Threads, join_mut};
 
-/// Calls `f(at, &mut all[at])` at each place. Where `beside`, at the last one in the calling thread, and at each other one in a
-/// thread of its own, as far as threads can be made, so that nothing is started for one place or none; else at one after the
-/// other in the calling thread. Returns when all calls have.
+/// Calls `f(at, &mut all[at])` at each place. Where `beside`, the calling thread calls it at the
+/// last place, and a thread of its own at each other one, as far as threads can be started; so
+/// nothing is started for one place or none. Else the calling thread calls it at one place after
+/// the other. Returns when all calls have.
 pub fn each_place<R: Threads + Sync, T: Send, F: Fn(usize, &mut T) + Sync>(
     rt: &R,
     all: &mut [T],
@@ -49,7 +51,7 @@ fn call_at<T, F: Fn(usize, &mut T)>(f: &F, at: usize, it: &mut T)
     f(at, it);
 }
 
-// The same, where the place is the only one of a list.
+// The call at the only place of a list.
 fn at_one<T, F: Fn(usize, &mut T)>(f: &F, at: usize, it: &mut T)
     requires { AcceptsFrom F.Fn f.now at (it.old ∷ []) }
     ensures { ChangesFrom F.Fn f.now at (it.old ∷ []) (it.new ∷ []) }
@@ -57,7 +59,7 @@ fn at_one<T, F: Fn(usize, &mut T)>(f: &F, at: usize, it: &mut T)
     call_at(f, at, it);
 }
 
-// The same at places that are counted from this one.
+// The calls at each place, where places are counted from this one.
 #[cycle(each)]
 fn each_from<R: Threads + Sync, T: Send, F: Fn(usize, &mut T) + Sync>(
     rt: &R,
@@ -79,7 +81,7 @@ fn each_from<R: Threads + Sync, T: Send, F: Fn(usize, &mut T) + Sync>(
     first_and_rest(rt, f, from, own, rest);
 }
 
-// The call at this place on a thread of its own, beside those at the places behind it.
+// The call at this place on a thread of its own, while those at the places after it go on.
 #[cycle(each)]
 fn first_and_rest<R: Threads + Sync, T: Send, F: Fn(usize, &mut T) + Sync>(
     rt: &R,

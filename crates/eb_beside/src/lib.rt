@@ -1,4 +1,4 @@
-//! Calls side by side, on threads that are all begun by the calling one.
+//! A parallel loop over a slice; the caller starts all threads.
 #![tactic(auto)]
 
 mod each;

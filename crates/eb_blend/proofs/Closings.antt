@@ -15,14 +15,14 @@ use Rattle.eb_blend.proofs.Each.{history_at, converter_history_at, new_history, 
 pub few_left : (σ : Setting) (xs ys : List Doc) (n : ℕ) → IsPrefix xs ys → length (cut σ ys) ≤ n + 1 → (s : ℕ) → s + 1 < length (cut σ xs) → s < n
 few_left σ xs ys n p few s h = let g = (closed_stays σ xs p.0 s h).0 in let g' = rw p.1 at g in omega (arith, g', few, h)
 
--- what is converted of the whole is converted of its fronts
+-- what is converted of the whole is converted of its prefixes
 pub front_converted : (σ : Setting) (xs ys : List Doc) (n : ℕ) → IsPrefix xs ys → ((s : ℕ) → s + 1 < length (cut σ ys) → s < n) → (s : ℕ) → s + 1 < length (cut σ xs) → s < n
 front_converted σ xs ys n p are s h = let g = (closed_stays σ xs p.0 s h).0 in let g' = rw p.1 at g in are s (omega (arith, g', h))
 
 converted_at : (cs : List ConverterToken) (n : ℕ) (c : ConverterToken) → n < length cs → c ≡ get_or cs n c → get_or (converted_of cs) n 0 ≡ c.converted
 converted_at cs n c lt a = get_or-map (λ (x : ConverterToken). x.converted) cs n c 0 lt ∙ ap (λ (x : ConverterToken). x.converted) (sym a)
 
--- one part more is heard
+-- one more part is heard
 pub closed_more : (σ : Setting) (hs : List (List Doc)) (cs : List ConverterToken) (n : ℕ) (docs : List Doc) (c : ConverterToken) → n < length cs
     → history hs n ≡ docs → c ≡ get_or cs n c
     → AreClosed σ docs c.converted → ((p : ℕ) → p < n → AreClosed σ (history hs p) (get_or (converted_of cs) p 0))
@@ -34,7 +34,7 @@ closed_more σ hs cs n docs c m a b now f p lt =
       | inr ne ↦ f p (omega (arith, lt, ne))
     ]
 
--- one part more has converted
+-- one more part has converted
 pub converts_more : (σ : Setting) (old cs : List ConverterToken) (n : ℕ) (v new : ConverterToken) → n < length cs → v ≡ get_or cs n v
     → history (converter_histories_of cs) n ≡ history (converter_histories_of old) n → ((s : ℕ) → s + 1 < length (cut σ v.docs) → s < new.converted)
     → ((p s : ℕ) → p < n → s + 1 < length (cut σ (history (converter_histories_of old) p)) → s < get_or (converted_of cs) p 0)
@@ -47,7 +47,7 @@ converts_more σ old cs n v new lt a same now f p s less low =
       | inr ne ↦ subst (λ r. s < r) (sym (other_converted cs n new p ne)) (f p s (omega (arith, less, ne)) low)
     ]
 
--- one part more converts, and its number doesn't fall
+-- one more part converts, and its number doesn't fall
 pub rises : (old cs : List ConverterToken) (n : ℕ) (c new : ConverterToken) → n < length cs → c ≡ get_or cs n c → c.converted ≤ new.converted
     → ((p : ℕ) → get_or (converted_of old) p 0 ≤ get_or (converted_of cs) p 0) → (p : ℕ) → get_or (converted_of old) p 0 ≤ get_or (converted_of (set cs n new)) p 0
 rises old cs n c new lt is grown low p = elim (cases_eq p n) [

@@ -62,7 +62,7 @@ histories_set ts n t new a e = map-set_same (λ (x : HistoryToken). x.docs) ts n
 pub converter_indexes_set : (ts : List ConverterToken) (n : ℕ) (t new : ConverterToken) → t ≡ get_or ts n t → new.index ≡ t.index → converter_indexes_of (set ts n new) ≡ converter_indexes_of ts
 converter_indexes_set ts n t new a e = map-set_same (λ (x : ConverterToken). x.index) ts n new t (e ∙ ap (λ (x : ConverterToken). x.index) a)
 
--- ---- fronts
+-- ---- prefixes
 
 pub fronts_self : (hs : List (List Doc)) → AreFronts hs hs
 fronts_self hs = record { parts = refl; each = λ p. prefix_self (history hs p) }
@@ -115,7 +115,7 @@ pub length_map : {A B : Type 0} (f : A → B) (xs : List A) → length (map f xs
 length_map f [] = refl
 length_map f (x ∷ xs) = ap suc (length_map f xs)
 
--- one part more is searched
+-- one more part is searched
 pub found_more : (fs : List Frame) (ts : List HistoryToken) (n : ℕ) (f : Frame) (t : HistoryToken) (q : Tree) (k : ℕ) → n < length fs → n < length ts
     → take n (map ids_of fs) ≡ take n (map (answer q k) (histories_of ts)) → ids_of f ≡ answer q k t.docs
     → take (n + 1) (map ids_of (set fs n f)) ≡ take (n + 1) (map (answer q k) (histories_of (set ts n t)))
@@ -126,13 +126,13 @@ found_more fs ts n f t q k l m h e =
     ∙ take_set (map (answer q k) (histories_of ts)) n (answer q k t.docs) (omega (arith, m, length_map (answer q k) (histories_of ts), length_histories ts)) in
     left ∙ (λ i. h i ++ e i ∷ []) ∙ sym right
 
--- one number more
+-- one more number
 take_next : (xs : List ℕ) (n y : ℕ) → n < length xs → get_or xs n y ≡ y → take (n + 1) xs ≡ take n xs ++ y ∷ []
 take_next [] n y lt e = absurd (omega (arith, lt))
 take_next (x ∷ xs) zero y lt e = ap (λ z. z ∷ []) e
 take_next (x ∷ xs) (suc n) y lt e = let s : suc n + 1 ≡ suc (n + 1) = omega arith in rw s (ap (λ z. x ∷ z) (take_next xs n y (omega (arith, lt)) e))
 
--- one part more is looked at
+-- one more part is looked at
 pub lengths_more : (ns : List ℕ) (ts : List HistoryToken) (n : ℕ) (x : ℕ) (t : HistoryToken) → n < length ns → n < length ts → t ≡ get_or ts n t
     → take n ns ≡ take n (lengths_of (histories_of ts)) → x ≡ length t.docs
     → take (n + 1) (set ns n x) ≡ take (n + 1) (lengths_of (histories_of ts))
@@ -174,14 +174,14 @@ beyond [] (suc p) le = refl
 beyond (h ∷ hs) zero le = absurd (omega (arith, le))
 beyond (h ∷ hs) (suc p) le = beyond hs p (omega (arith, le))
 
--- fronts at all parts
+-- prefixes at all parts
 pub fronts_all : (hs all : List (List Doc)) (n : ℕ) → length hs ≡ length all → length hs ≤ n → ((p : ℕ) → p < n → IsPrefix (history hs p) (history all p)) → AreFronts hs all
 fronts_all hs all n e le f = record {
   parts = e;
   each = λ p. elim (cases_lt p n) [ inl lt ↦ f p lt | inr high ↦ subst (λ (z : List Doc). IsPrefix z (history all p)) (sym (beyond hs p (omega (arith, le, high)))) (history all p, refl) ];
 }
 
--- one part more is heard
+-- one more part is heard
 pub heard_more : (hs : List (List Doc)) (cs : List ConverterToken) (n : ℕ) (docs : List Doc) (c : ConverterToken) → n < length cs
     → history hs n ≡ docs → c ≡ get_or cs n c
     → IsPrefix c.docs docs → ((p : ℕ) → p < n → IsPrefix (history (converter_histories_of cs) p) (history hs p))
@@ -247,7 +247,7 @@ none_is (Some x) h = absurd (h x refl)
 
 -- ---- readers are taken in from the last to the first
 
--- a front without its last element
+-- a prefix without its last element
 whole_is : {A : Type 0} (new l all : List A) (r : A) → l ≡ new ++ r ∷ [] → (p : IsPrefix l all) → new ++ r ∷ p.0 ≡ all
 whole_is new l all r e p = sym (append_assoc new (r ∷ []) p.0) ∙ ap (λ z. z ++ p.0) (sym e) ∙ p.1
 
@@ -260,7 +260,7 @@ last_of_front new l all r e p = sym (get_or-append_seam new r p.0 r) ∙ ap (λ 
 pub inside_front : {A : Type 0} (new l all : List A) (r : A) → l ≡ new ++ r ∷ [] → IsPrefix l all → length new < length all
 inside_front new l all r e p = omega (arith, ap length (whole_is new l all r e p), length-append new (r ∷ p.0))
 
--- one part more has taken in its reader
+-- one more part has taken in its reader
 pub met_more : (ts rs : List HistoryToken) (n : ℕ) (t new r : HistoryToken) → n < length ts → n < length rs → t ≡ get_or ts n t → r ≡ get_or rs n r → new ≡ t → IsPrefix r.docs new.docs
     → ((p : ℕ) → n + 1 ≤ p → IsPrefix (history (histories_of rs) p) (history (histories_of ts) p)) → (p : ℕ) → n ≤ p → IsPrefix (history (histories_of rs) p) (history (histories_of ts) p)
 met_more ts rs n t new r l m a b e pre f p le =
@@ -312,7 +312,7 @@ converter_met_more cs rs n new r l m b pre f p le =
       | inr ne ↦ subst (λ (z : List Doc). IsPrefix (history (histories_of rs) p) z) (sym (other_history cs n new p ne)) (f p (omega (arith, le, ne)))
     ]
 
--- one converter more was told
+-- one more converter knows the history
 pub told_more : (ts : List HistoryToken) (cs : List ConverterToken) (n : ℕ) (t : HistoryToken) (new : ConverterToken) → n < length ts → n < length cs
     → t ≡ get_or ts n t → IsPrefix t.docs new.docs
     → ((p : ℕ) → p < n → IsPrefix (history (histories_of ts) p) (history (converter_histories_of cs) p))

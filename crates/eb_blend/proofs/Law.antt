@@ -26,7 +26,7 @@ eqb_other a b ne = elim (eqb_tells a b) [ inl t ↦ absurd (ne t.1) | inr t ↦ 
 mod_below : (a b : ℕ) → 1 ≤ b → a % b < b
 mod_below a b h = mod-lt a (omega arith)
 
--- the answers of parts, of each for so many ids as it says
+-- the answers of parts, each for as many ids as it says
 abbrev each_answer : Tree → (ℕ → ℕ) → (ℕ → List Doc) → List ℕ → List ℕ
 each_answer q ks hs [] = []
 each_answer q ks hs (p ∷ ps) = answer q (ks p) (hs p) ++ each_answer q ks hs ps
@@ -186,7 +186,7 @@ lowered_other m ks p ne = let e : (p == m) ≡ false = eqb_other p m ne in rw e 
 lowered_enough : (m j : ℕ) (ks : ℕ → ℕ) → ((p : ℕ) → suc j ≤ ks p) → (p : ℕ) → j ≤ lowered m ks p
 lowered_enough m j ks le p = elim (cases_Bool (p == m)) [ inl e ↦ rw e (omega (arith, le p)) | inr e ↦ rw e (omega (arith, le p)) ]
 
--- the answers of parts, of which one stands between the others
+-- the answers of parts, of which one is between the others
 each_at : (q : Tree) (ks : ℕ → ℕ) (hs : ℕ → List Doc) (m : ℕ) (ps : List ℕ) (o : Once m ps)
     → each_answer q ks hs ps ≡ each_answer q ks hs o.before ++ (answer q (ks m) (hs m) ++ each_answer q ks hs o.after)
 each_at q ks hs m ps o = ap (each_answer q ks hs) o.is ∙ each-append q ks hs o.before (m ∷ o.after)

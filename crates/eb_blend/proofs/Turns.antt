@@ -1,4 +1,4 @@
--- Documents that are added one after the other, and by the parts side by side.
+-- Documents that are added one after the other, and by the parts concurrently.
 use Rattle.std.proofs.Common.{◌≡◌, ◌≢◌, ℕ, zero, suc, ◌+◌, ◌%◌, ◌<◌, ◌≤◌, ◌==◌, inl, inr, Bool, true, false, List, [], ◌∷◌, ◌++◌, length, take, get_or}
 use Rattle.std.proofs.Common.{Option, Some, None, refl, ap, ap₂, sym, ◌∙◌, subst, arith, append_assoc}
 use Rattle.std.specs.Option.{is_some}
@@ -20,7 +20,7 @@ use Rattle.eb_blend.specs.declared.refusal.BlendRefusal.TheVariants.{NotRising, 
 use Rattle.eb_blend.specs.Parts.{WriterTokens, indexes_of, histories_of, history, part_of, IsAbove}
 use Rattle.eb_blend.specs.Adding.{refusal_of_part, refusal_above, refusal_of, with_outcome, outcome, with_item, outcomes_of, with_items}
 use Rattle.eb_blend.specs.Adding.{IsRising, newest, newest_of, AreRising, part_with, part_after, is_full}
-use Rattle.eb_blend.specs.Adding.{part_with_document, is_without_room, told, told_document, told_from, last_after, last_after_document, last_from}
+use Rattle.eb_blend.specs.Adding.{part_with_document, is_without_room, told_item, told_document, told_from, last_after, last_after_document, last_from}
 use Rattle.eb_blend.specs.Adding.{HasTurned, writers_of, fulls_of, turns_writer}
 use Rattle.eb_blend.proofs.Each.{as_many, length_map}
 
@@ -109,7 +109,7 @@ module _ (σ : Setting) (w : WriterTokens) (d : Doc) (up : IsAbove w.last d.id) 
         | inr ne ↦ other p (λ s. ne (s ∙ q)) ∙ sym (with_other n p (history w.histories p) ne)
       ]
 
-  -- what its part tells of it
+  -- what its part says of it
   full_own : (n : ℕ) (h : List Doc) (b : Bool) → has_room σ h d ≡ b → is_without_room σ n (d.id % n) h d ≡ (if b then false else true)
   full_own n h b r = let e : (d.id % n == d.id % n) ≡ true = eq-eqb (d.id % n) (d.id % n) refl in rw e (ap (λ (c : Bool). if c then false else true) r)
 
@@ -170,7 +170,7 @@ unfolding AreRising
 rising-nil E last = tt
 
 module _ {E : Type 0} where
-  -- ---- one item more
+  -- ---- one more item
 
   pub with_items-append : (σ : Setting) (w : WriterTokens) (xs ys : List (Result Doc E)) → with_items σ w (xs ++ ys) ≡ with_items σ (with_items σ w xs) ys
   unfolding with_items
@@ -197,16 +197,16 @@ module _ {E : Type 0} where
   part_after-push σ n p h (y ∷ xs) x = part_after-push σ n p (part_with σ n p h y) xs x
 
   pub told_from-push : (fulls : List (List Bool)) (i : ℕ) (xs : List (Result Doc E)) (x : Result Doc E) (m : ℕ) → m ≡ i + length xs
-      → told_from fulls i (xs ++ x ∷ []) ≡ told_from fulls i xs ++ told fulls m x ∷ []
+      → told_from fulls i (xs ++ x ∷ []) ≡ told_from fulls i xs ++ told_item fulls m x ∷ []
   unfolding told_from
-  told_from-push fulls i [] x m e = let s : i ≡ m = omega (arith, e) in ap (λ k. told fulls k x ∷ []) s
-  told_from-push fulls i (y ∷ xs) x m e = ap (λ z. told fulls i y ∷ z) (told_from-push fulls (i + 1) xs x m (omega (arith, e)))
+  told_from-push fulls i [] x m e = let s : i ≡ m = omega (arith, e) in ap (λ k. told_item fulls k x ∷ []) s
+  told_from-push fulls i (y ∷ xs) x m e = ap (λ z. told_item fulls i y ∷ z) (told_from-push fulls (i + 1) xs x m (omega (arith, e)))
 
   pub last_from-push : (fulls : List (List Bool)) (i : ℕ) (last : Option ℕ) (xs : List (Result Doc E)) (x : Result Doc E) (m : ℕ) → m ≡ i + length xs
-      → last_from fulls i last (xs ++ x ∷ []) ≡ last_after (told fulls m x) (last_from fulls i last xs) x
+      → last_from fulls i last (xs ++ x ∷ []) ≡ last_after (told_item fulls m x) (last_from fulls i last xs) x
   unfolding last_from
-  last_from-push fulls i last [] x m e = let s : i ≡ m = omega (arith, e) in ap (λ k. last_after (told fulls k x) last x) s
-  last_from-push fulls i last (y ∷ xs) x m e = last_from-push fulls (i + 1) (last_after (told fulls i y) last y) xs x m (omega (arith, e))
+  last_from-push fulls i last [] x m e = let s : i ≡ m = omega (arith, e) in ap (λ k. last_after (told_item fulls k x) last x) s
+  last_from-push fulls i last (y ∷ xs) x m e = last_from-push fulls (i + 1) (last_after (told_item fulls i y) last y) xs x m (omega (arith, e))
 
   -- ---- ids that rise
 
@@ -234,7 +234,7 @@ module _ {E : Type 0} where
   step σ w n p (Err e) long some up = refl
 
   told_step : (σ : Setting) (w : WriterTokens) (fulls : List (List Bool)) (n i : ℕ) (x : Result Doc E) → length fulls ≡ n → length w.histories ≡ n → 0 < n → IsRising w.last x
-      → ((p : ℕ) → p < n → get_or (get_or fulls p []) i false ≡ is_full σ n p (history w.histories p) x) → told fulls i x ≡ outcome σ w x
+      → ((p : ℕ) → p < n → get_or (get_or fulls p []) i false ≡ is_full σ n p (history w.histories p) x) → told_item fulls i x ≡ outcome σ w x
   told_step σ w fulls n i (Ok d) long many some up is = document_told σ w d up fulls n i long many (is (d.id % n) (mod-lt d.id {m = n} (omega (arith, some))))
   told_step σ w fulls n i (Err e) long many some up is = refl
 
@@ -278,7 +278,7 @@ module _ {E : Type 0} where
       parts_apart σ (with_item σ w x) n p xs (step_long σ w x ∙ long) some (step_rising σ w x xs are.0 are.1)
       ∙ ap (λ h. part_after σ n p h xs) (step σ w n p x long some are.0)
 
-  -- the parts tell of the items from i on what comes of them after this writer
+  -- the parts say of the items from i on what comes of them after this writer
   abbrev pub AreTold : Setting → WriterTokens → List (List Bool) → ℕ → ℕ → List (Result Doc E) → Type 0
   AreTold σ w fulls n i xs = (p j : ℕ) (x : Result Doc E) → p < n → j < length xs → x ≡ get_or xs j x
       → get_or (get_or fulls p []) (i + j) false ≡ is_full σ n p (part_after σ n p (history w.histories p) (take j xs)) x
@@ -432,14 +432,14 @@ module _ {E : Type 0} (ws : List Words) (items : List (Result Doc E)) (old new :
         let indexes : indexes_of (writers_of new) ≡ (with_items σ (turns_writer old last) items).indexes = turned_made ∙ sym made ∙ sym (all_indexes σ (turns_writer old last) items) in
         λ i. record { indexes = indexes i; histories = turned_histories i; last = turned_last i }
 
--- what is in front of the rest
+-- what is before the rest
 pub front_back : {A : Type 0} (xs rest : List A) (n : ℕ) → n ≡ length xs → take n (xs ++ rest) ≡ xs
 front_back [] rest zero e = refl
 front_back [] rest (suc n) e = absurd (omega (arith, e))
 front_back (x ∷ xs) rest zero e = absurd (omega (arith, e))
 front_back (x ∷ xs) rest (suc n) e = ap (λ z. x ∷ z) (front_back xs rest n (omega (arith, e)))
 
--- the first of a list is taken away
+-- the first of a list is removed
 pub head_and_rest : {A : Type 0} (xs : List A) (x : A) → 0 < length xs → x ≡ get_or xs 0 x → x ∷ remove xs 0 ≡ xs
 head_and_rest [] x lt a = absurd (omega (arith, lt))
 head_and_rest (y ∷ xs) x lt a = ap (λ z. z ∷ xs) a
@@ -449,7 +449,7 @@ writers_push [] t = refl
 writers_push (u ∷ ts) t = ap (λ z. u.writer ∷ z) (writers_push ts t)
 
 module _ {E : Type 0} where
-  -- an id that doesn't rise is passed over
+  -- an id that doesn't rise is skipped
   pub low_item : (σ : Setting) (w : WriterTokens) (x : Result Doc E) (l : ℕ) → w.last ≡ Some l → ((d : Doc) × (x ≡ Ok d) × (d.id ≤ l))
       → (w ≡ with_items σ w (x ∷ [])) × (Some (NotRising l) ∷ [] ≡ outcomes_of σ w (x ∷ []))
   low_item σ w x l is low =

@@ -18,7 +18,7 @@ use Rattle.eb_blend.specs.Parts.{WriterTokens, indexes_of, histories_of, history
 abbrev pub refusal_of_part : Setting → List (List Doc) → Doc → Option BlendRefusal
 refusal_of_part σ hs d = if has_room σ (history hs (part_of hs d)) d then None else Some (Full (part_of hs d))
 
--- where its id isn't above the last one, it is refused before that
+-- where its id isn't above the last one, the blend refuses it before that
 abbrev pub refusal_above : Option ℕ → Doc → Option BlendRefusal → Option BlendRefusal
 refusal_above None d r = r
 refusal_above (Some last) d r = if nat_le d.id last then Some (NotRising last) else r
@@ -99,7 +99,7 @@ abbrev pub AreFull : {E : Type 0} → Setting → ℕ → ℕ → List Doc → L
 AreFull {E} σ parts p h items full = (i : ℕ) (x : Result Doc E) → i < length items → x ≡ get_or items i x
     → get_or full i false ≡ is_full σ parts p (part_after σ parts p h (take i items)) x
 
--- a part added what goes to it, one after the other, and tells for which of the items it had no room
+-- a part added what goes to it, one after the other, and says for which of the items it had no room
 pub record HasTurned {E : Type 0} (σ : Setting) (parts p : ℕ) (items : List (Result Doc E)) (old new : Turn) : Type 0 where
   pub index : new.writer.index ≡ old.writer.index
   pub docs : new.writer.docs ≡ part_after σ parts p old.writer.docs items
@@ -121,17 +121,17 @@ blend_writer ts last = record { indexes = indexes_of ts; histories = histories_o
 abbrev pub turns_writer : List Turn → Option ℕ → WriterTokens
 turns_writer ts last = blend_writer (writers_of ts) last
 
--- what its part tells of a document, which is item i; of an item, which may be a document
+-- what its part says of a document, which is item i; of an item, which may be a document
 abbrev pub told_document : List (List Bool) → ℕ → Doc → Option BlendRefusal
 told_document fulls i d = if get_or (get_or fulls (d.id % length fulls) []) i false then Some (Full (d.id % length fulls)) else None
 
-abbrev pub told : {E : Type 0} → List (List Bool) → ℕ → Result Doc E → Option BlendRefusal
-told fulls i (Ok d) = told_document fulls i d
-told fulls i (Err e) = None
+abbrev pub told_item : {E : Type 0} → List (List Bool) → ℕ → Result Doc E → Option BlendRefusal
+told_item fulls i (Ok d) = told_document fulls i d
+told_item fulls i (Err e) = None
 
 unfoldable pub told_from : {E : Type 0} → List (List Bool) → ℕ → List (Result Doc E) → List (Option BlendRefusal)
 told_from fulls i [] = []
-told_from fulls i (x ∷ xs) = told fulls i x ∷ told_from fulls (i + 1) xs
+told_from fulls i (x ∷ xs) = told_item fulls i x ∷ told_from fulls (i + 1) xs
 
 -- the last id after a document of which this came; after an item
 abbrev pub last_after_document : Option BlendRefusal → Option ℕ → Doc → Option ℕ
@@ -144,9 +144,9 @@ last_after r last (Err e) = last
 
 unfoldable pub last_from : {E : Type 0} → List (List Bool) → ℕ → Option ℕ → List (Result Doc E) → Option ℕ
 last_from fulls i last [] = last
-last_from fulls i last (x ∷ xs) = last_from fulls (i + 1) (last_after (told fulls i x) last x) xs
+last_from fulls i last (x ∷ xs) = last_from fulls (i + 1) (last_after (told_item fulls i x) last x) xs
 
--- the space is for so many parts and items, and unused
+-- the space is for this many parts and items, and unused
 pub record IsFor (parts items : ℕ) (s : Space) : Type 0 where
   pub turns : s.turns.items ≡ []
   pub no_turns : vec_len s.turns ≡ 0

@@ -5,7 +5,8 @@ use Rattle.eb_base.specs.Setting.{Setting}
 use Rattle.eb_engine.specs.Tokens.{ConverterToken}
 use Rattle.eb_place.specs.Room.{cut}
 
--- it converted until there was nothing to convert: each segment whose following segment has a document that it knew is converted
+-- it converted until there was nothing to convert: each segment whose following segment has a
+-- document that it knew is converted
 pub record HasConverted (σ : Setting) (old new : ConverterToken) : Type 0 where
   pub index : new.index ≡ old.index
   pub known : IsPrefix old.docs new.docs

@@ -6,11 +6,12 @@ use Rattle.eb_cursor.specs.declared.frame.Frame.{Frame}
 use Rattle.eb_cursor.specs.Frames.{query_of, k_of}
 use Rattle.eb_blend.specs.declared.frame.BlendFrame.{BlendFrame}
 
--- each frame asks this query for at most so many ids
+-- each frame asks this query for at most k ids
 abbrev pub AllAsk : Tree → ℕ → List Frame → Type 0
 AllAsk q k fs = All (λ f. (query_of f ≡ q) × (k_of f ≡ k)) fs
 
--- the frame asks so many parts this query, for at most so many ids, and has room for what they all answer
+-- the frame asks this many parts this query, for at most k ids, and has room for what they all
+-- answer
 pub record Asks (f : BlendFrame) (q : Tree) (k parts : ℕ) : Type 0 where
   pub frames : AllAsk q k f.frames.items
   pub most : f.k ≡ k

@@ -6,7 +6,7 @@ use Rattle.eb_base.specs.Query.{Tree}
 use Rattle.eb_base.specs.Match.{answer}
 use Rattle.eb_blend.specs.Blended.{blended}
 
--- the documents of a part: those whose ids have it as the rest by the number of parts
+-- the documents of a part: those whose ids leave its number as the remainder by the number of parts
 abbrev pub part : ℕ → List Doc → ℕ → List Doc
 part parts docs p = filter (λ d. d.id % parts == p) docs
 

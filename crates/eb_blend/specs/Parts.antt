@@ -12,7 +12,8 @@ pub record Parts : Type 0 where
   pub setting : Setting
   pub indexes : List Words
 
--- of a writer: the index of each part, the history of each part, and the id of the document that was added last, if there is one
+-- of a writer: the index of each part, the history of each part, and the id of the document that
+-- was added last, if there is one
 pub record WriterTokens : Type 0 where
   pub indexes : List Words
   pub histories : List (List Doc)
@@ -23,7 +24,8 @@ pub record ReaderTokens : Type 0 where
   pub indexes : List Words
   pub histories : List (List Doc)
 
--- of a converter: the index of each part, the documents that it knows of each part, and how many segments of each it converted
+-- of a converter: the index of each part, the documents that it knows of each part, and how many
+-- segments of each it converted
 pub record ConverterTokens : Type 0 where
   pub indexes : List Words
   pub histories : List (List Doc)
@@ -73,7 +75,7 @@ history hs p = get_or hs p []
 abbrev pub part_of : List (List Doc) → Doc → ℕ
 part_of hs d = d.id % length hs
 
--- the histories with a document more, after that of its part
+-- the histories with one more document, after that of its part
 abbrev pub with_document : List (List Doc) → Doc → List (List Doc)
 with_document hs d = set hs (part_of hs d) (history hs (part_of hs d) ++ d ∷ [])
 
@@ -82,13 +84,14 @@ abbrev pub IsAbove : Option ℕ → ℕ → Type 0
 IsAbove None id = Unit {0}
 IsAbove (Some last) id = last < id
 
--- each history begins with what the other holds of the same part
+-- each history is a prefix of what the other holds of the same part
 pub record AreFronts (hs all : List (List Doc)) : Type 0 where
   pub parts : length hs ≡ length all
   pub each : (p : ℕ) → IsPrefix (history hs p) (history all p)
 
--- the converter knows the history of a part, and each of its segments whose following segment has a document is converted; of the
--- other parts it knows as much as before, and converted as many segments
+-- the converter knows the history of a part, and each of its segments whose following segment has a
+-- document is converted; of the other parts it knows as much as before, and converted as many
+-- segments
 pub record IsCaughtUp (σ : Setting) (hs : List (List Doc)) (p : ℕ) (old new : ConverterTokens) : Type 0 where
   pub told : IsPrefix (history hs p) (history new.histories p)
   pub converted : (s : ℕ) → s + 1 < length (cut σ (history hs p)) → s < get_or new.converted p 0

@@ -1,8 +1,9 @@
-//! Documents are added one after the other, and all parts add side by side.
+//! Documents are added one after the other, and all parts add concurrently.
 //!
-//! Where the ids of documents rise, none is refused as not rising, whatever its part refuses as full. So no part waits
-//! for another: each goes over all of them and adds those that go to it, on a thread of its own, and tells for which it
-//! had no room. A document whose id doesn't rise begins the next run, where the last id is known.
+//! Where the ids of documents rise, none is refused as not rising, even if its part refuses some as
+//! full. So no part waits for another: each looks at all of them on a thread of its own, adds those
+//! that go to it, and notes for which it had no room. A document whose id doesn't rise begins the
+//! next run, where the last id is known.
 ghost use Rattle.std.specs.Prelude.{◌≡◌, ◌+◌, ◌≤◌, ◌<◌, ◌++◌, ℕ, [], length, get_or, take, vec_len, vec_capacity};
 ghost use Rattle.std.specs.Prelude.{Some, None, Result, Ok, IfSome, IfOk, All};
 ghost use Rattle.eb_base.specs.Document.{Doc};
@@ -11,7 +12,7 @@ ghost use Rattle.eb_table.specs.Known.{Words};
 ghost use Rattle.eb_blend.specs.Parts.{indexes_of, histories_of, lengths_of, counted};
 ghost use Rattle.eb_blend.specs.Adding.{outcomes_of, with_items, IsRising, AreRising, newest, HasTurned};
 ghost use Rattle.eb_blend.specs.Adding.{part_with_document, is_without_room, part_with, is_full};
-ghost use Rattle.eb_blend.specs.Adding.{writers_of, fulls_of, blend_writer, turns_writer, IsFor, told, told_from, last_after as is_last_after, last_from};
+ghost use Rattle.eb_blend.specs.Adding.{writers_of, fulls_of, blend_writer, turns_writer, IsFor, told_item, told_from, last_after as is_last_after, last_from};
 
 use crate::refusal::BlendRefusal;
 use eb_base::{Document, Gate, NoMemory};
@@ -33,7 +34,7 @@ const LEAST_ITEMS: usize = 32;
 
 // ---- one part
 
-// Adds a document that goes to this part, and gives whether there is no room for it.
+// Adds a document that goes to this part, and returns whether there is no room for it.
 fn add_document<G: Gate>(
     parts: usize,
     part: usize,
@@ -54,7 +55,7 @@ fn add_document<G: Gate>(
     writer.add(index, document, gate).is_err()
 }
 
-// Adds an item that is a document of this part, and gives whether there is no room for it.
+// Adds an item that is a document of this part, and returns whether there is no room for it.
 fn add_item<E, G: Gate>(
     parts: usize,
     part: usize,
@@ -166,14 +167,14 @@ fn rising_front<E>(last: Option<u64>, items: &[Result<Document, E>]) -> usize
     items.len()
 }
 
-// ---- what the parts tell
+// ---- what the parts say
 
-// What the parts tell of an item.
+// What the parts say of an item.
 fn told_of<E>(turns: &[Turn], at: usize, item: &Result<Document, E>) -> Option<BlendRefusal>
     requires some { 0 < length turns.now }
     requires few { length turns.now ≤ 16 }
     requires long { All (λ t. at < length t.full.items) turns.now }
-    ensures { result ≡ told (fulls_of turns.now) at item.now }
+    ensures { result ≡ told_item (fulls_of turns.now) at item.now }
 {
     let Ok(document) = item else {
         return None;
@@ -199,7 +200,7 @@ fn last_id<E>(
     }
 }
 
-// Puts what the parts tell of each item after the outcomes, and gives the last id.
+// Puts what the parts say of each item after the outcomes, and returns the last id.
 fn gather<E>(
     turns: &[Turn],
     items: &[Result<Document, E>],
@@ -224,7 +225,8 @@ fn gather<E>(
     last
 }
 
-// Adds items whose ids rise, all parts side by side; puts what came of each after the outcomes, and gives the last id.
+// Adds items whose ids rise, all parts concurrently; puts what came of each after the outcomes, and
+// returns the last id.
 fn add_run<R: Threads + Sync, E: Sync, G: Gate + Sync>(
     rt: &R,
     indexes: &[Index],
@@ -254,7 +256,8 @@ fn add_run<R: Threads + Sync, E: Sync, G: Gate + Sync>(
     gather(turns, items, last, outcomes)
 }
 
-// Adds items, run after run of ids that rise; puts what came of each after the outcomes, and gives the last id.
+// Adds items, run after run of ids that rise; puts what came of each after the outcomes, and
+// returns the last id.
 fn add_items<R: Threads + Sync, E: Sync, G: Gate + Sync>(
     rt: &R,
     indexes: &[Index],
@@ -294,7 +297,7 @@ fn add_items<R: Threads + Sync, E: Sync, G: Gate + Sync>(
 
 // ---- the writers' turns
 
-// Room for each of so many parts to tell for which of so many items it has none.
+// Room for each of `parts` parts to note for which of `items` items it has no room.
 fn rooms(alloc: Global, parts: usize, items: usize) -> Result<Vec<Vec<bool>>, NoMemory>
     ensures number { IfOk result (λ r. vec_len r ≡ parts) }
     ensures long { IfOk result (λ r. All (λ full. length full.items ≡ items) r.items) }
@@ -334,8 +337,8 @@ fn end_turns(turns: &mut Vec<Turn>, writers: &mut Vec<Writer>)
     }
 }
 
-// The memory of documents that are added: the writers' turns, with room for what they tell, the writers afterwards, and
-// what came of each item.
+// The memory of documents that are added: the writers' turns, with room for what they note, the
+// writers afterwards, and what came of each item.
 #[derive(Drop)]
 pub(crate) struct Space {
     turns: Vec<Turn>,
@@ -345,7 +348,7 @@ pub(crate) struct Space {
 }
 
 impl Space {
-    // For so many parts and items.
+    // For this many parts and items.
     pub(crate) fn new(alloc: Global, parts: usize, items: usize) -> Result<Space, NoMemory>
         ensures { IfOk result (IsFor parts items) }
     {
@@ -362,7 +365,8 @@ impl Space {
     }
 }
 
-// Adds items, and gives the last id; what came of each is in the space afterwards. Takes no memory.
+// Adds items, and returns the last id; what came of each is in the space afterwards. Takes no
+// memory.
 pub(crate) fn add_with<R: Threads + Sync, E: Sync, G: Gate + Sync>(
     rt: &R,
     indexes: &[Index],

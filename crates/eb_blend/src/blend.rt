@@ -7,9 +7,9 @@ use eb_engine::{Converter, Index, Writer};
 use std::alloc::Global;
 use std::marker::Model;
 
-/// Indexes of one setting, the parts of the blend, which threads share by reference. What is done with it is done by
-/// its writer, its readers and its converter, all of which are made with it. Contracts see the setting, and which
-/// indexes they are.
+/// Indexes of one setting, the parts of the blend, which threads share by reference. Its writer,
+/// its readers and its converter, all made with it, do what is done with it. Contracts see the
+/// setting, and which indexes they are.
 #[derive(Drop)]
 pub struct Blend {
     config: Config,
@@ -28,9 +28,9 @@ impl Model for Blend {
 }
 
 impl Blend {
-    /// A blend of so many parts, from 1 to 16, each an index of this setting without a document, with its one writer
-    /// and its one converter. Takes all memory that the parts will ever take, at once. `NoMemory` where it isn't
-    /// there: nothing is kept then.
+    /// A blend of `parts` parts, from 1 to 16, each an index of this setting without a document,
+    /// with its one writer and its one converter. Takes all memory that the parts will ever take,
+    /// at once. `NoMemory` where memory runs out: nothing is kept then.
     pub fn open(
         alloc: Global,
         parts: u32,

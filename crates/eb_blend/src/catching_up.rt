@@ -35,8 +35,8 @@ pub(crate) fn catch_up_at(
     catch_up_part(&indexes[at], &mut writers[at], &mut converters[at]);
 }
 
-// The converter is told the history and, where a segment waits, converts until there is nothing to convert; the writer is then
-// told of that.
+// The converter learns the history. Where a segment waits, it converts until there is nothing to
+// convert; the writer then learns that.
 fn catch_up_part(index: &Index, writer: &mut Writer, converter: &mut Converter)
     requires writer { writer.old.index ≡ index.now }
     requires converter { converter.old.index ≡ index.now }
@@ -62,7 +62,8 @@ fn has_waiting(writer: &Writer, converter: &Converter) -> bool
     writer.segments().saturating_sub(converter.converted()) > 1
 }
 
-// The converter of each part is told the part's history; gives whether a segment waits in some part.
+// The converter of each part learns the part's history; returns whether a segment waits in some
+// part.
 fn tell_each(indexes: &[Index], writers: &mut [Writer], converters: &mut [Converter]) -> bool
     requires made { indexes_of writers.old ≡ indexes.now }
     requires converters { converter_indexes_of converters.old ≡ indexes.now }
@@ -81,7 +82,8 @@ fn tell_each(indexes: &[Index], writers: &mut [Writer], converters: &mut [Conver
     waits
 }
 
-// Each part converts until there is nothing to convert: all at once, on threads of their own, where a segment waits.
+// Each part converts until there is nothing to convert: all at once, on threads of their own, where
+// a segment waits.
 fn convert_beside<R: Threads + Sync>(
     rt: &R,
     indexes: &[Index],
@@ -104,7 +106,7 @@ fn convert_beside<R: Threads + Sync>(
     );
 }
 
-// The same of one part.
+// A part converts until there is nothing to convert.
 fn convert_told(index: &Index, converter: &mut Converter)
     requires { converter.old.index ≡ index.now }
     ensures { HasConverted index.now.setting converter.old converter.new }
@@ -112,7 +114,7 @@ fn convert_told(index: &Index, converter: &mut Converter)
     convert_part(converter, index);
 }
 
-// All converters catch up, side by side where a segment waits in some part.
+// All converters catch up, concurrently where a segment waits in some part.
 pub(crate) fn catch_up_each<R: Threads + Sync>(
     rt: &R,
     indexes: &[Index],

@@ -11,8 +11,9 @@ use eb_convert::Converted;
 use eb_engine::{Converter, Index, Reader};
 use std::marker::Model;
 
-/// The one converter of a blend. It may go to a thread of its own. Contracts see the documents that it knows of each
-/// part, which are the first ones of the part's history, and how many segments of each part it converted.
+/// The one converter of a blend. It may go to a thread of its own. Contracts see the documents that
+/// it knows of each part, which are the first ones of the part's history, and how many segments of
+/// each part it converted.
 #[derive(Drop)]
 pub struct BlendConverter {
     pub(crate) converters: Vec<Converter>,
@@ -41,8 +42,9 @@ impl BlendConverter {
         BlendConverter { converters }
     }
 
-    /// Takes in a reader: of each part the converter then knows at least what the reader knew and what it knew before,
-    /// which are fronts of one history. Both must have been made with this blend. Takes no memory.
+    /// Meets a reader, which is used up: of each part the converter then knows at least what the
+    /// reader knew and what it knew before, which are prefixes of one history. Both must have been
+    /// made with this blend. Takes no memory.
     pub fn meet(&mut self, blend: &Blend, reader: BlendReader)
         requires this { self.old.indexes ≡ blend.now.indexes }
         requires reader { reader.indexes ≡ blend.now.indexes }
@@ -58,9 +60,10 @@ impl BlendConverter {
         );
     }
 
-    /// Converts in each part until there is nothing to convert, and gives by how much `converted` grew. Afterwards, in
-    /// each part, each segment whose following segment has a document that the converter knew is converted, and none
-    /// is converted no more. The converter must have been made with this blend. Takes no memory.
+    /// Converts in each part until there is nothing to convert, and returns by how much `converted`
+    /// grew. Afterwards, in each part, each segment whose following segment has a document that the
+    /// converter knew is converted, and no converted segment is unconverted. The converter must
+    /// have been made with this blend. Takes no memory.
     pub fn convert_all(&mut self, blend: &Blend) -> u32
         requires { self.old.indexes ≡ blend.now.indexes }
         ensures indexes { self.new.indexes ≡ self.old.indexes }
@@ -87,7 +90,7 @@ impl BlendConverter {
     }
 }
 
-// Each converter takes in the reader of its part.
+// Each converter meets the reader of its part.
 fn meet_each(converters: &mut [Converter], indexes: &[Index], mut readers: Vec<Reader>)
     requires made { converter_indexes_of converters.old ≡ indexes.now }
     requires readers { indexes_of readers.items ≡ indexes.now }

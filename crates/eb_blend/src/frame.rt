@@ -10,8 +10,9 @@ use eb_base::{NoMemory, Query};
 use eb_cursor::Frame;
 use std::alloc::Global;
 
-/// A query, the most ids of an answer (`k`), the ids found, and the length of each part's prefix that was searched,
-/// with all memory that searches of so many parts need. It is used for any number of searches; only `new` takes memory.
+/// A query, the most ids of an answer (`k`), the ids found, and the length of each part's prefix
+/// that was searched, with all memory that searches of this many parts need. It serves any number
+/// of searches; only `new` takes memory.
 #[derive(Drop)]
 pub struct BlendFrame {
     k: u32,
@@ -21,8 +22,9 @@ pub struct BlendFrame {
 }
 
 impl BlendFrame {
-    /// A frame without ids for searches of so many parts, from 1 to 16, for a query that is well formed, of which it
-    /// makes copies, and for a `k` from 1 to 1,000. Takes all memory that its searches need, at once.
+    /// A frame without ids for searches of `parts` parts, from 1 to 16, for a query that is well
+    /// formed, of which it makes copies, and for a `k` from 1 to 1,000. Takes all memory that its
+    /// searches need, at once.
     pub fn new(alloc: Global, query: &Query, k: u32, parts: u32) -> Result<BlendFrame, NoMemory>
         requires well_formed { IsWellFormed (tree query.now) }
         requires k { (1 ≤ k) × (k ≤ 1000) }

@@ -1,5 +1,6 @@
-//! Partitions and blending: a document goes to one of several indexes by its id, and a search asks each of them and
-//! blends their answers. What many machines would do, each with a part, stands here in one program, with its law.
+//! Partitions and blending: a document goes to one of several indexes by its id, and a search asks
+//! each of them and blends their answers. What many machines would do, each with a part, is here in
+//! one program, with its law.
 #![tactic(auto)]
 
 mod adding;

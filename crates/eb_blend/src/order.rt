@@ -2,7 +2,7 @@
 ghost use Rattle.std.specs.Prelude.{◌≡◌, take, vec_capacity};
 ghost use Rattle.eb_blend.specs.Blended.{falling};
 
-// Keeps the greatest ids, so many at most, from the greatest to the least.
+// Keeps the greatest ids, at most this many, from the greatest to the least.
 pub(crate) fn keep_greatest(ids: &mut Vec<u64>, most: usize)
     ensures ids { ids.new.items ≡ take most (falling ids.old.items) }
     ensures room { vec_capacity ids.new ≡ vec_capacity ids.old }

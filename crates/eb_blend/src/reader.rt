@@ -1,7 +1,8 @@
 //! A reader of a blend.
 //!
-//! A blend is a list of indexes, each with its own tokens. Its frame copies the query for each part, so that a search
-//! takes no memory. The parts are asked one after the other, since a thread costs more than most searches.
+//! A blend is a list of indexes, each with its own tokens. Its frame copies the query for each
+//! part, so that a search takes no memory. The parts are asked one after the other, since a thread
+//! costs more than most searches.
 ghost use Rattle.std.specs.Prelude.{◌≡◌, ◌<◌, ℕ, map, length};
 ghost use Rattle.eb_base.specs.Query.{Tree};
 ghost use Rattle.eb_base.specs.Match.{answer};
@@ -22,9 +23,9 @@ use eb_place::Steps;
 use std::marker::Model;
 use std::sync::ledger::Ledger;
 
-/// A reader of a blend; there may be any number, each on a thread of its own. Contracts see the documents that it
-/// knows of each part: those that it was told of, and those that its searches found. They are the first ones of the
-/// part's history.
+/// A reader of a blend. There may be any number, each on a thread of its own. Contracts see the
+/// documents that it knows of each part, which are the first ones of the part's history: those that
+/// readers it met knew, and those that its searches found.
 #[derive(Drop)]
 pub struct BlendReader {
     readers: Vec<Reader>,
@@ -45,6 +46,7 @@ impl BlendReader {
         BlendReader { readers }
     }
 
+    // The readers of the parts.
     pub(crate) fn into_readers(self) -> Vec<Reader>
         ensures indexes { indexes_of result.items ≡ self.indexes }
         ensures histories { histories_of result.items ≡ self.histories }
@@ -52,13 +54,15 @@ impl BlendReader {
         self.readers
     }
 
-    /// Searches the parts one after the other. Of each part it searches the documents that are accepted when it loads
-    /// the part's count: they begin with all documents of the part that this reader knew before, and it knows them
-    /// from then on. Afterwards the frame holds the ids of the newest `k` of them all that its query matches, from the
-    /// greatest to the least, and how many documents it searched of each part; the result is the sum of these numbers.
-    /// That these documents are together the first ones that the blend accepted isn't said: the writer may add between
-    /// two loads. The gate is told of each count directly after its load, and the steps count each load of a word. The
-    /// reader must have been made with this blend, and the frame for so many parts. Takes no memory.
+    /// Searches the parts one after the other. Of each part it searches the documents that are
+    /// accepted when it loads the part's count. All documents of the part that this reader knew
+    /// before are a prefix of them, and it knows them from then on. Afterwards the frame holds the
+    /// ids of the newest `k` of them all that its query matches, from the greatest to the least,
+    /// and how many documents it searched of each part; the result is the sum of these numbers. No
+    /// clause says that these documents are together the first ones that the blend accepted, since
+    /// the writer may add between two loads. Each count is reported to the gate directly after its
+    /// load, and the steps count each load of a word. The reader must have been made with this
+    /// blend, and the frame for as many parts. Takes no memory.
     pub fn search<G: Gate, L: Ledger>(
         &mut self,
         blend: &Blend,
@@ -88,9 +92,10 @@ impl BlendReader {
         count
     }
 
-    /// Counts, in one tally, all matches among the documents of all parts, part after part, after what the tally held: of each
-    /// part those that are accepted when it loads the part's count. They begin with all documents of the part that this reader
-    /// knew before, and it knows them from then on. The frame is a plain one, and stays as it is. The reader must have been
+    /// Counts, in one tally, all matches among the documents of all parts, part after part, added
+    /// to what the tally held: of each part those that are accepted when it loads the part's count.
+    /// All documents of the part that this reader knew before are a prefix of them, and it knows
+    /// them from then on. The frame is a plain one, and stays as it is. The reader must have been
     /// made with this blend. Takes no memory.
     pub fn count<G: Gate, L: Ledger>(
         &mut self,
@@ -158,7 +163,7 @@ fn search_each<G: Gate, L: Ledger>(
     }
 }
 
-// Puts how many documents each reader knows, and gives their sum.
+// Puts how many documents each reader knows, and returns their sum.
 fn count_each(readers: &[Reader], lengths: &mut [u64]) -> u64
     requires { length lengths.old ≡ length readers.now }
     ensures lengths { lengths.new ≡ lengths_of (histories_of readers.now) }

@@ -1,4 +1,4 @@
-//! The writer of a blend searches, as one who reads his own writes.
+//! The writer of a blend searches, and so reads its own writes.
 ghost use Rattle.std.specs.Prelude.{◌≡◌, ℕ, map, length};
 ghost use Rattle.eb_base.specs.Query.{Tree};
 ghost use Rattle.eb_base.specs.Match.{answer};
@@ -17,9 +17,9 @@ use eb_place::Steps;
 use std::sync::ledger::Ledger;
 
 impl BlendWriter {
-    /// Searches the whole histories, part after part; else as `BlendReader::search`, and so the answer is over exactly the
-    /// documents that were added. The writer must have been made with this blend, and the frame for so many parts. Takes
-    /// no memory.
+    /// Searches the whole histories, part after part; otherwise as `BlendReader::search`. So the
+    /// answer is over exactly the documents that were added. The writer must have been made with
+    /// this blend, and the frame for as many parts. Takes no memory.
     pub fn search<G: Gate, L: Ledger>(
         &mut self,
         blend: &Blend,
@@ -69,7 +69,7 @@ fn search_own<G: Gate, L: Ledger>(
     }
 }
 
-// Puts how many documents each writer added, and gives their sum.
+// Puts how many documents each writer added, and returns their sum.
 fn count_own(writers: &[Writer], lengths: &mut [u64]) -> u64
     requires { length lengths.old ≡ length writers.now }
     ensures lengths { lengths.new ≡ lengths_of (histories_of writers.now) }

@@ -20,8 +20,8 @@ use std::alloc::Global;
 use std::marker::Model;
 use std::thread::Threads;
 
-/// The one writer of a blend. It may go to a thread of its own. Contracts see the history of each part, and the id of
-/// the document that it added last.
+/// The one writer of a blend. It may go to a thread of its own. Contracts see the history of each
+/// part, and the id of the document that it added last.
 #[derive(Drop)]
 pub struct BlendWriter {
     pub(crate) writers: Vec<Writer>,
@@ -52,10 +52,11 @@ impl BlendWriter {
         }
     }
 
-    /// Adds a document after the history of its part, which is its id modulo the number of parts, and gives
-    /// the sum of all lengths then. `NotRising` exactly where a document was accepted and its id isn't below this
-    /// one's; else `Full` exactly where the part has no room for it. After a refusal nothing is stored, and all
-    /// histories and the last id are as before. The writer must have been made with this blend. Takes no memory.
+    /// Adds a document after the history of its part, which is its id modulo the number of parts,
+    /// and returns the sum of all lengths then. `NotRising` exactly where a document was accepted
+    /// and its id isn't below this one's; else `Full` exactly where the part has no room for it.
+    /// After a refusal nothing is stored, and all histories and the last id are as before. The
+    /// writer must have been made with this blend. Takes no memory.
     pub fn add<G: Gate>(
         &mut self,
         blend: &Blend,
@@ -84,10 +85,11 @@ impl BlendWriter {
         Ok(self.accepted)
     }
 
-    /// Adds the documents among some items, one after the other, each exactly as `add` does, and gives what came of each
-    /// item: why it was refused, where it is a document that was. Where ids rise the parts add side by side, each on a
-    /// thread of its own; few documents and those of one part start none. Where memory doesn't suffice, which shows before
-    /// the first is added, nothing is done. The writer must have been made with this blend.
+    /// Adds the documents among some items, one after the other, each exactly as `add` does, and
+    /// returns why each document was refused, if it was. Where ids rise the parts add concurrently,
+    /// each on a thread of its own; few documents, and documents of one part, start no thread.
+    /// Where memory runs out, which shows before the first is added, nothing is done. The writer
+    /// must have been made with this blend.
     pub fn add_all<R: Threads + Sync, E: Sync, G: Gate + Sync>(
         &mut self,
         rt: &R,
@@ -133,8 +135,8 @@ impl BlendWriter {
         segments
     }
 
-    /// A reader that knows all histories. The writer must have been made with this blend. Takes memory for the list
-    /// of the parts' readers.
+    /// A reader that knows all histories. The writer must have been made with this blend. Takes
+    /// memory for the list of the parts' readers.
     pub fn reader(&mut self, alloc: Global, blend: &Blend) -> Result<BlendReader, NoMemory>
         requires { self.old.indexes ≡ blend.now.indexes }
         ensures this { self.new ≡ self.old }
@@ -144,8 +146,8 @@ impl BlendWriter {
         Ok(BlendReader::new(readers))
     }
 
-    /// Takes in a reader: what it knew of each part is a front of that part's history. Both must have been made with
-    /// this blend. Takes no memory.
+    /// Meets a reader, which is used up: what it knew of each part is a prefix of that part's
+    /// history. Both must have been made with this blend. Takes no memory.
     pub fn meet(&mut self, blend: &Blend, reader: BlendReader)
         requires this { self.old.indexes ≡ blend.now.indexes }
         requires reader { reader.indexes ≡ blend.now.indexes }
@@ -159,8 +161,9 @@ impl BlendWriter {
         );
     }
 
-    /// Takes in what the converter knows: of each part it is a front of that part's history, in which each segment
-    /// that it converted is closed. Both must have been made with this blend. Takes no memory.
+    /// Takes over what the converter knows: of each part it is a prefix of that part's history, in
+    /// which each segment that it converted is closed. Both must have been made with this blend.
+    /// Takes no memory.
     pub fn hear(&mut self, blend: &Blend, converter: &mut BlendConverter)
         requires this { self.old.indexes ≡ blend.now.indexes }
         requires converter { converter.old.indexes ≡ blend.now.indexes }
@@ -176,9 +179,9 @@ impl BlendWriter {
         );
     }
 
-    /// Catches up with the part of the last document, where there is one: the converter is told the part's history and,
-    /// where a segment of it waits, converts until there is nothing to convert, and the writer is told of that. Both must
-    /// have been made with this blend. Takes no memory.
+    /// Catches up with the part of the last document, where there is one: the converter learns the
+    /// part's history. Where a segment of it waits, it converts until there is nothing to convert,
+    /// and the writer learns that. Both must have been made with this blend. Takes no memory.
     pub fn catch_up(&mut self, blend: &Blend, converter: &mut BlendConverter)
         requires this { self.old.indexes ≡ blend.now.indexes }
         requires converter { converter.old.indexes ≡ blend.now.indexes }
@@ -203,9 +206,9 @@ impl BlendWriter {
         );
     }
 
-    /// Catches up with all parts: the converter is told their histories and, side by side where a segment waits in some
-    /// part, converts in each until there is nothing to convert, and the writer is told of that. Both must have been made
-    /// with this blend. Takes no memory.
+    /// Catches up with all parts: the converter learns their histories. Where a segment waits in
+    /// some part, it converts in all parts, concurrently, until there is nothing to convert, and
+    /// the writer learns that. Both must have been made with this blend. Takes no memory.
     pub fn catch_up_all<R: Threads + Sync>(
         &mut self,
         rt: &R,
@@ -265,7 +268,7 @@ fn readers_of(
     Ok(readers)
 }
 
-// Each writer takes in the reader of its part.
+// Each writer meets the reader of its part.
 fn meet_each(writers: &mut [Writer], indexes: &[Index], mut readers: Vec<Reader>)
     requires made { indexes_of writers.old ≡ indexes.now }
     requires readers { indexes_of readers.items ≡ indexes.now }
@@ -278,7 +281,7 @@ fn meet_each(writers: &mut [Writer], indexes: &[Index], mut readers: Vec<Reader>
     }
 }
 
-// Each writer takes in what the converter of its part knows.
+// Each writer takes over what the converter of its part knows.
 fn hear_each(writers: &mut [Writer], indexes: &[Index], converters: &mut [Converter])
     requires made { indexes_of writers.old ≡ indexes.now }
     requires converters { converter_indexes_of converters.old ≡ indexes.now }

@@ -33,7 +33,8 @@ differences_below n [] h = tt
 differences_below n (x ∷ []) h = tt
 differences_below n (x ∷ y ∷ ys) h = (omega (arith, h.0), differences_below n (y ∷ ys) h.1)
 
--- the width of a falling list's block: it has at most the bits of a posting, and holds each difference
+-- the width of a falling list's block: it has at most the bits of a posting, and holds each
+-- difference
 pub record IsWidth (width : ℕ) (xs : List ℕ) : Type 0 where
   pub few : width ≤ posting_bits
   pub holds : AllBelow (2 ^ width) (differences xs)

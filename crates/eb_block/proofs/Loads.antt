@@ -7,7 +7,8 @@ use Rattle.eb_place.specs.declared.moment.Moment.{Moment}
 use Rattle.eb_place.specs.Packed.{packed}
 use Rattle.eb_place.specs.Seen.{segment}
 use Rattle.eb_block.specs.Blocks.{most_words}
-use Rattle.eb_block.specs.Reading.{packed_start, ReadsWords, ListStands, loaded, remaining, seek_loads, up_to}
+use Rattle.eb_place.specs.Postings.{at_most}
+use Rattle.eb_block.specs.Reading.{packed_start, ReadsWords, ListStands, loaded, remaining, seek_loads}
 use Rattle.eb_block.specs.declared.packed_list.PackedList.{PackedList}
 
 -- the list's own numbers count what it has still to give
@@ -45,24 +46,24 @@ pub gap : (W : List ℕ) (start : ℕ) (p : PackedList) (rest : List ℕ) (b : �
 gap W start p rest b r = (omega (arith, r.at, r.near), r.short)
 
 pub seek_few : (m n k : Moment) (s : ℕ) (t : Term) (p q r : PackedList) (rest after : List ℕ) (most b c d i j e : ℕ)
-    → ListStands m s t p rest b → ListStands n s t q after c → ListStands k s t r (up_to most rest) d
+    → ListStands m s t p rest b → ListStands n s t q after c → ListStands k s t r (at_most most rest) d
     → 128 * j + remaining q ≤ 128 * i + remaining p + 256 → r.next ≡ q.next → e + q.at ≡ j + r.at → remaining r ≤ remaining q
-    → e ≤ i + seek_loads (length rest - length (up_to most rest))
+    → e ≤ i + seek_loads (length rest - length (at_most most rest))
 seek_few m n k s t p q r rest after most b c d i j e hp hq hr blocks next words fewer =
     let cp = count_left (packed t (segment m s)) (packed_start m s hp.number) p rest b hp.reads in
-    let cr = count_left (packed t (segment k s)) (packed_start k s hr.number) r (up_to most rest) d hr.reads in
+    let cr = count_left (packed t (segment k s)) (packed_start k s hr.number) r (at_most most rest) d hr.reads in
     let gq = gap (packed t (segment n s)) (packed_start n s hq.number) q after c hq.reads in
-    let gr = gap (packed t (segment k s)) (packed_start k s hr.number) r (up_to most rest) d hr.reads in
+    let gr = gap (packed t (segment k s)) (packed_start k s hr.number) r (at_most most rest) d hr.reads in
     omega (arith, cp, cr, gq, gr)
 
--- and at most three more than the postings that are passed over
+-- and at most three more than the postings that are skipped
 pub seek_near : (m k : Moment) (s : ℕ) (t : Term) (p q r : PackedList) (rest : List ℕ) (most b d i j e : ℕ)
-    → ListStands m s t p rest b → ListStands k s t r (up_to most rest) d
+    → ListStands m s t p rest b → ListStands k s t r (at_most most rest) d
     → 128 * j + remaining q ≤ 128 * i + remaining p + 256 → remaining q ≤ remaining p → e + r.inside + r.left ≤ j + q.inside + q.left → remaining r ≤ remaining q
-    → e ≤ i + (length rest - length (up_to most rest)) + 3
+    → e ≤ i + (length rest - length (at_most most rest)) + 3
 seek_near m k s t p q r rest most b d i j e hp hr blocks less words fewer =
     let cp = count_left (packed t (segment m s)) (packed_start m s hp.number) p rest b hp.reads in
-    let cr = count_left (packed t (segment k s)) (packed_start k s hr.number) r (up_to most rest) d hr.reads in
+    let cr = count_left (packed t (segment k s)) (packed_start k s hr.number) r (at_most most rest) d hr.reads in
     omega (arith, cp, cr, few p, few q, few r)
   where
     few : (p : PackedList) → (p.inside + p.left ≤ remaining p) × (remaining p ≤ p.inside + p.left + 1)

@@ -4,7 +4,7 @@ use Rattle.std.proofs.lemmas.Nat.{pow_pos, pow-add, same_from_place, mul-add-lt,
 use Rattle.eb_place.specs.Packed.{fields, lowest_words}
 use Rattle.eb_place.specs.Falling.{AllBelow}
 
--- fields of numbers of so many bits have so many bits together
+-- the fields of some numbers of w bits have w bits for each number
 pub fields_below : (w : ℕ) (xs : List ℕ) → AllBelow (2 ^ w) xs → fields w xs < 2 ^ (w * length xs)
 fields_below w [] h = pow_pos (w * 0)
 fields_below w (x ∷ xs) h =
@@ -31,7 +31,7 @@ words_back (w ∷ ws) h =
     let d : (w + 2 ^ 64 * x) / 2 ^ 64 ≡ x = ap (λ k. k / 2 ^ 64) a ∙ div-mul-add x (2 ^ 64) w h.0 in
     ap (λ k. k ∷ lowest_words (length ws) ((w + 2 ^ 64 * x) / 2 ^ 64)) m ∙ ap (λ k. w ∷ lowest_words (length ws) k) d ∙ ap (λ k. w ∷ k) (words_back ws h.1)
 
--- a number of so many words is what these make
+-- a number of n words is what these make
 pub number_back : (n x : ℕ) → x < 2 ^ (64 * n) → fields 64 (lowest_words n x) ≡ x
 number_back zero x h = let z : x ≡ 0 = omega (arith, ap (λ k. 2 ^ k) (let e : 64 * 0 ≡ 0 = omega arith in e)) in sym z
 number_back (suc n) x h =

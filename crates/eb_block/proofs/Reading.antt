@@ -8,9 +8,9 @@ use Rattle.eb_place.specs.Falling.{IsFalling, AllBelow}
 use Rattle.eb_block.specs.Fields.{IsHeld, IsField, HoldsFields}
 use Rattle.std.proofs.lemmas.Nat.{mul-le}
 use Rattle.eb_block.specs.Blocks.{IsPackable}
-use Rattle.eb_block.specs.Reading.{ReadsWords, BoundsNext, loaded, up_to, HasPassed}
+use Rattle.eb_block.specs.Reading.{ReadsWords, BoundsNext, loaded, HasPassed}
 use Rattle.eb_block.specs.declared.packed_list.PackedList.{PackedList}
-use Rattle.eb_place.specs.Postings.{posting_bits}
+use Rattle.eb_place.specs.Postings.{posting_bits, at_most}
 use Rattle.eb_place.proofs.BlockFields.{length-lowest_words}
 use Rattle.eb_block.proofs.Drawing.{hold_first, hold_over, hold_more, next_of}
 use Rattle.eb_block.proofs.Opening.{header_in, body_in, width_in, block_is, header_read, IsHeader, body_holds}
@@ -41,11 +41,11 @@ below_drop n (suc k) [] h = tt
 below_drop n (suc k) (x ∷ xs) h = below_drop n k xs h.1
 
 -- all before the end of a falling list are above what comes there
-up_to_skip : (most : ℕ) (xs : List ℕ) (y : ℕ) (ys : List ℕ) → IsFalling (xs ++ (y ∷ ys)) → most ≤ y → up_to most (xs ++ (y ∷ ys)) ≡ up_to most (y ∷ ys)
-up_to_skip most [] y ys h l = refl
-up_to_skip most (x ∷ xs) y ys h l =
+at_most_skip : (most : ℕ) (xs : List ℕ) (y : ℕ) (ys : List ℕ) → IsFalling (xs ++ (y ∷ ys)) → most ≤ y → at_most most (xs ++ (y ∷ ys)) ≡ at_most most (y ∷ ys)
+at_most_skip most [] y ys h l = refl
+at_most_skip most (x ∷ xs) y ys h l =
     let above : most < x = first xs h in
-    rw (lt-ltb most x above) (up_to_skip most xs y ys (falls_tail x (xs ++ (y ∷ ys)) h) l)
+    rw (lt-ltb most x above) (at_most_skip most xs y ys (falls_tail x (xs ++ (y ∷ ys)) h) l)
   where
     over : (xs : List ℕ) (z : ℕ) → IsFalling (z ∷ (xs ++ (y ∷ ys))) → y < z
     over [] z h = h.0
@@ -92,7 +92,7 @@ first_packable x xs f b =
       small = (b.0, below_take (2 ^ posting_bits) 127 xs b.1);
     }
 
--- ---- where the reading stands
+-- ---- where the reading is
 
 -- the bound of the next block stays
 bounds_same : (p q : PackedList) → q.left ≡ p.left → q.header ≡ p.header → q.near ≡ p.near → BoundsNext p → BoundsNext q
@@ -262,7 +262,7 @@ module _ (W : List ℕ) (start : ℕ) where
             ));
       }
 
-  -- where the next header stands, and what it gives
+  -- where the next header is, and what it says
   pub record IsPeek (p : PackedList) (rest : List ℕ) (b : ℕ) : Type 0 where
     pub index : ℕ
     pub inside : index < length W
@@ -440,7 +440,7 @@ module _ (W : List ℕ) (start : ℕ) where
               omega (arith, lone, bi),
               record {
                 same = λ free z. sym (rest_is ∙ ap (λ zs. zs ++ (x ∷ xs)) (f.2 free z));
-                skips = λ most l. sym (ap (up_to most) rest_is ∙ up_to_skip most f.0 x xs (subst IsFalling rest_is r.falls) (omega (arith, ih.posting)));
+                skips = λ most l. sym (ap (at_most most) rest_is ∙ at_most_skip most f.0 x xs (subst IsFalling rest_is r.falls) (omega (arith, ih.posting)));
               },
             );
           }

@@ -12,7 +12,7 @@ use Rattle.eb_place.specs.Layout.{place, start, size, segment_words}
 use Rattle.eb_place.specs.Layout.Slot.{slot}
 use Rattle.eb_place.specs.Layout.Region.{directory_region, packed_region}
 use Rattle.eb_place.specs.Packed.{packed, differences}
-use Rattle.eb_place.specs.Postings.{frequency, postings, terms_of, posting_bits}
+use Rattle.eb_place.specs.Postings.{frequency, postings, terms_of, posting_bits, at_most}
 use Rattle.eb_place.specs.Moments.{word, IsMoment}
 use Rattle.eb_place.specs.Later.{IsNotBefore}
 use Rattle.eb_place.specs.Seen.{segment}
@@ -23,7 +23,7 @@ use Rattle.eb_place.proofs.EnoughPackedWords.{postings_few, length-postings}
 use Rattle.eb_place.proofs.WordsAtMoment.{setting_terms}
 use Rattle.eb_block.specs.Fields.{IsHeld, IsField}
 use Rattle.eb_place.specs.PackedLists.{IsConverted, list_start, newest_first, packed_words}
-use Rattle.eb_block.specs.Reading.{packed_start, IsPackedAt, ReadsWords, ListStands, ListGives, BoundsNext, loaded, HasPassed, IsNear, remaining, up_to}
+use Rattle.eb_block.specs.Reading.{packed_start, IsPackedAt, ReadsWords, ListStands, ListGives, BoundsNext, loaded, HasPassed, IsNear, remaining}
 use Rattle.eb_block.specs.declared.packed_list.PackedList.{PackedList}
 use Rattle.eb_place.proofs.ConverterWords.{word_packed_list, word_directory, list_fits, later_converted, converted_segment, closed_room, segment_inside}
 use Rattle.eb_place.proofs.PlacesOfSlots.{place_in}
@@ -43,7 +43,7 @@ place_on : (σ : Setting) (s i j : ℕ) → place σ (slot s packed_region (i + 
 unfolding place
 place_on σ s i j = omega arith
 
--- and none of them is left behind the index
+-- and none of them is left after the index
 place_room : (σ : Setting) (s i : ℕ) → s < σ.segments → i ≤ 34 * σ.terms → place σ (slot s packed_region i) ≤ words_of σ
 unfolding place start
 place_room σ s i h l = let a = mul-le (suc s) (segment_words σ) σ.segments (segment_words σ) h (omega arith) in omega (arith, a)
@@ -308,29 +308,29 @@ stands_in m s t p q rest b h l i =
     let k = (can_enter (packed t (segment m s)) (packed_start m s h.number) p rest b h.reads l).gives q i in
     (k.0, k.1, record { converted = h.converted; number = h.number; is_term = h.is_term; reads = k.2 }, k.3, k.4)
 
--- ---- passing over postings
+-- ---- skipping postings
 
 -- the held posting, if there is one, is above
 pub drop_held : (m : Moment) (s : ℕ) (t : Term) (p : PackedList) (rest : List ℕ) (b most : ℕ) → ListStands m s t p rest b → (p.held ≡ true → most < p.last)
-    → (after : List ℕ) × ListStands m s t record p { held = false } after b × (up_to most after ≡ up_to most rest)
+    → (after : List ℕ) × ListStands m s t record p { held = false } after b × (at_most most after ≡ at_most most rest)
 drop_held m s t p rest b most h o = elim (cases_Bool p.held) [
   | inl held ↦
       let g = given (packed t (segment m s)) (packed_start m s h.number) p rest b h.reads held in
       let above : most < p.last = o held in (
         g.0,
         stands_with m s t p record p { held = false } rest g.0 b b h g.2,
-        sym (ap (up_to most) g.1 ∙ ap (λ (c : Bool). if c then up_to most g.0 else (p.last ∷ g.0)) (lt-ltb most p.last above)),
+        sym (ap (at_most most) g.1 ∙ ap (λ (c : Bool). if c then at_most most g.0 else (p.last ∷ g.0)) (lt-ltb most p.last above)),
       )
   | inr free ↦ (rest, subst (λ (q : PackedList). ListStands m s t q rest b) (ap (λ (c : Bool). record p { held = c }) free) h, refl)
 ]
 
--- at a posting that isn't above, nothing is passed over
-pub at_it : (m : Moment) (s : ℕ) (t : Term) (p : PackedList) (rest : List ℕ) (b most : ℕ) → ListStands m s t p rest b → p.held ≡ true → p.last ≤ most → up_to most rest ≡ rest
+-- at a posting that isn't above, nothing is skipped
+pub at_it : (m : Moment) (s : ℕ) (t : Term) (p : PackedList) (rest : List ℕ) (b most : ℕ) → ListStands m s t p rest b → p.held ≡ true → p.last ≤ most → at_most most rest ≡ rest
 at_it m s t p rest b most h held l =
     let g = given (packed t (segment m s)) (packed_start m s h.number) p rest b h.reads held in
-    ap (up_to most) g.1 ∙ ap (λ (c : Bool). if c then up_to most g.0 else (p.last ∷ g.0)) (le-ltb most p.last l) ∙ sym g.1
+    ap (at_most most) g.1 ∙ ap (λ (c : Bool). if c then at_most most g.0 else (p.last ∷ g.0)) (le-ltb most p.last l) ∙ sym g.1
 
--- no block after it is passed over for a bound above `near`
+-- no block after it is skipped for a bound above `near`
 pub near_below : (p : PackedList) (most : ℕ) → BoundsNext p → p.near < most → most < 2 ^ 64 → IsNear most p
 near_below p most (inl none) l fits = inl none
 near_below p most (inr (inl w)) l fits = inr (inl (w.0, omega (arith, w.1)))
@@ -338,21 +338,21 @@ near_below p most (inr (inr top)) l fits = absurd (omega (arith, top))
 
 -- nor where the block is read to its end and the next one begins below
 pub at_end : (m : Moment) (s : ℕ) (t : Term) (p q : PackedList) (rest : List ℕ) (b most : ℕ) → (h : ListStands m s t q rest b) → q.held ≡ false → q.inside ≡ 0 → q.left ≡ p.left
-    → q.header ≡ p.header → (p.held ≡ true → most < p.last) → IsNear most p → up_to most rest ≡ rest
+    → q.header ≡ p.header → (p.held ≡ true → most < p.last) → IsNear most p → at_most most rest ≡ rest
 at_end m s t p q rest b most h free none left header o near =
     let r = next_first (packed t (segment m s)) (packed_start m s h.number) q rest b h.reads free none in
     at near r
   where
-    at : IsNear most p → (q.left ≡ 0 → rest ≡ []) × (1 ≤ q.header → (x : ℕ) × (xs : List ℕ) × (rest ≡ x ∷ xs) × (x ≡ q.header / 2 ^ 16)) → up_to most rest ≡ rest
-    at (inl z) r = let e = r.0 (left ∙ z) in ap (up_to most) e ∙ sym e
+    at : IsNear most p → (q.left ≡ 0 → rest ≡ []) × (1 ≤ q.header → (x : ℕ) × (xs : List ℕ) × (rest ≡ x ∷ xs) × (x ≡ q.header / 2 ^ 16)) → at_most most rest ≡ rest
+    at (inl z) r = let e = r.0 (left ∙ z) in ap (at_most most) e ∙ sym e
     at (inr (inl w)) r =
         let k = r.1 (omega (arith, header, w.0)) in
         let low : k.0 ≤ most = omega (arith, k.3, header, ap (λ z. z / 2 ^ 16) header, w.1) in
-        ap (up_to most) k.2 ∙ ap (λ (c : Bool). if c then up_to most k.1 else (k.0 ∷ k.1)) (le-ltb most k.0 low) ∙ sym k.2
+        ap (at_most most) k.2 ∙ ap (λ (c : Bool). if c then at_most most k.1 else (k.0 ∷ k.1)) (le-ltb most k.0 low) ∙ sym k.2
     at (inr (inr w)) r = let above = o w.0 in absurd (omega (arith, w.1))
 
--- nor where the last posting that was read isn't above and no block after it is passed over
-pub at_low : (m : Moment) (s : ℕ) (t : Term) (p : PackedList) (rest : List ℕ) (b most : ℕ) → ListStands m s t p rest b → p.last ≤ most → IsNear most p → up_to most rest ≡ rest
+-- nor where the last posting that was read isn't above and no block after it is skipped
+pub at_low : (m : Moment) (s : ℕ) (t : Term) (p : PackedList) (rest : List ℕ) (b most : ℕ) → ListStands m s t p rest b → p.last ≤ most → IsNear most p → at_most most rest ≡ rest
 at_low m s t p rest b most h low near = elim (cases_Bool p.held) [
   | inl held ↦ at_it m s t p rest b most h held low
   | inr free ↦ elim (cases_lt 0 p.inside) [
@@ -360,24 +360,25 @@ at_low m s t p rest b most h low near = elim (cases_Bool p.held) [
         let a = ahead (packed t (segment m s)) (packed_start m s h.number) p rest b h.reads some in
         let below = a.low in
         let after = a.ns ++ h.reads.later in
-        ap (up_to most) (a.rest_is free) ∙ ap (λ (c : Bool). if c then up_to most after else (a.n ∷ after)) (le-ltb most a.n (omega (arith, below, low))) ∙ sym (a.rest_is free)
+        ap (at_most most) (a.rest_is free) ∙ ap (λ (c : Bool). if c then at_most most after else (a.n ∷ after)) (le-ltb most a.n (omega (arith, below, low))) ∙ sym (a.rest_is free)
     | inr none ↦ at_end m s t p p rest b most h free (omega arith) refl refl (λ held. absurd (false≢true (sym free ∙ held))) near
   ]
 ]
 
--- a walk over a block that passed only what is above stops at a posting that isn't, or where the block is read to its end
-pub stopped : (m : Moment) (s : ℕ) (t : Term) (p q : PackedList) (rest after : List ℕ) (b most : ℕ) → ListStands m s t q after b → up_to most after ≡ up_to most rest → q.held ≡ true
+-- a walk over a block that passed only what is above stops at a posting that isn't, or where the
+-- block is read to its end
+pub stopped : (m : Moment) (s : ℕ) (t : Term) (p q : PackedList) (rest after : List ℕ) (b most : ℕ) → ListStands m s t q after b → at_most most after ≡ at_most most rest → q.held ≡ true
     → (most < q.last → q.inside ≡ 0) → q.left ≡ p.left → q.header ≡ p.header → most < p.last → IsNear most p
-    → ListStands m s t record q { held = leb q.last most } (up_to most rest) b
+    → ListStands m s t record q { held = leb q.last most } (at_most most rest) b
 stopped m s t p q rest after b most h same held ends left header above near = elim (cases_lt most q.last) [
   | inl over ↦
       let d = drop_held m s t q after b most h (λ z. over) in
       let end = at_end m s t p record q { held = false } d.0 b most d.1 refl (ends over) left header (λ z. above) near in
       let none = subst (λ zs. ListStands m s t record q { held = false } zs b) (sym end ∙ d.2 ∙ same) d.1 in
-      subst (λ (c : Bool). ListStands m s t record q { held = c } (up_to most rest) b) (sym (lt-leb q.last most over)) none
+      subst (λ (c : Bool). ListStands m s t record q { held = c } (at_most most rest) b) (sym (lt-leb q.last most over)) none
   | inr on ↦
       let it = at_it m s t q after b most h held on in
-      subst (λ (c : Bool). ListStands m s t record q { held = c } (up_to most rest) b) (held ∙ sym (le-leb q.last most on)) (subst (λ zs. ListStands m s t q zs b) (sym it ∙ same) h)
+      subst (λ (c : Bool). ListStands m s t record q { held = c } (at_most most rest) b) (held ∙ sym (le-leb q.last most on)) (subst (λ zs. ListStands m s t q zs b) (sym it ∙ same) h)
 ]
 
 -- and then less is left

@@ -1,10 +1,11 @@
--- What is left of a list, and for which bounds no later block is passed over.
-use Rattle.std.proofs.Common.{◌≡◌, ℕ, ◌⊎◌, inl, inr, false, [], ◌∷◌, refl, arith}
+-- What is left of a list, and for which bounds no later block is skipped.
+use Rattle.std.proofs.Common.{◌≡◌, ℕ, inl, inr, false, [], ◌∷◌, refl, arith}
 use Rattle.std.proofs.lemmas.Bool.{false≢true}
-use Rattle.eb_block.specs.Reading.{BoundsNext, IsNear, remaining, up_to}
+use Rattle.eb_place.specs.Postings.{at_most}
+use Rattle.eb_block.specs.Reading.{BoundsNext, IsNear, remaining}
 use Rattle.eb_block.specs.declared.packed_list.PackedList.{PackedList}
 
--- a list that has come to posting 900, with this header, so many postings in later blocks and this bound
+-- a list at posting 900, with this header, this many postings in later blocks and this bound
 abbrev list : ℕ → ℕ → ℕ → PackedList
 list header left near = record { at = 3; bits = record { low = 0; count = 0 }; width = 5; inside = 2; last = 900; held = false; next = 9; header = header; left = left; near = near }
 
@@ -13,10 +14,10 @@ left : remaining (list 0 128 700) ≡ 130
 left = refl
 
 -- those of a falling list that aren't above
-not_above : up_to 5 (9 ∷ 7 ∷ 5 ∷ 2 ∷ []) ≡ 5 ∷ 2 ∷ []
+not_above : at_most 5 (9 ∷ 7 ∷ 5 ∷ 2 ∷ []) ≡ 5 ∷ 2 ∷ []
 not_above = refl
 
-all_above : up_to 1 (9 ∷ 7 ∷ 5 ∷ 2 ∷ []) ≡ []
+all_above : at_most 1 (9 ∷ 7 ∷ 5 ∷ 2 ∷ []) ≡ []
 all_above = refl
 
 -- there is no block after it
@@ -27,7 +28,7 @@ last_block = inl refl
 next_known : BoundsNext (list 45875200 128 700)
 next_known = inr (inl (omega arith, omega arith))
 
--- for a bound of 650 what is before it is passed over
+-- for a bound of 650 what is before it is skipped
 not_lower : BoundsNext (list 45875200 128 649) → ⊥
 not_lower h = elim h [
   | inl e ↦ omega (arith, e)

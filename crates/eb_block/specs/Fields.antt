@@ -4,7 +4,7 @@ use Rattle.eb_place.specs.Packed.{fields}
 use Rattle.eb_place.specs.Falling.{AllBelow}
 use Rattle.eb_block.specs.declared.bits.Bits.{Bits}
 
--- the bits are those of a number of so many bits, of which there are fewer than those of a word
+-- the bits are those of a number of `count` bits, fewer than a word has
 pub record IsHeld (b : Bits) : Type 0 where
   pub few : b.count < 64
   pub small : b.low < 2 ^ b.count
@@ -28,7 +28,8 @@ pub record DrawsFrom (width : ℕ) (words : List ℕ) (at : ℕ) (b : Bits) (num
   pub are : drop at words ≡ left ++ rest
   pub holds : HoldsFields width b left numbers
 
--- after the header the array holds the fields of these numbers: whole words up to `at`, then the bits
+-- after the header the array holds the fields of these numbers: whole words up to `at`, then the
+-- bits
 pub record Poured (width header : ℕ) (into : List ℕ) (at : ℕ) (b : Bits) (numbers : List ℕ) : Type 0 where
   pub held : IsHeld b
   pub words : List ℕ

@@ -17,9 +17,9 @@ struct Spot {
     bits: Bits,
 }
 
-/// Packs 1 to 128 falling postings. Their block stands in the front of `into` (this project's profile,
-/// docs/FORMATS.md); the answer is its number of words, which is at most the number of postings. Takes no
-/// memory.
+/// Packs 1 to 128 falling postings. Writes their block at the start of `into` (this project's
+/// profile, docs/FORMATS.md), and returns its number of words, which is at most the number of
+/// postings. Takes no memory.
 pub fn pack_block(postings: &[Posting], into: &mut [u64; BLOCK_WORDS]) -> usize
     requires { IsPackable postings.now }
     ensures block { take result into.new ≡ block postings.now }
@@ -38,8 +38,8 @@ pub fn pack_block(postings: &[Posting], into: &mut [u64; BLOCK_WORDS]) -> usize
     close(into, spot)
 }
 
-/// Unpacks the block that the words begin with. Its postings stand in the front of `into`; the answer is
-/// their number. Takes no memory.
+/// Unpacks the block that the words begin with. Writes its postings at the start of `into`, and
+/// returns their number. Takes no memory.
 pub fn unpack_block(words: &[u64], into: &mut [Posting; BLOCK_POSTINGS]) -> usize
     requires { (xs : List ℕ) × BeginsWith words.now xs }
     ensures { (xs : List ℕ) → BeginsWith words.now xs → (result ≡ length xs) × (take result into.new ≡ xs) }

@@ -1,5 +1,5 @@
-//! Packed blocks: the postings of one term of a closed segment, newest first, in blocks of 128. No call
-//! takes memory.
+//! Packed blocks: the postings of one term of a closed segment, newest first, in blocks of 128. No
+//! call takes memory.
 #![tactic(auto)]
 
 mod bits;

@@ -1,9 +1,30 @@
-//! Packed lists.
+//! Packed lists: the postings of one term of a converted segment, newest first, in blocks of 128.
 //!
-//! A packed list decodes as it goes, without a buffer for a block; what it may still load is a number in its
-//! relation. It tells how many postings it has left, which its directory word says, at no load. A `seek` of few
-//! postings makes few loads, a clause of its own beside that of one load a block, so that the bound between two
-//! starts stays what it was over live slices alone.
+//! A block is a header word (its first posting, how many it has, the width of its fields) and the
+//! differences between its postings, each in a field of that width. So a block can be skipped by
+//! its header alone, and within a block the differences are subtracted one by one. The list decodes
+//! as it goes: it keeps the place of the next word, the bits at hand and the last posting, and no
+//! buffer of a block.
+//!
+//! A leap to the newest posting at or below `most` has two steps. First it skips blocks: where the
+//! next block begins at or above `most`, all that is left of this one is above it (`pass_block`).
+//! `near` is the bound above which no block can be skipped, so one comparison decides for most
+//! leaps. Then it reads fields, in locals, until a posting isn't above `most` (`seek_inside`).
+//! Postings only fall, so what one leap skips no later, lower one needs. A packed word is loaded
+//! once at most; how many a list may still load is the `budget` of `specs/Reading.antt`. How many
+//! postings are left is in the directory word, at no load.
+//!
+//! Whole blocks of one width are equally long. So the place of the next header is known before this
+//! one is loaded, and a processor can load several at once (`pass_alike`).
+//!
+//! What was tried: a leap took some 65 instructions besides the postings that it skipped. With
+//! `near`, the result returned and not marked in the list, the fields taken off the bits in place,
+//! and the seldom case a call (`seek_block`), a phrase takes 86,717 instructions in place of 93,883
+//! and a window 63,587 in place of 68,546; an And whose one segment is open takes 45,198 in place
+//! of 43,998, since its leaps over live slices have fewer registers. Rejected: the mask of a field
+//! kept beside its width (1 in 100 instructions fewer, and no faster); the walk within a block as a
+//! call of its own, or as two loops (8 to 12 in 100 more); in live slices of the last pool, a leap
+//! that doesn't look at the next posting (1 in 100 fewer, more guessed wrong).
 ghost use Rattle.std.specs.Prelude.{◌≡◌, ℕ, List, [], ◌+◌, ◌-◌, ◌*◌, ◌≤◌, ◌<◌, ◌/◌, ◌%◌, ◌^◌, length, true, false, IsTrue, ◌↔◌};
 ghost use Rattle.std.specs.Bool.{MatchBool};
 ghost use Rattle.eb_base.specs.Term.{Term};
@@ -11,28 +32,31 @@ ghost use Rattle.eb_place.specs.declared.moment.Moment.{Moment};
 ghost use Rattle.eb_place.specs.Told.{Told};
 ghost use Rattle.eb_place.specs.Walk.{IsTerm};
 ghost use Rattle.eb_place.specs.PackedLists.{IsConverted, newest_first, packed_words};
-ghost use Rattle.eb_block.specs.Reading.{ListStands, IsPackedAt, ListGives, HasPassed, IsNear, up_to, remaining, loaded, seek_loads};
+ghost use Rattle.eb_place.specs.Postings.{at_most};
+ghost use Rattle.eb_block.specs.Reading.{ListStands, IsPackedAt, ListGives, HasPassed, IsNear, remaining, loaded, seek_loads};
 
 use crate::bits::Bits;
 use crate::blocks::{count_in, posting_in, width_in};
 use eb_place::{Places, Port, Posting, Steps};
 use std::sync::ledger::Ledger;
 
-/// The postings of one term of a converted segment, newest first, read from its packed blocks. Each packed
-/// word is loaded once at most.
+/// The postings of one term of a converted segment, newest first, read from its packed blocks. Each
+/// packed word is loaded once at most.
 #[derive(Clone, Copy, Debug, PartialEq, Eq)]
 pub struct PackedList {
-    // Of the block that is read: the place of the next word to be loaded, the bits and the width of its fields,
-    // how many differences are left, and the last posting that was read; `held` where it is still to be given.
+    // Of the block that is read: the place of the next word to be loaded, the bits and the width of
+    // its fields, how many differences are left, and the last posting that was read; `held` where
+    // it is still to be given.
     at: u32,
     bits: Bits,
     width: u32,
     inside: u32,
     last: Posting,
     held: bool,
-    // Of the blocks after it: the place where they begin, the header there if it is loaded, else 0, and how
-    // many postings they have. None of them is passed over for a bound above `near`: 0 where there are none, the first
-    // posting of the next one where its header is loaded, else the greatest number.
+    // Of the blocks after it: the place where they begin, the header there if it is loaded, else 0,
+    // and how many postings they have. None of them is skipped for a bound above `near`: 0 where
+    // there are none, the first posting of the next one where its header is loaded, else the
+    // greatest number.
     next: u32,
     header: u64,
     left: u32,
@@ -40,8 +64,8 @@ pub struct PackedList {
 }
 
 impl PackedList {
-    /// Opens the packed list of a term, by the term's number in the segment, which is converted. One load,
-    /// that of the directory word. Takes no memory.
+    /// Opens the packed list of a term, by the term's number in the segment, which is converted.
+    /// One load, that of the directory word. Takes no memory.
     pub fn open<P: Port, L: Ledger>(
         port: &mut P,
         segment: u32,
@@ -71,9 +95,9 @@ impl PackedList {
         }
     }
 
-    /// The newest posting that wasn't given yet; `None` exactly after the oldest. The port's moment isn't
-    /// before that of the opening. One load at most, and all calls of `next` and `seek` on one list load
-    /// together at most as many words as the packed list has. Takes no memory.
+    /// The newest posting that wasn't given yet; `None` exactly after the oldest. The port's moment
+    /// must not be before that of the opening. One load at most; all calls of `next` and `seek` on
+    /// one list load together at most as many words as the packed list has. Takes no memory.
     #[inline(always)]
     pub fn next<P: Port, L: Ledger>(
         &mut self,
@@ -89,9 +113,9 @@ impl PackedList {
         self.give(port, steps)
     }
 
-    /// The newest posting at or below `most` that wasn't given yet; those above it are passed for good, and `None`
-    /// comes exactly where none is left. As a `seek` and a `next`. The port's moment isn't before that of
-    /// the opening. Takes no memory.
+    /// The newest posting at or below `most` that wasn't given yet. Postings above it are skipped
+    /// for good; `None` exactly where none is left. Does what a `seek` and a `next` do. The port's
+    /// moment must not be before that of the opening. Takes no memory.
     #[inline(always)]
     pub fn next_at_most<P: Port, L: Ledger>(
         &mut self,
@@ -103,13 +127,13 @@ impl PackedList {
             × P.stands port.old m × ListStands m s t self.old rest budget }
         ensures told { (s : ℕ) (t : Term) (rest : List ℕ) (budget : ℕ) → Told P.stands P.keeps port.old port.new
             (λ m. ListStands m s t self.old rest budget)
-            (λ n. (b : ℕ) × ListGives n s t self.new (up_to most rest) b result × (steps.new + b ≤ steps.old + budget)) }
+            (λ n. (b : ℕ) × ListGives n s t self.new (at_most most rest) b result × (steps.new + b ≤ steps.old + budget)) }
         ensures loads { (m : Moment) (s : ℕ) (t : Term) (rest : List ℕ) (budget : ℕ)
             → P.stands port.old m → ListStands m s t self.old rest budget
-            → steps.new ≤ steps.old + seek_loads (length rest - length (up_to most rest)) + 1 }
+            → steps.new ≤ steps.old + seek_loads (length rest - length (at_most most rest)) + 1 }
         ensures few { (m : Moment) (s : ℕ) (t : Term) (rest : List ℕ) (budget : ℕ)
             → P.stands port.old m → ListStands m s t self.old rest budget
-            → steps.new ≤ steps.old + (length rest - length (up_to most rest)) + 4 }
+            → steps.new ≤ steps.old + (length rest - length (at_most most rest)) + 4 }
     {
         self.seek_near(port, most, steps);
         if self.last <= most {
@@ -123,7 +147,7 @@ impl PackedList {
         self.give(port, steps)
     }
 
-    /// How many postings the list has still to give. Loads nothing.
+    /// How many postings the list still has to give. Loads nothing.
     pub fn postings_left(&self) -> u64
         ensures { (m : Moment) (s : ℕ) (t : Term) (rest : List ℕ) (budget : ℕ)
             → ListStands m s t self.now rest budget → result ≡ length rest }
@@ -131,8 +155,8 @@ impl PackedList {
         u64::from(self.held) + u64::from(self.inside) + u64::from(self.left)
     }
 
-    /// Whether all postings that it has still to give stand in the block that is read, and none of them was looked at. Loads
-    /// nothing.
+    /// Whether all postings that it still has to give are in the block that is read, and none of
+    /// them was looked at. Loads nothing.
     #[inline(always)]
     pub fn is_last(&self) -> bool
         ensures { IsTrue result ↔ ((self.now.left ≡ 0) × (self.now.held ≡ false)) }
@@ -140,22 +164,23 @@ impl PackedList {
         self.left == 0 && !self.held
     }
 
-    /// Passes over exactly the postings above `most` that weren't given yet: whole blocks by their headers
-    /// alone, so that it loads one word for each 128 postings that it passes over and at most 66 more, and
-    /// never more than three above one for each posting that it passes over. The port's moment isn't before
-    /// that of the opening. Takes no memory.
+    /// Skips exactly the postings above `most` that weren't given yet, whole blocks by their
+    /// headers alone. It loads one word for each 128 postings that it skips and at most 66 more,
+    /// and never more than three above one for each posting that it skips. The port's moment must
+    /// not be before that of the opening. Takes no memory.
     #[inline(always)]
     pub fn seek<P: Port, L: Ledger>(&mut self, port: &mut P, most: Posting, steps: &mut Steps<L>)
         requires { (m : Moment) × (s : ℕ) × (t : Term) × (rest : List ℕ) × (budget : ℕ)
             × P.stands port.old m × ListStands m s t self.old rest budget }
         ensures told { (s : ℕ) (t : Term) (rest : List ℕ) (budget : ℕ) → Told P.stands P.keeps port.old port.new
-            (λ m. ListStands m s t self.old rest budget) (λ n. (b : ℕ) × ListStands n s t self.new (up_to most rest) b × (steps.new + b ≤ steps.old + budget)) }
+            (λ m. ListStands m s t self.old rest budget)
+            (λ n. (b : ℕ) × ListStands n s t self.new (at_most most rest) b × (steps.new + b ≤ steps.old + budget)) }
         ensures loads { (m : Moment) (s : ℕ) (t : Term) (rest : List ℕ) (budget : ℕ)
             → P.stands port.old m → ListStands m s t self.old rest budget
-            → steps.new ≤ steps.old + seek_loads (length rest - length (up_to most rest)) }
+            → steps.new ≤ steps.old + seek_loads (length rest - length (at_most most rest)) }
         ensures few { (m : Moment) (s : ℕ) (t : Term) (rest : List ℕ) (budget : ℕ)
             → P.stands port.old m → ListStands m s t self.old rest budget
-            → steps.new ≤ steps.old + (length rest - length (up_to most rest)) + 3 }
+            → steps.new ≤ steps.old + (length rest - length (at_most most rest)) + 3 }
     {
         self.seek_near(port, most, steps);
         if self.last > most {
@@ -163,7 +188,7 @@ impl PackedList {
         }
     }
 
-    // Passes over the blocks that are all above, where there may be one.
+    // Skips the blocks that are all above, where there may be one.
     #[inline(always)]
     fn seek_near<P: Port, L: Ledger>(&mut self, port: &mut P, most: Posting, steps: &mut Steps<L>)
         requires { (m : Moment) × (s : ℕ) × (t : Term) × (rest : List ℕ) × (budget : ℕ)
@@ -174,7 +199,7 @@ impl PackedList {
         ensures told { (s : ℕ) (t : Term) (rest : List ℕ) (budget : ℕ) → Told P.stands P.keeps port.old port.new
             (λ m. ListStands m s t self.old rest budget)
             (λ n. (after : List ℕ) × (b : ℕ) × ListStands n s t self.new after b × (steps.new + b ≤ steps.old + budget)
-            × (up_to most after ≡ up_to most rest)) }
+            × (at_most most after ≡ at_most most rest)) }
     {
         if self.near < most {
             return;
@@ -182,8 +207,8 @@ impl PackedList {
         self.seek_block(port, most, steps);
     }
 
-    // Passes over the postings of the block that are above, in locals for what this changes; true where one that isn't is
-    // read then, and is to be held.
+    // Skips the postings of the block that are above. What this changes is in locals. True where
+    // one that isn't above is read then, and is to be held.
     #[inline(always)]
     fn seek_inside<P: Port, L: Ledger>(
         &mut self,
@@ -201,7 +226,7 @@ impl PackedList {
         ensures few { steps.new + self.new.inside + self.new.left ≤ steps.old + self.old.inside + self.old.left }
         ensures told { (s : ℕ) (t : Term) (rest : List ℕ) (budget : ℕ) → Told P.stands P.keeps port.old port.new
             (λ m. ListStands m s t self.old rest budget)
-            (λ n. (b : ℕ) × ListStands n s t (record self.new { held = result }) (up_to most rest) b × (steps.new + b ≤ steps.old + budget)) }
+            (λ n. (b : ℕ) × ListStands n s t (record self.new { held = result }) (at_most most rest) b × (steps.new + b ≤ steps.old + budget)) }
     {
         if self.inside == 0 {
             return false;
@@ -239,7 +264,7 @@ impl PackedList {
         ensures told { (s : ℕ) (t : Term) (rest : List ℕ) (budget : ℕ) → Told P.stands P.keeps port.old port.new
             (λ m. ListStands m s t self.old rest budget)
             (λ n. (after : List ℕ) × (b : ℕ) × ListStands n s t self.new after b × (steps.new + b ≤ steps.old + budget)
-            × (up_to most after ≡ up_to most rest)) }
+            × (at_most most after ≡ at_most most rest)) }
     {
         self.held = false;
         self.step(port, steps);
@@ -262,7 +287,7 @@ impl PackedList {
         Some(self.last)
     }
 
-    // Passes over the blocks that are all above, by a call, since it is seldom that there are any.
+    // Skips the blocks that are all above. It is a call, since there are seldom any.
     #[inline(never)]
     fn seek_block<P: Port, L: Ledger>(&mut self, port: &mut P, most: Posting, steps: &mut Steps<L>)
         requires { (m : Moment) × (s : ℕ) × (t : Term) × (rest : List ℕ) × (budget : ℕ)
@@ -273,7 +298,7 @@ impl PackedList {
         ensures told { (s : ℕ) (t : Term) (rest : List ℕ) (budget : ℕ) → Told P.stands P.keeps port.old port.new
             (λ m. ListStands m s t self.old rest budget)
             (λ n. (after : List ℕ) × (b : ℕ) × ListStands n s t self.new after b × (steps.new + b ≤ steps.old + budget)
-            × (up_to most after ≡ up_to most rest)) }
+            × (at_most most after ≡ at_most most rest)) }
     {
         'whole: while self.pass_block(port, most, steps) {}
     }
@@ -286,7 +311,8 @@ impl PackedList {
         self.held && self.last <= most
     }
 
-    // Goes to the next block, where all before it is above, and on over those after it that have its width.
+    // Goes to the next block, where all before it is above, and on over those after it that have
+    // its width.
     #[inline(always)]
     fn pass_block<P: Port, L: Ledger>(
         &mut self,
@@ -308,7 +334,7 @@ impl PackedList {
         ensures told { (s : ℕ) (t : Term) (rest : List ℕ) (budget : ℕ) → Told P.stands P.keeps port.old port.new
             (λ m. ListStands m s t self.old rest budget)
             (λ n. (after : List ℕ) × (b : ℕ) × ListStands n s t self.new after b × (steps.new + b ≤ steps.old + budget)
-            × (up_to most after ≡ up_to most rest)) }
+            × (at_most most after ≡ at_most most rest)) }
     {
         if self.left == 0 {
             return false;
@@ -325,8 +351,8 @@ impl PackedList {
         true
     }
 
-    // Goes on over the blocks after a whole one that have its width and begin above. Where the next header lies
-    // needs no header then, so that a processor that guesses right loads several at once.
+    // Skips the blocks after a whole one that have its width and begin above. Where the next header
+    // is follows from the width, so a processor that guesses right loads several headers at once.
     #[inline(always)]
     fn pass_alike<P: Port, L: Ledger>(&mut self, port: &mut P, most: Posting, steps: &mut Steps<L>)
         requires reads { (m : Moment) × (s : ℕ) × (t : Term) × (rest : List ℕ) × (budget : ℕ)
@@ -341,7 +367,7 @@ impl PackedList {
         ensures told { (s : ℕ) (t : Term) (rest : List ℕ) (budget : ℕ) → Told P.stands P.keeps port.old port.new
             (λ m. ListStands m s t self.old rest budget)
             (λ n. (after : List ℕ) × (b : ℕ) × ListStands n s t self.new after b × (steps.new + b ≤ steps.old + budget)
-            × (up_to most after ≡ up_to most rest)) }
+            × (at_most most after ≡ at_most most rest)) }
     {
         'alike: while self.pass_like(port, most, steps) {}
     }
@@ -366,7 +392,7 @@ impl PackedList {
         ensures told { (s : ℕ) (t : Term) (rest : List ℕ) (budget : ℕ) → Told P.stands P.keeps port.old port.new
             (λ m. ListStands m s t self.old rest budget)
             (λ n. (after : List ℕ) × (b : ℕ) × ListStands n s t self.new after b × (steps.new + b ≤ steps.old + budget)
-            × (up_to most after ≡ up_to most rest)) }
+            × (at_most most after ≡ at_most most rest)) }
     {
         if self.left <= 128 {
             return false;
@@ -439,7 +465,7 @@ impl PackedList {
         self.last -= field;
     }
 
-    // Loads the header of the next block, where it isn't loaded.
+    // Loads the header of the next block, unless it is loaded.
     #[inline(always)]
     fn peek<P: Port, L: Ledger>(&mut self, port: &mut P, steps: &mut Steps<L>)
         requires reads { (m : Moment) × (s : ℕ) × (t : Term) × (rest : List ℕ) × (budget : ℕ)
@@ -488,7 +514,8 @@ impl PackedList {
         self.near = if self.left == 0 { 0 } else { u64::MAX };
     }
 
-    // The same where it is a whole one of the width of this block.
+    // Goes to the next block, a whole one of the width of this block, whose header is loaded, and
+    // holds its first posting.
     #[inline(always)]
     fn enter_like(&mut self)
         requires reads { (m : Moment) × (s : ℕ) × (t : Term) × (rest : List ℕ) × (budget : ℕ) × ListStands m s t self.old rest budget }

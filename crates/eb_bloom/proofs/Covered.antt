@@ -1,4 +1,4 @@
--- What the filters cover, with one document more, and what they tell of a term.
+-- What the filters cover, with one more document, and what they say of a term.
 use Rattle.std.proofs.Common.{◌≡◌, ℕ, zero, suc, ◌+◌, ◌==◌, ◌||◌, ◌&&◌, ◌⊎◌, Bool, true, false, List, [], ◌∷◌, ◌++◌, length, get_or, map, take, reverse, replicate}
 use Rattle.std.proofs.Common.{refl, ap, sym, ◌∙◌, subst, arith, inl, inr, eq-eqb}
 use Rattle.std.specs.List.{Contains, list_any, filter}
@@ -12,7 +12,7 @@ use Rattle.eb_base.specs.Match.{is_match, answer}
 use Rattle.eb_base.specs.Setting.{Setting}
 use Rattle.eb_place.specs.Room.{cut, with_doc, fits}
 use Rattle.eb_place.proofs.CutSegments.{cut_push}
-use Rattle.eb_bloom.specs.Bits.{Bits, first_bit, second_bit, is_set, is_noted}
+use Rattle.eb_bloom.specs.Bits.{Bits, first_bit, second_bit, is_set}
 use Rattle.eb_bloom.specs.Covers.{Covers}
 use Rattle.eb_bloom.proofs.SingleBits.{or_true}
 
@@ -60,7 +60,7 @@ covers_nothing b σ e = record { setting = e; noted = λ s d t h. absurd (none_o
 abbrev pub is_bit_of : Setting → ℕ → Term → ℕ → Bool
 is_bit_of σ s t i = first_bit σ s t == i || second_bit σ s t == i
 
--- the bits of the terms of a document are set beside the old ones
+-- the bits of the terms of a document are set, and the old ones stay
 abbrev pub AreNoted : Bits → Bits → ℕ → Doc → Type 0
 AreNoted b new s d = (i : ℕ) → is_set new.words i ≡ (is_set b.words i || list_any (λ t. is_bit_of b.setting s t i) d.terms)
 

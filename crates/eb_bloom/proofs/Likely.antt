@@ -1,5 +1,5 @@
 -- A query matches no document of a segment in which it may not match.
-use Rattle.std.proofs.Common.{◌≡◌, ℕ, zero, suc, ◌+◌, ◌&&◌, ◌||◌, Bool, true, false, List, [], ◌∷◌, length, take, drop, slice_get, get_or, refl, ap, sym, ◌∙◌, arith, inl, inr, Some}
+use Rattle.std.proofs.Common.{◌≡◌, ℕ, zero, suc, ◌+◌, true, false, List, [], ◌∷◌, length, take, drop, slice_get, get_or, refl, ap, sym, ◌∙◌, arith, inl, inr, Some}
 use Rattle.std.specs.List.{Contains, list_all}
 use Rattle.std.proofs.lemmas.Bool.{cases_Bool, false≢true, and_from, or_left, or_right}
 use Rattle.std.proofs.lemmas.Option.{slice_get_within, get_or_from_slice_get}
@@ -23,7 +23,7 @@ dropped (x ∷ ts) (suc from) i t e =
     ap (slice_get (x ∷ ts)) at ∙ dropped ts from i t e
 
 module _ (b : Bits) (s : ℕ) (d : Doc) (noted : (t : Term) → Contains d.terms t → is_noted b s t ≡ true) where
-  -- a term that stands at a place is noted
+  -- a term that occurs at a place is noted
   at_place : (i : ℕ) (t : Term) → slice_get d.terms i ≡ Some t → is_noted b s t ≡ true
   at_place i t e = noted t (i, slice_get_within d.terms i t e, get_or_from_slice_get d.terms i t t e)
 

@@ -70,7 +70,7 @@ marked_none b t marks n m is = record {
 
 -- ---- as flags
 
--- the flag of one segment more
+-- the flag of one more segment
 pub told_set : (flags : List Bool) (marks n : ℕ) → n < length flags → ((s : ℕ) → s < n → get_or flags s true ≡ has_mark marks s)
     → (s : ℕ) → s < n + 1 → get_or (set flags n (bit_and (marks / 2 ^ n) 1 == 1)) s true ≡ has_mark marks s
 told_set flags marks n low told s at = elim (cases_eq s n) [

@@ -5,7 +5,8 @@ use Rattle.eb_base.specs.Term.{Term}
 use Rattle.eb_base.specs.Setting.{Setting, IsSetting}
 use Rattle.eb_place.specs.Placing.{hash}
 
--- a setting, and the bits of all filters in words of 64: the filters of the segments, one after another
+-- a setting, and the bits of all filters in words of 64: the filters of the segments, one after
+-- another
 pub record Bits : Type 0 where
   pub setting : Setting
   pub words : List ℕ
@@ -18,11 +19,13 @@ filter_bits σ = 4 * σ.terms
 abbrev pub filter_words : Setting → ℕ
 filter_words σ = σ.segments * (σ.terms / 16)
 
--- the hash of a term, mixed to 64 bits: multiplied by 2^64 over the golden ratio (multiplicative hashing)
+-- the hash of a term, mixed to 64 bits: multiplied by 2^64 over the golden ratio (multiplicative
+-- hashing)
 unfoldable pub mixed_hash : Term → ℕ
 mixed_hash t = hash t * 11400714819323198485 % 2 ^ 64
 
--- the first bit of a term in the filter of a segment: as far into the filter as the higher half of the mixed hash is into 2^32
+-- the first bit of a term in the filter of a segment: as far into the filter as the higher half of
+-- the mixed hash is into 2^32
 abbrev pub first_bit : Setting → ℕ → Term → ℕ
 first_bit σ s t = s * filter_bits σ + mixed_hash t / 2 ^ 32 * filter_bits σ / 2 ^ 32
 

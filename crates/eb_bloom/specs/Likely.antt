@@ -5,8 +5,9 @@ use Rattle.std.specs.List.{list_all}
 use Rattle.eb_base.specs.Query.{Tree, Trees, word, phrase, window, since, negation, conjunction, disjunction, no_trees, trees}
 use Rattle.eb_bloom.specs.Bits.{Bits, is_noted}
 
--- whether a query may match a document of the segment: a word, a phrase and a window where all their terms are noted in its filter, an
--- And where each part may match, an Or where some part may, a bound and a Not in any case
+-- whether a query may match a document of the segment: a word, a phrase and a window where all
+-- their terms are noted in its filter, an And where each part may match, an Or where some part may,
+-- a bound and a Not in any case
 abbrev mutual
   pub may_match : Bits → ℕ → Tree → Bool
   may_match b s (word t) = is_noted b s t

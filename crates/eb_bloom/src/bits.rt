@@ -2,7 +2,7 @@
 ghost use Rattle.std.specs.Prelude.{◌≡◌, ℕ, ◌+◌, ◌*◌, ◌/◌, ◌<◌, ◌||◌, ◌&&◌, ◌==◌, length};
 ghost use Rattle.eb_bloom.specs.Bits.{is_set};
 
-// Whether two bits are set: this one, and the one that stands so far into the same word.
+// Whether two bits are set: this one, and the one this far into the same word.
 pub(crate) fn has_bits(words: &[u64], bit: usize, other: usize) -> bool
     requires within { bit < 64 * length words.now }
     requires one_word { other < 64 }
@@ -12,7 +12,8 @@ pub(crate) fn has_bits(words: &[u64], bit: usize, other: usize) -> bool
     ((word >> (bit % 64)) & 1) & ((word >> other) & 1) == 1
 }
 
-// Sets two bits, this one and the one that stands so far into the same word, and leaves each other one as it is.
+// Sets two bits, this one and the one this far into the same word, and leaves all others as they
+// are.
 pub(crate) fn set_bits(words: &mut [u64], bit: usize, other: usize)
     requires within { bit < 64 * length words.old }
     requires one_word { other < 64 }
@@ -22,7 +23,7 @@ pub(crate) fn set_bits(words: &mut [u64], bit: usize, other: usize)
     set_bit(words, bit / 64 * 64 + other);
 }
 
-// Sets this bit, and leaves each other one as it is.
+// Sets this bit, and leaves all others as they are.
 fn set_bit(words: &mut [u64], bit: usize)
     requires { bit < 64 * length words.old }
     ensures { (i : ℕ) → is_set words.new i ≡ (is_set words.old i || bit == i) }

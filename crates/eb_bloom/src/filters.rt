@@ -17,8 +17,9 @@ use eb_base::{Config, Document, MAX_SEGMENTS, NoMemory, Query, Term};
 use std::alloc::Global;
 use std::marker::Model;
 
-/// A Bloom filter for each segment of a setting: four bits for each term that a segment has room for, of which a term has
-/// two, in one word of 64. A mixed hash of the term chooses them (Knuth's multiplicative hashing).
+/// A Bloom filter for each segment of a setting: four bits for each term that a segment has room
+/// for, of which a term has two, in one word of 64. A mixed hash of the term chooses them (Knuth's
+/// multiplicative hashing).
 #[derive(Debug, Drop)]
 pub struct Filters {
     config: Config,
@@ -36,7 +37,8 @@ impl Model for Filters {
 }
 
 impl Filters {
-    /// The filters of the segments of this setting, in which no term is noted. Takes all its memory.
+    /// The filters of the segments of this setting, in which no term is noted. Takes all its
+    /// memory.
     pub fn new(alloc: Global, config: Config) -> Result<Filters, NoMemory>
         ensures bits { IfOk result (λ filters. filters ≡ record { setting = config; words = replicate (filter_words config) 0 }) }
         ensures covers { IfOk result (λ filters. Covers filters config []) }
@@ -47,8 +49,9 @@ impl Filters {
         Ok(Filters { config, words })
     }
 
-    /// Notes the terms of a document in the filter of this segment. Where it stands in the last segment, after the documents
-    /// that the filters cover, they cover it too. Takes no memory.
+    /// Notes the terms of a document in the filter of this segment. Where the document is in the
+    /// last segment, after the documents that the filters cover, they then cover it too. Takes no
+    /// memory.
     pub fn note(&mut self, segment: u32, document: &Document)
         requires { segment < self.old.setting.segments }
         ensures setting { self.new.setting ≡ self.old.setting }
@@ -67,10 +70,11 @@ impl Filters {
         }
     }
 
-    /// In which of the first `begun` segments a query may match, by what is noted in their filters: a word, a phrase and a
-    /// window in those where all their terms are noted, an And where each part may match, an Or where some part may, and a
-    /// bound and a Not in all. It is true of each further one. Where the filters cover an index, no document of a segment of
-    /// which it is false matches the query. Takes no memory.
+    /// In which of the first `begun` segments a query may match, by what is noted in their filters:
+    /// a word, a phrase and a window in those where all their terms are noted, an And where each
+    /// part may match, an Or where some part may, and a bound and a Not in all. The result is true
+    /// of each further segment. Where the filters cover an index, no document of a segment of which
+    /// it is false matches the query. Takes no memory.
     pub fn likely(&self, query: &Query, begun: u32) -> [bool; MAX_SEGMENTS as usize]
         requires { begun ≤ self.now.setting.segments }
         ensures noted { (s : ℕ) → s < begun → get_or result s true ≡ may_match self.now s (tree query.now) }

@@ -1,4 +1,5 @@
-//! In which segments a query may match, as a number of 64 bits, of which each segment has the bit of its own number.
+//! In which segments a query may match, as a number of 64 bits, of which each segment has the bit
+//! of its own number.
 ghost use Rattle.std.specs.Prelude.{◌≡◌, ℕ, ◌<◌, ◌≤◌};
 ghost use Rattle.std.specs.List.{list_all};
 ghost use Rattle.eb_base.specs.Query.{tree, parts_of, trees_of};

@@ -1,4 +1,4 @@
--- What is known where a placing has come to a posting, and after its stores.
+-- What is known when a placing is at a posting, and after its stores.
 use Rattle.std.proofs.Common.{◌≡◌, ℕ, zero, suc, ◌+◌, ◌<◌, ◌≤◌, ◌⊎◌, List, [], ◌∷◌, ◌++◌, length, take, drop, get_or}
 use Rattle.std.proofs.Common.{refl, ap, sym, ◌∙◌, subst, arith, inl, inr, append-nil, append_assoc, Option, Some, None}
 use Rattle.std.proofs.lemmas.Bool.{eq-eqb}
@@ -37,7 +37,7 @@ use Rattle.eb_place.proofs.NextStore.{current_is}
 abbrev pub stores_before : Setting → ℕ → List Doc → ℕ → List Term → Term → List Store
 stores_before σ s seg count earlier t = first_stores s seg count ++ (tokens_stores σ s (length seg) 0 (terms_of seg) earlier ++ enters σ s (terms_of seg ++ earlier) t)
 
--- a list that is dropped to a back of it, which isn't empty, is taken to the front before it
+-- a list that is dropped to a back of it, which isn't empty, is taken to the prefix before it
 taken : (xs front back : List Store) (i : ℕ) → xs ≡ front ++ back → 1 ≤ length back → drop i xs ≡ back → take i xs ≡ front
 taken xs front back i e some d =
     let a = ap length e ∙ length-append front back in

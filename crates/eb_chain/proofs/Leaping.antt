@@ -1,4 +1,4 @@
--- Leaps: rows of postings that stand one place after the other, and what a walk may pass over.
+-- Leaps: rows of postings one place after the other, and what a walk may skip.
 use Rattle.std.proofs.Common.{◌≡◌, ℕ, zero, suc, ◌+◌, ◌-◌, ◌*◌, ◌^◌, ◌<◌, ◌≤◌, inl, inr, true, false, List, [], ◌∷◌}
 use Rattle.std.proofs.Common.{length, take, reverse, get_or, refl, ap, sym, ◌∙◌, subst, arith, nat_le, nat_lt, ◌&&◌}
 use Rattle.std.proofs.lemmas.Bool.{cases_Bool, cases_lt}
@@ -7,7 +7,7 @@ use Rattle.std.proofs.Math.Nat.{pow-succ'}
 use Rattle.eb_base.specs.Term.{Term}
 use Rattle.eb_place.specs.declared.moment.Moment.{Moment}
 use Rattle.eb_place.specs.Address.{pool_at, offset_at, slice_start, begins, address_of}
-use Rattle.eb_place.specs.Postings.{terms_of}
+use Rattle.eb_place.specs.Postings.{terms_of, at_most}
 use Rattle.eb_place.specs.Moments.{IsMoment}
 use Rattle.eb_place.specs.Later.{IsNotBefore}
 use Rattle.eb_place.specs.Seen.{segment}
@@ -19,7 +19,7 @@ use Rattle.eb_place.proofs.PostingsFall.{RisesFrom}
 use Rattle.eb_place.proofs.WayBackFromPosting.{told, reverse_take}
 use Rattle.eb_chain.specs.declared.leaps.Found.{Found}
 use Rattle.eb_chain.specs.Chains.{next_loads}
-use Rattle.eb_chain.specs.Leaps.{at_most, slices_in_use, walk_loads, IsRow, IsOldest, IsNewest}
+use Rattle.eb_chain.specs.Leaps.{slices_in_use, walk_loads, IsRow, IsOldest, IsNewest}
 
 -- ---- rows at later moments
 
@@ -78,7 +78,7 @@ rises_get lo (x ∷ xs) i zero r h k = absurd (omega (arith, h))
 rises_get lo (x ∷ xs) zero (suc j) r h k = rises_above (suc x) xs j r.1 (omega (arith, k))
 rises_get lo (x ∷ xs) (suc i) (suc j) r h k = rises_get (suc x) xs i j r.1 (omega (arith, h)) (omega (arith, k))
 
--- ---- what is passed over
+-- ---- what is skipped
 
 pub at_most_in : (most x : ℕ) (xs : List ℕ) → x ≤ most → at_most most (x ∷ xs) ≡ x ∷ xs
 at_most_in most x xs h = grind (arith, nat_tests)
@@ -261,7 +261,8 @@ first_loads : (f : ℕ) → next_loads (suc f) (suc f) ≡ 1
 unfolding next_loads
 first_loads f = grind (arith, nat_tests)
 
--- all calls of a chain that was opened for k postings take at most k loads and one for each slice in use
+-- all calls of a chain that was opened for k postings take at most k loads and one for each slice
+-- in use
 pub walk_all : (k : ℕ) → walk_loads k k k ≤ k + slices_in_use k
 unfolding walk_loads
 walk_all zero = omega arith

@@ -6,7 +6,7 @@ use Rattle.std.proofs.Math.Pow.{pow_mono}
 use Rattle.eb_base.specs.Term.{Term}
 use Rattle.eb_place.specs.declared.moment.Moment.{Moment}
 use Rattle.eb_place.specs.Address.{slice_start}
-use Rattle.eb_place.specs.Postings.{postings}
+use Rattle.eb_place.specs.Postings.{postings, at_most}
 use Rattle.eb_place.specs.Moments.{IsMoment}
 use Rattle.eb_place.specs.Later.{IsNotBefore}
 use Rattle.eb_place.specs.Seen.{segment, seen_count}
@@ -19,7 +19,7 @@ use Rattle.eb_chain.specs.declared.chain.Chain.{Chain}
 use Rattle.eb_chain.specs.declared.leaps.Found.{Found}
 use Rattle.eb_chain.specs.declared.leaps.Look.TheVariants.{Within}
 use Rattle.eb_chain.specs.Chains.{IsWay, way_loads, next_loads, IsWayBefore, Stands, Given}
-use Rattle.eb_chain.specs.Leaps.{at_most, slices_in_use, walk_loads, lead_loads, LeadsTo, IsRow, IsOldest, IsNewest, IsLookLoads, IsLeap, IsShort}
+use Rattle.eb_chain.specs.Leaps.{slices_in_use, walk_loads, lead_loads, LeadsTo, IsRow, IsOldest, IsNewest, IsLookLoads, IsLeap, IsShort}
 use Rattle.eb_place.specs.Layout.{address_pool, address_offset}
 use Rattle.eb_place.proofs.LaterMoments.{later_on}
 use Rattle.eb_place.proofs.PostingsFall.{postings_rise}
@@ -76,7 +76,7 @@ leapt_start m s t c opened most rest steps is h = record {
         let hd : x ≡ get_or (postings t (segment m s)) (length xs) 0 = cc (e ∙ reverse_take (length xs) (postings t (segment m s)) (omega (arith, k))) in
         omega (arith, hd, posting_small m s t (length xs) is)
 
--- the front of a segment's postings that a walk still has to give
+-- the prefix of a segment's postings that a walk still has to give
 pub record IsFront (l : Moment) (v : ℕ) (t : Term) (opened : ℕ) (left : List ℕ) (g : ℕ) : Type 0 where
   pub inside : v < l.setting.segments
   pub seen : opened ≤ seen_count l v t
@@ -93,7 +93,7 @@ front_of l v t c opened left g h e = record {
   postings = h.postings ∙ ap (λ k. reverse (take k (postings t (segment l v)))) e;
 }
 
--- the chain that stands for the oldest f of them
+-- the chain for the oldest f of them
 front_stands : (l : Moment) (v : ℕ) (t : Term) (opened : ℕ) (left : List ℕ) (g f a : ℕ) (w : Way) → IsMoment l → IsFront l v t opened left g → f ≤ g → IsAddress l v t f a → IsWayBefore a w
     → Stands l v t record { segment = v; way = w } opened (reverse (take f (postings t (segment l v))))
 front_stands l v t opened left g f a w is h k at b =

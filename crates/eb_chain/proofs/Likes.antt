@@ -1,4 +1,4 @@
--- What a tail word tells of how many postings came before.
+-- What a tail word says about how many postings came before.
 use Rattle.std.proofs.Common.{◌≡◌, ℕ, zero, suc, ◌+◌, ◌-◌, ◌*◌, ◌/◌, ◌^◌, ◌<◌, ◌≤◌, refl, sym, ◌∙◌, subst, arith}
 use Rattle.std.proofs.lemmas.Bool.Decides.{nat_tests}
 use Rattle.eb_place.specs.Layout.{address_pool, address_offset}
@@ -11,13 +11,13 @@ use Rattle.eb_place.specs.Walk.{address_in, tail_value}
 use Rattle.eb_place.proofs.AddressesDiffer.{pool_low}
 use Rattle.eb_place.proofs.ReaderWords.{address_parts}
 use Rattle.eb_place.proofs.WayBackFromPosting.{told}
-use Rattle.eb_chain.specs.Needs.{IsPlaceOf, IsTailWord, HasLike}
+use Rattle.eb_chain.specs.Needs.{HasPoolAndOffset, IsTailWord, HasLike}
 
 -- a tail word that isn't 0 is one more than the address of the last posting
-pub last_of_tail : (f tail : ℕ) → 1 ≤ tail → IsTailWord f tail → (g : ℕ) × (f ≡ suc g) × IsPlaceOf g (tail - 1)
+pub last_of_tail : (f tail : ℕ) → 1 ≤ tail → IsTailWord f tail → (g : ℕ) × (f ≡ suc g) × HasPoolAndOffset g (tail - 1)
 last_of_tail zero tail l h = absurd (omega arith)
 last_of_tail (suc f) zero l h = absurd h
-last_of_tail (suc f) (suc at) l h = (f, refl, subst (IsPlaceOf f) (let e : at ≡ suc at - 1 = omega arith in e) h)
+last_of_tail (suc f) (suc at) l h = (f, refl, subst (HasPoolAndOffset f) (let e : at ≡ suc at - 1 = omega arith in e) h)
 
 -- without a tail there is no posting
 pub none_of_tail : (f tail : ℕ) → tail ≡ 0 → IsTailWord f tail → f ≡ 0
@@ -48,7 +48,7 @@ by_3 g h = (grind (arith, nat_tests), grind (arith, nat_tests))
 same_number : (f g : ℕ) → f ≡ g → HasLike f g
 same_number f g e = record { full = 0; same = omega arith; last = λ l. absurd (omega arith) }
 
--- by its pool and offset a posting tells how many came before it in like slices
+-- by its pool and offset a posting says how many came before it in like slices
 pub like_0 : (f tail : ℕ) → 1 ≤ tail → address_pool (tail - 1) ≡ 0 → IsTailWord f tail → HasLike f (address_offset (tail - 1) + 1)
 like_0 f tail l p h = let g = last_of_tail f tail l h in let q = g.2.pool in let o = g.2.offset in same_number _ _ (omega (arith, g.1, o, by_0 g.0 (sym q ∙ p)))
 

@@ -68,7 +68,7 @@ tail_here m s t k before L is term h =
         ap (λ z. val m.setting L (slot s tail_region z)) number ∙ h.reached.tail t (omega arith)
         ∙ ap (λ z. address_of t z before + 1) (let q : count_of t before - 1 ≡ f = omega arith in q)
 
--- so it is a tail word of so many postings
+-- so it is a tail word of this many postings
 tail_word_here : (t : Term) (before : List Term) (n : ℕ) → n ≤ count_of t before → SlicesFit before → IsTailWord n (tail_of t before n)
 tail_word_here t before zero l fit = refl
 tail_word_here t before (suc f) l fit =
@@ -129,7 +129,7 @@ fit_before m d s t posting is q =
     let r = room_before m.setting s (tokens_before m.setting m.documents.accepted d q.earlier) (t ∷ []) h.room in
     slices_fit m.setting (tokens_before m.setting m.documents.accepted d q.earlier) r.small r.fits
 
--- the tail's word tells what the call needs
+-- the tail's word says what the call needs
 pub found : (m : Moment) (d : Doc) (s : ℕ) (t : Term) (posting k tail : ℕ) (u : Used) → IsMoment m → IsTerm m s t k → TellsSegment u m s
     → (q : IsPostingNext m.setting m.documents d s t posting) → tail ≡ word m (place m.setting (slot s tail_region k))
     → Found (before_it m d s t posting q) tail u
@@ -235,7 +235,7 @@ link_behind s t before tail last u r e same h l = elim (cases_Bool (begins (coun
 
 -- ---- the moment afterwards
 
--- exactly so many stores of the document more
+-- exactly n stores of the document more
 pub record More (m n : Moment) (d : Doc) (k : ℕ) : Type 0 where
   pub setting : n.setting ≡ m.setting
   pub documents : n.documents ≡ with_stores m.documents d k
@@ -260,7 +260,7 @@ pub link_next : (m : Moment) (d : Doc) (s at : ℕ) (link : Option ℕ) (now : L
 link_next m d s at None now h = h
 link_next m d s at (Some last) now h = (one_stored m d (pool_slot s (at - 1), last) now h (pool_counts_nothing s (at - 1))).rest
 
--- after all of them so many are done
+-- after all of them n are done
 pub all_more : (m : Moment) (d : Doc) (s at : ℕ) (link : Option ℕ) (x y : Store) → AreNext m d (link_stores s at link ++ x ∷ y ∷ [])
     → (x.0 ≡ published → ⊥) → (y.0 ≡ published → ⊥) → More m (after_store (after_store (after_link m d link) d) d) d (length (link_stores s at link ++ x ∷ y ∷ []))
 all_more m d s at None x y h px py = one_more m (after_store m d) d 1 y [] (first_more m d x (y ∷ []) h px) (one_stored m d x (y ∷ []) h px).rest py
@@ -321,7 +321,7 @@ adds f tail u r h = elim (cases_Bool (begins f)) [
   })
 ]
 
--- it tells the segment afterwards
+-- it describes the segment afterwards
 pub tells_after : (m n : Moment) (d : Doc) (s : ℕ) (t : Term) (posting tail : ℕ) (u : Used) (r : NextPlace) → IsMoment m
     → TellsSegment u m s → (q : IsPostingNext m.setting m.documents d s t posting) → IsNextPlace (before_it m d s t posting q) tail u r
     → More m n d (length (append_stores s (tokens_before m.setting m.documents.accepted d q.earlier) t (before_it m d s t posting q) posting)) → TellsSegment r.used n s

@@ -1,4 +1,4 @@
--- Where a row of postings stands in the words.
+-- Where a row of postings is in the words.
 use Rattle.std.proofs.Common.{◌≡◌, ℕ, ◌+◌, ◌/◌, ◌%◌, ◌^◌, ◌<◌, ◌≤◌, refl, ap, sym, ◌∙◌, subst, arith}
 use Rattle.eb_base.specs.Setting.{Setting, words_of}
 use Rattle.eb_base.specs.Term.{Term}

@@ -27,7 +27,7 @@ way_later m n s t (suc f) End is l h = h
 way_later m n s t (suc f) (At a) is l h = address_later m n s t f a is l h
 way_later m n s t (suc f) (Link a) is l h = link_later m n s t f a is l h
 
--- what a chain stands for at one moment, it stands for at every later one
+-- what a chain still has to give at one moment, it has to give at every later one
 pub stands_later : (m n : Moment) (s : ℕ) (t : Term) (c : Chain) (opened : ℕ) (rest : List ℕ) → IsMoment m → IsNotBefore n m → Stands m s t c opened rest → Stands n s t c opened rest
 stands_later m n s t c opened rest is l h = let few = h.seen in let left = h.left in let more = later_reached m n s t l in
     record {
@@ -112,7 +112,7 @@ tail_low m s t tail is h e = go (seen_count m s t) refl e
     go zero d e = omega arith
     go (suc f) d e = omega (arith, address_small m s t f is h (omega arith))
 
--- from the tail a chain stands for all that is seen
+-- from the tail a chain has to give all that is seen
 pub opens : (m : Moment) (s : ℕ) (t : Term) (tail : ℕ) (w : Way) → IsMoment m → s < m.setting.segments → tail ≡ tail_value m s t (seen_count m s t) → IsWayOf tail w
     → Stands m s t record { segment = s; way = w } (seen_count m s t) (reverse (seen m s t))
 opens m s t tail w is h e b =

@@ -6,15 +6,15 @@ use Rattle.eb_place.specs.Room.{slices}
 use Rattle.eb_chain.specs.declared.new_slices.NewSlices.{NewSlices}
 
 -- an address with the pool and the offset of the posting that comes after f of its term
-pub record IsPlaceOf (f at : ℕ) : Type 0 where
+pub record HasPoolAndOffset (f at : ℕ) : Type 0 where
   pub pool : address_pool at ≡ pool_at f
   pub offset : address_offset at ≡ offset_at f
 
--- the tail word of a term with so many postings: 0, or the address of the last plus 1
+-- the tail word of a term with f postings: 0, or the address of the last plus 1
 abbrev pub IsTailWord : ℕ → ℕ → Type 0
 IsTailWord zero tail = tail ≡ 0
 IsTailWord (suc f) zero = ⊥
-IsTailWord (suc f) (suc at) = IsPlaceOf f at
+IsTailWord (suc f) (suc at) = HasPoolAndOffset f at
 
 -- the slices that n further postings take of a term with f postings
 pub record TakesSlices (f n : ℕ) (new : NewSlices) : Type 0 where
@@ -30,7 +30,7 @@ pub record BeginsSlice (f : ℕ) (new : NewSlices) : Type 0 where
   pub pool2 : new.pool2 ≡ (if begins_in 2 f then 1 else 0)
   pub pool3 : new.pool3 ≡ (if begins_in 3 f then 1 else 0)
 
--- g is f, but for full slices of the last pool
+-- g is f, except for full slices of the last pool
 pub record HasLike (f g : ℕ) : Type 0 where
   pub full : ℕ
   pub same : f ≡ g + 2047 * full

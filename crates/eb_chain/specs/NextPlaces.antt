@@ -27,8 +27,9 @@ with_slice u (suc (suc (suc p))) = record u { pool3 = u.pool3 + 1 }
 abbrev pub HasAddress : ℕ → Used → Type 0
 HasAddress f u = begins f ≡ true → slices_of u (pool_at f) * 2 ^ slice_bits (pool_at f) + offset_at f < 2 ^ 30
 
--- the place of the posting that comes after f of its term, whose tail word is this: the next of its slice,
--- or the first of the next slice of the pool, which is linked to the last posting in the pools 1 to 3
+-- the place of the posting that comes after f of its term, whose tail word is this: the next of its
+-- slice, or the first of the next slice of the pool, which is linked to the last posting in the
+-- pools 1 to 3
 pub record IsNextPlace (f tail : ℕ) (u : Used) (r : NextPlace) : Type 0 where
   pub within : begins f ≡ false → (r.address ≡ tail) × (r.link ≡ None) × (r.used ≡ u)
   pub first : begins f ≡ true → (r.address ≡ address_number (pool_at f) (slices_of u (pool_at f)) (offset_at f)) × (r.used ≡ with_slice u (pool_at f))

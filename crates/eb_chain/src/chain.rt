@@ -1,9 +1,10 @@
 //! A walk over the postings of a term.
 //!
-//! A chain is opened for a term whose postings stand in the segment, those of the document being placed included:
-//! this asks less than that the term is entered. Its relation carries the number of postings that were seen at the
-//! opening, since the loads of a call depend on whether a posting was given before. A chain doesn't keep its places:
-//! they are computed at each call, and a `next` takes 2.9 ns with that.
+//! A chain can be opened for each term with postings in the segment, those of the document being
+//! placed included. This asks less than that the term is entered. Its relation has the number of
+//! postings that were seen at the opening, since the loads of a call depend on whether a posting
+//! was given before. A chain doesn't keep its places: each call computes them, and with that a
+//! `next` takes 2.9 ns.
 ghost use Rattle.std.specs.Prelude.{◌≡◌, ℕ, List, ◌+◌, ◌-◌, ◌<◌, ◌≤◌, ◌^◌, length, reverse};
 ghost use Rattle.eb_base.specs.Term.{Term};
 ghost use Rattle.eb_place.specs.declared.moment.Moment.{Moment};
@@ -13,7 +14,8 @@ ghost use Rattle.eb_place.specs.Told.{Told};
 ghost use Rattle.eb_place.specs.Seen.{seen, seen_count};
 ghost use Rattle.eb_place.specs.Walk.{IsAddress, IsLink, IsTerm};
 ghost use Rattle.eb_chain.specs.Chains.{Stands, Given, next_loads, IsWay, IsWayBefore, IsPlaceOf, IsPosting, IsWayOf};
-ghost use Rattle.eb_chain.specs.Leaps.{at_most, IsLeap, IsShort, LeadsTo, lead_loads};
+ghost use Rattle.eb_place.specs.Postings.{at_most};
+ghost use Rattle.eb_chain.specs.Leaps.{IsLeap, IsShort, LeadsTo, lead_loads};
 
 use crate::leaps::{Look, look_back, oldest_in_slice};
 use eb_place::{Places, Port, Posting, Steps, offset_of, pool_of, posting_in_word};
@@ -22,7 +24,7 @@ use std::sync::ledger::Ledger;
 // Where the next posting of a walk is found.
 #[derive(Clone, Copy, Debug, PartialEq, Eq)]
 enum Way {
-    // There is none.
+    // Nowhere: no posting is left.
     End,
     // At this address.
     At(u32),
@@ -31,8 +33,9 @@ enum Way {
 }
 
 /// A backward walk over the postings of one term in one segment. Each slice is linked to the term's
-/// earlier slice, so the walk begins at the tail and meets the newest posting first (the Earlybird paper
-/// of 2012). It stands for the postings whose tails were stored when it was opened, also while more come.
+/// earlier slice, so the walk begins at the tail and meets the newest posting first (the Earlybird
+/// paper of 2012). It gives the postings whose tails were stored when it was opened, even while
+/// more come.
 #[derive(Clone, Copy, Debug, PartialEq, Eq)]
 pub struct Chain {
     segment: u32,
@@ -40,9 +43,9 @@ pub struct Chain {
 }
 
 impl Chain {
-    /// Opens the chain of a term, by the term's number in the segment. It stands for the term's postings
-    /// at the moment of this call's one load, that of the tail; those of a document that is being placed
-    /// are among them where their tails are stored. Takes no memory.
+    /// Opens the chain of a term, by the term's number in the segment. It has the term's postings
+    /// at the moment of this call's one load, that of the tail. Postings of a document that is
+    /// being placed are among them where their tails are stored. Takes no memory.
     pub fn open<P: Port, L: Ledger>(
         port: &mut P,
         segment: u32,
@@ -62,9 +65,9 @@ impl Chain {
         }
     }
 
-    /// The pool of the slice that the walk has come to, 0 to 3, and 0 after the oldest posting: that of the
-    /// posting that comes next, or of the one that was given before it. The more postings a term has, the
-    /// greater it is. Loads nothing.
+    /// The pool of the slice that the walk is in, 0 to 3, and 0 after the oldest posting: the pool
+    /// of the posting that comes next, or of the one that was given before it. It grows with the
+    /// number of postings of a term. Loads nothing.
     pub fn pool(&self) -> u32
         ensures { (m : Moment) (s : ℕ) (t : Term) (opened : ℕ) (rest : List ℕ) → IsMoment m → Stands m s t self.now opened rest
             → (pool_at (length rest - 1) ≤ result) × (result ≤ pool_at (length rest)) }
@@ -76,10 +79,10 @@ impl Chain {
         }
     }
 
-    /// The newest posting that wasn't given yet; `None` exactly after the oldest, and
-    /// from then on. The port's moment isn't before that of the opening. One load a posting, and one more
-    /// where the posting given before was the first of a slice that has a link; none where the answer is
-    /// `None`. Takes no memory.
+    /// The newest posting that wasn't given yet; `None` exactly after the oldest, and from then on.
+    /// The port's moment must not be before that of the opening. One load a posting, and one more
+    /// where the posting given before was the first of a slice that has a link; none where the
+    /// answer is `None`. Takes no memory.
     pub fn next<P: Port, L: Ledger>(
         &mut self,
         port: &mut P,
@@ -102,11 +105,11 @@ impl Chain {
         Some(posting)
     }
 
-    /// The newest posting at or below `most` that wasn't given yet: those above it are passed for good, and
-    /// `None` comes exactly where none is left. The port's moment isn't before that of the opening. A slice
-    /// whose first posting is above `most` is passed by that posting and the link; in the slice where one
-    /// isn't, the walk leaps back, each leap twice as long as the one before, and then halves. Takes no
-    /// memory.
+    /// The newest posting at or below `most` that wasn't given yet. Postings above it are skipped
+    /// for good; `None` exactly where none is left. The port's moment must not be before that of
+    /// the opening. A slice whose first posting is above `most` is skipped by that posting and the
+    /// link. In the slice where one isn't, the walk leaps back, each leap twice as long as the one
+    /// before, and then halves. Takes no memory.
     pub fn next_at_most<P: Port, L: Ledger>(
         &mut self,
         port: &mut P,
@@ -122,7 +125,7 @@ impl Chain {
         ensures short { (m : Moment) (s : ℕ) (t : Term) (opened : ℕ) (rest : List ℕ)
             → P.stands port.old m → Stands m s t self.old opened rest → IsShort opened rest (at_most most rest) steps.old steps.new }
     {
-        // The first posting of the slice that was passed last: it falls.
+        // The first posting of the slice that was skipped last: it falls.
         let mut above = u64::MAX;
         while let Some(address) = address_of(port, self.segment, self.way, steps) {
             let oldest = oldest_in_slice(address);

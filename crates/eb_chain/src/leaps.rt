@@ -1,4 +1,5 @@
-//! Leaps within a slice: its postings stand one place after the other, and rise. The place of the first is computed once.
+//! Leaps within a slice, whose postings follow one another and rise. The place of the first is
+//! computed once.
 ghost use Rattle.std.specs.Prelude.{◌≡◌, ℕ, ◌+◌, ◌-◌, ◌*◌, ◌<◌, ◌≤◌, ◌^◌};
 ghost use Rattle.eb_base.specs.Term.{Term};
 ghost use Rattle.eb_place.specs.declared.moment.Moment.{Moment};
@@ -10,7 +11,7 @@ use crate::chain::posting_from;
 use eb_place::{Places, Port, Posting, Steps, offset_of, pool_of};
 use std::sync::ledger::Ledger;
 
-// A posting, and where in its slice it stands, counted from the slice's first.
+// A posting, and its offset from the slice's first.
 #[derive(Clone, Copy, Debug, PartialEq, Eq)]
 pub(crate) struct Found {
     pub at: u32,
@@ -25,7 +26,7 @@ pub(crate) struct Bounds {
     pub found: Posting,
 }
 
-// What a look into a slice gives: a posting, or the slice's first where all are above.
+// What a look into a slice finds: a posting, or the slice's first where all are above.
 #[derive(Clone, Copy, Debug, PartialEq, Eq)]
 pub(crate) enum Look {
     Within(Found),
@@ -44,8 +45,8 @@ pub(crate) fn oldest_in_slice(address: u32) -> u32
     }
 }
 
-// The newest posting of a slice, from the one at `span` on, that is not above `most`. Loads the slice's
-// first posting, and looks further where that isn't above.
+// The newest posting of a slice, from the one at `span` on, that isn't above `most`. Loads the
+// slice's first posting, and looks further only where that isn't above.
 pub(crate) fn look_back<P: Port, L: Ledger>(
     port: &mut P,
     segment: u32,
@@ -70,8 +71,8 @@ pub(crate) fn look_back<P: Port, L: Ledger>(
     Look::Within(halve(port, place, span, bounds, most, steps))
 }
 
-// Leaps back from the newest posting, each leap twice as long as the one before, to one that is not above
-// `most`; `first` is the slice's first posting, which isn't.
+// Leaps back from the newest posting, each leap twice as long as the one before, to one that isn't
+// above `most`; `first` is the slice's first posting, which isn't.
 fn gallop<P: Port, L: Ledger>(
     port: &mut P,
     place: u64,
@@ -110,7 +111,7 @@ fn gallop<P: Port, L: Ledger>(
     }
 }
 
-// Halves what lies between the bounds until nothing does.
+// Halves the range between the bounds until it is empty.
 fn halve<P: Port, L: Ledger>(
     port: &mut P,
     place: u64,

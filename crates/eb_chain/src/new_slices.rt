@@ -18,9 +18,9 @@ pub struct NewSlices {
     pub pool3: u32,
 }
 
-/// The new slices that so many further postings of a term take, of which this is the tail word: 0, or one
-/// more than the address of its last posting. A document has at most
-/// [`MAX_TOKENS`](eb_base::MAX_TOKENS). Takes no memory.
+/// The new slices that `postings` further postings of a term take. `tail` is the term's tail word:
+/// 0, or one more than the address of its last posting. A document has at most
+/// [`MAX_TOKENS`](eb_base::MAX_TOKENS) postings. Takes no memory.
 pub fn needs(tail: u64, postings: u32) -> NewSlices
     requires tail { (f : ℕ) × IsTailWord f tail }
     requires few { postings ≤ most_tokens }
@@ -36,8 +36,8 @@ pub fn needs(tail: u64, postings: u32) -> NewSlices
     }
 }
 
-/// The new slices that one more posting of a term takes after so many further ones of one document, by the term's tail
-/// word: at most one, which this posting begins. Takes no memory.
+/// The new slices that one more posting of a term takes, after `postings` further ones of one
+/// document, by the term's tail word: at most one, which this posting begins. Takes no memory.
 pub fn needs_next(tail: u64, postings: u32) -> NewSlices
     requires tail { (f : ℕ) × IsTailWord f tail }
     requires few { postings ≤ most_tokens }
@@ -52,15 +52,15 @@ pub fn needs_next(tail: u64, postings: u32) -> NewSlices
     }
 }
 
-// Whether the posting that comes after so many begins a slice of pool 3.
+// Whether the posting that comes after this many begins a slice of pool 3.
 fn begins_last(before: u32) -> bool
     ensures { result ≡ (nat_le 144 before && ((before - 144) % 2047 == 0)) }
 {
     before >= 144 && (before - 144) % 2047 == 0
 }
 
-// The least number of postings of a term that has this tail word. Slices of pool 3 are alike, so a tail
-// there doesn't tell how many came before its slice.
+// The least number of postings of a term that has this tail word. Slices of pool 3 are alike, so a
+// tail there doesn't say how many came before its slice.
 fn least_before(tail: u64) -> u32
     requires { (f : ℕ) × IsTailWord f tail }
     ensures like { (f : ℕ) → IsTailWord f tail → HasLike f result }
@@ -78,7 +78,7 @@ fn least_before(tail: u64) -> u32
     }
 }
 
-// The slices of a pool that a term with so many postings has.
+// The slices of a pool that a term with this many postings has.
 fn slices_in(pool: u32, postings: u32) -> u32
     requires { postings < 2 ^ 16 }
     ensures { result ≡ slices pool postings }

@@ -10,16 +10,16 @@ use eb_place::{Used, address, offset_of, pool_of};
 pub struct NextPlace {
     /// The address of the posting.
     pub address: u32,
-    /// Where it begins a slice that has a link: the address of the term's last posting, which the link
-    /// holds.
+    /// Where it begins a slice that has a link: the address of the term's last posting, which the
+    /// link holds.
     pub link: Option<u32>,
-    /// What is used of the segment with it.
+    /// What is used of the segment, this posting included.
     pub used: Used,
 }
 
-/// The place of the next posting of a term, by the term's tail word: the next of its slice where there is
-/// one; else the first of the next slice of the next pool, or of pool 3 where the term is in pool 3 (the
-/// Earlybird paper of 2012). Takes no memory.
+/// The place of the next posting of a term, by the term's tail word: the next of its slice where
+/// there is one; else the first of the next slice of the next pool, or of pool 3 where the term is
+/// in pool 3 (the Earlybird paper of 2012). Takes no memory.
 pub fn next_place(tail: u64, used: Used) -> NextPlace
     requires { (f : ℕ) × IsTailWord f tail × HasAddress f used }
     ensures { (f : ℕ) → IsTailWord f tail → HasAddress f used → IsNextPlace f tail used result }
@@ -64,7 +64,7 @@ fn pool_after(pool: u32) -> u32
     if pool < 3 { pool + 1 } else { 3 }
 }
 
-// The places of a slice of a pool, that of its link included.
+// The places of a slice of a pool, the one of its link included.
 fn places_in(pool: u32) -> u32
     requires { pool < 4 }
     ensures { result ≡ 2 ^ slice_bits pool }

@@ -1,10 +1,11 @@
 //! Appending a posting.
 //!
-//! That the next store is that of this posting or of its link is said by what is left of the placing: this posting's
-//! stores, those of the later tokens, the id and the count. That there is a free slice follows from the document's
-//! room. `append` loads the tail once; the conversion part may grow at that load, so its clause speaks of the
-//! documents part, and of a moment that isn't before. A tail word doesn't tell how many slices of pool 3 are full, so
-//! the clause of `needs` holds for every number of postings with that tail word.
+//! The condition of `append` says what is left of the placing: this posting's stores, those of the
+//! later tokens, the id and the count. So the next store is that of this posting or of its link,
+//! and the document's room gives a free slice. `append` loads the tail once. The conversion part
+//! may grow at that load, so its clause speaks of the documents part, and of a moment that isn't
+//! before. A tail word doesn't say how many slices of pool 3 are full, so the clause of `needs`
+//! holds for every number of postings with that tail word.
 ghost use Rattle.std.specs.Prelude.{◌≡◌, List, [], ◌∷◌, ◌++◌, ◌+◌, ◌<◌};
 ghost use Rattle.std.specs.Option.{ForSome};
 ghost use Rattle.eb_base.specs.Term.{Term};
@@ -29,10 +30,11 @@ use eb_place::{Pen, Places, Port, Posting, Steps, Used};
 use std::marker::Brand;
 use std::sync::ledger::{Blank, Ledger};
 
-/// Appends a posting of the document that is being placed to the chain of its term, by the term's number
-/// in the segment. The placing has come to the stores of this posting, which are: where it begins a slice
-/// of the pools 1 to 3, the slice's link to the term's last posting; the posting; the term's tail. It does
-/// exactly these, in this order. `used` tells the segment before and afterwards. Takes no memory.
+/// Appends a posting of the document that is being placed to the chain of its term, by the term's
+/// number in the segment. The placing is at the stores of this posting: the slice's link to the
+/// term's last posting, where the posting begins a slice of the pools 1 to 3; the posting; the
+/// term's tail. The call does exactly these, in this order. `used` describes the segment before and
+/// afterwards. Takes no memory.
 pub fn append<P: Pen>(
     pen: &mut P,
     document: &Document,
@@ -55,7 +57,7 @@ pub fn append<P: Pen>(
     *used = next.used;
 }
 
-// The word at a place, with a counter of its own.
+// The word at a place, with a counter of loads of its own.
 fn load_alone<P: Port, L: Ledger>(port: &mut P, place: u64, blank: Blank) -> u64
     requires blank { (blank.name ≡ L.name) × (blank.parts ≡ L.parts) × (0 < blank.parts) }
     requires place { (m : Moment) × P.stands port.old m × (place < words_of m.setting) }
@@ -66,7 +68,8 @@ fn load_alone<P: Port, L: Ledger>(port: &mut P, place: u64, blank: Blank) -> u64
     port.load(place, &mut steps)
 }
 
-// Where the posting at this address begins a slice with a link, stores the link to the last posting.
+// Where the posting at this address begins a slice with a link, stores the link to the last
+// posting.
 fn store_link<P: Pen>(
     pen: &mut P,
     document: &Document,

@@ -25,7 +25,7 @@ use Rattle.eb_block.specs.Blocks.{IsPackable}
 use Rattle.eb_block.proofs.Opening.{block_is}
 use Rattle.eb_block.proofs.Reading.{first_packable, list_more, list_none, falls_back}
 use Rattle.eb_place.proofs.ConverterWords.{closed_room}
-use Rattle.eb_convert.specs.Progress.{IsLeft, IsBlockNext, IsBlockDone, AreBlocksDone}
+use Rattle.eb_convert.specs.Progress.{HasLeft, IsBlockNext, IsBlockDone, AreBlocksDone}
 use Rattle.eb_convert.proofs.Putting.{row-append, left_later}
 
 -- ---- lists
@@ -63,7 +63,7 @@ row_fits m s at (v ∷ []) (more h t) l = let b = h.1 in omega arith
 row_fits m s at (v ∷ w ∷ vs) (more h t) l = omega (arith, row_fits m s (at + 1) (w ∷ vs) t (omega arith))
 
 -- the packed words that are left find room
-pub row_room : (m : Moment) (s at : ℕ) (vs : List ℕ) (others : List Store) → IsMoment m → IsLeft m s (in_row s packed_region at vs ++ others) → 1 ≤ length vs → at + length vs ≤ 34 * m.setting.terms
+pub row_room : (m : Moment) (s at : ℕ) (vs : List ℕ) (others : List Store) → IsMoment m → HasLeft m s (in_row s packed_region at vs ++ others) → 1 ≤ length vs → at + length vs ≤ 34 * m.setting.terms
 row_room m s at vs others is h l =
     let X = segment_stores m.setting (with_current m.documents) s in
     let all : Each (IsWithin m.setting) X = Each-map (λ y q. q.within) (segment_packs m.setting (with_current m.documents) s (closed_room m s is h.closed)) in
@@ -73,7 +73,7 @@ row_room m s at vs others is h l =
 
 -- the first postings were read, and the words grew
 pub next_later : (m n : Moment) (s : ℕ) (t : Term) (c : Chain) (opened at : ℕ) (rest : List ℕ) (others : List Store) → IsNotBefore n m → n.conversions ≡ m.conversions
-    → IsBlockNext m s t c opened at rest others → IsLeft n s (in_row s packed_region at (packed_list rest) ++ others)
+    → IsBlockNext m s t c opened at rest others → HasLeft n s (in_row s packed_region at (packed_list rest) ++ others)
 next_later m n s t c opened at rest others l e h = left_later m n s (in_row s packed_region at (packed_list rest) ++ others) l e h.left
 
 -- nothing was left
@@ -87,7 +87,7 @@ none_done m n s t c d opened at rest others h l e st z =
     record {
       after = record {
         chain = st;
-        left = subst (λ zs. IsLeft n s (in_row s packed_region at (packed_list zs) ++ others)) (sym g) (next_later m n s t c opened at rest others l e h);
+        left = subst (λ zs. HasLeft n s (in_row s packed_region at (packed_list zs) ++ others)) (sym g) (next_later m n s t c opened at rest others l e h);
         others = h.others;
         falls = falls_drop 128 rest h.falls;
         small = below_drop (2 ^ posting_bits) 128 rest h.small;
@@ -97,23 +97,23 @@ none_done m n s t c d opened at rest others h l e st z =
     }
 
 -- the stores of the first block, and the others
-pub block_left : (n : Moment) (s at : ℕ) (rest : List ℕ) (others : List Store) → IsFirstBlock rest → IsLeft n s (in_row s packed_region at (packed_list rest) ++ others)
-    → IsLeft n s (in_row s packed_region at (block (take 128 rest)) ++ (in_row s packed_region (at + length (block (take 128 rest))) (packed_list (drop 128 rest)) ++ others))
+pub block_left : (n : Moment) (s at : ℕ) (rest : List ℕ) (others : List Store) → IsFirstBlock rest → HasLeft n s (in_row s packed_region at (packed_list rest) ++ others)
+    → HasLeft n s (in_row s packed_region at (block (take 128 rest)) ++ (in_row s packed_region (at + length (block (take 128 rest))) (packed_list (drop 128 rest)) ++ others))
 block_left n s at rest others f h =
     let B = block (take 128 rest) in
     let R = packed_list (drop 128 rest) in
-    subst (IsLeft n s) (ap (λ zs. in_row s packed_region at zs ++ others) f.is ∙ ap (λ zs. zs ++ others) (row-append s at B R)
+    subst (HasLeft n s) (ap (λ zs. in_row s packed_region at zs ++ others) f.is ∙ ap (λ zs. zs ++ others) (row-append s at B R)
     ∙ append_assoc (in_row s packed_region at B) (in_row s packed_region (at + length B) R) others) h
 
 -- the block was put
 pub block_done : (m k n : Moment) (s : ℕ) (t : Term) (c d : Chain) (opened at : ℕ) (rest : List ℕ) (others : List Store) (count words : ℕ) → IsBlockNext m s t c opened at rest others
     → IsFirstBlock rest → IsMoment k → IsNotBefore n k → Stands k s t d opened (drop 128 rest) → count ≡ length (take 128 rest)
-    → words ≡ length (block (take 128 rest)) → IsLeft n s (in_row s packed_region (at + length (block (take 128 rest))) (packed_list (drop 128 rest)) ++ others) → IsBlockDone n s t d opened at rest
+    → words ≡ length (block (take 128 rest)) → HasLeft n s (in_row s packed_region (at + length (block (take 128 rest))) (packed_list (drop 128 rest)) ++ others) → IsBlockDone n s t d opened at rest
     others count (at + words)
 block_done m k n s t c d opened at rest others count words h f ks l st many w left = record {
   after = record {
     chain = stands_later k n s t d opened (drop 128 rest) ks l st;
-    left = subst (λ j. IsLeft n s (in_row s packed_region (at + j) (packed_list (drop 128 rest)) ++ others)) (sym w) left;
+    left = subst (λ j. HasLeft n s (in_row s packed_region (at + j) (packed_list (drop 128 rest)) ++ others)) (sym w) left;
     others = h.others;
     falls = falls_drop 128 rest h.falls;
     small = below_drop (2 ^ posting_bits) 128 rest h.small;
@@ -159,7 +159,7 @@ all_done m n s t c d opened at i rest others total next after h b =
     let place = h.place in
     let many = h.many in
     record {
-      left = subst (λ zs. IsLeft n s (in_row s packed_region after zs ++ others)) z b.after.left;
+      left = subst (λ zs. HasLeft n s (in_row s packed_region after zs ++ others)) z b.after.left;
       many = omega (arith, ap length none);
       place = omega arith;
     }
@@ -173,7 +173,7 @@ all_passed m s t c opened at i rest others total next h l =
     let place = h.place in
     let many = h.many in
     record {
-      left = subst (λ zs. IsLeft m s (in_row s packed_region next zs ++ others)) z h.ahead.left;
+      left = subst (λ zs. HasLeft m s (in_row s packed_region next zs ++ others)) z h.ahead.left;
       many = omega (arith, ap length none);
       place = omega arith;
     }

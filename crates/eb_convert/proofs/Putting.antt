@@ -19,7 +19,7 @@ use Rattle.eb_place.proofs.PackedStores.{segment_packs}
 use Rattle.eb_place.proofs.NextPackedStore.{later_packed, moment_packed}
 use Rattle.eb_place.proofs.ConverterWords.{closed_room, closed_later}
 use Rattle.eb_place.proofs.NextPuts.{next_pair, left_after, segment_stores_later}
-use Rattle.eb_convert.specs.Progress.{IsLeft}
+use Rattle.eb_convert.specs.Progress.{HasLeft}
 
 -- the next put, and what is left after it
 pub record OnePut (m : Moment) (s : ℕ) (x : Store) (rest : List Store) : Type 0 where
@@ -27,10 +27,10 @@ pub record OnePut (m : Moment) (s : ℕ) (x : Store) (rest : List Store) : Type 
   pub next : IsNextPut m (place m.setting x.0) x.1
   pub later : IsNotBefore (after_put m) m
   pub moment : IsMoment (after_put m)
-  pub left : 1 ≤ length rest → IsLeft (after_put m) s rest
+  pub left : 1 ≤ length rest → HasLeft (after_put m) s rest
   pub last : rest ≡ [] → (after_put m).conversions ≡ record { converted = suc s; packed = 0 }
 
-pub one_put : (m : Moment) (s : ℕ) (x : Store) (rest : List Store) → IsMoment m → IsLeft m s (x ∷ rest) → OnePut m s x rest
+pub one_put : (m : Moment) (s : ℕ) (x : Store) (rest : List Store) → IsMoment m → HasLeft m s (x ∷ rest) → OnePut m s x rest
 unfolding after_put
 one_put m s x rest is h =
     let σ = m.setting in
@@ -63,7 +63,7 @@ one_put m s x rest is h =
     }
 
 -- what is left stays where the conversions do
-pub left_later : (m n : Moment) (s : ℕ) (left : List Store) → IsNotBefore n m → n.conversions ≡ m.conversions → IsLeft m s left → IsLeft n s left
+pub left_later : (m n : Moment) (s : ℕ) (left : List Store) → IsNotBefore n m → n.conversions ≡ m.conversions → HasLeft m s left → HasLeft n s left
 left_later m n s left l e h = record {
   converted = ap (λ (z : Conversions). z.converted) e ∙ h.converted;
   closed = closed_later m n s l h.closed;
@@ -72,7 +72,7 @@ left_later m n s left l e h = record {
 }
 
 -- at the beginning all stores are left
-pub left_begin : (m : Moment) (s : ℕ) → m.conversions.converted ≡ s → m.conversions.packed ≡ 0 → IsClosed m s → IsLeft m s (segment_stores m.setting (with_current m.documents) s)
+pub left_begin : (m : Moment) (s : ℕ) → m.conversions.converted ≡ s → m.conversions.packed ≡ 0 → IsClosed m s → HasLeft m s (segment_stores m.setting (with_current m.documents) s)
 left_begin m s c z h = record { converted = c; closed = h; are = ap (λ k. drop k (segment_stores m.setting (with_current m.documents) s)) z }
 
 -- places

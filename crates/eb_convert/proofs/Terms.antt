@@ -25,14 +25,14 @@ use Rattle.eb_chain.specs.declared.chain.Chain.{Chain}
 use Rattle.eb_place.proofs.ConverterWords.{closed_room, closed_segment}
 use Rattle.eb_place.proofs.PostingsFall.{newest_falls, newest_small}
 use Rattle.eb_place.proofs.TermNumbers.{count_at_most, number_of_term}
-use Rattle.eb_convert.specs.Progress.{IsBegunAt, IsLeft, IsBlockNext, term_stores, terms_left, HasTerm, HasNoTerm}
+use Rattle.eb_convert.specs.Progress.{IsBegunAt, HasLeft, IsBlockNext, term_stores, terms_left, HasTerm, HasNoTerm}
 use Rattle.eb_place.proofs.ConverterWords.{closed_later}
 use Rattle.eb_convert.proofs.Putting.{left_later, left_begin}
 use Rattle.eb_place.proofs.ClosedSegments.{closed_seen, tail_none, tail_some}
 
 -- the chain of a term of a closed segment, opened: its blocks come next, then its directory word
 pub term_next : (m n : Moment) (s : ℕ) (t : Term) (k at : ℕ) (others : List Store) (c : Chain) → IsMoment m → IsMoment n → IsNotBefore n m → n.conversions ≡ m.conversions
-    → IsLeft m s (term_stores m s t k at ++ others) → Stands n s t c (seen_count n s t) (reverse (seen n s t))
+    → HasLeft m s (term_stores m s t k at ++ others) → Stands n s t c (seen_count n s t) (reverse (seen n s t))
     → IsBlockNext n s t c (seen_count n s t) at (reverse (postings t (segment m s))) ((slot s directory_region k, at * 2 ^ 32 + frequency t (segment m s)) ∷ others)
 term_next m n s t k at others c is js l e left st =
     let d : Store = (slot s directory_region k, at * 2 ^ 32 + frequency t (segment m s)) in
@@ -41,7 +41,7 @@ term_next m n s t k at others c is js l e left st =
     let sn : seen n s t ≡ postings t (segment m s) = closed_seen n s t js left'.closed ∙ ap (postings t) g in
     record {
       chain = subst (λ zs. Stands n s t c (seen_count n s t) (reverse zs)) sn st;
-      left = subst (IsLeft n s) (append_assoc (in_row s packed_region at (packed t (segment m s))) (d ∷ []) others) left';
+      left = subst (HasLeft n s) (append_assoc (in_row s packed_region at (packed t (segment m s))) (d ∷ []) others) left';
       others = omega arith;
       falls = newest_falls m s t is;
       small = newest_small m s t is;
@@ -72,7 +72,7 @@ has_term_at m n s k v is js l c b e h = elim (cases_lt k (length (distinct (term
       absurd (omega arith)
 ]
 
--- and one that is 0 of none
+-- and one that is 0 of no term
 pub has_no_term_at : (m n : Moment) (s k v : ℕ) → IsMoment m → IsMoment n → IsNotBefore n m → IsClosed m s → v ≡ word n (place n.setting (slot s tail_region k)) → v ≤ 0 → HasNoTerm m s k
 unfolding HasNoTerm HasTerm
 has_no_term_at m n s k v is js l c e h = elim (cases_lt k (length (distinct (terms_of (segment m s))))) [
@@ -132,10 +132,10 @@ terms_few m s is c = let room = closed_room m s is c in room.fits.few
 pub record IsTermAhead (n : Moment) (s at k : ℕ) (m : Moment) : Type 0 where
   pub term : Term
   pub is_term : IsTerm n s term k
-  pub left : IsLeft n s (term_stores n s term k at ++ terms_left m s (at + length (packed term (segment n s))) (k + 1))
+  pub left : HasLeft n s (term_stores n s term k at ++ terms_left m s (at + length (packed term (segment n s))) (k + 1))
 
 pub term_ahead : (m k0 n : Moment) (s at k : ℕ) → IsMoment m → IsMoment k0 → IsClosed m s → IsNotBefore k0 m → IsNotBefore n k0 → n.conversions ≡ k0.conversions → HasTerm k0 s k
-    → IsLeft k0 s (terms_left m s at k) → IsTermAhead n s at k m
+    → HasLeft k0 s (terms_left m s at k) → IsTermAhead n s at k m
 unfolding HasTerm
 term_ahead m k0 n s at k is ks c l ln e h left =
     let c0 = closed_later m k0 s l c in
@@ -144,25 +144,25 @@ term_ahead m k0 n s at k is ks c l ln e h left =
     let g = closed_segment k0 n s ln c0 in
     let q = number_of_term k0 s k ins h in
     let same = terms_later m k0 s at k l c in
-    let left' = left_later k0 n s (terms_left k0 s at k) ln e (subst (IsLeft k0 s) (sym same) left) in
-    let more = subst (IsLeft n s) (terms_more k0 s at k h) left' in
+    let left' = left_later k0 n s (terms_left k0 s at k) ln e (subst (HasLeft k0 s) (sym same) left) in
+    let more = subst (HasLeft n s) (terms_more k0 s at k h) left' in
     let later = terms_later m k0 s (at + length (packed t (segment k0 s))) (k + 1) l c in
     record {
       term = t;
       is_term = later_term k0 n s t k ln q;
-      left = subst (λ (seg : List Doc). IsLeft n s ((in_row s packed_region at (packed t seg) ++ (
+      left = subst (λ (seg : List Doc). HasLeft n s ((in_row s packed_region at (packed t seg) ++ (
         slot s directory_region k,
         at * 2 ^ 32 + frequency t seg,
-      ) ∷ []) ++ terms_left m s (at + length (packed t seg)) (k + 1))) (sym g) (subst (λ (zs : List Store). IsLeft n s (term_stores k0 s t k at ++ zs)) later more);
+      ) ∷ []) ++ terms_left m s (at + length (packed t seg)) (k + 1))) (sym g) (subst (λ (zs : List Store). HasLeft n s (term_stores k0 s t k at ++ zs)) later more);
     }
 
-pub terms_end : (m k0 n : Moment) (s at k : ℕ) → IsClosed m s → IsNotBefore k0 m → IsNotBefore n k0 → n.conversions ≡ k0.conversions → HasNoTerm k0 s k → IsLeft k0 s (terms_left m s at k)
-    → IsLeft n s ((slot s converted_region 0, 1) ∷ [])
+pub terms_end : (m k0 n : Moment) (s at k : ℕ) → IsClosed m s → IsNotBefore k0 m → IsNotBefore n k0 → n.conversions ≡ k0.conversions → HasNoTerm k0 s k → HasLeft k0 s (terms_left m s at k)
+    → HasLeft n s ((slot s converted_region 0, 1) ∷ [])
 terms_end m k0 n s at k c l ln e h left =
     let same = terms_later m k0 s at k l c in
-    left_later k0 n s ((slot s converted_region 0, 1) ∷ []) ln e (subst (IsLeft k0 s) (sym same ∙ terms_none k0 s at k h) left)
+    left_later k0 n s ((slot s converted_region 0, 1) ∷ []) ln e (subst (HasLeft k0 s) (sym same ∙ terms_none k0 s at k h) left)
 
 -- the segment before one that is begun is closed, and all stores of its conversion are left
-pub begins_left : (m : Moment) (s : ℕ) → m.conversions ≡ record { converted = s; packed = 0 } → IsBegunAt m (s + 1) → IsLeft m s (terms_left m s 0 0)
+pub begins_left : (m : Moment) (s : ℕ) → m.conversions ≡ record { converted = s; packed = 0 } → IsBegunAt m (s + 1) → HasLeft m s (terms_left m s 0 0)
 unfolding IsBegunAt
-begins_left m s e h = subst (IsLeft m s) (terms_all m s) (left_begin m s (ap (λ (c : Conversions). c.converted) e) (ap (λ (c : Conversions). c.packed) e) h)
+begins_left m s e h = subst (HasLeft m s) (terms_all m s) (left_begin m s (ap (λ (c : Conversions). c.converted) e) (ap (λ (c : Conversions). c.packed) e) h)

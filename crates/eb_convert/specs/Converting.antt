@@ -12,8 +12,8 @@ use Rattle.eb_convert.specs.declared.conversion.Converted.TheVariants.{One, Noth
 abbrev pub first_word : Moment → ℕ → ℕ
 first_word m s = word m (place m.setting (slot s first_region 0))
 
--- what a call did: the conversion of the segment, from its first store to its last; or nothing, where it is
--- the last segment, or the next one isn't begun at the second moment
+-- what a call did: the conversion of the segment, from its first store to its last; or nothing,
+-- where it is the last segment, or the next one isn't begun at the second moment
 abbrev pub IsConversion : Moment → Moment → ℕ → Converted → Type 0
 IsConversion m n s (One k) = (k ≡ s) × (n.conversions ≡ record { converted = s + 1; packed = 0 })
 IsConversion m n s Nothing = (n.conversions ≡ m.conversions) × ((s + 1 ≡ m.setting.segments) ⊎ (first_word n (s + 1) ≡ 0))

@@ -1,4 +1,4 @@
--- How far the conversion of a segment has come.
+-- How far the conversion of a segment is.
 use Rattle.std.specs.Prelude.{◌≡◌, ℕ, ◌+◌, ◌*◌, ◌^◌, ◌<◌, ◌≤◌, List, [], ◌∷◌, ◌++◌, length, take, drop}
 use Rattle.eb_base.specs.Term.{Term}
 use Rattle.eb_place.specs.declared.moment.Moment.{Moment}
@@ -15,8 +15,9 @@ use Rattle.eb_chain.specs.Chains.{Stands}
 use Rattle.eb_chain.specs.declared.chain.Chain.{Chain}
 use Rattle.eb_place.specs.Falling.{IsFalling, AllBelow}
 
--- segment s is closed and the next to be converted, and of the stores of its conversion these are left
-pub record IsLeft (m : Moment) (s : ℕ) (left : List Store) : Type 0 where
+-- segment s is closed and the next to be converted, and of the stores of its conversion these are
+-- left
+pub record HasLeft (m : Moment) (s : ℕ) (left : List Store) : Type 0 where
   pub converted : m.conversions.converted ≡ s
   pub closed : IsClosed m s
   pub are : drop m.conversions.packed (segment_stores m.setting (with_current m.documents) s) ≡ left
@@ -29,11 +30,11 @@ term_stores m s t k at = in_row s packed_region at (packed t (segment m s)) ++ (
 unfoldable pub IsBegunAt : Moment → ℕ → Type 0
 IsBegunAt m s = s < length (cut m.setting (with_current m.documents))
 
--- the chain has these postings still to give, and their blocks come next, from packed word `at` on; other
--- stores come after them
+-- the chain still has these postings to give, and their blocks come next, from packed word `at` on;
+-- other stores come after them
 pub record IsBlockNext (m : Moment) (s : ℕ) (t : Term) (c : Chain) (opened at : ℕ) (rest : List ℕ) (more : List Store) : Type 0 where
   pub chain : Stands m s t c opened rest
-  pub left : IsLeft m s (in_row s packed_region at (packed_list rest) ++ more)
+  pub left : HasLeft m s (in_row s packed_region at (packed_list rest) ++ more)
   pub others : 1 ≤ length more
   pub falls : IsFalling rest
   pub small : AllBelow (2 ^ posting_bits) rest
@@ -46,7 +47,7 @@ pub record IsBlockDone (n : Moment) (s : ℕ) (t : Term) (c : Chain) (opened at 
 
 -- all blocks are put
 pub record AreBlocksDone (n : Moment) (s : ℕ) (at : ℕ) (rest : List ℕ) (more : List Store) (total next : ℕ) : Type 0 where
-  pub left : IsLeft n s more
+  pub left : HasLeft n s more
   pub many : total ≡ length rest
   pub place : next ≡ at + length (packed_list rest)
 
@@ -54,7 +55,8 @@ pub record AreBlocksDone (n : Moment) (s : ℕ) (at : ℕ) (rest : List ℕ) (mo
 abbrev pub packed_of : Moment → ℕ → Term → ℕ
 packed_of m s t = length (packed t (segment m s))
 
--- the stores of the terms from number k on, whose packed words begin at `at`, and the converted word
+-- the stores of the terms from number k on, whose packed words begin at `at`, and the converted
+-- word
 unfoldable pub terms_left : Moment → ℕ → ℕ → ℕ → List Store
 terms_left m s at k = pack_stores s (segment m s) at k (drop k (distinct (terms_of (segment m s)))) ++ (slot s converted_region 0, 1) ∷ []
 

@@ -1,8 +1,9 @@
 //! The conversion of a closed segment.
 //!
-//! A put needs what is left of the conversion's stores, not how many were done; loads leave that, since closed
-//! segments don't change. What the converter of an index converts is closed by a document of the history or by the
-//! one that is being placed: its own load may show the first-document word of a segment whose first document isn't
+//! A put needs to know what is left of the conversion's stores, and not how many were done. Loads
+//! leave that, since closed segments don't change. The segment that the converter of an index
+//! converts is closed by a document of the history, or by the one that is being placed: the
+//! converter's own load may show the first-document word of a segment whose first document isn't
 //! accepted yet.
 ghost use Rattle.std.specs.Prelude.{◌≡◌, ℕ, List, [], ◌∷◌, ◌++◌, ◌+◌, ◌*◌, ◌≤◌, ◌<◌, length, take, drop};
 ghost use Rattle.eb_base.specs.Term.{Term};
@@ -16,7 +17,8 @@ ghost use Rattle.eb_place.specs.Later.{IsNotBefore};
 ghost use Rattle.eb_chain.specs.Chains.{Stands};
 ghost use Rattle.eb_place.specs.Walk.{IsTerm};
 ghost use Rattle.eb_place.specs.Told.{Told, Written};
-ghost use Rattle.eb_convert.specs.Progress.{IsLeft, IsBlockNext, IsBlockDone, AreBlocksDone, term_stores, packed_of, terms_left, HasTerm, HasNoTerm, IsBegunAt};
+ghost use Rattle.eb_convert.specs.Progress.{HasLeft, IsBlockNext, IsBlockDone, AreBlocksDone, term_stores, packed_of, terms_left};
+ghost use Rattle.eb_convert.specs.Progress.{HasTerm, HasNoTerm, IsBegunAt};
 ghost use Rattle.eb_convert.specs.Converting.{first_word, IsConversion};
 
 use eb_block::{BLOCK_POSTINGS, BLOCK_WORDS, pack_block};
@@ -34,13 +36,13 @@ pub enum Converted {
     Nothing,
 }
 
-// Puts words at this packed word and after it. They are the next stores of the conversion, and others come
-// after them.
+// Puts words at this packed word and after it. They are the next stores of the conversion, and
+// others come after them.
 fn put_words<P: PackPen>(pen: &mut P, segment: u32, at: u32, words: &[u64])
     requires { (m : Moment) × (rest : List Store) × P.stands pen.old m
-        × IsLeft m segment (in_row segment packed_region at words.now ++ rest) × (1 ≤ length rest) }
+        × HasLeft m segment (in_row segment packed_region at words.now ++ rest) × (1 ≤ length rest) }
     ensures { (rest : List Store) → Written P.stands P.same pen.old pen.new
-        (λ m. IsLeft m segment (in_row segment packed_region at words.now ++ rest) × (1 ≤ length rest)) (λ m n. IsNotBefore n m × IsLeft n segment rest) }
+        (λ m. HasLeft m segment (in_row segment packed_region at words.now ++ rest) × (1 ≤ length rest)) (λ m n. IsNotBefore n m × HasLeft n segment rest) }
 {
     let places = Places::new(pen.config());
     for i in 0..words.len() {
@@ -52,9 +54,9 @@ fn put_words<P: PackPen>(pen: &mut P, segment: u32, at: u32, words: &[u64])
 // Puts the directory word of a term, which is the next store.
 fn put_directory<P: PackPen>(pen: &mut P, segment: u32, term: u32, value: u64)
     requires { (m : Moment) × (rest : List Store) × P.stands pen.old m
-        × IsLeft m segment ((slot segment directory_region term, value) ∷ rest) × (1 ≤ length rest) }
+        × HasLeft m segment ((slot segment directory_region term, value) ∷ rest) × (1 ≤ length rest) }
     ensures { (rest : List Store) → Written P.stands P.same pen.old pen.new
-        (λ m. IsLeft m segment ((slot segment directory_region term, value) ∷ rest) × (1 ≤ length rest)) (λ m n. IsNotBefore n m × IsLeft n segment rest) }
+        (λ m. HasLeft m segment ((slot segment directory_region term, value) ∷ rest) × (1 ≤ length rest)) (λ m n. IsNotBefore n m × HasLeft n segment rest) }
 {
     let place = Places::new(pen.config()).directory(segment, term);
     pen.put(place, value);
@@ -62,15 +64,15 @@ fn put_directory<P: PackPen>(pen: &mut P, segment: u32, term: u32, value: u64)
 
 // Puts the converted word, which is the last store.
 fn put_converted<P: PackPen>(pen: &mut P, segment: u32)
-    requires { (m : Moment) × P.stands pen.old m × IsLeft m segment ((slot segment converted_region 0, 1) ∷ []) }
-    ensures { Written P.stands P.same pen.old pen.new (λ m. IsLeft m segment ((slot segment converted_region 0, 1) ∷ []))
+    requires { (m : Moment) × P.stands pen.old m × HasLeft m segment ((slot segment converted_region 0, 1) ∷ []) }
+    ensures { Written P.stands P.same pen.old pen.new (λ m. HasLeft m segment ((slot segment converted_region 0, 1) ∷ []))
         (λ m n. IsNotBefore n m × (n.conversions ≡ record { converted = segment + 1; packed = 0 })) }
 {
     let place = Places::new(pen.config()).converted(segment);
     pen.put(place, 1);
 }
 
-// The next postings of a chain, at most 128, in the front of `into`.
+// The next postings of a chain, at most 128, at the start of `into`.
 fn fill<P: Port, L: Ledger>(
     port: &mut P,
     chain: &mut Chain,
@@ -91,8 +93,8 @@ fn fill<P: Port, L: Ledger>(
     BLOCK_POSTINGS
 }
 
-// Puts the block of the next postings of a chain, at most 128. Answers how many they are, and the packed word
-// after the block.
+// Puts the block of the next postings of a chain, at most 128. Returns how many they are, and the
+// packed word after the block.
 fn convert_block<P: PackPen, L: Ledger>(
     pen: &mut P,
     chain: &mut Chain,
@@ -117,7 +119,7 @@ fn convert_block<P: PackPen, L: Ledger>(
     (count, at + block as u32)
 }
 
-// Puts all blocks of a chain. Answers how many postings they are, and the packed word after them.
+// Puts all blocks of a chain. Returns how many postings they are, and the packed word after them.
 fn convert_blocks<P: PackPen, L: Ledger>(
     pen: &mut P,
     chain: &mut Chain,
@@ -144,7 +146,7 @@ fn convert_blocks<P: PackPen, L: Ledger>(
     (total, next)
 }
 
-// Converts one term: its blocks, and its directory word. Answers the packed word after the blocks.
+// Converts one term: its blocks, and its directory word. Returns the packed word after the blocks.
 fn convert_term<P: PackPen, L: Ledger>(
     pen: &mut P,
     segment: u32,
@@ -153,10 +155,10 @@ fn convert_term<P: PackPen, L: Ledger>(
     steps: &mut Steps<L>,
 ) -> u32
     requires { (m : Moment) × (t : Term) × (more : List Store) × P.stands pen.old m × IsTerm m segment t term
-        × IsLeft m segment (term_stores m segment t term at ++ more) × (1 ≤ length more) }
+        × HasLeft m segment (term_stores m segment t term at ++ more) × (1 ≤ length more) }
     ensures { (t : Term) (more : List Store) → Written P.stands P.same pen.old pen.new
-        (λ m. IsTerm m segment t term × IsLeft m segment (term_stores m segment t term at ++ more) × (1 ≤ length more))
-        (λ m n. IsNotBefore n m × IsLeft n segment more × (result ≡ at + packed_of m segment t)) }
+        (λ m. IsTerm m segment t term × HasLeft m segment (term_stores m segment t term at ++ more) × (1 ≤ length more))
+        (λ m n. IsNotBefore n m × HasLeft n segment more × (result ≡ at + packed_of m segment t)) }
 {
     let mut chain = Chain::open(pen, segment, term, steps);
     let (total, next) = convert_blocks(pen, &mut chain, segment, at, steps);
@@ -177,9 +179,9 @@ fn has_term<P: Port, L: Ledger>(port: &mut P, segment: u32, term: u32, steps: &m
 
 // Converts all terms of a closed segment; the converted word comes next.
 fn convert_terms<P: PackPen, L: Ledger>(pen: &mut P, segment: u32, steps: &mut Steps<L>)
-    requires { (m : Moment) × P.stands pen.old m × IsLeft m segment (terms_left m segment 0 0) }
-    ensures { Written P.stands P.same pen.old pen.new (λ m. IsLeft m segment (terms_left m segment 0 0))
-        (λ m n. IsNotBefore n m × IsLeft n segment ((slot segment converted_region 0, 1) ∷ [])) }
+    requires { (m : Moment) × P.stands pen.old m × HasLeft m segment (terms_left m segment 0 0) }
+    ensures { Written P.stands P.same pen.old pen.new (λ m. HasLeft m segment (terms_left m segment 0 0))
+        (λ m n. IsNotBefore n m × HasLeft n segment ((slot segment converted_region 0, 1) ∷ [])) }
 {
     let mut at = 0;
     for term in 0..pen.config().terms() {
@@ -200,7 +202,7 @@ fn is_begun<P: Port, L: Ledger>(port: &mut P, segment: u32, steps: &mut Steps<L>
     port.load(place, steps) > 0
 }
 
-// The conversion, with a counter of its own.
+// The conversion, with a counter of loads of its own.
 fn convert_alone<P: PackPen, L: Ledger>(pen: &mut P, segment: u32, blank: Blank) -> Converted
     requires blank { (blank.name ≡ L.name) × (blank.parts ≡ L.parts) × (0 < blank.parts) }
     requires pen { (m : Moment) × P.stands pen.old m × (segment < m.setting.segments) × (m.conversions ≡ record { converted = segment; packed = 0 }) }
@@ -219,8 +221,9 @@ fn convert_alone<P: PackPen, L: Ledger>(pen: &mut P, segment: u32, blank: Blank)
     Converted::One(segment)
 }
 
-/// Converts a segment, the next one: exactly the stores of its conversion, in order, or none where it is the
-/// last segment of the index or the following segment isn't begun. Takes no memory.
+/// Converts the next segment: does exactly the stores of its conversion, in order. Does none where
+/// it is the last segment of the index, or where the following segment isn't begun. Takes no
+/// memory.
 pub fn convert_next<P: PackPen>(pen: &mut P, segment: u32) -> Converted
     requires { (m : Moment) × P.stands pen.old m × (segment < m.setting.segments) × (m.conversions ≡ record { converted = segment; packed = 0 }) }
     ensures { (m : Moment) → P.stands pen.old m → segment < m.setting.segments → m.conversions ≡ record { converted = segment; packed = 0 }

@@ -1,6 +1,6 @@
 -- Counts of documents one by one and list by list, and the tallies that hold them.
-use Rattle.std.proofs.Common.{◌≡◌, ℕ, zero, suc, ◌+◌, ◌-◌, ◌<◌, ◌≤◌, ◌*◌, ◌/◌, ◌%◌, ◌^◌, ◌≢◌, leb, nat_lt, set, inl, inr, Bool, true, false, cond, ◌&&◌, min, max, List, [], ◌∷◌, ◌++◌}
-use Rattle.std.proofs.Common.{length, get_or, replicate, refl, ap, sym, ◌∙◌, subst, arith}
+use Rattle.std.proofs.Common.{◌≡◌, ℕ, zero, suc, ◌+◌, ◌-◌, ◌<◌, ◌≤◌, ◌*◌, ◌/◌, ◌%◌, ◌^◌, ◌≢◌, leb, nat_lt, set, inl, inr, Bool, true, false, cond, ◌&&◌, List, [], ◌∷◌, ◌++◌}
+use Rattle.std.proofs.Common.{length, get_or, replicate, refl, ap, sym, ◌∙◌, arith}
 use Rattle.std.proofs.lemmas.Bool.{cases_Bool, cases_lt, cases_eq, and_left, and_right, le-leb, lt-leb, lt-ltb, le-ltb}
 use Rattle.std.proofs.Math.Nat.{div-add-mod, mul-le-mul_left, mul-suc}
 use Rattle.std.proofs.lemmas.List.{length-set, get_or-set_same, get_or-set_other, length-replicate, get_or-replicate}
@@ -31,7 +31,7 @@ count_cons p d ds = sum_by-cons {X = Doc} (λ x. cond (p x) 1 0) d ds
 pub count_append : (p : Doc → Bool) (xs ys : List Doc) → count_by p (xs ++ ys) ≡ count_by p xs + count_by p ys
 count_append p xs ys = sum_by-append {X = Doc} (λ x. cond (p x) 1 0) xs ys
 
--- the further documents are those in front
+-- the further documents are those before
 pub raise_on : (p : Doc → Bool) (older newer : List Doc) (a b c : ℕ) → b ≡ raised a (count_by p newer) → c ≡ raised b (count_by p older) → c ≡ raised a (count_by p (older ++ newer))
 raise_on p older newer a b c e f =
     f ∙ ap (λ z. raised z (count_by p older)) e ∙ raised_on a (count_by p newer) (count_by p older) ∙ ap (raised a) (sym (count_append p older newer))
@@ -65,7 +65,7 @@ bucket_le q x w i docs = and_le (is_match q) (λ d. is_in_bucket x w i d.id) doc
 
 -- ---- buckets
 
--- inside a list it's no matter what stands behind it
+-- inside a list it doesn't matter what comes after it
 pub inside_same : (xs : List ℕ) (i a b : ℕ) → i < length xs → get_or xs i a ≡ get_or xs i b
 inside_same [] i a b h = absurd (omega (arith, h))
 inside_same (x ∷ xs) zero a b h = refl

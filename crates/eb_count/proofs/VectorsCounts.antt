@@ -2,7 +2,7 @@
 use Rattle.std.proofs.Common.{◌≡◌, List, [], ◌∷◌, refl}
 use Rattle.eb_base.specs.Document.{Doc}
 use Rattle.eb_base.specs.Term.{Term}
-use Rattle.eb_base.specs.Query.{Tree, word, negation, conjunction, since, no_trees, trees}
+use Rattle.eb_base.specs.Query.{word, negation, conjunction, since, no_trees, trees}
 use Rattle.eb_count.specs.Counts.{match_count, bucket_count}
 
 abbrev pub error : Term

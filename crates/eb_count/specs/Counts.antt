@@ -9,7 +9,8 @@ use Rattle.eb_base.specs.Match.{is_match}
 abbrev pub match_count : Tree → List Doc → ℕ
 match_count q docs = count_by (is_match q) docs
 
--- whether the id lies in the bucket i of those of width w from x on: from x + w * i to below x + w * i + w
+-- whether the id lies in the bucket i of those of width w from x on: from x + w * i to below x + w
+-- * i + w
 abbrev pub is_in_bucket : ℕ → ℕ → ℕ → ℕ → Bool
 is_in_bucket x w i id = leb (x + w * i) id && nat_lt id (x + w * i + w)
 

@@ -1,5 +1,5 @@
-//! Counting: how many documents match a query, and how many of them have an id in each bucket of a histogram.
-//! `specs/Counts.antt` has the definitions.
+//! Counting: how many documents match a query, and how many of them have an id in each bucket of a
+//! histogram. `specs/Counts.antt` has the definitions.
 #![tactic(auto)]
 
 mod tally;

@@ -5,9 +5,10 @@ use eb_base::NoMemory;
 use std::alloc::Global;
 use std::marker::Model;
 
-/// The matches that a search counted: all of them, and those whose ids lie in each of its buckets. The buckets are of one
-/// width and stand one after the other from a start on: an id lies in bucket i where it is at least the start and i
-/// widths, and less than one width more. So where ids are times, the buckets are a histogram over time.
+/// The matches that a search counted: all of them, and those whose ids lie in each of its buckets.
+/// The buckets are of one width and follow one another from a start on: an id lies in bucket i
+/// where it is at least the start and i widths, and less than one width more. So where ids are
+/// times, the buckets are a histogram over time.
 #[derive(Debug, Drop)]
 pub struct Tally {
     start: u64,
@@ -40,7 +41,8 @@ impl Tally {
         }
     }
 
-    /// A tally with `number` buckets, each of `width` ids, from the id `start` on. Takes all memory that it needs.
+    /// A tally with `number` buckets, each of `width` ids, from the id `start` on. Takes all memory
+    /// that it needs.
     pub fn with_buckets(
         alloc: Global,
         start: u64,
@@ -74,7 +76,8 @@ impl Tally {
         !self.buckets.is_empty()
     }
 
-    /// Counts one more match, whose document has this id. Numbers stay at 2^64 - 1. Takes no memory.
+    /// Counts one more match, whose document has this id. Numbers stay at 2^64 - 1. Takes no
+    /// memory.
     pub fn add(&mut self, id: u64)
         ensures { HasAdded id self.old self.new }
     {

@@ -30,7 +30,8 @@ one_told m n t likely k b l long away h s off there = elim (ℕ_discrete s k) [
   | no o ↦ h s (sym (get_or-set_other likely k s b true o) ∙ off) there
 ]
 
--- each of the first k segments is one of the index, and where the list says true, the term's home cell is filled there
+-- each of the first k segments is one of the index, and where the list says true, the term's home
+-- cell is filled there
 abbrev pub AreTold : Moment → Term → ℕ → List Bool → Type 0
 AreTold m t k likely = (s : ℕ) → s < k → (s < m.setting.segments) × (get_or likely s true ≡ true → is_home_filled m s t ≡ true)
 

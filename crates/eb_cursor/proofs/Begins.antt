@@ -52,7 +52,7 @@ past_docs (d ∷ ds) (suc n) h = past_docs ds n (omega arith)
 none_in : (t : List ℕ) (k : ℕ) → is_term t (slice_get [] k) ≡ false
 none_in t k = refl
 
--- a list without a posting is that of a term that stands nowhere
+-- a list without a posting is that of a term that occurs nowhere
 pub leaf_absent : (g : Gives) (docs : List Doc) (t : List ℕ) (c : Cursor) → c.current ≡ None → IsLeaf g (is_posting docs t) c (places * length docs) → (x : ℕ) → is_posting docs t x ≡ false
 leaf_absent g docs t c e leaf x = elim (cases_lt x (places * length docs)) [
   | inl h ↦ below_none (is_posting docs t) (places * length docs) x (sym (leaf_none g (is_posting docs t) c (places * length docs) e leaf)) h
@@ -82,7 +82,7 @@ leaves_step m n docs ts t us c cs may e w leaf more = record {
   none = λ h. subst (HasAbsent docs) (sym e) (inr (more.none h));
 }
 
--- nothing stands from a place on where a term stands nowhere
+-- nothing occurs from a place on where a term occurs nowhere
 absent_run : (docs : List Doc) (ts : List (List ℕ)) → HasAbsent docs ts → (x : ℕ) → is_run_from docs ts x ≡ false
 absent_run docs [] h x = absurd h
 absent_run docs (t ∷ ts) h x = elim h [
@@ -275,7 +275,7 @@ behind_from g docs (t ∷ ts) [] low end h r = r
 behind_from g docs (t ∷ ts) (c ∷ cs) low end h r =
     (leaf_lower g (is_posting docs t) c (number_before (first_below docs ts low)) end (omega (arith, first_low docs ts low)) r.0, behind_from g docs ts cs low end h r.1)
 
--- where a term stands nowhere no window ends
+-- where a term occurs nowhere no window ends
 absent_first : (docs : List Doc) (ts : List (List ℕ)) → HasAbsent docs ts → (end : ℕ) → first_below docs ts end ≡ 0
 absent_first docs [] h end = absurd h
 absent_first docs (t ∷ ts) h end = elim h [

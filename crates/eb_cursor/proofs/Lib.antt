@@ -14,6 +14,7 @@ pub mod Steps
 pub mod Phrases
 pub mod Windows
 pub mod ShortWindows
+pub mod Repeated
 pub mod Bounds
 pub mod Begins
 pub mod Owing

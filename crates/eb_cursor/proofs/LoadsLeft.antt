@@ -8,12 +8,12 @@ pub loads_left-append : (xs ys : List Cursor) → loads_left (xs ++ ys) ≡ load
 loads_left-append [] ys = omega arith
 loads_left-append (x ∷ xs) ys = omega (arith, loads_left-append xs ys)
 
--- the cursors in front and the others, one after the other
+-- the first cursors and the others, one after the other
 pub loads_split : (all xs ys xs' ys' : List Cursor) (before between after : ℕ) → all ≡ xs ++ ys → between + loads_left xs' ≤ before + loads_left xs
     → after + loads_left ys' ≤ between + loads_left ys → after + loads_left (xs' ++ ys') ≤ before + loads_left all
 loads_split all xs ys xs' ys' before between after e h k = omega (arith, ap loads_left e, loads_left-append xs ys, loads_left-append xs' ys', h, k)
 
--- the others first, then the cursors in front
+-- the others first, then the first cursors
 pub loads_split_back : (all xs ys xs' ys' : List Cursor) (before between after : ℕ) → all ≡ xs ++ ys → between + loads_left ys' ≤ before + loads_left ys
     → after + loads_left xs' ≤ between + loads_left xs → after + loads_left (xs' ++ ys') ≤ before + loads_left all
 loads_split_back all xs ys xs' ys' before between after e h k = omega (arith, ap loads_left e, loads_left-append xs ys, loads_left-append xs' ys', h, k)

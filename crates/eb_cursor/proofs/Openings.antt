@@ -1,4 +1,5 @@
--- What an opened list gives: the postings of the accepted documents, and above them what came since.
+-- What an opened list gives: the postings of the accepted documents, and above them what came
+-- since.
 use Rattle.std.proofs.Common.{◌≡◌, ◌==◌, ℕ, Bool, true, false, zero, suc, ◌+◌, ◌*◌, ◌<◌, ◌≤◌, inl, inr, List, [], ◌∷◌, ◌++◌, length, take, reverse, get_or, refl, ap, sym, ◌∙◌}
 use Rattle.std.proofs.Common.{subst, arith, append_assoc}
 use Rattle.std.proofs.lemmas.Bool.{cases_lt}
@@ -108,7 +109,8 @@ packed_opens m n s docs t p budget js l a stands =
 pub read_on : (m n : Moment) (s : ℕ) (docs : List Doc) (packed : Bool) → IsNotBefore n m → CanRead m s docs packed → CanRead n s docs packed
 read_on m n s docs packed l h = record { first = first_on m n s docs l h.first; converted = λ e. later_converted m n s l (h.converted e) }
 
--- documents that are the first of a segment: the segment is there, and none has more terms than places
+-- documents that are the first of a segment: the segment is there, and none has more terms than
+-- places
 pub are_first : (m : Moment) (s : ℕ) (docs : List Doc) → IsMoment m → 1 ≤ length docs → IsPrefix docs (accepted_in m s) → AreFirst m s docs
 are_first m s docs is some p =
     let placed = placed_all m.setting m.documents.accepted is.setting (accepted_lawful m is) in
@@ -127,7 +129,7 @@ are_first m s docs is some p =
 
 -- ---- the converted word
 
--- whether a word is 1 tells whether the segment is converted
+-- whether a word is 1 says whether the segment is converted
 pub packed_if : (n : Moment) (s w : ℕ) (b : Bool) → IsMoment n → s < n.setting.segments
     → w ≡ word n (place n.setting (slot s converted_region 0)) → b ≡ (w == 1) → MatchBool b (IsConverted n s) (n.conversions.converted ≤ s)
 packed_if n s w b is inside e i = elim (cases_lt s n.conversions.converted) [
@@ -160,7 +162,7 @@ at_some : (q : Tree) (docs : List Doc) (n : ℕ) → MatchesAt q docs n → 1 �
 at_some q [] n h = let e = h.1 in absurd cc
 at_some q (x ∷ xs) n h = omega arith
 
--- stands in no accepted document
+-- occurs in no accepted document
 pub absent_matches : (m : Moment) (s : ℕ) (docs : List Doc) (n : ℕ) (t : Term) → IsMoment m → (IsEntered m s t → ⊥) → IsPrefix docs (accepted_in m s) → MatchesAt (word_of t) docs n → ⊥
 absent_matches m s docs n t is away p h =
     let a = are_first m s docs is (at_some (word_of t) docs n h) p in

@@ -107,7 +107,7 @@ pass_right g g' later docs u v p list o x y e ys isx isy less h same gave =
       abreast = record { narrow = h.narrow; first = k.3; second = k.2; low = λ a b i j. let q : x ≡ a = cc (sym isx ∙ i) in omega (arith, q, k.4) };
     }
 
--- what a call of next tells
+-- what a call of next promises
 abbrev pub NextTold : {S : Type 0} → (S → Moment → Type 0) → (S → Moment → S → Moment → Type 0) → S → S → PackedList → PackedList → Option ℕ → ℕ → ℕ → Type 0
 NextTold stands keeps p q old new r before after = (s : ℕ) (t : Term) (rest : List ℕ) (budget : ℕ)
     → Told stands keeps p q (λ m. ListStands m s t old rest budget) (λ n. (b : ℕ) × ListGives n s t new rest b r × (after + b ≤ before + budget))

@@ -1,4 +1,4 @@
--- Phrases: places from which all terms stand.
+-- Phrases: places from which all terms occur in a row.
 use Rattle.std.proofs.Common.{◌≡◌, ℕ, zero, suc, ◌+◌, ◌-◌, ◌*◌, ◌%◌, ◌<◌, ◌≤◌, Bool, true, false, ◌&&◌, min, List, [], ◌∷◌}
 use Rattle.std.proofs.Common.{length, get_or, set, slice_get, bytes_eq, length-set, refl, sym, ap, ◌∙◌, subst, inl, inr, arith}
 use Rattle.std.specs.List.{starts_with}

@@ -1,4 +1,4 @@
--- The postings of a term in a segment are the places where it stands, and fall when read backwards.
+-- The postings of a term in a segment are the places where it occurs, and fall when read backwards.
 use Rattle.std.proofs.Common.{◌≡◌, ℕ, zero, suc, ◌+◌, ◌-◌, ◌*◌, ◌/◌, ◌%◌, ◌<◌, ◌≤◌, inl, inr, Bool, false, List, [], ◌∷◌, ◌++◌, length}
 use Rattle.std.proofs.Common.{take, drop, reverse, None, slice_get, refl, ap, sym, ◌∙◌, subst, arith, append-nil, append_assoc, bytes_eq}
 use Rattle.std.proofs.lemmas.Bool.{cases_Bool, cases_lt}
@@ -72,7 +72,7 @@ segment_below f t n (d ∷ ds) w h =
     past_end [] i = refl
     past_end (t ∷ ts) i = let e : suc (length ts) + i ≡ suc (length ts + i) = omega arith in rw e (past_end ts i)
 
--- read backwards they are the places below the end of the segment where the term stands
+-- read backwards they are the places below the end of the segment where the term occurs
 pub postings_below : (t : Term) (ds : List Doc) → Narrow ds → reverse (postings t ds) ≡ below (is_posting ds t) (places * length ds)
 unfolding postings tokens
 postings_below t ds w =
@@ -113,8 +113,8 @@ reverse-take k xs h =
     let n : length back ≡ length xs - k = length-reverse (drop k xs) ∙ length-drop k xs in
     sym (ap (drop (length xs - k)) whole ∙ subst (λ j. drop j (back ++ reverse (take k xs)) ≡ reverse (take k xs)) n (drop-append_seam back (reverse (take k xs))))
 
--- a front of the postings of a segment, read backwards, falls; and where it has all postings of the first
--- documents, it is these below their end
+-- a prefix of the postings of a segment, read backwards, falls; and where it has all postings of
+-- the first documents, it is these below their end
 pub seen_below : (t : Term) (docs rest : List Doc) (k : ℕ) → Narrow (docs ++ rest) → Narrow docs → length (postings t docs) ≤ k → k ≤ length (postings t (docs ++ rest))
     → IsDescending (reverse (take k (postings t (docs ++ rest))))
     × (from_below (places * length docs) (reverse (take k (postings t (docs ++ rest)))) ≡ below (is_posting docs t) (places * length docs))

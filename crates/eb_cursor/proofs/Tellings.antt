@@ -51,7 +51,7 @@ pub told_itself : {S : Type 0} {stands : S → Moment → Type 0} {keeps : S →
     → KeepsItself stands keeps → ((m : Moment) → P m → Q m) → Told stands keeps s s P Q
 told_itself {S} {stands} {keeps} {s} {P} {Q} itself f = record { told = λ m st p. (m, st, later_self m, itself s m st, f m p) }
 
--- one call, asked and told otherwise
+-- one call, asked and answered otherwise
 pub told_as : {S : Type 0} {stands : S → Moment → Type 0} {keeps : S → Moment → S → Moment → Type 0} {s t : S} {A B P Q : Moment → Type 0}
     → IsLawfulPort stands → Told stands keeps s t A B → ((m : Moment) → P m → A m) → ((m n : Moment) → IsLater m n → P m → B n → Q n) → Told stands keeps s t P Q
 told_as {S} {stands} {keeps} {s} {t} {A} {B} {P} {Q} lawful a f k = record {

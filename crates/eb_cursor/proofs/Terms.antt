@@ -1,4 +1,5 @@
--- A round over the terms of a phrase: the first is asked, and then the others from where it stopped.
+-- A round over the terms of a phrase: the first is asked, and then the others from where it
+-- stopped.
 use Rattle.std.proofs.Common.{◌≡◌, ℕ, ◌+◌, ◌-◌, ◌≤◌, List, [], ◌∷◌, length, get_or, set, refl, sym, subst, arith}
 use Rattle.eb_place.specs.declared.moment.Moment.{Moment}
 use Rattle.eb_place.proofs.LaterMoments.{later_on}
@@ -75,7 +76,7 @@ pub front_can : {S : Type 0} (stands : S → Moment → Type 0) (p : S) (cursors
 front_can stands p [] d end two r = absurd (omega arith)
 front_can stands p (a ∷ rest) d end two r = first_can stands p (a ∷ rest) a rest 0 end end refl (omega arith) r
 
--- then the second, from behind what the first finds
+-- then the second, from after what the first finds
 pub second_can : {S : Type 0} {stands : S → Moment → Type 0} {keeps : S → Moment → S → Moment → Type 0} {p p1 : S} (cursors : List Cursor) (d a' : Cursor)
     (end between : ℕ) → IsLawfulPort stands → length cursors ≡ 2 → CanAskLeaves stands p cursors 0 end
     → FindsLeaf stands keeps p p1 (get_or cursors 0 d) a' end between → (between ≤ end) × CanAskLeaf stands p1 (get_or (set cursors 0 a') 1 d) (between + 1)

@@ -1,4 +1,5 @@
--- A turn over the parts of an and: the first part is asked, and then the others from where it stopped.
+-- A turn over the parts of an and: the first part is asked, and then the others from where it
+-- stopped.
 use Rattle.std.proofs.Common.{◌≡◌, ℕ, ◌+◌, ◌<◌, ◌≤◌, List, [], ◌∷◌, ◌++◌, length, get_or, take, drop, ap, sym, refl, ◌∙◌, subst, arith}
 use Rattle.std.proofs.lemmas.List.{append-nil, take-append-drop}
 use Rattle.eb_base.specs.Query.{Tree, Trees, size, tree, word, no_trees, trees}

@@ -7,7 +7,7 @@ use Rattle.eb_cursor.specs.Pairs.{IsNotLater, meeting_end}
 abbrev posting : ℕ → ℕ → Option ℕ
 posting document place = Some (document * 65536 + place)
 
--- both stand in document 5
+-- both are in document 5
 in_one_document : meeting_end (posting 5 3) (posting 5 0) ≡ 6
 in_one_document = refl
 

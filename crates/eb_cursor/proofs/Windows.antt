@@ -45,7 +45,7 @@ pub window_falls : (docs : List Doc) (ts : List (List ℕ)) (w place reached : �
     → top (is_window_end docs ts w) place ≡ top (is_window_end docs ts w) reached
 window_falls docs ts w place reached e h = sym (top_between (is_window_end docs ts w) reached place (omega (arith, window_under docs ts w place)) h)
 
--- the terms begin where they do in front of the greatest place of the last
+-- the terms begin where they do before the greatest place of the last
 first_at_last : (docs : List Doc) (t : List ℕ) (ts : List (List ℕ)) (place : ℕ) → first_below docs (t ∷ ts) place ≡ first_below docs (t ∷ ts) (top (is_posting docs (last_term (t ∷ ts))) place)
 first_at_last docs t [] place = sym (top_twice (is_posting docs t) place)
 first_at_last docs t (u ∷ ts) place = ap (λ (k : ℕ). top (is_posting docs t) (number_before k)) (first_at_last docs u ts place)
@@ -73,7 +73,7 @@ window_here docs (t ∷ ts) w place last some e h = go last e h
 
 -- ---- from places to documents
 
--- where terms stand
+-- where terms occur
 there_in : (ts : List (List ℕ)) (k : ℕ) (t : List ℕ) → slice_get ts k ≡ Some t → k < length ts
 there_in [] k t e = cc
 there_in (u ∷ us) zero t e = omega arith
@@ -101,7 +101,7 @@ posting_here docs narrow t n k e =
     let low : k < places = omega (arith, there_in (terms_at docs n) k t e, narrow.narrow n) in
     posting_at docs t n k low ∙ some_term t (slice_get (terms_at docs n) k) e
 
--- terms that stand in their order in a document can begin there
+-- terms that occur in their order in a document can begin there
 stand_first : (docs : List Doc) → Narrow docs → (n : ℕ) (ts : List (List ℕ)) (first last : ℕ) → Stand (terms_at docs n) ts first last
     → places * n + first < first_below docs ts (suc (places * n + last))
 stand_first docs narrow n [] first last h = absurd h
@@ -112,7 +112,7 @@ stand_first docs narrow n (t ∷ u ∷ ts) first last h =
     let low = before_of (places * n + h.1.0) (first_below docs (u ∷ ts) (suc (places * n + last))) behind in
     top_reaches (is_posting docs t) (places * n + first) (number_before (first_below docs (u ∷ ts) (suc (places * n + last)))) (posting_here docs narrow t n first h.0) (omega (arith, low, h.1.1))
 
--- terms that can begin in a document whose last place holds the last term stand there in their order
+-- terms that can begin in a document whose last place has the last term occur there in their order
 first_stands : (docs : List Doc) (n k : ℕ) (t : List ℕ) (ts : List (List ℕ)) (a : ℕ) → k < places → is_posting docs (last_term (t ∷ ts)) (places * n + k) ≡ true
     → first_below docs (t ∷ ts) (suc (places * n + k)) ≡ suc a → places * n ≤ a
     → (j : ℕ) × (a ≡ places * n + j) × (j ≤ k) × Stand (terms_at docs n) (t ∷ ts) j k
@@ -273,7 +273,7 @@ span_last g docs ts us t s' ss end place e i k w =
     let told : (place ≡ first_below docs (t ∷ []) end) × (place ≡ top (is_posting docs (last_term (t ∷ []))) end) × AllBehind g docs (t ∷ []) (s' ∷ ss) end = (w.0, w.0, all) in
     subst (λ (z : List (List ℕ)). (place ≡ first_below docs z end) × (place ≡ top (is_posting docs (last_term z)) end) × AllBehind g docs z (s' ∷ ss) end) (sym one) told
 
--- where the last term stands alone, its leaf may be asked
+-- where the last term is alone, its leaf may be asked
 pub alone_can : {S : Type 0} (stands : S → Moment → Type 0) (p : S) (cursors : List Cursor) (s : Cursor) (ss : List Cursor) (end : ℕ)
     → cursors ≡ s ∷ ss → length ss ≡ 0 → CanAskBehind stands p cursors end → CanAskLeaf stands p s end
 alone_can stands p cursors s ss end e none r =
@@ -311,7 +311,7 @@ last_behind : (t : List ℕ) (us : List (List ℕ)) → 0 < length us → last_t
 last_behind t [] h = absurd (omega arith)
 last_behind t (u ∷ us) h = refl
 
--- the terms after don't stand in their order
+-- the terms after don't occur in their order
 pub span_none : (g g' : Gives) → Later g g' → (docs : List Doc) (ts us : List (List ℕ)) (t : List ℕ) (s : Cursor) (ss : List Cursor) (end last first behind_last : ℕ) → ts ≡ t ∷ us
     → 0 < length ss → end ≤ last → first ≡ 0
     → (first ≡ first_below docs us end) × (behind_last ≡ top (is_posting docs (last_term us)) end) × AllBehind g' docs us ss end

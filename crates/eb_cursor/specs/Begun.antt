@@ -17,7 +17,8 @@ abbrev pub AreClear : List Cursor → Type 0
 AreClear [] = Unit {0}
 AreClear (c ∷ cs) = (c.current ≡ None) × (c.upto ≡ 0) × (c.list ≡ Empty) × AreClear cs
 
--- at some moment that the port stands for, so many documents are accepted in the segment, and can be read
+-- at some moment that the port stands for, this many documents are accepted in the segment, and can
+-- be read
 abbrev pub CanBegin : {S : Type 0} → (S → Moment → Type 0) → S → ℕ → ℕ → Bool → Type 0
 CanBegin stands s segment documents packed = (m : Moment) × (docs : List Doc) × stands s m × CanRead m segment docs packed × (length docs ≡ documents)
 
@@ -27,12 +28,12 @@ AllAt g docs [] cursors end = cursors ≡ []
 AllAt g docs (t ∷ ts) [] end = ⊥
 AllAt g docs (t ∷ ts) (c ∷ cs) end = IsLeaf g (is_posting docs t) c end × AllAt g docs ts cs end
 
--- some term stands in none of the documents
+-- some term occurs in none of the documents
 abbrev pub HasAbsent : List Doc → List (List ℕ) → Type 0
 HasAbsent docs [] = ⊥
 HasAbsent docs (t ∷ ts) = ((x : ℕ) → is_posting docs t x ≡ false) ⊎ HasAbsent docs ts
 
--- the terms of a phrase or a window are begun, or one of them stands in no document
+-- the terms of a phrase or a window are begun, or one of them occurs in no document
 pub record BegunLeaves (docs : List Doc) (ts : List (List ℕ)) (cursors : List Cursor) (may : Bool) (n : Moment) : Type 0 where
   pub ready : may ≡ true → AllAt (gives n) docs ts cursors (places * length docs)
   pub none : may ≡ false → HasAbsent docs ts

@@ -1,35 +1,32 @@
--- What a call finds that asks cursors, over words that may grow meanwhile: for each list of documents and each end, this
--- one or a greater one, below which the cursors were ready.
-use Rattle.std.specs.Prelude.{◌≡◌, ℕ, ◌+◌, ◌≤◌, Bool, List, length}
+-- What a call finds that asks cursors, over words that may grow meanwhile: for each list of
+-- documents and each end, the given one or a greater one, below which the cursors were ready.
+use Rattle.std.specs.Prelude.{◌≡◌, ℕ, ◌+◌, ◌-◌, ◌≤◌, Bool, List, length}
 use Rattle.eb_base.specs.Document.{Doc}
-use Rattle.eb_base.specs.Query.{Tree, Trees, word, phrase, window}
+use Rattle.eb_base.specs.Query.{Tree, Trees, word, phrase}
 use Rattle.eb_place.specs.declared.moment.Moment.{Moment}
 use Rattle.eb_place.specs.Told.{Told}
 use Rattle.eb_cursor.specs.Lists.{gives}
 use Rattle.eb_cursor.specs.Opened.{CanRead}
 use Rattle.eb_cursor.specs.Ready.{Ready, AllReady, AllLeaves, AllBehind, IsBound, IsLeaf}
-use Rattle.eb_cursor.specs.Asked.{Found, FoundLeaf, FoundNot, FoundSome, FoundAll, FoundStart, FoundBound, FoundSpan, FoundEnd, IsLed, IsRound, IsLedRun, IsRun}
+use Rattle.eb_cursor.specs.Asked.{FoundMatch, FoundLeaf, FoundNot, FoundSome, FoundAll, FoundStart, FoundBound, FoundSpan, FoundEnd, IsLed, IsRound, IsLedRun, IsRun}
+use Rattle.eb_cursor.specs.Posted.{is_posting, last_term, AreAll}
+use Rattle.eb_cursor.specs.Tops.{top}
 use Rattle.eb_cursor.specs.declared.cursor.Cursor.{Cursor}
 use Rattle.eb_cursor.specs.declared.window.Span.{Span}
 
 -- the greatest match of a query
 abbrev pub FindsMatch : {S : Type 0} → (S → Moment → Type 0) → (S → Moment → S → Moment → Type 0) → S → S → Tree → List Cursor → List Cursor → ℕ → ℕ → Type 0
-FindsMatch stands keeps s t q old new end found = (docs : List Doc) (last : ℕ) → end ≤ last → Told stands keeps s t (λ m. Ready (gives m) docs q old last) (Found q docs new end found)
+FindsMatch stands keeps s t q old new end found = (docs : List Doc) (last : ℕ) → end ≤ last → Told stands keeps s t (λ m. Ready (gives m) docs q old last) (FoundMatch q docs new end found)
 
 -- the greatest document that has the cursors' word
 abbrev pub FindsWord : {S : Type 0} → (S → Moment → Type 0) → (S → Moment → S → Moment → Type 0) → S → S → List Cursor → List Cursor → ℕ → ℕ → Type 0
 FindsWord stands keeps s t old new end found = (docs : List Doc) (u : List ℕ) (last : ℕ) → end ≤ last
-    → Told stands keeps s t (λ m. Ready (gives m) docs (word u) old last) (Found (word u) docs new end found)
+    → Told stands keeps s t (λ m. Ready (gives m) docs (word u) old last) (FoundMatch (word u) docs new end found)
 
 -- the greatest document that has their phrase
 abbrev pub FindsPhrase : {S : Type 0} → (S → Moment → Type 0) → (S → Moment → S → Moment → Type 0) → S → S → List Cursor → List Cursor → ℕ → ℕ → Type 0
 FindsPhrase stands keeps s t old new end found = (docs : List Doc) (us : List (List ℕ)) (last : ℕ) → end ≤ last
-    → Told stands keeps s t (λ m. Ready (gives m) docs (phrase us) old last) (Found (phrase us) docs new end found)
-
--- the greatest document that has their window of this reach
-abbrev pub FindsWindow : {S : Type 0} → (S → Moment → Type 0) → (S → Moment → S → Moment → Type 0) → S → S → ℕ → List Cursor → List Cursor → ℕ → ℕ → Type 0
-FindsWindow stands keeps s t w old new end found = (docs : List Doc) (us : List (List ℕ)) (last : ℕ) → end ≤ last
-    → Told stands keeps s t (λ m. Ready (gives m) docs (window us w) old last) (Found (window us w) docs new end found)
+    → Told stands keeps s t (λ m. Ready (gives m) docs (phrase us) old last) (FoundMatch (phrase us) docs new end found)
 
 -- the greatest document that a query does not match
 abbrev pub FindsNot : {S : Type 0} → (S → Moment → Type 0) → (S → Moment → S → Moment → Type 0) → S → S → Tree → List Cursor → List Cursor → ℕ → ℕ → Type 0
@@ -45,12 +42,12 @@ abbrev pub FindsAll : {S : Type 0} → (S → Moment → Type 0) → (S → Mome
 FindsAll stands keeps s t qs old new end found = (docs : List Doc) (last : ℕ) → end ≤ last
     → Told stands keeps s t (λ m. AllReady (gives m) docs qs old last) (FoundAll qs docs new end found)
 
--- where the leading part stops, which passed nothing that all parts match
+-- where the leading part stops, which skipped nothing that all parts match
 abbrev pub Leads : {S : Type 0} → (S → Moment → Type 0) → (S → Moment → S → Moment → Type 0) → S → S → Trees → List Cursor → List Cursor → ℕ → ℕ → Type 0
 Leads stands keeps s t qs old new end found = (docs : List Doc) (last : ℕ) → end ≤ last
     → Told stands keeps s t (λ m. AllReady (gives m) docs qs old last) (λ n. IsLed (gives n) docs qs new end found)
 
--- where one round over the parts stops, which passed nothing that all parts match
+-- where one round over the parts stops, which skipped nothing that all parts match
 abbrev pub GoesRound : {S : Type 0} → (S → Moment → Type 0) → (S → Moment → S → Moment → Type 0) → S → S → Trees → List Cursor → List Cursor → ℕ → ℕ → Type 0
 GoesRound stands keeps s t qs old new end found = (docs : List Doc) (last : ℕ) → end ≤ last
     → Told stands keeps s t (λ m. AllReady (gives m) docs qs old last) (λ n. IsRound (gives n) docs qs new end found)
@@ -61,12 +58,13 @@ GoesRound stands keeps s t qs old new end found = (docs : List Doc) (last : ℕ)
 abbrev pub FindsLeaf : {S : Type 0} → (S → Moment → Type 0) → (S → Moment → S → Moment → Type 0) → S → S → Cursor → Cursor → ℕ → ℕ → Type 0
 FindsLeaf stands keeps s t old new end found = (f : ℕ → Bool) → Told stands keeps s t (λ m. IsLeaf (gives m) f old end) (FoundLeaf f new end found)
 
--- where the leading term of a phrase stops, which passed no place from which all terms stand
+-- where the leading term of a phrase stops, which skipped no place from which all terms are in a
+-- row
 abbrev pub LeadsRun : {S : Type 0} → (S → Moment → Type 0) → (S → Moment → S → Moment → Type 0) → S → S → List Cursor → List Cursor → ℕ → ℕ → ℕ → Type 0
 LeadsRun stands keeps s t old new at end found = (docs : List Doc) (us : List (List ℕ)) (last : ℕ) → end ≤ last
     → Told stands keeps s t (λ m. AllLeaves (gives m) docs us old (last + at)) (λ n. IsLedRun (gives n) docs us new at end found)
 
--- where one round over the terms stops, which passed no place from which all stand
+-- where one round over the terms stops, which skipped no place from which all are in a row
 abbrev pub GoesOver : {S : Type 0} → (S → Moment → Type 0) → (S → Moment → S → Moment → Type 0) → S → S → List Cursor → List Cursor → ℕ → ℕ → ℕ → Type 0
 GoesOver stands keeps s t old new at end found = (docs : List Doc) (us : List (List ℕ)) (last : ℕ) → end ≤ last
     → Told stands keeps s t (λ m. AllLeaves (gives m) docs us old (last + at)) (λ n. IsRun (gives n) docs us new at end found)
@@ -76,7 +74,7 @@ abbrev pub FindsStart : {S : Type 0} → (S → Moment → Type 0) → (S → Mo
 FindsStart stands keeps s t old new end found = (docs : List Doc) (us : List (List ℕ)) (last : ℕ) → end ≤ last
     → Told stands keeps s t (λ m. AllLeaves (gives m) docs us old last) (FoundStart us docs new end found)
 
--- where the terms of a window stand
+-- where the terms of a window are
 abbrev pub FindsSpan : {S : Type 0} → (S → Moment → Type 0) → (S → Moment → S → Moment → Type 0) → S → S → List Cursor → List Cursor → ℕ → Span → Type 0
 FindsSpan stands keeps s t old new end span = (docs : List Doc) (us : List (List ℕ)) (last : ℕ) → end ≤ last
     → Told stands keeps s t (λ m. AllBehind (gives m) docs us old last) (FoundSpan us docs new end span)
@@ -86,6 +84,26 @@ abbrev pub FindsEnd : {S : Type 0} → (S → Moment → Type 0) → (S → Mome
 FindsEnd stands keeps s t w old new end found = (docs : List Doc) (us : List (List ℕ)) (last : ℕ) → end ≤ last
     → Told stands keeps s t (λ m. AllBehind (gives m) docs us old last) (FoundEnd us w docs new end found)
 
+-- the greatest place where a window of these terms ends
+abbrev pub FindsEndOf : {S : Type 0} → (S → Moment → Type 0) → (S → Moment → S → Moment → Type 0) → S → S → List (List ℕ) → ℕ → List Cursor → List Cursor → ℕ → ℕ → Type 0
+FindsEndOf stands keeps s t us w old new end found = (docs : List Doc) (last : ℕ) → end ≤ last
+    → Told stands keeps s t (λ m. AllBehind (gives m) docs us old last) (FoundEnd us w docs new end found)
+
+-- the greatest place where a window ends whose terms are all one
+abbrev pub FindsEndRepeated : {S : Type 0} → (S → Moment → Type 0) → (S → Moment → S → Moment → Type 0) → S → S → ℕ → List Cursor → List Cursor → ℕ → ℕ → Type 0
+FindsEndRepeated stands keeps s t w old new end found = (docs : List Doc) (u : List ℕ) (us : List (List ℕ)) → AreAll u us → (last : ℕ) → end ≤ last
+    → Told stands keeps s t (λ m. AllBehind (gives m) docs us old last) (FoundEnd us w docs new end found)
+
+-- the greatest place of the last term of a window
+abbrev pub FindsLast : {S : Type 0} → (S → Moment → Type 0) → (S → Moment → S → Moment → Type 0) → S → S → List Cursor → List Cursor → ℕ → ℕ → Type 0
+FindsLast stands keeps s t old new end found = (docs : List Doc) (us : List (List ℕ)) (last : ℕ) → end ≤ last
+    → Told stands keeps s t (λ m. AllBehind (gives m) docs us old last) (λ n. (found ≡ top (is_posting docs (last_term us)) end) × AllBehind (gives n) docs us new end)
+
+-- where the terms of a window that are all one are below the place of the last
+abbrev pub FindsNextSpan : {S : Type 0} → (S → Moment → Type 0) → (S → Moment → S → Moment → Type 0) → S → S → List Cursor → List Cursor → Span → Span → Type 0
+FindsNextSpan stands keeps s t old new span next = (docs : List Doc) (u : List ℕ) (us : List (List ℕ)) → AreAll u us → (end : ℕ)
+    → Told stands keeps s t (FoundSpan us docs old end span) (FoundSpan us docs new (span.last - 1) next)
+
 -- the greatest document whose id is greater than the bound
 abbrev pub FindsBound : {S : Type 0} → (S → Moment → Type 0) → (S → Moment → S → Moment → Type 0) → S → S → ℕ → Cursor → Cursor → ℕ → ℕ → Type 0
 FindsBound stands keeps s t x old new end found = (docs : List Doc) (last : ℕ) → end ≤ last
@@ -93,10 +111,10 @@ FindsBound stands keeps s t x old new end found = (docs : List Doc) (last : ℕ)
 
 -- ---- beginning
 
--- what opening lists in a segment gives, for each first documents of it that could be read
+-- what opening lists in a segment gives, for each prefix of its documents that could be read
 abbrev pub OpensIn : {S : Type 0} → (S → Moment → Type 0) → (S → Moment → S → Moment → Type 0) → S → S → ℕ → Bool → (List Doc → Moment → Type 0) → Type 0
 OpensIn stands keeps s t segment packed After = (docs : List Doc) → Told stands keeps s t (λ m. CanRead m segment docs packed) (After docs)
 
--- what beginning in so many documents of a segment gives
+-- what beginning in n documents of a segment gives
 abbrev pub BeginsIn : {S : Type 0} → (S → Moment → Type 0) → (S → Moment → S → Moment → Type 0) → S → S → ℕ → ℕ → Bool → (List Doc → Moment → Type 0) → Type 0
 BeginsIn stands keeps s t segment documents packed After = (docs : List Doc) → length docs ≡ documents → Told stands keeps s t (λ m. CanRead m segment docs packed) (After docs)

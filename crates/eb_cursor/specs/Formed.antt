@@ -1,4 +1,4 @@
--- That a query is formed well is one fact, however it is shown.
+-- That a query is well formed is one fact, however it is shown.
 use Rattle.std.specs.Coded.{×_prop, Unit-prop, le_prop}
 use Rattle.eb_base.specs.Query.{Tree, Trees, word, phrase, window, since, negation, conjunction, disjunction, no_trees, trees, AreSeveral, IsFormed, AreFormed}
 

@@ -19,12 +19,14 @@ pub record IsGreatest (q : Tree) (docs : List Doc) (most n : ℕ) : Type 0 where
   pub matches : MatchesAt q docs n
   pub greatest : (k : ℕ) → n < k → k ≤ most → MatchesAt q docs k → ⊥
 
--- the greatest number that is at most `most` and whose document matches, none exactly where there is none
+-- the greatest number that is at most `most` and whose document matches, none exactly where there
+-- is none
 abbrev pub IsGreatestMatch : Tree → List Doc → ℕ → Option ℕ → Type 0
 IsGreatestMatch q docs most None = (k : ℕ) → k ≤ most → MatchesAt q docs k → ⊥
 IsGreatestMatch q docs most (Some n) = IsGreatest q docs most n
 
--- none of the documents that a segment of the moment holds matches, where the list says false of the segment
+-- none of the documents that a segment of the moment has matches, where the list says false of the
+-- segment
 abbrev pub AreLikely : Moment → Tree → List Bool → Type 0
 AreLikely m q likely = (s : ℕ) (docs : List Doc) (n : ℕ) → get_or likely s true ≡ false → IsPrefix docs (accepted_in m s) → MatchesAt q docs n → ⊥
 

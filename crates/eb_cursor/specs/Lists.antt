@@ -15,7 +15,8 @@ list_gives m Empty xs = xs ≡ []
 list_gives m (Live c) xs = (s : ℕ) × (t : Term) × (opened : ℕ) × Stands m s t c opened xs
 list_gives m (Packed p) xs = (s : ℕ) × (t : Term) × (budget : ℕ) × ListStands m s t p xs budget
 
--- what cursors read: which postings a list still gives, and which documents are the first of a segment
+-- what cursors read: which postings a list still gives, and which documents are the first of a
+-- segment
 pub record Gives : Type 1 where
   pub lists : PostingList → List ℕ → Type 0
   pub firsts : ℕ → List Doc → Type 0
@@ -24,7 +25,7 @@ pub record Gives : Type 1 where
 abbrev pub gives : Moment → Gives
 gives m = record { lists = list_gives m; firsts = AreFirst m }
 
--- what a call gave: nothing where nothing was left, else the first of what was left
+-- what a call returned: nothing where nothing was left, else the first of what was left
 abbrev pub Gave : List ℕ → PostingList → Option ℕ → Moment → Type 0
 Gave xs list r n = MatchOption r (xs ≡ []) (λ p. (ys : List ℕ) × (xs ≡ p ∷ ys) × list_gives n list ys)
 

@@ -10,7 +10,8 @@ use Rattle.eb_cursor.specs.Tops.{below}
 use Rattle.eb_cursor.specs.Posted.{is_posting}
 use Rattle.eb_cursor.specs.declared.posting_list.PostingList.{PostingList}
 
--- the first accepted documents of the segment can be read: where its packed lists are read, it is converted
+-- the first accepted documents of the segment can be read: where its packed lists are read, it is
+-- converted
 pub record CanRead (m : Moment) (s : ℕ) (docs : List Doc) (packed : Bool) : Type 0 where
   pub first : AreFirst m s docs
   pub converted : packed ≡ true → IsConverted m s

@@ -1,4 +1,4 @@
--- Two packed lists that are walked together, in step: the lists of the two words of an and.
+-- Two packed lists that are walked together: the lists of the two words of an and.
 use Rattle.std.specs.Prelude.{◌≡◌, ℕ, suc, ◌+◌, ◌*◌, ◌/◌, ◌<◌, ◌≤◌, min, List, [], ◌∷◌, length, Option, Some, None}
 use Rattle.eb_base.specs.Document.{Doc}
 use Rattle.eb_base.specs.Term.{Term}
@@ -26,15 +26,16 @@ packed_leaf current list = record { upto = 0; lead = 0; segment = 0; current = c
 abbrev pub IsOneBelow : Pair → ℕ → Type 0
 IsOneBelow p end = (x y : ℕ) → p.left ≡ Some x → p.right ≡ Some y → min x y < end
 
--- both postings stand in one document, where neither list has ended
+-- both postings are in one document, where neither list has ended
 abbrev pub AreTogether : Pair → Type 0
 AreTogether p = (x y : ℕ) → p.left ≡ Some x → p.right ≡ Some y → x / places ≡ y / places
 
--- a posting stands in no later document than another one, where neither list has ended
+-- a posting is in no later document than another one, where neither list has ended
 abbrev pub IsNotLater : Option ℕ → Option ℕ → Type 0
 IsNotLater one other = (x y : ℕ) → one ≡ Some x → other ≡ Some y → x / places ≤ y / places
 
--- of two words the lists have passed no posting in a document below the end, and the lower posting is below it
+-- of two words the lists have skipped no posting in a document below the end, and the lower posting
+-- is below it
 pub record IsAbreast (g : Gives) (docs : List Doc) (u v : Term) (p : Pair) (end : ℕ) : Type 0 where
   pub narrow : Narrow docs
   pub first : IsLeaf g (is_posting docs u) (packed_leaf p.left p.one) (places * end)
@@ -52,18 +53,18 @@ pub record IsPast (g : Gives) (docs : List Doc) (u v : Term) (p : Pair) (end : �
 abbrev pub CanPass : {S : Type 0} → (S → Moment → Type 0) → S → Pair → Type 0
 CanPass stands s p = (m : Moment) × (docs : List Doc) × (u : Term) × (v : Term) × (end : ℕ) × stands s m × IsAbreast (gives m) docs u v p end
 
--- what passing tells, for each list of documents, each two words and each end
+-- what passing promises, for each list of documents, each two words and each end
 abbrev pub GoesPast : {S : Type 0} → (S → Moment → Type 0) → (S → Moment → S → Moment → Type 0) → S → S → Pair → Pair → Type 0
 GoesPast stands keeps s t old new = (docs : List Doc) (u v : Term) (end : ℕ)
     → Told stands keeps s t (λ m. IsAbreast (gives m) docs u v old end) (λ n. IsPast (gives n) docs u v new end)
 
--- the lists are those of two terms in segment s, have at most so many postings still to give, and may load so many words
--- together
+-- the lists are those of two terms in segment s, still have at most this many postings to give, and
+-- may load this many words together
 abbrev pub PairOwes : Moment → ℕ → Term → Term → ℕ → ℕ → Pair → ℕ → Type 0
 PairOwes m s t w i j p most = (xs : List ℕ) × (ys : List ℕ) × (b : ℕ) × (c : ℕ)
     × ListStands m s t p.one xs b × ListStands m s w p.two ys c × (length xs ≤ i) × (length ys ≤ j) × (b + c ≤ most)
 
--- a call pays for its loads of what they owed
+-- a call pays for its loads by what they owed
 abbrev pub PaysPair : {S : Type 0} → (S → Moment → Type 0) → (S → Moment → S → Moment → Type 0) → S → S → Pair → Pair → ℕ → ℕ → Type 0
 PaysPair stands keeps p q old new before after = (s : ℕ) (t w : Term) (i j most : ℕ)
     → Told stands keeps p q (λ m. PairOwes m s t w i j old most) (λ n. IsPaid (PairOwes n s t w i j new) before most after)
@@ -72,13 +73,14 @@ PaysPair stands keeps p q old new before after = (s : ℕ) (t w : Term) (i j mos
 abbrev pub both_ahead : Pair → ℕ
 both_ahead p = ahead p.left + ahead p.right
 
--- one more than the document where both stand, 0 where a list has ended
+-- one more than the document where both are, 0 where a list has ended
 abbrev pub meeting_end : Option ℕ → Option ℕ → ℕ
 meeting_end None right = 0
 meeting_end (Some x) None = 0
 meeting_end (Some x) (Some y) = suc (x / places)
 
--- the pair is that of two cursors whose lists are packed and in their last blocks, the lower posting below the end
+-- the pair is that of two cursors whose lists are packed and in their last blocks, the lower
+-- posting below the end
 pub record IsPairOf (own other : Cursor) (end : ℕ) (p : Pair) : Type 0 where
   pub left : own.current ≡ p.left
   pub one : own.list ≡ Packed p.one

@@ -1,12 +1,13 @@
 -- Which postings a term has, and which documents a query matches, by their numbers.
-use Rattle.std.specs.Prelude.{ℕ, zero, suc, ◌+◌, ◌*◌, ◌/◌, ◌%◌, ◌≤◌, Bool, true, false, ◌&&◌, leb, min, List, [], ◌∷◌, length, bytes_eq, Option, None, Some, slice_get}
+use Rattle.std.specs.Prelude.{◌≡◌, ℕ, zero, suc, ◌+◌, ◌*◌, ◌/◌, ◌%◌, ◌≤◌, Bool, true, false, ◌&&◌, leb, ltb, min, List, [], ◌∷◌, length, bytes_eq, Option, None, Some, slice_get}
+use Rattle.std.specs.List.{list_all}
 use Rattle.eb_base.specs.Document.{Doc}
 use Rattle.eb_base.specs.Query.{Tree, Trees}
 use Rattle.eb_base.specs.Match.{is_match, each_matches, some_matches}
 use Rattle.eb_place.specs.Postings.{places}
 use Rattle.eb_cursor.specs.Tops.{top, number_before}
 
--- a document, one of id 0 without terms where there is none
+-- a document: the one of id 0 without terms where there is none
 abbrev pub doc_in : Option Doc → Doc
 doc_in None = record { id = 0; terms = [] }
 doc_in (Some d) = d
@@ -24,7 +25,7 @@ abbrev pub is_term : List ℕ → Option (List ℕ) → Bool
 is_term t None = false
 is_term t (Some u) = bytes_eq t u
 
--- whether the term stands at this place of this document, both in one number
+-- whether the term is at this place of this document, both in one number
 abbrev pub is_posting : List Doc → List ℕ → ℕ → Bool
 is_posting docs t x = is_term t (slice_get (terms_at docs (x / places)) (x % places))
 
@@ -40,7 +41,7 @@ each_at docs qs n = each_matches qs (doc_at docs n)
 abbrev pub some_at : List Doc → Trees → ℕ → Bool
 some_at docs qs n = some_matches qs (doc_at docs n)
 
--- whether the terms stand from this place on, one after the other
+-- whether the terms are in a row from this place on
 abbrev pub is_run_from : List Doc → List (List ℕ) → ℕ → Bool
 is_run_from docs [] x = true
 is_run_from docs (t ∷ ts) x = is_posting docs t x && is_run_from docs ts (suc x)
@@ -68,13 +69,24 @@ last_term [] = []
 last_term (t ∷ []) = t
 last_term (t ∷ u ∷ ts) = last_term (u ∷ ts)
 
--- one more than the greatest place at which the terms can begin that stand in their order below the end, each
--- as near as it can to the one after it; 0 where they don't so stand, and one more than the end without terms
+-- whether these are more than two terms, and all are one
+abbrev pub is_repeated : List (List ℕ) → Bool
+is_repeated [] = false
+is_repeated (t ∷ ts) = ltb 1 (length ts) && list_all (bytes_eq t) ts
+
+-- all terms are this one
+abbrev pub AreAll : List ℕ → List (List ℕ) → Type 0
+AreAll t [] = Unit {0}
+AreAll t (u ∷ us) = (u ≡ t) × AreAll t us
+
+-- where terms occur in their order below the end, each as near as it can to the one after it: one
+-- more than the greatest place of the first; 0 where they don't so occur, and one more than the end
+-- without terms
 abbrev pub first_below : List Doc → List (List ℕ) → ℕ → ℕ
 first_below docs [] end = suc end
 first_below docs (t ∷ ts) end = top (is_posting docs t) (number_before (first_below docs ts end))
 
--- the end below which the last term of a window stands whose first term stands before `first`: at most `w`
+-- the end below which the last term of a window is whose first term is before `first`: at most `w`
 -- places after it, and in its document
 abbrev pub reach_end : ℕ → ℕ → ℕ
 reach_end w first = min (first + w) (places * document_end first)

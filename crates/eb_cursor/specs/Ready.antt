@@ -47,14 +47,16 @@ AllLeaves g docs [] cursors end = cursors ≡ []
 AllLeaves g docs (t ∷ ts) [] end = ⊥
 AllLeaves g docs (t ∷ ts) (s ∷ ss) end = IsLeaf g (is_posting docs t) s end × AllLeaves g docs ts ss (suc end)
 
--- each leaf of a window has passed nothing below the place of the leaf after it, the last nothing below the end
+-- each leaf of a window has passed nothing below the place of the leaf after it, the last nothing
+-- below the end
 abbrev pub AllBehind : Gives → List Doc → List (List ℕ) → List Cursor → ℕ → Type 0
 AllBehind g docs [] cursors end = cursors ≡ []
 AllBehind g docs (t ∷ ts) [] end = ⊥
 AllBehind g docs (t ∷ ts) (s ∷ ss) end = IsLeaf g (is_posting docs t) s (number_before (first_below docs ts end)) × AllBehind g docs ts ss end
 
--- the cursor of a bound on the id has passed no document below `last` whose id is greater. Of the documents below the
--- end that it has come to, at most the id of the last is loaded, and then that one is greater
+-- the cursor of a bound on the id has passed no document below `last` whose id is greater. Of the
+-- documents below the end that it has come to, at most the id of the last is loaded, and then that
+-- one is greater
 pub record IsBound (g : Gives) (docs : List Doc) (x : ℕ) (cursor : Cursor) (last : ℕ) : Type 0 where
   pub passed : IsPassed (match_at docs (since x)) cursor.upto last
   pub firsts : 0 < cursor.upto → g.firsts cursor.segment docs
@@ -68,7 +70,8 @@ abbrev pub IsOnlyBound : Gives → List Doc → ℕ → List Cursor → ℕ → 
 IsOnlyBound g docs x [] last = ⊥
 IsOnlyBound g docs x (s ∷ ss) last = (ss ≡ []) × IsBound g docs x s last
 
--- the cursors of a query are ready below `last`: they have passed none of the documents below it that match
+-- the cursors of a query are ready below `last`: they have passed none of the documents below it
+-- that match
 abbrev mutual
   pub Ready : Gives → List Doc → Tree → List Cursor → ℕ → Type 0
   Ready g docs (word t) cursors last = IsOnly g docs t cursors last

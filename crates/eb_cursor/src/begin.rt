@@ -25,7 +25,7 @@ use eb_base::{Query, Term};
 use eb_place::{PLACES, Port, Steps};
 use std::sync::ledger::Ledger;
 
-/// Lets each cursor have passed everything, and forget its list.
+/// Lets each cursor have skipped everything, and forget its list.
 pub fn clear(cursors: &mut [Cursor])
     ensures { AreClear cursors.new }
 {
@@ -63,7 +63,7 @@ fn open_leaf<P: Port, L: Ledger>(
     }
 }
 
-// Opens the lists of the terms of a phrase or a window, up to the first that stands in no document.
+// Opens the lists of the terms of a phrase or a window, up to the first that occurs in no document.
 fn begin_leaves<P: Port, L: Ledger>(
     terms: &[Term],
     cursors: &mut [Cursor],
@@ -96,7 +96,7 @@ fn end_if(some: bool, end: u64) -> u64
     if some { end } else { 0 }
 }
 
-// Begins a window of these terms, as `begin` does.
+// Begins a window of these terms.
 fn begin_window<P: Port, L: Ledger>(
     terms: &[Term],
     cursors: &mut [Cursor],
@@ -119,7 +119,7 @@ fn begin_window<P: Port, L: Ledger>(
     all
 }
 
-// Begins a bound on the id, as `begin` does. Loads nothing.
+// Begins a bound on the id. Loads nothing.
 fn begin_bound(cursor: &mut Cursor, segment: u32, documents: u32)
     ensures { (n : Moment) (docs : List Doc) (x : ℕ) → length docs ≡ documents → AreFirst n segment docs
         → IsBound (gives n) docs x cursor.new (length docs) }
@@ -130,7 +130,7 @@ fn begin_bound(cursor: &mut Cursor, segment: u32, documents: u32)
     cursor.current = last_before(end);
 }
 
-/// Begins a query, as [`begin`] does, whose loads are bounded where it is a word or an and of words.
+/// Begins a query, as [`begin`] does. The loads are bounded where it is a word or an and of words.
 pub fn begin_query<P: Port, L: Ledger>(
     query: &Query,
     cursors: &mut [Cursor],
@@ -172,9 +172,10 @@ pub fn begin_query<P: Port, L: Ledger>(
     }
 }
 
-/// Begins a query at the end of the first `documents` documents of a segment. False only where none of
-/// them matches; a term that stands in none ends a word, a phrase, a window and an and at once. In an and and
-/// a phrase the part leads that is likely the rarest. A bound on the id loads nothing yet.
+/// Begins a query at the end of the first `documents` documents of a segment. False only where none
+/// of them matches. A term that occurs in none ends a word, a phrase, a window and an and at once.
+/// In an and and a phrase the part that is likely the rarest leads. A bound on the id loads nothing
+/// yet.
 #[cycle(begin)]
 pub fn begin<P: Port, L: Ledger>(
     query: &Query,
@@ -260,7 +261,7 @@ pub fn begin<P: Port, L: Ledger>(
     }
 }
 
-// Begins an and of these parts, as `begin` does.
+// Begins an and of these parts.
 #[cycle(begin)]
 fn begin_and<P: Port, L: Ledger>(
     parts: &[Query],

@@ -1,8 +1,24 @@
 //! The greatest match of a query below an end.
 //!
-//! Where a part has ended, the other parts of an And and of a phrase aren't asked again. An Or asks each part at each
-//! call: one whose greatest match is known answers from what its cursors keep, at no load. A Not asks its part
-//! document by document, where nothing can be leapt over.
+//! Each part of a query answers one question: which is the greatest document below this end that
+//! the part matches? A search asks the whole query again and again, each time below the match
+//! before.
+//!
+//! - An **And** is a leapfrog join of sorted lists. It asks the part that is likely the rarest first, and then all parts in
+//!   turn, each below the place where the part before it stopped. Where a whole turn leaves the place as it is, all parts match
+//!   there. A part skips only documents that it doesn't match, so no match is lost. The place never rises, so the loop
+//!   terminates. Where a part has ended, the parts after it aren't asked.
+//! - An **Or** takes the greatest match of its parts. A part whose greatest match is known answers
+//!   from its cursors, at no load.
+//! - A **Not** tries document by document, since it has no list to leap in.
+//! - A **bound on the id** is asked after the parts that follow it, since each of its documents
+//!   costs a load.
+//!
+//! Most Ands have two words. A turn over any number of parts was a call, or a loop of its own, of
+//! 50 to 80 instructions besides the leaps. For two parts the turn is now in the loop that asks for
+//! it (`first_below`, `last_below`); others go by the recursion (`round_below`). Two packed words
+//! near their ends are merged instead (`pair.rt`). `docs/DECISIONS.md` has more, under Leaps, The
+//! leader of an And, and A leap reads field by field.
 ghost use Rattle.std.specs.Prelude.{◌≡◌, ℕ, ◌+◌, ◌<◌, ◌≤◌, ◌^◌, List, [], ◌∷◌, length, true};
 ghost use Rattle.std.specs.List.{Contains};
 ghost use Rattle.eb_base.specs.Query.{tree, word, conjunction};
@@ -24,9 +40,9 @@ use eb_base::Query;
 use eb_place::{PLACES, Port, Steps};
 use std::sync::ledger::Ledger;
 
-/// One more than the greatest document below `end` that matches, or 0. A query that is a word reads its
-/// postings one by one, which bounds its loads; those of an and of words are bounded by the documents of any
-/// one of them.
+/// One more than the greatest document below `end` that matches, or 0. A query that is a word reads
+/// its postings one by one, which bounds its loads. The loads of an and of words are bounded by the
+/// documents of any one of them.
 pub fn query_below<P: Port, L: Ledger>(
     query: &Query,
     cursors: &mut [Cursor],
@@ -90,7 +106,9 @@ pub fn below<P: Port, L: Ledger>(
     match query {
         Query::Word(_) => word_below(cursors, port, steps, end),
         Query::Phrase(_) => phrase_below(cursors, port, steps, end),
-        Query::Window(_, reach) => window_below(*reach, cursors, port, steps, end),
+        Query::Window(terms, reach) => {
+            window_below(terms.as_slice(), *reach, cursors, port, steps, end)
+        }
         Query::Since(bound) => bound_below(*bound, cursors, port, steps, end),
         Query::Not(part) => {
             let Some((own, rest)) = cursors.split_first_mut() else {
@@ -129,7 +147,7 @@ fn word_below<P: Port, L: Ledger>(
     to_document_end(found)
 }
 
-// The same for a part of an and, most of which are words.
+// As `below`, for a part of an and, most of which are words.
 #[inline(always)]
 #[cycle(below)]
 fn part_below<P: Port, L: Ledger>(
@@ -177,8 +195,8 @@ fn not_below<P: Port, L: Ledger>(
     place
 }
 
-/// One more than the greatest document below `end` that all parts match, or 0. The first cursor is that of
-/// the and.
+/// One more than the greatest document below `end` that all parts match, or 0. The first cursor is
+/// that of the and.
 #[cycle(below)]
 pub fn and_below<P: Port, L: Ledger>(
     parts: &[Query],
@@ -224,8 +242,8 @@ fn led_below<P: Port, L: Ledger>(
     all_below(parts, cursors, port, steps, start)
 }
 
-// One more than the greatest document below `end` that the leading part matches, or 0; `end` where no
-// part has its number.
+// One more than the greatest document below `end` that the leading part matches, or 0; `end` where
+// no part has its number.
 #[cycle(below)]
 fn lead_below<P: Port, L: Ledger>(
     parts: &[Query],
@@ -257,8 +275,8 @@ fn is_bound(query: &Query) -> bool {
     matches!(query, Query::Since(_))
 }
 
-// One more than the greatest document below `end` that all parts match, or 0. Two words whose lists are packed and in their
-// last blocks are walked together.
+// One more than the greatest document below `end` that all parts match, or 0. Two words whose lists
+// are packed and in their last blocks are walked together.
 #[cycle(below)]
 fn all_below<P: Port, L: Ledger>(
     parts: &[Query],
@@ -317,7 +335,8 @@ fn turns_below<P: Port, L: Ledger>(
     }
 }
 
-// A turn over all parts. The first part is most often a word, which is asked here, without a call.
+// One turn over all parts. The first part is most often a word, which is asked here, without a
+// call.
 #[inline(always)]
 #[cycle(below)]
 fn first_below<P: Port, L: Ledger>(
@@ -342,7 +361,7 @@ fn first_below<P: Port, L: Ledger>(
     last_below(others, rest, port, steps, found)
 }
 
-// The same over the parts after the first, most often a single one.
+// One turn over the parts after the first, most often a single one.
 #[inline(always)]
 #[cycle(below)]
 fn last_below<P: Port, L: Ledger>(
@@ -365,7 +384,8 @@ fn last_below<P: Port, L: Ledger>(
     }
 }
 
-// A turn over all parts. A bound on the id is asked after the parts that follow it, since it costs loads.
+// One turn over all parts. A bound on the id is asked after the parts that follow it, since it
+// costs loads.
 #[cycle(below)]
 fn round_below<P: Port, L: Ledger>(
     parts: &[Query],

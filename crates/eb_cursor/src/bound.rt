@@ -1,4 +1,5 @@
-//! Bounds on ids: the ids of a segment's documents, loaded from the newest on, each at most once.
+//! Bounds on ids: the ids of a segment's documents are loaded from the newest on, each at most
+//! once.
 ghost use Rattle.std.specs.Prelude.{◌≡◌, ◌+◌, ◌<◌, ◌≤◌, ◌^◌, List, length};
 ghost use Rattle.eb_base.specs.Document.{Doc};
 ghost use Rattle.eb_base.specs.Query.{since};
@@ -30,8 +31,8 @@ fn load_id<P: Port, L: Ledger>(
     port.load(places.id(segment, document), steps)
 }
 
-// One more than the greatest document below `end` whose id is greater than the bound, or 0. Loads the ids of
-// those from there on.
+// One more than the greatest document below `end` whose id is greater than the bound, or 0. Loads
+// the ids of those from there on.
 fn ids_below<P: Port, L: Ledger>(
     bound: u64,
     segment: u32,
@@ -57,8 +58,8 @@ fn ids_below<P: Port, L: Ledger>(
     place
 }
 
-// One more than the greatest document below `end` whose id is greater than the bound, or 0. The cursor says
-// which of them is known.
+// One more than the greatest document below `end` whose id is greater than the bound, or 0. The
+// cursor says which of them is known.
 fn cursor_below<P: Port, L: Ledger>(
     bound: u64,
     cursor: &mut Cursor,

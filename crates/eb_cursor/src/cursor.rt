@@ -1,9 +1,10 @@
 //! What a part of a query remembers.
 //!
-//! A cursor stays one record and is no enum by roles: the first cursor of a phrase or a window is a leaf and the
-//! operator's at once, so each access would have to prove its role. The query stays as it is, and beside it lies one
-//! flat list of cursors, one for each unit of its size, in preorder; a part's size is counted from the query where
-//! the cursors are split, since kept in a cursor it would have to be carried by what each call says.
+//! A cursor is one record, and no enum by roles: the first cursor of a phrase or a window is both a
+//! leaf and the operator's, so each access would have to prove its role. The query stays as it is.
+//! Beside it is one flat list of cursors, one for each unit of its size, in preorder. A part's size
+//! is counted from the query where the cursors are split: kept in a cursor, it would be one more
+//! fact in the contract of each call.
 ghost use Rattle.std.specs.Prelude.{◌≡◌, ◌+◌, ◌*◌, ◌<◌, ◌≤◌, ◌^◌};
 ghost use Rattle.eb_cursor.specs.declared.posting_list.PostingList.TheVariants.{Empty};
 ghost use Rattle.eb_cursor.specs.Loads.{ahead};
@@ -15,26 +16,26 @@ use crate::posting_list::PostingList;
 use eb_place::{Port, Posting, Steps};
 use std::sync::ledger::Ledger;
 
-/// What a part of a query remembers between two calls: each word, each term of a phrase or window, each
-/// bound on the id and each operator has one.
+/// What a part of a query remembers between two calls: each word, each term of a phrase or window,
+/// each bound on the id and each operator has one.
 #[derive(Drop)]
 pub struct Cursor {
-    /// Of an operator, a phrase, a window or a bound: all above this end is passed. A place for a phrase or
-    /// a window, else a document.
+    /// Of an operator, a phrase, a window or a bound: all from this end on was skipped. A place for
+    /// a phrase or a window, else a document.
     pub upto: u64,
     /// Of an and or a phrase: the number of the part or term that is asked first, counted from 0.
     pub lead: u32,
     /// Of a word, a term of a phrase or window and a bound: the segment whose words it loads.
     pub segment: u32,
-    /// Of a word or a term of a phrase or window: the posting that was given last. Of a bound: the newest
-    /// document whose id wasn't loaded yet.
+    /// Of a word or a term of a phrase or window: the posting that was given last. Of a bound: the
+    /// newest document whose id wasn't loaded yet.
     pub current: Option<Posting>,
     /// The postings below it.
     pub list: PostingList,
 }
 
 impl Cursor {
-    /// A cursor that has passed everything.
+    /// A cursor that has skipped everything.
     pub fn new() -> Cursor
         ensures { (result.upto ≡ 0) × (result.current ≡ None) × (result.list ≡ Empty) }
     {

@@ -8,8 +8,9 @@ use eb_base::Query;
 
 mod calls;
 
-/// A query, the most ids of an answer (`k`), and the ids found so far, with all memory that searches
-/// need. It is used for any number of searches, one segment after the other; only `new` and `again` take memory.
+/// A query, the most ids of an answer (`k`), and the ids found so far, with all memory that
+/// searches need. It serves any number of searches, one segment after the other; only `new` and
+/// `again` take memory.
 #[derive(Drop)]
 pub struct Frame {
     query: Query,

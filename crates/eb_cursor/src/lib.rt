@@ -1,6 +1,6 @@
-//! Query cursors: a frame takes all memory that a search needs, once, and then finds in one segment the
-//! greatest document at or below a number that its query matches, over words that may grow between any
-//! two loads. `specs/` says what a frame is seen as, and what it finds.
+//! Query cursors: a frame takes all memory that a search needs, once, and then finds in one segment
+//! the greatest document at or below a number that its query matches, over words that may grow
+//! between any two loads. `specs/` says what a frame is seen as, and what it finds.
 #![tactic(auto)]
 
 mod begin;

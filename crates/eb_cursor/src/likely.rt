@@ -1,4 +1,11 @@
 //! The segments in which a word may be.
+//!
+//! A word's list is found segment by segment, and each step of it waits for memory: home cell, text
+//! place, text, list. The home cells of all segments don't depend on each other, so they are loaded
+//! first, one after the other, and a segment whose home cell is free is skipped. The bound on the
+//! loads of a word's search stays as it is. Rejected: the same for an And, whose words are looked
+//! up in the segment at hand, and a table of all segments' words, which the writer would have to
+//! keep.
 ghost use Rattle.std.specs.Prelude.{◌≡◌, ℕ, ◌+◌, ◌≤◌, true, false, get_or};
 ghost use Rattle.eb_place.specs.declared.moment.Moment.{Moment};
 ghost use Rattle.eb_place.specs.Later.{IsNotBefore};
@@ -10,8 +17,8 @@ use eb_place::{Port, Steps};
 use eb_terms::{hash_of, may_be_entered};
 use std::sync::ledger::Ledger;
 
-/// In which of the first segments a term may be entered: those where its home cell is filled. One load a segment:
-/// none waits for another, so that the memory gives them at once.
+/// In which of the first segments a term may be entered: those where its home cell is filled. One
+/// load a segment; no load waits for another, so the memory serves them at once.
 pub fn segments_with<P: Port, L: Ledger>(
     term: &Term,
     begun: u32,

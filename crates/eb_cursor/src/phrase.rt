@@ -1,4 +1,18 @@
-//! Phrases: the terms of a phrase leap over its possible places.
+//! Phrases: leaps over the places where a phrase can begin.
+//!
+//! Where a phrase begins at place p, its term number i is at p + i. So the postings of term i, each
+//! less i, are the places where the phrase can begin as far as this term says, and a phrase is an
+//! And of these lists. It is found as an And is (`below.rt`): the term that is likely the rarest is
+//! asked first, then all terms in turn, each below the place where the one before it stopped. Where
+//! a turn leaves the place as it is, the phrase begins there. A place is skipped only where some
+//! term can't be at its own place, so no phrase is lost; places only fall, so the loop terminates.
+//!
+//! Places of two documents follow each other without a gap in the numbers. So before each turn the
+//! end is lowered to one from before which all terms of the phrase are in one document
+//! (`room_below`).
+//!
+//! Two terms, which most phrases have, are asked without a loop (`terms_below`). `phrase_below`
+//! stays a call, since inlined it took registers from the walk over a query's other parts.
 ghost use Rattle.std.specs.Prelude.{◌≡◌, ℕ, ◌+◌, ◌*◌, ◌<◌, ◌≤◌, ◌^◌, List, length};
 ghost use Rattle.eb_place.specs.Postings.{places};
 ghost use Rattle.eb_cursor.specs.Loads.{loads_left};
@@ -38,7 +52,8 @@ fn room_below(count: u64, end: u64) -> u64
     end - (over - PLACES)
 }
 
-// Asks each leaf in turn, each for its own place in the phrase; none where the one before it has ended.
+// Asks each leaf in turn, each for its own place in the phrase; none where the one before it has
+// ended.
 fn leaves_below<P: Port, L: Ledger>(
     at: u64,
     cursors: &mut [Cursor],
@@ -63,7 +78,8 @@ fn leaves_below<P: Port, L: Ledger>(
     leaves_below(at + 1, rest, port, steps, found)
 }
 
-// The same from the first term on, most often over two terms, which are asked here, without a loop.
+// As `leaves_below` from the first term on. Most phrases have two terms, which are asked here,
+// without a loop.
 #[inline(always)]
 fn terms_below<P: Port, L: Ledger>(
     cursors: &mut [Cursor],
@@ -89,8 +105,8 @@ fn terms_below<P: Port, L: Ledger>(
     leaf_below(&mut cursors[1], port, steps, found + 1).saturating_sub(1)
 }
 
-// One more than the greatest place below `end` from which the leading term can stand, or 0; `end` where
-// no term has its number.
+// One more than the greatest place below `end` where the phrase can begin by its leading term, or
+// 0; `end` where no term has its number.
 fn lead_leaf_below<P: Port, L: Ledger>(
     at: u64,
     lead: u32,

@@ -6,7 +6,8 @@ ghost use Rattle.eb_place.specs.Told.{Told};
 ghost use Rattle.eb_cursor.specs.Costs.{Costs, Spans, look_loads, opening_loads, IsPaid, IsReadAs, IsReading, Pays, PaysBesides, word_loads};
 ghost use Rattle.eb_base.specs.Term.{Term};
 ghost use Rattle.eb_chain.specs.Chains.{Stands, Given};
-ghost use Rattle.eb_chain.specs.Leaps.{at_most, slices_in_use};
+ghost use Rattle.eb_place.specs.Postings.{at_most};
+ghost use Rattle.eb_chain.specs.Leaps.{slices_in_use};
 ghost use Rattle.eb_cursor.specs.Finds.{OpensIn};
 ghost use Rattle.eb_cursor.specs.Lists.{list_gives, CanGive, Gave, from_below};
 ghost use Rattle.eb_cursor.specs.Opened.{CanOpen, Opened};
@@ -30,8 +31,8 @@ pub enum PostingList {
     Packed(PackedList),
 }
 
-/// Whether a segment is converted, so that its packed lists may be read: whether its converted word is 1.
-/// One load.
+/// Whether a segment is converted, so that its packed lists may be read: whether its converted word
+/// is 1. One load.
 pub fn is_packed<P: Port, L: Ledger>(port: &mut P, segment: u32, steps: &mut Steps<L>) -> bool
     requires { (m : Moment) × P.stands port.old m × (segment < m.setting.segments) }
     ensures told { Told P.stands P.keeps port.old port.new (λ m. segment < m.setting.segments)
@@ -44,8 +45,9 @@ pub fn is_packed<P: Port, L: Ledger>(port: &mut P, segment: u32, steps: &mut Ste
 }
 
 impl PostingList {
-    /// The postings of a term in a segment, those of its first documents among them: from its packed list
-    /// where `packed`, which says that the segment is converted, else from its live slices. Takes no memory.
+    /// The postings of a term in a segment, among them those of its first documents: from its
+    /// packed list where `packed`, which requires that the segment is converted, else from its live
+    /// slices. Takes no memory.
     pub fn open<P: Port, L: Ledger>(
         term: &Term,
         segment: u32,
@@ -88,8 +90,9 @@ impl PostingList {
         }
     }
 
-    /// The newest posting at or below `most`; those above it are passed for good. In live slices the next posting is
-    /// looked at first; where it isn't the one, the list leaps. Takes no memory.
+    /// The newest posting at or below `most`; those above it are skipped for good. In live slices
+    /// the next posting is looked at first; where it isn't the one, the list leaps. Takes no
+    /// memory.
     #[inline(always)]
     pub fn next_at_most<P: Port, L: Ledger>(
         &mut self,
@@ -111,8 +114,9 @@ impl PostingList {
         }
     }
 
-    /// How common the term is: the pool that the live slices have come to, or how many postings a packed list
-    /// has still to give; 0 where it is empty. All lists of a segment are of one kind. Loads nothing.
+    /// How common the term is: the pool that the live slices are in, or how many postings a packed
+    /// list still has to give; 0 where it is empty. All lists of a segment are of one kind. Loads
+    /// nothing.
     pub fn frequency(&self) -> u64 {
         match self {
             PostingList::Empty => 0,
@@ -122,8 +126,8 @@ impl PostingList {
     }
 }
 
-// The newest posting of a chain at or below `most`. The next posting is looked at first; where it isn't the one, the
-// chain leaps.
+// The newest posting of a chain at or below `most`. The next posting is looked at first; where it
+// isn't the one, the chain leaps.
 fn look_at_most<P: Port, L: Ledger>(
     chain: &mut Chain,
     port: &mut P,

@@ -10,12 +10,13 @@ use eb_base::Query;
 /// How common a part likely is, by what its cursors know without a load.
 #[derive(Clone, Copy, Debug, PartialEq, Eq)]
 pub struct Commonness {
-    /// The pool that its live postings have come to, each of which holds some nine times the postings of the
-    /// one before it, or the number of its packed postings; the greatest number where that can't be told.
+    /// The pool that its live postings are in, each of which has some nine times the postings of
+    /// the one before it, or the number of its packed postings; the greatest number where that
+    /// isn't known.
     pub frequency: u64,
-    /// One more than its newest posting, 0 where there is none, the greatest number but one where that can't
-    /// be told, and the greatest for a bound on the id: of two terms of one frequency the rarer one likely
-    /// begins lower.
+    /// One more than its newest posting, 0 where there is none, the greatest number but one where
+    /// that isn't known, and the greatest for a bound on the id: of two terms of one frequency the
+    /// rarer one likely begins lower.
     pub newest: u64,
 }
 
@@ -25,7 +26,7 @@ pub const UNKNOWN: Commonness = Commonness {
     newest: u64::MAX - 1,
 };
 
-/// Of a bound on the id, than which nothing is more common, since each of its documents costs a load.
+/// Of a bound on the id. Nothing is more common, since each of its documents costs a load.
 pub const BOUND: Commonness = Commonness {
     frequency: u64::MAX,
     newest: u64::MAX,
@@ -105,7 +106,8 @@ pub fn rarest(parts: &[Query], cursors: &[Cursor]) -> Part
     rarer(commonness_of_part(part, own), rarest(others, rest))
 }
 
-/// The number of the part of an and that is likely the rarest, 0 where all are bounds on the id. Loads nothing.
+/// The number of the part of an and that is likely the rarest, 0 where all are bounds on the id.
+/// Loads nothing.
 pub fn rarest_number(parts: &[Query], cursors: &[Cursor]) -> u32
     requires fits { length cursors.now ≡ sizes (trees_in parts.now) }
     requires small { length cursors.now ≤ 64 }
@@ -116,7 +118,7 @@ pub fn rarest_number(parts: &[Query], cursors: &[Cursor]) -> u32
     }
 }
 
-// The same of two words.
+// The number of the rarer of two words.
 #[inline(always)]
 fn rarer_of_two(cursors: &[Cursor]) -> u32 {
     let [one, other] = cursors else {

@@ -5,7 +5,8 @@ ghost use Rattle.eb_cursor.specs.Asked.{trees_in};
 
 use eb_base::Query;
 
-/// The size of a query: one for each word, each bound on the id, each term of a phrase or window and each operator.
+/// The size of a query: one for each word, each bound on the id, each term of a phrase or window
+/// and each operator.
 #[cycle(size)]
 pub fn size(query: &Query) -> usize
     requires { size (tree query.now) < 2 ^ 32 }
@@ -22,6 +23,7 @@ pub fn size(query: &Query) -> usize
     }
 }
 
+// The sizes of all parts, added up.
 #[cycle(size)]
 fn sizes(parts: &[Query]) -> usize
     requires { sizes (trees_in parts.now) < 2 ^ 32 }

@@ -1,32 +1,52 @@
-//! Windows: the terms of a window, from the last to the first, leap over its possible places.
+//! Windows: terms in their order in one document, the last at most `reach` places after the first.
 //!
-//! A window takes for the greatest place of its last term the greatest place of each term before it below the one
-//! after it; where the first is too far away or in another document, the last term leaps to the end of its reach. All
-//! places only fall, and no list of places is kept. A window whose reach is too short for its terms is asked of no
-//! list. It holds for any number of position bits, since the document's
-//! end bounds the reach.
-ghost use Rattle.std.specs.Prelude.{◌≡◌, ◌+◌, ◌*◌, ◌<◌, ◌≤◌, ◌^◌, length};
+//! A window is sought from its end. The walk takes the greatest place of the last term below an
+//! end, and then for each term before it the greatest place below that of the term after it. For
+//! this last place the window is then as short as it can be. Where its first term is too far away,
+//! or in an earlier document, no window ends between the end of the first term's reach and this
+//! last place: each such window begins at or before that first term, and reaches no further. So the
+//! last term leaps to the end of that reach. Places only fall, so the loop terminates, and no list
+//! of places is kept.
+//!
+//! Where all terms of a window are one, and they are more than two, each stands at the place below
+//! that of the term after it. So where the last falls to its next place, each other falls to the
+//! place of the term before it, and the first to its own next place. Only the first and the last
+//! cursor walk then (`repeated_below`), in place of one walk for each term. The last falls by one
+//! place at a time: no window ends between, and what lies behind the reach is at most as many
+//! places as there are terms. Equal terms among others have a walk each.
+//!
+//! A window whose reach is too short for its terms matches nothing, and asks no list. Without that
+//! test 64 equal words with too short a reach walked one list 64 times.
+//!
+//! The walk holds for any number of position bits, since the end of the document bounds the reach.
+//! `window_below` stays a call, since inlined it took registers from the walk over a query's other
+//! parts.
+ghost use Rattle.std.specs.Prelude.{◌≡◌, ◌+◌, ◌*◌, ◌<◌, ◌≤◌, ◌^◌, length, bytes_eq};
+ghost use Rattle.std.specs.List.{list_all};
+ghost use Rattle.eb_base.specs.Query.{window};
 ghost use Rattle.eb_cursor.specs.Loads.{loads_left};
+ghost use Rattle.eb_cursor.specs.Posted as spec;
 ghost use Rattle.eb_cursor.specs.Posted.{reach_end};
-ghost use Rattle.eb_cursor.specs.Asked.{CanAskWindow, CanAskBehind};
-ghost use Rattle.eb_cursor.specs.Finds.{FindsWindow, FindsSpan, FindsEnd};
+ghost use Rattle.eb_cursor.specs.Asked.{CanAsk, CanAskBehind, CanAskTerms, CanAskRepeated, CanAskSpan};
+ghost use Rattle.eb_cursor.specs.Finds.{FindsMatch, FindsSpan, FindsEnd, FindsEndOf, FindsEndRepeated, FindsLast, FindsNextSpan};
 
 use crate::cursor::{Cursor, leaf_below};
 use crate::phrase::to_document_end;
+use eb_base::Term;
 use eb_place::{PLACES, Port, Steps};
 use std::sync::ledger::Ledger;
 
-/// Where the terms of a window stand, each as near as it can in front of the one after it.
+/// Where the terms of a window are, each as near as it can before the one after it.
 #[derive(Clone, Copy)]
 pub struct Span {
-    /// One more than the place of the first term, 0 where the terms don't stand in their order.
+    /// One more than the place of the first term, 0 where the terms don't occur in their order.
     pub first: u64,
-    /// One more than the place of the last term, 0 where it doesn't stand.
+    /// One more than the place of the last term, 0 where it doesn't occur.
     pub last: u64,
 }
 
-// Asks the terms from the last on, each for its greatest place below that of the term after it. Two terms, which
-// most windows have, are asked here, without a call.
+// Asks the terms from the last on, each for its greatest place below that of the term after it. Two
+// terms, which most windows have, are asked here, without a call.
 #[inline(always)]
 #[cycle(span_below)]
 fn span_below<P: Port, L: Ledger>(
@@ -61,7 +81,7 @@ fn span_below<P: Port, L: Ledger>(
     }
 }
 
-// The same over the terms after the first, most often a single one.
+// Asks the terms after the first, most often a single one.
 #[inline(always)]
 #[cycle(span_below)]
 fn rest_below<P: Port, L: Ledger>(
@@ -85,7 +105,7 @@ fn rest_below<P: Port, L: Ledger>(
     }
 }
 
-// The same by a call, for windows of more than two terms.
+// Asks more than one term, by a call.
 #[cycle(span_below)]
 fn more_below<P: Port, L: Ledger>(
     cursors: &mut [Cursor],
@@ -101,7 +121,7 @@ fn more_below<P: Port, L: Ledger>(
     span_below(cursors, port, steps, end)
 }
 
-// The end below which the last term of a window stands whose first term stands before `first`: at most
+// The end below which the last term of a window is whose first term is before `first`: at most
 // `reach` places after it, and in its document.
 fn end_of_reach(first: u64, reach: u32) -> u64
     requires { first ≤ 2 ^ 49 }
@@ -136,10 +156,111 @@ fn windows_below<P: Port, L: Ledger>(
     place
 }
 
+// One more than the greatest place of the last term below `end`, or 0. The other terms aren't
+// asked.
+fn last_below<P: Port, L: Ledger>(
+    cursors: &mut [Cursor],
+    port: &mut P,
+    steps: &mut Steps<L>,
+    end: u64,
+) -> u64
+    requires some { 0 < length cursors.old }
+    requires ready { CanAskBehind P.stands port.old cursors.old end }
+    ensures found { FindsLast P.stands P.keeps port.old port.new cursors.old cursors.new end result }
+    ensures loads { steps.new + loads_left cursors.new ≤ steps.old + loads_left cursors.old }
+{
+    let last = cursors.len() - 1;
+    leaf_below(&mut cursors[last], port, steps, end)
+}
+
+// Where the terms are below the last one's place in `span`, where all are one term: the last falls
+// to its next place, so each other falls to the place of the one before it, and the first to its
+// next.
+fn next_span<P: Port, L: Ledger>(
+    cursors: &mut [Cursor],
+    port: &mut P,
+    steps: &mut Steps<L>,
+    span: Span,
+) -> Span
+    requires more { 1 < length cursors.old }
+    requires last { 0 < span.last }
+    requires first { 0 < span.first }
+    requires ready { CanAskSpan P.stands port.old cursors.old span }
+    ensures found { FindsNextSpan P.stands P.keeps port.old port.new cursors.old cursors.new span result }
+    ensures loads { steps.new + loads_left cursors.new ≤ steps.old + loads_left cursors.old }
+{
+    let last = last_below(cursors, port, steps, span.last - 1);
+    let first = leaf_below(&mut cursors[0], port, steps, span.first - 1);
+    Span { first, last }
+}
+
+// As `windows_below`, where all terms are one. Only the first and the last cursor walk.
+fn repeated_below<P: Port, L: Ledger>(
+    reach: u32,
+    cursors: &mut [Cursor],
+    port: &mut P,
+    steps: &mut Steps<L>,
+    end: u64,
+) -> u64
+    requires small { end ≤ 2 ^ 48 }
+    requires more { 1 < length cursors.old }
+    requires ready { CanAskRepeated P.stands port.old cursors.old end }
+    ensures found { FindsEndRepeated P.stands P.keeps port.old port.new reach cursors.old cursors.new end result }
+    ensures loads { steps.new + loads_left cursors.new ≤ steps.old + loads_left cursors.old }
+{
+    let mut span = span_below(cursors, port, steps, end);
+    while span.first > 0 {
+        if span.last <= end_of_reach(span.first, reach) {
+            return span.last;
+        }
+        span = next_span(cursors, port, steps, span);
+    }
+    0
+}
+
+// Whether these are more than two terms, and all are one.
+fn is_repeated(terms: &[Term]) -> bool
+    ensures { result ≡ spec.is_repeated terms.now }
+{
+    let Some((first, others)) = terms.split_first() else {
+        return false;
+    };
+    others.len() > 1 && are_all(first, others)
+}
+
+// Whether all terms are this one.
+fn are_all(term: &Term, terms: &[Term]) -> bool
+    ensures { result ≡ list_all (bytes_eq term.now) terms.now }
+{
+    terms.iter().all(|own| term == own)
+}
+
+// One more than the greatest place below `end` where a window of these terms ends, or 0.
+fn ends_below<P: Port, L: Ledger>(
+    terms: &[Term],
+    reach: u32,
+    cursors: &mut [Cursor],
+    port: &mut P,
+    steps: &mut Steps<L>,
+    end: u64,
+) -> u64
+    requires small { end ≤ 2 ^ 48 }
+    requires some { 0 < length cursors.old }
+    requires ready { CanAskTerms P.stands port.old terms.now cursors.old end }
+    ensures found { FindsEndOf P.stands P.keeps port.old port.new terms.now reach cursors.old cursors.new end result }
+    ensures loads { steps.new + loads_left cursors.new ≤ steps.old + loads_left cursors.old }
+{
+    if is_repeated(terms) {
+        return repeated_below(reach, cursors, port, steps, end);
+    }
+    windows_below(reach, cursors, port, steps, end)
+}
+
 /// One more than the greatest document below `end` that has the window of this reach, or 0.
 // A call, so that the walk over a query's other parts takes none of its registers.
 #[inline(never)]
 pub fn window_below<P: Port, L: Ledger>(
+    terms: &[Term],
     reach: u32,
     cursors: &mut [Cursor],
     port: &mut P,
@@ -147,8 +268,8 @@ pub fn window_below<P: Port, L: Ledger>(
     end: u64,
 ) -> u64
     requires small { end ≤ 2 ^ 32 }
-    requires ready { CanAskWindow P.stands port.old reach cursors.old end }
-    ensures found { FindsWindow P.stands P.keeps port.old port.new reach cursors.old cursors.new end result }
+    requires ready { CanAsk P.stands port.old (window terms.now reach) cursors.old end }
+    ensures found { FindsMatch P.stands P.keeps port.old port.new (window terms.now reach) cursors.old cursors.new end result }
     ensures loads { steps.new + loads_left cursors.new ≤ steps.old + loads_left cursors.old }
 {
     // (a reach that is too short for the terms)
@@ -159,7 +280,7 @@ pub fn window_below<P: Port, L: Ledger>(
     if start == 0 {
         return 0;
     }
-    let found = windows_below(reach, cursors, port, steps, start);
+    let found = ends_below(terms, reach, cursors, port, steps, start);
     cursors[0].upto = found;
     to_document_end(found)
 }

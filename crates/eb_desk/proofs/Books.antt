@@ -110,7 +110,8 @@ module _ {J A D : Type 0} (nowhere : D) (pair : J → Pair) (answer_pair : A →
 
   worker_took_book : (r : Option (Task J)) (j k : Pass (Task J) (View D)) (a : Pass A (View D)) → IsWorker nowhere j a → k.table_id ≡ j.table_id
       → MatchOption r (view k ≡ view j) (λ x. Moves (view j) (λ h. taken_out pair h x) (view k) × IsTaken made (view j) x)
-      → MatchOption r (worker_book nowhere k a ≡ worker_book nowhere j a) (λ x. (worker_book nowhere k a ≡ with_task pair (worker_book nowhere j a) x) × IsMadeTask made (worker_book nowhere j a).home x)
+      → MatchOption r (worker_book nowhere k a ≡ worker_book nowhere j a)
+      (λ x. (worker_book nowhere k a ≡ with_task pair (worker_book nowhere j a) x) × IsMadeTask made (worker_book nowhere j a).home x)
   worker_took_book None j k a is t m = worker_at j k a (view j) t m
   worker_took_book (Some (a_job x)) j k a is t m = (worker_at j k a _ t (m.0 _ _ is.jobs), (m.1 _ _ is.jobs).0)
   worker_took_book (Some Stop) j k a is t m = (worker_at j k a _ t (m.0 _ _ is.jobs), (m.1 _ _ is.jobs).0)

@@ -9,7 +9,7 @@ use Rattle.eb_desk.specs.declared.rule.Pair.{Pair}
 use Rattle.eb_desk.specs.declared.rule.Hand.{Hand}
 use Rattle.eb_desk.specs.declared.rule.View.{View}
 use Rattle.eb_desk.specs.declared.rule.View.TheVariants.{At}
-use Rattle.eb_desk.specs.Rule.{hand_of, total, IsRising, IsTaker}
+use Rattle.eb_desk.specs.Rule.{hand_of, total, HaveRisingNumbers, IsTaker}
 use Rattle.eb_desk.specs.Laws.{times, stands, JobsAreTakenOnce, JobsAreKnown, AnswersAreKept}
 
 -- above all of them there is none
@@ -17,7 +17,7 @@ none_above : (n : ℕ) (ps : List Pair) → All (λ q. n < q.number) ps → time
 none_above n [] a = refl
 none_above n (p ∷ ps) a = let h = All-head (λ q. n < q.number) p ps a in let t = none_above n ps (All-tail (λ q. n < q.number) p ps a) in grind (arith, h, t)
 
-rising_once : (n : ℕ) (ps : List Pair) → IsRising ps → times n ps ≤ 1
+rising_once : (n : ℕ) (ps : List Pair) → HaveRisingNumbers ps → times n ps ≤ 1
 rising_once n [] r = omega arith
 rising_once n (p ∷ ps) r = by_number (ℕ_discrete p.number n) (rising_once n ps r.1)
   where
@@ -52,7 +52,7 @@ module _ {D : Type 0} where
       (z by v e))
 
 module _ {J D : Type 0} (pair : J → Pair) (made : D → J → Type 0) where
-  -- no number stands twice among the queue and what was taken
+  -- no number occurs twice among the queue and what was taken
   pub once : JobsAreTakenOnce pair made
   once home items views b n =
       let one = total_one (λ h. times n h.put) views b.clerk

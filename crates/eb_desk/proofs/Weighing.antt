@@ -8,7 +8,7 @@ use Rattle.eb_desk.specs.declared.job.Task.TheVariants.{Job as a_job, Stop}
 use Rattle.eb_desk.specs.declared.rule.Pair.{Pair}
 use Rattle.eb_desk.specs.declared.rule.Hand.{Hand}
 use Rattle.eb_desk.specs.declared.rule.View.{View}
-use Rattle.eb_desk.specs.Rule.{job_pairs, stops_of, weigh, hand_of, total, IsAboveEach, IsRising}
+use Rattle.eb_desk.specs.Rule.{job_pairs, stops_of, weigh, hand_of, total, IsAboveEach, HaveRisingNumbers}
 
 module _ {D : Type 0} where
   pub total_set : (f : Hand → ℕ) (views : List (View D)) (by : ℕ) (v w : View D) → get_elem? views by ≡ some v → total f (set views by w) + f (hand_of v) ≡ total f views + f (hand_of w)
@@ -56,6 +56,6 @@ module _ {J : Type 0} (pair : J → Pair) where
   weigh_answers_last g [] a = omega arith
   weigh_answers_last g (x ∷ xs) a = let h = weigh_answers_last g xs a in omega (arith, h)
 
-pub rising_last : (ps : List Pair) (p : Pair) → IsRising ps → IsAboveEach p.number ps → IsRising (ps ++ p ∷ [])
+pub rising_last : (ps : List Pair) (p : Pair) → HaveRisingNumbers ps → IsAboveEach p.number ps → HaveRisingNumbers (ps ++ p ∷ [])
 rising_last [] p r a = (All-nil _, tt)
 rising_last (x ∷ xs) p r a = (All-push (λ q. x.number < q.number) xs p r.0 (All-head (λ q. q.number < p.number) x xs a), rising_last xs p r.1 (All-tail (λ q. q.number < p.number) x xs a))

@@ -21,8 +21,9 @@ pub record DeskBook : Type 0 where
   pub job_places : ℕ
   pub answer_places : ℕ
 
--- of a clerk: its desk's queues, the home, the pairs of the jobs that it put, in order, how many stops it put, and the pairs that it
--- took from the queue of jobs and from that of answers, each in order
+-- of a clerk: its desk's queues, the home, the pairs of the jobs that it put, in order, how many
+-- stops it put, and the pairs that it took from the queue of jobs and from that of answers, each in
+-- order
 pub record ClerkBook (D : Type 0) : Type 0 where
   pub queues : Queues
   pub home : D
@@ -31,8 +32,8 @@ pub record ClerkBook (D : Type 0) : Type 0 where
   pub taken : List Pair
   pub answered : List Pair
 
--- of a worker: its desk's queues, the home, the pairs of the jobs that it took, in order, how many stops it took, and the pairs of the
--- answers that it put, in order
+-- of a worker: its desk's queues, the home, the pairs of the jobs that it took, in order, how many
+-- stops it took, and the pairs of the answers that it put, in order
 pub record WorkerBook (D : Type 0) : Type 0 where
   pub queues : Queues
   pub home : D
@@ -60,7 +61,7 @@ with_put c p = record { queues = c.queues; home = c.home; put = c.put ++ p ∷ [
 abbrev pub with_stop : {D : Type 0} → (ClerkBook D) → (ClerkBook D)
 with_stop c = record { queues = c.queues; home = c.home; put = c.put; stops = suc c.stops; taken = c.taken; answered = c.answered }
 
--- the clerk put so many stops
+-- the clerk put this many stops
 abbrev pub with_stops : {D : Type 0} → (ClerkBook D) → ℕ → (ClerkBook D)
 with_stops c n = record { queues = c.queues; home = c.home; put = c.put; stops = c.stops + n; taken = c.taken; answered = c.answered }
 
@@ -72,11 +73,12 @@ with_taken c p = record { queues = c.queues; home = c.home; put = c.put; stops =
 abbrev pub with_answered : {D : Type 0} → (ClerkBook D) → Pair → (ClerkBook D)
 with_answered c p = record { queues = c.queues; home = c.home; put = c.put; stops = c.stops; taken = c.taken; answered = c.answered ++ p ∷ [] }
 
--- the worker took jobs of these pairs, put answers of the same pairs in the same order, and took so many stops in all
+-- the worker took jobs of these pairs, put answers of the same pairs in the same order, and took
+-- this many stops in all
 abbrev pub with_work : {D : Type 0} → (WorkerBook D) → List Pair → ℕ → (WorkerBook D)
 with_work w ps stops = record { queues = w.queues; home = w.home; taken = w.taken ++ ps; stops = stops; put = w.put ++ ps }
 
--- the worker took so many jobs and a stop, and put the answers of these jobs, in the same order
+-- the worker took this many jobs and a stop, and put the answers of these jobs, in the same order
 abbrev pub HasWorked : {D : Type 0} → (WorkerBook D) → (WorkerBook D) → ℕ → Type 0
 HasWorked old new count = (ps : List Pair) × (new ≡ with_work old ps (old.stops + 1)) × (count ≡ length ps)
 

@@ -1,4 +1,18 @@
--- The rules of the queue of jobs and of the queue of answers.
+-- The rules of the queue of jobs and of the queue of answers: a balance.
+--
+-- A queue that threads share has no lasting order that a thread could know. What lasts is a
+-- balance: however the pairs of number and document count are weighed, the weight of all that was
+-- put is the weight of all that was taken and of what is there. A weight that is 1 for one pair and
+-- 0 for all others counts this pair, so nothing is lost, doubled or invented.
+--
+-- Each pass (a thread's access to a queue) has a hand: what it has put and taken. No other thread
+-- changes it, so a thread knows its own hand, and the balance ties all hands to the queue. One pass
+-- alone puts jobs, the clerk's, with rising numbers, so each job is put once and taken at most
+-- once. One pass alone takes answers, the clerk's again.
+--
+-- A run that fails must still end its workers, so stops are balanced as jobs are: whoever ends a
+-- run puts one for each worker. Rejected: a flag that workers look at, which a sleeping one never
+-- sees.
 use Rattle.std.specs.Prelude.{◌≡◌, ℕ, suc, ◌+◌, ◌<◌, ◌⊎◌, Bool, true, false, List, [], ◌∷◌, map, All}
 use mathlib.Core.Option.{some}
 use lib.ListN.{get_elem?}
@@ -49,23 +63,25 @@ abbrev pub IsAboveEach : ℕ → List Pair → Type 0
 IsAboveEach n ps = All (λ p. p.number < n) ps
 
 -- the numbers rise
-abbrev pub IsRising : List Pair → Type 0
-IsRising [] = Unit {0}
-IsRising (p ∷ ps) = All (λ q. p.number < q.number) ps × IsRising ps
+abbrev pub HaveRisingNumbers : List Pair → Type 0
+HaveRisingNumbers [] = Unit {0}
+HaveRisingNumbers (p ∷ ps) = All (λ q. p.number < q.number) ps × HaveRisingNumbers ps
 
--- each pass is of this home and of its kind; the pairs that were put are those that were taken and those that are there, however
--- pairs are weighed; the same of stops
+-- each pass is of this home and of its kind; the pairs that were put are those that were taken and
+-- those that are there, however pairs are weighed; the same of stops
 pub record Balanced {D : Type 0} (home : D) (kind : ℕ → Hand → Type 0) (there : List Pair) (stops : ℕ) (views : List (View D)) : Type 0 where
   pub seated : (by : ℕ) (v : View D) → get_elem? views by ≡ some v → (h : Hand) × (v ≡ At home h) × kind by h
   pub pairs : (g : Pair → ℕ) → total (λ h. weigh g h.put) views ≡ total (λ h. weigh g h.taken) views + weigh g there
   pub stopped : total (λ h. h.stops_put) views ≡ total (λ h. h.stops_taken) views + stops
 
--- at the queue of jobs one pass alone puts jobs and stops, the clerk's, with rising numbers; each takes
+-- at the queue of jobs one pass alone puts jobs and stops, the clerk's, with rising numbers; each
+-- takes
 pub record IsTaker (clerk : ℕ) (by : ℕ) (h : Hand) : Type 0 where
-  pub puts : h.puts ≡ true → (by ≡ clerk) × IsRising h.put
+  pub puts : h.puts ≡ true → (by ≡ clerk) × HaveRisingNumbers h.put
   pub takes : h.puts ≡ false → (h.put ≡ []) × (h.stops_put ≡ 0)
 
--- at the queue of answers one pass alone takes answers, the clerk's, and puts none; each other puts, and takes none
+-- at the queue of answers one pass alone takes answers, the clerk's, and puts none; each other
+-- puts, and takes none
 pub record IsPutter (clerk : ℕ) (by : ℕ) (h : Hand) : Type 0 where
   pub puts : h.puts ≡ true → h.taken ≡ []
   pub takes : h.puts ≡ false → (by ≡ clerk) × (h.put ≡ [])
@@ -79,13 +95,15 @@ IsMadeTask made home Stop = Unit {0}
 abbrev pub IsOpening : {T D : Type 0} → List T → List (View D) → Type 0
 IsOpening items views = (items ≡ []) × (views ≡ Opening ∷ [])
 
--- the rule of the jobs of a home: `items` are the jobs and stops that were put and not taken, by their counts, in any order
+-- the rule of the jobs of a home: `items` are the jobs and stops that were put and not taken, by
+-- their counts, in any order
 pub record JobsOf {J D : Type 0} (pair : J → Pair) (made : D → J → Type 0) (home : D) (items : List (Task J)) (views : List (View D)) : Type 0 where
   pub clerk : ℕ
   pub all_made : All (IsMadeTask made home) items
   pub balanced : Balanced home (IsTaker clerk) (job_pairs pair items) (stops_of items) views
 
--- the rule of the answers of a home: `items` are the answers that were put and not taken, by their counts, in any order
+-- the rule of the answers of a home: `items` are the answers that were put and not taken, by their
+-- counts, in any order
 pub record AnswersOf {A D : Type 0} (pair : A → Pair) (made : D → A → Type 0) (home : D) (items : List A) (views : List (View D)) : Type 0 where
   pub clerk : ℕ
   pub all_made : All (made home) items

@@ -1,4 +1,4 @@
--- What each kind of step at a queue does to what its pass knows, and what it asks of it.
+-- What each kind of step at a queue does to what its pass knows, and what it requires of it.
 use Rattle.std.specs.Prelude.{◌≡◌, suc, ◌⊎◌, Bool, true, false, [], ◌∷◌, ◌++◌}
 use Rattle.eb_desk.specs.declared.job.Task.{Task}
 use Rattle.eb_desk.specs.declared.job.Task.TheVariants.{Job as a_job, Stop}
@@ -14,12 +14,12 @@ Moves {D} v f w = (home : D) (h : Hand) → v ≡ At home h → w ≡ At home (f
 
 -- ---- put
 
--- a task more was put
+-- one more task was put
 abbrev pub put_in : {J : Type 0} → (J → Pair) → Hand → Task J → Hand
 put_in pair h (a_job j) = hand h.puts (h.put ++ pair j ∷ []) h.stops_put h.taken h.stops_taken
 put_in pair h Stop = hand h.puts h.put (suc h.stops_put) h.taken h.stops_taken
 
--- an answer of this pair more was put
+-- one more answer of this pair was put
 abbrev pub after_answer : Hand → Pair → Hand
 after_answer h p = hand h.puts (h.put ++ p ∷ []) h.stops_put h.taken h.stops_taken
 
@@ -38,12 +38,12 @@ MayPutAnswer {A} {D} made v x = (home : D) × (h : Hand) × (v ≡ At home h) ×
 
 -- ---- take
 
--- a task more was taken
+-- one more task was taken
 abbrev pub taken_out : {J : Type 0} → (J → Pair) → Hand → Task J → Hand
 taken_out pair h (a_job j) = hand h.puts h.put h.stops_put (h.taken ++ pair j ∷ []) h.stops_taken
 taken_out pair h Stop = hand h.puts h.put h.stops_put h.taken (suc h.stops_taken)
 
--- one of this pair more was taken
+-- one more of this pair was taken
 abbrev pub pair_out : Hand → Pair → Hand
 pair_out h p = hand h.puts h.put h.stops_put (h.taken ++ p ∷ []) h.stops_taken
 
@@ -69,7 +69,8 @@ TakesAnswers {D} v = (home : D) × (h : Hand) × (v ≡ At home h) × (h.puts �
 
 -- ---- split
 
--- what the pass has put and taken when another is made of it: nothing where it is the first, which puts or takes
+-- what the pass has put and taken when another is split off it: nothing where it is the first,
+-- which puts or takes
 abbrev pub opened : {D : Type 0} → Bool → View D → Hand
 opened puts Opening = idle puts
 opened puts (At home h) = h

@@ -1,9 +1,10 @@
 //! The clerk.
 //!
-//! The clerk's call is the second argument of `join_mut`: the first runs on a new thread, or last where none can be
-//! made. With the clerk first, workers would sleep before it ever began; with it second, it answers its jobs itself.
-//! A waiting clerk sleeps until an answer comes; a job that it missed is a worker's. An answer that is there is taken
-//! without waiting by a call of its own, which takes no handle that may wait.
+//! The clerk's call is the second argument of `join_mut`: the first runs on a new thread, or last
+//! where no thread can be started. With the clerk first, workers would sleep before it ever began;
+//! with it second, it answers its jobs itself. A waiting clerk sleeps until an answer comes; a
+//! worker does a job that the clerk missed. A call of its own takes an answer that is there: it
+//! doesn't wait, and takes no handle that may wait.
 ghost use Rattle.std.specs.Prelude.{◌≡◌, ◌⊎◌, MatchOption};
 ghost use Rattle.eb_desk.specs.Rule.{IsAboveEach};
 ghost use Rattle.eb_desk.specs.Desk.{with_put, with_stop, with_taken, with_answered};
@@ -18,9 +19,9 @@ use eb_base::Gate;
 use std::marker::Model;
 use std::sync::Wait;
 
-/// The one who puts jobs and stops at a desk, and takes answers. It may go to a thread of its own. Contracts see the
-/// pairs (a number, and what the job was told) that it put, the stops, and the pairs that it
-/// took, as a job or as an answer.
+/// Puts jobs and stops at a desk, and takes answers. It may go to a thread of its own. Contracts
+/// see the pairs (a number, and the job's document count) that it put, the stops, and the pairs
+/// that it took, as a job or as an answer.
 #[derive(Drop)]
 pub struct Clerk<J: Job> {
     pub(crate) jobs: Pass<Task<J>, View<Key>>,
@@ -39,9 +40,9 @@ impl<J: Job> Model for Clerk<J> {
 }
 
 impl<J: Job> Clerk<J> {
-    /// Puts a job, and tries again while the queue is full, which it never is where at most 512 jobs are unanswered. Its
-    /// number is above those of the jobs put before, it is of the desk's home, and no stop was put.
-    /// Takes no memory.
+    /// Puts a job, and tries again while the queue is full, which it never is where at most 512
+    /// jobs are unanswered. Its number must be above those of the jobs put before, it must be of
+    /// the desk's home, and no stop may have been put. Takes no memory.
     pub fn ask<R: Wait>(&mut self, rt: &R, desk: &Desk<J>, job: J)
         requires desk { self.old.queues ≡ desk.now.queues }
         requires made { J.made self.old.home job }
@@ -62,8 +63,8 @@ impl<J: Job> Clerk<J> {
         desk.tasks_came.notify_one();
     }
 
-    /// Takes an answer where one is there, and doesn't wait. `None`, where there is none or another thread is just
-    /// putting one, leaves the clerk as it was. Takes no memory.
+    /// Takes an answer where one is there, and doesn't wait. `None`, where there is none or another
+    /// thread is just putting one, leaves the clerk as it was. Takes no memory.
     pub fn take_answer(&mut self, desk: &Desk<J>) -> Option<J::Answer>
         requires desk { self.old.queues ≡ desk.now.queues }
         ensures { MatchOption result (self.new ≡ self.old)
@@ -82,9 +83,10 @@ impl<J: Job> Clerk<J> {
         take_job(&desk.jobs, &mut self.jobs)
     }
 
-    /// Gives one answer: it takes one that a worker put, or takes a job and answers it, with this gate
-    /// one. Where nothing is to come it waits on: first it tries both queues in turn, and then it sleeps until an answer
-    /// is put. What it is passed serves the desk's home, and no stop was put. Takes no memory.
+    /// Returns one answer: takes one that a worker put, or takes a job and answers it, with this
+    /// gate. Where neither comes it goes on waiting: first it tries both queues in turn, and then
+    /// it sleeps until an answer is put. What it is given must serve the desk's home, and no stop
+    /// may have been put. Takes no memory.
     pub fn wait<R: Wait, G: Gate>(
         &mut self,
         rt: &R,

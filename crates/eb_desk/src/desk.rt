@@ -17,13 +17,14 @@ const JOB_PLACES: usize = 528;
 // The places of the queue of answers.
 const ANSWER_PLACES: usize = 512;
 
-/// Where the jobs and stops wait, and its answers; threads share it by reference. Contracts see which two
-/// queues it has, and their places.
+/// The queues of a desk's jobs and stops, and of its answers. Threads share it by reference.
+/// Contracts see which two queues it has, and their places.
 #[derive(Drop)]
 pub struct Desk<J: Job> {
     pub(crate) jobs: JobQueue<J>,
     pub(crate) answers: AnswerQueue<J>,
-    // Told of each job and each stop that was put, and of each answer.
+    // The event counts of the two queues: one for each job and each stop that was put, one for each
+    // answer.
     pub(crate) tasks_came: EventCount,
     pub(crate) answers_came: EventCount,
 }
@@ -42,9 +43,9 @@ impl<J: Job> Model for Desk<J> {
 }
 
 impl<J: Job> Desk<J> {
-    /// An empty desk for the jobs of a place, with its one clerk and so many workers, from 1 to 16. It has 528
-    /// places for jobs and stops, and 512 for answers. Takes all memory that they will ever take, at once; `NoMemory`
-    /// where it isn't there: nothing is kept then.
+    /// An empty desk for the jobs of a place, with its one clerk and `workers` workers, from 1 to
+    /// 16. It has 528 places for jobs and stops, and 512 for answers. Takes all memory that they
+    /// will ever take, at once; `NoMemory` where memory runs out: nothing is kept then.
     pub fn open(
         alloc: Global,
         place: &J::Place,

@@ -4,13 +4,13 @@ ghost use Rattle.eb_desk.specs.declared.rule.Pair.{Pair};
 
 use eb_base::Gate;
 
-/// What waits at a desk for its answer.
+/// A value that waits at a desk for its answer.
 pub trait Job: Sized + Drop {
     /// What becomes of a job.
     type Answer: Drop;
     /// What a desk is opened for, as an index.
     type Place;
-    /// What answering reads beside a job.
+    /// What answering reads besides a job.
     type With;
 
     ghost pair: { Self → Pair };
@@ -32,7 +32,7 @@ pub trait Job: Sized + Drop {
         ensures pair { answer_pair result ≡ pair self };
 }
 
-/// What lies in the queue of jobs.
+/// What is in the queue of jobs.
 #[derive(Drop)]
 pub enum Task<J> {
     /// A job.

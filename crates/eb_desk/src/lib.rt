@@ -1,9 +1,10 @@
-//! A desk: where a clerk puts jobs and takes answers, and workers take the jobs and put the answers. What a job is, and
-//! how it is answered, is the caller's ([`Job`]). Both go through queues under a rule (`specs/Rule.antt`), so that each
-//! job is taken at most once, and what was put and not taken is there, whatever the threads do. Who has nothing to do
-//! sleeps.
+//! A desk: a clerk puts jobs and takes answers, and workers take the jobs and put the answers. What
+//! a job is, and how it is answered, is the caller's ([`Job`]). Both go through queues under a rule
+//! (`specs/Rule.antt`): each job is taken at most once, and what was put and not taken is there,
+//! whatever the threads do. Idle threads sleep.
 //!
-//! Only `Desk::open` takes memory. The calls that take `rt` may wait, and their promise holds if they return.
+//! Only `Desk::open` takes memory. The calls that take `rt` may wait, and their promise holds if
+//! they return.
 #![tactic(auto)]
 
 mod calls;

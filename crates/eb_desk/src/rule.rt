@@ -1,5 +1,5 @@
-//! The rules of the two queues, and what each kind of step tells: opening, split of a pass, put and take. No value of
-//! `Pair`, `Hand` and `View` is made: contracts speak of them.
+//! The rules of the two queues, and what each kind of step shows: opening, split of a pass, put and
+//! take. No value of `Pair`, `Hand` and `View` is ever made; contracts speak of them.
 ghost use Rattle.std.specs.Prelude.{ℕ, List};
 
 use crate::job::{Job, Task};
@@ -8,17 +8,18 @@ use crossbeam_queue::protocol::{Lesson, Outcome, Protocol, Split};
 use std::collections::LinkedList;
 use std::marker::{Brand, PhantomData};
 
-/// The number of a job or an answer, and what it was told: of how many documents it is at least.
+/// The number of a job or an answer, and how many documents it is at least over.
 pub struct Pair {
     /// The number.
     pub number: u64,
-    /// Of how many documents it is at least.
+    /// How many documents it is at least over.
     pub told: u64,
 }
 
 /// What a pass has put and taken.
 pub struct Hand {
-    /// Whether it may put: at the queue of jobs the clerk's pass, at that of answers the workers' passes.
+    /// Whether it may put: at the queue of jobs the clerk's pass, at that of answers the workers'
+    /// passes.
     pub puts: bool,
     /// The pairs that it put, in order.
     pub put: LinkedList<Pair>,
@@ -30,23 +31,24 @@ pub struct Hand {
     pub stops_taken: u64,
 }
 
-/// What a pass knows: nothing yet; or what all jobs and answers are of, and what it has put and taken.
+/// What a pass knows: nothing yet; or the home of all jobs and answers, and what it has put and
+/// taken.
 pub enum View<D> {
     /// The queue has one pass, which knows nothing yet.
     Opening,
-    /// What they are of, and what the pass has put and taken.
+    /// The home, and what the pass has put and taken.
     At(D, Hand),
 }
 
-/// The numbers by which contracts know what all jobs and answers of a desk are of.
+/// The numbers by which contracts know the home of all jobs and answers of a desk.
 pub type Key = LinkedList<u64>;
 
-// What all jobs and answers are of.
+// The home of all jobs and answers.
 pub(crate) trait Named {
     ghost home: { List ℕ };
 }
 
-// `Brand` stands for any home: the split that it is handed to says which.
+// `Brand` serves for any home: the split that gets it says which.
 impl Named for Brand {
     ghost use Rattle.std.specs.Prelude.{[]};
 

@@ -1,8 +1,9 @@
 //! A worker.
 //!
-//! Who has nothing to do tries for a while and then sleeps by an event count. Before it sleeps it announces the wait
-//! and looks again by the take that fails only at an empty queue, since the quick one also fails where another thread
-//! is in the way. A worker has a number because slices of tokens without bytes get no proof.
+//! An idle worker tries for a while and then sleeps by an event count. Before it sleeps it
+//! announces the wait and looks again, by the take that fails only at an empty queue: the quick one
+//! also fails where another thread is in the way. A worker has a number because the kit proves
+//! nothing of slices of tokens without bytes.
 ghost use Rattle.std.specs.Prelude.{◌≡◌, ◌+◌, MatchOption};
 ghost use Rattle.eb_desk.specs.Rule.{IsMadeTask};
 ghost use Rattle.eb_desk.specs.Desk.{with_task, with_answer, HasWorked};
@@ -18,12 +19,13 @@ use std::marker::Model;
 use std::sync::Wait;
 use std::thread;
 
-/// One who takes jobs from a desk, and puts their answers there. It may go to a thread of its own. Contracts see the
-/// pairs (a number, and what the job was told) of the jobs that it took and of the answers that
-/// it put, and how many stops it took.
+/// Takes jobs from a desk, and puts their answers there. It may go to a thread of its own.
+/// Contracts see the pairs (a number, and the job's document count) of the jobs that it took and of
+/// the answers that it put, and how many stops it took.
 #[derive(Drop)]
 pub struct Worker<J: Job> {
-    // Slices of tokens that take no bytes get no proof, so a worker has its number among those of its desk, from 0.
+    // The kit proves nothing of slices of tokens without bytes, so a worker has its number among
+    // those of its desk, from 0.
     pub(crate) number: u32,
     pub(crate) jobs: Pass<Task<J>, View<Key>>,
     pub(crate) answers: Pass<J::Answer, View<Key>>,
@@ -40,7 +42,7 @@ impl<J: Job> Model for Worker<J> {
     ghost invariant = { λ w. IsWorker [] w.jobs w.answers };
 }
 
-// One more. A count that has no next one waits for ever.
+// One more. At the greatest number it waits for ever.
 fn counted<R: Wait>(rt: &R, count: u64) -> u64
     ensures { result ≡ count + 1 }
 {
@@ -70,7 +72,8 @@ impl<J: Job> Worker<J> {
         sure_task(rt, &desk.jobs, &mut self.jobs)
     }
 
-    // Takes a job or a stop, or sleeps until one is put. What was put before the wait was announced, the sure take finds.
+    // Takes a job or a stop, or sleeps until one is put. The sure take finds what was put before
+    // the wait was announced.
     fn take_or_sleep<R: Wait>(&mut self, rt: &R, desk: &Desk<J>) -> Option<Task<J>>
         requires desk { self.old.queues ≡ desk.now.queues }
         ensures { MatchOption result (self.new ≡ self.old) (λ t. (self.new ≡ with_task J.pair self.old t) × IsMadeTask J.made self.old.home t) }
@@ -114,9 +117,11 @@ impl<J: Job> Worker<J> {
         desk.answers_came.notify_one();
     }
 
-    /// Answers jobs until it takes a stop, and gives how many jobs it took. Each is answered with this gate. The pairs that it puts as answers are those of the jobs that it takes, in the same order, and of stops
-    /// it takes exactly one. It tries again while the queue of answers is full, and sleeps where there is no job. What
-    /// it is passed serves the desk's home. Takes no memory.
+    /// Answers jobs until it takes a stop, and returns how many jobs it took. Each is answered with
+    /// this gate. The pairs that it puts as answers are those of the jobs that it takes, in the
+    /// same order, and it takes exactly one stop. It tries again while the queue of answers is
+    /// full, and sleeps where there is no job. What it is given must serve the desk's home. Takes
+    /// no memory.
     pub fn work<R: Wait, G: Gate>(
         &mut self,
         rt: &R,

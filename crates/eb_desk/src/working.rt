@@ -10,10 +10,10 @@ use std::sync::Wait;
 use std::thread;
 use std::thread::Threads;
 
-/// All workers work at once, each on a thread of its own as far as threads can be made, until each took one stop
-/// ([`Worker::work`]). They are of this desk. Pass it to `join_mut` first and the clerk's part second:
-/// the first runs on a thread of its own, or after the second where none can be made, and then the clerk answers its
-/// jobs itself.
+/// All workers work at once, each on a thread of its own as far as threads can be started, until
+/// each took one stop ([`Worker::work`]). They must be of this desk. Pass this call to `join_mut`
+/// first and the clerk's part second: the first runs on a thread of its own, or after the second
+/// where none can be started, and then the clerk answers its jobs itself.
 pub fn work_all<J: Job + Send, R: Threads + Wait + Sync, G: Gate + Sync>(
     rt: &R,
     desk: &Desk<J>,
@@ -45,7 +45,8 @@ where
     );
 }
 
-/// Puts a stop for each of so many workers: what the clerk's part ends with, after a fault too. Takes no memory.
+/// Puts a stop for each of `workers` workers. The clerk's part ends with it, after a fault too.
+/// Takes no memory.
 pub fn stop_all<J: Job, R: Wait>(rt: &R, desk: &Desk<J>, clerk: &mut Clerk<J>, workers: u32)
     requires { clerk.old.queues ≡ desk.now.queues }
     ensures { clerk.new ≡ with_stops clerk.old workers }

@@ -1,4 +1,4 @@
--- What an object tells with one more member.
+-- What is seen of an object with one more member.
 use Rattle.std.proofs.Common.{◌≡◌, ℕ, List, option_and_then, ap, ◌∙◌}
 use Rattle.serde_json.specs.Data.{Data, Members, object, put}
 use Rattle.serde_json.specs.Find.{as_number, as_u64, as_str, get_member}

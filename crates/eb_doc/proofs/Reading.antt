@@ -22,7 +22,7 @@ value_none line h = elim (cases_Bool (is_utf8 line)) [
   | inr no_is ↦ ap (λ b. if b then read line else None) no_is
 ]
 
--- no line is read as want of memory
+-- no line is read as out of memory
 pub no_memory_message : (id : ℕ) (terms : List (List ℕ)) → message id terms ≡ Err NoMemory → ⊥
 no_memory_message id terms = by_test (nat_lt most_tokens (length terms) || nat_lt most_bytes (bytes_of terms)) refl
   where

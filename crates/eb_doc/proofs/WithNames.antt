@@ -36,7 +36,7 @@ pub with_by_value : (d : Dialect) (line : List ℕ) (value : Option Data) → va
 unfolding document_with
 with_by_value d line value e = ap (read_with d) e
 
--- no line is read as want of memory
+-- no line is read as out of memory
 no_memory_with : (d : Dialect) (value : Data) (id : Option ℕ) (text : Option (List ℕ)) → message_with d value id text ≡ Err NoMemory → ⊥
 no_memory_with d value (Some id) (Some text) h = by_test (has_long_value d.names value) (tokens_by d.cut text ++ field_terms d.names value) h
   where
@@ -55,6 +55,5 @@ document_with-no_memory d line = go (value_of line)
     go (Some v) h = no_memory_with d v (id_in d v) (text_in d v) h
 
 -- what is seen of a line by names that are the dialect's
-pub is_look : (how : Dialect) (first second : List ℕ) (seen look : Look) (value : Option Data) → first ≡ id_name how → second ≡ text_name how → seen ≡ look
-    → IsLook first second seen value → IsLook (id_name how) (text_name how) look value
-is_look how first second seen look value e f g h = rw (← e, ← f, ← g) h
+pub as_look : (how : Dialect) (seen look : Look) (value : Option Data) → seen ≡ look → IsLook (id_name how) (text_name how) seen value → IsLook (id_name how) (text_name how) look value
+as_look how seen look value g h = rw (← g) h

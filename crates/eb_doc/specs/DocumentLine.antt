@@ -13,7 +13,8 @@ use Rattle.eb_doc.specs.declared.LineFault.TheVariants.{BadJson, BadDocument, To
 unfoldable pub value_of : List ℕ → Option Data
 value_of line = if is_utf8 line then read line else None
 
--- the number of the member of this name, and its string; where a name stands twice, the value keeps the last
+-- the number of the member of this name, and its string; where a name occurs twice, the value keeps
+-- the last
 abbrev pub number_in : List ℕ → Data → Option ℕ
 number_in name value = option_and_then as_u64 (option_and_then as_number (get name value))
 

@@ -12,7 +12,8 @@ use Rattle.eb_fields.specs.Fields.{field_term, most_value_bytes}
 abbrev pub most_items : ℕ
 most_items = 16
 
--- the value as a text: a string is itself, a whole number stands in decimal, and a boolean is its word; no other kind has one
+-- the value as a text: a string is itself, a whole number is in decimal, and a boolean is its word;
+-- no other kind has one
 abbrev pub plain_value : Data → Option (List ℕ)
 plain_value null = None
 plain_value (boolean is) = Some (if is then codes "true" else codes "false")
@@ -31,17 +32,18 @@ abbrev pub plain_values : Items → List (List ℕ)
 plain_values no_items = []
 plain_values (item value items) = option_to_list (plain_value value) ++ plain_values items
 
-abbrev pub count : Items → ℕ
-count no_items = 0
-count (item value items) = suc (count items)
+abbrev pub item_count : Items → ℕ
+item_count no_items = 0
+item_count (item value items) = suc (item_count items)
 
--- the values that a member gives: one, or those of an array of at most 16, where each item is of such a kind
+-- the values that a member gives: one, or those of an array of at most 16, where each item is of
+-- such a kind
 abbrev pub field_values : Data → List (List ℕ)
 field_values null = []
 field_values (boolean is) = option_to_list (plain_value (boolean is))
 field_values (number n) = option_to_list (plain_value (number n))
 field_values (string text) = option_to_list (plain_value (string text))
-field_values (array items) = if nat_le (count items) most_items && are_plain items then plain_values items else []
+field_values (array items) = if nat_le (item_count items) most_items && are_plain items then plain_values items else []
 field_values (object _) = []
 
 abbrev pub values_of : Option Data → List (List ℕ)

@@ -49,7 +49,7 @@ read_with d (Some value) = message_with d value (id_in d value) (text_in d value
 unfoldable pub document_with : Dialect → List ℕ → Result Doc LineFault
 document_with d line = read_with d (value_of line)
 
--- the terms with these more behind, unless memory ran out or some value is too long, as the flag says
+-- the terms and then these, unless memory ran out or some value is too long, as the flag says
 abbrev pub Adds : Bool → List (List ℕ) → List (List ℕ) → Result (List (List ℕ)) LineFault → Type 0
 Adds long more terms (Ok all) = (long ≡ false) × (all ≡ terms ++ more)
 Adds long more terms (Err fault) = (fault ≡ NoMemory) ⊎ ((fault ≡ TooLong) × (long ≡ true))

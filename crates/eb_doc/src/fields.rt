@@ -6,7 +6,7 @@ ghost use Rattle.serde_json.specs.Data.{boolean, array};
 ghost use Rattle.serde_json.specs.View.{view, items_view};
 ghost use Rattle.eb_fields.specs.Fields.{names};
 ghost use Rattle.eb_fields.specs.Fields as spec;
-ghost use Rattle.eb_doc.specs.FieldTerms.{plain_value, plain_values, field_values, named_values, field_terms, is_long, has_long_value, count, most_items};
+ghost use Rattle.eb_doc.specs.FieldTerms.{plain_value, plain_values, field_values, named_values, field_terms, is_long, has_long_value, item_count, most_items};
 ghost use Rattle.eb_doc.specs.FieldTerms as field;
 ghost use Rattle.eb_doc.specs.WithFields.{Adds};
 
@@ -19,7 +19,7 @@ use std::alloc::Global;
 /// The most items of an array that gives values of a field.
 pub const MAX_ITEMS: usize = 16;
 
-// The terms with a field's term behind.
+// The terms, and then a field's term.
 fn with_text(alloc: Global, name: &str, text: &str, terms: Terms) -> Result<Terms, LineFault>
     ensures { Adds (is_long text.now) (spec.field_term name.now text.now ∷ []) terms result }
 {
@@ -46,14 +46,14 @@ fn decimal(alloc: Global, n: u64) -> Result<String, NoMemory>
     Ok(n.to_string(alloc)?)
 }
 
-// A number in decimal, with a minus in front below zero.
+// A number in decimal, with a minus before a negative one.
 fn signed(alloc: Global, n: i64) -> Result<String, NoMemory>
     ensures { IfOk result (λ text. string_bytes text ≡ signed_decimal n) }
 {
     Ok(n.to_string(alloc)?)
 }
 
-// The terms with that of a value behind, if it has a text.
+// The terms, and then the term of a value, if it has a text.
 fn with_plain(alloc: Global, name: &str, value: &Value, terms: Terms) -> Result<Terms, LineFault>
     ensures { let values = option_to_list (plain_value (view value.now)) in
         Adds (list_any is_long values) (map (spec.field_term name.now) values) terms result }
@@ -90,7 +90,7 @@ fn are_plain(items: &[Value]) -> bool
     }
 }
 
-// The terms with those of the items behind.
+// The terms, and then those of the items.
 fn with_items(alloc: Global, name: &str, items: &[Value], terms: Terms) -> Result<Terms, LineFault>
     ensures { let values = plain_values (items_view items.now) in
         Adds (list_any is_long values) (map (spec.field_term name.now) values) terms result }
@@ -104,21 +104,21 @@ fn with_items(alloc: Global, name: &str, items: &[Value], terms: Terms) -> Resul
     }
 }
 
-// Whether an array may have so many items.
+// Whether an array may have this many items.
 fn are_few(items: &[Value]) -> bool
-    ensures { result ≡ nat_le (count (items_view items.now)) most_items }
+    ensures { result ≡ nat_le (item_count (items_view items.now)) most_items }
 {
     items.len() <= MAX_ITEMS
 }
 
 // Whether an array of these gives values.
 fn give_values(items: &[Value]) -> bool
-    ensures { result ≡ (nat_le (count (items_view items.now)) most_items && field.are_plain (items_view items.now)) }
+    ensures { result ≡ (nat_le (item_count (items_view items.now)) most_items && field.are_plain (items_view items.now)) }
 {
     are_few(items) && are_plain(items)
 }
 
-// The terms with those of an array behind.
+// The terms, and then those of an array.
 fn with_array(alloc: Global, name: &str, items: &[Value], terms: Terms) -> Result<Terms, LineFault>
     ensures { let values = field_values (array (items_view items.now)) in
         Adds (list_any is_long values) (map (spec.field_term name.now) values) terms result }
@@ -129,7 +129,7 @@ fn with_array(alloc: Global, name: &str, items: &[Value], terms: Terms) -> Resul
     Ok(terms)
 }
 
-// The terms with those of a member behind.
+// The terms, and then those of a member.
 fn with_member(alloc: Global, name: &str, member: &Value, terms: Terms) -> Result<Terms, LineFault>
     ensures { let values = field_values (view member.now) in
         Adds (list_any is_long values) (map (spec.field_term name.now) values) terms result }
@@ -140,7 +140,7 @@ fn with_member(alloc: Global, name: &str, member: &Value, terms: Terms) -> Resul
     }
 }
 
-// The terms with those of a field behind.
+// The terms, and then those of a field.
 fn with_field(alloc: Global, name: &str, value: &Value, terms: Terms) -> Result<Terms, LineFault>
     ensures { let values = named_values name.now (view value.now) in
         Adds (list_any is_long values) (map (spec.field_term name.now) values) terms result }
@@ -151,7 +151,7 @@ fn with_field(alloc: Global, name: &str, value: &Value, terms: Terms) -> Result<
     }
 }
 
-/// The terms with those of the fields behind, field by field.
+/// The terms, and then those of the fields, field by field.
 pub(crate) fn with_fields(
     alloc: Global,
     fields: Fields<'_>,

@@ -7,7 +7,8 @@ ghost use Rattle.eb_fields.specs.Fields.{names};
 ghost use Rattle.eb_doc.specs.DocumentLine as line;
 ghost use Rattle.eb_doc.specs.WithFields as spec;
 ghost use Rattle.eb_doc.specs.WithFields.{id_name, text_name, read_with};
-ghost use Rattle.eb_doc.specs.Seen.{ShowsMember, Tells, told};
+ghost use Rattle.eb_doc.specs.Seen.{ShowsMember, ShowsMembers};
+ghost use Rattle.eb_fields.specs.Given.{told_text};
 
 use crate::seen::{Members, Names, Seen};
 use crate::{LineFault, message_of};
@@ -19,7 +20,7 @@ use std::alloc::Global;
 
 // The name that is given, or else the usual one.
 fn name_or<'a>(given: Option<&'a str>, usual: &'a str) -> &'a str
-    ensures { result.now ≡ unwrap_or (told given.entry) usual.now }
+    ensures { result.now ≡ unwrap_or (told_text given.entry) usual.now }
 {
     match given {
         Some(name) => name,
@@ -40,7 +41,7 @@ pub(crate) fn names_by(dialect: Dialect<'_>) -> Names<'_>
 
 // The number that a member is, or else the one that its string writes.
 fn given_id(number: Option<u64>, string: Option<&str>) -> Option<u64>
-    ensures { result ≡ spec.given_id number (told string.entry) }
+    ensures { result ≡ spec.given_id number (told_text string.entry) }
 {
     match number {
         Some(id) => Some(id),
@@ -69,9 +70,9 @@ pub(crate) fn document_by(
 ) -> Result<Document, LineFault>
     requires { names dialect.fields ≡ [] }
     ensures document { let how = dialect_of dialect.entry in
-        IfOk result (λ document. (d : Data) → Tells (id_name how) (text_name how) found.entry d → read_with how (Some d) ≡ Ok document) }
+        IfOk result (λ document. (d : Data) → ShowsMembers (id_name how) (text_name how) found.entry d → read_with how (Some d) ≡ Ok document) }
     ensures refused { let how = dialect_of dialect.entry in IfErr result (λ fault.
-        (fault ≡ LineFault.NoMemory) ⊎ ((d : Data) → Tells (id_name how) (text_name how) found.entry d → read_with how (Some d) ≡ Err fault)) }
+        (fault ≡ LineFault.NoMemory) ⊎ ((d : Data) → ShowsMembers (id_name how) (text_name how) found.entry d → read_with how (Some d) ≡ Err fault)) }
 {
     let Some(id) = id_by(dialect, found.id) else {
         return Err(LineFault::BadDocument);
@@ -92,7 +93,7 @@ fn number_in(name: &str, value: &Value) -> Option<u64>
 
 // The string of the member of this name.
 fn string_in<'a>(name: &str, value: &'a Value) -> Option<&'a str>
-    ensures { told result ≡ line.string_in name.now (view value.now) }
+    ensures { told_text result ≡ line.string_in name.now (view value.now) }
 {
     value.get(name).and_then(Value::as_str)
 }
@@ -109,7 +110,7 @@ pub(crate) fn id_in(dialect: Dialect<'_>, value: &Value) -> Option<u64>
 
 // The text of a document's value.
 pub(crate) fn text_in<'a>(dialect: Dialect<'_>, value: &'a Value) -> Option<&'a str>
-    ensures { told result ≡ spec.text_in (dialect_of dialect.entry) (view value.now) }
+    ensures { told_text result ≡ spec.text_in (dialect_of dialect.entry) (view value.now) }
 {
     string_in(names_by(dialect).text, value)
 }

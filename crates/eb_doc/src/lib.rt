@@ -1,6 +1,7 @@
-//! Document lines: one JSON object a line (RFC 8259, read by `serde_json`), with a number as its `id`
-//! and a string as its `text`, or as members of other names that a dialect says. With fields, the members of their names give terms too,
-//! so that a query finds a message by who wrote it, or in which room.
+//! Document lines: one JSON object a line (RFC 8259, read by `serde_json`), with a number as its
+//! `id` and a string as its `text`, or as members of other names that a dialect says. With fields,
+//! the members of their names give terms too, so that a query finds a message by who wrote it, or
+//! in which room.
 #![tactic(auto)]
 
 ghost use Rattle.std.specs.Prelude.{◌≡◌, ◌⊎◌, Ok, Err, IfOk, IfErr, Some, None, []};
@@ -23,9 +24,9 @@ mod seen;
 
 use crate::fielded::read_with_fields;
 pub use crate::fields::MAX_ITEMS;
-use crate::given::{document_by, names_by};
+use crate::given::document_by;
 pub use crate::laws::in_plain;
-use crate::look::{Look, look_at};
+use crate::look::{Look, look_by};
 use eb_base::{Document, NoMemory, Terms};
 use eb_fields::Dialect;
 use json::Scratch;
@@ -34,16 +35,17 @@ use std::alloc::Global;
 use std::error::Error;
 use std::fmt;
 
-/// Why a document line gives no document.
+/// Why a document line isn't a document.
 #[derive(Clone, Copy, Debug, PartialEq, Eq)]
 pub enum LineFault {
     /// The line isn't UTF-8, or isn't one JSON value with nothing after it.
     BadJson,
-    /// The value is no object, its id isn't a whole number below 2^64 (nor a string of its digits, where a dialect names the id's
-    /// member), or its text isn't a string; a member that is missing counts as of another kind.
+    /// The value isn't an object, its id isn't a whole number below 2^64 (nor a string of its
+    /// digits, where a dialect names the id's member), or its text isn't a string; a missing member
+    /// counts as one of another kind.
     BadDocument,
-    /// The text and the fields have 1,025 or more terms, or 16,385 or more bytes of folded terms, or a field has a value of
-    /// 129 or more folded bytes.
+    /// The text and the fields have 1,025 or more terms, or 16,385 or more bytes of folded terms,
+    /// or a field has a value of 129 or more folded bytes.
     TooLong,
     /// Memory ran out. It can come for any line.
     NoMemory,
@@ -75,7 +77,8 @@ impl From<NoMemory> for LineFault {
     }
 }
 
-/// Reads document lines, one after the other: the room that reading a line takes is kept for the next one.
+/// Reads document lines, one after the other. It keeps the room that reading a line takes for the
+/// next one.
 #[derive(Drop)]
 pub struct DocumentReader {
     alloc: Global,
@@ -99,14 +102,16 @@ impl DocumentReader {
         self.read_with(Dialect::plain(), line)
     }
 
-    /// The document that a line is where lines are read so: with the tokens of its text, cut as the dialect says, and the terms of its
-    /// fields behind them, name by name: of a
-    /// member of such a name that is a string, a whole number or a boolean, the term of the name and the value; of an
-    /// array of at most [`MAX_ITEMS`] of these, the terms of all. A number stands in decimal, and a boolean as `true` or
-    /// `false`. A member that is missing or anything else gives no term; a value of more than 128 folded bytes is `TooLong`. Where the
-    /// dialect names the member that is the id, its value is a whole number below 2^64, or a string of one to twenty digits of such a
-    /// value, leading zeros allowed; the member `id` is then one like others. Where it names the member that is the text, so is `text`.
-    /// Both names may be the same, and names of fields too. Else as [`read_document`] says.
+    /// The document that a line is by this dialect. Its terms are the tokens of its text, cut as
+    /// the dialect says, and then the terms of its fields, name by name. A member of a field's name
+    /// that is a string, a whole number or a boolean gives the term of the name and the value; an
+    /// array of at most [`MAX_ITEMS`] of these gives the terms of all. A number is in decimal, and
+    /// a boolean is `true` or `false`. A member that is missing or anything else gives no term; a
+    /// value of more than 128 folded bytes is `TooLong`. Where the dialect names the member that is
+    /// the id, its value is a whole number below 2^64, or a string of one to twenty digits of such
+    /// a value, leading zeros allowed; the member `id` is then a member like others. Where it names
+    /// the member that is the text, so is `text`. Both names may be the same, and names of fields
+    /// too. Otherwise as [`read_document`] says.
     pub fn read_with(&mut self, dialect: Dialect<'_>, line: &[u8]) -> Result<Document, LineFault>
         ensures document { IfOk result (λ document. document_with (dialect_of dialect.entry) line.now ≡ Ok document) }
         ensures refused { IfErr result (λ fault.
@@ -118,14 +123,14 @@ impl DocumentReader {
         read_with_fields(self.alloc, dialect, line)
     }
 
-    // The document that a line is where there is no field: what is seen of its members tells it.
+    // The document that a line is where there is no field, by what is seen of its members.
     fn read_quickly(&mut self, dialect: Dialect<'_>, line: &[u8]) -> Result<Document, LineFault>
         requires { names dialect.fields ≡ [] }
         ensures document { IfOk result (λ document. document_with (dialect_of dialect.entry) line.now ≡ Ok document) }
         ensures refused { IfErr result (λ fault.
             (fault ≡ LineFault.NoMemory) ⊎ (document_with (dialect_of dialect.entry) line.now ≡ Err fault)) }
     {
-        match look_at(line, &mut self.scratch, names_by(dialect)) {
+        match look_by(line, &mut self.scratch, dialect) {
             Ok(Look::Object(found)) => document_by(self.alloc, dialect, found),
             Ok(Look::NoJson) => Err(LineFault::BadJson),
             Ok(Look::Other) => read_with_fields(self.alloc, dialect, line),
@@ -135,8 +140,8 @@ impl DocumentReader {
 }
 
 /// The document that a line is: its id, and the tokens of its text as terms. The line is any bytes,
-/// without the LF that ends it. Members other than `id` and `text` may hold anything and are passed
-/// over; where a name stands twice, the last value counts.
+/// without the LF that ends it. Members other than `id` and `text` may hold anything and are
+/// skipped; where a name occurs twice, the last value counts.
 ///
 /// The refusals come in this order: `BadJson`, `BadDocument`, `TooLong`.
 pub fn read_document(alloc: Global, line: &[u8]) -> Result<Document, LineFault>

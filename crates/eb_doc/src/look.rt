@@ -2,23 +2,29 @@
 ghost use Rattle.std.specs.Prelude.{◌≡◌, IfOk};
 ghost use Rattle.eb_doc.specs.DocumentLine.{value_of};
 ghost use Rattle.eb_doc.specs.Looked.{IsLook};
+ghost use Rattle.eb_doc.specs.WithFields.{id_name, text_name};
+ghost use Rattle.eb_fields.specs.Dialect.{dialect_of};
 
+use crate::given::names_by;
 use crate::members::read_members;
 use crate::seen::{Members, Names};
 use eb_base::NoMemory;
+use eb_fields::Dialect;
 use json::{Reader, Scratch, Token};
 
 // The value of a line nests no deeper than this.
 const MAX_DEPTH: usize = 127;
 
-// What a line is: an object, no value of JSON, or neither of both as far as was looked.
+// What a line is: an object, no value of JSON, or not decided by this look.
 pub(crate) enum Look<'a> {
     Object(Members<'a>),
     NoJson,
     Other,
 }
 
-pub(crate) fn look_at<'a>(
+// Looks at a line token by token, without a tree of its values.
+#[inline(always)]
+fn look_at<'a>(
     line: &'a [u8],
     scratch: &'a mut Scratch,
     names: Names<'_>,
@@ -41,4 +47,24 @@ pub(crate) fn look_at<'a>(
         Some(_more) => Ok(Look::NoJson),
         None => Ok(Look::Object(found)),
     }
+}
+
+// Looks at a line for the members that are the id and the text by this dialect. The usual names stand
+// here as constants, which makes comparing them cheap.
+#[inline(always)]
+pub(crate) fn look_by<'a>(
+    line: &'a [u8],
+    scratch: &'a mut Scratch,
+    dialect: Dialect<'_>,
+) -> Result<Look<'a>, NoMemory>
+    ensures { let how = dialect_of dialect.entry in IfOk result (λ look. IsLook (id_name how) (text_name how) look (value_of line.now)) }
+{
+    if dialect.id.is_none() && dialect.text.is_none() {
+        let usual = Names {
+            id: "id",
+            text: "text",
+        };
+        return look_at(line, scratch, usual);
+    }
+    look_at(line, scratch, names_by(dialect))
 }

@@ -5,7 +5,8 @@ ghost use Rattle.serde_json.specs.Read.{number_of, number_from, float_of};
 
 use fast_float::Numeral;
 
-// The number that a token of JSON writes, where it is whole and below 2^64; none of both where no number is in range.
+// The number that a token of JSON writes: `Some(None)` where it isn't whole or not below 2^64, and
+// `None` where no number is in range.
 pub(crate) fn whole_number(text: &str) -> Option<Option<u64>>
     ensures { result ≡ option_map as_u64 (number_of text.now) }
 {
@@ -17,6 +18,7 @@ pub(crate) fn whole_number(text: &str) -> Option<Option<u64>>
     }
 }
 
+// Whether the number begins with a minus.
 fn has_minus(bytes: &[u8]) -> bool
     ensures value { result ≡ (slice_index bytes.now 0 == 45) }
     ensures len { IsTrue result → 0 < length bytes.now }
@@ -24,6 +26,7 @@ fn has_minus(bytes: &[u8]) -> bool
     !bytes.is_empty() && bytes[0] == b'-'
 }
 
+// What `whole_number` gives for a number without a minus.
 fn not_below_zero(numeral: &Numeral<'_>) -> Option<Option<u64>>
     ensures { result ≡ option_map as_u64 (number_from false numeral.now) }
 {
@@ -33,6 +36,7 @@ fn not_below_zero(numeral: &Numeral<'_>) -> Option<Option<u64>>
     }
 }
 
+// What `whole_number` gives for a number with a minus, which is left off.
 fn below_zero(numeral: &Numeral<'_>) -> Option<Option<u64>>
     ensures { result ≡ option_map as_u64 (number_from true numeral.now) }
 {
@@ -44,6 +48,7 @@ fn below_zero(numeral: &Numeral<'_>) -> Option<Option<u64>>
     in_range(true, numeral)
 }
 
+// `Some(None)` where the number is in range of a float, else `None`.
 fn in_range(negative: bool, numeral: &Numeral<'_>) -> Option<Option<u64>>
     ensures { result ≡ option_map as_u64 (float_of negative numeral.now) }
 {

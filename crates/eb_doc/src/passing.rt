@@ -1,4 +1,4 @@
-//! Values of JSON that are passed over.
+//! Values of JSON that are skipped.
 ghost use Rattle.std.specs.Prelude.{◌≡◌, ◌<◌, length, Some, None, IfSome, IfNone};
 ghost use Rattle.json.specs.Json.{value, items, members};
 ghost use Rattle.serde_json.specs.Data.{Data, Items, Members, no_members};
@@ -9,7 +9,7 @@ use crate::numbers::whole_number;
 use crate::seen::{NEITHER, Seen};
 use json::{Reader, Token};
 
-// Passes the value that comes next, whose arrays and objects nest no deeper than this.
+// Skips the value that comes next, whose arrays and objects nest no deeper than this.
 #[cycle(pass)]
 pub(crate) fn pass<'a>(reader: &mut Reader<'a>, depth: usize) -> Option<Seen<'a>>
     ensures ok { IfSome result (λ seen. (d : Data) × (converted of_json (value depth reader.old) ≡ Some (d, reader.new)) × Shows seen d) }
@@ -55,6 +55,7 @@ pub(crate) fn pass<'a>(reader: &mut Reader<'a>, depth: usize) -> Option<Seen<'a>
     }
 }
 
+// Skips the items of an array, and its end.
 #[cycle(pass)]
 fn pass_items(reader: &mut Reader<'_>, depth: usize) -> Option<()>
     ensures ok { IfSome result (λ _. (ds : Items) × (converted of_items (items (value depth) (length reader.old) reader.old) ≡ Some (ds, reader.new))) }
@@ -69,6 +70,7 @@ fn pass_items(reader: &mut Reader<'_>, depth: usize) -> Option<()>
     Some(())
 }
 
+// Skips the members of an object, and its end.
 #[cycle(pass)]
 fn pass_members(reader: &mut Reader<'_>, depth: usize) -> Option<()>
     ensures ok { IfSome result (λ _. (ms : Members)

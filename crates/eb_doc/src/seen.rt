@@ -20,7 +20,7 @@ pub(crate) struct Names<'a> {
     pub text: &'a str,
 }
 
-// What is seen of an object: its last member that is the id by its name, and its last one that is the text.
+// What is seen of an object: its last member with the id's name, and its last one with the text's.
 #[derive(Clone, Copy)]
 pub(crate) struct Members<'a> {
     pub id: Seen<'a>,

@@ -1,14 +1,18 @@
--- Who reads beside a writer that places nothing finds exactly its history.
-use Rattle.std.proofs.Common.{◌≡◌, ℕ, ◌+◌, ◌≤◌, inl, inr, List, [], ◌∷◌, ◌++◌, length, Option, None, Some, refl, ap, sym, ◌∙◌, subst, arith, length-append}
+-- A reader beside a writer that places nothing finds exactly its history.
+use Rattle.std.proofs.Common.{◌≡◌, ℕ, Bool, ◌≤◌, inl, inr, List, [], ◌∷◌, length, take, Option, None, Some, refl, ap, sym, ◌∙◌, subst, arith, length-append}
+use Rattle.std.proofs.lemmas.List.{take_all}
 use mathlib.Core.List.{IsPrefix}
 use Rattle.eb_base.specs.Document.{Doc}
+use Rattle.eb_base.specs.Query.{word}
 use Rattle.eb_base.specs.Setting.{Setting}
 use Rattle.eb_base.specs.Term.{Term}
+use Rattle.eb_count.specs.Counts.{match_count}
 use Rattle.eb_place.specs.declared.moment.Documents.{Documents}
 use Rattle.eb_place.specs.declared.moment.Moment.{Moment}
 use Rattle.eb_place.specs.Later.{Further, Goes, IsNotBefore}
 use Rattle.eb_place.specs.Moments.{IsMoment}
 use Rattle.eb_place.proofs.Prefixes.{prefix_length}
+use Rattle.eb_search.specs.Bounds.{match_loads}
 use Rattle.eb_table.specs.Known.{Known}
 use Rattle.eb_engine.specs.Loads.{IsWithinBound, IsWithinAndBound, IsAlone, whole_of, IsBoundedAlone, IsAndBoundedAlone}
 use Rattle.eb_engine.proofs.Knows.{same_fronts}
@@ -35,38 +39,70 @@ module _ (own reader left : Known) (gave : reader ≡ own) (kept : left ≡ own)
   pub found : (n : Moment) → IsNotBefore n reader.moment → IsNotBefore d n → n.documents ≡ own.moment.documents
   found n after before = same_documents own.moment n d none (later n after) before (same ∙ ap (λ (s : Known). s.moment.documents) kept)
 
-  pub alone : (n : Moment) → IsMoment n → IsNotBefore n reader.moment → IsNotBefore d n → IsAlone own.moment n
+  alone : (n : Moment) → IsMoment n → IsNotBefore n reader.moment → IsNotBefore d n → IsAlone own.moment n
   alone n is after before = record { is = is; later = later n after; documents = found n after before }
 
+  -- what its search counted, and the bounds of its loads, are of the writer's documents
+  pub counts_alone : (n : Moment) (count : ℕ) → IsNotBefore n reader.moment → IsNotBefore d n → count ≡ length n.documents.accepted → count ≡ length own.moment.documents.accepted
+  counts_alone n count after before is = is ∙ ap (λ (x : Documents). length x.accepted) (found n after before)
+
+  pub matches_alone : (n : Moment) (count : ℕ) → IsNotBefore n reader.moment → IsNotBefore d n → count ≡ length own.moment.documents.accepted
+      → take count n.documents.accepted ≡ own.moment.documents.accepted
+  matches_alone n count after before is =
+      ap (λ (x : Documents). take count x.accepted) (found n after before) ∙ take_all count own.moment.documents.accepted (omega (arith, is))
+
+  pub loads_alone : (likely : List Bool) (n : Moment) (t : Term) (count ids before after : ℕ) → IsMoment n → IsNotBefore n reader.moment → IsNotBefore d n
+      → IsWithinBound likely reader.moment n t count ids before after → (now : Moment) × IsAlone own.moment now × IsWithinBound likely own.moment now t count ids before after
+  loads_alone likely n t count ids before after is since until loads =
+      (n, alone n is since until, subst (λ (s : Known). IsWithinBound likely s.moment n t count ids before after) gave loads)
+
+  pub rounds_alone : (likely : List Bool) (n : Moment) (ts : List Term) (count ids before after : ℕ) → IsMoment n → IsNotBefore n reader.moment → IsNotBefore d n
+      → IsWithinAndBound likely n ts count ids before after → (now : Moment) × IsAlone own.moment now × IsWithinAndBound likely now ts count ids before after
+  rounds_alone likely n ts count ids before after is since until loads = (n, alone n is since until, loads)
+
 -- the documents of a writer that places nothing
-pub whole : (docs : List Doc) (x : Documents) → x.accepted ≡ docs → x.current ≡ None → x ≡ whole_of docs
+whole : (docs : List Doc) (x : Documents) → x.accepted ≡ docs → x.current ≡ None → x ≡ whole_of docs
 whole docs x e none = λ i. record { accepted = e i; current = none i }
 
-module _ (was now : Moment) (σ : Setting) (docs : List Doc) (here : was.setting ≡ σ) (all : was.documents ≡ whole_of docs) (a : IsAlone was now) where
-  long : length docs ≡ length was.documents.accepted
-  long = ap (λ (x : Documents). length x.accepted) (sym all)
+-- of a writer that places nothing, before and after a search beside it
+module _ (was new : Moment) (σ : Setting) (here : was.setting ≡ σ) (kept : new.documents ≡ was.documents) (none : was.documents.current ≡ None) where
+  all : was.documents ≡ whole_of new.documents.accepted
+  all = whole new.documents.accepted was.documents (ap (λ (x : Documents). x.accepted) (sym kept)) none
 
-  -- the bounds of a search beside such a writer
-  pub bounded_alone : (converted counted : ℕ) (t : Term) (ids before after : ℕ) → converted ≤ was.conversions.converted → counted ≡ length was.documents.accepted
-      → IsWithinBound was now t counted ids before after → IsBoundedAlone σ docs converted t ids before after
-  bounded_alone converted counted t ids before after packed count loads = record {
+  long : length new.documents.accepted ≡ length was.documents.accepted
+  long = ap (λ (x : Documents). length x.accepted) kept
+
+  -- the bounds of that search
+  pub bounded_alone : (likely : List Bool) (converted counted : ℕ) (t : Term) (ids before after : ℕ)
+      → converted ≤ was.conversions.converted → counted ≡ length was.documents.accepted
+      → (now : Moment) × IsAlone was now × IsWithinBound likely was now t counted ids before after → IsBoundedAlone likely σ new.documents.accepted converted t ids before after
+  bounded_alone likely converted counted t ids before after packed count a = record {
     was = was;
-    now = now;
-    is = a.is;
-    later = a.later;
-    setting = sym a.later.setting ∙ here;
+    now = a.0;
+    is = a.1.is;
+    later = a.1.later;
+    setting = sym a.1.later.setting ∙ here;
     documents_then = all;
-    documents = a.documents ∙ all;
+    documents = a.1.documents ∙ all;
     packed_then = packed;
-    loads = subst (λ (n : ℕ). IsWithinBound was now t n ids before after) (count ∙ sym long) loads;
+    loads = subst (λ (n : ℕ). IsWithinBound likely was a.0 t n ids before after) (count ∙ sym long) a.2;
   }
 
-  pub and_bounded_alone : (counted : ℕ) (ts : List Term) (ids before after : ℕ) → counted ≡ length was.documents.accepted
-      → IsWithinAndBound now ts counted ids before after → IsAndBoundedAlone σ docs ts ids before after
-  and_bounded_alone counted ts ids before after count loads = record {
-    now = now;
-    is = a.is;
-    setting = sym a.later.setting ∙ here;
-    documents = a.documents ∙ all;
-    loads = subst (λ (n : ℕ). IsWithinAndBound now ts n ids before after) (count ∙ sym long) loads;
+  -- and those of a count
+  pub count_bounded_alone : (likely : List Bool) (converted counted : ℕ) (t : Term) (buckets before after : ℕ)
+      → converted ≤ was.conversions.converted → counted ≡ length was.documents.accepted
+      → (now : Moment) × IsAlone was now × IsWithinBound likely was now t counted (match_loads buckets (match_count (word t) was.documents.accepted)) before after
+      → IsBoundedAlone likely σ new.documents.accepted converted t (match_loads buckets (match_count (word t) new.documents.accepted)) before after
+  count_bounded_alone likely converted counted t buckets before after packed count a =
+      bounded_alone likely converted counted t (match_loads buckets (match_count (word t) new.documents.accepted)) before after packed count
+      (a.0, a.1, subst (λ (x : Documents). IsWithinBound likely was a.0 t counted (match_loads buckets (match_count (word t) x.accepted)) before after) (sym kept) a.2)
+
+  pub and_bounded_alone : (likely : List Bool) (counted : ℕ) (ts : List Term) (ids before after : ℕ) → counted ≡ length was.documents.accepted
+      → (now : Moment) × IsAlone was now × IsWithinAndBound likely now ts counted ids before after → IsAndBoundedAlone likely σ new.documents.accepted ts ids before after
+  and_bounded_alone likely counted ts ids before after count a = record {
+    now = a.0;
+    is = a.1.is;
+    setting = sym a.1.later.setting ∙ here;
+    documents = a.1.documents ∙ all;
+    loads = subst (λ (n : ℕ). IsWithinAndBound likely a.0 ts n ids before after) (count ∙ sym long) a.2;
   }

@@ -1,4 +1,4 @@
--- What a conversion tells of the history.
+-- What a conversion shows of the history.
 use Rattle.std.proofs.Common.{◌≡◌, ℕ, zero, suc, ◌+◌, ◌<◌, ◌≤◌, ◌⊎◌, List, [], ◌∷◌, ◌++◌, length, Option, Some, None, refl, ap, sym, subst, arith, append-nil, append_assoc, inl, inr}
 use Rattle.std.proofs.lemmas.Bool.{cases_lt}
 use mathlib.Core.List.{IsPrefix}
@@ -94,14 +94,14 @@ none_behind n σ s is e h =
 pub known_lawful : (n : Moment) (σ : Setting) → IsMoment n → n.setting ≡ σ → IsLawful σ (known_at n)
 known_lawful n σ is e = subst (λ (x : Setting × List Doc). IsLawful x.0 x.1) (λ i. (e i, are_known n i)) is.lawful
 
--- so its first document is in no front of the history
+-- so its first document is in no prefix of the history
 pub not_told : (σ : Setting) (old new : List Doc) (s : ℕ) → IsPrefix old new → length (cut σ new) ≤ s + 1 → s + 1 < length (cut σ old) → ⊥
 not_told σ old new s p few low =
     let g = cut_grows σ old p.0 in
     let g' = rw p.1 at g in
     omega (arith, g', few, low)
 
--- who knows no document after a segment has none in the history
+-- a seat that knows no document after a segment has none in the history
 few_known : (σ : Setting) (t : ConverterToken) (n : ℕ) → length (cut σ (known_to t)) ≤ n → length (cut σ t.docs) ≤ n
 few_known σ t n h = by_placing t.placing h
   where

@@ -23,7 +23,7 @@ use Rattle.eb_writer.specs.Progress.{PlacerProgress, PlacerStands}
 use Rattle.eb_writer.proofs.Adding.{stands_same}
 use Rattle.eb_engine.specs.Tokens.{first_of, AreClosed}
 
--- what is known is the front of what is accepted
+-- what is known is the prefix of what is accepted
 pub front_of : (n : ℕ) (docs : List Doc) → IsPrefix (take n docs) docs
 front_of n docs = (drop n docs, take-append-drop n docs)
 
@@ -31,7 +31,7 @@ front_of n docs = (drop n docs, take-append-drop n docs)
 first_later : (xs ys : List Doc) (n : ℕ) → n ≤ length xs → IsPrefix xs ys → take n ys ≡ take n xs
 first_later xs ys n h p = ap (take n) (sym p.1) ∙ take-append-le n xs p.0 h
 
--- who knows no fewer documents at a later moment knows no others
+-- a seat that knows no fewer documents at a later moment knows no others
 pub knows_more : (k l : Known) (a b : ℕ) → a ≤ length k.moment.documents.accepted → a ≤ b → IsNotBefore l.moment k.moment → IsPrefix (first_of a k) (first_of b l)
 knows_more k l a b h le later =
     let xs = k.moment.documents.accepted in
@@ -47,7 +47,7 @@ knows_more k l a b h le later =
         → length (take a l.moment.documents.accepted) ≤ length (take b l.moment.documents.accepted)
     by_length p = grind (arith, length-take)
 
--- who loads the count of accepted documents between two moments knows those that it knew
+-- a seat that loads the count of accepted documents between two moments knows those that it knew
 pub counts_more : (k l : Known) (seen counted : ℕ) (loaded : Moment) → seen ≤ length k.moment.documents.accepted
     → IsNotBefore loaded k.moment → IsNotBefore l.moment loaded → counted ≡ length loaded.documents.accepted → IsPrefix (first_of seen k) (first_of counted l)
 counts_more k l seen counted loaded h after before count =
@@ -90,21 +90,23 @@ counts_front_likely k l σ counted q likely a b e s none =
     let there = subst (λ (x : Setting × List Doc). AreNone q (cut x.0 x.1) likely) (λ i. (setting i, same i)) none in
     subst (λ (docs : List Doc). HasCounted q docs a b) (sym same) (s.tally there)
 
--- a writer stands at a later moment of the same documents
-pub stays : (p : PlacerProgress) (m n : Moment) → IsMoment n → IsNotBefore n m → n.documents ≡ m.documents → PlacerStands p m → IsMoment n × PlacerStands p n
-stays p m n is l e h = (is, stands_same p m n l e h)
-
 -- what is converted stays converted
 pub packed_rises : (m n : Moment) (k : ℕ) → IsNotBefore n m → k ≤ m.conversions.converted → k ≤ n.conversions.converted
 packed_rises m n k l h =
     ⊎_elim (λ (x : m.conversions.converted < n.conversions.converted). omega arith)
     (λ (x : (m.conversions.converted ≡ n.conversions.converted) × (m.conversions.packed ≤ n.conversions.packed)). omega (arith, x.0)) l.conversions
 
--- two lists that are fronts of each other are one
+-- a writer stands for a later moment of the same documents
+pub stays : (p : PlacerProgress) (m n : Moment) (k : ℕ) → IsMoment n → IsNotBefore n m → n.documents ≡ m.documents → IsMoment m × PlacerStands p m × (k ≤ m.conversions.converted)
+    → IsMoment n × PlacerStands p n × (k ≤ n.conversions.converted)
+stays p m n k is l e h = (is, stands_same p m n l e h.1, packed_rises m n k l h.2)
+
+-- two lists that are prefixes of each other are one
 pub same_fronts : {A : Type 0} (xs ys : List A) → IsPrefix xs ys → IsPrefix ys xs → xs ≡ ys
 same_fronts xs ys p q = prefix_whole xs ys p (prefix_length ys xs q)
 
--- the segments that the converter converted are closed in the history of who knows its moment and places no document
+-- the segments that the converter converted are closed in the history of a seat that knows its
+-- moment and places no document
 pub closed_in : (m n : Moment) (σ : Setting) (count : ℕ) → IsNotBefore n m → IsMoment n → n.setting ≡ σ → n.documents.current ≡ None
     → m.conversions ≡ record { converted = count; packed = 0 } → AreClosed σ n.documents.accepted count
 closed_in m n σ count l is e idle c s h =

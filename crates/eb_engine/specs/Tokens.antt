@@ -7,16 +7,18 @@ use Rattle.eb_convert.specs.declared.conversion.Converted.TheVariants.{One, Noth
 use Rattle.eb_place.specs.Room.{cut}
 use Rattle.eb_table.specs.Known.{Words, Known}
 
--- of a writer: its index, and its history, which is the documents that it added, in order, and all that was stored of documents, since it
--- places none between two calls. Of a reader: its index, and the documents that it knows, which are the first ones of the writer's
--- history. Of both: how many segments are converted as far as it was told, which are the first ones
+-- of a writer: its index, and its history, which is the documents that it added, in order, and all
+-- that was stored of documents, since it places none between two calls. Of a reader: its index, and
+-- the documents that it knows, which are the first ones of the writer's history. Of both: how many
+-- segments it knows to be converted, which are the first ones
 pub record HistoryToken : Type 0 where
   pub index : Words
   pub docs : List Doc
   pub converted : ℕ
 
--- of a converter: its index, the documents that it knows, which are the first ones of the writer's history, the document that it knows
--- to be placed after these, if there is one, and the number of segments that it converted
+-- of a converter: its index, the documents that it knows, which are the first ones of the writer's
+-- history, the document that it knows to be placed after these, if there is one, and the number of
+-- segments that it converted
 pub record ConverterToken : Type 0 where
   pub index : Words
   pub docs : List Doc
@@ -49,8 +51,9 @@ with_placing docs (Some d) = docs ++ d ∷ []
 abbrev pub known_to : ConverterToken → List Doc
 known_to t = with_placing t.docs t.placing
 
--- what a call of the converter did: it converted the next segment, which is closed by a document that it knows; or nothing, and no
--- document that it then knows begins the segment after the next one
+-- what a call of the converter did: it converted the next segment, which is closed by a document
+-- that it knows; or nothing, and no document that it then knows begins the segment after the next
+-- one
 abbrev pub Converts : Setting → ConverterToken → ConverterToken → Converted → Type 0
 Converts σ old new (One s) = (s ≡ old.converted) × (new.converted ≡ old.converted + 1) × (s + 1 < length (cut σ (known_to new)))
 Converts σ old new Nothing = (new.converted ≡ old.converted) × (length (cut σ (known_to new)) ≤ old.converted + 1)

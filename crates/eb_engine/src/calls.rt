@@ -1,15 +1,17 @@
 //! What is done through a seat at the words: searches, adds and conversions.
-ghost use Rattle.std.specs.Prelude.{◌≡◌, ℕ, List, ◌+◌, ◌-◌, ◌++◌, ◌<◌, ◌≤◌, length, take, None, IfOk, OnErr};
+ghost use Rattle.std.specs.Prelude.{◌≡◌, ℕ, List, [], ◌+◌, ◌-◌, ◌++◌, ◌<◌, ◌≤◌, length, take, None, IfOk, OnErr};
 ghost use Rattle.eb_base.specs.Match.{answer};
 ghost use Rattle.eb_base.specs.Query.{word, conjunction};
 ghost use Rattle.eb_convert.specs.Converting.{IsConversion};
 ghost use Rattle.eb_cursor.specs.AndCosts.{word_parts};
+ghost use Rattle.eb_count.specs.Counts.{match_count};
 ghost use Rattle.eb_count.specs.Tallies.{HasCounted};
 ghost use Rattle.eb_cursor.specs.Frames.{query_of, k_of, ids_of, SeenAs};
 ghost use Rattle.eb_place.specs.Later.{IsNotBefore};
 ghost use Rattle.eb_place.specs.declared.moment.Moment.{Moment};
 ghost use Rattle.eb_place.specs.Room.{cut, HasRoom};
 ghost use Rattle.eb_engine.specs.Loads.{IsWithinBound, IsWithinAndBound, IsAlone};
+ghost use Rattle.eb_search.specs.Bounds.{match_loads};
 ghost use Rattle.eb_search.specs.Counted.{CountedOn, CountedLikely};
 ghost use Rattle.eb_search.specs.Searched.{Searched, SearchedLikely};
 ghost use Rattle.eb_search.specs.Visible.{AreNone};
@@ -43,15 +45,15 @@ pub(crate) fn search_words<G: Gate, L: Ledger>(
     ensures k { k_of frame.new ≡ k_of frame.old }
     ensures answer { Searched seat.old.moment seat.new.moment (query_of frame.old) (k_of frame.old) result (ids_of frame.new) }
     ensures loads { (t : List ℕ) → query_of frame.old ≡ word t
-        → IsWithinBound seat.old.moment seat.new.moment t result (length (ids_of frame.new)) steps.old steps.new }
+        → IsWithinBound [] seat.old.moment seat.new.moment t result (length (ids_of frame.new)) steps.old steps.new }
     ensures rounds { (ts : List (List ℕ)) → query_of frame.old ≡ conjunction (word_parts ts)
-        → IsWithinAndBound seat.new.moment ts result (length (ids_of frame.new)) steps.old steps.new }
+        → IsWithinAndBound [] seat.new.moment ts result (length (ids_of frame.new)) steps.old steps.new }
 {
     let mut port = ReaderPort { seat, words };
     search(&mut port, frame, gate, steps)
 }
 
-// The same, over all segments but those of which `likely` says false.
+// A search by a reader's seat, over all segments but those of which `likely` says false.
 pub(crate) fn search_words_likely<G: Gate, L: Ledger>(
     seat: &mut ReaderSeat,
     words: &SharedWords,
@@ -66,16 +68,16 @@ pub(crate) fn search_words_likely<G: Gate, L: Ledger>(
     ensures k { k_of frame.new ≡ k_of frame.old }
     ensures answer { SearchedLikely seat.old.moment seat.new.moment (query_of frame.old) (k_of frame.old) likely.now result (ids_of frame.new) }
     ensures loads { (t : List ℕ) → query_of frame.old ≡ word t
-        → IsWithinBound seat.old.moment seat.new.moment t result (length (ids_of frame.new)) steps.old steps.new }
+        → IsWithinBound likely.now seat.old.moment seat.new.moment t result (length (ids_of frame.new)) steps.old steps.new }
     ensures rounds { (ts : List (List ℕ)) → query_of frame.old ≡ conjunction (word_parts ts)
-        → IsWithinAndBound seat.new.moment ts result (length (ids_of frame.new)) steps.old steps.new }
+        → IsWithinAndBound likely.now seat.new.moment ts result (length (ids_of frame.new)) steps.old steps.new }
 {
     let mut port = ReaderPort { seat, words };
     search_likely(&mut port, frame, gate, likely, steps)
 }
 
-// A search by a reader's seat that the writer's seat gives away and takes in again. Nothing is added meanwhile, so the reader finds
-// exactly what the writer knows.
+// A search by a reader's seat that the writer's seat splits off and meets again. Nothing is added
+// meanwhile, so the reader finds exactly what the writer knows.
 pub(crate) fn search_alone<G: Gate, L: Ledger>(
     seat: &mut WriterSeat,
     words: &SharedWords,
@@ -93,9 +95,9 @@ pub(crate) fn search_alone<G: Gate, L: Ledger>(
     ensures count { result ≡ length seat.old.moment.documents.accepted }
     ensures ids { ids_of frame.new ≡ answer (query_of frame.old) (k_of frame.old) seat.old.moment.documents.accepted }
     ensures loads { (t : List ℕ) → query_of frame.old ≡ word t → (now : Moment) × IsAlone seat.old.moment now
-        × IsWithinBound seat.old.moment now t result (length (ids_of frame.new)) steps.old steps.new }
+        × IsWithinBound [] seat.old.moment now t result (length (ids_of frame.new)) steps.old steps.new }
     ensures rounds { (ts : List (List ℕ)) → query_of frame.old ≡ conjunction (word_parts ts) → (now : Moment) × IsAlone seat.old.moment now
-        × IsWithinAndBound now ts result (length (ids_of frame.new)) steps.old steps.new }
+        × IsWithinAndBound [] now ts result (length (ids_of frame.new)) steps.old steps.new }
 {
     let mut reader = seat.split(words);
     let count = search_words(&mut reader, words, frame, gate, steps);
@@ -103,7 +105,8 @@ pub(crate) fn search_alone<G: Gate, L: Ledger>(
     count
 }
 
-// The same, over all segments but those of which `likely` says false.
+// A search by a reader's seat beside the writer's, as above, over all segments but those of which
+// `likely` says false.
 pub(crate) fn search_alone_likely<G: Gate, L: Ledger>(
     seat: &mut WriterSeat,
     words: &SharedWords,
@@ -123,9 +126,9 @@ pub(crate) fn search_alone_likely<G: Gate, L: Ledger>(
     ensures ids { AreNone (query_of frame.old) (cut words.now.setting seat.old.moment.documents.accepted) likely.now
         → ids_of frame.new ≡ answer (query_of frame.old) (k_of frame.old) seat.old.moment.documents.accepted }
     ensures loads { (t : List ℕ) → query_of frame.old ≡ word t → (now : Moment) × IsAlone seat.old.moment now
-        × IsWithinBound seat.old.moment now t result (length (ids_of frame.new)) steps.old steps.new }
+        × IsWithinBound likely.now seat.old.moment now t result (length (ids_of frame.new)) steps.old steps.new }
     ensures rounds { (ts : List (List ℕ)) → query_of frame.old ≡ conjunction (word_parts ts) → (now : Moment) × IsAlone seat.old.moment now
-        × IsWithinAndBound now ts result (length (ids_of frame.new)) steps.old steps.new }
+        × IsWithinAndBound likely.now now ts result (length (ids_of frame.new)) steps.old steps.new }
 {
     let mut reader = seat.split(words);
     let count = search_words_likely(&mut reader, words, frame, gate, likely, steps);
@@ -133,7 +136,8 @@ pub(crate) fn search_alone_likely<G: Gate, L: Ledger>(
     count
 }
 
-// A search by a reader's seat of exactly the first `count` documents that it knows, after what the frame holds.
+// A search by a reader's seat of exactly the first `count` documents that it knows, after what the
+// frame holds.
 pub(crate) fn search_known_words<L: Ledger>(
     seat: &mut ReaderSeat,
     words: &SharedWords,
@@ -167,12 +171,14 @@ pub(crate) fn count_words<G: Gate, L: Ledger>(
     ensures made { MadeWith seat.new words.now }
     ensures seen { SeenAs frame.old frame.new }
     ensures counts { CountedOn seat.old.moment seat.new.moment (query_of frame.old) result tally.old tally.new }
+    ensures loads { (t : List ℕ) → query_of frame.old ≡ word t → IsWithinBound [] seat.old.moment seat.new.moment t result
+        (match_loads (length tally.old.buckets) (match_count (word t) (take result seat.new.moment.documents.accepted))) steps.old steps.new }
 {
     let mut port = ReaderPort { seat, words };
     count_on(&mut port, frame, tally, gate, steps)
 }
 
-// The same, over all segments but those of which `likely` says false.
+// A count by a reader's seat, over all segments but those of which `likely` says false.
 pub(crate) fn count_words_likely<G: Gate, L: Ledger>(
     seat: &mut ReaderSeat,
     words: &SharedWords,
@@ -186,12 +192,73 @@ pub(crate) fn count_words_likely<G: Gate, L: Ledger>(
     ensures made { MadeWith seat.new words.now }
     ensures seen { SeenAs frame.old frame.new }
     ensures counts { CountedLikely seat.old.moment seat.new.moment (query_of frame.old) likely.now result tally.old tally.new }
+    ensures loads { (t : List ℕ) → query_of frame.old ≡ word t → IsWithinBound likely.now seat.old.moment seat.new.moment t result
+        (match_loads (length tally.old.buckets) (match_count (word t) (take result seat.new.moment.documents.accepted))) steps.old steps.new }
 {
     let mut port = ReaderPort { seat, words };
     count_likely(&mut port, frame, tally, gate, likely, steps)
 }
 
-// A count by a reader's seat of exactly the first `count` documents that it knows, after what the tally holds.
+// A count by a reader's seat that the writer's seat splits off and meets again, as in
+// `search_alone`.
+pub(crate) fn count_alone<G: Gate, L: Ledger>(
+    seat: &mut WriterSeat,
+    words: &SharedWords,
+    frame: &mut Frame,
+    tally: &mut Tally,
+    gate: &G,
+    steps: &mut Steps<L>,
+) -> u64
+    requires made { MadeWith seat.old words.now }
+    requires idle { seat.old.moment.documents.current ≡ None }
+    ensures made { MadeWith seat.new words.now }
+    ensures later { IsNotBefore seat.new.moment seat.old.moment }
+    ensures documents { seat.new.moment.documents ≡ seat.old.moment.documents }
+    ensures seen { SeenAs frame.old frame.new }
+    ensures count { result ≡ length seat.old.moment.documents.accepted }
+    ensures counts { HasCounted (query_of frame.old) seat.old.moment.documents.accepted tally.old tally.new }
+    ensures loads { (t : List ℕ) → query_of frame.old ≡ word t → (now : Moment) × IsAlone seat.old.moment now
+        × IsWithinBound [] seat.old.moment now t result
+        (match_loads (length tally.old.buckets) (match_count (word t) seat.old.moment.documents.accepted)) steps.old steps.new }
+{
+    let mut reader = seat.split(words);
+    let count = count_words(&mut reader, words, frame, tally, gate, steps);
+    seat.meet(words, reader);
+    count
+}
+
+// A count by a reader's seat beside the writer's, as above, over all segments but those of which
+// `likely` says false.
+pub(crate) fn count_alone_likely<G: Gate, L: Ledger>(
+    seat: &mut WriterSeat,
+    words: &SharedWords,
+    frame: &mut Frame,
+    tally: &mut Tally,
+    gate: &G,
+    likely: &[bool; MAX_SEGMENTS as usize],
+    steps: &mut Steps<L>,
+) -> u64
+    requires made { MadeWith seat.old words.now }
+    requires idle { seat.old.moment.documents.current ≡ None }
+    ensures made { MadeWith seat.new words.now }
+    ensures later { IsNotBefore seat.new.moment seat.old.moment }
+    ensures documents { seat.new.moment.documents ≡ seat.old.moment.documents }
+    ensures seen { SeenAs frame.old frame.new }
+    ensures count { result ≡ length seat.old.moment.documents.accepted }
+    ensures counts { AreNone (query_of frame.old) (cut words.now.setting seat.old.moment.documents.accepted) likely.now
+        → HasCounted (query_of frame.old) seat.old.moment.documents.accepted tally.old tally.new }
+    ensures loads { (t : List ℕ) → query_of frame.old ≡ word t → (now : Moment) × IsAlone seat.old.moment now
+        × IsWithinBound likely.now seat.old.moment now t result
+        (match_loads (length tally.old.buckets) (match_count (word t) seat.old.moment.documents.accepted)) steps.old steps.new }
+{
+    let mut reader = seat.split(words);
+    let count = count_words_likely(&mut reader, words, frame, tally, gate, likely, steps);
+    seat.meet(words, reader);
+    count
+}
+
+// A count by a reader's seat of exactly the first `count` documents that it knows, after what the
+// tally holds.
 pub(crate) fn count_known_words<L: Ledger>(
     seat: &mut ReaderSeat,
     words: &SharedWords,

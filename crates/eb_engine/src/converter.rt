@@ -12,9 +12,10 @@ use eb_convert::Converted;
 use eb_table::ConverterSeat;
 use std::marker::Model;
 
-/// The one converter of an index: it knows which segments are closed, and how many it converted. It may go to a thread
-/// of its own. Contracts see the documents that it knows, which are the first ones of the writer's history, the document
-/// that it knows to be placed after them, if there is one, and the number of segments that it converted.
+/// The one converter of an index: it knows which segments are closed, and how many it converted. It
+/// may go to a thread of its own. Contracts see the documents that it knows, which are the first
+/// ones of the writer's history; the document that it knows to be placed after them, if there is
+/// one; and the number of segments that it converted.
 #[derive(Drop)]
 pub struct Converter {
     pub(crate) seat: ConverterSeat,
@@ -52,12 +53,13 @@ impl Converter {
         Converter { seat, converted: 0 }
     }
 
-    /// Converts the next segment, the first one that isn't converted, where it is closed: `One` with its number, which
-    /// counts from 0. A segment is closed where a document of the following one is added, or is being added. `Nothing`
-    /// exactly where it then knows none, and then nothing is stored; so it never comes where the converter knew a document
-    /// of the following segment before. It loads whether there is one, and knows all that it found from then on. All
-    /// that it knows is a history that the setting allows. The converter must have been made with this index. Takes no
-    /// memory.
+    /// Converts the next segment, the first one that isn't converted, if it is closed: `One` with
+    /// its number, which counts from 0. A segment is closed where a document of the following one
+    /// is added, or is being added. `Nothing` exactly where the converter then knows of no such
+    /// document, and then nothing is stored; so it never comes where the converter knew a document
+    /// of the following segment before. The call loads whether there is one, and the converter
+    /// knows what it found from then on. All that it knows is a history that the setting allows.
+    /// The converter must have been made with this index. Takes no memory.
     pub fn convert(&mut self, index: &Index) -> Converted
         requires { self.old.index ≡ index.now }
         ensures index { self.new.index ≡ self.old.index }
@@ -74,8 +76,9 @@ impl Converter {
         done
     }
 
-    /// Takes in a reader: the converter then knows at least what the reader knew and what it knew before, the document
-    /// that is being placed too, which are prefixes of one history. All must have been made with this index. Takes no memory.
+    /// Meets a reader, which is used up: the converter then knows at least what the reader knew and
+    /// what it knew before, also the document that is being placed. Both are prefixes of one
+    /// history. All must have been made with this index. Takes no memory.
     pub fn meet(&mut self, index: &Index, reader: Reader)
         requires this { self.old.index ≡ index.now }
         requires reader { reader.index ≡ index.now }

@@ -1,12 +1,13 @@
 //! The index that threads share.
 //!
-//! Opening makes a list of zeros first and the table from it, since the kit makes a table from a slice alone: so the
-//! words are held twice until it returns.
+//! Opening makes a list of zeros first and the table from it, since the kit makes a table from a
+//! slice alone. So the words are held twice until it returns.
 //!
-//! The writer keeps no count of its own: the placer has it. Writers and readers keep how many segments they were told
-//! are converted: a seat may know of more, but a number that a call says exactly is told on by `hear`, `reader`,
-//! `split` and `meet`. Each such number comes from the writer's `hear`, so its own is never below a reader's, and its
-//! `meet` takes none over.
+//! The writer keeps no count of its own: the placer has it. Writers and readers keep how many
+//! segments they know to be converted. A seat may know of more, but a contract gives the number
+//! exactly, and only `hear`, `reader`, `split` and `meet` pass it on. Each such number comes from
+//! the writer's `hear`, so the writer's own is never below a reader's, and its `meet` takes none
+//! over.
 ghost use Rattle.std.specs.Prelude.{◌≡◌, [], None, IfOk};
 
 use crate::converter::Converter;
@@ -16,9 +17,9 @@ use eb_table::SharedWords;
 use std::alloc::Global;
 use std::marker::Model;
 
-/// An index of documents, after the Earlybird paper of 2012, which threads share by reference. What is done with it
-/// is done by its writer, its readers and its converter, all of which are made with it. Contracts see which index it
-/// is, and its setting.
+/// An index of documents, after the Earlybird paper of 2012, which threads share by reference. Its
+/// writer, its readers and its converter, all made with it, do what is done with it. Contracts see
+/// which index it is, and its setting.
 #[derive(Drop)]
 pub struct Index {
     pub(crate) words: SharedWords,
@@ -33,9 +34,9 @@ impl Model for Index {
 }
 
 impl Index {
-    /// An index without a document, with its one writer and its one converter. Takes all memory that the index will
-    /// ever take, at once (`eb_table::SharedWords::open` says how much). `NoMemory` where it isn't there: nothing is
-    /// kept then.
+    /// An index without a document, with its one writer and its one converter. Takes all memory
+    /// that the index will ever take, at once (`eb_table::SharedWords::open` says how much).
+    /// `NoMemory` where memory runs out: nothing is kept then.
     pub fn open(alloc: Global, config: Config) -> Result<(Index, Writer, Converter), NoMemory>
         ensures setting { IfOk result (λ r. r.0.setting ≡ config) }
         ensures writer { IfOk result (λ r. r.1 ≡ record { index = r.0; docs = []; converted = 0 }) }

@@ -1,10 +1,11 @@
-//! The index that threads share: one writer, one converter and any number of readers, each a token that may go to a
-//! thread of its own. The writer adds documents, the converter packs the segments that are closed, and the readers
-//! search, at the same time, over the same words; a search answers over exactly the documents that were accepted when
-//! it loaded their count, whatever is converted meanwhile. No call waits, and none but `Index::open` takes memory.
+//! The index that threads share: one writer, one converter and any number of readers, each a token
+//! that may go to a thread of its own. The writer adds documents, the converter packs the segments
+//! that are closed, and the readers search, at the same time, over the same words. A search answers
+//! over exactly the documents that were accepted when it loaded their count, whatever is converted
+//! meanwhile. No call waits, and none but `Index::open` takes memory.
 //!
-//! Contracts speak of lists of documents and of settings alone: `specs/Tokens.antt` says what a writer, a reader and
-//! a converter are to them.
+//! Contracts speak of lists of documents and of settings alone: `specs/Tokens.antt` says what a
+//! writer, a reader and a converter are to them.
 #![tactic(auto)]
 
 mod calls;

@@ -3,15 +3,19 @@ ghost use mathlib.Core.List.{IsPrefix};
 ghost use Rattle.eb_base.specs.Match.{answer};
 ghost use Rattle.eb_base.specs.Query.{word, conjunction};
 ghost use Rattle.eb_cursor.specs.AndCosts.{word_parts};
+ghost use Rattle.eb_count.specs.Counts.{match_count};
 ghost use Rattle.eb_count.specs.Tallies.{HasCounted};
 ghost use Rattle.eb_cursor.specs.Frames.{query_of, k_of, ids_of, SeenAs};
 ghost use Rattle.eb_place.specs.Moments.{IsMoment, empty_moment};
 ghost use Rattle.eb_place.specs.Room.{cut, HasRoom, has_room};
+ghost use Rattle.eb_search.specs.Bounds.{match_loads};
 ghost use Rattle.eb_search.specs.Visible.{AreNone};
 ghost use Rattle.eb_engine.specs.Loads.{IsBoundedAlone, IsAndBoundedAlone};
 ghost use Rattle.eb_engine.specs.Tokens.{index_of, AreClosed};
 
-use crate::calls::{add_to_words, search_alone, search_alone_likely};
+use crate::calls::{
+    add_to_words, count_alone, count_alone_likely, search_alone, search_alone_likely,
+};
 use crate::converter::Converter;
 use crate::index::Index;
 use crate::reader::Reader;
@@ -24,13 +28,13 @@ use eb_writer::{Full, Placer};
 use std::marker::Model;
 use std::sync::ledger::Ledger;
 
-/// The one writer of an index. It may go to a thread of its own. Contracts see its history: the documents that it
-/// added, in order; and how many segments it was told are converted.
+/// The one writer of an index. It may go to a thread of its own. Contracts see its history, which
+/// is the documents that it added, in order; and how many segments it knows to be converted.
 #[derive(Drop)]
 pub struct Writer {
     seat: WriterSeat,
     placer: Placer,
-    // How many segments it was told are converted.
+    // How many segments it knows to be converted.
     converted: u32,
 }
 
@@ -60,9 +64,10 @@ impl Writer {
         }
     }
 
-    /// Adds a document after the history, and gives the length of the history then; the gate is told of it after the
-    /// last store. `Full` exactly where the index has no room for the document: the history is then as before, and no
-    /// store is done. The writer must have been made with this index. Takes no memory.
+    /// Adds a document after the history, and returns the length of the history then, which is
+    /// reported to the gate after the last store. `Full` exactly where the index has no room for
+    /// the document: the history is then as before, and no store is done. The writer must have been
+    /// made with this index. Takes no memory.
     pub fn add<G: Gate>(
         &mut self,
         index: &Index,
@@ -95,8 +100,8 @@ impl Writer {
         self.placer.segments()
     }
 
-    /// A reader that knows the whole history, and as many converted segments as the writer was told of. The writer must
-    /// have been made with this index. Takes no memory.
+    /// A reader that knows the whole history, and as many converted segments as the writer knows.
+    /// The writer must have been made with this index. Takes no memory.
     pub fn reader(&mut self, index: &Index) -> Reader
         requires { self.old.index ≡ index.now }
         ensures this { self.new ≡ self.old }
@@ -106,8 +111,8 @@ impl Writer {
         Reader::new(seat, self.placer.documents(), self.converted)
     }
 
-    /// Takes in a reader: what it knew is a front of the history. Both must have been made with this index. Takes no
-    /// memory.
+    /// Meets a reader, which is used up: what it knew is a prefix of the history. Both must have
+    /// been made with this index. Takes no memory.
     pub fn meet(&mut self, index: &Index, reader: Reader)
         requires this { self.old.index ≡ index.now }
         requires reader { reader.index ≡ index.now }
@@ -118,10 +123,12 @@ impl Writer {
         self.seat.meet(&index.words, known);
     }
 
-    /// Searches the whole history, as one who reads his own writes: a reader that knows the history searches, and is
-    /// taken in again. Since no document is added meanwhile, the answer is over exactly the history, and its length is
-    /// the result; else as `Reader::search`, and the bounds on loads are those of moments at which exactly the history is
-    /// stored (`IsBoundedAlone`, `IsAndBoundedAlone`). The writer must have been made with this index. Takes no memory.
+    /// Searches the whole history, so a writer reads its own writes: a reader that knows the
+    /// history searches, and the writer meets it again. Since no document is added meanwhile, the
+    /// answer is over exactly the history, and its length is the result; otherwise as
+    /// `Reader::search`. The bounds on loads are taken at moments at which exactly the history is
+    /// stored (`IsBoundedAlone`, `IsAndBoundedAlone`). The writer must have been made with this
+    /// index. Takes no memory.
     pub fn search<G: Gate, L: Ledger>(
         &mut self,
         index: &Index,
@@ -136,16 +143,17 @@ impl Writer {
         ensures k { k_of frame.new ≡ k_of frame.old }
         ensures ids { ids_of frame.new ≡ answer (query_of frame.old) (k_of frame.old) self.new.docs }
         ensures loads { (t : List ℕ) → query_of frame.old ≡ word t
-            → IsBoundedAlone index.now.setting self.new.docs self.new.converted t (length (ids_of frame.new)) steps.old steps.new }
+            → IsBoundedAlone [] index.now.setting self.new.docs self.new.converted t (length (ids_of frame.new)) steps.old steps.new }
         ensures rounds { (ts : List (List ℕ)) → query_of frame.old ≡ conjunction (word_parts ts)
-            → IsAndBoundedAlone index.now.setting self.new.docs ts (length (ids_of frame.new)) steps.old steps.new }
+            → IsAndBoundedAlone [] index.now.setting self.new.docs ts (length (ids_of frame.new)) steps.old steps.new }
     {
         search_alone(&mut self.seat, &index.words, frame, gate, steps)
     }
 
-    /// Searches as [`Writer::search`] does, over all segments but those of which `likely` says false: the answer is that
-    /// over the whole history where none of the documents of those matches. The writer must have been made with this
-    /// index. Takes no memory.
+    /// Searches as [`Writer::search`] does, over all segments but those of which `likely` says
+    /// false: the answer is that over the whole history where none of the documents of those
+    /// segments matches. The bounds on loads are those of [`Writer::search`] but count nothing for
+    /// what is in these segments. The writer must have been made with this index. Takes no memory.
     pub fn search_likely<G: Gate, L: Ledger>(
         &mut self,
         index: &Index,
@@ -162,16 +170,17 @@ impl Writer {
         ensures ids { AreNone (query_of frame.old) (cut index.now.setting self.new.docs) likely.now
             → ids_of frame.new ≡ answer (query_of frame.old) (k_of frame.old) self.new.docs }
         ensures loads { (t : List ℕ) → query_of frame.old ≡ word t
-            → IsBoundedAlone index.now.setting self.new.docs self.new.converted t (length (ids_of frame.new)) steps.old steps.new }
+            → IsBoundedAlone likely.now index.now.setting self.new.docs self.new.converted t (length (ids_of frame.new)) steps.old steps.new }
         ensures rounds { (ts : List (List ℕ)) → query_of frame.old ≡ conjunction (word_parts ts)
-            → IsAndBoundedAlone index.now.setting self.new.docs ts (length (ids_of frame.new)) steps.old steps.new }
+            → IsAndBoundedAlone likely.now index.now.setting self.new.docs ts (length (ids_of frame.new)) steps.old steps.new }
     {
         search_alone_likely(&mut self.seat, &index.words, frame, gate, likely, steps)
     }
 
-    /// Counts, in the tally, all matches among the whole history, after what the tally held: a reader that knows the history
-    /// counts, and is taken in again. The length of the history is the result; else as `Reader::count`. The writer must have
-    /// been made with this index. Takes no memory.
+    /// Counts, in the tally, all matches among the whole history, added to what the tally held: a
+    /// reader that knows the history counts, and the writer meets it again. The length of the
+    /// history is the result; otherwise as `Reader::count`. The writer must have been made with
+    /// this index. Takes no memory.
     pub fn count<G: Gate, L: Ledger>(
         &mut self,
         index: &Index,
@@ -185,16 +194,16 @@ impl Writer {
         ensures count { result ≡ length self.new.docs }
         ensures seen { SeenAs frame.old frame.new }
         ensures counts { HasCounted (query_of frame.old) self.new.docs tally.old tally.new }
+        ensures loads { (t : List ℕ) → query_of frame.old ≡ word t → IsBoundedAlone [] index.now.setting self.new.docs self.new.converted t
+            (match_loads (length tally.old.buckets) (match_count (word t) self.new.docs)) steps.old steps.new }
     {
-        let mut reader = self.reader(index);
-        let count = reader.count(index, frame, tally, gate, steps);
-        self.meet(index, reader);
-        count
+        count_alone(&mut self.seat, &index.words, frame, tally, gate, steps)
     }
 
-    /// Counts as [`Writer::count`] does, over all segments but those of which `likely` says false: the numbers are those over
-    /// the whole history where none of the documents of those matches. The writer must have been made with this index.
-    /// Takes no memory.
+    /// Counts as [`Writer::count`] does, over all segments but those of which `likely` says false:
+    /// the numbers are those over the whole history where none of the documents of those segments
+    /// matches. The bound on loads is that of [`Writer::count`] but counts nothing for the word in
+    /// these segments. The writer must have been made with this index. Takes no memory.
     pub fn count_likely<G: Gate, L: Ledger>(
         &mut self,
         index: &Index,
@@ -210,15 +219,23 @@ impl Writer {
         ensures seen { SeenAs frame.old frame.new }
         ensures counts { AreNone (query_of frame.old) (cut index.now.setting self.new.docs) likely.now
             → HasCounted (query_of frame.old) self.new.docs tally.old tally.new }
+        ensures loads { (t : List ℕ) → query_of frame.old ≡ word t → IsBoundedAlone likely.now index.now.setting self.new.docs self.new.converted t
+            (match_loads (length tally.old.buckets) (match_count (word t) self.new.docs)) steps.old steps.new }
     {
-        let mut reader = self.reader(index);
-        let count = reader.count_likely(index, frame, tally, gate, likely, steps);
-        self.meet(index, reader);
-        count
+        count_alone_likely(
+            &mut self.seat,
+            &index.words,
+            frame,
+            tally,
+            gate,
+            likely,
+            steps,
+        )
     }
 
-    /// Takes in what the converter knows: it is a front of the history, in which each segment that it converted is
-    /// closed; and the writer is then told of these segments. Both must have been made with this index. Takes no memory.
+    /// Takes over what the converter knows: it is a prefix of the history, in which each segment
+    /// that it converted is closed. The writer then knows these segments to be converted. Both must
+    /// have been made with this index. Takes no memory.
     pub fn hear(&mut self, index: &Index, converter: &mut Converter)
         requires this { self.old.index ≡ index.now }
         requires converter { converter.old.index ≡ index.now }

@@ -1,4 +1,5 @@
--- Who knows more of the newest generation knows more of the history; and what the readers of a feed's writer are.
+-- A reader that knows more of the newest generation knows more of the history; and what the readers
+-- of a feed's writer are.
 use Rattle.std.proofs.Common.{◌≡◌, suc, ◌≤◌, ◌⊎◌, inl, inr, ⊎_elim, List, [], ◌∷◌, length, reverse, min, ap, ◌∙◌, sym, subst, refl, arith, length-append}
 use Rattle.std.proofs.lemmas.List.{length-reverse}
 use mathlib.Core.List.{IsPrefix}

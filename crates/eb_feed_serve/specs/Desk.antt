@@ -11,6 +11,7 @@ new_clerk queues feed = new_clerk_of queues (key_of feed)
 abbrev pub IsOpen : Queues → FeedName → ClerkBook (List ℕ) → Type 0
 IsOpen queues feed c = (c.queues ≡ queues) × (feed_of c.home ≡ feed) × (c.stops ≡ 0)
 
--- the worker is one of these queues; a job over a feed reads nothing beside itself, so any home is served
+-- the worker is one of these queues; a job over a feed reads nothing besides itself, so it serves
+-- any home
 abbrev pub IsWorkerOf : Queues → WorkerBook (List ℕ) → Type 0
 IsWorkerOf queues w = (w.queues ≡ queues) × ⊤

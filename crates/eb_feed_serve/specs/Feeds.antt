@@ -12,8 +12,8 @@ pub record FeedName : Type 0 where
 abbrev pub feed_name : WriterToken → FeedName
 feed_name w = record { book = w.feed.book; keep = w.keep }
 
--- the reader is of the feed, and holds as many of the generations that it knows as the feed keeps, or all; where the newest of these
--- isn't the first, it has a document
+-- the reader is of the feed, and holds as many of the generations that it knows as the feed keeps,
+-- or all; where the newest of these isn't the first, it has a document
 pub record IsReaderOf (f : FeedName) (r : FeedToken) : Type 0 where
   pub book : r.book ≡ f.book
   pub held : r.held ≡ min f.keep (length r.log)

@@ -6,7 +6,7 @@ use Rattle.eb_feed_serve.specs.declared.job.Job.{Job}
 use Rattle.eb_feed_serve.specs.declared.job.Answer.{Answer}
 use Rattle.eb_desk.specs.declared.rule.Pair.{Pair}
 
--- how many documents of the history a reader knows of, as far as a number of 64 bits goes
+-- how many documents of the history a reader knows of, at most the greatest number of 64 bits
 abbrev pub known_to : FeedToken → ℕ
 known_to r = counted (history_of r.log r.docs)
 

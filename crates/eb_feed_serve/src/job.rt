@@ -13,8 +13,8 @@ use eb_stream::{FeedReader, FeedWriter};
 use std::marker::Brand;
 use std::sync::ledger::{Blank, Ledger};
 
-/// A query that waits for its answer: a number, a frame with the query, and a reader of its own. It keeps how many
-/// documents its reader knows of.
+/// A query that waits for its answer: a number, a frame with the query, and a reader of its own. It
+/// keeps how many documents its reader knows of.
 #[derive(Drop)]
 pub struct Job {
     number: u64,
@@ -24,9 +24,9 @@ pub struct Job {
     ghost knows: { told ≡ counted (history_of reader.log reader.docs) },
 }
 
-/// A query with its answer: the frame holds the ids of the newest `k` matches among the documents of the generations that
-/// the reader holds, up to the end of a front of the feed's history. It keeps the length of that front, which holds at
-/// least the documents that the job's reader knew of.
+/// A query with its answer: the frame holds the ids of the newest `k` matches among the documents
+/// of the generations that the reader holds, up to the end of a prefix of the feed's history. It
+/// keeps the length of that prefix, which has at least the documents that the job's reader knew of.
 #[derive(Drop)]
 pub struct Answer {
     number: u64,
@@ -39,6 +39,7 @@ pub struct Answer {
     ghost found: { ids_of frame ≡ answer (query_of frame) (k_of frame) (stretch_of reader.held reader.log reader.docs) },
 }
 
+// Searches with a counter of loads that nobody reads.
 #[tactic(auto, using(crate::proofs::Fronts::counted_more))]
 fn search_with<G: Gate, L: Ledger>(
     reader: &mut FeedReader,
@@ -66,9 +67,10 @@ impl Job {
     ghost use Rattle.eb_feed_serve.specs.Feeds.{FeedName, feed_name, IsReaderOf};
     ghost use Rattle.eb_feed_serve.specs.Jobs.{known_to, pair, pair_of, asking, asker, answer_pair, answering, answerer};
 
-    /// A job of this number, with a reader that the writer makes now: it knows of all documents, and holds as many
-    /// generations as the feed keeps, or all. It keeps how many documents it knows of, as its `told`. `NoMemory` where
-    /// there is none for the reader: the writer is as before.
+    /// A job of this number, with a reader that the writer makes now: it knows of all documents,
+    /// and holds as many generations as the feed keeps, or all. It keeps how many documents it
+    /// knows of, as its `told`. `NoMemory` where memory runs out for the reader: the writer is as
+    /// before.
     pub fn new(number: u64, frame: Frame, feed: &mut FeedWriter) -> Result<Job, NoMemory>
         ensures feed { feed.new ≡ feed.old }
         ensures pair { IfOk result (λ j. pair_of j ≡ pair number (known_to feed.old.feed)) }
@@ -146,7 +148,7 @@ impl Answer {
         self.told
     }
 
-    /// The length of the front of the history up to whose end the search went.
+    /// The length of the prefix of the history to whose end the search went.
     pub fn seen(&self) -> u64
         ensures seen { result ≡ known_to (answerer self.now) }
         ensures told { (answer_pair self.now).told ≤ result }
@@ -161,8 +163,9 @@ impl Answer {
         &self.frame
     }
 
-    /// The frame and the reader: its ids are those of the newest `k` matches among the documents of the generations that
-    /// the reader holds, as far as it knows them. It knows of at least as many documents as the job's reader did.
+    /// The frame and the reader: its ids are those of the newest `k` matches among the documents of
+    /// the generations that the reader holds, as far as it knows them. It knows of at least as many
+    /// documents as the job's reader did.
     pub fn finish(self) -> (Frame, FeedReader)
         ensures frame { result.0 ≡ answering self }
         ensures reader { result.1 ≡ answerer self }

@@ -1,8 +1,10 @@
-//! Standing workers of a feed: threads that live as long as it is asked, and answer queries beside its one writer. A clerk
-//! puts jobs, each a query with a reader of its own, and takes answers; workers take the jobs and put the answers. The
-//! queues, their rules and their calls are `eb_desk`'s; here stands what a job over a feed is, and how it is answered.
+//! Standing workers of a feed: threads that live as long as it is searched, and answer queries
+//! while its one writer adds. A clerk puts jobs, each a query with a reader of its own, and takes
+//! answers; workers take the jobs and put the answers. The queues, their rules and their calls are
+//! in `eb_desk`. This crate says what a job over a feed is, and how it is answered.
 //!
-//! Only `Desk::open` and `Job::new` take memory. The calls that take `rt` may wait, and their promise holds if they return.
+//! Only `Desk::open` and `Job::new` take memory. The calls that take `rt` may wait, and their
+//! promise holds if they return.
 #![tactic(auto)]
 
 mod desk;

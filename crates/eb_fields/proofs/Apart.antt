@@ -1,4 +1,4 @@
--- Terms of fields are told apart.
+-- Terms of fields differ from tokens and from one another.
 use Rattle.std.proofs.Common.{◌≡◌, ℕ, zero, suc, List, [], ◌∷◌, ◌++◌, ap₂, suc-le-suc, zero-le}
 use Rattle.eb_text.specs.Tokens.{folded}
 use Rattle.eb_fields.specs.Laws.{HasNoColon, NamesApart}

@@ -36,7 +36,7 @@ some n = grind (arith, nat_tests)
 below : (m n : ℕ) → nat_lt (suc m) (suc n) ≡ nat_lt m n
 below m n = grind (arith, nat_tests)
 
--- the text begins with the name and one byte more
+-- the text begins with the name and one more byte
 starts_with_push : (text name : List ℕ) (c : ℕ)
     → starts_with eqb text (name ++ c ∷ []) ≡ (starts_with eqb text name && (nat_lt (length name) (length text) && eqb (get_or text (length name) 0) c))
 starts_with_push [] [] c = refl
@@ -51,7 +51,7 @@ pub colon_after : (r : Bool) (text name : List ℕ) → r ≡ starts_with eqb te
     → (r && (nat_lt (length name) (length text) && eqb (get_or text (length name) 0) 58)) ≡ starts_with eqb text (name ++ 58 ∷ [])
 colon_after r text name e = ap (λ z. z && (nat_lt (length name) (length text) && eqb (get_or text (length name) 0) 58)) e ∙ sym (starts_with_push text name 58)
 
--- after the name that a text begins with, a colon stands
+-- after the name that a text begins with, there is a colon
 pub begun_colon : (names : List (List ℕ)) (text name : List ℕ) → begun_name names text ≡ Some name → (length name < length text) × (get_or text (length name) 0 ≡ 58)
 begun_colon [] text name e = cc
 begun_colon (n ∷ ns) text name e = go (starts_with eqb text (n ++ 58 ∷ [])) refl e (begun_colon ns text name)

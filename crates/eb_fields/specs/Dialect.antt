@@ -5,8 +5,8 @@ use Rattle.eb_text.specs.declared.cutting.Cut.TheVariants.{Words}
 use Rattle.eb_fields.specs.Fields.{names as names_of_fields}
 use Rattle.eb_fields.specs.declared.dialect.Dialect as code
 
--- the names of the fields, how texts are cut into tokens, the names of the members that are the id and the text, where names are given,
--- and whether lines may ask for counts
+-- the names of the fields, how texts are cut into tokens, the names of the members that are the id
+-- and the text, where names are given, and whether lines may ask for counts
 pub record Dialect : Type 0 where
   pub names : List (List ℕ)
   pub cut : Cut
@@ -14,7 +14,8 @@ pub record Dialect : Type 0 where
   pub text : Option (List ℕ)
   pub counts : Bool
 
--- no field, each word a token, no other names, and no counts: so lines are read where no option says otherwise
+-- no field, each word a token, no other names, and no counts: lines are read so where no option
+-- says otherwise
 abbrev pub plain : Dialect
 plain = record { names = []; cut = Words; id = None; text = None; counts = false }
 

@@ -1,5 +1,5 @@
--- The fields of documents: their names, and the terms of their values. Text is its UTF-8 bytes: 44 is
--- the comma, 58 the colon and 95 the underscore.
+-- The fields of documents: their names, and the terms of their values. Text is its UTF-8 bytes: 44
+-- is the comma, 58 the colon and 95 the underscore.
 use Rattle.std.specs.Prelude.{ℕ, nat_le, eqb, ◌&&◌, ◌||◌, not, Bool, true, if◌then◌else◌, List, [], ◌∷◌, ◌++◌, length, codes, Option}
 use Rattle.std.specs.Prelude.{Some, None, option_map}
 use Rattle.std.specs.List.{list_all, list_any, starts_with, slice_split}
@@ -26,7 +26,7 @@ abbrev pub is_name : List ℕ → Bool
 is_name name =
     (nat_le 1 (length name) && nat_le (length name) most_name_bytes) && (list_all is_name_byte name && not (bytes_eq name (codes "since")))
 
--- none stands twice
+-- none occurs twice
 abbrev pub are_distinct : List (List ℕ) → Bool
 are_distinct [] = true
 are_distinct (name ∷ names) = not (list_any (bytes_eq name) names) && are_distinct names
@@ -61,7 +61,7 @@ abbrev pub begun_name : List (List ℕ) → List ℕ → Option (List ℕ)
 begun_name [] text = None
 begun_name (name ∷ names) text = if starts_with eqb text (name ++ 58 ∷ []) then Some name else begun_name names text
 
--- The term of a field's value: the byte 255, which stands in no UTF-8 and so in no token of a text, the
+-- The term of a field's value: the byte 255, which is in no UTF-8 and so in no token of a text, the
 -- name, a colon and the whole value under case folding.
 abbrev pub field_term : List ℕ → List ℕ → List ℕ
 field_term name value = 255 ∷ name ++ 58 ∷ folded value

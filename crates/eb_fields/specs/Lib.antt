@@ -3,3 +3,4 @@ pub mod Laws
 pub mod Dialect
 pub mod Digits
 pub mod Ids
+pub mod Given

@@ -9,7 +9,7 @@ fn is_no_digit_byte(byte: u8) -> bool
     byte < b'0' || b'9' < byte
 }
 
-/// How many digits stand in front.
+/// How many digits the text begins with.
 pub fn digits_at(bytes: &[u8]) -> usize
     ensures { result ≡ position_or_len is_no_digit bytes.now }
 {

@@ -3,11 +3,11 @@ ghost use Rattle.eb_fields.specs.Fields.{names, names_in, is_field_list, begun_n
 
 use crate::names::{are_names, is_begun_by};
 
-/// The fields whose values are found, by their names in order. The list is borrowed from the text that
-/// gave it, and costs nothing to copy.
+/// The fields whose values are found, by their names in order. The list borrows from the text that
+/// it was read from, and costs nothing to copy.
 ///
-/// The empty list is [`Fields::none`]; any other comes from [`Fields::read`]. Whatever is read of a
-/// document or of a query with no field is what is read without fields.
+/// The empty list is [`Fields::none`]; any other comes from [`Fields::read`]. With no field, a
+/// document or a query is read as without fields.
 #[derive(Clone, Copy, Debug)]
 pub struct Fields<'a> {
     words: Option<&'a str>,
@@ -21,9 +21,10 @@ impl<'a> Fields<'a> {
         Fields { words: None }
     }
 
-    /// The fields of the words `NAME,NAME..`: one to [`MAX_NAMES`](crate::MAX_NAMES) names with commas between, each of one
-    /// to [`MAX_NAME_BYTES`](crate::MAX_NAME_BYTES) of the letters `a` to `z`, the digits and `_`, none of them `since`, and
-    /// none twice. `None` for any other words.
+    /// The fields of the words `NAME,NAME..`: one to [`MAX_NAMES`](crate::MAX_NAMES) names with
+    /// commas between, each of one to [`MAX_NAME_BYTES`](crate::MAX_NAME_BYTES) of the letters `a`
+    /// to `z`, the digits and `_`, none of them `since`, and none twice. `None` for any other
+    /// words.
     pub fn read(words: &'a str) -> Option<Fields<'a>>
         ensures some { is_some result ≡ is_field_list words.now }
         ensures names { IfSome result (λ fields. names fields ≡ names_in words.now) }
@@ -56,7 +57,8 @@ impl<'a> Fields<'a> {
         }
     }
 
-    /// The first name that a text begins with, a colon right after it: the field that the text names.
+    /// The first name that a text begins with, a colon right after it: the field that the text
+    /// names.
     pub fn begun_by(self, text: &str) -> Option<&'a str>
         ensures { option_map (λ name. name.now) result ≡ begun_name (names self.entry) text.now }
     {

@@ -1,7 +1,7 @@
 ghost use Rattle.eb_fields.specs.Laws.{IsNoToken, NamesApart};
 
 /// A law: no token of a text is a field's term. So a word of a query finds no field, a field's term
-/// finds no word of a text, and a field's term stands in no phrase or window. The call does nothing.
+/// finds no word of a text, and no phrase or window has a field's term. The call does nothing.
 pub fn is_no_token()
     ensures { IsNoToken }
 {}

@@ -1,8 +1,9 @@
-//! Fields of documents, by which a query asks for who wrote a message, or in which room: the list of
-//! their names, and the term that a name and a value make. [`Fields`] holds the names, which
-//! [`Fields::read`] tests against their grammar; [`field_term`] makes a term. That no token of a text
-//! is such a term, and that terms tell names and values apart, are the laws [`is_no_token`] and
-//! [`names_apart`]. [`Dialect`] is how lines are read, and [`read_id`] reads an id as a text.
+//! Fields of documents, by which a query asks for who wrote a message, or in which room: the list
+//! of their names, and the term that a name and a value make. [`Fields`] holds the names, and
+//! [`Fields::read`] checks them by their grammar; [`field_term`] makes a term. The laws
+//! [`is_no_token`] and [`names_apart`] say that no token of a text is such a term, and that terms
+//! with different names or values differ. [`Dialect`] is how lines are read, and [`read_id`] reads
+//! an id as a text.
 #![tactic(auto)]
 
 mod dialect;

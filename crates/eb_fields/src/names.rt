@@ -13,14 +13,14 @@ pub const MAX_NAMES: usize = 8;
 /// The most bytes of a field's name.
 pub const MAX_NAME_BYTES: usize = 32;
 
-// Whether one to eight names stand there, and none twice.
+// Whether there are one to eight names, and none twice.
 pub(crate) fn are_names(fields: Fields<'_>) -> bool
     ensures { result ≡ spec.are_names (names fields.entry) }
 {
     !fields.is_none() && are_few(fields) && are_all_names(fields) && are_distinct(fields)
 }
 
-// Whether no more names stand there than may.
+// Whether there are at most as many names as may be.
 fn are_few(fields: Fields<'_>) -> bool
     ensures { result ≡ nat_le (length (names fields.entry)) most_names }
 {
@@ -34,7 +34,7 @@ fn are_few(fields: Fields<'_>) -> bool
     rest.is_none()
 }
 
-// Whether each name is one.
+// Whether each name is well formed.
 fn are_all_names(fields: Fields<'_>) -> bool
     ensures { result ≡ list_all spec.is_name (names fields.entry) }
 {
@@ -44,7 +44,7 @@ fn are_all_names(fields: Fields<'_>) -> bool
     }
 }
 
-// Whether no name stands there twice.
+// Whether no name occurs twice.
 fn are_distinct(fields: Fields<'_>) -> bool
     ensures { result ≡ spec.are_distinct (names fields.entry) }
 {
@@ -74,21 +74,21 @@ fn is_name(name: &[u8]) -> bool
         && name != b"since".as_slice()
 }
 
-// Whether each of these bytes may stand in a name.
+// Whether each of these bytes may be in a name.
 fn are_name_bytes(bytes: &[u8]) -> bool
     ensures { result ≡ list_all spec.is_name_byte bytes.now }
 {
     bytes.iter().all(|&byte| is_name_byte(byte))
 }
 
-// Whether the byte may stand in a name.
+// Whether the byte may be in a name.
 fn is_name_byte(byte: u8) -> bool
     ensures { result ≡ spec.is_name_byte byte }
 {
     byte.is_ascii_lowercase() || byte.is_ascii_digit() || byte == b'_'
 }
 
-// Whether a colon stands at this place.
+// Whether there is a colon at this place.
 fn has_colon_at(bytes: &[u8], at: usize) -> bool
     ensures { result ≡ (nat_lt at (length bytes.now) && eqb (slice_index bytes.now at) 58) }
 {

@@ -8,9 +8,9 @@ use std::alloc::Global;
 /// The most bytes of a field's value under case folding. A document with a longer one is refused.
 pub const MAX_VALUE_BYTES: usize = 128;
 
-/// The term of a field's value: a byte that stands in no text, the name, a colon and the whole value,
-/// which isn't cut into words, under the default case folding of Unicode. Takes memory for the term,
-/// and answers `NoMemory` where there is none.
+/// The term of a field's value: a byte that is in no text, the name, a colon and the whole value,
+/// which isn't cut into words, under the default case folding of Unicode. Takes memory for the
+/// term; `NoMemory` where it runs out.
 pub fn field_term(alloc: Global, name: &str, value: &str) -> Result<Term, NoMemory>
     ensures { IfOk result (λ term. term ≡ spec.field_term name.now value.now) }
 {

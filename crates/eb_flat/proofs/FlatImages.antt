@@ -1,4 +1,4 @@
--- What flat words stand for, from the start and from store to store.
+-- Which moment flat words stand for, from the start and from store to store.
 use Rattle.std.proofs.Common.{◌≡◌, ℕ, ◌<◌, ◌≤◌, ◌+◌, List, ◌++◌, take, drop, refl, append_assoc, length-append, length-drop, get_or, set, length, replicate, ap, sym, ◌∙◌, subst, arith}
 use Rattle.std.proofs.lemmas.List.{get_or_default, replicate-append-replicate, length-replicate, take_at, take_all}
 use Rattle.eb_base.specs.Document.{Doc}

@@ -5,8 +5,8 @@ use eb_base::{Config, Document};
 use eb_place::{Pen, Port, Steps};
 use std::sync::ledger::Ledger;
 
-/// The words of an index of a setting, lent to be read. It stands for each moment of this setting whose image the
-/// words are. It is a port whose loads change no moment, so its fixed part is all of it.
+/// The words of an index of a setting, lent to be read. It stands for each moment of this setting
+/// whose image the words are. Its loads change no moment, so its fixed part is all of it.
 #[derive(Drop)]
 pub struct LentWords<'a> {
     /// The setting of the index.
@@ -46,8 +46,8 @@ impl Port for LentWords<'_> {
     ghost same_on = { λ s t u h k. k ∙ h };
 }
 
-/// The words of an index of a setting, lent to its one writer. It stands for each moment of this setting whose image
-/// the words are, as [`LentWords`] does, and documents are placed in it.
+/// The words of an index of a setting, lent to its one writer. It stands for each moment of this
+/// setting whose image the words are, as [`LentWords`] does; documents are placed in it.
 #[derive(Drop)]
 pub struct LentWordsMut<'a> {
     /// The setting of the index.

@@ -9,9 +9,9 @@ use std::alloc::Global;
 use std::marker::Model;
 use std::sync::ledger::Ledger;
 
-/// The words of an index in one vector, with the setting of the index. It stands for each moment of this
-/// setting whose image the words are. It is a port whose loads change no moment, so its fixed part is all
-/// of it, and it is both pens.
+/// The words of an index in one vector, with the setting of the index. It stands for each moment of
+/// this setting whose image the words are. It is a port, and both pens. Its loads change no moment,
+/// so its fixed part is all of it.
 #[derive(Debug, Drop)]
 pub struct FlatWords {
     config: Config,
@@ -36,9 +36,9 @@ impl FlatWords {
         Ok(FlatWords { config, words })
     }
 
-    /// Goes on to empty the index: after the first `done` words, which are 0, it sets up to `most` further ones
-    /// to 0, and gives the number of those that are 0 then. Where these are all, the index has no document. Takes no
-    /// memory.
+    /// Empties more of the index: after the first `done` words, which are 0, it sets up to `most`
+    /// further words to 0, and returns how many are 0 then. Where all are, the index has no
+    /// document. Takes no memory.
     pub fn empty_on(&mut self, done: u64, most: u64) -> u64
         requires { (σ : Setting) × IsEmptied self.old σ done }
         ensures emptied { (σ : Setting) → IsEmptied self.old σ done → IsEmptied self.new σ result }
@@ -99,7 +99,7 @@ impl PackPen for FlatWords {
     ghost pack_keeps = { λ s t m n h. λ i. (h.1 i).conversions };
 }
 
-// Sets so many words from a place on to 0.
+// Sets `number` words from a place on to 0.
 fn set_to_zero(words: &mut [u64], from: usize, number: usize)
     requires { from + number ≤ length words.old }
     ensures { words.new ≡ take from words.old ++ (replicate number 0 ++ drop (from + number) words.old) }

@@ -37,6 +37,6 @@ made_from start count document zero = []
 made_from start count document (suc more) =
     made_line start document ++ 10 ∷ has_query document count (made_query start document ++ 10 ∷ []) ++ made_from start count (document + 1) more
 
--- the made input of so many documents
+-- the made input of n documents
 abbrev pub made : ℕ → ℕ → List ℕ
 made start count = made_from start count 0 count

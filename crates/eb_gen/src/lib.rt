@@ -33,7 +33,7 @@ pub fn query_of(alloc: Global, start: u64, number: u32) -> Result<Vec<u8>, NoMem
     Ok(text.into_bytes())
 }
 
-// The words of a document from the first to this one after the text, with a space between two.
+// The text, and then the words of a document from the first to this one, with a space between two.
 fn put_words(text: &mut String, start: u64, number: u32, last: u32) -> Result<(), NoMemory>
     requires { last < 8 }
     ensures { OnOk result (string_bytes text.new ≡ string_bytes text.old ++ words_to start number last) }
@@ -46,6 +46,7 @@ fn put_words(text: &mut String, start: u64, number: u32, last: u32) -> Result<()
     Ok(())
 }
 
+// Puts the word of a document at this place after the text.
 fn put_word(text: &mut String, start: u64, number: u32, at: u32) -> Result<(), NoMemory>
     requires { at < 8 }
     ensures { OnOk result (string_bytes text.new ≡ string_bytes text.old ++ word_text start number at) }

@@ -1,4 +1,5 @@
--- Which bytes begin the head of an allowed setting: where the numbers that they leave open are the least, the setting is one.
+-- Which bytes begin the head of an allowed setting: where the numbers that they leave open are the
+-- least, the setting is one.
 use Rattle.std.proofs.Common.{◌≡◌, ℕ, zero, suc, ◌+◌, ◌*◌, ◌-◌, ◌^◌, ◌<◌, ◌≤◌, ◌⊎◌, inl, inr, List, [], ◌++◌, length, get_or, take, drop}
 use Rattle.std.proofs.Common.{refl, sym, ap, subst, ◌∙◌, length-append, append-nil, arith}
 use Rattle.std.specs.Int.{w32, from_be_bytes, to_be_bytes}
@@ -10,7 +11,7 @@ use Rattle.std.proofs.Math.Seq.{take-append_seam}
 use Rattle.eb_base.specs.Setting.{Setting, IsSetting, AreSegments, AreDocs, AreTerms, words_of}
 use Rattle.eb_image.specs.Image.{mark, head_of, IsFront}
 use Rattle.eb_image.specs.Reading.{IsHead, Begins}
-use Rattle.eb_image.specs.Scan.{window}
+use Rattle.eb_image.specs.Scan.{byte_window}
 use Rattle.eb_image.proofs.Scans.{front_byte}
 use Rattle.eb_image.proofs.Parts.{few_terms}
 use Rattle.eb_image.proofs.Heads.{head_len}
@@ -162,7 +163,7 @@ terms_complete x m a b c d y is s t = elim (cases_lt m 4) [
 
 -- ---- the three numbers of a head
 
--- two lists in front of two others: bytes that are the same in each are the same in both
+-- two lists before two others: bytes that are the same in each are the same in both
 both_same : (a b x y : List ℕ) (n : ℕ) → length a ≡ length b → ((k : ℕ) → k < length a → k < n → get_or a k 0 ≡ get_or b k 0)
     → ((k : ℕ) → length a + k < n → get_or x k 0 ≡ get_or y k 0) → (k : ℕ) → k < n → get_or (a ++ x) k 0 ≡ get_or (b ++ y) k 0
 both_same a b x y n len front behind k lt = elim (cases_lt k (length a)) [
@@ -209,19 +210,19 @@ shown x at bytes whole rest e has = record {
 
 -- what a number in the first bytes of a head is taken for
 abbrev pub TakenAt : List ℕ → ℕ → ℕ → ℕ → Type 0
-TakenAt bytes at least y = ((0 < from_be_bytes w32 (window bytes at 4)) ⊎ (at + 4 ≤ length bytes) → y ≡ from_be_bytes w32 (window bytes at 4))
-    × (from_be_bytes w32 (window bytes at 4) ≡ 0 → length bytes < at + 4 → y ≡ least)
+TakenAt bytes at least y = ((0 < from_be_bytes w32 (byte_window bytes at 4)) ⊎ (at + 4 ≤ length bytes) → y ≡ from_be_bytes w32 (byte_window bytes at 4))
+    × (from_be_bytes w32 (byte_window bytes at 4) ≡ 0 → length bytes < at + 4 → y ≡ least)
 
 taken_of : (bytes : List ℕ) (at least y : ℕ) → TakenAt bytes at least y
     → Taken least (length bytes - at) (number (get_or bytes at 0) (get_or bytes (at + 1) 0) (get_or bytes (at + 2) 0) (get_or bytes (at + 3) 0)) y
 taken_of bytes at least y t =
-    let same : from_be_bytes w32 (window bytes at 4) ≡ number (get_or bytes at 0) (get_or bytes (at + 1) 0) (get_or bytes (at + 2) 0) (get_or bytes (at + 3) 0) =
+    let same : from_be_bytes w32 (byte_window bytes at 4) ≡ number (get_or bytes at 0) (get_or bytes (at + 1) 0) (get_or bytes (at + 2) 0) (get_or bytes (at + 3) 0) =
     let b : get_or bytes (at + 1 + 1) 0 ≡ get_or bytes (at + 2) 0 = ap (λ (i : ℕ). get_or bytes i 0) (let e : at + 1 + 1 ≡ at + 2 = omega arith in e) in
     let c : get_or bytes (at + 1 + 1 + 1) 0 ≡ get_or bytes (at + 3) 0 = ap (λ (i : ℕ). get_or bytes i 0) (let e : at + 1 + 1 + 1 ≡ at + 3 = omega arith in e) in
     omega (arith, b, c) in
     (go same, λ none less. t.1 (omega (arith, same, none)) (omega (arith, less)))
   where
-    go : (same : from_be_bytes w32 (window bytes at 4) ≡ number (get_or bytes at 0) (get_or bytes (at + 1) 0) (get_or bytes (at + 2) 0) (get_or bytes (at + 3) 0))
+    go : (same : from_be_bytes w32 (byte_window bytes at 4) ≡ number (get_or bytes at 0) (get_or bytes (at + 1) 0) (get_or bytes (at + 2) 0) (get_or bytes (at + 3) 0))
         → (0 < number (get_or bytes at 0) (get_or bytes (at + 1) 0) (get_or bytes (at + 2) 0) (get_or bytes (at + 3) 0)) ⊎ (4 ≤ length bytes - at)
         → y ≡ number (get_or bytes at 0) (get_or bytes (at + 1) 0) (get_or bytes (at + 2) 0) (get_or bytes (at + 3) 0)
     go same (inl some) = t.0 (inl (omega (arith, same, some))) ∙ same
@@ -299,7 +300,7 @@ nothing_begins =
       record { rest = head_of σ; is = refl },
     )
 
--- so many bytes as a head has that begin one are it
+-- bytes that begin a head and are as many are the head
 pub whole_head : (bytes : List ℕ) → length bytes ≡ 20 → Begins IsHead bytes → IsHead bytes
 whole_head bytes len (whole, h, front) =
     let nil : front.rest ≡ [] = nil_from_length front.rest (omega (arith, len, head_len whole h, ap length front.is, length-append bytes front.rest)) in

@@ -34,7 +34,7 @@ part_id d bytes fd e =
     ap (λ (t : List ℕ). from_be_bytes w64 (get_or t 1 0 ∷ get_or t 2 0 ∷ get_or t 3 0 ∷ get_or t 4 0 ∷ get_or t 5 0 ∷ get_or t 6 0 ∷ get_or t 7 0 ∷ get_or t 8 0 ∷ [])) e
     ∙ from_be_bytes-to_be_bytes_8 d.id fd.id
 
--- the term at a place in the bytes, and what stands after it
+-- the term at a place in the bytes, and what comes after it
 pub record Step (bytes : List ℕ) (at i : ℕ) (terms : List (List ℕ)) : Type 0 where
   pub term : List ℕ
   pub number : two_byte_number bytes at ≡ length term

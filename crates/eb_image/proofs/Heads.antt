@@ -75,7 +75,7 @@ pub head_len : (head : List ℕ) → IsHead head → length head ≡ 20
 unfolding head_of
 head_len head h = ap length h.is
 
--- fewer bytes than a head has have none in front
+-- fewer bytes than a head has have no head as a prefix
 pub none_short : (bytes : List ℕ) → length bytes < 20 → HasNone IsHead bytes
 none_short bytes less = λ whole h front.
     omega (arith, head_len whole h, ap length front.is, length-append whole front.rest, less)

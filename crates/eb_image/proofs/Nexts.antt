@@ -7,24 +7,24 @@ use Rattle.std.proofs.lemmas.Nat.{be_bytes_8}
 use Rattle.eb_base.specs.Document.{Doc, IsDocument, most_bytes, most_tokens}
 use Rattle.eb_image.specs.Image.{term_bytes, document_part, last_byte, IsFront}
 use Rattle.eb_image.specs.Reading.{IsPart, IsNextPart, Begins}
-use Rattle.eb_image.specs.Scan.{window, two_byte_number, IsShortest}
+use Rattle.eb_image.specs.Scan.{byte_window, two_byte_number, IsShortest}
 use Rattle.eb_image.proofs.Scans.{scan}
-use Rattle.eb_image.proofs.Bytes.{IsBytes, length-window, window-add, window_fits, window_all}
+use Rattle.eb_image.proofs.Bytes.{IsBytes, length-byte_window, byte_window-add, window_fits, window_all}
 use Rattle.eb_image.proofs.Parts.{next_alone}
 use Rattle.eb_image.proofs.Scans.{scan_sound, scan_complete, scan_past, terms_len, front_byte, two_front_of, two_in_window}
 
 -- where the terms end, the bytes are those of a part, with 0 for each that is missing
 pub part_found : (bytes : List ℕ) (count end : ℕ) → IsBytes bytes → get_or bytes 0 0 ≡ 1 → count ≡ two_byte_number bytes 9 → count ≤ most_tokens
-    → scan count 11 most_bytes bytes ≡ Some end → IsPart (window bytes 0 end)
+    → scan count 11 most_bytes bytes ≡ Some end → IsPart (byte_window bytes 0 end)
 unfolding document_part
 part_found bytes count end fits one num few e =
     let t = scan_sound count 11 most_bytes end bytes fits e in
-    let id = from_be_bytes w64 (window bytes 1 8) in
-    let id_is : to_be_bytes w64 id ≡ window bytes 1 8 = be_bytes_8 (window bytes 1 8) id refl (window_fits bytes 1 8 fits) refl in
-    let count_is : to_be_bytes w16 (length t.terms) ≡ window bytes 9 2 = ap (to_be_bytes w16) (t.count ∙ num) ∙ two_in_window bytes 9 fits in
-    let rest = window bytes 11 t.len in
-    let whole : window bytes 0 end ≡ get_or bytes 0 0 ∷ (window bytes 1 8 ++ (window bytes 9 2 ++ rest)) =
-    ap (window bytes 0) t.ends ∙ window-add bytes 11 0 t.len 11 refl in
+    let id = from_be_bytes w64 (byte_window bytes 1 8) in
+    let id_is : to_be_bytes w64 id ≡ byte_window bytes 1 8 = be_bytes_8 (byte_window bytes 1 8) id refl (window_fits bytes 1 8 fits) refl in
+    let count_is : to_be_bytes w16 (length t.terms) ≡ byte_window bytes 9 2 = ap (to_be_bytes w16) (t.count ∙ num) ∙ two_in_window bytes 9 fits in
+    let rest = byte_window bytes 11 t.len in
+    let whole : byte_window bytes 0 end ≡ get_or bytes 0 0 ∷ (byte_window bytes 1 8 ++ (byte_window bytes 9 2 ++ rest)) =
+    ap (byte_window bytes 0) t.ends ∙ byte_window-add bytes 11 0 t.len 11 refl in
     record {
       document = record { id = id; terms = t.terms };
       within = record {
@@ -32,8 +32,8 @@ part_found bytes count end fits one num few e =
         terms = t.are;
         limits = record { tokens = omega (arith, t.count, few); bytes = t.within };
       };
-      is = whole ∙ (ap (λ (b : ℕ). b ∷ (window bytes 1 8 ++ (window bytes 9 2 ++ rest))) one
-          ∙ (ap (λ (b : List ℕ). 1 ∷ (b ++ (window bytes 9 2 ++ rest))) (sym id_is)
+      is = whole ∙ (ap (λ (b : ℕ). b ∷ (byte_window bytes 1 8 ++ (byte_window bytes 9 2 ++ rest))) one
+          ∙ (ap (λ (b : List ℕ). 1 ∷ (b ++ (byte_window bytes 9 2 ++ rest))) (sym id_is)
           ∙ (ap (λ (b : List ℕ). 1 ∷ (to_be_bytes w64 id ++ (b ++ rest))) (sym count_is)
           ∙ ap (λ (b : List ℕ). 1 ∷ (to_be_bytes w64 id ++ (to_be_bytes w16 (length t.terms) ++ b))) (sym t.stand))));
     }
@@ -126,14 +126,14 @@ pub not_long : (bytes : List ℕ) (count end : ℕ) → IsBytes bytes → get_or
     → scan count 11 most_bytes bytes ≡ Some end → end < length bytes → Begins IsNextPart bytes → ⊥
 not_long bytes count end fits one num few e long b =
     let part = part_found bytes count end fits one num few e in
-    let more = window bytes end (length bytes - end) in
-    let cut : bytes ≡ window bytes 0 end ++ more =
+    let more = byte_window bytes end (length bytes - end) in
+    let cut : bytes ≡ byte_window bytes 0 end ++ more =
     let sum : length bytes ≡ end + (length bytes - end) = omega arith in
-    sym (window_all bytes) ∙ (ap (window bytes 0) sum ∙ window-add bytes end 0 (length bytes - end) end (omega arith)) in
-    let none = next_alone (window bytes 0 end) b.0 (more ++ b.2.rest) (inr part) b.1
-    (b.2.is ∙ (ap (λ (t : List ℕ). t ++ b.2.rest) cut ∙ append_assoc (window bytes 0 end) more b.2.rest)) in
+    sym (window_all bytes) ∙ (ap (byte_window bytes 0) sum ∙ byte_window-add bytes end 0 (length bytes - end) end (omega arith)) in
+    let none = next_alone (byte_window bytes 0 end) b.0 (more ++ b.2.rest) (inr part) b.1
+    (b.2.is ∙ (ap (λ (t : List ℕ). t ++ b.2.rest) cut ∙ append_assoc (byte_window bytes 0 end) more b.2.rest)) in
     let len = ap length none in
-    omega (arith, len, length-append more b.2.rest, length-window bytes end (length bytes - end), long)
+    omega (arith, len, length-append more b.2.rest, length-byte_window bytes end (length bytes - end), long)
 
 some_same : (a b : ℕ) (x : Option ℕ) → x ≡ Some a → x ≡ Some b → a ≡ b
 some_same a b x p q = cc
@@ -153,15 +153,15 @@ shortest_least bytes count end some one num e other (inr p) front =
 pub shortest_found : (bytes : List ℕ) (count end : ℕ) → IsBytes bytes → 0 < length bytes → get_or bytes 0 0 ≡ 1 → count ≡ two_byte_number bytes 9
     → count ≤ most_tokens → scan count 11 most_bytes bytes ≡ Some end → length bytes ≤ end → IsShortest bytes end
 shortest_found bytes count end fits some one num few e short = record {
-  whole = window bytes 0 end;
+  whole = byte_window bytes 0 end;
   next = inr (part_found bytes count end fits one num few e);
   front = record {
-    rest = window bytes (length bytes) (end - length bytes);
+    rest = byte_window bytes (length bytes) (end - length bytes);
     is = let sum : end ≡ length bytes + (end - length bytes) = omega arith in
-        ap (window bytes 0) sum ∙ (window-add bytes (length bytes) 0 (end - length bytes) (length bytes) (omega arith)
-        ∙ ap (λ (t : List ℕ). t ++ window bytes (length bytes) (end - length bytes)) (window_all bytes));
+        ap (byte_window bytes 0) sum ∙ (byte_window-add bytes (length bytes) 0 (end - length bytes) (length bytes) (omega arith)
+        ∙ ap (λ (t : List ℕ). t ++ byte_window bytes (length bytes) (end - length bytes)) (window_all bytes));
   };
-  len = length-window bytes 0 end;
+  len = length-byte_window bytes 0 end;
   least = shortest_least bytes count end some one num e;
 }
 

@@ -113,7 +113,7 @@ images_differ_all σ τ docs others fs ft fd fo front =
     let parts = parts_front docs others front.rest [] fd fo heads.1 in
     (heads.0, parts.0)
 
--- what may come next is no proper front of what may come next
+-- what may come next is no proper prefix of what may come next
 pub next_alone : (a b rest : List ℕ) → IsNextPart a → IsNextPart b → b ≡ a ++ rest → rest ≡ []
 next_alone a b rest (inl x) (inl y) e = tail_of 0 0 rest [] (ap (λ (t : List ℕ). t ++ rest) (sym x) ∙ (sym e ∙ y))
 next_alone a b rest (inl x) (inr p) e =

@@ -12,22 +12,22 @@ use Rattle.std.proofs.lemmas.List.Sums.{sum_by-cons}
 use Rattle.eb_base.specs.Term.{AreBytes}
 use Rattle.eb_base.specs.Document.{bytes_of}
 use Rattle.eb_image.specs.Image.{term_bytes}
-use Rattle.eb_image.specs.Scan.{window, two_byte_number, HasTerms}
-use Rattle.eb_image.proofs.Bytes.{IsBytes, same_front, get_or-window, length-window, window-add, window_fits, IsBytes-window}
+use Rattle.eb_image.specs.Scan.{byte_window, two_byte_number, HasTerms}
+use Rattle.eb_image.proofs.Bytes.{IsBytes, same_front, get_or-byte_window, length-byte_window, byte_window-add, window_fits, IsBytes-byte_window}
 
 guard_some : (b : Bool) (x : Option ℕ) (y : ℕ) → cond b None x ≡ Some y → (b ≡ false) × (x ≡ Some y)
 guard_some true x y e = absurd cc
 guard_some false x y e = (refl, e)
 
--- the number in a window of two
-pub two_in_window : (bytes : List ℕ) (at : ℕ) → IsBytes bytes → to_be_bytes w16 (two_byte_number bytes at) ≡ window bytes at 2
+-- the number in a byte_window of two
+pub two_in_window : (bytes : List ℕ) (at : ℕ) → IsBytes bytes → to_be_bytes w16 (two_byte_number bytes at) ≡ byte_window bytes at 2
 two_in_window bytes at fits =
-    be_bytes_2 (window bytes at 2) (two_byte_number bytes at) refl (window_fits bytes at 2 fits) (omega arith)
+    be_bytes_2 (byte_window bytes at 2) (two_byte_number bytes at) refl (window_fits bytes at 2 fits) (omega arith)
 
 pub number_small : (bytes : List ℕ) (at : ℕ) → IsBytes bytes → two_byte_number bytes at < 2 ^ 16
 number_small bytes at fits = omega (arith, fits at, fits (at + 1))
 
--- where so many terms end that begin at this place and have room for so many bytes
+-- where n terms end that begin at this place and have room for this many bytes
 unfoldable pub scan : ℕ → ℕ → ℕ → List ℕ → Option ℕ
 scan zero at room bytes = Some at
 scan (suc n) at room bytes =
@@ -63,22 +63,22 @@ scan_sound (suc n) at room end bytes fits e =
     let g = guard_some (ltb room len) (scan n (at + (2 + len)) (room - len) bytes) end e in
     let le : len ≤ room = ltb-false _ _ g.0 in
     let rest = scan_sound n (at + (2 + len)) (room - len) end bytes fits g.1 in
-    let t = window bytes (at + 2) len in
-    let tl : length t ≡ len = length-window bytes (at + 2) len in
-    let front : to_be_bytes w16 (length t) ≡ window bytes at 2 = ap (to_be_bytes w16) tl ∙ two_in_window bytes at fits in
-    let term : term_bytes t ≡ window bytes at (2 + len) =
-    ap (λ (b : List ℕ). b ++ t) front ∙ sym (window-add bytes 2 at len (at + 2) refl) in
+    let t = byte_window bytes (at + 2) len in
+    let tl : length t ≡ len = length-byte_window bytes (at + 2) len in
+    let front : to_be_bytes w16 (length t) ≡ byte_window bytes at 2 = ap (to_be_bytes w16) tl ∙ two_in_window bytes at fits in
+    let term : term_bytes t ≡ byte_window bytes at (2 + len) =
+    ap (λ (b : List ℕ). b ++ t) front ∙ sym (byte_window-add bytes 2 at len (at + 2) refl) in
     record {
       terms = t ∷ rest.terms;
       count = ap suc rest.count;
       within = let st = sum_by-cons length t rest.terms in omega (arith, st, rest.within, tl, le);
-      are = more_in t rest.terms (IsBytes-window bytes (at + 2) len fits) rest.are;
+      are = more_in t rest.terms (IsBytes-byte_window bytes (at + 2) len fits) rest.are;
       len = (2 + len) + rest.len;
       ends = omega (arith, rest.ends);
       stand = flat_map-cons term_bytes t rest.terms
           ∙ (ap (λ (b : List ℕ). b ++ flat_map term_bytes rest.terms) term
-          ∙ (ap (λ (b : List ℕ). window bytes at (2 + len) ++ b) rest.stand
-          ∙ sym (window-add bytes (2 + len) at rest.len (at + (2 + len)) refl)));
+          ∙ (ap (λ (b : List ℕ). byte_window bytes at (2 + len) ++ b) rest.stand
+          ∙ sym (byte_window-add bytes (2 + len) at rest.len (at + (2 + len)) refl)));
     }
 
 -- after the last byte each term is empty
@@ -192,28 +192,28 @@ pub scan_ended : (k at room : ℕ) (bytes : List ℕ) → k ≡ 0 → scan k at 
 unfolding scan
 scan_ended k at room bytes e = ap (λ (j : ℕ). scan j at room bytes) e
 
--- terms that stand there are found
-scan_from : (ts : List (List ℕ)) (at len room : ℕ) (bytes : List ℕ) → bytes_of ts ≤ room → room < 2 ^ 16 → flat_map term_bytes ts ≡ window bytes at len
+-- terms that are there are found
+scan_from : (ts : List (List ℕ)) (at len room : ℕ) (bytes : List ℕ) → bytes_of ts ≤ room → room < 2 ^ 16 → flat_map term_bytes ts ≡ byte_window bytes at len
     → scan (length ts) at room bytes ≡ Some (at + len)
 unfolding scan
 scan_from [] at len room bytes within lt e =
-    let none : len ≡ 0 = omega (arith, ap length e, length-window bytes at len) in
+    let none : len ≡ 0 = omega (arith, ap length e, length-byte_window bytes at len) in
     ap some_of (omega (arith, none))
 scan_from (t ∷ ts) at len room bytes within lt e =
     let st = sum_by-cons length t ts in
     let flat = flat_map term_bytes ts in
-    let cut : window bytes at len ≡ to_be_bytes w16 (length t) ++ (t ++ flat) =
+    let cut : byte_window bytes at len ≡ to_be_bytes w16 (length t) ++ (t ++ flat) =
     sym e ∙ (flat_map-cons term_bytes t ts ∙ append_assoc (to_be_bytes w16 (length t)) t flat) in
     let two : length (term_bytes t) ≡ 2 + length t = length-append (to_be_bytes w16 (length t)) t in
     let all : len ≡ (2 + length t) + length flat =
-    omega (arith, ap length e, length-window bytes at len, ap length (flat_map-cons term_bytes t ts), length-append (term_bytes t) flat, two) in
-    let head = two_whole (length t) 0 (window bytes at len) (t ++ flat) (omega (arith, within, lt, st)) cut in
+    omega (arith, ap length e, length-byte_window bytes at len, ap length (flat_map-cons term_bytes t ts), length-append (term_bytes t) flat, two) in
+    let head = two_whole (length t) 0 (byte_window bytes at len) (t ++ flat) (omega (arith, within, lt, st)) cut in
     let num : two_byte_number bytes at ≡ length t =
-    omega (arith, head, get_or-window bytes at len 0 at (omega (arith, all)) (omega arith), get_or-window bytes at len 1 (at + 1) (omega (arith, all)) (omega arith)) in
-    let halves : term_bytes t ++ flat ≡ window bytes at (2 + length t) ++ window bytes (at + (2 + length t)) (length flat) =
-    sym (flat_map-cons term_bytes t ts) ∙ (e ∙ (ap (window bytes at) all ∙ window-add bytes (2 + length t) at (length flat) (at + (2 + length t)) refl)) in
-    let next = same_front (term_bytes t) (window bytes at (2 + length t)) flat (window bytes (at + (2 + length t)) (length flat))
-    (two ∙ sym (length-window bytes at (2 + length t))) halves in
+    omega (arith, head, get_or-byte_window bytes at len 0 at (omega (arith, all)) (omega arith), get_or-byte_window bytes at len 1 (at + 1) (omega (arith, all)) (omega arith)) in
+    let halves : term_bytes t ++ flat ≡ byte_window bytes at (2 + length t) ++ byte_window bytes (at + (2 + length t)) (length flat) =
+    sym (flat_map-cons term_bytes t ts) ∙ (e ∙ (ap (byte_window bytes at) all ∙ byte_window-add bytes (2 + length t) at (length flat) (at + (2 + length t)) refl)) in
+    let next = same_front (term_bytes t) (byte_window bytes at (2 + length t)) flat (byte_window bytes (at + (2 + length t)) (length flat))
+    (two ∙ sym (length-byte_window bytes at (2 + length t))) halves in
     let rest = scan_from ts (at + (2 + length t)) (length flat) (room - length t) bytes (omega (arith, within, st)) (omega (arith, lt)) next.1 in
     scan_more (length ts) at room (length t) (at + (2 + length t) + length flat) bytes num (omega (arith, within, st)) rest
     ∙ ap some_of (let same : at + (2 + length t) + length flat ≡ at + len = omega (arith, all) in same)
@@ -222,7 +222,7 @@ pub scan_has : (bytes : List ℕ) (n at room end : ℕ) → room < 2 ^ 16 → Ha
 scan_has bytes n at room end lt h =
     ap (λ (k : ℕ). scan k at room bytes) (sym h.count) ∙ (scan_from h.terms at h.len room bytes h.within lt h.stand ∙ ap some_of (sym h.ends))
 
--- where so many terms end, if they stand there
+-- where n terms end, if they are there
 abbrev pub EndsTerms : List ℕ → ℕ → ℕ → ℕ → Option ℕ → Type 0
 EndsTerms bytes n at room result = MatchOption result ((end : ℕ) → HasTerms bytes n at room end → ⊥) (λ end. HasTerms bytes n at room end)
 

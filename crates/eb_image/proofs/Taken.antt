@@ -92,7 +92,7 @@ length-shortest bytes n s =
     let sum = length-append bytes s.front.rest in
     omega (arith, all, sum, s.len)
 
--- the first bytes of a buffer, in front of more of them
+-- the first bytes of a buffer, before more of them
 pub more_of : (from n : ℕ) (old now : List ℕ) → take from now ≡ take from old → take (from + n) now ≡ take from old ++ take n (drop from now)
 more_of from n old now e = take-add from n now ∙ ap (λ (t : List ℕ). t ++ take n (drop from now)) e
 

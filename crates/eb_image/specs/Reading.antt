@@ -1,4 +1,4 @@
--- What a reader of an image tells by the bytes that it took.
+-- What a reader of an image answers by the bytes that it took.
 use Rattle.std.specs.Prelude.{◌≡◌, ℕ, ◌⊎◌, List, Option}
 use Rattle.eb_base.specs.Document.{Doc, IsDocument}
 use Rattle.eb_base.specs.Setting.{Setting, IsSetting}
@@ -27,20 +27,20 @@ pub record IsPartOf (d : Doc) (bytes : List ℕ) : Type 0 where
   pub within : IsDocument d
   pub is : bytes ≡ document_part d
 
--- what may stand after a head or a part: the part of a document within the limits, or the byte 0
+-- what may come after a head or a part: the part of a document within the limits, or the byte 0
 abbrev pub IsNextPart : List ℕ → Type 0
 IsNextPart bytes = (bytes ≡ last_byte) ⊎ IsPart bytes
 
--- the bytes are the first of something of this form, or all of it
+-- the bytes are a prefix of something of this form, or all of it
 abbrev pub Begins : (List ℕ → Type 0) → List ℕ → Type 0
 Begins Form bytes = (whole : List ℕ) × Form whole × IsFront bytes whole
 
--- no bytes of this form come first
+-- no bytes of this form are a prefix
 abbrev pub HasNone : (List ℕ → Type 0) → List ℕ → Type 0
 HasNone Form bytes = (whole : List ℕ) → Form whole → IsFront whole bytes → ⊥
 
--- these bytes were taken, and after them so much is left: nothing of the form came, and nothing of it can come,
--- since the bytes begin none or the source is at its end
+-- these bytes were taken, and after them this is left: nothing of the form came, and nothing of it
+-- can come, since the bytes begin none or the source ended
 pub record IsBad (Form : List ℕ → Type 0) (taken : List ℕ) (left : Option (List ℕ)) : Type 0 where
   pub none : HasNone Form taken
   pub never : (Begins Form taken → ⊥) ⊎ IsEmpty left

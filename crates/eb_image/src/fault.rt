@@ -4,7 +4,8 @@ use std::fmt;
 /// Why the head of an image wasn't read.
 #[derive(Clone, Copy, Debug, PartialEq, Eq)]
 pub enum HeadFault {
-    /// The bytes taken, with the end where the source gave one, begin no head of an allowed setting.
+    /// The bytes taken, with the end where the source gave one, begin no head of an allowed
+    /// setting.
     BadImage,
     /// The source failed.
     ReadFault,
@@ -29,8 +30,8 @@ impl Error for HeadFault {}
 /// Why the next part of an image wasn't read.
 #[derive(Clone, Copy, Debug, PartialEq, Eq)]
 pub enum ImageFault {
-    /// The bytes taken, with the end where the source gave one, begin no part of a document within the limits, and no
-    /// byte 0.
+    /// The bytes taken, with the end where the source gave one, begin no part of a document within
+    /// the limits, and no byte 0.
     BadImage,
     /// The source failed.
     ReadFault,

@@ -4,7 +4,7 @@ ghost use Rattle.eb_io.specs.Faults.{HasRisen};
 ghost use Rattle.eb_io.specs.Source.{after};
 ghost use Rattle.eb_image.specs.Image.{head_of};
 ghost use Rattle.eb_image.specs.Reading.{IsHead, IsHeadOf, IsBad, HasBegun, Begins};
-ghost use Rattle.eb_image.specs.Scan.{window};
+ghost use Rattle.eb_image.specs.Scan.{byte_window};
 ghost use Rattle.eb_base.specs.Setting.{Setting, IsSetting};
 
 use crate::fault::HeadFault;
@@ -20,8 +20,9 @@ const HEAD: usize = 20;
 // The bytes that a head begins with.
 const MARK: &[u8; 8] = b"EBIMAGE1";
 
-/// The head of an image of this setting: the bytes `EBIMAGE1`, and in four bytes each, highest first, the segments, and
-/// the documents and the terms of a segment (this project's profile, docs/FORMATS.md).
+/// The head of an image of this setting: the bytes `EBIMAGE1`, and in four bytes each, highest
+/// first, the segments, and the documents and the terms of a segment (this project's profile,
+/// docs/FORMATS.md).
 pub fn write_head(config: Config) -> [u8; HEAD]
     ensures { result ≡ head_of config }
 {
@@ -52,6 +53,7 @@ pub fn write_head(config: Config) -> [u8; HEAD]
     ]
 }
 
+// The number in the four bytes at this place, highest first.
 fn four_bytes_at(head: &[u8], at: usize) -> u32
     requires { at + 4 ≤ length head.now }
     ensures { result ≡ from_be_bytes w32 (take 4 (drop at head.now)) }
@@ -70,13 +72,13 @@ fn allowed(segments: u32, docs: u32, terms: u32) -> Option<Config>
     }
 }
 
-// The number whose four bytes begin at a place, where a byte that is missing counts as 0; but this least number where only
-// zeros are there and a byte is missing.
+// The number whose four bytes begin at a place, where a byte that is missing counts as 0; but this
+// least number where only zeros are there and a byte is missing.
 fn first_number(bytes: &[u8], at: usize, least: u32) -> u32
     requires { at < 2 ^ 32 }
-    ensures there { let number : ℕ = from_be_bytes w32 (window bytes.now at 4) in
+    ensures there { let number : ℕ = from_be_bytes w32 (byte_window bytes.now at 4) in
         (0 < number) ⊎ (at + 4 ≤ length bytes.now) → result ≡ number }
-    ensures missing { from_be_bytes w32 (window bytes.now at 4) ≡ 0 → length bytes.now < at + 4 → result ≡ least }
+    ensures missing { from_be_bytes w32 (byte_window bytes.now at 4) ≡ 0 → length bytes.now < at + 4 → result ≡ least }
 {
     let number = u32::from_be_bytes([
         byte_at(bytes, at),
@@ -91,8 +93,8 @@ fn first_number(bytes: &[u8], at: usize, least: u32) -> u32
     }
 }
 
-// Whether the bytes are the first of the head of an allowed setting, or all of it: where they are, they are those of the
-// setting that has the least of each number that they leave open.
+// Whether the bytes are a prefix of the head of an allowed setting, or all of it. If they are, they
+// are a prefix of the head of the setting that has the least of each number that they leave open.
 fn begins_head(bytes: &[u8]) -> bool
     ensures { IsTrue result ↔ Begins IsHead bytes.now }
 {
@@ -123,11 +125,12 @@ fn setting_of(head: &[u8]) -> Option<Config>
     )
 }
 
-/// Reads the head of an image, exactly its 20 bytes, and answers the setting and the reader of what comes after it.
+/// Reads the head of an image, exactly its 20 bytes, and returns the setting and the reader of what
+/// comes after it.
 ///
-/// `BadImage` exactly where the bytes that were taken begin no head of an allowed setting, or the source ended before a
-/// whole one. That it is told as soon as they begin none is no clause. After a fault the bytes taken are gone from the
-/// source. Takes no memory.
+/// `BadImage` exactly where the bytes that were taken begin no head of an allowed setting, or the
+/// source ended before a whole one. No clause says that it comes as soon as they begin none. After
+/// a fault the bytes taken are gone from the source. Takes no memory.
 pub fn read_head<S: Source>(source: &mut S) -> Result<(Config, ImageReader), HeadFault>
     // the bytes taken are the head of the setting, which is allowed
     ensures ok { IfOk result (λ read. IsSetting read.0 × (S.left source.old ≡ after (head_of read.0) (S.left source.new))) }

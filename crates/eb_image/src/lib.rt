@@ -1,5 +1,5 @@
-//! Document images: the bytes that keep a setting and documents, to be written and read part by part. `specs/Image.antt` says
-//! what an image is.
+//! Document images: the bytes that keep a setting and documents, to be written and read part by
+//! part. `specs/Image.antt` says what an image is.
 #![tactic(auto)]
 
 mod fault;

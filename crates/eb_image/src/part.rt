@@ -19,9 +19,9 @@ fn put_term(bytes: &mut Vec<u8>, term: &Term) -> Result<(), NoMemory>
     Ok(())
 }
 
-/// The part of the document in an image: the byte 1, the id in eight bytes, highest first, the number of terms in two
-/// bytes, and for each term its length in two bytes and its bytes (this project's profile, docs/FORMATS.md). Takes
-/// memory.
+/// The part of the document in an image: the byte 1, the id in eight bytes, highest first, the
+/// number of terms in two bytes, and for each term its length in two bytes and its bytes (this
+/// project's profile, docs/FORMATS.md). Takes memory.
 pub fn write_part(alloc: Global, document: &Document) -> Result<Vec<u8>, NoMemory>
     ensures { IfOk result (λ bytes. bytes.items ≡ document_part document.now) }
 {
@@ -36,7 +36,7 @@ pub fn write_part(alloc: Global, document: &Document) -> Result<Vec<u8>, NoMemor
     Ok(bytes)
 }
 
-// The terms in the bytes of a part that has so many.
+// The terms in the bytes of a part that has this many.
 fn terms_of(alloc: Global, bytes: &[u8], count: usize) -> Result<Terms, NoMemory>
     requires part { IsPart bytes.now }
     requires within { length bytes.now ≤ longest_part }

@@ -13,14 +13,14 @@ use eb_base::{Document, NoMemory};
 use eb_io::{Got, Source};
 use std::alloc::Global;
 
-/// What comes after the head of an image, or after one of its parts, is to be read. It holds no byte of it.
+/// Reads what comes after the head of an image, or after one of its parts. It holds no byte of it.
 #[derive(Debug, Drop)]
 pub struct ImageReader {
     // only a reader of a head makes one
     _made: (),
 }
 
-// Reads a part, or the byte 0, into the front of the buffer, and says how many bytes it has.
+// Reads a part, or the byte 0, into the start of the buffer, and returns how many bytes it has.
 fn read_next<S: Source>(source: &mut S, buffer: &mut [u8]) -> Result<usize, HeadFault>
     requires { length buffer.old ≡ LONGEST_PART }
     ensures ok { IfOk result (λ n. (n ≤ LONGEST_PART) × IsNextPart (take n buffer.new)
@@ -53,10 +53,11 @@ impl ImageReader {
         ImageReader { _made: () }
     }
 
-    /// Reads the next part, exactly its bytes, and answers its document and the reader of what comes after it; `None`
-    /// exactly after the byte 0, which is taken then.
+    /// Reads the next part, exactly its bytes, and returns its document and the reader of what
+    /// comes after it; `None` exactly after the byte 0, which is taken then.
     ///
-    /// After a fault the bytes taken are gone from the source, and this reading is over. Takes memory for the document.
+    /// After a fault the bytes taken are gone from the source, and this reading is over. Takes
+    /// memory for the document.
     pub fn next<S: Source>(
         self,
         alloc: Global,

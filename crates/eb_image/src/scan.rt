@@ -5,7 +5,7 @@ ghost use Rattle.eb_image.specs.Scan.{two_byte_number, HasTerms, IsShortest};
 
 use eb_base::{MAX_BYTES, MAX_TOKENS};
 
-// The bytes of a part in front of its terms.
+// The bytes of a part before its terms.
 pub(crate) const BEFORE_TERMS: usize = 11;
 
 // The most bytes of a part.
@@ -27,7 +27,7 @@ pub(crate) fn two_bytes_at(bytes: &[u8], at: usize) -> usize
     256 * usize::from(byte_at(bytes, at)) + usize::from(byte_at(bytes, at + 1))
 }
 
-// Where so many terms end, if they have no more bytes than a document may have.
+// Where this many terms end, if they have no more bytes than a document may have.
 fn end_of_terms(bytes: &[u8], count: usize) -> Option<usize>
     requires { count ≤ most_tokens }
     ensures value { MatchOption result ((end : ℕ) → HasTerms bytes.now count BEFORE_TERMS most_bytes end → ⊥)
@@ -69,7 +69,8 @@ fn shortest_part(bytes: &[u8]) -> Option<usize>
     }
 }
 
-// The length of the shortest part of a document within the limits, or of the byte 0, that the bytes begin.
+// The length of the shortest part of a document within the limits, or of the byte 0, that the bytes
+// begin.
 pub(crate) fn shortest(bytes: &[u8]) -> Option<usize>
     requires { 0 < length bytes.now }
     ensures form { MatchOption result (Begins IsNextPart bytes.now → ⊥) (IsShortest bytes.now) }

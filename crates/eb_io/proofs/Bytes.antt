@@ -1,4 +1,4 @@
--- What stands in a buffer, and what one call after another gives or takes.
+-- What is in a buffer, and what one call after another gives or takes.
 use Rattle.std.proofs.Common.{◌≡◌, ℕ, ◌+◌, ◌-◌, ◌≤◌, inl, inr, List, [], ◌++◌, length, take, drop, Option, Some, None, refl, sym, ap, ◌∙◌, append_assoc, append-nil, length-append, arith}
 use Rattle.std.specs.Prelude.{slice_range}
 use Rattle.std.proofs.lemmas.List.{take-append-drop, drop-take, drop-drop, length-take, length-take-le}
@@ -16,7 +16,7 @@ drop_range xs from to n le =
 pub length_range : (xs : List ℕ) (from to : ℕ) → length (slice_range xs from to) ≤ to - from
 length_range xs from to = omega (arith, length-take (to - from) (drop from xs))
 
--- what a read copies is the front of what was left
+-- what a read copies is the prefix of what was left
 pub read_left : (bytes into rest : List ℕ) (at n : ℕ) → rest ≡ drop at bytes → take n into ≡ take n rest
     → drop at bytes ≡ take n into ++ drop (at + n) bytes
 read_left bytes into rest at n r e =
@@ -52,7 +52,7 @@ all_taken bytes seen old (Some r) e empty told =
     let same : seen ++ r ≡ bytes = cc in
     sym (append-nil seen) ∙ (ap (λ t. seen ++ t) (sym empty) ∙ same)
 
--- a read of a source that tells that nothing is left gives no bytes
+-- a read of a source that says that nothing is left gives no bytes
 pub none_left : (n room : ℕ) (buffer : List ℕ) (old new : Option (List ℕ)) → IsCount room (Bytes n) → room ≤ length buffer
     → old ≡ after (got (Bytes n) buffer) new → old ≡ Some [] → ⊥
 none_left n room buffer old None c fits e told = let no : ⊥ = cc in no

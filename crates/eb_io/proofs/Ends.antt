@@ -8,7 +8,7 @@ use Rattle.eb_io.specs.Lines.{IsUncut, IsFirstLf, IsEnd}
 use Rattle.eb_io.proofs.Bytes.{drop_range}
 use Rattle.eb_io.proofs.Given.{lf_next}
 
--- at the place of a LF stands one
+-- at the place of a LF there is one
 is_lf : (bytes : List ℕ) (at : ℕ) → IsFirstLf bytes at → slice_index bytes at ≡ 10
 is_lf bytes at f = ap (λ xs. slice_index xs 0) (sym (drop_more bytes at 0 f.within) ∙ lf_next bytes at f.within f.cut)
 
@@ -18,7 +18,7 @@ not_before bytes at n f uncut = elim (cases_lt at n) [
   | inr ge ↦ ge
 ]
 
--- no LF stands before it
+-- there is no LF before it
 pub end_behind : (bytes : List ℕ) (end : Option ℕ) (n : ℕ) → IsEnd bytes end → IsUncut (take n bytes) → MatchOption end ⊤ (λ at. n ≤ at)
 end_behind bytes None n h uncut = tt
 end_behind bytes (Some at) n h uncut = not_before bytes at n h uncut
@@ -46,6 +46,6 @@ pub range_behind : (xs : List ℕ) (from to n : ℕ) (end : Option ℕ) → n �
 range_behind xs from to n end le h uncut =
     subst (λ bytes. IsEnd bytes (option_map (λ at. at - n) end)) (sym (drop_range xs from to n le)) (behind _ end n h (end_behind _ end n h uncut))
 
--- where the front of a piece ends
+-- where the prefix of a piece ends
 pub end_of_front : (xs ys : List ℕ) (n : ℕ) (end : Option ℕ) → ys ≡ xs → IsEnd (take n ys) end → IsEnd (slice_range xs 0 n) end
 end_of_front xs ys n end same h = let whole : n - 0 ≡ n = omega arith in subst (λ bytes. IsEnd bytes end) (sym (ap (λ k. take k xs) whole ∙ ap (take n) (sym same))) h

@@ -178,7 +178,7 @@ last_line h after taken given g rest some none empty ended same =
       | inr d ↦ absurd (begun d.none)
     ]
 
--- an answer that gives the line tells it
+-- an answer that gives the line says which line it is
 pub given_tells : (r : Next) (h : Held) (taken : List ℕ) (given : List Line) (l : Line) → GivesLine r h.line l → HasGiven taken (given ++ l ∷ []) h
     → Tells r taken given h
 given_tells ALine h taken given l e g = subst (λ l. HasGiven taken (given ++ l ∷ []) h) e g
@@ -249,7 +249,7 @@ lf_next rest n lt e =
     let len : length (take n rest) ≡ n = length-take-le n rest (omega arith) in
     ap (drop n) e ∙ drop_at (take n rest) (10 ∷ drop (n + 1) rest) n len
 
--- the line that was found is told
+-- the line that was found is given
 pub tells_whole : (joined passed new : Held) (r : Next) (taken : List ℕ) (given : List Line) (rest : List ℕ) → HasGiven taken given joined → joined.rest ≡ 10 ∷ rest
     → passed ≡ record joined { rest = drop 1 joined.rest } → new ≡ record passed { part = no_part; line = new.line }
     → ((begun : List ℕ) → passed.part ≡ kept_part begun → GivesLine r new.line (line_from begun)) → Tells r taken given new
@@ -259,7 +259,7 @@ tells_whole joined passed new r taken given rest g lf pass held gives =
     (line_ended joined new taken given g (lf ∙ ap (λ t. 10 ∷ t) (sym after_lf)) (ap (λ (h : Held). h.part) held)
     (ap (λ (h : Held). h.taken) held ∙ ap (λ (h : Held). h.taken) pass))
 
--- the last line, which no LF ends, is told
+-- the last line, which no LF ends, is given
 pub tells_last : (joined new : Held) (r : Next) (taken : List ℕ) (given : List Line) → HasGiven taken given joined → joined.rest ≡ [] → joined.is_ended ≡ true
     → joined.part ≢ no_part → new ≡ record joined { part = no_part; line = new.line }
     → ((begun : List ℕ) → joined.part ≡ kept_part begun → GivesLine r new.line (line_from begun)) → Tells r taken given new

@@ -32,7 +32,8 @@ whole_pieces-uncut [] uncut = refl
 whole_pieces-uncut (b ∷ bs) uncut =
     rw (is_no_lf b (uncut_head b bs uncut)) (ap (before_first_piece b) (whole_pieces-uncut bs (uncut_rest b bs uncut)))
 
--- a text that ends in a LF has at least one piece, a LF ends each of them, and more text comes after
+-- a text that ends in a LF has at least one piece, a LF ends each of them, and more text comes
+-- after
 record Ends (front more : List ℕ) : Type 0 where
   first : List ℕ
   others : List (List ℕ)

@@ -4,8 +4,8 @@ use Rattle.eb_io.specs.declared.lines.Lines.TheInside.{Inside}
 use Rattle.eb_io.specs.declared.lines.TheConstants.{PIECE}
 use Rattle.eb_io.specs.Lines.{longest_line, IsEnd}
 
--- what is still to be cut lies in the piece, and where its first line ends is known; both buffers of a line have room for each
--- line, and an end was met before as many bytes were taken as may be
+-- what is still to be cut lies in the piece, and where its first line ends is known; both buffers
+-- of a line have room for each line, and an end was met before as many bytes were taken as may be
 pub record HasRoomForLines (lines : Inside) : Type 0 where
   pub order : lines.from ≤ lines.to
   pub within : lines.to ≤ length lines.piece.items

@@ -19,7 +19,7 @@ kept_part bytes =
 abbrev pub no_part : Part
 no_part = record { is_long = false; bytes = [] }
 
--- `Lines` between two calls
+-- the state of `Lines` between two calls
 pub record Held : Type 0 where
   -- what is kept of the line that comes next, and the bytes that were taken after it
   pub part : Part
@@ -63,8 +63,8 @@ pub record HasAllLines (taken : List ℕ) (given : List Line) (held : Held) : Ty
   pub all : lines_of taken ≡ given
   pub ended : held.is_ended ≡ true
 
--- what an answer tells, where these bytes are taken by now and these lines were given before it
---   Line, LongLine: one line more is given; End: all are, with fewer bytes taken than may be;
+-- what an answer says, where these bytes are taken by now and these lines were given before it
+--   Line, LongLine: one more line is given; End: all are, with fewer bytes taken than may be;
 --   ReadFault, InputTooLong: all whole ones are, with fewer bytes taken than may be, or as many
 abbrev pub Tells : Next → List ℕ → List Line → Held → Type 0
 Tells ALine taken given held = HasGiven taken (given ++ line held.line ∷ []) held

@@ -3,7 +3,7 @@ use Rattle.std.specs.Prelude.{◌≡◌, ◌≢◌, ℕ, ◌^◌, ◌+◌, ◌<�
 use Rattle.std.specs.List.{All}
 use Rattle.std.specs.Io.BufRead.{strip_last}
 
--- the byte stands in front of the first piece; where there is no piece, it is one
+-- the byte comes before the first piece; where there is no piece, it is one
 abbrev pub begun_by : ℕ → List (List ℕ) → List (List ℕ)
 begun_by b [] = (b ∷ []) ∷ []
 begun_by b (p ∷ ps) = (b ∷ p) ∷ ps
@@ -14,7 +14,7 @@ abbrev pub pieces : List ℕ → List (List ℕ)
 pieces [] = []
 pieces (b ∷ bs) = if b == 10 then [] ∷ pieces bs else begun_by b (pieces bs)
 
--- the byte stands in front of the first piece, where there is one
+-- the byte comes before the first piece, where there is one
 abbrev pub before_first_piece : ℕ → List (List ℕ) → List (List ℕ)
 before_first_piece b [] = []
 before_first_piece b (p ∷ ps) = (b ∷ p) ∷ ps
@@ -33,7 +33,7 @@ pub data Line : Type 0 where
 abbrev pub longest_line : ℕ
 longest_line = 65536
 
--- the bytes of an input, which has to end before so many are taken
+-- the limit of an input: it has to end before it has this many bytes
 abbrev pub longest_input : ℕ
 longest_input = 2 ^ 40
 
@@ -61,7 +61,7 @@ whole_lines bytes = map line_from (whole_pieces bytes)
 abbrev pub IsUncut : List ℕ → Type 0
 IsUncut = All (λ b. b ≢ 10)
 
--- the first LF of the bytes stands at this place
+-- the first LF of the bytes is at this place
 pub record IsFirstLf (bytes : List ℕ) (place : ℕ) : Type 0 where
   pub within : place < length bytes
   pub uncut : IsUncut (take place bytes)

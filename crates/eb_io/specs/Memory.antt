@@ -28,8 +28,8 @@ pub record SinkState : Type 0 where
 abbrev pub IsListed : List ℕ → ℕ → Type 0
 IsListed failing call = (call < 2 ^ 64 - 1) × Contains failing call
 
--- what a read of a source in memory answers: it fails exactly where its call is listed, and else it
--- ends exactly where nothing is left, and else gives as much as it can
+-- what a read of a source in memory answers: it fails exactly where its call is listed; else it
+-- ends exactly where nothing is left; else it gives as much as it can
 abbrev pub Answers : SourceState → ℕ → Got → Type 0
 Answers s room Failed = IsListed s.failing (one_more s.calls)
 Answers s room End = (IsListed s.failing (one_more s.calls) → ⊥) × (s.left ≡ [])
@@ -39,8 +39,8 @@ Answers s room (Bytes n) = (IsListed s.failing (one_more s.calls) → ⊥) × (n
 abbrev pub FailsNext : SinkState → Type 0
 FailsNext s = IsListed s.failing (one_more s.calls) ⊎ (length s.taken ≡ s.room)
 
--- what a put of so many bytes answers: it fails exactly where that is to be, and else takes as many
--- as it can
+-- what a put of n bytes answers: it fails exactly where that is to be, and else takes as many as it
+-- can
 abbrev pub Takes : {E : Type 0} → SinkState → ℕ → Result ℕ E → Type 0
 Takes s many (Ok n) = (FailsNext s → ⊥) × (n ≡ min s.piece (min many (s.room - length s.taken)))
 Takes s many (Err e) = FailsNext s

@@ -1,7 +1,7 @@
 -- What a sink takes.
 use Rattle.std.specs.Prelude.{ℕ, List, ◌++◌, Option, option_map, Result, Ok, Err}
 
--- what was taken, where that is told, with these bytes after it
+-- what was taken, where that is known, with these bytes after it
 abbrev pub grown : Option (List ℕ) → List ℕ → Option (List ℕ)
 grown taken bytes = option_map (λ front. front ++ bytes) taken
 

@@ -3,8 +3,8 @@ ghost use Rattle.std.specs.Prelude.{◌≡◌, ◌+◌, ◌-◌, ◌^◌, ◌<�
 use crate::sink::{Sink, SinkFailed};
 use std::marker::Model;
 
-/// A sink that takes all bytes, keeps none and never fails. It tells no bytes but how many they were: contracts
-/// see it as this number, which stands still at 18,446,744,073,709,551,615.
+/// A sink that takes all bytes, keeps none and never fails. It tells only how many bytes it took.
+/// Contracts see it as this number, which stays at 18,446,744,073,709,551,615.
 #[derive(Debug, Drop)]
 pub struct CountSink {
     count: u64,

@@ -1,7 +1,7 @@
 ghost use Rattle.std.specs.Prelude.{◌≡◌, ◌<◌, ◌^◌, ◌↔◌, length, take, min, IsTrue};
 ghost use Rattle.eb_io.specs.Memory.{IsListed};
 
-// Copies as many of the first bytes as there is room for, and no more than `most`.
+// Copies as many of the first bytes as there is room for, at most `most`.
 pub(crate) fn copy_front(from: &[u8], into: &mut [u8], most: usize) -> usize
     ensures count { result ≡ min most (min (length into.old) (length from.now)) }
     ensures bytes { take result into.new ≡ take result from.now }

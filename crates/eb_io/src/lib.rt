@@ -1,5 +1,5 @@
-//! The outside of Earlybird: where bytes come from, where bytes go, and the lines of the bytes that
-//! come. `specs/Lines.antt` says what the lines of a text are.
+//! Input and output of Earlybird: where bytes come from, where bytes go, and the lines of the bytes
+//! that come. `specs/Lines.antt` says what the lines of a text are.
 #![tactic(auto)]
 
 mod count_sink;

@@ -1,3 +1,14 @@
+//! Lines of what a source gives, read in large pieces.
+//!
+//! A read takes up to 1 MiB, so lines that wait come together. With reads of 64 KiB, a run over a
+//! file was cut into rounds of some 600 lines, each of which started its threads anew: four parts
+//! with `--overlap` and a query after each 1,000 messages took 0.42 s, and take 0.35. A pipe gives
+//! 64 KiB at once unless somebody makes it larger. An answer waits at most for the lines of its
+//! piece, some 40 ms. Rejected: another size for each way to run, which is one more parameter of
+//! each call.
+//!
+//! The next LF is sought once: its place is kept when a LF is passed or a piece is read. To ask
+//! first whether a whole line is held, and then where it ends, sought it twice.
 ghost use Rattle.std.specs.Prelude.{◌≡◌, ◌≢◌, ℕ, ◌+◌, ◌-◌, ◌<◌, ◌≤◌, ◌↔◌, ◌⊎◌, true, false, List, []};
 ghost use Rattle.std.specs.Prelude.{◌++◌, length, take, drop, vec_capacity, IfOk, IsTrue, MatchOption, option_map, ⊤};
 ghost use Rattle.std.specs.List.{Contains};
@@ -16,7 +27,8 @@ use std::mem;
 /// kept (this project's profile, docs/FORMATS.md).
 pub const LONGEST_LINE: usize = 65_536;
 
-// The most bytes of a read: what waits is read at once, so that lines which may be taken together come together.
+// The most bytes of a read: what waits is read at once, so lines that may be processed together
+// come together.
 const PIECE: usize = 1 << 20;
 
 const LF: u8 = 10;
@@ -28,16 +40,16 @@ const CR: u8 = 13;
 pub enum Next {
     /// A line of at most [`LONGEST_LINE`] bytes, which [`Lines::line`] gives.
     Line,
-    /// A line of more bytes, which was passed over to its LF, or to the end.
+    /// A line of more bytes, which was skipped up to its LF, or to the end.
     LongLine,
-    /// All lines were given, and the end of the source was met, in this call or an earlier one, before as many
+    /// All lines were given, and the source ended, in this call or an earlier one, before as many
     /// bytes were taken as may be.
     End,
-    /// The source failed, and no whole line is held. What was taken of the line that comes next is
-    /// kept, or that it is a long line; the next call goes on with the rest of it.
+    /// The source failed, and no whole line is held. What was taken of the next line is kept, or
+    /// the fact that it is a long one; the next call goes on with the rest of it.
     ReadFault,
-    /// As many bytes as may be taken were taken, no end was met, and no whole line is held. Later
-    /// calls answer it again, and leave the source alone.
+    /// As many bytes were taken as may be, the source didn't end, and no whole line is held. Later
+    /// calls answer the same, and leave the source alone.
     InputTooLong,
 }
 
@@ -47,8 +59,8 @@ pub enum Next {
 /// It takes all its memory when it is made.
 #[derive(Drop)]
 pub struct Lines {
-    // what was read last, of which the bytes from `from` to `to` are still to be cut, and the place of the first LF
-    // among these, which is sought once
+    // what was read last, of which the bytes from `from` to `to` are still to be cut, and the place
+    // of the first LF among these
     piece: Vec<u8>,
     from: usize,
     to: usize,
@@ -90,7 +102,7 @@ fn find_end(bytes: &[u8]) -> Option<usize>
     memchr(LF, bytes)
 }
 
-// A place from which so many bytes before it are taken away.
+// A place in what is left when this many bytes before it are removed.
 fn place_behind(place: Option<usize>, count: usize) -> Option<usize>
     requires { MatchOption place ⊤ (λ at. count ≤ at) }
     ensures { result ≡ option_map (λ at. at - count) place }
@@ -101,7 +113,7 @@ fn place_behind(place: Option<usize>, count: usize) -> Option<usize>
     }
 }
 
-// Reads into the front of a piece.
+// Reads into the start of a piece.
 fn read_piece<S: Source>(source: &mut S, piece: &mut [u8], room: usize) -> Got
     requires some { 0 < room }
     requires fits { room ≤ length piece.old }
@@ -115,7 +127,7 @@ fn read_piece<S: Source>(source: &mut S, piece: &mut [u8], room: usize) -> Got
     source.read(&mut piece[..room])
 }
 
-// Takes one CR at the end away.
+// Removes one CR at the end.
 fn drop_cr(line: &mut Vec<u8>)
     ensures bytes { line.new.items ≡ without_cr line.old.items }
     ensures fits { length line.new.items ≤ length line.old.items }
@@ -178,7 +190,8 @@ impl Lines {
         self.end
     }
 
-    /// Whether a whole line is held, so that the next call for a line leaves the source alone. Takes no memory.
+    /// Whether a whole line is held: then the next call for a line leaves the source alone. Takes
+    /// no memory.
     pub fn has_line(&self) -> bool
         ensures { IsTrue result ↔ Contains self.now.rest 10 }
     {
@@ -188,13 +201,14 @@ impl Lines {
         }
     }
 
+    // How many bytes are still to be cut.
     fn rest_len(&self) -> usize
         ensures { result ≡ length self.now.rest }
     {
         self.to - self.from
     }
 
-    // Moves the first bytes of the rest, none of which is a LF, after the part.
+    // Moves the first bytes of the rest, which have no LF, to the end of the part.
     fn join(&mut self, count: usize)
         requires within { count ≤ length self.old.rest }
         requires uncut { IsUncut (take count self.old.rest) }
@@ -217,7 +231,7 @@ impl Lines {
         self.part.extend_from_slice(more).unwrap();
     }
 
-    // Passes over the byte that ends a line.
+    // Skips the byte that ends a line.
     fn pass(&mut self)
         requires { 0 < length self.old.rest }
         ensures { self.new ≡ record self.old { rest = drop 1 self.old.rest } }
@@ -280,12 +294,14 @@ impl Lines {
         got
     }
 
+    // Whether a line has begun whose end isn't held.
     fn has_part(&self) -> bool
         ensures { IsTrue result ↔ (self.now.part ≢ no_part) }
     {
         self.is_long || !self.part.is_empty()
     }
 
+    // Whether as many bytes were taken as may be.
     fn is_full(&self) -> bool
         ensures full { IsTrue result ↔ (self.now.taken ≡ self.now.limit) }
         ensures within { self.now.taken ≤ self.now.limit }
@@ -293,6 +309,7 @@ impl Lines {
         self.limit == self.taken
     }
 
+    // Whether the source ended.
     fn is_ended(&self) -> bool
         ensures ended { result ≡ self.now.is_ended }
         ensures short { self.now.is_ended ≡ true → self.now.taken < self.now.limit }
@@ -302,23 +319,24 @@ impl Lines {
 
     /// Goes on to the next line of the text, and reads only where no whole line is held.
     ///
-    /// The bytes taken, cut into lines, are what was given and what is held, however the source cuts
-    /// them. `ReadFault` comes only where the source's number of faults rose in this call. After the
-    /// end was met, the source isn't asked again. Takes no memory.
+    /// The bytes taken, cut into lines, are what was given and what is held, however the source
+    /// cuts them. `ReadFault` comes only where the source's number of faults rose in this call.
+    /// After the end was met, the source isn't asked again. Takes no memory.
     pub fn next_line<S: Source>(&mut self, source: &mut S) -> Next
-        // the call took some bytes; with those that were taken before, and after the lines that were
-        // given before, the answer says what comes next
+        // the call took some bytes; with those that were taken before, and after the lines that
+        // were given before, the answer says what comes next
         ensures told { (before : List ℕ) (given : List Line) → HasGiven before given self.old
             → (seen : List ℕ) × (S.left source.old ≡ after seen (S.left source.new))
             × Tells result (before ++ seen) given self.new }
         ensures fault { result ≡ Next.ReadFault → HasRisen (S.faults source.old) (S.faults source.new) }
         ensures later { S.faults source.old ≤ S.faults source.new }
-        // where the end was met in this call, nothing is left, so far as that is told
+        // where the source ended in this call, nothing is left, so far as that is known
         ensures end { self.new.is_ended ≡ true → (self.old.is_ended ≡ true) ⊎ IsEmpty (S.left source.new) }
-        // the source isn't asked after its end was met, nor where a whole line is held
+        // the source isn't read after it ended, nor where a whole line is held
         ensures ended { self.old.is_ended ≡ true → source.new ≡ source.old }
         ensures whole { Contains self.old.rest 10 → source.new ≡ source.old }
-        // nor where as many bytes were taken as may be; without an end and a whole line held, the answer is InputTooLong
+        // nor where as many bytes were taken as may be; without an end and a whole line held, the
+        // answer is InputTooLong
         ensures full { self.old.taken ≡ self.old.limit → source.new ≡ source.old }
         ensures too_long { self.old.taken ≡ self.old.limit → self.old.is_ended ≡ false → (Contains self.old.rest 10 → ⊥) → result ≡ Next.InputTooLong }
         ensures line { (result ≡ Next.Line → ⊥) → self.new.line ≡ self.old.line }

@@ -9,10 +9,9 @@ use eb_base::NoMemory;
 use std::alloc::Global;
 use std::marker::Model;
 
-/// A sink into memory, which tells its bytes and never grows. It takes at most a piece of so many
-/// bytes a call, and it fails exactly at the calls that were listed and where all its room is taken.
-/// Calls are counted from 1 up to 18,446,744,073,709,551,615, and at that number none fails for
-/// being listed.
+/// A sink into memory, which tells its bytes and never grows. It takes at most `piece` bytes a
+/// call, and fails exactly at the calls that were listed and where all its room is taken. Calls are
+/// counted from 1 up to 18,446,744,073,709,551,615, and at that number none fails for being listed.
 #[derive(Drop)]
 pub struct MemSink {
     bytes: Vec<u8>,

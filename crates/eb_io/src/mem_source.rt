@@ -9,8 +9,8 @@ use eb_base::NoMemory;
 use std::alloc::Global;
 use std::marker::Model;
 
-/// A source over bytes in memory, which tells them. It gives at most a piece of so many bytes a
-/// call, and it fails exactly at the calls that were listed. Calls are counted from 1 up to
+/// A source over bytes in memory, which tells them. It gives at most `piece` bytes a call, and
+/// fails exactly at the calls that were listed. Calls are counted from 1 up to
 /// 18,446,744,073,709,551,615, and at that number none fails.
 #[derive(Drop)]
 pub struct MemSource {

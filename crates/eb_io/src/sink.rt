@@ -22,19 +22,19 @@ impl Error for SinkFailed {}
 /// Where bytes go.
 ///
 /// Contracts see two things of a sink: the bytes that it took so far, where it tells them, and the
-/// number of its faults, which never falls and stands still at 18,446,744,073,709,551,615.
+/// number of its faults. This number never falls, and stays at 18,446,744,073,709,551,615.
 pub trait Sink {
     ghost use Rattle.eb_io.specs.Faults.{HasRisen};
     ghost use Rattle.eb_io.specs.Sink.{grown, put_count};
 
-    // the bytes taken so far, where they are told
+    // the bytes taken so far, where they are known
     ghost taken: { Self → Option (List ℕ) };
     // how often it failed
     ghost faults: { Self → ℕ };
 
-    /// Puts the first of the bytes, of which there is at least one, and says how many it took.
-    /// `SinkFailed` comes only where the number of faults rose in this call, and then nothing was
-    /// taken. Takes no memory.
+    /// Puts the first of the bytes, of which there is at least one, and returns how many it took.
+    /// `SinkFailed` only where the number of faults rose in this call, and then nothing was taken.
+    /// Takes no memory.
     fn put(&mut self, bytes: &[u8]) -> Result<usize, SinkFailed>
         requires { 0 < length bytes.now }
         ensures count { IfOk result (λ n. (1 ≤ n) × (n ≤ length bytes.now)) }

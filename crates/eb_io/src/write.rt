@@ -4,8 +4,8 @@ ghost use Rattle.eb_io.specs.Sink.{grown};
 
 use crate::sink::{Sink, SinkFailed};
 
-/// Puts all the bytes, one put after another. `SinkFailed` comes only where the sink's number of
-/// faults rose in this call, and then the sink took a front of the bytes. Takes no memory.
+/// Puts all the bytes, one put after another. `SinkFailed` only where the sink's number of faults
+/// rose in this call, and then the sink took a prefix of the bytes. Takes no memory.
 pub fn write_all<K: Sink>(sink: &mut K, bytes: &[u8]) -> Result<(), SinkFailed>
     ensures ok { OnOk result (K.taken sink.new ≡ grown (K.taken sink.old) bytes.now) }
     ensures err { OnErr result ((n : ℕ) × (n < length bytes.now)

@@ -36,7 +36,7 @@ pub bare_item : (options : List Text) (word : Text) → position_or_len is_equal
     → ◌≡◌ {A = Option (Text × Option Text)} (Some (word, None)) (cond (is_one_of options (name_in word)) (Some (name_in word, value_in word)) None)
 bare_item options word h is = let none = lacks word h in rw (no_equals word none, none, is) refl
 
--- ---- one word more
+-- ---- one more word
 
 pub flag_last : (done : Parts) (word : Text) (further : Option Parts) → in_front done (option_map (with_flag word) further) ≡ in_front (with_flag_last done word) further
 flag_last done word None = refl
@@ -169,6 +169,6 @@ module _ (flags options : List Text) where
         none None = refl
         none (Some there) = refl
 
--- an error is the same beside values of any type
+-- an error is the same with values of any type
 pub err_same : {T U E : Type 0} (f u : E) → IsErrOf {T = T} (Err f) u → IsErrOf {T = U} (Err f) u
 err_same f u e = (let same : f ≡ u = cc in rw same refl)

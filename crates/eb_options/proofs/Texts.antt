@@ -21,7 +21,7 @@ behind_behind xs ys None = refl
 behind_behind xs ys (Some a) = ap (λ (ws : List Text). Some (record { text = a.text; others = ws })) (sym (append_assoc xs ys a.others))
 
 module _ (name : Text) (options : List Text) (all : Option Apart) (others : List Text) (word : Text) (rest words : List Text) (is : words ≡ word ∷ rest) where
-  -- another word is passed over
+  -- another word is skipped
   pub passes : (waits : Bool) (next : List Text) (w : Bool) → (if waits then None else value_of name word) ≡ None → next ≡ others ++ word ∷ [] → w ≡ (not waits && is_one_of options word)
       → all ≡ behind others (text_from name options waits words) → all ≡ behind next (text_from name options w rest)
   unfolding text_from

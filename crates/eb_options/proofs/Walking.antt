@@ -1,5 +1,5 @@
--- What clap makes of words `--x=V`, each of an option that the command has: it keeps each value, and refuses a second one of an
--- option.
+-- What clap makes of words `--x=V`, each of an option that the command has: it keeps each value,
+-- and refuses a second one of an option.
 use Rattle.std.proofs.Common.{◌≡◌, ◌⊎◌, inl, inr, ℕ, suc, ◌+◌, ◌≤◌, ◌&&◌, Bool, true, false, true≢false, not, List, [], ◌∷◌, ◌++◌, map, length, take, drop, Option, Some, None}
 use Rattle.std.proofs.Common.{refl, sym, ap, ap₂, ◌∙◌, cond, fold, arith, subst, is_some, append_assoc, append-nil, length-append}
 use Rattle.std.specs.Str.{bytes_eq}
@@ -109,7 +109,7 @@ value_front b word h =
     let next : 1 + position_or_len is_equals word + 1 ≡ suc (position_or_len is_equals word + 1) = omega arith in
     rw h (ap (λ (n : ℕ). cond (list_any is_equals word) (Some (drop n (b ∷ word))) None) next)
 
--- what stands before and behind a first `=`
+-- what comes before and after a first `=`
 cut : (key value : Text) → list_any is_equals key ≡ false → (name_in (key ++ 61 ∷ value) ≡ key) × (value_in (key ++ 61 ∷ value) ≡ Some value)
 cut [] value h = (refl, refl)
 cut (b ∷ key) value h = go (λ e. cut key value e) (is_equals b) refl

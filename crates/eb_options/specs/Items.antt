@@ -1,4 +1,5 @@
--- What words say in which flags and options with numbers stand, in any order. Names are without their dashes.
+-- What words say in which flags and options with numbers are in any order. Names are without their
+-- dashes.
 use Rattle.std.specs.Prelude.{◌≡◌, ℕ, ◌&&◌, ◌==◌, Bool, true, false, not, List, [], ◌∷◌, map, find, length, nat_lt, Option, Some, None}
 use Rattle.std.specs.Prelude.{if◌then◌else◌, option_map, option_and_then}
 use Rattle.std.specs.Borrow.{Bor}
@@ -32,11 +33,11 @@ dashed name = 45 ∷ 45 ∷ name
 abbrev pub is_one_of : List (List ℕ) → List ℕ → Bool
 is_one_of names word = list_any (λ name. bytes_eq word (dashed name)) names
 
--- what stands before the first `=` of a word
+-- what comes before the first `=` of a word
 abbrev pub name_in : List ℕ → List ℕ
 name_in word = before_first is_equals word
 
--- what stands after the first `=` of a word, if it has one
+-- what comes after the first `=` of a word, if it has one
 abbrev pub value_in : List ℕ → Option (List ℕ)
 value_in word = if list_any is_equals word then Some (after_first is_equals word) else None
 
@@ -57,8 +58,8 @@ with_flag word parts = record parts { flags = word ∷ parts.flags }
 abbrev pub with_option : Value → Parts → Parts
 with_option value parts = record parts { values = value ∷ parts.values }
 
--- the words as flags and values, each `--x` for a flag, and `--x V` or `--x=V` for an option, in any order; the option in
--- front, if any, waits for its value
+-- the words as flags and values, each `--x` for a flag, and `--x V` or `--x=V` for an option, in
+-- any order; the option before them, if any, waits for its value
 unfoldable pub flags_and_values : List (List ℕ) → List (List ℕ) → Option (List ℕ) → List (List ℕ) → Option Parts
 flags_and_values flags options None [] = Some (record { flags = []; values = [] })
 flags_and_values flags options None (word ∷ rest) =
@@ -72,22 +73,23 @@ flags_and_values flags options (Some name) (value ∷ rest) = option_map (with_o
 
 -- ---- items
 
--- each flag, and whether it stands there; each option, and its number, if it stands there
+-- each flag, and whether it is there; each option, and its number, if it is there
 pub record Items : Type 0 where
   pub flags : List (List ℕ × Bool)
   pub numbers : List (List ℕ × Option ℕ)
 
--- whether such words stand there, at most one
+-- whether there are such words, at most one
 abbrev pub at_most_once : List (List ℕ) → Option Bool
 at_most_once [] = Some false
 at_most_once (word ∷ []) = Some true
 at_most_once (word ∷ other ∷ more) = None
 
--- whether the flag stands among the words, at most once
+-- whether the flag is among the words, at most once
 abbrev pub flag_in : List (List ℕ) → List ℕ → Option Bool
 flag_in words flag = at_most_once (filter (λ word. bytes_eq word (dashed flag)) words)
 
--- the number, if there is a value, that these values of one option give, at most one; one to nine digits
+-- the number, if there is a value, that these values of one option give, at most one; one to nine
+-- digits
 abbrev pub one_number : List Value → Option (Option ℕ)
 one_number [] = Some None
 one_number (value ∷ []) = option_map (λ n. Some n) (number 9 value.1)
@@ -102,16 +104,16 @@ unfoldable pub with_each : {A : Type 0} → (List ℕ → Option A) → List (Li
 with_each found [] = Some []
 with_each found (name ∷ names) = option_and_then (λ this. option_map (λ more. (name, this) ∷ more) (with_each found names)) (found name)
 
--- the items that the words are, for a command with these flags and options: each at most once, and each option with a
--- number of one to nine digits
+-- the items that the words are, for a command with these flags and options: each at most once, and
+-- each option with a number of one to nine digits
 abbrev pub items_of : List (List ℕ) → List (List ℕ) → List (List ℕ) → Option Items
 items_of flags options words = option_and_then (λ parts. option_and_then (λ there. option_map (λ numbers. record { flags = there; numbers = numbers })
     (with_each (number_in parts.values) options)) (with_each (flag_in parts.flags) flags)) (flags_and_values flags options None words)
 
--- the flag stands there
+-- the flag is there
 abbrev pub has : List ℕ → Items → Bool
 has flag items = list_any (λ this. bytes_eq this.0 flag && this.1) items.flags
 
--- the number of the option, if it stands there
+-- the number of the option, if it is there
 abbrev pub option_number : List ℕ → Items → Option ℕ
 option_number option items = option_and_then (λ this. this.1) (find (λ this. bytes_eq this.0 option) items.numbers)

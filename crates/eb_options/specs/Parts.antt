@@ -3,7 +3,7 @@ use Rattle.std.specs.Prelude.{◌≡◌, ℕ, Bool, true, List, [], ◌∷◌, �
 use Rattle.std.specs.List.{list_all}
 use Rattle.eb_options.specs.Items.{Parts, Value, is_one_of}
 
--- the parts of further words, with those read before in front
+-- those read before, and then the parts of further words
 abbrev pub in_front : Parts → Option Parts → Option Parts
 in_front done further = option_map (λ (p : Parts). record { flags = done.flags ++ p.flags; values = done.values ++ p.values }) further
 

@@ -21,7 +21,8 @@ is_setting σ = nat_le 1 σ.segments && (nat_le σ.segments 64 && (nat_le 1 σ.d
 abbrev pub allowed : ℕ → ℕ → ℕ → Option Setting
 allowed segments docs terms = let σ : Setting = record { segments = segments; docs = docs; terms = terms } in if is_setting σ then Some σ else None
 
--- the setting that the items ask for; 12 segments of 4,096 documents and 8,192 terms where they don't say otherwise
+-- the setting that the items ask for; 12 segments of 4,096 documents and 8,192 terms where they
+-- don't say otherwise
 abbrev pub setting_of : Items → Option Setting
 setting_of items =
     allowed (unwrap_or (option_number (codes "segments") items) 12) (unwrap_or (option_number (codes "docs") items) 4096) (unwrap_or (option_number (codes "terms") items) 8192)

@@ -18,22 +18,22 @@ use std::alloc::Global;
 use std::marker::Model;
 use std::{error, fmt};
 
-// A flag of a command, and whether it stands in the words.
+// A flag of a command, and whether it is among the words.
 #[derive(Debug, Drop)]
 pub(crate) struct Flag {
     name: String,
     is_there: bool,
 }
 
-// An option of a command, and its number, if it stands in the words.
+// An option of a command, and its number, if it is among the words.
 #[derive(Debug, Drop)]
 pub(crate) struct Number {
     name: String,
     number: Option<u32>,
 }
 
-/// The items that the words after a command's name are: for each flag of the command whether it stands there, and for each
-/// of its options the number, if it stands there.
+/// The items that the words after a command's name are: for each flag of the command whether it is
+/// there, and for each of its options the number, if it is there.
 #[derive(Debug, Drop)]
 pub struct Items {
     flags: Vec<Flag>,
@@ -52,13 +52,13 @@ impl Model for Items {
     } };
 }
 
-/// Why no items are read from the words.
+/// Why the words are no items.
 #[derive(Clone, Copy, Debug, PartialEq, Eq)]
 pub enum OptionFault {
-    /// The words aren't flags and options of the command, each at most once and each option with a number of one to nine
-    /// digits.
+    /// The words aren't flags and options of the command, each at most once and each option with a
+    /// number of one to nine digits.
     Usage,
-    /// There was no memory to read them.
+    /// Memory ran out while they were read.
     NoMemory,
 }
 
@@ -79,7 +79,7 @@ impl fmt::Display for OptionFault {
 impl error::Error for OptionFault {}
 
 impl Items {
-    /// Whether the flag stands in the words.
+    /// Whether the flag is among the words.
     pub fn has(&self, flag: &str) -> bool
         ensures { result ≡ has flag.now self.now }
     {
@@ -91,7 +91,7 @@ impl Items {
         false
     }
 
-    /// The number of the option, if it stands in the words.
+    /// The number of the option, if it is among the words.
     pub fn number(&self, option: &str) -> Option<u32>
         ensures { result ≡ option_number option.now self.now }
     {
@@ -104,7 +104,7 @@ impl Items {
     }
 }
 
-// Whether the flag stands among the words; none where it stands there twice.
+// Whether the flag is among the words; none where it occurs twice.
 fn find_flag(words: &[String], flag: &str) -> Option<bool>
     ensures { result ≡ flag_in (map string_bytes words.now) flag.now }
 {
@@ -134,7 +134,7 @@ fn push_flag(
     Ok(())
 }
 
-// The flags of these names, as they stand among the words.
+// The flags of these names, as they are among the words.
 fn read_flags(alloc: Global, words: &[String], names: &[&str]) -> Result<Vec<Flag>, OptionFault>
     ensures flags { IfOk result (λ flags. with_each (flag_in (map string_bytes words.now)) (texts names.now) ≡ Some (map flag_view flags.items)) }
     ensures usage { IsErrOf result OptionFault.Usage → with_each (flag_in (map string_bytes words.now)) (texts names.now) ≡ None }
@@ -151,7 +151,8 @@ fn read_flags(alloc: Global, words: &[String], names: &[&str]) -> Result<Vec<Fla
     Ok(flags)
 }
 
-// The number of the option in the matches, if it stands there; none where its value is no number of one to nine digits.
+// The number of the option in the matches, if it is there; none where its value is no number of one
+// to nine digits.
 fn find_number(matches: &ArgMatches<'_>, option: &str) -> Option<Option<u32>>
     ensures { result ≡ number_at (rows_of (found_of matches.now)) option.now }
 {
@@ -199,7 +200,7 @@ fn read_numbers(
     Ok(numbers)
 }
 
-// What an error of clap's is for the caller.
+// What an error of clap's means for the caller.
 fn fault_of(error: &Error) -> OptionFault
     ensures { result ≡ OptionFault.Usage → kind_of error.now ≢ ErrorKind.OutOfMemory }
 {
@@ -210,7 +211,7 @@ fn fault_of(error: &Error) -> OptionFault
     }
 }
 
-// The options of these names, as they stand in words `--x=V`, each of one of them.
+// The options of these names, as they are in words `--x=V`, each of one of them.
 fn read_values<'a>(
     alloc: Global,
     words: &'a Vec<String>,
@@ -228,12 +229,13 @@ fn read_values<'a>(
     }
 }
 
-/// The items that the words after a command's name are, for a command with these flags and options. Names are without
-/// their dashes; a name of an option isn't empty, and has no `=`.
+/// The items that the words after a command's name are, for a command with these flags and options.
+/// Names are without their dashes; a name of an option isn't empty, and has no `=`.
 ///
-/// The words are items in any order: `--x` for a flag, and for an option the two words `--x V` or the one word `--x=V`, where
-/// V is one to nine digits, leading zeros allowed. No name is shortened, and each item stands there at most once. Usage comes
-/// exactly where the words are anything else; NoMemory is free.
+/// The words are items in any order: `--x` for a flag, and for an option the two words `--x V` or
+/// the one word `--x=V`, where V is one to nine digits, leading zeros allowed. No name is
+/// shortened, and each item occurs at most once. Usage comes exactly where the words are anything
+/// else; NoMemory is free.
 pub fn read_options<'n>(
     alloc: Global,
     words: &[String],

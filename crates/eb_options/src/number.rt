@@ -17,7 +17,8 @@ fn are_digits(word: &str, most: usize) -> bool
     true
 }
 
-/// The number that a word of one to `most` digits writes, if 64 bits hold it; leading zeros are allowed.
+/// The number that a word of one to `most` digits writes, if 64 bits hold it; leading zeros are
+/// allowed.
 pub fn read_number(word: &str, most: usize) -> Option<u64>
     ensures { result ≡ number most word.now }
 {

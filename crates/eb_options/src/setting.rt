@@ -4,7 +4,8 @@ ghost use Rattle.eb_options.specs.Settings.{allowed, setting_of};
 use crate::items::Items;
 use eb_base::Config;
 
-/// The options of a setting: its segments, and the documents and terms that each of them has room for.
+/// The options of a setting: its segments, and the documents and terms that each of them has room
+/// for.
 pub const SETTING_OPTIONS: [&str; 3] = ["segments", "docs", "terms"];
 
 // The setting with these numbers, if it is allowed.
@@ -17,8 +18,8 @@ fn config_of(segments: u32, docs: u32, terms: u32) -> Option<Config>
     }
 }
 
-/// The setting that the items ask for by `segments`, `docs` and `terms`, if `Config::new` allows it; what they don't name is
-/// as in `Config::usual`.
+/// The setting that the items ask for by `segments`, `docs` and `terms`, if `Config::new` allows
+/// it; what they don't name is as in `Config::usual`.
 pub fn read_setting(items: &Items) -> Option<Config>
     ensures { result ≡ setting_of items.now }
 {

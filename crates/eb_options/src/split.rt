@@ -1,7 +1,7 @@
 //! The words after a command's name, split into flags and options with their values.
 //!
-//! `clap` reads the options alone, each as the one word `--x=V`: so each of its words is an item of its own. Its flags have
-//! a default value, which each law of the options would have to speak of.
+//! `clap` reads the options alone, each as the one word `--x=V`, so each of its words is an item of
+//! its own. Its flags have a default value, which each law of the options would have to speak of.
 ghost use Rattle.std.specs.Prelude.{◌≡◌, ◌++◌, ◌∷◌, [], None, Some, IfOk, IsErrOf, List, OnOk, false, if◌then◌else◌, map, option_map, string_bytes, true, ℕ};
 ghost use Rattle.std.specs.Str.{bytes_eq};
 ghost use Rattle.eb_options.specs.Items.{dashed, flags_and_values, is_one_of, name_in, texts, value_in};
@@ -19,7 +19,8 @@ pub(crate) struct Value {
     text: String,
 }
 
-// The words read so far: the flags, the options with their values, and the option that waits for its value.
+// The words read so far: the flags, the options with their values, and the option that waits for
+// its value.
 #[derive(Drop)]
 pub(crate) struct Split {
     pub(crate) flags: Vec<String>,
@@ -78,7 +79,8 @@ pub(crate) fn push(alloc: Global, words: &mut Vec<String>, word: &str) -> Result
     Ok(())
 }
 
-// What a word is as an item: the option in it, and its value, if there is one; nothing where it is none of the options.
+// What a word is as an item: the option in it, and its value, if there is one; nothing where it is
+// none of the options.
 fn option_of<'a>(word: &'a str, options: &[&str]) -> Option<(&'a str, Option<&'a str>)>
     ensures { option_map item_view result ≡ (if is_one_of (texts options.now) (name_in word.entry.now)
         then Some (name_in word.entry.now, value_in word.entry.now) else None) }
@@ -91,7 +93,7 @@ fn option_of<'a>(word: &'a str, options: &[&str]) -> Option<(&'a str, Option<&'a
 }
 
 impl Split {
-    // One flag more.
+    // One more flag.
     fn put_flag(&mut self, alloc: Global, word: &str) -> Result<(), NoMemory>
         ensures parts { OnOk result (parts_view self.new ≡ with_flag_last (parts_view self.old) word.now) }
         ensures waits { OnOk result (waiting self.new ≡ waiting self.old) }
@@ -99,7 +101,7 @@ impl Split {
         push(alloc, &mut self.flags, word)
     }
 
-    // One option with its value more; none waits.
+    // One more option with its value; none waits.
     fn put_value(&mut self, alloc: Global, name: &str, text: &str) -> Result<(), NoMemory>
         ensures parts { OnOk result (parts_view self.new ≡ with_value_last (parts_view self.old) (name.now, text.now)) }
         ensures waits { OnOk result (waiting self.new ≡ None) }
@@ -120,7 +122,8 @@ impl Split {
         Ok(())
     }
 
-    // Reads one word more where no option waits for its value, and tells whether the word is a flag or an option.
+    // Reads one more word where no option waits for its value, and returns whether the word is a
+    // flag or an option.
     fn read_item(
         &mut self,
         alloc: Global,
@@ -152,7 +155,7 @@ impl Split {
         }
     }
 
-    // Reads one word more, and tells whether the word can stand there.
+    // Reads one more word, and returns whether the word is allowed there.
     fn read(
         &mut self,
         alloc: Global,

@@ -1,4 +1,4 @@
-//! An option that has a text, taken out of the words of a command before the others are read.
+//! An option with a text, which is removed from the words of a command before the others are read.
 ghost use Rattle.std.specs.Prelude.{◌≡◌, ◌++◌, ◌&&◌, Some, None, IfOk, IsErrOf, if◌then◌else◌, map, not, option_map, string_bytes};
 ghost use Rattle.eb_options.specs.Items.{is_one_of, texts};
 ghost use Rattle.eb_options.specs.Texts.{behind, taken_value, text_apart, value_of};
@@ -9,7 +9,7 @@ use crate::split::{is_dashed, is_one_of, push};
 use eb_base::NoMemory;
 use std::alloc::Global;
 
-/// The words of a command without an option that has a text, and this text, if it stands there.
+/// The words of a command without an option that has a text, and this text, if there is one.
 #[derive(Debug, Drop)]
 pub struct TextApart<'a> {
     /// The text.
@@ -18,7 +18,8 @@ pub struct TextApart<'a> {
     pub others: Vec<String>,
 }
 
-// What a word says of the option: nothing where it is another; and else the value in it, if there is one.
+// What a word says of the option: nothing where it is another; and else the value in it, if there
+// is one.
 fn value_of<'a>(word: &'a str, name: &str) -> Option<Option<&'a str>>
     ensures { option_map shown result ≡ value_of name.now word.entry.now }
 {
@@ -29,7 +30,8 @@ fn value_of<'a>(word: &'a str, name: &str) -> Option<Option<&'a str>>
     }
 }
 
-// The same where an item begins; nothing where an option before it waits for its value.
+// What a word says of the option where an item begins; nothing where an option before it waits for
+// its value.
 fn value_at<'a>(waits: bool, word: &'a str, name: &str) -> Option<Option<&'a str>>
     ensures { option_map shown result ≡ (if waits then None else value_of name.now word.entry.now) }
 {
@@ -43,7 +45,7 @@ fn waits_after(waits: bool, word: &str, options: &[&str]) -> bool
     !waits && is_one_of(word, options)
 }
 
-// The text, and these words with the rest behind them.
+// The text, these words, and then the rest.
 fn put_apart<'a>(
     alloc: Global,
     text: &'a str,
@@ -82,10 +84,10 @@ fn take_value<'a>(
     apart.map_err(|_| OptionFault::NoMemory)
 }
 
-/// Takes the option of this name out of the words after a command's name: the two words `--x V` or the one word `--x=V` where
-/// an item begins, which isn't where an option of these other names waits for its value. V is any text. What stands
-/// after it is as it is: a second item of the name, too. Usage comes exactly where the option stands last, without a value;
-/// NoMemory is free.
+/// Removes the option of this name from the words after a command's name: the two words `--x V` or
+/// the one word `--x=V` where an item begins, which isn't where an option of these other names
+/// waits for its value. V is any text. What comes after it stays as it is, also a second item of
+/// the name. Usage comes exactly where the option is last, without a value; NoMemory is free.
 pub fn take_text<'a>(
     alloc: Global,
     words: &'a [String],

@@ -9,18 +9,18 @@ use Rattle.eb_place.specs.Postings.{count_of}
 use Rattle.eb_place.specs.Address.{pool_at, offset_at, slice_start, begins_in, slices_begun, front_of, address_of}
 use Rattle.eb_place.proofs.TermCounts.{one_if, same_from_test, count_of-nil, count_of-cons, begun_after-append, begun_push}
 
--- the front of a list with one element more in front
+-- the prefix of a list with one more element before it
 pub front_away : (t u : Term) (n : ℕ) (us : List Term) → bytes_eq t u ≡ false → front_of t n (u ∷ us) ≡ u ∷ front_of t n us
 unfolding front_of
 front_away t u zero us h = rw h refl
 front_away t u (suc n) us h = rw h refl
 
--- nothing stands in front of the first of a term that heads the list
+-- there is nothing before the first of a term that heads the list
 pub front_first : (t u : Term) (us : List Term) → bytes_eq t u ≡ true → front_of t 0 (u ∷ us) ≡ []
 unfolding front_of
 front_first t u us h = rw h refl
 
--- of a later one the head stands in front
+-- the head is before a later one
 pub front_later : (t u : Term) (n : ℕ) (us : List Term) → bytes_eq t u ≡ true → front_of t (suc n) (u ∷ us) ≡ u ∷ front_of t n us
 unfolding front_of
 front_later t u n us h = rw h refl
@@ -28,7 +28,7 @@ front_later t u n us h = rw h refl
 split_cons : (t u : Term) (us f g rest : List Term) → f ≡ u ∷ g → us ≡ g ++ t ∷ rest → u ∷ us ≡ f ++ t ∷ rest
 split_cons t u us f g rest e h = rw e (ap (λ (x : List Term). u ∷ x) h)
 
--- the list goes on with the term after the front
+-- the list goes on with the term after the prefix
 pub front_split : (t : Term) (n : ℕ) (ts : List Term) → n < count_of t ts → (rest : List Term) × (ts ≡ front_of t n ts ++ t ∷ rest)
 front_split t n [] h = let e = count_of-nil t in absurd (omega arith)
 front_split t zero (u ∷ us) h = let d = count_of-cons t u us in elim (cases_Bool (bytes_eq t u)) [
@@ -40,7 +40,7 @@ front_split t (suc n) (u ∷ us) h = let d = count_of-cons t u us in elim (cases
   | inr away ↦ let d' = rw away at d in let r = front_split t (suc n) us (omega arith) in (r.0, split_cons t u us _ _ r.0 (front_away t u (suc n) us away) r.1)
 ]
 
--- the front has n of the term
+-- the prefix has n of the term
 pub front_count : (t : Term) (n : ℕ) (ts : List Term) → n < count_of t ts → count_of t (front_of t n ts) ≡ n
 unfolding count_of front_of
 front_count t n [] h = absurd (omega arith)
@@ -53,7 +53,7 @@ front_count t (suc n) (u ∷ us) h = elim (cases_Bool (bytes_eq t u)) [
   | inr away ↦ rw away (let h' = rw away at h in omega (arith, front_count t (suc n) us (omega arith)))
 ]
 
--- two fronts of one list are one, or the longer goes on with the shorter's next element
+-- two prefixes of one list are one, or the longer goes on with the shorter's next element
 pub two_fronts : (xs ys xs' ys' : List Term) (x y : Term) → xs ++ x ∷ xs' ≡ ys ++ y ∷ ys' →
     ((xs ≡ ys) × (x ≡ y)) ⊎ (((c : List Term) × (ys ≡ xs ++ x ∷ c)) ⊎ ((c : List Term) × (xs ≡ ys ++ y ∷ c)))
 two_fronts [] [] xs' ys' x y e = inl (refl, cc)
@@ -176,7 +176,7 @@ address_once ts t u f g hf hg fit e =
     let v = slice_once (pool_at f) ts t u (slice_start f) (slice_start g) (start_in f _ hf) (start_in g _ hg) bf bg s in
     (v.0, same_number f g v.1 w.2)
 
--- what stands in front of a token stays when more tokens come
+-- what is before a token stays when more tokens come
 pub front_stays : (t : Term) (n : ℕ) (xs ys : List Term) → n < count_of t xs → front_of t n (xs ++ ys) ≡ front_of t n xs
 front_stays t n [] ys h = let e = count_of-nil t in absurd (omega arith)
 front_stays t zero (u ∷ us) ys h = let d = count_of-cons t u us in elim (cases_Bool (bytes_eq t u)) [

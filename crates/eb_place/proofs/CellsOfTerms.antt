@@ -1,4 +1,5 @@
--- The cells of the terms of a segment: one a term, each the first free one from the term's home cell on.
+-- The cells of the terms of a segment: one a term, each the first free one from the term's home
+-- cell on.
 use Rattle.std.proofs.Common.{◌≡◌, ℕ, zero, suc, ◌<◌, ◌≤◌, ◌==◌, ◌||◌, Bool, true, false, List, [], ◌∷◌, ◌++◌, length, get_or, refl, ap, sym, ◌∙◌, subst, arith, inl, inr, append-nil, append_assoc}
 use Rattle.std.specs.List.{position_or_len}
 use Rattle.std.proofs.lemmas.Bool.{cases_lt, false≢true, eq-eqb, eqb-true}
@@ -41,7 +42,7 @@ pub cell_last : (cells : ℕ) (terms : List Term) (t : Term) → get_or (cells_o
 cell_last cells terms t = ap (λ z. get_or z (length terms) 0) (cells_of_push cells terms t)
     ∙ ap (λ k. get_or (cells_of cells terms ++ cell_of_next cells terms t ∷ []) k 0) (sym (length-cells_of cells terms)) ∙ get_or-append_seam (cells_of cells terms) (cell_of_next cells terms t) [] 0
 
--- what stands in a list is taken
+-- an element of a list is taken
 pub taken_here : (xs : List ℕ) (k : ℕ) → k < length xs → is_taken xs (get_or xs k 0) ≡ true
 taken_here [] k h = absurd (omega arith)
 taken_here (x ∷ xs) zero h = rw (eq-eqb x x refl) refl
@@ -51,7 +52,7 @@ taken_here (x ∷ xs) (suc k) h = true_right (get_or xs k 0 == x) (is_taken xs (
     true_right true b e = refl
     true_right false b e = e
 
--- one more that stands in the list
+-- one more element of the list
 pub taken_push : (xs : List ℕ) (x c : ℕ) → is_taken (xs ++ x ∷ []) c ≡ (is_taken xs c || (c == x))
 taken_push [] x c = or_false (c == x)
   where
@@ -64,7 +65,7 @@ taken_push (y ∷ xs) x c = ap (λ b. (c == y) || b) (taken_push xs x c) ∙ sym
     or_assoc true b d = refl
     or_assoc false b d = refl
 
--- and what is taken stands there
+-- and what is taken is in the list
 pub taken_where : (xs : List ℕ) (c : ℕ) → is_taken xs c ≡ true → (k : ℕ) × (k < length xs) × (get_or xs k 0 ≡ c)
 taken_where xs c h =
     let l = position_in (λ k. c == k) xs h in
@@ -122,7 +123,7 @@ cell_low cells terms h = by_push (λ ts. (k : ℕ) → k < length ts → get_or 
       | inr high ↦ omega (arith, ap (λ j. get_or (cells_of cells (ts ++ t ∷ [])) j 0) (let q : k ≡ length ts = omega (arith, length_push ts t) in q), cell_last cells ts t, cell_within ts t cells h)
     ]
 
--- where the cell of a term stands: some steps from its home cell, and all cells before it are taken
+-- the cell of a term: some steps from its home cell, and all cells before it are taken
 pub record Steps_to (cells : ℕ) (terms : List Term) (k : ℕ) : Type 0 where
   pub steps : ℕ
   pub few : steps ≤ k

@@ -1,4 +1,5 @@
--- The converter's words at a moment: which segments are converted, and what their directory and packed words are.
+-- The converter's words at a moment: which segments are converted, and what their directory and
+-- packed words are.
 use Rattle.std.proofs.Common.{◌≡◌, ℕ, zero, suc, ◌+◌, ◌*◌, ◌^◌, ◌<◌, ◌≤◌, true, List, [], ◌∷◌, ◌++◌, length, take, get_or, sum_by, refl, ap, sym, ◌∙◌, subst, arith, append_assoc, inl, inr}
 use Rattle.std.proofs.lemmas.Bool.{cases_lt, cases_eq, false≢true}
 use Rattle.std.proofs.lemmas.List.{append-nil, take-append-le, length-append}
@@ -99,7 +100,7 @@ converted_in m is D (suc n) s x h o l k =
       | inr high ↦ let q : n ≡ s = omega arith in ap (λ z. val σ z x) e ∙ ap (λ v. val σ ((D ++ conversions σ docs v) ++ segment_stores σ docs v) x) q
     ]
 
--- what stands before the conversion of a segment
+-- what is before the conversion of a segment
 abbrev pub before_it : Moment → ℕ → List Store
 before_it m s = document_stores m.setting m.documents ++ conversions m.setting (with_current m.documents) s
 

@@ -32,9 +32,10 @@ use Rattle.eb_place.proofs.RegionStores.{picks_done, moment_within, count_by-app
 use Rattle.eb_place.proofs.EntryStores.{is_entry, entries, entries_push, entries_picked, in_region, text_entry, text_place_entry, cell_entry}
 use Rattle.eb_place.proofs.DictionaryOfTerms.{text_ends, HasTerms, Texts, Behind, text_stores, enter_split, text_stores_behind, enter_within, texts_done, texts_keep, entered_keep}
 
--- ---- a front of the entries
+-- ---- a prefix of the entries
 
--- of the first j of these stores: some terms are entered, and the stores after theirs are of the next one's text
+-- of the first j of these stores: some terms are entered, and the stores after theirs are of the
+-- next one's text
 pub record Cut (σ : Setting) (s : ℕ) (before terms : List Term) (j : ℕ) : Type 0 where
   pub done : List Term
   pub left : List Term
@@ -43,7 +44,7 @@ pub record Cut (σ : Setting) (s : ℕ) (before terms : List Term) (j : ℕ) : T
   pub is : take j (entries σ s before terms) ≡ entries σ s before done ++ part
   pub behind : Each (Behind s (before ++ done)) part
 
--- a front of the stores that enter terms
+-- a prefix of the stores that enter terms
 pub entries_cut : (σ : Setting) (s : ℕ) (before terms : List Term) (j : ℕ) → Cut σ s before terms j
 unfolding entries
 entries_cut σ s before [] j = record { done = []; left = []; all = refl; part = []; is = take_all j [] (omega arith); behind = none }
@@ -162,7 +163,8 @@ has_front σ s xs ys h = let few = h.few in let texts = h.texts in record { insi
 front_take : {X : Type 0} (xs ys : List X) → IsPrefix xs ys → xs ≡ take (length xs) ys
 front_take xs ys p = sym (ap (take (length xs)) (sym p.1) ∙ take_at xs p.0 (length xs) refl)
 
--- which stores of the dictionary are done: those of the entered terms, and some of the text of the next term
+-- which stores of the dictionary are done: those of the entered terms, and some of the text of the
+-- next term
 pub record Done (m : Moment) (s : ℕ) : Type 0 where
   pub left : List Term
   pub all : distinct (terms_of (segment m s)) ≡ entered m s ++ left

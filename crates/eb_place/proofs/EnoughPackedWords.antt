@@ -58,7 +58,7 @@ matching t n (d ∷ ds) = ap length (filter-append (λ (w : Token). bytes_eq t w
       count_of-append t d.terms (terms_of ds),
     )
 
--- a term has as many postings as it stands in the segment
+-- a term has as many postings as it occurs in the segment
 pub length-postings : (t : Term) (seg : List Doc) → length (postings t seg) ≡ count_of t (terms_of seg)
 unfolding postings tokens
 length-postings t seg = length-map (filter (λ (w : Token). bytes_eq t w.term) (segment_from 0 seg)) (λ (w : Token). w.posting) ∙ matching t 0 seg

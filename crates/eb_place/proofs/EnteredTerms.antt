@@ -59,7 +59,7 @@ pub term_later : (m n : Moment) (s k : ℕ) → IsNotBefore n m → k < length (
 term_later m n s k l h = let p = entered_later m n s l in
     (omega (arith, ap length (sym p.1), length-append (entered m s) p.0), ap (λ z. get_or z k []) (sym p.1) ∙ get_or_append_left (entered m s) p.0 [] k h)
 
--- and so does the front of them
+-- and so does their prefix
 pub front_later : (m n : Moment) (s k : ℕ) → IsNotBefore n m → k ≤ length (entered m s) → take k (entered n s) ≡ take k (entered m s)
 front_later m n s k l h = let p = entered_later m n s l in ap (take k) (sym p.1) ∙ take-append-le k (entered m s) p.0 h
 
@@ -127,11 +127,11 @@ entered_is_term m s k inside h = let d = distinct_of m s k h in record {
   number = sym (number_is m s k h);
 }
 
--- an entered term stands at its number
+-- an entered term is at its number
 pub number_found : (m : Moment) (s : ℕ) (t : Term) → IsEntered m s t → (k : ℕ) × (k < length (entered m s)) × (get_or (entered m s) k [] ≡ t)
 number_found m s t h = (h.0, h.1, get_or_default (entered m s) h.0 [] t h.1 ∙ h.2)
 
--- what stands at a number is entered
+-- the term at a number is entered
 pub entered_at : (m : Moment) (s k : ℕ) (t : Term) → k < length (entered m s) → get_or (entered m s) k [] ≡ t → IsEntered m s t
 entered_at m s k t h e = subst (Contains (entered m s)) e (Contains-get_or (entered m s) k [] h)
 
@@ -164,7 +164,7 @@ entered_bytes m s k is h =
     let d = distinct_of m s k h in
     subst AreBytes d.1 (each_get (distinct (terms_of (segment m s))) k (each_distinct (terms_of (segment m s)) (bytes_each (segment m s) (p.limits s))) d.0)
 
--- ---- the text of a term tells the term
+-- ---- the text of a term determines the term
 
 low_once : (xs ys : List ℕ) → length xs ≡ length ys → AreBytes xs → AreBytes ys → little_endian xs ≡ little_endian ys → xs ≡ ys
 low_once [] [] n h k e = refl

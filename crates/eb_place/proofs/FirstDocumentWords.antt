@@ -31,7 +31,8 @@ use Rattle.eb_place.proofs.ReaderWords.{word_of_writer}
 use Rattle.eb_place.proofs.CountWords.{body, body_split}
 use Rattle.eb_place.proofs.IdWords.{of_token, tokens_kind}
 
--- the number of the first document of segment s plus 1, where n documents stand before these segments; 0 where there is none
+-- the number of the first document of segment s plus 1, where n documents come before these
+-- segments; 0 where there is none
 abbrev pub first_in : ℕ → List (List Doc) → ℕ → ℕ
 first_in n [] s = 0
 first_in n (x ∷ xs) zero = n + 1
@@ -215,7 +216,8 @@ pub firsts_all : (σ : Setting) (docs : List Doc) → IsSetting σ → IsLawful 
 unfolding cut placings_after value_after
 firsts_all σ docs k h = firsts_after σ [] docs k h (λ s l. refl)
 
--- at a first-document word: the number of the segment's first document plus 1, or 0 where the segment isn't begun
+-- at a first-document word: the number of the segment's first document plus 1, or 0 where the
+-- segment isn't begun
 pub word_first : (m : Moment) (s : ℕ) → IsMoment m → s < m.setting.segments → word m (place m.setting (slot s first_region 0)) ≡ first_in 0 (cut m.setting (with_current m.documents)) s
 unfolding document_stores is_packed
 word_first m s is h = word_of_writer m (slot s first_region 0) is (first_within m.setting s h) (λ e. false≢true e) ∙ go m.documents.current is.lawful is.begun

@@ -45,7 +45,7 @@ slices_cost_2 f = grind (arith, nat_tests)
 slices_cost_3 : (f : ℕ) → 145 * slices 3 f ≤ f + 0
 slices_cost_3 f = omega arith
 
--- each slice stands for some tokens
+-- each slice is for some tokens
 pub all_slices_cost : (p k : ℕ) → ((f : ℕ) → k * slices p f ≤ f + 0) → (ts : List Term) → k * all_slices p ts ≤ length ts
 unfolding all_slices
 all_slices_cost p k h ts = omega (arith, scaled (λ u. slices p (count_of u ts)) (λ u. count_of u ts) k 0 (λ u. h (count_of u ts)) (distinct ts), total_count ts)

@@ -15,7 +15,8 @@ cell_at cells c k = (c + k) % cells
 abbrev pub is_taken : List ℕ → ℕ → Bool
 is_taken taken c = list_any (λ k. c == k) taken
 
--- the cell found is the k-th from c on, and those before it are taken; it is free, or as many are taken as were tried
+-- the cell found is the k-th from c on, and those before it are taken; it is free, or as many are
+-- taken as were tried
 pub record Found (cells : ℕ) (taken : List ℕ) (n c found : ℕ) : Type 0 where
   pub steps : ℕ
   pub within : steps ≤ n

@@ -116,7 +116,7 @@ pub begin_offset : (f : ℕ) → begins f ≡ true → 1 ≤ pool_at f → offse
 unfolding pool_at offset_at slice_start
 begin_offset f h l = grind (arith, nat_tests)
 
--- postings of linked slices stand after the link
+-- postings of linked slices come after the link
 pub offset_linked : (f : ℕ) → 1 ≤ pool_at f → 1 ≤ offset_at f
 unfolding pool_at offset_at
 offset_linked f h = grind (arith, nat_tests)
@@ -145,7 +145,8 @@ link_fresh s ts t u c f fit hc hf b l e =
     let k = offset_linked f (omega (arith, w.0, l)) in
     omega (arith, w.2)
 
--- P holds of each element, as a data type: its lists are determined where it is used, unlike those of `All`
+-- P holds of each element, as a data type: its lists are determined where it is used, unlike those
+-- of `All`
 pub data Each {X : Type 0} (P : X → Type 0) : List X → Type 0 where
   none : Each P []
   more : {x : X} {xs : List X} → P x → Each P xs → Each P (x ∷ xs)

@@ -21,7 +21,7 @@ fits_before σ ts u fit = let d = distinct_push ts u in let few = fit.few in let
           record { few = omega (arith, length_push (distinct ts) u); texts = omega (arith, sum_by_push text_words (distinct ts) u); slices = slices' }
     ]
 
--- front of a list of tokens
+-- prefix of a list of tokens
 pub fits_front : (σ : Setting) (ts us : List Term) → SegmentFits σ (ts ++ us) → SegmentFits σ ts
 fits_front σ ts [] fit = subst (SegmentFits σ) (append-nil ts) fit
 fits_front σ ts (u ∷ us) fit = fits_before σ ts u (fits_front σ (ts ++ u ∷ []) us (subst (SegmentFits σ) (sym (append_assoc ts (u ∷ []) us)) fit))

@@ -56,7 +56,7 @@ reaches_on a b c r s = record { accepted = prefix_trans _ _ _ r.accepted s.accep
 pub later_on : (l m n : Moment) → IsNotBefore m l → IsNotBefore n m → IsNotBefore n l
 later_on l m n r s = record { setting = r.setting ∙ s.setting; documents = reaches_on _ _ _ r.documents s.documents; conversions = packed_on _ _ _ r.conversions s.conversions }
 
--- one store more is later
+-- one more store is later
 pub reaches_stored : (docs : List Doc) (c : Option (Doc × ℕ)) (d : Doc) (b : Bool) → IsCurrent c d → Reaches record { accepted = docs; current = c } (documents_after b docs d (suc (stores_done c)))
 reaches_stored docs None d true is = record { accepted = prefix_self docs; current = tt }
 reaches_stored docs None d false is = record { accepted = prefix_push docs d; current = tt }

@@ -185,7 +185,7 @@ get_seam : {X : Type 0} (xs ys : List X) (y : X) → slice_get (xs ++ y ∷ ys) 
 get_seam [] ys y = refl
 get_seam (x ∷ xs) ys y = get_seam xs ys y
 
--- the element after a front
+-- the element after a prefix
 pub get_at : {X : Type 0} (xs ys : List X) (y : X) (k : ℕ) → k ≡ length xs → slice_get (xs ++ y ∷ ys) k ≡ Some y
 get_at xs ys y k e = ap (slice_get (xs ++ y ∷ ys)) e ∙ get_seam xs ys y
 

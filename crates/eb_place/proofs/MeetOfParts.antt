@@ -9,7 +9,8 @@ use Rattle.eb_place.specs.Meets.{rank, is_behind, later_documents}
 use Rattle.eb_place.proofs.Prefixes.{prefix_shorter, prefix_whole, prefix_length, prefix_next}
 use Rattle.eb_place.proofs.LaterMoments.{reaches_self}
 
--- of two parts before one, the one with fewer accepted documents, or with as many and no higher rank, is not after the other
+-- of two parts before one, the one with fewer accepted documents, or with as many and no higher
+-- rank, is not after the other
 behind_fewer : (a b c : Documents) → Reaches a c → Reaches b c → length a.accepted < length b.accepted → Reaches a b
 behind_fewer a b c r s less = record { accepted = prefix_shorter _ _ _ r.accepted s.accepted (omega arith); current = goes a.current r.current }
   where

@@ -13,7 +13,7 @@ use Rattle.eb_place.specs.Moments.{value_after}
 use Rattle.eb_place.proofs.TermCounts.{same_term, count_of-nil, count_of-cons}
 use Rattle.eb_place.proofs.AddressesDiffer.{front_away, front_first, front_later}
 
--- where the term stands no more often, the front is all
+-- where the term occurs no more often, the prefix is all
 pub front_all : (t : Term) (n : ℕ) (ts : List Term) → count_of t ts ≤ n → front_of t n ts ≡ ts
 unfolding front_of
 front_all t zero [] h = refl
@@ -27,7 +27,7 @@ front_all t (suc n) (u ∷ us) h = let d = count_of-cons t u us in elim (cases_B
   | inr away ↦ let d' = rw away at d in front_away t u (suc n) us away ∙ ap (λ (x : List Term). u ∷ x) (front_all t (suc n) us (omega arith))
 ]
 
--- the same front before and after the token itself comes
+-- the same prefix before and after the token itself comes
 pub front_here : (t : Term) (n : ℕ) (xs ys : List Term) → n ≤ count_of t xs → front_of t n (xs ++ t ∷ ys) ≡ front_of t n xs
 front_here t zero [] ys h = front_first t t ys (same_term t) ∙ sym (front_all t zero [] (omega (arith, count_of-nil t)))
 front_here t (suc n) [] ys h = let e = count_of-nil t in absurd (omega arith)
@@ -70,7 +70,7 @@ tokens_stores-append σ s n p before (x ∷ xs) ys =
     ∙ ap (λ (z : List Term). tokens_stores σ s n (p + 1) (before ++ x ∷ []) xs ++ tokens_stores σ s n (p + suc (length xs)) z ys) a)
     ∙ sym (append_assoc (token_stores σ s before x (posting_of n p)) (tokens_stores σ s n (p + 1) (before ++ x ∷ []) xs) (tokens_stores σ s n (p + suc (length xs)) (before ++ (x ∷ xs)) ys))
 
--- of a list that goes on with `now` and then `rest` at place i, `rest` stands after `now`
+-- of a list that goes on with `now` and then `rest` at place i, `rest` comes after `now`
 pub next_rest : (xs now rest : List Store) (i : ℕ) → drop i xs ≡ now ++ rest → drop (i + length now) xs ≡ rest
 next_rest xs now rest i h = sym (drop-drop (length now) i xs) ∙ ap (drop (length now)) h ∙ drop_at now rest (length now) refl
 

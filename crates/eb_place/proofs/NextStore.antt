@@ -1,4 +1,4 @@
--- One store more: the next pair of a placing changes one word, and the moment stays one.
+-- One more store: the next pair of a placing changes one word, and the moment stays one.
 use Rattle.std.proofs.Common.{◌≡◌, ℕ, zero, suc, ◌+◌, ◌<◌, ◌≤◌, ◌==◌, Bool, true, false, cond, ltb, List, [], ◌∷◌, ◌++◌, length}
 use Rattle.std.proofs.Common.{take, refl, ap, sym, ◌∙◌, subst, arith, if◌then◌else◌, append-nil, append_assoc, Option, Some, None}
 use Rattle.std.specs.Prelude.{slice_get}

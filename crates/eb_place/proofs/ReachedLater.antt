@@ -118,7 +118,7 @@ pub later_address : (m n : Moment) (s : ℕ) (t : Term) (f : ℕ) → IsMoment m
 later_address m n s t f is l h r = let p = later_segment m n s l in
     ap (λ z. address_of t f (terms_of z)) (sym p.1) ∙ ap (address_of t f) (terms_more (segment m s) p.0) ∙ address_stays t f (terms_of (segment m s)) (terms_of p.0) (in_segment m s t f is h r)
 
--- what was seen of a term is the front of its postings later
+-- what was seen of a term is a prefix of its postings later
 pub later_postings : (m n : Moment) (s : ℕ) (t : Term) (k : ℕ) → IsNotBefore n m → k ≤ seen_count m s t → take k (postings t (segment n s)) ≡ take k (postings t (segment m s))
 later_postings m n s t k l r = let p = later_segment m n s l in let q = postings_more t (segment m s) p.0 in
     ap (λ z. take k (postings t z)) (sym p.1) ∙ ap (take k) q.1 ∙ take-append-le k (postings t (segment m s)) q.0 (omega (arith, reached_few m s t))

@@ -1,4 +1,5 @@
--- Reached words stay: where a walk from a tail reaches a word, its value is the same at every later moment.
+-- Reached words stay: where a walk from a tail reaches a word, its value is the same at every later
+-- moment.
 use Rattle.std.proofs.Common.{◌≡◌, ℕ, suc, ◌-◌, ◌<◌, get_or, ap, sym, ◌∙◌, subst, arith}
 use Rattle.std.proofs.lemmas.List.{get_or_append_left}
 use Rattle.eb_base.specs.Term.{Term}

@@ -99,7 +99,7 @@ reached_is m s t is h =
     reached_by : Moment → ℕ → Term → ℕ
     reached_by m s t = length (take (times m.setting (document_stores m.setting m.documents) (slot s tail_region (number_of t (terms_of (segment m s))))) (postings t (segment m s)))
 
--- what is seen is the front of that length
+-- what is seen is the prefix of that length
 pub seen_is : (m : Moment) (s : ℕ) (t : Term) → seen m s t ≡ take (seen_count m s t) (postings t (segment m s))
 unfolding seen_count
 seen_is m s t = sym (ap (λ k. take k (postings t (segment m s))) (length-take (tails_done m s t) (postings t (segment m s))) ∙ take_min (tails_done m s t) (postings t (segment m s)))
@@ -255,7 +255,7 @@ small_list t (w ∷ ws) f (more i h) = elim (cases_Bool (bytes_eq t w.term)) [
     head zero rest = i
     head (suc f) rest = rest f
 
--- a posting has so many bits
+-- a posting has this many bits
 pub posting_small : (m : Moment) (s : ℕ) (t : Term) (f : ℕ) → IsMoment m → posting_in m s t f < 2 ^ posting_bits
 unfolding postings tokens
 posting_small m s t f is =

@@ -179,7 +179,7 @@ firsts_away s v r seg count h =
 lasts_away : (s v n id count : ℕ) (r : Region) → (rank id_region == rank r) ≡ false → count_in v r ((slot s id_region n, id) ∷ (published, count + 1) ∷ []) ≡ 0
 lasts_away s v n id count r h = count_none (is_in v r) ((slot s id_region n, id) ∷ (published, count + 1) ∷ []) (more (not_in v s r id_region n id h) (more refl none))
 
--- so much of a document in its segment, and nothing in another
+-- this much of a document in its segment, and nothing in another
 pub doc_tails : (σ : Setting) (s : ℕ) (seg : List Doc) (count : ℕ) (d : Doc) → count_in s tail_region (stores_in σ s seg count d) ≡ length d.terms
 doc_tails σ s seg count d =
     let T = tokens_stores σ s (length seg) 0 (terms_of seg) d.terms in

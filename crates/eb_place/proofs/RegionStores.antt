@@ -47,7 +47,8 @@ count_by-append p xs ys = sum_by-append (λ y. cond (p y) 1 0) xs ys
 pub count_none : {X : Type 0} (p : X → Bool) (xs : List X) → Each (λ y. p y ≡ false) xs → count_by p xs ≡ 0
 count_none p xs h = sym (length-filter p xs) ∙ ap length (filter_none p xs h)
 
--- of the tokens of segment s exactly these stores pass the test, and of all other stores of a history none
+-- of the tokens of segment s exactly these stores pass the test, and of all other stores of a
+-- history none
 pub record Picks (σ : Setting) (s : ℕ) (p : Store → Bool) (of : List Term → List Store) : Type 0 where
   pub nothing : of [] ≡ []
   pub token : (ts : List Term) (u : Term) (x : ℕ) → of (ts ++ u ∷ []) ≡ of ts ++ filter p (token_stores σ s ts u x)
@@ -128,7 +129,7 @@ picks_all σ s p of k = by_push (λ docs. filter p (placings σ docs) ≡ of (te
 
 -- ---- at a moment
 
--- what is done is the front of the stores of the whole history
+-- what is done is a prefix of the stores of the whole history
 pub started_stores : (σ : Setting) (docs : List Doc) (c : Option (Doc × ℕ)) → IsPrefix (placings σ docs ++ current_stores σ docs c) (placings σ (docs ++ current_of c))
 started_stores σ docs None = ([], append-nil (placings σ docs ++ []) ∙ append-nil (placings σ docs) ∙ ap (placings σ) (sym (append-nil docs)))
 started_stores σ docs (Some c) = (
@@ -137,7 +138,7 @@ started_stores σ docs (Some c) = (
       ∙ ap (λ z. placings σ docs ++ z) (take-append-drop c.1 (doc_stores σ docs c.0)) ∙ sym (placings_push σ docs c.0),
 )
 
--- of a front, the kept ones are a front
+-- of a prefix, the kept ones are a prefix
 pub filter_prefix : {X : Type 0} (p : X → Bool) (xs ys : List X) → IsPrefix xs ys → IsPrefix (filter p xs) (filter p ys)
 filter_prefix p xs ys h = (filter p h.0, sym (filter-append p xs h.0) ∙ ap (filter p) h.1)
 

@@ -1,4 +1,5 @@
--- Each word but the count and the tails is stored at most once: how stores mark the words of a segment.
+-- Each word but the count and the tails is stored at most once: how stores mark the words of a
+-- segment.
 use Rattle.std.proofs.Common.{◌≡◌, ℕ, zero, suc, ◌+◌, ◌-◌, ◌*◌, ◌/◌, ◌%◌, ◌^◌, ◌<◌, ◌≤◌, ◌==◌, ◌&&◌, ◌⊎◌, Bool, true, false, List, [], ◌∷◌}
 use Rattle.std.proofs.Common.{◌++◌, length, refl, ap, sym, ◌∙◌, subst, arith, inl, inr, if◌then◌else◌, nat_le, sum_by, append-nil, append_assoc}
 use Rattle.std.proofs.lemmas.Bool.{cases_Bool, and_parts, false≢true, eq-eqb, eqb-true, or_left, or_right}

@@ -25,7 +25,7 @@ pub Each-back : {X : Type 0} {Q : X → Type 0} (xs ys : List X) → Each Q (xs 
 Each-back [] ys h = h
 Each-back (x ∷ xs) ys (more h t) = Each-back xs ys t
 
--- the front of tokens that find room finds room
+-- a prefix of tokens that find room finds room
 pub room_before : (σ : Setting) (s : ℕ) (ts us : List Term) → Room σ s (ts ++ us) → Room σ s ts
 room_before σ s ts us r = record { inside = r.inside; small = r.small; some = r.some; fits = fits_front σ ts us r.fits }
 
@@ -100,7 +100,7 @@ tokens_done σ s n p ts (u ∷ us) P L room a h =
     subst (λ z. Reached σ s z P (L ++ (token_stores σ s ts u (posting_of n p) ++ tokens_stores σ s n (p + 1) (ts ++ u ∷ []) us))) e
     (subst (Reached σ s ((ts ++ u ∷ []) ++ us) P) (append_assoc L (token_stores σ s ts u (posting_of n p)) (tokens_stores σ s n (p + 1) (ts ++ u ∷ []) us)) rest)
 
--- a front that goes past a list
+-- a prefix that goes past a list
 pub take_over : (r : ℕ) (xs ys : List Store) → length xs ≤ r → take r (xs ++ ys) ≡ xs ++ take (r - length xs) ys
 take_over r [] ys l = ap (λ k. take k ys) (let e : r ≡ r - 0 = omega arith in e)
 take_over zero (x ∷ xs) ys l = absurd (omega arith)

@@ -90,7 +90,7 @@ slices_more_3 : (f : ℕ) → slices 3 (f + 1) ≡ slices 3 f + one_if (begins_i
 unfolding pool_at offset_at slice_start
 slices_more_3 f = grind (arith, nat_tests)
 
--- one more posting takes a slice more exactly where it begins one
+-- one more posting takes one more slice exactly where it begins one
 pub slices_more : (p f : ℕ) → p < 4 → slices p (f + 1) ≡ slices p f + one_if (begins_in p f)
 slices_more zero f h = slices_more_0 f
 slices_more (suc zero) f h = slices_more_1 f

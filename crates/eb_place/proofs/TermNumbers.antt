@@ -9,7 +9,7 @@ use Rattle.eb_place.specs.Walk.{IsTerm}
 use Rattle.eb_place.proofs.TermNumbersStay.{number_low, number_once, number_absent}
 use Rattle.eb_place.proofs.EnteredTerms.{number_at}
 
--- a term stands among others as often at most as they are many
+-- a term occurs among others at most as often as they are many
 pub count_at_most : (t : Term) (ts : List Term) → count_of t ts ≤ length ts
 unfolding count_of
 count_at_most t [] = omega arith

@@ -23,7 +23,7 @@ position_new p (x ∷ xs) y h e = elim (cases_Bool (p x)) [
   | inr away ↦ let h' : list_any p xs ≡ false = rw away at h in let r = position_new p xs y h' e in (rw away (omega (arith, r.0)), rw away (omega (arith, r.1)))
 ]
 
--- a term that stands in a list is one of its distinct terms
+-- an element of a list is one of its distinct terms
 pub among : (t : Term) (ts : List Term) → 1 ≤ count_of t ts → list_any (bytes_eq t) (distinct ts) ≡ true
 among t ts h = any_count t (distinct ts) ∙ lt-ltb 0 (count_of t (distinct ts)) (omega (arith, once t ts))
 
@@ -82,7 +82,7 @@ position_after p (x ∷ xs) ys h = elim (cases_Bool (p x)) [
   | inr away ↦ let h' : list_any p xs ≡ false = rw away at h in rw away (omega (arith, position_after p xs ys h'))
 ]
 
--- the distinct terms of a front come first
+-- the distinct terms of a prefix come first
 pub distinct_more : (xs ys : List Term) → (rest : List Term) × (distinct (xs ++ ys) ≡ distinct xs ++ rest)
 distinct_more xs [] = ([], ap distinct (append-nil xs) ∙ sym (append-nil (distinct xs)))
 distinct_more xs (y ∷ ys) =

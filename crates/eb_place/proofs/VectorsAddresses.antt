@@ -1,4 +1,5 @@
--- The numbers that an address and a posting are made of, by the addresses of the last postings of one term.
+-- The numbers that an address and a posting are made of, by the addresses of the last postings of
+-- one term.
 use Rattle.std.proofs.Common.{◌≡◌, ℕ, refl}
 use Rattle.eb_place.specs.Layout.{address_number, address_pool, address_slice, address_offset}
 use Rattle.eb_place.specs.Postings.{posting_of, posting_document, posting_position}

@@ -1,4 +1,5 @@
--- The fullest documents fit the least segment: 1,024 terms, 4,096 text words, and 1,024, 512, 64 and 8 slices.
+-- The fullest documents fit the least segment: 1,024 terms, 4,096 text words, and 1,024, 512, 64
+-- and 8 slices.
 use Rattle.std.proofs.Common.{◌≡◌, ℕ, zero, suc, ◌+◌, ◌/◌, ◌%◌, true, List, [], ◌∷◌, ◌++◌, length, sum_by, refl, replicate}
 use Rattle.eb_base.specs.Term.{Term}
 use Rattle.eb_base.specs.Document.{Doc, bytes_of}
@@ -29,7 +30,8 @@ longest = different 0 896 15 ++ different 896 128 7
 longest_limits : length longest ∷ bytes_of longest ∷ [] ≡ 1024 ∷ 16384 ∷ []
 longest_limits = refl
 
--- they take so many text words; that they fit is the law that each document within the limits does
+-- they take this many text words; that they fit is the law that each document within the limits
+-- does
 longest_words : sum_by text_words longest ≡ 3968
 longest_words = refl
 

@@ -13,7 +13,8 @@ use Rattle.eb_place.specs.Placing.{append_stores, pairs_of}
 abbrev alone : ℕ → List Term
 alone n = replicate n (97 ∷ [])
 
--- after n postings: the slices of each pool, and the address of the last posting; the tail is one more
+-- after n postings: the slices of each pool, and the address of the last posting; the tail is one
+-- more
 abbrev after : ℕ → List ℕ × ℕ
 after n = (map (λ p. slices p n) (0 ∷ 1 ∷ 2 ∷ 3 ∷ []), address_of (97 ∷ []) (n - 1) (alone n))
 
@@ -77,7 +78,7 @@ link_2191 : link 2191 ≡ (1 + (2 + 26 * 8192 + 4096) + 2048, 3221227519) ∷ []
 unfolding append_stores place pool_slot start size distinct address_of front_of begun_after count_of pool_at offset_at slice_start
 link_2191 = refl
 
--- how many of the first 1,024 postings of a term stand in each pool
+-- how many of the first 1,024 postings of a term are in each pool
 pools_1024 : map (λ p. count_by (λ f. pool_at f == p) (range_with_len 0 1024)) (0 ∷ 1 ∷ 2 ∷ 3 ∷ []) ≡ 2 ∷ 15 ∷ 127 ∷ 880 ∷ []
 unfolding pool_at
 pools_1024 = refl

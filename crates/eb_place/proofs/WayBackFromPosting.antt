@@ -1,4 +1,5 @@
--- The way back from a posting: where its address stands in its slice, and the newest of the first postings.
+-- The way back from a posting: where its address is in its slice, and the newest of the first
+-- postings.
 use Rattle.std.proofs.Common.{◌≡◌, ℕ, zero, suc, ◌+◌, ◌*◌, ◌/◌, ◌%◌, ◌^◌, ◌<◌, ◌≤◌, true, false, List, [], ◌∷◌, length, take, reverse, get_or, refl, ap, ◌∙◌, arith}
 use Rattle.std.proofs.lemmas.Bool.Decides.{nat_tests}
 use Rattle.std.proofs.lemmas.List.{take_more, reverse-append}
@@ -7,7 +8,7 @@ use Rattle.eb_place.specs.Address.{pool_at, offset_at, slice_start, begins}
 use Rattle.eb_place.proofs.AddressesDiffer.{pool_low, offset_in}
 use Rattle.eb_place.proofs.ReaderWords.{Parts}
 
--- an address tells its pool and its offset
+-- an address determines its pool and its offset
 fields : (p o x a : ℕ) → p < 4 → o < 2 ^ slice_bits p → x * 2 ^ slice_bits p + o < 2 ^ 30 → a ≡ p * 2 ^ 30 + x * 2 ^ slice_bits p + o → (a / 2 ^ 30 ≡ p) × (a % 2 ^ slice_bits p ≡ o)
 fields zero o x a h l k e = (omega arith, omega arith)
 fields (suc zero) o x a h l k e = (omega arith, omega arith)

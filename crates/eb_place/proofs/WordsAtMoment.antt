@@ -204,7 +204,7 @@ placed_after σ ys (z ∷ zs) k h p =
 pub placed_all : (σ : Setting) (docs : List Doc) → IsSetting σ → IsLawful σ docs → Placed σ docs
 placed_all σ docs k h = placed_after σ [] docs k h (placed_nothing σ k)
 
--- the front of a lawful history is lawful
+-- a prefix of a lawful history is lawful
 pub lawful_front : (σ : Setting) (xs ys : List Doc) → IsLawful σ (xs ++ ys) → IsLawful σ xs
 lawful_front σ xs ys h = record {
   documents = λ i d l. subst IsDocument (get_or_append_left xs ys d i l) (h.documents i d (omega (arith, length-append xs ys)));

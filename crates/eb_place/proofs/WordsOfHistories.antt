@@ -26,7 +26,7 @@ pub record Goes (σ : Setting) (segs : List (List Doc)) (d : Doc) (new : List (L
   pub old : get_or segs last [] ≡ before
   pub other : (s : ℕ) → s ≢ last → get_or new s [] ≡ get_or segs s []
 
--- the documents that it stands after in its segment
+-- the documents before it in its segment
 abbrev pub before_in : Setting → List (List Doc) → Doc → List Doc
 before_in σ segs d = if fits σ (last_of segs) d then last_of segs else []
 
@@ -115,7 +115,7 @@ terms_in ws = map (λ w. w.term) ws
 abbrev pub postings_in : Term → List Token → List ℕ
 postings_in t ws = map (λ w. w.posting) (filter (λ w. bytes_eq t w.term) ws)
 
--- they are as many as it stands there
+-- they are as many as it occurs there
 pub length-postings_in : (t : Term) (ws : List Token) → length (postings_in t ws) ≡ count_of t (terms_in ws)
 length-postings_in t [] = sym (count_of-nil t)
 length-postings_in t (w ∷ ws) = let d = count_of-cons t w.term (terms_in ws) in let ih = length-postings_in t ws in elim (cases_Bool (bytes_eq t w.term)) [

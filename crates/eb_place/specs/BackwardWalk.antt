@@ -1,4 +1,4 @@
--- A backward walk over the words of a segment's pools, and what it meets.
+-- A backward walk over the words of a segment's pools, and what it reads.
 use Rattle.std.specs.Prelude.{◌≡◌, ℕ, suc, ◌+◌, ◌-◌, ◌&&◌, Bool, List, [], ◌∷◌, ◌++◌, reverse, All, if◌then◌else◌, ◌==◌, nat_le}
 use Rattle.eb_base.specs.Term.{Term}
 use Rattle.eb_place.specs.declared.moment.Moment.{Moment}
@@ -22,12 +22,13 @@ tail_word m s k = word m (place m.setting (slot s tail_region k))
 abbrev pub is_first_linked : ℕ → Bool
 is_first_linked at = nat_le 1 (address_pool at) && (address_offset at == 1)
 
--- from an address one more than the address where the walk goes on, or 0 where it ends: it ends at offset
--- 0 of pool 0; from the first posting of a linked slice it goes where the link says; else one place back
+-- from an address, one more than the address where the walk goes on, or 0 where it ends: it ends at
+-- offset 0 of pool 0; from the first posting of a linked slice it goes where the link says; else
+-- one place back
 abbrev pub goes_on : (ℕ → ℕ) → ℕ → ℕ
 goes_on words at = if (address_pool at == 0) && (address_offset at == 0) then 0 else if is_first_linked at then (words (at - 1) + 1) else at
 
--- the addresses that the walk reads there: that of the posting, and that of the link
+-- the addresses that the walk reads there: the one of the posting, and the one of the link
 abbrev pub reads : ℕ → List ℕ
 reads at = at ∷ (if is_first_linked at then ((at - 1) ∷ []) else [])
 
@@ -36,8 +37,8 @@ pub data IsWalk (words : ℕ → ℕ) : ℕ → List ℕ → List ℕ → Type 0
   ends : IsWalk words 0 [] []
   gives : {at : ℕ} {addresses postings : List ℕ} → IsWalk words (goes_on words at) addresses postings → IsWalk words (suc at) (reads at ++ addresses) (words at ∷ postings)
 
--- from the tail word of a term at a moment a walk gives the reverse of what is seen of it, and each word
--- that it reads has the same value in every later moment
+-- from the tail word of a term at a moment a walk gives the reverse of what is seen of it, and each
+-- word that it reads has the same value in every later moment
 pub record WalkStays (m n : Moment) (s : ℕ) (t : Term) (k : ℕ) : Type 0 where
   pub addresses : List ℕ
   pub walk : IsWalk (pool_word m s) (tail_word m s k) addresses (reverse (seen m s t))

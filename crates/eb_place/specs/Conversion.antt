@@ -10,8 +10,9 @@ use Rattle.eb_place.specs.Packed.{packed}
 use Rattle.eb_place.specs.Room.{cut}
 use Rattle.eb_place.specs.Placing.{Store, in_row, pairs_of}
 
--- the stores of the terms from number k on, with `start` packed words in use: the words of the packed list
--- of each, and then its directory word, where the list begins and how many postings it has
+-- the stores of the terms from number k on, with `start` packed words in use: the words of the
+-- packed list of each, and then its directory word, where the list begins and how many postings it
+-- has
 unfoldable pub pack_stores : ℕ → List Doc → ℕ → ℕ → List Term → List Store
 pack_stores s seg start k [] = []
 pack_stores s seg start k (t ∷ ts) = in_row s packed_region start (packed t seg)

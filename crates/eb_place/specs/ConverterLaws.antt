@@ -14,7 +14,8 @@ use Rattle.eb_place.specs.Walk.{IsTerm}
 use Rattle.eb_place.specs.Falling.{IsFalling, AllBelow}
 use Rattle.eb_place.specs.PackedLists.{IsConverted, list_start, newest_first, packed_words}
 
--- the next store of a conversion stays the next one while documents grow and no conversion store is done
+-- the next store of a conversion stays the next one while documents grow and no conversion store is
+-- done
 abbrev pub NextPutStays : Type 0
 NextPutStays = (m n : Moment) (at value : ℕ) → IsNotBefore n m → n.conversions ≡ m.conversions → IsNextPut m at value → IsNextPut n at value
 
@@ -26,7 +27,8 @@ pub record TellsConverted (m : Moment) (s : ℕ) : Type 0 where
 abbrev pub ConvertedWordsTell : Type 0
 ConvertedWordsTell = (m : Moment) (s : ℕ) → IsMoment m → s < m.setting.segments → TellsConverted m s
 
--- the directory word of a term of a converted segment: where its packed list begins, and how many postings it has
+-- the directory word of a term of a converted segment: where its packed list begins, and how many
+-- postings it has
 abbrev pub DirectoryTells : Type 0
 DirectoryTells = (m : Moment) (s : ℕ) (t : Term) (k : ℕ) → IsMoment m → IsConverted m s → IsTerm m s t k
     → word m (place m.setting (slot s directory_region k)) ≡ list_start (segment m s) k * 2 ^ 32 + frequency t (segment m s)
@@ -36,7 +38,8 @@ abbrev pub PackedWordsTell : Type 0
 PackedWordsTell = (m : Moment) (s : ℕ) (t : Term) (k i : ℕ) → IsMoment m → IsConverted m s → IsTerm m s t k → i < length (packed_words m s t)
     → word m (place m.setting (slot s packed_region (list_start (segment m s) k + i))) ≡ get_or (packed_words m s t) i 0
 
--- what is converted stays as it is: a converted segment is so at each later moment, and has the same documents
+-- what is converted stays as it is: a converted segment is converted at each later moment, and has
+-- the same documents
 pub record StaysConverted (m n : Moment) (s : ℕ) : Type 0 where
   pub converted : IsConverted n s
   pub same : segment n s ≡ segment m s

@@ -1,4 +1,4 @@
--- Where each word of the index stands.
+-- Where each word of the index is.
 use Rattle.std.specs.Prelude.{ℕ, zero, suc, ◌+◌, ◌*◌, ◌/◌, ◌%◌, ◌^◌, ◌<◌, List, [], ◌∷◌, get_or}
 use Rattle.eb_base.specs.Setting.{Setting}
 
@@ -22,12 +22,12 @@ rank pool_3 = 10
 rank directory_region = 11
 rank packed_region = 12
 
--- the words of each region, in order: the first-document word, the converted word, cells, text places,
--- tails, text words, ids, the four pools, the directory, packed words
+-- the words of each region, in order: the first-document word, the converted word, cells, text
+-- places, tails, text words, ids, the four pools, the directory, packed words
 abbrev pub sizes : Setting → List ℕ
 sizes σ = 1 ∷ 1 ∷ (2 * σ.terms) ∷ σ.terms ∷ σ.terms ∷ (4 * σ.terms) ∷ σ.docs ∷ (2 * σ.terms) ∷ (8 * σ.terms) ∷ (8 * σ.terms) ∷ (16 * σ.terms) ∷ σ.terms ∷ (34 * σ.terms) ∷ []
 
--- the words in front of region r, where these are the sizes
+-- the words before region r, where these are the sizes
 abbrev pub starts_at : List ℕ → ℕ → ℕ
 starts_at [] r = 0
 starts_at (n ∷ ns) zero = 0
@@ -71,7 +71,8 @@ pool_slices σ (suc zero) = σ.terms / 2
 pool_slices σ (suc (suc zero)) = σ.terms / 16
 pool_slices σ (suc (suc (suc p))) = σ.terms / 128
 
--- the address of a place of a slice: the pool in the highest two of 32 bits, below it the place in the pool
+-- the address of a place of a slice: the pool in the highest two of 32 bits, below it the place in
+-- the pool
 abbrev pub address_number : ℕ → ℕ → ℕ → ℕ
 address_number pool slice offset = pool * 2 ^ 30 + slice * 2 ^ slice_bits pool + offset
 

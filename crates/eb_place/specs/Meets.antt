@@ -10,7 +10,7 @@ abbrev pub rank : Option (Doc × ℕ) → ℕ
 rank None = 0
 rank (Some c) = suc c.1
 
--- fewer documents are accepted, or as many and less far is the next one placed
+-- fewer documents are accepted in the first, or as many, and less of the next one is placed
 abbrev pub is_behind : Documents → Documents → Bool
 is_behind a b = cond (ltb (length a.accepted) (length b.accepted)) true (cond (ltb (length b.accepted) (length a.accepted)) false (ltb (rank a.current) (rank b.current)))
 

@@ -15,7 +15,7 @@ abbrev pub current_of : Option (Doc × ℕ) → List Doc
 current_of None = []
 current_of (Some c) = c.0 ∷ []
 
--- the history, and after it the document that is being placed
+-- the history, and then the document that is being placed
 abbrev pub with_current : Documents → List Doc
 with_current x = x.accepted ++ current_of x.current
 
@@ -42,7 +42,8 @@ unfoldable pub conversions : Setting → List Doc → ℕ → List Store
 conversions σ docs zero = []
 conversions σ docs (suc s) = conversions σ docs s ++ segment_stores σ docs s
 
--- the converter's stores: those of the converted segments, and the first ones of the next conversion
+-- the converter's stores: those of the converted segments, and the first ones of the next
+-- conversion
 unfoldable pub conversion_stores : Setting → List Doc → Conversions → List Store
 conversion_stores σ docs c = conversions σ docs c.converted ++ take c.packed (segment_stores σ docs c.converted)
 
@@ -68,9 +69,9 @@ abbrev pub IsBegun : Setting → List Doc → Option (Doc × ℕ) → Type 0
 IsBegun σ docs None = Unit {0}
 IsBegun σ docs (Some c) = (1 ≤ c.1) × (c.1 < length (doc_stores σ docs c.0))
 
--- a moment that an index can be in: an allowed setting, a lawful history, also with the document that is
--- being placed, which is begun; each converted segment is closed, and so is the next one where stores of
--- its conversion are done, which are not all of them
+-- a moment that an index can be in: an allowed setting; a lawful history, also with the document
+-- that is being placed, which is begun; each converted segment is closed, and so is the next one
+-- where some stores of its conversion are done, which are never all of them
 pub record IsMoment (m : Moment) : Type 0 where
   pub setting : IsSetting m.setting
   pub lawful : IsLawful m.setting (with_current m.documents)

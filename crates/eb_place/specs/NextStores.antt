@@ -15,7 +15,7 @@ abbrev pub stores_done : Option (Doc × ℕ) → ℕ
 stores_done None = 0
 stores_done (Some c) = c.1
 
--- no document is being placed but this one
+-- no other document is being placed
 abbrev pub IsCurrent : Option (Doc × ℕ) → Doc → Type 0
 IsCurrent None d = Unit {0}
 IsCurrent (Some c) d = c.0 ≡ d
@@ -27,7 +27,8 @@ pub record IsNext (m : Moment) (d : Doc) (at value : ℕ) : Type 0 where
   pub current : IsCurrent m.documents.current d
   pub pair : slice_get (pairs_of m.setting (doc_stores m.setting m.documents.accepted d)) (stores_done m.documents.current) ≡ Some (at, value)
 
--- these are the next stores of the placing of the document, which has room; no other document is being placed
+-- these are the next stores of the placing of the document, which has room; no other document is
+-- being placed
 pub record AreNext (m : Moment) (d : Doc) (stores : List Store) : Type 0 where
   pub limits : IsDocument d
   pub room : HasRoom m.setting m.documents.accepted d
@@ -42,7 +43,8 @@ with_stores x d n = record { accepted = x.accepted; current = Some (d, stores_do
 abbrev pub with_placed : Moment → Doc → ℕ → Moment
 with_placed m d n = record { setting = m.setting; documents = with_stores m.documents d n; conversions = m.conversions }
 
--- the documents with i stores of document d done: it is being placed where there are more, else it is accepted
+-- the documents with i stores of document d done: it is being placed where it has more stores, else
+-- it is accepted
 abbrev pub documents_after : Bool → List Doc → Doc → ℕ → Documents
 documents_after true docs d i = record { accepted = docs; current = Some (d, i) }
 documents_after false docs d i = record { accepted = docs ++ d ∷ []; current = None }
@@ -60,7 +62,7 @@ pub record IsNextPut (m : Moment) (at value : ℕ) : Type 0 where
   pub closed : IsClosed m m.conversions.converted
   pub pair : slice_get (pairs_of m.setting (segment_stores m.setting (with_current m.documents) m.conversions.converted)) m.conversions.packed ≡ Some (at, value)
 
--- the conversions with one store more: the segment is converted where there are no more
+-- the conversions with one more store: the segment is converted where there are no more
 abbrev pub conversions_after : Bool → Conversions → Conversions
 conversions_after true c = record { converted = c.converted; packed = suc c.packed }
 conversions_after false c = record { converted = suc c.converted; packed = 0 }

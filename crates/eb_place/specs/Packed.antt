@@ -34,7 +34,7 @@ block_of width xs = (slice_index xs 0 * 2 ^ 16 + width * 2 ^ 8 + length xs)
 unfoldable pub block : List ℕ → List ℕ
 block xs = block_of (width_of (fold max 0 (differences xs))) xs
 
--- blocks of 128 from the front; as many turns as elements are enough
+-- blocks of 128 from the start; as many turns as elements are enough
 abbrev pub blocks : ℕ → List ℕ → List ℕ
 blocks zero xs = []
 blocks (suc n) [] = []

@@ -1,4 +1,4 @@
--- The packed list of a term of a converted segment: what it holds, and where it stands.
+-- The packed list of a term of a converted segment: what it holds, and where it is.
 use Rattle.std.specs.Prelude.{ℕ, ◌<◌, List, length, reverse, sum_by, take}
 use Rattle.eb_base.specs.Term.{Term}
 use Rattle.eb_base.specs.Document.{Doc}
@@ -11,7 +11,7 @@ use Rattle.eb_place.specs.Seen.{segment}
 abbrev pub IsConverted : Moment → ℕ → Type 0
 IsConverted m s = s < m.conversions.converted
 
--- how many packed words stand before those of term number k of a segment
+-- how many packed words come before those of term number k of a segment
 unfoldable pub list_start : List Doc → ℕ → ℕ
 list_start seg k = sum_by (λ t. length (packed t seg)) (take k (distinct (terms_of seg)))
 

@@ -42,11 +42,12 @@ text_of t = length t ∷ eights ((length t + 7) / 8) t
 abbrev pub hash : Term → ℕ
 hash t = fold (λ h b. (h * 31 + b) % 2 ^ 32) 0 t
 
--- the cell where the search for a term begins
+-- the cell where the lookup of a term begins
 abbrev pub home_cell : ℕ → Term → ℕ
 home_cell cells t = hash t % cells
 
--- the first cell at or after c that is free, wrapping; as many tests as there are taken cells are enough
+-- the first cell at or after c that is free, wrapping; as many tests as there are taken cells are
+-- enough
 abbrev pub free_from : ℕ → List ℕ → ℕ → ℕ → ℕ
 free_from cells taken zero c = c
 free_from cells taken (suc n) c = if list_any (λ k. c == k) taken then free_from cells taken n ((c + 1) % cells) else c
@@ -69,8 +70,8 @@ enter_stores σ s terms t = in_row s text_region (sum_by text_words terms) (text
     ++ (slot s text_place_region (length terms), sum_by text_words terms)
     ∷ (slot s cell_region (cell_of_next (2 * σ.terms) terms t), length terms + 1) ∷ []
 
--- the stores of a posting of a term that has f before it: the link where it begins a slice that has one,
--- the posting, the tail
+-- the stores of a posting of a term that has f before it: the link where it begins a slice that has
+-- one, the posting, the tail
 unfoldable pub append_stores : ℕ → List Term → Term → ℕ → ℕ → List Store
 append_stores s before t f posting = (if begins f && nat_le 1 (pool_at f) then ((pool_slot s (address_of t f before - 1), address_of t (f - 1) before) ∷ []) else [])
     ++ (pool_slot s (address_of t f before), posting) ∷ (slot s tail_region (number_of t before), address_of t f before + 1) ∷ []
@@ -85,14 +86,15 @@ unfoldable pub tokens_stores : Setting → ℕ → ℕ → ℕ → List Term →
 tokens_stores σ s n p before [] = []
 tokens_stores σ s n p before (t ∷ ts) = token_stores σ s before t (posting_of n p) ++ tokens_stores σ s n (p + 1) (before ++ t ∷ []) ts
 
--- the stores of a document in segment s after the documents seg, with `count` documents before it in all:
--- the first-document word where it begins the segment, its tokens, its id, and the greater count
+-- the stores of a document in segment s after the documents seg, with `count` documents before it
+-- in all: the first-document word where it begins the segment, its tokens, its id, and the greater
+-- count
 unfoldable pub stores_in : Setting → ℕ → List Doc → ℕ → Doc → List Store
 stores_in σ s seg count d = (if length seg == 0 then ((slot s first_region 0, count + 1) ∷ []) else [])
     ++ tokens_stores σ s (length seg) 0 (terms_of seg) d.terms
     ++ (slot s id_region (length seg), d.id) ∷ (published, count + 1) ∷ []
 
--- the documents that stand before d in its segment
+-- the documents that come before d in its segment
 abbrev pub segment_before : Setting → List Doc → Doc → List Doc
 segment_before σ docs d = if fits σ (last_of (cut σ docs)) d then last_of (cut σ docs) else []
 

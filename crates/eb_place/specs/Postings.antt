@@ -1,5 +1,5 @@
 -- The postings of a segment, and its terms in order of first appearance.
-use Rattle.std.specs.Prelude.{ℕ, ◌+◌, ◌*◌, ◌/◌, ◌%◌, ◌^◌, List, [], ◌∷◌, ◌++◌, length, map, filter, fold, flat_map, if◌then◌else◌, bytes_eq}
+use Rattle.std.specs.Prelude.{ℕ, ◌+◌, ◌*◌, ◌/◌, ◌%◌, ◌^◌, List, [], ◌∷◌, ◌++◌, length, map, filter, fold, flat_map, if◌then◌else◌, nat_lt, bytes_eq}
 use Rattle.std.specs.List.{list_any, position_or_len}
 use Rattle.eb_base.specs.Term.{Term}
 use Rattle.eb_base.specs.Document.{Doc}
@@ -28,12 +28,12 @@ posting_document posting = posting / places
 abbrev pub posting_position : ℕ → ℕ
 posting_position posting = posting % places
 
--- a term where it stands
+-- a term and where it occurs
 pub record Token : Type 0 where
   pub term : List ℕ
   pub posting : ℕ
 
--- the terms of document n from position p on, each where it stands
+-- the terms of document n from position p on, each with where it occurs
 abbrev pub tokens_from : ℕ → ℕ → List Term → List Token
 tokens_from n p [] = []
 tokens_from n p (t ∷ ts) = record { term = t; posting = posting_of n p } ∷ tokens_from n (p + 1) ts
@@ -47,7 +47,7 @@ segment_from n (d ∷ ds) = tokens_from n 0 d.terms ++ segment_from (n + 1) ds
 unfoldable pub tokens : List Doc → List Token
 tokens seg = segment_from 0 seg
 
--- the postings of a term: where it stands in the segment, rising
+-- the postings of a term: where it occurs in the segment, rising
 unfoldable pub postings : Term → List Doc → List ℕ
 postings t seg = map (λ w. w.posting) (filter (λ w. bytes_eq t w.term) (tokens seg))
 
@@ -55,16 +55,21 @@ postings t seg = map (λ w. w.posting) (filter (λ w. bytes_eq t w.term) (tokens
 abbrev pub frequency : Term → List Doc → ℕ
 frequency t seg = length (postings t seg)
 
+-- the numbers of a falling list that are at or below `most`
+abbrev pub at_most : ℕ → List ℕ → List ℕ
+at_most most [] = []
+at_most most (x ∷ xs) = if nat_lt most x then at_most most xs else (x ∷ xs)
+
 -- the terms of all tokens, in order
 unfoldable pub terms_of : List Doc → List Term
 terms_of seg = flat_map (λ d. d.terms) seg
 
--- how often a term stands in a list
+-- how often a term occurs in a list
 unfoldable pub count_of : Term → List Term → ℕ
 count_of t [] = 0
 count_of t (u ∷ us) = (if bytes_eq t u then 1 else 0) + count_of t us
 
--- the list with a term at its end that it doesn't hold yet
+-- the list with a term at its end that it doesn't have yet
 abbrev pub with_term : List Term → Term → List Term
 with_term seen t = if list_any (bytes_eq t) seen then seen else (seen ++ t ∷ [])
 
@@ -72,6 +77,6 @@ with_term seen t = if list_any (bytes_eq t) seen then seen else (seen ++ t ∷ [
 unfoldable pub distinct : List Term → List Term
 distinct ts = fold with_term [] ts
 
--- the number that the term has among these, or will get
+-- the number that the term has among these, or gets next
 abbrev pub number_of : Term → List Term → ℕ
 number_of t ts = position_or_len (bytes_eq t) (distinct ts)

@@ -17,12 +17,12 @@ slices (suc zero) f = if nat_lt 2 f then 1 else 0
 slices (suc (suc zero)) f = if nat_lt 17 f then 1 else 0
 slices (suc (suc (suc p))) f = (f - 144 + 2046) / 2047
 
--- the slices of a pool that the terms take together, each as often as it stands here
+-- the slices of a pool that the terms take together, each as often as it occurs here
 unfoldable pub all_slices : ℕ → List Term → ℕ
 all_slices p ts = sum_by (λ t. slices p (count_of t ts)) (distinct ts)
 
--- whether a segment has room for these documents: for so many, for so many distinct terms, for their
--- text words, and in each pool for their slices
+-- whether a segment has room for these documents: for their number, for their distinct terms, for
+-- their text words, and in each pool for their slices
 unfoldable pub holds : Setting → List Doc → Bool
 holds σ seg = nat_le (length seg) σ.docs && nat_le (length (distinct (terms_of seg))) σ.terms && nat_le (sum_by text_words (distinct (terms_of seg))) (4 * σ.terms)
     && nat_le (all_slices 0 (terms_of seg)) (pool_slices σ 0) && nat_le (all_slices 1 (terms_of seg)) (pool_slices σ 1)
@@ -52,7 +52,8 @@ last_of [] = []
 last_of (s ∷ []) = s
 last_of (s ∷ r ∷ rs) = last_of (r ∷ rs)
 
--- whether the index takes the document: a further segment can be begun, or the last one fits it
+-- whether the index takes the document: one more segment can be begun, or the document fits the
+-- last one
 unfoldable pub has_room : Setting → List Doc → Doc → Bool
 has_room σ docs d = nat_lt (length (cut σ docs)) σ.segments || fits σ (last_of (cut σ docs)) d
 
@@ -60,7 +61,7 @@ has_room σ docs d = nat_lt (length (cut σ docs)) σ.segments || fits σ (last_
 abbrev pub HasRoom : Setting → List Doc → Doc → Type 0
 HasRoom σ docs d = IsTrue (has_room σ docs d)
 
--- a history that an index can have: each document is one that can be made, and had room after those before it
+-- a history that an index can have: each document can be made, and had room after those before it
 pub record IsLawful (σ : Setting) (docs : List Doc) : Type 0 where
   pub documents : All IsDocument docs
   pub rooms : (k : ℕ) (d : Doc) → slice_get docs k ≡ Some d → HasRoom σ (take k docs) d

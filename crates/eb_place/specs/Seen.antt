@@ -11,7 +11,7 @@ use Rattle.eb_place.specs.Room.{cut}
 use Rattle.eb_place.specs.Placing.{Store, pairs_of}
 use Rattle.eb_place.specs.Moments.{with_current, document_stores}
 
--- the documents of a segment, that which is being placed included
+-- the documents of a segment, with the one that is being placed
 abbrev pub segment : Moment → ℕ → List Doc
 segment m s = get_or (cut m.setting (with_current m.documents)) s []
 
@@ -36,7 +36,8 @@ is_in s r (slot v q i, x) = (v == s) && (rank q == rank r)
 unfoldable pub stores_in_region : Moment → ℕ → Region → ℕ
 stores_in_region m s r = count_by (is_in s r) (document_stores m.setting m.documents)
 
--- the terms that are entered in a segment, in order of their numbers: those whose cell stores are done
+-- the terms that are entered in a segment, in order of their numbers: those whose cell stores are
+-- done
 unfoldable pub entered : Moment → ℕ → List Term
 entered m s = take (stores_in_region m s cell_region) (distinct (terms_of (segment m s)))
 

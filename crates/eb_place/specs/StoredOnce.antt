@@ -18,8 +18,8 @@ all_pairs σ docs = pairs_of σ (placings σ docs ++ conversions σ docs (length
 abbrev pub values_at : ℕ → List (ℕ × ℕ) → List ℕ
 values_at p xs = map (λ x. x.1) (filter (λ x. x.0 == p) xs)
 
--- each place but that of the count and those of the tails is stored at most once; the values stored to the
--- count rise, and so do those stored to each tail
+-- each place but that of the count and those of the tails is stored at most once; the values stored
+-- to the count rise, and so do those stored to each tail
 pub record StoresOnce (σ : Setting) (docs : List Doc) : Type 0 where
   pub once : (p : ℕ) → (p ≡ place σ published → ⊥) → ((s k : ℕ) → s < σ.segments → k < σ.terms → p ≡ place σ (slot s tail_region k) → ⊥) → length (values_at p (all_pairs σ docs)) ≤ 1
   pub count : IsStrictlyIncreasing (values_at (place σ published) (all_pairs σ docs))

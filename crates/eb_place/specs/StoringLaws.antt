@@ -29,7 +29,8 @@ pub record LiesIn (σ : Setting) (test : Region → Bool) (at : ℕ) : Type 0 wh
   pub passes : test region ≡ true
   pub is : at ≡ place σ (slot segment region index)
 
--- each store of a placing goes to the count or to a word of a region, none of which is the converter's
+-- each store of a placing goes to the count or to a word of a region, none of which is the
+-- converter's
 abbrev pub PlacingsLieInRegions : Type 0
 PlacingsLieInRegions = (σ : Setting) (docs : List Doc) (d : Doc) (at v : ℕ) → IsSetting σ → IsLawful σ (docs ++ d ∷ [])
     → Contains (placing σ docs d) (at, v) → (at ≡ 0) ⊎ LiesIn σ (λ r. not (is_converters r)) at

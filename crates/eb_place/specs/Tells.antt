@@ -6,8 +6,9 @@ use Rattle.eb_place.specs.Room.{cut, text_words}
 use Rattle.eb_place.specs.Address.{slices_begun}
 use Rattle.eb_place.specs.Seen.{entered, tokens_seen}
 
--- the numbers tell the segment at the moment: its accepted documents, its entered terms and their text
--- words, and the slices of each pool that are begun by postings whose tail stores are done
+-- the numbers describe the segment at the moment: its accepted documents, its entered terms and
+-- their text words, and the slices of each pool that are begun by postings whose tail stores are
+-- done
 pub record TellsSegment (u : Used) (m : Moment) (s : ℕ) : Type 0 where
   pub documents : u.documents ≡ length (get_or (cut m.setting m.documents.accepted) s [])
   pub terms : u.terms ≡ length (entered m s)

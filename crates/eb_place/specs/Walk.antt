@@ -1,4 +1,4 @@
--- What a reader's walk meets: reached postings, their addresses and links.
+-- What a reader's walk reads: reached postings, their addresses and links.
 use Rattle.std.specs.Prelude.{◌≡◌, ℕ, zero, suc, ◌+◌, ◌-◌, ◌<◌, ◌≤◌, true, get_or}
 use Rattle.eb_base.specs.Term.{Term}
 use Rattle.eb_place.specs.declared.moment.Moment.{Moment}
@@ -20,7 +20,8 @@ pub record IsAddress (m : Moment) (s : ℕ) (t : Term) (f at : ℕ) : Type 0 whe
   pub reached : f < seen_count m s t
   pub is : at ≡ address_in m s t f
 
--- the address of the link that leads to posting f: posting f + 1 is reached and begins a slice that has a link
+-- the address of the link that leads to posting f: posting f + 1 is reached and begins a slice that
+-- has a link
 pub record IsLink (m : Moment) (s : ℕ) (t : Term) (f at : ℕ) : Type 0 where
   pub inside : s < m.setting.segments
   pub reached : suc f < seen_count m s t

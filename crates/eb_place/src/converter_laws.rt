@@ -5,9 +5,10 @@ pub fn next_put_stays()
     ensures { NextPutStays }
 {}
 
-/// A law: the converter's words at each moment. The converted word of a segment is 1 exactly where the
-/// segment is converted; the directory word of a term of it says where the term's packed list begins and
-/// how many postings it has; and the packed words from there on are the packed list. Does nothing.
+/// A law: the converter's words at each moment. The converted word of a segment is 1 exactly where
+/// the segment is converted; the directory word of a term of it says where the term's packed list
+/// begins and how many postings it has; and the packed words from there on are the packed list.
+/// Does nothing.
 pub fn converted_words()
     ensures converted { ConvertedWordsTell }
     ensures directory { DirectoryTells }
@@ -19,7 +20,8 @@ pub fn converted_stays()
     ensures { ConvertedStays }
 {}
 
-/// A law: the postings of a term, newest first, fall, and each has the bits of a posting. Does nothing.
+/// A law: the postings of a term, newest first, fall, and each has the bits of a posting. Does
+/// nothing.
 pub fn postings_fall()
     ensures { PostingsFall }
 {}

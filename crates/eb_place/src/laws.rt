@@ -8,7 +8,7 @@ use eb_base::{Config, Document};
 pub fn each_document_fits(config: Config, document: &Document)
     ensures { Fits config [] document.now }
 {
-    // These calls say that the setting is allowed, and that the document is within the limits.
+    // These calls show that the setting is allowed, and that the document is within the limits.
     let _words = config.words();
     let _terms = document.terms();
 }
@@ -28,7 +28,8 @@ pub fn moments_meet()
     ensures { MomentsMeet }
 {}
 
-/// A law: the placing of a document and the conversion of a segment have no place in common. Does nothing.
+/// A law: the placing of a document and the conversion of a segment have no place in common. Does
+/// nothing.
 pub fn places_are_apart()
     ensures { PlacesAreApart }
 {}

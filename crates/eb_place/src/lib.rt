@@ -1,7 +1,7 @@
-//! The definitions of the index. `specs/` says which document fits which segment, where each posting
-//! goes, which stores place a document and which convert a segment, and what the words are at a moment.
-//! The calls give the places and the numbers that these definitions name; the traits say who may load and
-//! store the words. No call takes memory.
+//! The definitions of the index. `specs/` says which document fits which segment, where each
+//! posting goes, which stores place a document and which convert a segment, and what the words are
+//! at a moment. The functions compute the places and numbers that these definitions name. The
+//! traits say who may load and store the words. No call takes memory.
 #![tactic(auto)]
 
 mod converter_laws;

@@ -1,7 +1,7 @@
 use eb_base::{Config, Document};
 use std::collections::LinkedList;
 
-/// The documents part of a moment. No value of it is made: contracts speak of it.
+/// The documents part of a moment. No value of this type is ever made; contracts speak of it.
 pub struct Documents {
     /// The accepted documents, in order.
     pub accepted: LinkedList<Document>,
@@ -9,7 +9,7 @@ pub struct Documents {
     pub current: Option<(Document, u64)>,
 }
 
-/// The conversion part of a moment. No value of it is made: contracts speak of it.
+/// The conversion part of a moment. No value of this type is ever made; contracts speak of it.
 pub struct Conversions {
     /// How many segments are converted.
     pub converted: u64,
@@ -17,13 +17,13 @@ pub struct Conversions {
     pub packed: u64,
 }
 
-/// What the words of an index are at one time: a setting, and how far the writer and the converter
-/// came. No value of it is made: contracts speak of it.
+/// The state of an index's words at one time: a setting, and how far the writer and the converter
+/// have come. No value of this type is ever made; contracts speak of it.
 pub struct Moment {
     /// The setting of the index, which no store changes.
     pub setting: Config,
-    /// How far the writer came.
+    /// How far the writer has come.
     pub documents: Documents,
-    /// How far the converter came.
+    /// How far the converter has come.
     pub conversions: Conversions,
 }

@@ -11,8 +11,8 @@ use crate::slice_addresses::pool_of;
 use eb_base::Config;
 use std::marker::Model;
 
-/// Where each word of an index stands, by the setting of the index: its place, counted from 0. Place 0 is
-/// that of the count of accepted documents (this project's profile, docs/FORMATS.md).
+/// Where each word of an index is, by the index's setting: its place, counted from 0. Place 0 has
+/// the count of accepted documents (this project's profile, docs/FORMATS.md).
 #[derive(Clone, Copy, Debug, PartialEq, Eq)]
 pub struct Places {
     config: Config,
@@ -175,8 +175,10 @@ impl Places {
     }
 }
 
-// How many words for each term stand before a pool in its segment. They are the bytes of one number, so that it isn't
-// branched by the pool, which changes from one posting to the next.
+// How many words for each term are before a pool in its segment: bytes of one number, so that
+// nothing branches by the pool. A match of four became a table of jumps, and the pool changes from
+// one posting to the next: in an And of two words the processor guessed some fifty of these jumps
+// wrong (by callgrind's model).
 #[inline(always)]
 fn words_before(pool: u32) -> u64
     requires { pool < 4 }

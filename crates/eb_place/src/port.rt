@@ -9,12 +9,12 @@ use crate::steps::Steps;
 use eb_base::{Config, Document};
 use std::sync::ledger::Ledger;
 
-/// Who may load the words of an index.
+/// Loads the words of an index.
 ///
-/// A port stands for a moment of the words, or for each moment at which they are the same. Between two of
-/// its loads the words may grow, so a load may leave it standing for a later moment. What its loads leave
-/// as it is, is its fixed part (`keeps`); what a store or a put leaves, too, is `same`: which words it is
-/// a port of, and by which seat.
+/// A port stands for a moment of the words, or for each moment at which they are the same. Between
+/// two of its loads the words may grow, so after a load it may stand for a later moment. `keeps` is
+/// the fixed part, which loads don't change. `same` is what stores and puts don't change either:
+/// which words it is a port of, and by which seat.
 pub trait Port {
     // The moments that the port stands for.
     ghost stands: { Self → Moment → Type 0 };
@@ -28,9 +28,9 @@ pub trait Port {
         requires { (m : Moment) × stands self.now m }
         ensures { (m : Moment) → stands self.now m → result ≡ m.setting };
 
-    /// The word at a place that is below the number of words. The port then stands for the earlier moment
-    /// or a later one, the word is that of this moment, and the fixed part is as before. One step is
-    /// counted. Takes no memory.
+    /// The word at a place that is below the number of words. Afterwards the port stands for the
+    /// same moment or a later one, the word is that moment's, and the fixed part is as before. One
+    /// step is counted. Takes no memory.
     fn load<L: Ledger>(&mut self, place: u64, steps: &mut Steps<L>) -> u64
         requires { (m : Moment) × stands self.old m × (place < words_of m.setting) }
         ensures told { (m : Moment) → stands self.old m
@@ -51,11 +51,11 @@ pub trait Port {
     ghost same_on: { (s t u : Self) → same s t → same t u → same s u };
 }
 
-/// Who places documents: the one writer of an index.
+/// Places documents: the one writer of an index.
 pub trait Pen: Port {
     /// Does the next store of the placing of a document, which has room; no other document is being
-    /// placed. The documents part of the moment then has this one store more, and the conversion part is
-    /// as before. Takes no memory.
+    /// placed. The documents part of the moment then has this one more store, and the conversion
+    /// part is as before. Takes no memory.
     fn store(&mut self, document: &Document, place: u64, value: u64)
         requires { (m : Moment) × Self.stands self.old m × IsNext m document.now place value }
         ensures { (m : Moment) → Self.stands self.old m → IsNext m document.now place value
@@ -65,10 +65,11 @@ pub trait Pen: Port {
     ghost pen_keeps: { (s t : Self) (m n : Moment) → Self.keeps s m t n → n.documents ≡ m.documents };
 }
 
-/// Who converts segments: the one converter of an index.
+/// Converts segments: the one converter of an index.
 pub trait PackPen: Port {
-    /// Does the next store of the next conversion, whose segment is closed. The conversion part of the
-    /// moment then has this one store more, and the documents part is as before. Takes no memory.
+    /// Does the next store of the next conversion, whose segment is closed. The conversion part of
+    /// the moment then has this one more store, and the documents part is as before. Takes no
+    /// memory.
     fn put(&mut self, place: u64, value: u64)
         requires { (m : Moment) × Self.stands self.old m × IsNextPut m place value }
         ensures { (m : Moment) → Self.stands self.old m → IsNextPut m place value

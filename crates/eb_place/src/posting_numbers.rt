@@ -8,18 +8,19 @@ ghost use Rattle.eb_place.specs.Postings.{
   posting_position,
 };
 
-/// A posting: where a term stands in a segment, the document's number in the segment above the position in
-/// the document (the Earlybird paper of 2012).
+/// A posting: where a term occurs in a segment. The document's number in the segment is above the
+/// position in the document (the Earlybird paper of 2012).
 pub type Posting = u64;
 
-/// The lowest bits of a posting, which hold the position; the bits above hold the document's number.
+/// The lowest bits of a posting, which hold the position; the bits above hold the document's
+/// number.
 pub const POSITION_BITS: u32 = 16;
 
-/// The places of a document: a posting is its document's number times this and its position.
+/// The places of a document: a posting is its document's number times this, plus its position.
 pub const PLACES: u64 = 1 << POSITION_BITS;
 
-/// All bits of a posting: 24 of the document's number (the Earlybird paper of 2012) and 16 of the position
-/// (this project's profile, docs/FORMATS.md).
+/// All bits of a posting: 24 of the document's number (the Earlybird paper of 2012) and 16 of the
+/// position (this project's profile, docs/FORMATS.md).
 pub const POSTING_BITS: u32 = 40;
 
 /// The posting of a position in a document, by the document's number in its segment.
@@ -39,7 +40,7 @@ pub fn posting_in_word(word: u64) -> Posting
     (word % (1 << POSTING_BITS)) as Posting
 }
 
-/// The number in its segment of the document that a posting is of.
+/// The number of a posting's document in its segment.
 pub fn document_of(posting: Posting) -> u32
     requires { posting < 2 ^ posting_bits }
     ensures { result ≡ posting_document posting }
@@ -47,7 +48,7 @@ pub fn document_of(posting: Posting) -> u32
     (posting >> POSITION_BITS) as u32
 }
 
-/// The position in its document that a posting is of.
+/// The position of a posting in its document.
 pub fn position_of(posting: Posting) -> u32
     requires { posting < 2 ^ posting_bits }
     ensures { result ≡ posting_position posting }

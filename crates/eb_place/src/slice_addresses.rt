@@ -4,8 +4,9 @@ ghost use Rattle.eb_place.specs.Layout.{address_number, address_pool, address_sl
 // The bits of an address below its pool.
 const POOL_BITS: u32 = 30;
 
-/// The address of a place of a slice: the pool, 0 to 3, the number of the slice in it, and the offset in
-/// the slice, which has 2, 16, 128 or 2,048 places by its pool (this project's profile, docs/FORMATS.md).
+/// The address of a place of a slice: the pool, 0 to 3, the number of the slice in it, and the
+/// offset in the slice. A slice has 2, 16, 128 or 2,048 places by its pool (this project's profile,
+/// docs/FORMATS.md).
 pub fn address(pool: u32, slice: u32, offset: u32) -> u32
     requires pool { pool < 4 }
     requires slice { slice * 2 ^ slice_bits pool + offset < 2 ^ 30 }
@@ -36,8 +37,8 @@ pub fn offset_of(address: u32) -> u32
     address % (1 << bits_of(pool_of(address)))
 }
 
-// A slice of the pool has 2 to this power places. The powers are the bytes of one number, so that it isn't branched by the
-// pool, which changes from one posting to the next.
+// A slice of the pool has 2 to this power places. The powers are the bytes of one number, so that
+// nothing branches by the pool (`words_before` says why).
 fn bits_of(pool: u32) -> u32
     requires { pool < 4 }
     ensures { result ≡ slice_bits pool }

@@ -3,7 +3,8 @@ ghost use Rattle.std.specs.Prelude.{◌≡◌, ℕ, ◌+◌, ◌<◌};
 use std::marker::Model;
 use std::sync::ledger::{Blank, Book, Ledger, Share};
 
-/// A counter of loads: how many were done. It takes no bytes, and only [`tick`](Steps::tick) changes it.
+/// A counter of loads: how many were done. It takes no bytes, and only [`tick`](Steps::tick)
+/// changes it.
 #[derive(Drop)]
 pub struct Steps<L: Ledger> {
     book: Book<L>,
@@ -30,7 +31,7 @@ impl<L: Ledger> Steps<L> {
         Steps { book, share }
     }
 
-    /// One load more.
+    /// Counts one more load.
     pub fn tick(&mut self)
         ensures { self.new ≡ self.old + 1 }
     {

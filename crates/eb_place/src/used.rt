@@ -1,5 +1,5 @@
-/// How much of a segment is used, as far as it is stored. The relation `TellsSegment` of `specs/` says
-/// when the numbers tell a segment at a moment.
+/// How much of a segment is used, as far as it is stored. The relation `TellsSegment` of `specs/`
+/// says when the numbers describe a segment at a moment.
 #[derive(Clone, Copy, Debug, PartialEq, Eq)]
 pub struct Used {
     /// The accepted documents of the segment.

@@ -3,7 +3,7 @@ use Rattle.std.proofs.Common.{◌≡◌, ℕ, suc, ◌≤◌, ◌==◌, List, []
 use Rattle.std.proofs.lemmas.List.{drop_all}
 use Rattle.eb_base.specs.Match.{has_in_order}
 
--- after the last term only none stand
+-- after the last term there are none
 none_left : (left : List (List ℕ)) → has_in_order left [] ≡ (length left == 0)
 none_left [] = refl
 none_left (t ∷ ts) = sym (ne_eqb (suc (length ts)) 0 (λ e. omega arith))

@@ -7,7 +7,7 @@ use eb_base::{Document, NoMemory, Query};
 use std::alloc::Global;
 
 /// The answer: the ids of the newest `k` of these documents that the query matches, newest first.
-/// The documents stand in the order in which they were accepted.
+/// The documents are in the order in which they were accepted.
 pub fn newest(
     alloc: Global,
     query: &Query,

@@ -6,14 +6,15 @@ use crate::room::fits;
 use eb_base::{Config, Document, NoMemory};
 use std::alloc::Global;
 
-// Where a history is cut: how many documents each closed segment has, and where the last one begins.
+// Where a history is cut: how many documents each closed segment has, and where the last one
+// begins.
 struct Segments {
     closed: Vec<usize>,
     start: usize,
 }
 
-/// The numbers of documents of the segments of a history, in order: each document goes into the last
-/// segment where it fits there, else it begins the next one.
+/// The numbers of documents of the segments of a history, in order: each document goes into the
+/// last segment where it fits there, else it begins the next one.
 pub fn cut(alloc: Global, config: &Config, documents: &[Document]) -> Result<Vec<usize>, NoMemory>
     ensures { IfOk result (λ lengths. lengths.items ≡ map length (spec.cut config.now documents.now)) }
 {
@@ -25,8 +26,8 @@ pub fn cut(alloc: Global, config: &Config, documents: &[Document]) -> Result<Vec
     Ok(closed)
 }
 
-/// Whether an index of this setting has room for the document after this history: a further segment
-/// can be begun, or the last one fits it.
+/// Whether an index of this setting has room for the document after this history: one more segment
+/// can be begun, or the document fits the last one.
 pub fn has_room(
     alloc: Global,
     config: &Config,
@@ -49,6 +50,7 @@ struct Last {
     start: usize,
 }
 
+// How many segments are begun, and where the last one begins in the history.
 fn last_segment(alloc: Global, config: &Config, documents: &[Document]) -> Result<Last, NoMemory>
     ensures begun { IfOk result (λ last. last.begun ≡ length (spec.cut config.now documents.now)) }
     ensures start { IfOk result (λ last. spec.last_of (spec.cut config.now documents.now) ≡ drop last.start documents.now) }
@@ -64,6 +66,7 @@ fn last_segment(alloc: Global, config: &Config, documents: &[Document]) -> Resul
     })
 }
 
+// Where a history with a document is cut.
 fn find_cut(alloc: Global, config: &Config, documents: &[Document]) -> Result<Segments, NoMemory>
     requires { 0 < length documents.now }
     ensures cut { IfOk result (λ found. IsCutAt config.now documents.now found.closed.items found.start) }

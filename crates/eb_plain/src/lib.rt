@@ -1,6 +1,6 @@
-//! The plain, slow programs that are the definitions: each body here walks lists and has a
-//! definition as its whole contract: which documents match, what the answer is, which document fits
-//! and how a history is cut. They are what the index is compared with.
+//! The definitions as plain, slow programs. Each body walks lists and has a definition as its whole
+//! contract: which documents match, what the answer is, which document fits and how a history is
+//! cut. Tests compare the index with them.
 #![tactic(auto)]
 
 mod answers;

@@ -30,7 +30,7 @@ pub fn fits(
     has_room_for(alloc, config, &terms)
 }
 
-// The terms of the document, after the list.
+// The list, and then the terms of the document.
 fn put_terms(alloc: Global, document: &Document, terms: &mut Terms) -> Result<(), NoMemory>
     ensures terms { OnOk result (terms.new ≡ terms.old ++ document.now.terms) }
     ensures document { OnOk result (IsDocument document.now) }
@@ -91,7 +91,7 @@ fn text_of(found: &Terms, terms: &Terms) -> u64
     words
 }
 
-// The slices of a pool that the distinct terms of a list take, each as often as it stands in it.
+// The slices of a pool that the distinct terms of a list take, each as often as it occurs in it.
 fn slices_of(pool: u32, found: &Terms, terms: &Terms) -> u64
     requires pool { pool < 4 }
     requires distinct { found.now ≡ distinct terms.now }
@@ -105,7 +105,7 @@ fn slices_of(pool: u32, found: &Terms, terms: &Terms) -> u64
     slices
 }
 
-// How often the term stands in the list.
+// How often the term occurs in the list.
 fn count(term: &Term, terms: &Terms) -> u64
     ensures count { result ≡ count_of term.now terms.now }
     ensures within { result ≤ length terms.now }
@@ -119,7 +119,7 @@ fn count(term: &Term, terms: &Terms) -> u64
     count
 }
 
-// The slices of a pool that a term with so many postings takes.
+// The slices of a pool that a term with this many postings takes.
 fn slices_for(pool: u32, postings: u64) -> u64
     requires pool { pool < 4 }
     requires few { postings ≤ most_tokens * 2 ^ 32 }

@@ -7,10 +7,10 @@ ghost use Rattle.eb_base.specs.Match as spec;
 use eb_base::{Document, Queries, Query, Term};
 
 /// Whether the query matches the document: a word where it is one of the document's terms, a phrase
-/// where its terms stand one after another in the document, a Window where they stand in their order
-/// at places of which the last is at most its reach after the first, a Since where the document's id
-/// is greater, a Not where its part doesn't match, an And where each part matches, an Or where some
-/// part does. Takes no memory.
+/// where its terms follow one another in the document, a Window where they occur in their order,
+/// the last at most its reach after the first, a Since where the document's id is greater, a Not
+/// where its part doesn't match, an And where each part matches, an Or where some part does. Takes
+/// no memory.
 pub fn is_match(query: &Query, document: &Document) -> bool
     ensures fact { IsTrue result ↔ Matches (tree query.now) document.now }
     ensures test { result ≡ spec.is_match (tree query.now) document.now }
@@ -65,7 +65,7 @@ pub(crate) fn has_term(terms: &[Term], term: &Term) -> bool
     terms.iter().any(|own| term == own)
 }
 
-// Whether the terms of the phrase stand one after another from some place on.
+// Whether the terms of the phrase follow one another from some place on.
 fn contains_phrase(terms: &[Term], phrase: &[Term]) -> bool
     ensures { result ≡ has_phrase phrase.now terms.now }
 {
@@ -79,8 +79,8 @@ fn contains_phrase(terms: &[Term], phrase: &[Term]) -> bool
     rest.starts_with(phrase)
 }
 
-// Whether the terms of the window stand in their order at places of which the last is at most so
-// many after the first.
+// Whether the terms of the window occur in their order, the last at most this many places after the
+// first.
 fn contains_window(terms: &[Term], window: &[Term], reach: usize) -> bool
     ensures { result ≡ has_window window.now reach terms.now }
 {
@@ -97,7 +97,7 @@ fn contains_window(terms: &[Term], window: &[Term], reach: usize) -> bool
     false
 }
 
-// Whether these terms stand among the others in their order.
+// Whether these terms occur among the others in their order.
 fn stand_in_order(terms: &[Term], wanted: &[Term]) -> bool
     ensures { result ≡ has_in_order wanted.now terms.now }
 {

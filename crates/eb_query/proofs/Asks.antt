@@ -115,7 +115,7 @@ pub removed : (how : Dialect) (line : List ℕ) (from number : ℕ) → HasWatch
     → list_all is_blank (drop from line) ≡ true → ReadsWatchWith how line (removes number)
 removed how line from number h e n b = subst (λ (k : ℕ). ReadsWatchWith how line (removes k)) (sym n) (alone h (sym (text_lexemes how line from e) ∙ blanks how (from + 1) (drop from line) b))
 
--- the outcome of the text behind the line's number
+-- the outcome of the text after the line's number
 of_line : (how : Dialect) (line : List ℕ) (from number : ℕ) (o : Outcome) → from ≡ 1 + digits_len line → number ≡ number_in_line line
     → IsOutcome line (Newest number) [] (lexemes how 0 (from + 1) (drop from line)) o → IsOutcome line (Newest (number_in_line line)) [] (lexemes_of_line how line) o
 of_line how line from number o e n r =
@@ -139,7 +139,7 @@ pub watch_faulted : (how : Dialect) (line : List ℕ) (from number : ℕ) → Ha
 watch_faulted how line from number h e n b f q =
     text_fault (Newest number) how line from (λ o. ReadsWatchWith how line (reads o)) (λ o r. with_text h (has_text how line from e b) (of_line how line from number o e n r)) f q
 
--- a fault that is handed on
+-- a fault that is passed up
 pub handed_on : {T : Type 0} (Refused : QueryFault → Type 0) (f : QueryFault) (r : Result T QueryFault) → IsErrAnd r (λ g. g ≡ f) → Refused f → IfErr r Refused
 handed_on Refused f (Ok x) a h = tt
 handed_on Refused f (Err g) a h = subst Refused (sym a) h

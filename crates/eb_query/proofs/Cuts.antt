@@ -80,7 +80,7 @@ ends_run_by P b h space tab left right mark = four (or_cases _ _ h)
 pub ends_run_small : (b : ℕ) → ends_run b ≡ true → b < 128
 ends_run_small b h = ends_run_by (λ n. n < 128) b h (omega arith) (omega arith) (omega arith) (omega arith) (omega arith)
 
--- where a run ends, no tilde stands
+-- where a run ends, there is no tilde
 pub end_no_tilde : (bs : List ℕ) → is_run_end bs ≡ true → has_tilde bs ≡ false
 end_no_tilde [] h = refl
 end_no_tilde (b ∷ bs) h = ends_run_by (λ n. eqb n 126 ≡ false) b h refl refl refl refl refl

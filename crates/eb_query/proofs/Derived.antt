@@ -29,7 +29,7 @@ or_list no_trees h = absurd h
 or_list (trees t no_trees) h = absurd h
 or_list (trees t (trees u ts)) h = ap (λ (us : Trees). disjunction (trees t (trees u us))) (trees_list ts)
 
--- an and in front of rest that is this tree
+-- an and before rest that is this tree
 IsPart : List Lexeme → Tree → List Lexeme → Type 0
 IsPart ls t rest = (ts : List Tree) × IsAnd ls ts rest × (and_of ts ≡ t)
 

@@ -71,7 +71,7 @@ pub quoted_value_some : (name bs part : List ℕ) (n : ℕ) → n ≡ position_o
 unfolding quoted_value
 quoted_value_some name bs part n e h p = rw (← e, lt-ltb n (length bs) h, ← p) refl
 
--- where a quotation mark stands
+-- where there is a quotation mark
 pub quote_here : (line : List ℕ) (k : ℕ) → k ≤ length line → has_quote (drop k line) ≡ true → (k < length line) × (get_or line k 0 < 128)
 quote_here line k w h = go (nat_lt k (length line)) refl
   where

@@ -41,7 +41,7 @@ digits_boundary line from (suc m) u b w e =
     let same : from + m + 1 ≡ from + suc m = omega arith in
     subst (λ (k : ℕ). IsCharBoundary line k) same (IsCharBoundary-after_ascii line (from + m) u (omega (arith, length-drop from line)) s)
 
--- where a tilde stands
+-- where there is a tilde
 pub tilde_at : (line : List ℕ) (k : ℕ) → k ≤ length line → has_tilde (drop k line) ≡ true → (k < length line) × (get_or line k 0 < 128)
 tilde_at line k w h = go (nat_lt k (length line)) refl
   where

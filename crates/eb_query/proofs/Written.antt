@@ -70,7 +70,8 @@ drop_front (x ∷ xs) ys y =
     let e : suc (length xs) + 1 ≡ suc (length xs + 1) = omega arith in
     ap (λ (k : ℕ). drop k (x ∷ (xs ++ y ∷ ys))) e ∙ drop_front xs ys y
 
--- a text between quotation marks, of which so many bytes after the second one belong to the lexeme
+-- a text between quotation marks, of which this many bytes after the second one belong to the
+-- lexeme
 quote_cut : (text behind rest : List ℕ) (l : Lexeme) (k : ℕ) → AllByRecursion (λ b. b ≢ 34) text → quoted_lexeme plain text behind ≡ l → tilde_len behind ≡ k → drop k behind ≡ rest
     → Cuts (34 ∷ text ++ 34 ∷ behind) (l ∷ []) rest
 quote_cut text behind rest l k h e f r =

@@ -10,7 +10,7 @@ use Rattle.eb_fields.specs.Ids.{most_id, id_of}
 use Rattle.eb_query.proofs.Cuts.{ends_run_by, first_bare, bare_is}
 use Rattle.eb_fields.proofs.Decimals.{IsDecimal, AreDigits, in_range, digits_first, digits_all, front_taken, front_dropped}
 
--- where a run ends, no digit stands
+-- where a run ends, there is no digit
 pub end_no_digit : (bs : List ℕ) → is_run_end bs ≡ true → position_or_len is_no_digit bs ≡ 0
 end_no_digit [] h = refl
 end_no_digit (b ∷ bs) h = let e : is_no_digit b ≡ true = ends_run_by (λ n. is_no_digit n ≡ true) b h refl refl refl refl refl in rw e refl

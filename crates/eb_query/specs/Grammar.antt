@@ -2,9 +2,9 @@
 use Rattle.std.specs.Prelude.{◌≡◌, List, [], ◌∷◌, ◌++◌}
 use Rattle.eb_base.specs.Query.{Tree, negation, and_of, or_of}
 
--- A lexeme of a query text. A bare word, a quoted text, a window text and a bound are leaves, each with
--- what it asks. A quote that isn't closed, a text without a token, a window text without a reach and a
--- bound without an id are broken: they stand nowhere.
+-- A lexeme of a query text. A bare word, a quoted text, a window text and a bound are leaves, each
+-- with what it asks. A quote that isn't closed, a text without a token, a window text without a
+-- reach and a bound without an id are broken: no rule has them.
 pub data Lexeme : Type 0 where
   opening : Lexeme
   closing : Lexeme
@@ -13,7 +13,7 @@ pub data Lexeme : Type 0 where
   leaf : Tree → Lexeme
   broken : Lexeme
 
--- The rules, each for the front of a list of lexemes and what follows that front:
+-- The rules, each for the prefix of a list of lexemes and what follows that prefix:
 --   unary := leaf | "-" unary | "(" or ")"
 --   and   := unary+
 --   or    := and ("OR" and)*

@@ -24,7 +24,7 @@ begins_query how (b ∷ bs) = is_count how (b ∷ bs) || b == 63
 abbrev pub most_buckets : ℕ
 most_buckets = 1000
 
--- the texts before and after the first such byte, if it stands there
+-- the texts before and after the first such byte, if there is one
 abbrev pub parts_round : ℕ → List ℕ → Option (List ℕ × List ℕ)
 parts_round b text =
     if nat_lt (position_or_len (λ x. eqb x b) text) (length text) then Some (before_first (λ x. eqb x b) text, after_first (λ x. eqb x b) text) else None
@@ -33,7 +33,7 @@ parts_round b text =
 abbrev pub number_of : List ℕ → Option ℕ
 number_of text = if nat_le (length text) 4 then id_of text else None
 
--- so many buckets from x on, each w wide, where they are numbers that buckets may have
+-- n buckets from x on, each w wide, where they are numbers that buckets may have
 abbrev pub are_buckets : ℕ → ℕ → ℕ → Option Ask
 are_buckets x w n = if nat_le 1 w && (nat_le 1 n && nat_le n most_buckets) then Some (Counts x w n) else None
 
@@ -44,12 +44,12 @@ buckets_by x w n = option_and_then (λ a. option_and_then (λ b. option_and_then
 unfoldable pub buckets_in : List ℕ → Option Ask
 buckets_in text = option_and_then (λ (p : List ℕ × List ℕ). option_and_then (λ (q : List ℕ × List ℕ). buckets_by p.0 q.0 q.1) (parts_round 42 p.1)) (parts_round 43 text)
 
--- what is counted: the total alone where no text stands there
+-- what is counted: the total alone where there is no text
 abbrev pub counts_in : List ℕ → Option Ask
 counts_in [] = Some (Counts 0 1 0)
 counts_in (b ∷ bs) = buckets_in (b ∷ bs)
 
--- how many bytes stand between the first one and a blank or the end, and these
+-- how many bytes come before a blank or the end, and these
 unfoldable pub range_len : List ℕ → ℕ
 range_len line = position_or_len is_blank (drop 1 line)
 

@@ -15,11 +15,11 @@ use Rattle.eb_query.specs.Apart.{IsApart}
 use Rattle.eb_query.specs.Writing.{AreNamed, line_text}
 use Rattle.eb_base.specs.Match.{most_matches}
 
--- the rules leave no line out, whatever fields are read: each asks something or is refused
+-- the rules leave no line out, whatever fields are read: each line asks something or is refused
 abbrev pub SomeReading : Type 0
 SomeReading = (how : Dialect) (line : List ℕ) → (o : Outcome) × ReadsWith how line o
 
--- a line has one reading: what it asks, and where and why it is refused, is settled by the rules
+-- a line has one reading: the rules decide what it asks, or where and why it is refused
 abbrev pub OneReading : Type 0
 OneReading = (how : Dialect) (line : List ℕ) (a b : Outcome) → ReadsWith how line a → ReadsWith how line b → a ≡ b
 
@@ -42,11 +42,12 @@ abbrev pub ReadsBack : Type 0
 ReadsBack = (k : ℕ) (t : Tree) → 1 ≤ k → k ≤ most_matches → IsWellFormed t → AreNamed t
     → NestsWithin (kinds_of_line (line_text k t)) → ReadsAs (line_text k t) (asks (Newest k) t)
 
--- without fields a lexeme is what it is where nothing of fields is known
+-- without fields a lexeme is the same as by the rules without fields
 abbrev pub InPlain : Type 0
 InPlain = (b : ℕ) (bs : List ℕ) → first_with plain b bs ≡ first plain b bs
 
--- whatever fields are read, a query's phrases and windows are of texts, so that no field's term stands in them
+-- whatever fields are read, a query's phrases and windows are of texts, so no field's term is in
+-- them
 abbrev pub FieldsApart : Type 0
 FieldsApart = (how : Dialect) (line : List ℕ) (a : Ask) (t : Tree) → IsUtf8 line
     → ReadsWith how line (asks a t) ⊎ ReadsWatchWith how line (reads (asks a t)) → IsApart t

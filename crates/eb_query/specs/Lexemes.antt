@@ -34,7 +34,8 @@ abbrev pub of_leaf : Option Tree → Lexeme
 of_leaf None = broken
 of_leaf (Some t) = leaf t
 
--- a text, by its tokens: one is a word, several are a phrase; here and below it is said how lines are read
+-- a text, by its tokens: one is a word, several are a phrase; here and below it is said how lines
+-- are read
 unfoldable pub text_lexeme : Dialect → List ℕ → Lexeme
 text_lexeme how text = of_leaf (leaf_of (tokens_by how.cut text))
 
@@ -43,8 +44,8 @@ abbrev pub is_run_end : List ℕ → Bool
 is_run_end [] = true
 is_run_end (b ∷ bs) = ends_run b
 
--- the first n bytes are digits that write a reach: one to four of a value from 1 to the greatest reach, with
--- what ends a run after them, or nothing
+-- the first n bytes are digits that write a reach: one to four of a value from 1 to the greatest
+-- reach, with what ends a run after them, or nothing
 abbrev pub is_reach : ℕ → List ℕ → Bool
 is_reach n bs =
     (nat_le 1 n && nat_le n 4) && ((nat_le 1 (decimal_after 0 (take n bs)) && nat_le (decimal_after 0 (take n bs)) most_reach) && is_run_end (drop n bs))
@@ -53,11 +54,12 @@ is_reach n bs =
 abbrev pub reach_by : ℕ → List ℕ → Option ℕ
 reach_by n bs = if is_reach n bs then Some (decimal_after 0 (take n bs)) else None
 
--- the reach that the digits in front write, if they do
+-- the reach that the leading digits write, if they do
 unfoldable pub reach_of : List ℕ → Option ℕ
 reach_of bs = reach_by (position_or_len is_no_digit bs) bs
 
--- a text, and the bytes after the tilde after it: with a reach it is a window, or a word where it is one token
+-- a text, and the bytes after the tilde that follows it: with a reach it is a window, or a word
+-- where it is one token
 unfoldable pub window_lexeme : Dialect → List ℕ → List ℕ → Lexeme
 window_lexeme how text bs = of_leaf (option_and_then (window_of (tokens_by how.cut text)) (reach_of bs))
 
@@ -66,16 +68,18 @@ abbrev pub has_tilde : List ℕ → Bool
 has_tilde [] = false
 has_tilde (b ∷ bs) = eqb b 126
 
--- a text between quotation marks, and the bytes after the second one: a tilde there makes it a window text
+-- a text between quotation marks, and the bytes after the second one: a tilde there makes it a
+-- window text
 unfoldable pub quoted_lexeme : Dialect → List ℕ → List ℕ → Lexeme
 quoted_lexeme how text bs = if has_tilde bs then window_lexeme how text (drop 1 bs) else text_lexeme how text
 
--- how many bytes after the second quotation mark belong to the lexeme: a tilde, and the digits after it
+-- how many bytes after the second quotation mark belong to the lexeme: a tilde, and the digits
+-- after it
 unfoldable pub tilde_len : List ℕ → ℕ
 tilde_len bs = if has_tilde bs then 1 + position_or_len is_no_digit (drop 1 bs) else 0
 
--- after a quotation mark: all up to the next one and what goes on after that, and how many bytes belong to the
--- lexeme
+-- after a quotation mark: all up to the next one and what goes on after that, and how many bytes
+-- belong to the lexeme
 unfoldable pub quoted : Dialect → List ℕ → Lexeme × ℕ
 quoted how bs =
     if nat_lt (position_or_len is_quote bs) (length bs)
@@ -96,7 +100,8 @@ run_lexeme how run =
 unfoldable pub bare : Dialect → ℕ → List ℕ → Lexeme × ℕ
 bare how b bs = (run_lexeme how (b ∷ take (position_or_len ends_run bs) bs), position_or_len ends_run bs)
 
--- the lexeme that begins with b, and how many of the bytes bs after it belong to it, where no field is named
+-- the lexeme that begins with b, and how many of the bytes bs after it belong to it, where no field
+-- is named
 unfoldable pub first : Dialect → ℕ → List ℕ → Lexeme × ℕ
 first how b bs =
     if eqb b 40 then (opening, 0)
@@ -114,7 +119,8 @@ unfoldable pub bare_value : List ℕ → List ℕ → Lexeme × ℕ
 bare_value name bs =
     if eqb (position_or_len ends_run bs) 0 then (broken, 0) else (field_leaf name (take (position_or_len ends_run bs) bs), position_or_len ends_run bs)
 
--- after a quotation mark: a field's value up to the next one, and how many bytes belong to the lexeme
+-- after a quotation mark: a field's value up to the next one, and how many bytes belong to the
+-- lexeme
 unfoldable pub quoted_value : List ℕ → List ℕ → Lexeme × ℕ
 quoted_value name bs =
     if nat_lt (position_or_len is_quote bs) (length bs) then (field_leaf name (take (position_or_len is_quote bs) bs), position_or_len is_quote bs + 1)
@@ -125,7 +131,8 @@ abbrev pub has_quote : List ℕ → Bool
 has_quote [] = false
 has_quote (b ∷ bs) = is_quote b
 
--- after a field's name and colon: its value, between quotation marks or as a run, and how many bytes belong to the lexeme
+-- after a field's name and colon: its value, between quotation marks or as a run, and how many
+-- bytes belong to the lexeme
 unfoldable pub value_lexeme : List ℕ → List ℕ → Lexeme × ℕ
 value_lexeme name bs =
     if has_quote bs then ((quoted_value name (drop 1 bs)).0, 1 + (quoted_value name (drop 1 bs)).1) else bare_value name bs
@@ -136,8 +143,8 @@ named_lexeme how None b bs = first how b bs
 named_lexeme how (Some name) b bs =
     ((value_lexeme name (drop (length name) bs)).0, length name + (value_lexeme name (drop (length name) bs)).1)
 
--- the lexeme that begins with b, and how many of the bytes bs after it belong to it: a field's, where the name of one and a
--- colon come first
+-- the lexeme that begins with b, and how many of the bytes bs after it belong to it: a field's,
+-- where the name of one and a colon come first
 unfoldable pub first_with : Dialect → ℕ → List ℕ → Lexeme × ℕ
 first_with how b bs = named_lexeme how (begun_name how.names (b ∷ bs)) b bs
 

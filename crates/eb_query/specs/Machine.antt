@@ -1,5 +1,5 @@
--- The machine of the reader, which takes lexemes one by one over a stack of open groups. The
--- private functions of the reader are told by it; what a line asks is told by Reading alone.
+-- The machine of the reader, which takes lexemes one by one over a stack of open groups. It is for
+-- the contracts of the reader's private functions; Reading alone says what a line asks.
 use Rattle.std.specs.Prelude.{ℕ, zero, suc, ◌+◌, nat_lt, Bool, true, false, cond, List, [], ◌∷◌, ◌++◌, length, Option, Some, None, option_and_then, nat_le}
 use Rattle.eb_base.specs.Query.{Tree, negation, and_of, or_of, size, most_size}
 use Rattle.eb_query.specs.Grammar.{Lexeme, opening, closing, minus, or_word, leaf, broken}
@@ -16,12 +16,12 @@ pub data Level : Type 0 where
 pub data State : Type 0 where
   state : Level → List Level → State
 
--- the tree after so many minuses
+-- the tree after n minuses
 abbrev pub negated : ℕ → Tree → Tree
 negated zero t = t
 negated (suc n) t = negated n (negation t)
 
--- the group with one operand more
+-- the group with one more operand
 abbrev pub taken : Tree → Level → Level
 taken t (level ors ands m) = level ors (ands ++ negated m t ∷ []) 0
 
@@ -29,7 +29,7 @@ taken t (level ors ands m) = level ors (ands ++ negated m t ∷ []) 0
 abbrev pub parts : List Tree → List Tree → List Tree
 parts ors ands = ors ++ and_of ands ∷ []
 
--- the state after a lexeme, if it may stand
+-- the state after a lexeme, if it may come there
 abbrev pub step : Lexeme → State → Option State
 step opening (state l below) = Some (state (level [] [] 0) (l ∷ below))
 step minus (state (level ors ands m) below) = Some (state (level ors ands (suc m)) below)

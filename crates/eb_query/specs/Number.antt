@@ -19,7 +19,8 @@ abbrev pub is_blank_or_end : List ℕ → Bool
 is_blank_or_end [] = true
 is_blank_or_end (b ∷ bs) = is_blank b
 
--- a digit and at most so many of them, of a value that isn't over the most, and after them a blank or the end
+-- a digit and at most `most_digits` of them, of a value that isn't over the most, and after them a
+-- blank or the end
 pub record HasNumberUpTo (most_digits most : ℕ) (line : List ℕ) : Type 0 where
   pub some : 1 ≤ digits_len line
   pub few : digits_len line ≤ most_digits

@@ -16,17 +16,17 @@ pub data Outcome : Type 0 where
   too_deep : Outcome
   too_many_nodes : Outcome
 
--- What comes of the query text of this line, which asks this of its query, read from left to right: the lexemes before
--- stand, and those placed follow.
+-- What comes of the query text of this line, which asks this of its query, read from left to right:
+-- the lexemes before are taken, and those placed follow.
 pub data IsOutcome (line : List ℕ) (a : Ask) : List Lexeme → List Placed → Outcome → Type 0 where
-  -- the next lexeme may stand there, below the deepest nesting if it opens, and the rest decides
+  -- the next lexeme may come there, below the deepest nesting if it opens, and the rest decides
   stands : {before : List Lexeme} {p : Placed} {ps : List Placed} {o : Outcome}
       → Continues (before ++ p.lexeme ∷ []) → (IsOpener p.lexeme → nesting before < most_open)
       → IsOutcome line a (before ++ p.lexeme ∷ []) ps o → IsOutcome line a before (p ∷ ps) o
   -- no query text begins so
   cannot_stand : {before : List Lexeme} {p : Placed} {ps : List Placed}
       → (Continues (before ++ p.lexeme ∷ []) → ⊥) → IsOutcome line a before (p ∷ ps) (bad_query p.column)
-  -- the next lexeme may stand there, and opens at the deepest nesting
+  -- the next lexeme may come there, and opens at the deepest nesting
   stands_too_deep : {before : List Lexeme} {p : Placed} {ps : List Placed}
       → Continues (before ++ p.lexeme ∷ []) → IsOpener p.lexeme → most_open ≤ nesting before
       → IsOutcome line a before (p ∷ ps) too_deep

@@ -6,7 +6,7 @@ use Rattle.eb_query.specs.WatchLine.{reads, ReadsWatchWith}
 use Rattle.eb_query.specs.declared.read.QueryFault.{QueryFault}
 use Rattle.eb_query.specs.declared.read.QueryFault.TheVariants as faults
 
--- the fault is the outcome of which this holds; want of memory says nothing of the line
+-- the fault is the outcome of which this holds; out of memory says nothing of the line
 abbrev pub IsFaultOf : (Outcome → Type 0) → QueryFault → Type 0
 IsFaultOf Holds faults.BadNumber = Holds bad_number
 IsFaultOf Holds (faults.BadQuery column) = Holds (bad_query column)

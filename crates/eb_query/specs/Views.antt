@@ -1,4 +1,4 @@
--- What the values of the reader stand for in its machine.
+-- What the values of the reader represent in its machine.
 use Rattle.std.specs.Prelude.{◌≡◌, ◌≤◌, true, false, List, [], ◌∷◌, map, reverse, Some, None, Result, Ok, Err}
 use Rattle.eb_base.specs.Query.{Tree, tree, parts_of}
 use Rattle.eb_base.specs.declared.query.Query.{Query}

@@ -6,8 +6,8 @@ use Rattle.eb_query.specs.Number.{number_in_line, HasWatchNumber, lexemes_of_lin
 use Rattle.eb_query.specs.declared.ask.Ask.TheVariants.{Newest}
 use Rattle.eb_query.specs.Reading.{Outcome, asks, bad_number, IsOutcome}
 
--- what comes of a watch line: the watch of this number is removed, or else an outcome as of a query line, where
--- `asks (Newest n) t` says that the watch n is set to the query t
+-- what comes of a watch line: the watch of this number is removed, or else an outcome as of a query
+-- line, where `asks (Newest n) t` says that the watch n is set to the query t
 pub data WatchOutcome : Type 0 where
   removes : (number : ℕ) → WatchOutcome
   reads : Outcome → WatchOutcome

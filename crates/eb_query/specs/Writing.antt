@@ -29,7 +29,7 @@ abbrev pub in_parentheses : List ℕ → List ℕ
 in_parentheses text = 40 ∷ text ++ 41 ∷ []
 
 abbrev mutual
-  -- a query as a part of an and, and after a minus: an and and an or stand in parentheses
+  -- a query as a part of an and, and after a minus: an and and an or are in parentheses
   pub unary_text : Tree → List ℕ
   unary_text (word t) = in_quotes t
   unary_text (phrase ts) = in_quotes (spaced_terms ts)
@@ -39,7 +39,7 @@ abbrev mutual
   unary_text (conjunction ts) = in_parentheses (and_text ts)
   unary_text (disjunction ts) = in_parentheses (or_text ts)
 
-  -- a query as a part of an or: only an or stands in parentheses
+  -- a query as a part of an or: only an or is in parentheses
   pub part_text : Tree → List ℕ
   part_text (word t) = in_quotes t
   part_text (phrase ts) = in_quotes (spaced_terms ts)

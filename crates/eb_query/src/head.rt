@@ -26,7 +26,7 @@ pub(crate) struct Head {
     pub(crate) end: usize,
 }
 
-// How many bytes stand in front of a blank or the end.
+// How many bytes come before a blank or the end.
 fn blank_at(bytes: &[u8]) -> usize
     ensures { result ≡ position_or_len is_blank bytes.now }
 {
@@ -48,7 +48,7 @@ fn read_number(text: &str) -> Option<u64>
     read_id(text)
 }
 
-// So many buckets, where they are numbers that buckets may have.
+// This many buckets, where they are numbers that buckets may have.
 fn buckets(start: u64, width: u64, number: u64) -> Option<Ask>
     ensures { result ≡ are_buckets start width number }
 {
@@ -98,6 +98,7 @@ fn read_counts(text: &str) -> Option<Ask>
 }
 
 // The head of a count line.
+#[inline(never)]
 fn counts_head(line: &str) -> Option<Head>
     requires { slice_get line.now 0 ≡ Some 35 }
     ensures none { IfNone result ((a : Asked) (n : ℕ) → IsHead true line.now a n → ⊥) }
@@ -111,6 +112,7 @@ fn counts_head(line: &str) -> Option<Head>
 }
 
 // The head of another query line.
+#[inline(always)]
 fn newest_head(line: &str) -> Option<Head>
     requires { 0 < length line.now }
     ensures none { IfNone result ((a : Asked) (n : ℕ) → IsHead false line.now a n → ⊥) }
@@ -126,13 +128,15 @@ fn newest_head(line: &str) -> Option<Head>
 }
 
 // Whether a line asks for a count.
+#[inline(always)]
 fn asks_count(dialect: Dialect<'_>, line: &[u8]) -> bool
     ensures { result ≡ is_count (dialect_of dialect.entry) line.now }
 {
     dialect.counts && !line.is_empty() && line[0] == b'#'
 }
 
-/// Whether a line begins as a query line does by this dialect: with `?`, or with `#` where the dialect has counts. Takes no memory.
+/// Whether a line begins as a query line does by this dialect: with `?`, or with `#` where the
+/// dialect has counts. Takes no memory.
 pub fn begins_query(dialect: Dialect<'_>, line: &[u8]) -> bool
     ensures { result ≡ spec.begins_query (dialect_of dialect.entry) line.now }
 {
@@ -140,6 +144,7 @@ pub fn begins_query(dialect: Dialect<'_>, line: &[u8]) -> bool
 }
 
 /// The head of a query line by this dialect, if it has one. Takes no memory.
+#[inline(always)]
 pub(crate) fn head_at(dialect: Dialect<'_>, line: &str) -> Option<Head>
     requires { spec.begins_query (dialect_of dialect) line.now ≡ true }
     ensures none { IfNone result ((a : Asked) (n : ℕ) → HasHead (dialect_of dialect.entry) line.now a n → ⊥) }

@@ -30,7 +30,7 @@ pub enum Lexeme {
     Broken,
 }
 
-/// A lexeme that stands in a line.
+/// A lexeme of a line.
 #[derive(Drop)]
 pub struct Found {
     /// The lexeme.
@@ -53,7 +53,7 @@ pub fn ends_run_byte(byte: u8) -> bool
     is_blank_byte(byte) || byte == b'(' || byte == b')' || byte == b'"'
 }
 
-/// How many bytes stand in front that belong to a bare word.
+/// How many leading bytes belong to a bare word.
 pub fn run_len(bytes: &[u8]) -> usize
     ensures { result ≡ position_or_len ends_run bytes.now }
 {
@@ -112,7 +112,7 @@ fn bare_at(alloc: Global, dialect: Dialect<'_>, line: &str, at: usize) -> Result
     Ok(Found { lexeme, end })
 }
 
-// The lexeme that begins at this place of the line, where no blank stands and no field is named.
+// The lexeme that begins at this place of the line, where there is no blank and no field is named.
 fn first_at(alloc: Global, dialect: Dialect<'_>, line: &str, at: usize) -> Result<Found, NoMemory>
     requires boundary { IsCharBoundary line.now at }
     requires within { at < length line.now }
@@ -147,7 +147,7 @@ fn first_at(alloc: Global, dialect: Dialect<'_>, line: &str, at: usize) -> Resul
     bare_at(alloc, dialect, line, at)
 }
 
-/// The lexeme that begins at this place of the line, where no blank stands.
+/// The lexeme that begins at this place of the line, where there is no blank.
 pub fn lexeme_at(
     alloc: Global,
     dialect: Dialect<'_>,

@@ -1,13 +1,15 @@
 //! Query lines: `?`, how many matches are wanted, and a query of words, phrases, windows, bounds on
-//! ids, `OR`, `-` and parentheses; and watch lines: `!`, the number of a watch, and the query that it is set
-//! to, or nothing where it is removed (this project's profile, docs/FORMATS.md). [`read_query`] reads a query
-//! line, [`write_query`] writes one, and [`read_watch`] reads a watch line. What a line asks, and where and why
-//! another is refused, is told by the rules in `specs/`. [`read_ask`] reads a line by a [`Dialect`](eb_fields::Dialect), and a count line
-//! besides: `#`, the buckets that are wanted, if any, and a query.  With fields, [`read_query_with`] and [`read_watch_with`] read
-//! the same lines, where a field's name and value ask for the documents that have them. That they give each line a reading, and one alone, and
-//! that what is written reads back, are the laws [`some_reading`], [`one_reading`], [`some_watch_reading`],
-//! [`one_watch_reading`] and [`reads_back`]; that without fields nothing of
-//! them is read is [`in_plain`], and that a field's term stands in no phrase or window is [`fields_apart`].
+//! ids, `OR`, `-` and parentheses. And watch lines: `!`, the number of a watch, and the query that
+//! it is set to, or nothing where it is removed (this project's profile, docs/FORMATS.md).
+//! [`read_query`] reads a query line, [`write_query`] writes one, and [`read_watch`] reads a watch
+//! line. The rules in `specs/` say what a line asks, and where and why another is refused.
+//! [`read_ask`] reads a line by a [`Dialect`](eb_fields::Dialect), and a count line besides: `#`,
+//! the buckets that are wanted, if any, and a query. With fields, [`read_query_with`] and
+//! [`read_watch_with`] read the same lines, where a field's name and value ask for the documents
+//! that have them. The laws [`some_reading`], [`one_reading`], [`some_watch_reading`],
+//! [`one_watch_reading`] and [`reads_back`] say that each line has a reading, and one alone, and
+//! that what is written reads back. [`in_plain`] says that without fields nothing of them is read,
+//! and [`fields_apart`] that a field's term is in no phrase or window.
 #![tactic(auto)]
 
 mod ask;

@@ -17,7 +17,7 @@ pub struct Number {
     pub end: usize,
 }
 
-// Whether a blank stands at this place, or the line ends there.
+// Whether there is a blank at this place, or the line ends there.
 fn is_apart(line: &[u8], from: usize) -> bool
     requires { from ≤ length line.now }
     ensures { result ≡ is_blank_or_end (drop from line.now) }
@@ -25,8 +25,8 @@ fn is_apart(line: &[u8], from: usize) -> bool
     from == line.len() || is_blank_byte(line[from])
 }
 
-/// The number after the first byte of a line, if it has one: at least one digit and at most so many, of a value that
-/// isn't over the most, and after them a blank or the end. Takes no memory.
+/// The number after the first byte of a line, if it has one: from one to `most_digits` digits, of a
+/// value that isn't over the most, and after them a blank or the end. Takes no memory.
 pub fn number_up_to(line: &[u8], most_digits: usize, most: u32) -> Option<Number>
     requires first { 0 < length line.now }
     requires few { most_digits ≤ 16 }

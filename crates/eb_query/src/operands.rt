@@ -6,7 +6,9 @@ use eb_base::{NoMemory, Queries, Query};
 use std::alloc::Global;
 use std::mem;
 
-/// The operands of a part of a query text, in order. One alone stands in no list, and takes no memory.
+/// The operands of a part of a query text, in order. One operand alone is in no list and takes no
+/// memory, so a query of one word takes none: its store uses the frame of the query before again
+/// (`Frame::again` of `eb_cursor`).
 #[derive(Drop)]
 pub enum Operands {
     /// One operand.
@@ -33,7 +35,8 @@ impl Operands {
         }
     }
 
-    /// Puts the operand at the end. The first one takes no memory. Without memory the operands are of no more use.
+    /// Puts the operand at the end. The first one takes no memory. Without memory the operands
+    /// can't be used any more.
     pub fn push(&mut self, alloc: Global, query: Query) -> Result<(), NoMemory>
         ensures { OnOk result (operands_of self.new ≡ operands_of self.old ++ tree query ∷ []) }
     {
@@ -56,7 +59,8 @@ impl Operands {
         Ok(())
     }
 
-    /// The query that asks for each of them: an And, or the operand where it is one. Takes no memory.
+    /// The query that asks for each of them: an And, or the operand itself where there is one.
+    /// Takes no memory.
     pub fn into_query(self) -> Query
         ensures { tree result ≡ and_of (operands_of self) }
     {

@@ -15,7 +15,7 @@ use eb_fields::{Dialect, digits_at};
 use eb_text::{Cut, tokens_by};
 use std::alloc::Global;
 
-/// How many bytes stand before the first quotation mark; all, if there is none.
+/// How many bytes come before the first quotation mark; all, if there is none.
 pub fn quote_at(bytes: &[u8]) -> usize
     ensures { result ≡ position_or_len is_quote bytes.now }
 {
@@ -27,7 +27,7 @@ pub fn quote_at(bytes: &[u8]) -> usize
     bytes.len()
 }
 
-// Whether a tilde stands at this place.
+// Whether there is a tilde at this place.
 fn has_tilde_at(bytes: &[u8], from: usize) -> bool
     requires { from ≤ length bytes.now }
     ensures { result ≡ has_tilde (drop from bytes.now) }
@@ -35,7 +35,7 @@ fn has_tilde_at(bytes: &[u8], from: usize) -> bool
     from < bytes.len() && bytes[from] == b'~'
 }
 
-// Whether what ends a run stands at this place, or nothing does.
+// Whether a run ends at this place, or the line does.
 fn is_run_end_at(bytes: &[u8], from: usize) -> bool
     requires { from ≤ length bytes.now }
     ensures { result ≡ is_run_end (drop from bytes.now) }
@@ -43,8 +43,8 @@ fn is_run_end_at(bytes: &[u8], from: usize) -> bool
     from == bytes.len() || ends_run_byte(bytes[from])
 }
 
-// The reach that the digits in front write, so many as there are: one to four of a value from 1 to
-// the greatest reach, with what ends a run after them, or the end. Takes no memory.
+// The reach that the leading `digits` digits write: one to four of a value from 1 to the greatest
+// reach, and after them what ends a run, or the end. Takes no memory.
 fn reach_at(bytes: &[u8], digits: usize) -> Option<u32>
     requires { digits ≤ length bytes.now }
     ensures { result ≡ reach_by digits bytes.now }
@@ -98,8 +98,8 @@ fn window_at(
     })
 }
 
-// The lexeme of this text between quotation marks, of which the second stands right before this
-// place of the line.
+// The lexeme of this text between quotation marks, the second of which is right before this place
+// of the line.
 fn closed_at(
     alloc: Global,
     dialect: Dialect<'_>,
@@ -124,7 +124,7 @@ fn closed_at(
     })
 }
 
-/// The quoted text or the window text whose first quotation mark stands at this place.
+/// The quoted text or the window text whose first quotation mark is at this place.
 pub fn quoted_at(
     alloc: Global,
     dialect: Dialect<'_>,

@@ -21,26 +21,27 @@ use std::alloc::Global;
 use std::error::Error;
 use std::fmt;
 
-/// Why a line is no query, or no watch. Where several hold, the number comes first, then the first lexeme from
-/// the left that fails, then the end of the line, and last the size.
+/// Why a line isn't a query, or isn't a watch. Where several hold, the number comes first, then the
+/// first lexeme from the left that fails, then the end of the line, and last the size.
 #[derive(Clone, Copy, Debug, PartialEq, Eq)]
 pub enum QueryFault {
-    /// The question mark isn't followed by one to four digits of a value from 1 to 1,000, or the exclamation mark by
-    /// one to ten of a value that 32 bits hold, with a blank or the end of the line after them; or the `#` of a count
-    /// line is followed neither by a blank or the end, nor by buckets and a blank or the end.
+    /// The question mark isn't followed by one to four digits of a value from 1 to 1,000, or the
+    /// exclamation mark by one to ten of a value that 32 bits hold, with a blank or the end of the
+    /// line after them; or the `#` of a count line is followed neither by a blank or the end, nor
+    /// by buckets and a blank or the end.
     BadNumber,
-    /// A lexeme can't stand at its place, is a quote that isn't closed, has no token, or is a window
-    /// text without a reach, a bound without an id or a field without a value; or the line ends before the query is
-    /// complete.
+    /// A lexeme isn't allowed at its place, is a quote that isn't closed, has no token, or is a
+    /// window text without a reach, a bound without an id or a field without a value; or the line
+    /// ends before the query is complete.
     BadQuery {
-        /// The place of the lexeme's first byte in the line, counted from 1 with the mark in front
-        /// as 1; at the end of the line its length plus 1.
+        /// The place of the lexeme's first byte in the line, counted from 1 for the mark that the
+        /// line begins with; at the end of the line its length plus 1.
         column: u64,
     },
-    /// A `(` or a `-` may stand at its place, where 16 of them are open already.
+    /// A `(` or a `-` is allowed at its place, where 16 of them are open already.
     TooDeep,
-    /// The query is complete, and its size is over 64: 1 for each word, bound and minus and for each
-    /// `and` and `or` of several parts, and the number of its terms for each phrase and window.
+    /// The query is complete, and its size is over 64. Each word, bound and minus and each `and`
+    /// and `or` of several parts counts 1, and each phrase and window the number of its terms.
     TooManyNodes,
     /// Memory ran out, which says nothing of the line.
     NoMemory,
@@ -122,19 +123,18 @@ pub(crate) fn read_text(
 }
 
 /// What a line that begins with `?` asks: how many matches, 1 to 1,000, and a well-formed query
-/// (this project's profile, docs/FORMATS.md). After the number stand, apart by spaces and tabs as
-/// wanted:
+/// (this project's profile, docs/FORMATS.md). After the number come, with spaces and tabs between
+/// as wanted:
 ///
 /// - a word, or a text between two `"`, cut into tokens as documents are: one token asks for that
 ///   word, several for the phrase of them in this order;
 /// - a text between two `"` with `~` and one to four digits of a value from 1 to 1,023 right after
-///   it, apart by a blank, a parenthesis, a `"` or the end from what follows: the window of its
-///   tokens, in this order with the last at most so many places after the first; one token asks
-///   for that word;
+///   it, and then a blank, a parenthesis, a `"` or the end: the window of its tokens, in this
+///   order, the last at most that many places after the first; one token asks for that word;
 /// - `since:` with one to twenty digits of a value that 64 bits hold right after it, up to a blank,
 ///   a parenthesis, a `"` or the end: the documents with a greater id;
-/// - parts side by side: all of them;
-/// - parts with `OR` between: any of them; it binds less than standing side by side;
+/// - parts in a row: all of them;
+/// - parts with `OR` between: any of them; it binds less tightly than parts in a row;
 /// - `-` where a part begins: not that part;
 /// - `(` and `)` round a query.
 ///
@@ -150,12 +150,13 @@ pub fn read_query(alloc: Global, line: &str) -> Result<(u32, Query), QueryFault>
     read_query_with(alloc, Dialect::plain(), line)
 }
 
-/// What a line that begins with `?` asks, where fields are read, as [`read_query`] says. Where a part
-/// may stand, the name of a field and a colon right after it, with no blank between, begin a field:
+/// What a line that begins with `?` asks, where fields are read, as [`read_query`] says. Where a
+/// part is allowed, the name of a field and a colon right after it, with no blank between, begin a
+/// field:
 ///
-/// - with a value of one byte or more behind the colon, up to a blank, a parenthesis, a `"` or the end: the
+/// - with a value of one byte or more after the colon, up to a blank, a parenthesis, a `"` or the end: the
 ///   documents of which the field has this value, whole and folded;
-/// - with a `"` behind the colon: the same for all up to the next `"`, which may be nothing.
+/// - with a `"` after the colon: the same for all bytes up to the next `"`, which may be none.
 ///
 /// A field without a value, and one whose quote isn't closed, are a `BadQuery` at the name.
 pub fn read_query_with(
@@ -177,13 +178,16 @@ pub fn read_query_with(
     }
 }
 
-/// What a query line asks of its query by this dialect, and the query, which is well formed: a line that begins with `?`,
-/// as [`read_query_with`] says, or where the dialect has counts one that begins with `#`. After the `#` stands nothing,
-/// where the total alone is asked for, or `X+W*N`, for the total and `N` buckets, each `W` wide, from the id `X` on: `X` is
-/// one to twenty digits of a value that 64 bits hold, `W` the same from 1 on, `N` one to four digits of a value from 1 to
-/// [`MAX_BUCKETS`](crate::MAX_BUCKETS). Then come a blank or the end, and a query text as after the number of a `?` line.
+/// What a query line asks of its query by this dialect, and the query, which is well formed. The
+/// line begins with `?`, as [`read_query_with`] says, or with `#` where the dialect has counts.
+/// After the `#` comes nothing, where the total alone is asked for, or `X+W*N`, for the total and
+/// `N` buckets, each `W` wide, from the id `X` on: `X` is one to twenty digits of a value that 64
+/// bits hold, `W` the same from 1 on, `N` one to four digits of a value from 1 to
+/// [`MAX_BUCKETS`](crate::MAX_BUCKETS). Then come a blank or the end, and a query text as after the
+/// number of a `?` line.
 ///
 /// Each [`QueryFault`] says when it comes; `NoMemory` comes where a growth was refused.
+#[inline(always)]
 pub fn read_ask(alloc: Global, dialect: Dialect<'_>, line: &str) -> Result<(Ask, Query), QueryFault>
     requires begins { begins_query (dialect_of dialect) line.now ≡ true }
     ensures asks { IfOk result (λ asked. ReadsWith (dialect_of dialect.entry) line.now (asks asked.0 (tree asked.1))) }

@@ -36,14 +36,14 @@ pub struct Reader {
     pub nesting: u32,
 }
 
-/// How a lexeme was taken.
+/// How the reader took a lexeme.
 #[derive(Clone, Copy)]
 pub enum Step {
-    /// It stands.
+    /// It is allowed there.
     Stood,
-    /// It can't stand at its place.
+    /// It isn't allowed at its place.
     Misplaced,
-    /// It may stand, but opens where [`MAX_NESTING`] are open.
+    /// It is allowed there, but opens where [`MAX_NESTING`] are open.
     Deep,
 }
 
@@ -104,8 +104,8 @@ impl Reader {
         }
     }
 
-    /// Takes one more lexeme. After an `Err`, and where the lexeme didn't stand, the reader is of no
-    /// more use.
+    /// Takes one more lexeme. After an `Err`, and where the lexeme wasn't allowed, the reader can't
+    /// be used any more.
     pub fn read(&mut self, alloc: Global, lexeme: Lexeme) -> Result<Step, NoMemory>
         requires { IsCounted self.old }
         ensures steps { IfOk result (λ went.

@@ -18,7 +18,7 @@ fn leaf_of(alloc: Global, name: &str, value: &str) -> Result<Lexeme, NoMemory>
     Ok(Lexeme::Leaf(Query::Word(term)))
 }
 
-// Whether a quotation mark stands at this place.
+// Whether there is a quotation mark at this place.
 fn has_quote_at(bytes: &[u8], from: usize) -> bool
     requires { from ≤ length bytes.now }
     ensures { result ≡ has_quote (drop from bytes.now) }
@@ -73,7 +73,7 @@ fn quoted_value_at(alloc: Global, name: &str, line: &str, from: usize) -> Result
     })
 }
 
-/// The lexeme of a field of which the name and the colon stand before this place.
+/// The lexeme of a field whose name and colon come before this place.
 pub fn value_at(alloc: Global, name: &str, line: &str, from: usize) -> Result<Found, NoMemory>
     requires within { from ≤ length line.now }
     requires boundary { IsCharBoundary line.now from }

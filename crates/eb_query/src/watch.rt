@@ -22,7 +22,7 @@ fn are_blanks(bytes: &[u8]) -> bool
     bytes.iter().all(|&byte| is_blank_byte(byte))
 }
 
-// Whether nothing but blanks stands from this place on.
+// Whether there is nothing but blanks from this place on.
 #[tactic(auto, using(crate::proofs::Cuts::rest_is))]
 fn is_blank_from(line: &[u8], from: usize) -> bool
     requires { from ≤ length line.now }
@@ -31,10 +31,10 @@ fn is_blank_from(line: &[u8], from: usize) -> bool
     are_blanks(&line[from..])
 }
 
-/// What a line that begins with `!` asks: a number of one to ten digits, at most 4,294,967,295, and after it and a
-/// blank a query text, which [`read_query`](crate::read_query) describes: the watch of this number is to be set to the
-/// query, which is well formed. Where nothing but blanks follows the number, there is no query: the watch of this number
-/// is to be removed.
+/// What a line that begins with `!` asks: a number of one to ten digits, at most 4,294,967,295, and
+/// after it and a blank a query text, which [`read_query`](crate::read_query) describes: the watch
+/// of this number is to be set to the query, which is well formed. Where nothing but blanks follows
+/// the number, there is no query: the watch of this number is to be removed.
 ///
 /// Each [`QueryFault`] says when it comes; `NoMemory` comes where a growth was refused.
 pub fn read_watch(alloc: Global, line: &str) -> Result<(u32, Option<Query>), QueryFault>

@@ -15,7 +15,7 @@ fn put(out: &mut Vec<u8>, bytes: &[u8]) -> Result<(), NoMemory>
     Ok(())
 }
 
-// Puts what stands before the part of an `and`, or the term of a phrase, at this index.
+// Puts what comes before the part of an `and`, or the term of a phrase, at this index.
 fn put_gap(out: &mut Vec<u8>, at: usize) -> Result<(), NoMemory>
     ensures { OnOk result (out.new.items ≡ out.old.items ++ and_gap at) }
 {
@@ -25,7 +25,7 @@ fn put_gap(out: &mut Vec<u8>, at: usize) -> Result<(), NoMemory>
     Ok(())
 }
 
-// Puts what stands before the part of an `or` at this index.
+// Puts what comes before the part of an `or` at this index.
 fn put_or(out: &mut Vec<u8>, at: usize) -> Result<(), NoMemory>
     ensures { OnOk result (out.new.items ≡ out.old.items ++ or_gap at) }
 {
@@ -151,10 +151,10 @@ fn put_any(alloc: Global, out: &mut Vec<u8>, parts: &Queries) -> Result<(), NoMe
 
 /// The line that asks for the first `k` matches of the query: `?`, `k`, a space and the query,
 /// without a LF (this project's profile, docs/FORMATS.md). A word or a phrase is its terms between
-/// two `"` with one space between, and a window is so too, with `~` and its reach after; a bound is
-/// `since:` and its number; the parts of an `and` have a space between, those of an `or` ` OR `; a `-`
-/// stands before what is negated; an `and` or an `or` inside another or after a `-` stands in
-/// parentheses, but for an `and` inside an `or`. `NoMemory` comes where a growth was refused.
+/// two `"` with one space between; a window is the same with `~` and its reach after it; a bound is
+/// `since:` and its number. The parts of an `and` have a space between, those of an `or` ` OR `. A
+/// `-` comes before what is negated. An `and` or an `or` inside another or after a `-` is in
+/// parentheses, except an `and` inside an `or`. `NoMemory` where memory runs out.
 pub fn write_query(alloc: Global, k: u32, query: &Query) -> Result<Vec<u8>, NoMemory>
     requires well_formed { IsWellFormed (tree query.now) }
     requires some { 1 ≤ k }

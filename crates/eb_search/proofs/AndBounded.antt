@@ -1,5 +1,5 @@
 -- The loads of an and of words, by the rarest of them.
-use Rattle.std.proofs.Common.{◌≡◌, ℕ, zero, suc, ◌+◌, ◌*◌, ◌<◌, ◌≤◌, inl, inr, List, [], ◌∷◌, length, drop, get_or, ap, sym, subst, ◌∙◌, refl, arith}
+use Rattle.std.proofs.Common.{◌≡◌, ℕ, zero, suc, ◌+◌, ◌*◌, ◌<◌, ◌≤◌, inl, inr, Bool, true, List, [], ◌∷◌, length, drop, get_or, if◌then◌else◌, ap, sym, subst, ◌∙◌, refl, arith}
 use Rattle.std.proofs.lemmas.Bool.{cases_lt}
 use Rattle.std.proofs.Math.Nat.{suc-mul}
 use Rattle.std.specs.List.{Contains}
@@ -13,7 +13,8 @@ use Rattle.eb_cursor.specs.AndCosts.{word_parts, documents_with, and_loads, call
 use Rattle.eb_cursor.specs.Frames.{ids_of}
 use Rattle.eb_cursor.specs.declared.frame.Frame.{Frame}
 use Rattle.eb_cursor.proofs.AndLoads.{open_later}
-use Rattle.eb_search.specs.Bounds.{rarest_count, and_loads_from, ids_loads}
+use Rattle.eb_search.specs.Bounds.{rarest_count, and_loads_in, and_loads_from, ids_loads}
+use Rattle.eb_search.proofs.Bounded.{spared, spares}
 
 -- one of the words is the rarest
 pub rarest_word : (docs : List Doc) (ts : List Term) → 0 < length ts → (t : Term) × Contains ts t × (documents_with docs t ≡ rarest_count docs ts)
@@ -46,20 +47,33 @@ pub record IsGoingAnd (s : ℕ) (docs : List Doc) (ts : List Term) (t : Term) (f
 
 -- ---- the segments
 
-pub and_from_later : (m n : Moment) (s : ℕ) (ts : List Term) (segs : List (List Doc)) → IsMoment m → IsMoment n → IsNotBefore n m
-    → s + length segs ≤ m.setting.segments → and_loads_from m s ts segs ≤ and_loads_from n s ts segs
-and_from_later m n s ts [] is js l h = omega arith
-and_from_later m n s ts (docs ∷ more) is js l h = omega (arith, open_later m n s ts is js l (omega (arith, h)), and_from_later m n (s + 1) ts more is js l (omega (arith, h)))
+pub and_from_later : (likely : List Bool) (m n : Moment) (s : ℕ) (ts : List Term) (segs : List (List Doc)) → IsMoment m → IsMoment n → IsNotBefore n m
+    → s + length segs ≤ m.setting.segments → and_loads_from likely m s ts segs ≤ and_loads_from likely n s ts segs
+and_from_later likely m n s ts [] is js l h = omega arith
+and_from_later likely m n s ts (docs ∷ more) is js l h =
+    let one : and_loads_in m s ts docs ≤ and_loads_in n s ts docs = omega (arith, open_later m n s ts is js l (omega (arith, h))) in
+    omega (
+      arith,
+      spared (get_or likely s true) (and_loads_in m s ts docs) (and_loads_in n s ts docs) one,
+      and_from_later likely m n (s + 1) ts more is js l (omega (arith, h)),
+    )
+
+-- where segments are skipped no more is loaded
+pub and_spared : (likely : List Bool) (n : Moment) (s : ℕ) (ts : List Term) (segs : List (List Doc)) → and_loads_from likely n s ts segs ≤ and_loads_from [] n s ts segs
+and_spared likely n s ts [] = omega arith
+and_spared likely n s ts (docs ∷ more) = omega (arith, spares (get_or likely s true) (and_loads_in n s ts docs), and_spared likely n (s + 1) ts more)
 
 -- the segments from one on are some of all
-and_from_drop : (n : Moment) (r a : ℕ) (ts : List Term) (segs : List (List Doc)) → and_loads_from n (r + a) ts (drop a segs) ≤ and_loads_from n r ts segs
-and_from_drop n r zero ts segs = let e : r + zero ≡ r = omega arith in omega (arith, ap (λ j. and_loads_from n j ts segs) e)
-and_from_drop n r (suc a) ts [] = omega arith
-and_from_drop n r (suc a) ts (docs ∷ more) =
-    let e : r + suc a ≡ (r + 1) + a = omega arith in omega (arith, ap (λ j. and_loads_from n j ts (drop a more)) e, and_from_drop n (r + 1) a ts more)
+and_from_drop : (likely : List Bool) (n : Moment) (r a : ℕ) (ts : List Term) (segs : List (List Doc))
+    → and_loads_from likely n (r + a) ts (drop a segs) ≤ and_loads_from likely n r ts segs
+and_from_drop likely n r zero ts segs = let e : r + zero ≡ r = omega arith in omega (arith, ap (λ j. and_loads_from likely n j ts segs) e)
+and_from_drop likely n r (suc a) ts [] = omega arith
+and_from_drop likely n r (suc a) ts (docs ∷ more) =
+    let e : r + suc a ≡ (r + 1) + a = omega arith in omega (arith, ap (λ j. and_loads_from likely n j ts (drop a more)) e, and_from_drop likely n (r + 1) a ts more)
 
-pub and_from_all : (n : Moment) (s : ℕ) (ts : List Term) (segs : List (List Doc)) → and_loads_from n s ts (drop s segs) ≤ and_loads_from n 0 ts segs
-and_from_all n s ts segs = let e : 0 + s ≡ s = omega arith in omega (arith, ap (λ j. and_loads_from n j ts (drop s segs)) e, and_from_drop n 0 s ts segs)
+pub and_from_all : (likely : List Bool) (n : Moment) (s : ℕ) (ts : List Term) (segs : List (List Doc)) → and_loads_from likely n s ts (drop s segs) ≤ and_loads_from likely n 0 ts segs
+and_from_all likely n s ts segs =
+    let e : 0 + s ≡ s = omega arith in omega (arith, ap (λ j. and_loads_from likely n j ts (drop s segs)) e, and_from_drop likely n 0 s ts segs)
 
 drop_at : (s : ℕ) (segs : List (List Doc)) → s < length segs → drop s segs ≡ get_or segs s [] ∷ drop (suc s) segs
 drop_at s [] h = absurd (omega (arith, h))
@@ -67,9 +81,10 @@ drop_at zero (docs ∷ more) h = refl
 drop_at (suc s) (docs ∷ more) h = drop_at s more (omega (arith, h))
 
 -- the next older segment
-pub and_from_step : (n : Moment) (s end : ℕ) (ts : List Term) (segs : List (List Doc)) → s < length segs → end ≡ s + 1
-    → and_loads_from n s ts (drop s segs) ≡ and_loads n s ts (rarest_count (get_or segs s []) ts) + call_loads ts + and_loads_from n end ts (drop end segs)
-and_from_step n s end ts segs h e =
+pub and_from_step : (likely : List Bool) (n : Moment) (s end : ℕ) (ts : List Term) (segs : List (List Doc)) → s < length segs → end ≡ s + 1
+    → and_loads_from likely n s ts (drop s segs) ≡ (if get_or likely s true then and_loads_in n s ts (get_or segs s []) else 0) + and_loads_from likely n end ts (drop end segs)
+and_from_step likely n s end ts segs h e =
     let k : suc s ≡ end = omega (arith, e) in
-    ap (and_loads_from n s ts) (drop_at s segs h) ∙ ap (λ j. and_loads n s ts (rarest_count (get_or segs s []) ts) + call_loads ts + and_loads_from n j ts (drop (suc s) segs)) (sym e)
-    ∙ ap (λ j. and_loads n s ts (rarest_count (get_or segs s []) ts) + call_loads ts + and_loads_from n end ts (drop j segs)) k
+    let one = if get_or likely s true then and_loads_in n s ts (get_or segs s []) else 0 in
+    ap (and_loads_from likely n s ts) (drop_at s segs h) ∙ ap (λ j. one + and_loads_from likely n j ts (drop (suc s) segs)) (sym e)
+    ∙ ap (λ j. one + and_loads_from likely n end ts (drop j segs)) k

@@ -99,7 +99,7 @@ seen_segment m docs s w is p inside e some low = elim (cases_lt s (length (cut m
   ]
 ]
 
--- a word that is 0 or above it is of none
+-- a word that is 0 or above it is the word of none
 pub unseen_segment : (m : Moment) (docs : List Doc) (s w : ℕ) → IsMoment m → IsPrefix docs m.documents.accepted → s < m.setting.segments → w ≡ word m (place m.setting (slot s first_region 0))
     → IsHidden (length docs) w → length (cut m.setting docs) ≤ s
 unseen_segment m docs s w is p inside e hid = elim (cases_lt s (length (cut m.setting docs))) [

@@ -53,7 +53,7 @@ drop_segment σ docs s h =
     let e = flat_cut σ docs in
     ap (drop (documents_before (cut σ docs) s)) (sym e) ∙ drop_flat (cut σ docs) s h ∙ ap (λ (z : List Doc). get_or (cut σ docs) s [] ++ drop (documents_before (cut σ docs) (s + 1)) z) e
 
--- how many stand before the next segment
+-- how many come before the next segment
 before_next : (segs : List (List Doc)) (s : ℕ) → s < length segs → documents_before segs (s + 1) ≡ documents_before segs s + length (get_or segs s [])
 before_next [] s h = absurd (omega arith)
 before_next (x ∷ xs) zero h = omega (arith, sum_by-cons {X = List Doc} length x [])
@@ -72,6 +72,6 @@ is_part σ docs s h = record {
   within = omega (arith, sum_by-take-le {X = List Doc} length (cut σ docs) (s + 1), cut_sum σ docs);
 }
 
--- all stand before the end
+-- all come before the end
 pub before_end : (σ : Setting) (docs : List Doc) → documents_before (cut σ docs) (length (cut σ docs)) ≡ length docs
 before_end σ docs = ap (sum_by length) (take_all (length (cut σ docs)) (cut σ docs) (omega arith)) ∙ cut_sum σ docs

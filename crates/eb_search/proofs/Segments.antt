@@ -52,11 +52,16 @@ visible_later m n docs firsts begun l v = record {
 pub none_later : (m n : Moment) (docs : List Doc) (likely : List Bool) (q : Tree) → IsNotBefore n m → AreNone q (cut m.setting docs) likely → AreNone q (cut n.setting docs) likely
 none_later m n docs likely q l h = subst (λ (σ : Setting). AreNone q (cut σ docs) likely) l.setting h
 
--- inside a list it's no matter what stands behind it
+-- inside a list it doesn't matter what comes after it
 pub inside_same : (xs : List Bool) (i : ℕ) → i < length xs → get_or xs i true ≡ get_or xs i false
 inside_same [] i h = absurd (omega (arith, h))
 inside_same (x ∷ xs) zero h = refl
 inside_same (x ∷ xs) (suc i) h = inside_same xs i (omega (arith, h))
+
+pub inside_on : (xs : List Bool) (i : ℕ) → get_or xs i false ≡ true → get_or xs i true ≡ true
+inside_on [] i h = absurd (cc h)
+inside_on (x ∷ xs) zero h = h
+inside_on (x ∷ xs) (suc i) h = inside_on xs i h
 
 -- they are those that the cursors know of
 pub none_of : (m : Moment) (docs : List Doc) (likely : List Bool) (q : Tree) → IsPrefix docs m.documents.accepted → AreLikely m q likely → AreNone q (cut m.setting docs) likely

@@ -1,7 +1,6 @@
 -- What a tally has counted of a segment, from the newest document on, and of all segments.
-use Rattle.std.proofs.Common.{◌≡◌, ℕ, zero, suc, ◌+◌, ◌-◌, ◌<◌, ◌≤◌, inl, inr, true, false, List, [], ◌∷◌, ◌++◌, length, map, filter, take, drop, get_or, None, refl, ap, sym, ◌∙◌, subst}
+use Rattle.std.proofs.Common.{◌≡◌, ℕ, zero, suc, ◌+◌, ◌-◌, ◌<◌, ◌≤◌, inl, inr, false, List, [], ◌∷◌, ◌++◌, length, map, filter, take, drop, get_or, None, refl, ap, sym, ◌∙◌, subst}
 use Rattle.std.proofs.Common.{arith, add-one, drop-cons}
-use Rattle.std.specs.List.{count_by}
 use Rattle.std.proofs.lemmas.Bool.{cases_Bool}
 use Rattle.std.proofs.lemmas.List.{take_all, length-map, length-reverse}
 use Rattle.std.proofs.lemmas.List.Sums.{length-filter}
@@ -17,7 +16,7 @@ use Rattle.eb_count.proofs.Counting.{counted_none, counted_on, counted_match, co
 use Rattle.eb_cursor.specs.Greatest.{MatchesAt, IsGreatest, IsGreatestMatch}
 use Rattle.eb_search.proofs.Matches.{nobody}
 
-front_at : (docs : List Doc) (place : ℕ) (d : Doc) → place < length docs → d ≡ get_or docs place d → drop place docs ≡ d ∷ drop (place + 1) docs
+pub front_at : (docs : List Doc) (place : ℕ) (d : Doc) → place < length docs → d ≡ get_or docs place d → drop place docs ≡ d ∷ drop (place + 1) docs
 front_at docs place d lt e = rw (add-one, drop-cons docs place d, ← e) refl
 
 -- nothing matches between two places
@@ -81,7 +80,7 @@ none_matches q part none =
     let same : length all ≡ match_count q part = length-reverse (filter (is_match q) part) ∙ length-filter {X = Doc} (is_match q) part in
     omega (arith, long, e, same)
 
--- a segment that is passed over
+-- a segment that is skipped
 pub tally_past : (q : Tree) (docs part : List Doc) (a b : Numbers) (start end : ℕ) → drop start docs ≡ part ++ drop end docs
     → ((k : ℕ) → answer q k part ≡ []) → HasCounted q (drop end docs) a b → HasCounted q (drop start docs) a b
 tally_past q docs part a b start end e none h = subst (λ (z : List Doc). HasCounted q z a b) (sym e) (counted_skip q part (drop end docs) a b (none_matches q part none) h)

@@ -1,4 +1,5 @@
--- Bounds of an and of two words: how many documents have a word, the rarest of both, and the rounds that can still come.
+-- Bounds of an and of two words: how many documents have a word, the rarest of both, and the rounds
+-- that can still come.
 use Rattle.std.proofs.Common.{◌≡◌, List, [], ◌∷◌, refl}
 use Rattle.eb_base.specs.Document.{Doc}
 use Rattle.eb_base.specs.Term.{Term}
@@ -38,7 +39,8 @@ rounds_by_b_of_three = refl
 rounds_by_a : rounds_left (document_has four a) 4 ≡ 8
 rounds_by_a = refl
 
--- a look costs at most 85 loads besides what the spans pay; five rounds over two words, a call's round and look, and three ids
+-- a look costs at most 85 loads besides what the spans pay; five rounds over two words, a call's
+-- round and look, and three ids
 a_look : look_loads ≡ 85
 a_look = refl
 

@@ -7,8 +7,9 @@ use Rattle.eb_place.specs.Later.{IsNotBefore}
 use Rattle.eb_place.specs.Room.{cut}
 use Rattle.eb_search.specs.Visible.{AreNone}
 
--- a count that began at moment m and ended at n: at a moment from m to n it loaded the number of accepted documents, and
--- the tally has counted exactly the matches among the documents accepted then
+-- a count that began at moment m and ended at n: at a moment from m to n it loaded the number of
+-- accepted documents, and the tally has counted exactly the matches among the documents accepted
+-- then
 pub record CountedOn (m n : Moment) (q : Tree) (counted : ℕ) (old new : Numbers) : Type 0 where
   pub loaded : Moment
   pub after : IsNotBefore loaded m
@@ -16,7 +17,8 @@ pub record CountedOn (m n : Moment) (q : Tree) (counted : ℕ) (old new : Number
   pub count : counted ≡ length loaded.documents.accepted
   pub tally : HasCounted q loaded.documents.accepted old new
 
--- the same where segments were passed over of which the list says false: so it is where none of their documents matches
+-- the same where segments were skipped of which the list says false: it holds where none of their
+-- documents matches
 pub record CountedLikely (m n : Moment) (q : Tree) (likely : List Bool) (counted : ℕ) (old new : Numbers) : Type 0 where
   pub loaded : Moment
   pub after : IsNotBefore loaded m

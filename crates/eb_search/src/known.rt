@@ -14,9 +14,9 @@ use eb_cursor::Frame;
 use eb_place::{Port, Steps};
 use std::sync::ledger::Ledger;
 
-/// Searches exactly the first `count` documents, all of which are accepted: it loads no count, and puts the ids that it
-/// finds after those of the frame, as many as the frame still takes. So documents that are accepted later change
-/// nothing of it, whenever it is asked. Takes no memory.
+/// Searches exactly the first `count` documents, all of which are accepted. It loads no count, and
+/// puts the ids that it finds after those of the frame, as many as the frame still takes. So
+/// documents that are accepted later change nothing of it, whenever it is called. Takes no memory.
 pub fn search_first<P: Port, L: Ledger>(
     port: &mut P,
     count: u64,

@@ -1,5 +1,6 @@
-//! Search: the newest documents that a query matches, among those that are accepted when the search loads
-//! their count, over words that may grow between any two loads. `specs/Searched.antt` says what is found.
+//! Search: the newest documents that a query matches, among those that are accepted when the search
+//! loads their count, over words that may grow between any two loads. `specs/Searched.antt` says
+//! what is found.
 #![tactic(auto)]
 
 mod counting;

@@ -1,4 +1,4 @@
-//! The search that passes over segments which its caller knows to have no match.
+//! The search that skips segments which its caller knows to have no match.
 ghost use Rattle.std.specs.Prelude.{◌≡◌, ℕ, ◌+◌, ◌≤◌, List, length};
 ghost use Rattle.eb_place.specs.declared.moment.Moment.{Moment};
 ghost use Rattle.eb_cursor.specs.Frames.{query_of, k_of, ids_of};
@@ -15,9 +15,9 @@ use eb_cursor::Frame;
 use eb_place::{Port, Steps};
 use std::sync::ledger::Ledger;
 
-/// Searches as [`search`] does, over all segments but those of which `likely` says false: the answer is the same where
-/// none of the documents of these segments matches. It makes no more loads than the bounds of [`search`]; that it makes
-/// fewer is no clause. Takes no memory.
+/// Searches as [`search`] does, over all segments but those of which `likely` says false: the
+/// answer is the same where none of the documents of these segments matches. The bounds on loads
+/// are those of [`search`] but count nothing for what is in these segments. Takes no memory.
 ///
 /// [`search`]: crate::search
 pub fn search_likely<P: Port, G: Gate, L: Ledger>(
@@ -34,10 +34,10 @@ pub fn search_likely<P: Port, G: Gate, L: Ledger>(
         × SearchedLikely m n (query_of frame.old) (k_of frame.old) likely.now result (ids_of frame.new) }
     ensures loads { (m : Moment) (t : List ℕ) → P.stands port.old m → query_of frame.old ≡ word t
         → (n : Moment) × P.stands port.new n × IsNotBefore n m × P.keeps port.old m port.new n
-        × (steps.new ≤ steps.old + load_bound m n result t (length (ids_of frame.new))) }
+        × (steps.new ≤ steps.old + load_bound likely.now m n result t (length (ids_of frame.new))) }
     ensures rounds { (m : Moment) (ts : List (List ℕ)) → P.stands port.old m → query_of frame.old ≡ conjunction (word_parts ts)
         → (n : Moment) × P.stands port.new n × IsNotBefore n m × P.keeps port.old m port.new n
-        × (steps.new ≤ steps.old + and_bound n result ts (length (ids_of frame.new))) }
+        × (steps.new ≤ steps.old + and_bound likely.now n result ts (length (ids_of frame.new))) }
 {
     frame.clear();
     let count = port.load(0, steps);

@@ -10,9 +10,9 @@ use eb_base::MAX_SEGMENTS;
 use eb_place::{Places, Port, Steps};
 use std::sync::ledger::Ledger;
 
-/// How many segments hold one of the first `count` accepted documents. Puts the first-document word of each of
-/// them into `firsts`. A segment that was begun since, or whose first document isn't among them, isn't
-/// counted: its word is 0 or above `count`. Loads at most one word a segment.
+/// How many segments hold one of the first `count` accepted documents. Puts the first-document word
+/// of each of them into `firsts`. A segment that was begun since, or whose first document isn't
+/// among them, isn't counted: its word is 0 or above `count`. Loads at most one word a segment.
 pub(crate) fn visible_segments<P: Port, L: Ledger>(
     port: &mut P,
     count: u64,

@@ -11,8 +11,8 @@ use eb_place::Steps;
 use std::marker::Brand;
 use std::sync::ledger::{Blank, Ledger};
 
-/// A query that waits for its answer: a number, a frame with the query, and a reader of its own. It keeps how many
-/// documents its reader had seen when it was made.
+/// A query that waits for its answer: a number, a frame with the query, and a reader of its own. It
+/// keeps how many documents its reader had seen when it was made.
 #[derive(Drop)]
 pub struct Job {
     number: u64,
@@ -22,8 +22,8 @@ pub struct Job {
     ghost knows: { told ≡ length reader.docs },
 }
 
-/// A query with its answer: the frame holds the ids of the newest `k` matches among the documents that the reader
-/// knows, and these are at least as many as the job's reader had seen.
+/// A query with its answer: the frame holds the ids of the newest `k` matches among the documents
+/// that the reader knows, and these are at least as many as the job's reader had seen.
 #[derive(Drop)]
 pub struct Answer {
     number: u64,
@@ -34,6 +34,7 @@ pub struct Answer {
     ghost found: { ids_of frame ≡ answer (query_of frame) (k_of frame) reader.docs },
 }
 
+// Searches with a counter of loads that nobody reads.
 fn search_with<G: Gate, L: Ledger>(
     reader: &mut Reader,
     index: &Index,
@@ -56,7 +57,8 @@ fn search_with<G: Gate, L: Ledger>(
 impl Job {
     ghost use Rattle.eb_serve.specs.Jobs.{pair, pair_of, asking, asker};
 
-    /// A job of this number. It keeps how many documents the reader has seen, as its `told`. Takes no memory.
+    /// A job of this number. It keeps how many documents the reader has seen, as its `told`. Takes
+    /// no memory.
     pub fn new(number: u64, frame: Frame, reader: Reader) -> Job
         ensures pair { pair_of result ≡ pair number (length reader.docs) }
         ensures frame { asking result ≡ frame }
@@ -135,8 +137,8 @@ impl Answer {
         &self.frame
     }
 
-    /// The frame and the reader: its ids are those of the newest `k` matches among the documents that the reader knows,
-    /// which are at least as many as the job's reader had seen.
+    /// The frame and the reader: its ids are those of the newest `k` matches among the documents
+    /// that the reader knows, which are at least as many as the job's reader had seen.
     pub fn finish(self) -> (Frame, Reader)
         ensures frame { result.0 ≡ answering self }
         ensures reader { result.1 ≡ answerer self }

@@ -47,7 +47,8 @@ begins_goes log v e old len pre false is =
       rw is (ap length all),
     )
 
--- whatever the book is, the exchange adds the turn to all that was seen, or finds that the log is longer
+-- whatever the book is, the exchange adds the turn to all that was seen, or finds that the log is
+-- longer
 pub begins_moves : (v : List Turn) (e : Turn) (old : ℕ) → length v ≡ old
     → Moves IsKept shown moved 0 (v, (no_nib, None)) (λ n. either (n == old) (old + 1) n) (Begins (step 0 old (old + 1) e) (v, (no_nib, None)))
 begins_moves v e old len cs log kept pre away =

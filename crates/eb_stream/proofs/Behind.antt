@@ -1,4 +1,4 @@
--- What stands after newer turns.
+-- What comes after newer turns.
 use Rattle.std.proofs.Common.{◌≡◌, ℕ, zero, suc, ◌+◌, ◌^◌, ◌<◌, ◌≤◌, List, [], ◌∷◌, ◌++◌, length}
 use Rattle.std.proofs.Common.{take, min, ◌-◌, reverse, get_or, refl, ap, sym, ◌∙◌, subst, arith, append_assoc, append-nil, length-append}
 use Rattle.std.proofs.lemmas.List.{reverse-append, length-reverse, length-take}
@@ -35,7 +35,8 @@ behind_index (q ∷ qs) (p ∷ ps) docs docs' (m ∷ newer) (t ∷ ts) zero d d'
 behind_index (q ∷ qs) (p ∷ ps) docs docs' (m ∷ newer) (t ∷ ts) (suc n) d d' k few h e lt =
     behind_index (q ∷ qs) ps m.before docs' newer (t ∷ ts) n d d' k few h.2 (omega (arith, e)) (omega arith)
 
--- what is known of an earlier generation, and all before it, is a front of what is known with newer turns
+-- what is known of an earlier generation, and all before it, is a prefix of what is known with
+-- newer turns
 history_front : (docs docs' : List Doc) (newer ts : List Turn) → IsPrefix docs (docs_behind docs' newer)
     → IsPrefix (joined_generations (past_of docs ts)) (joined_generations (past_of docs' (newer ++ ts)))
 history_front docs docs' [] [] p = ([], refl)

@@ -1,9 +1,10 @@
--- Answers that go on after what a frame holds.
+-- Answers and counts that go on after what a frame or a tally holds.
 use Rattle.std.proofs.Common.{◌≡◌, ℕ, suc, ◌+◌, ◌-◌, ◌≤◌, List, [], ◌∷◌, ◌++◌, length, take, reverse, get_or, refl, ap, sym, ◌∙◌, arith, append_assoc, append-nil, length-append}
 use Rattle.eb_base.specs.Document.{Doc}
 use Rattle.eb_base.specs.Query.{Tree}
 use Rattle.eb_base.specs.Match.{answer}
 use Rattle.eb_base.proofs.Answering.{answer-append}
+use Rattle.eb_count.specs.Tallies.{Numbers, HasCounted}
 use Rattle.eb_feed.specs.Generations.{joined_generations}
 use Rattle.eb_feed.proofs.Helds.{answer_older, answer_all, answer_first}
 use Rattle.eb_stream.specs.declared.turn.Turn.{Turn}
@@ -44,3 +45,14 @@ pub whole_stretch : (q : Tree) (k : ℕ) (w : PieceToken) (older : List PieceTok
     → ((docs : List Doc) (us : List Turn) → AreHeld older docs us → ids ≡ first ++ answer q (k - length first) (first_ones (length older) (past_of docs us)))
     → ids ≡ answer q k (stretch_of (suc (length older)) log w.docs)
 whole_stretch q k w older log first ids h e f = behind_newest q k w older (reverse log) first ids h e f
+
+counted_behind : (q : Tree) (w : PieceToken) (older : List PieceToken) (ts : List Turn) (before after : Numbers) → AreHeld (w ∷ older) w.docs ts
+    → ((docs : List Doc) (us : List Turn) → AreHeld older docs us → HasCounted q (first_ones (length older) (past_of docs us) ++ w.docs) before after)
+    → HasCounted q (first_ones (suc (length older)) (past_of w.docs ts)) before after
+counted_behind q w older [] before after h f = absurd h
+counted_behind q w older (t ∷ ts) before after h f = f t.before ts h.2
+
+pub counted_whole : (q : Tree) (w : PieceToken) (older : List PieceToken) (log : List Turn) (before after : Numbers) → AreHeld (w ∷ older) w.docs (reverse log)
+    → ((docs : List Doc) (us : List Turn) → AreHeld older docs us → HasCounted q (first_ones (length older) (past_of docs us) ++ w.docs) before after)
+    → HasCounted q (stretch_of (suc (length older)) log w.docs) before after
+counted_whole q w older log before after h f = counted_behind q w older (reverse log) before after h f

@@ -1,4 +1,4 @@
--- The generation that a turn lets go.
+-- The generation that a turn drops.
 use Rattle.std.proofs.Common.{◌≡◌, ℕ, zero, suc, ◌<◌, ◌≤◌, List, [], ◌∷◌, ◌++◌, length, min, reverse, get_or, Option, None, Some, MatchOption, IfSome, ap, sym, ◌∙◌, arith, length-append}
 use Rattle.std.proofs.lemmas.List.{reverse-append}
 use Rattle.eb_base.specs.Document.{Doc}
@@ -15,7 +15,7 @@ held_index (p ∷ ps) docs [] n d t h lt = absurd h
 held_index (p ∷ ps) docs (u ∷ ts) zero d t h lt = h.0
 held_index (p ∷ ps) docs (u ∷ ts) (suc n) d t h lt = held_index ps u.before ts n d t h.2 (omega arith)
 
--- the last of as many as are kept is let go by a turn
+-- a turn drops the last of as many as are kept
 pub let_go : (keep n : ℕ) (w closed p : PieceToken) (older : List PieceToken) (index : Words) (log : List Turn) → AreHeld (w ∷ older) w.docs (reverse log)
     → suc (length older) ≡ min keep (length log) → keep ≡ suc (suc n) → n < length older → p ≡ get_or older n p → closed ≡ w
     → IsLetGo p keep (log ++ turn index closed.docs ∷ [])
@@ -30,7 +30,7 @@ let_go keep n w closed p older index log h many k lt last same =
           ∙ sym (λ i. get_or (past_of [] (turned i)) (k i) []),
     )
 
--- the same, where one is let go if there are too many
+-- the same, where one is dropped if there are too many
 pub let_go_then : (r : Option PieceToken) (keep n len : ℕ) (w closed : PieceToken) (older held : List PieceToken) (index : Words) (log : List Turn)
     → AreHeld (w ∷ older) w.docs (reverse log) → suc (length older) ≡ min keep (length log) → keep ≡ suc (suc n) → closed ≡ w → len ≡ length held → held ≡ older
     → MatchOption r (len ≤ n) (λ p. (n < len) × (p ≡ get_or held n p)) → IfSome r (λ p. IsLetGo p keep (log ++ turn index closed.docs ∷ []))

@@ -1,4 +1,5 @@
--- The definitions on rows: a feed of three generations, the first of documents 1 and 2, the second of 3, the newest of 4.
+-- The definitions on rows: a feed of three generations, the first of documents 1 and 2, the second
+-- of 3, the newest of 4.
 use Rattle.std.proofs.Common.{◌≡◌, ℕ, List, [], ◌∷◌, length, reverse, inl, inr, true, refl, ap, arith}
 use Rattle.logbook.specs.Pages.{Book}
 use Rattle.eb_base.specs.Document.{Doc}
@@ -71,7 +72,8 @@ newest_of_two j k = refl
 newest_index : (i j k : Words) → IsOfNewest k (log i j k)
 newest_index i j k = (turn i [] ∷ turn j (doc 1 ∷ doc 2 ∷ []) ∷ [], doc 3 ∷ [], refl)
 
--- a reader of the first turn holds document 1; one that knows all, and two generations, can't compare it
+-- a reader of the first turn holds document 1; one that knows all, and two generations, can't
+-- compare it
 abbrev token : Book → List Turn → List Doc → ℕ → FeedToken
 token b ts docs held = record { book = b; log = ts; docs = docs; held = held }
 

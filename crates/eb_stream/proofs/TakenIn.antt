@@ -6,7 +6,7 @@ use Rattle.eb_place.proofs.Prefixes.{prefix_self, prefix_whole}
 use Rattle.eb_stream.specs.declared.turn.Turn.{Turn}
 use Rattle.eb_stream.specs.Turns.{PieceToken, AreHeld, newest_docs}
 
--- who takes in no more than it knows knows the same
+-- a reader that meets one that knows no more knows the same
 pub knows_all : (old new other : List Doc) → IsPrefix old new → (new ≡ old) ⊎ (new ≡ other) → length other ≤ length old → new ≡ old
 knows_all old new other p which few =
     ⊎_elim (λ (e : new ≡ old). e) (λ (e : new ≡ other). sym (prefix_whole old new p (omega (arith, ap length e)))) which

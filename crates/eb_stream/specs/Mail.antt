@@ -13,7 +13,7 @@ abbrev pub book_of : Ticket → Book
 book_of Opening = record { number = 0; log_name = 0; cells_name = 0 }
 book_of (At book) = book
 
--- all that lies there is of this feed, and each end knows that
+-- each reader in the mailbox is of this feed, and each end knows that
 pub record MailOf (book : Book) (items : List FeedToken) (views : List Ticket) : Type 0 where
   pub made : All (λ m. m.book ≡ book) items
   pub seated : (by : ℕ) (v : Ticket) → get_elem? views by ≡ some v → v ≡ At book

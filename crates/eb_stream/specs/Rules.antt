@@ -1,9 +1,10 @@
--- The rule of the book, and what its steps tell.
+-- The rule of the book, and what its steps show.
 use Rattle.std.specs.Prelude.{ℕ, ◌≡◌, ◌==◌, true, List, [], ◌∷◌, ◌++◌, length, MatchBool}
 use Rattle.logbook.specs.Pages.{Cell, Step, View, Book, Named}
 use Rattle.eb_stream.specs.declared.turn.Turn.{Turn}
 
--- the first word is the number of turns. A book has two words, of which this one leaves the second at 0
+-- the first word is the number of turns. A book has two words, of which this one leaves the second
+-- at 0
 pub record IsKept (cells : List Cell) (log : List Turn) : Type 0 where
   pub words : cells ≡ (length log, true) ∷ (0, true) ∷ []
 

@@ -12,8 +12,9 @@ use std::alloc::Global;
 use std::marker::Model;
 use std::sync::Arc;
 
-/// The one converter of a generation. It may go to a thread of its own, and goes on after the generation was closed,
-/// also where nobody else holds it any more. Contracts see what the converter of an index has.
+/// The one converter of a generation. It may go to a thread of its own, and goes on after the
+/// generation was closed, even where nobody else holds the generation any more. Contracts see what
+/// the converter of an index has.
 #[derive(Drop)]
 pub struct FeedConverter {
     index: Arc<Index, Global>,
@@ -40,10 +41,11 @@ impl FeedConverter {
         FeedConverter { index, converter }
     }
 
-    /// Converts the next segment of the generation, the first one that isn't converted, where it is closed: `One` with
-    /// its number, which counts from 0; else `Nothing`, and nothing is stored. A segment is closed where a document of
-    /// the following one is added, or is being added; so the last one of a generation never is. No answer changes by
-    /// it. Doesn't wait, and takes no memory.
+    /// Converts the next segment of the generation, the first one that isn't converted, if it is
+    /// closed: `One` with its number, which counts from 0; else `Nothing`, and nothing is stored. A
+    /// segment is closed where a document of the following one is added, or is being added; so the
+    /// last one of a generation never is. No answer changes by it. Doesn't wait, and takes no
+    /// memory.
     pub fn convert(&mut self) -> Converted
         ensures index { self.new.index ≡ self.old.index }
         ensures known { IsPrefix self.old.docs self.new.docs }

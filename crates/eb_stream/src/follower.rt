@@ -1,4 +1,4 @@
-//! Readers that are told of turns, and a writer that tells them.
+//! Followers: readers that get the news of turns, and the leader that sends it.
 ghost use Rattle.std.specs.Prelude.{◌≡◌, ◌++◌, ◌∷◌, [], List, false, length, All, IsTrue, IsFalse, IfOk, IfSome, OnOk, OnErr};
 ghost use mathlib.Core.List.{IsPrefix};
 ghost use Rattle.eb_base.specs.Document.{Doc};
@@ -23,8 +23,8 @@ use std::alloc::Global;
 use std::marker::Model;
 use std::sync::ledger::Ledger;
 
-/// A reader of a feed that is told where a generation was begun. It may go to a thread of its own. Contracts see what
-/// its reader knows.
+/// A reader of a feed that gets news where a generation was begun. It may go to a thread of its
+/// own. Contracts see what its reader knows.
 #[derive(Drop)]
 pub struct Follower {
     reader: FeedReader,
@@ -43,9 +43,10 @@ impl Model for Follower {
 }
 
 impl Follower {
-    /// Takes in what it was told last, if anything. True where all that it knew is known on; false only where the
-    /// generation that was its newest is held no more, or, after a turn, fewer of its documents are known: of that one
-    /// documents that it knew may be unknown. Where no turn is new, it forgets none of them. Doesn't wait, and takes no memory.
+    /// Meets the newest reader in its mailbox, if there is one. True where it still knows all that
+    /// it knew. False only where the generation that was its newest was dropped, or where, after a
+    /// turn, it knows fewer documents of that generation: then documents of that one may be
+    /// forgotten. Where no turn is new, it forgets none of them. Doesn't wait, and takes no memory.
     pub fn hear(&mut self) -> bool
         ensures book { self.new.book ≡ self.old.book }
         ensures turns { IsPrefix self.old.log self.new.log }
@@ -112,7 +113,7 @@ impl Follower {
         self.reader.held()
     }
 
-    /// Its reader, which is told of turns no more.
+    /// Its reader, which gets no more news of turns.
     pub fn into_reader(self) -> FeedReader
         ensures { result ≡ self }
     {
@@ -121,13 +122,13 @@ impl Follower {
     }
 }
 
-/// The writer of a feed, which tells followers. Contracts see what its writer has.
+/// The writer of a feed, with its followers. Contracts see what its writer has.
 #[derive(Drop)]
 pub struct Leader {
     alloc: Global,
     writer: FeedWriter,
     outboxes: Vec<Slot>,
-    // How many turns all followers were told of.
+    // How many turns all followers have news of.
     told: u64,
 }
 
@@ -155,7 +156,7 @@ impl Leader {
         }
     }
 
-    /// A further follower, which knows all.
+    /// One more follower, which knows all.
     pub fn follower(&mut self) -> Result<Follower, NoMemory>
         ensures this { self.new ≡ self.old }
         ensures follower { IfOk result (λ f. f ≡ self.old.feed) }
@@ -166,7 +167,8 @@ impl Leader {
         Ok(Follower { reader, inbox })
     }
 
-    /// Adds as [`FeedWriter::add`], and tells the followers where a generation was begun. Doesn't wait.
+    /// Adds as [`FeedWriter::add`], and sends news to the followers where a generation was begun.
+    /// Doesn't wait.
     pub fn add<G: Gate>(&mut self, document: &Document, gate: &G) -> Result<u64, NoMemory>
         ensures setting { (self.new.setting ≡ self.old.setting) × (self.new.keep ≡ self.old.keep) × (self.new.feed.book ≡ self.old.feed.book) }
         ensures turns { IsPrefix self.old.feed.log self.new.feed.log }
@@ -207,7 +209,7 @@ impl Leader {
         self.writer.lend(spare)
     }
 
-    /// The generation that the last turn let go, as [`FeedWriter::released`].
+    /// The generation that the last turn dropped, as [`FeedWriter::released`].
     pub fn released(&mut self) -> Option<Released>
         ensures this { self.new ≡ self.old }
         ensures let_go { IfSome result (λ r. IsLetGo r self.old.keep self.old.feed.log) }
@@ -230,7 +232,7 @@ impl Leader {
         self.writer.converter()
     }
 
-    /// How many documents stand in the history.
+    /// How many documents are in the history.
     pub fn accepted(&self) -> u64
         ensures { result ≡ counted (history_of self.now.feed.log self.now.feed.docs) }
     {
@@ -244,7 +246,7 @@ impl Leader {
         self.writer.turns()
     }
 
-    /// Takes in a reader, as [`FeedWriter::meet`].
+    /// Meets a reader, as [`FeedWriter::meet`].
     pub fn meet(&mut self, reader: FeedReader) -> bool
         requires { reader.book ≡ self.old.feed.book }
         ensures this { self.new ≡ self.old }
@@ -255,8 +257,8 @@ impl Leader {
         self.writer.meet(reader)
     }
 
-    /// Tells each follower of the newest turns, where one wasn't told. False where one couldn't be told: for want of
-    /// memory, or because it was just at its mailbox.
+    /// Sends the newest turns to the followers, unless all have them. False where that failed for
+    /// one: memory ran out, or the follower was just at its mailbox.
     pub fn tell(&mut self) -> bool
         ensures { self.new ≡ self.old }
     {

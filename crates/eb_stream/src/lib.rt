@@ -1,6 +1,6 @@
-//! A feed that threads share: generations of an index, of which a new one is begun where the newest has no room. One
-//! writer adds; any number of readers search, each over the newest generations that it holds. No call waits.
-//! `specs/Turns.antt` says what a writer and a reader are to contracts.
+//! A feed that threads share: generations of an index, where a new one is begun when the newest has
+//! no room. One writer adds. Any number of readers search, each over the newest generations that it
+//! holds. No call waits. `specs/Turns.antt` says what a writer and a reader are to contracts.
 #![tactic(auto)]
 
 mod converter;

@@ -28,7 +28,7 @@ pub trait Named {
     ghost book: { Book };
 }
 
-// `Brand` stands for any feed: the split that it is handed to says which.
+// `Brand` serves for any feed: the split that gets it says which.
 impl Named for Brand {
     ghost book = { record { number = 0; log_name = 0; cells_name = 0 } };
 }
@@ -124,7 +124,7 @@ impl Slot {
         ))
     }
 
-    // Puts a reader, unless one is there or the other end is just at it.
+    // Puts a reader, unless one is there or the other end is just at the mailbox.
     pub(crate) fn put(&mut self, reader: FeedReader) -> Result<(), FeedReader>
         requires { reader.book ≡ self.old }
         ensures same { self.new ≡ self.old }

@@ -69,7 +69,7 @@ impl Piece {
         self.reader.seen()
     }
 
-    // Takes in a reader of the same index.
+    // Meets a reader of the same index.
     pub(crate) fn meet(&mut self, other: Reader)
         requires { other.index ≡ self.old.index }
         ensures index { self.new.index ≡ self.old.index }
@@ -80,7 +80,8 @@ impl Piece {
         self.reader.meet(&self.index, other);
     }
 
-    // Searches the documents that are accepted when it loads their count, of which the gate is told.
+    // Searches the documents that are accepted when it loads their count, which is reported to the
+    // gate.
     pub(crate) fn search<G: Gate, L: Ledger>(
         &mut self,
         frame: &mut Frame,
@@ -97,7 +98,7 @@ impl Piece {
         self.reader.search(&self.index, frame, gate, steps)
     }
 
-    // Searches exactly the documents that it knows, after what the frame holds.
+    // Searches exactly the documents that it knows; the ids come after what the frame holds.
     pub(crate) fn search_known<L: Ledger>(&mut self, frame: &mut Frame, steps: &mut Steps<L>)
         ensures same { self.new ≡ self.old }
         ensures query { query_of frame.new ≡ query_of frame.old }
@@ -107,8 +108,8 @@ impl Piece {
         self.reader.search_known(&self.index, frame, steps);
     }
 
-    // Counts all matches among the documents that are accepted when it loads their count, of which the gate is told, after
-    // what the tally holds.
+    // Counts all matches among the documents that are accepted when it loads their count, which is
+    // reported to the gate; added to what the tally holds.
     pub(crate) fn count<G: Gate, L: Ledger>(
         &mut self,
         frame: &mut Frame,
@@ -125,7 +126,7 @@ impl Piece {
         self.reader.count(&self.index, frame, tally, gate, steps)
     }
 
-    // Counts all matches among exactly the documents that it knows, after what the tally holds.
+    // Counts all matches among exactly the documents that it knows, added to what the tally holds.
     pub(crate) fn count_known<L: Ledger>(
         &mut self,
         frame: &mut Frame,

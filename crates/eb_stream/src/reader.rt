@@ -21,15 +21,15 @@ use std::alloc::Global;
 use std::marker::Model;
 use std::sync::ledger::Ledger;
 
-/// A reader of a feed; there may be any number, each on a thread of its own. Contracts see which feed it is of, the
-/// turns that it knows, the documents that it knows of the generation that the last of them began, and how many
-/// generations it holds.
+/// A reader of a feed. There may be any number, each on a thread of its own. Contracts see which
+/// feed it is of, the turns that it knows, the documents that it knows of the generation that the
+/// last of them began, and how many generations it holds.
 #[derive(Drop)]
 pub struct FeedReader {
     trail: Trail,
     // The newest first.
     pieces: Vec<Piece>,
-    // How many documents stand before the newest generation.
+    // How many documents come before the newest generation.
     before: u64,
 }
 
@@ -59,7 +59,8 @@ impl FeedReader {
         }
     }
 
-    // What it knows of the turns, and a reader of the newest generation that knows what it knows.
+    // What it knows of the turns, and a reader of the newest generation that knows what its own one
+    // knows.
     pub(crate) fn into_newest(self) -> (Trail, Reader)
         ensures trail { result.0 ≡ record { book = self.book; log = self.log } }
         ensures docs { result.1.docs ≡ self.docs }
@@ -74,7 +75,7 @@ impl FeedReader {
         (trail, newest)
     }
 
-    /// A reader that knows what this one knows, and holds what it holds.
+    /// A reader that knows and holds what this one knows and holds.
     pub fn split(&mut self, alloc: Global) -> Result<FeedReader, NoMemory>
         ensures this { self.new ≡ self.old }
         ensures reader { IfOk result (λ r. r ≡ self.old) }
@@ -98,11 +99,12 @@ impl FeedReader {
         self.pieces.len()
     }
 
-    /// Searches the generations that it holds: of the newest one the documents that are accepted when it loads their
-    /// count, of which the gate is told, and of the others all. They are a stretch of the feed's history, up to the end of
-    /// a front of it that holds all that this reader knew. Afterwards the frame holds the ids of the newest `k` of them
-    /// that its query matches, newest first. Gives the length of that front, at most 2^64 - 1. Doesn't wait, and takes no
-    /// memory.
+    /// Searches the generations that it holds: of the newest one the documents that are accepted
+    /// when it loads their count, which is reported to the gate, and of the others all. Together
+    /// they are a stretch of the feed's history that ends with a prefix of it, and this prefix has
+    /// all documents that this reader knew. Afterwards the frame holds the ids of the newest `k` of
+    /// them that its query matches, newest first. Returns the length of that prefix, at most 2^64 -
+    /// 1. Doesn't wait, and takes no memory.
     pub fn search<G: Gate, L: Ledger>(
         &mut self,
         frame: &mut Frame,
@@ -122,9 +124,10 @@ impl FeedReader {
         self.before.saturating_add(count)
     }
 
-    /// Counts, in the tally, all matches among the documents that [`FeedReader::search`] would search: all in all, and in each
-    /// of the tally's buckets, after what the tally held; all are of one stretch. Gives the length of the front whose end it
-    /// is, at most 2^64 - 1. The frame stays as it is. Doesn't wait, and takes no memory.
+    /// Counts, in the tally, all matches among the documents that [`FeedReader::search`] would
+    /// search: all in all, and in each of the tally's buckets, added to what the tally held; all
+    /// are of one stretch. Returns the length of the prefix that the stretch ends with, at most
+    /// 2^64 - 1. The frame stays as it is. Doesn't wait, and takes no memory.
     pub fn count<G: Gate, L: Ledger>(
         &mut self,
         frame: &mut Frame,
@@ -144,11 +147,12 @@ impl FeedReader {
         self.before.saturating_add(count)
     }
 
-    /// Takes in another reader of the feed. Where that one knows as many turns or more, this one then holds what that one
-    /// holds, and knows what it knows; where it knows fewer, nothing is changed. True where all that this reader knew is
-    /// known on; false only where the other one no longer holds the generation that was its newest, or, after a turn, knows
-    /// fewer of its documents: of that one documents that it knew may be unknown. Where no turn is new, it forgets none of
-    /// them. Doesn't wait, and takes no memory.
+    /// Meets another reader of the feed, which is used up. Where that one knows as many turns or
+    /// more, this one then holds what that one held, and knows what it knew; where it knows fewer,
+    /// nothing changes. True where this reader still knows all that it knew. False only where the
+    /// other one has dropped the generation that was this reader's newest, or where, after a turn,
+    /// it knows fewer documents of that generation: then documents of that one may be forgotten.
+    /// Where no turn is new, it forgets none of them. Doesn't wait, and takes no memory.
     pub fn meet(&mut self, mut other: FeedReader) -> bool
         requires { other.book ≡ self.old.book }
         ensures book { self.new.book ≡ self.old.book }
@@ -170,8 +174,9 @@ impl FeedReader {
         met
     }
 
-    // The other one learns what this one knows of its newest generation, if it holds that one, and this one knows no
-    // more of it than all.
+    // The other reader learns what this one knows of its newest generation, if the other holds it.
+    // False where it doesn't, or where the generation is closed for the other and this one knows
+    // more of it.
     fn pass_on(&mut self, other: &mut FeedReader) -> bool
         requires book { other.old.book ≡ self.old.book }
         requires turns { IsPrefix self.old.log other.old.log }
@@ -193,8 +198,8 @@ impl FeedReader {
     }
 }
 
-// The piece at a place takes in a reader of its index. The piece in front may learn of more documents; one after it
-// knows all, so what the reader knows has to be no more: false where it is more.
+// The piece at a place meets a reader of its index. The first piece may learn of more documents. A
+// later one knows all, so the reader must know no more: false where it does.
 fn take_in(pieces: &mut [Piece], at: usize, reader: Reader) -> bool
     requires place { at < length pieces.old }
     requires held { (docs : List Doc) × (ts : List Turn) × AreHeld pieces.old docs ts }
@@ -214,7 +219,8 @@ fn take_in(pieces: &mut [Piece], at: usize, reader: Reader) -> bool
     true
 }
 
-// The piece at a place takes in a reader of its index, which knows no more than it. False where that one knows more.
+// The piece at a place meets a reader of its index that knows no more than it. False where the
+// reader knows more.
 pub(crate) fn covers(pieces: &mut [Piece], at: usize, reader: Reader) -> bool
     requires place { at < length pieces.old }
     requires index { (d : PieceToken) → reader.index ≡ (get_or pieces.old at d).index }
@@ -253,7 +259,7 @@ fn search_pieces<G: Gate, L: Ledger>(
     count
 }
 
-// Goes on after the newest piece.
+// Searches the pieces after the newest one.
 fn search_older<L: Ledger>(pieces: &mut [Piece], frame: &mut Frame, steps: &mut Steps<L>)
     requires some { 1 ≤ length pieces.old }
     ensures same { pieces.new ≡ pieces.old }
@@ -293,7 +299,7 @@ fn count_pieces<G: Gate, L: Ledger>(
     count
 }
 
-// Goes on after the newest piece.
+// Counts in the pieces after the newest one.
 fn count_older<L: Ledger>(
     pieces: &mut [Piece],
     frame: &mut Frame,
@@ -311,7 +317,25 @@ fn count_older<L: Ledger>(
     }
 }
 
-// Goes on with all pieces after what the frame holds, and stops where it is full.
+// Counts in all pieces, after what the tally holds.
+pub(crate) fn count_behind<L: Ledger>(
+    pieces: &mut [Piece],
+    frame: &mut Frame,
+    tally: &mut Tally,
+    steps: &mut Steps<L>,
+)
+    ensures same { pieces.new ≡ pieces.old }
+    ensures seen { SeenAs frame.old frame.new }
+    ensures counts { (docs : List Doc) (ts : List Turn) (newer : List Doc) (before : Numbers) → AreHeld pieces.old docs ts
+        → HasCounted (query_of frame.old) newer before tally.old
+        → HasCounted (query_of frame.old) (joined_generations (take (length pieces.old) (past_of docs ts)) ++ newer) before tally.new }
+{
+    for at in 0..pieces.len() {
+        pieces[at].count_known(frame, tally, steps);
+    }
+}
+
+// Searches all pieces; the ids come after what the frame holds. Stops where it is full.
 pub(crate) fn search_behind<L: Ledger>(
     pieces: &mut [Piece],
     frame: &mut Frame,

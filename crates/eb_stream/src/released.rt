@@ -1,11 +1,12 @@
-//! A generation that a feed let go.
+//! A generation that a feed dropped.
 ghost use Rattle.std.specs.Prelude.{◌≡◌};
 
 use crate::piece::Piece;
 use std::marker::Model;
 
-/// A generation that a feed let go: it is not searched by the writer any more. Who drops it gives its memory back, on any
-/// thread, unless a reader or its converter holds it on. Contracts see its index, and its documents.
+/// A generation that a feed dropped: the writer doesn't search it any more. Whoever drops this
+/// value gives its memory back, on any thread, unless a reader or its converter still holds the
+/// generation. Contracts see its index, and its documents.
 #[derive(Drop)]
 pub struct Released {
     piece: Piece,

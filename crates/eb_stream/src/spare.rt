@@ -9,8 +9,8 @@ use std::alloc::Global;
 use std::marker::Model;
 use std::sync::Arc;
 
-/// An index that was opened ahead, for the next generation of a feed. It may be opened on any thread. Contracts see which
-/// index it is, and its setting.
+/// An index that was opened ahead, for the next generation of a feed. It may be opened on any
+/// thread. Contracts see which index it is, and its setting.
 #[derive(Drop)]
 pub struct Spare {
     config: Config,
@@ -33,8 +33,8 @@ impl Model for Spare {
 }
 
 impl Spare {
-    /// Opens an index of this setting, without a document. Takes all memory that the generation will ever take.
-    /// `NoMemory` where it isn't there: nothing is kept then.
+    /// Opens an index of this setting, without a document. Takes all memory that the generation
+    /// will ever take. `NoMemory` where memory runs out: nothing is kept then.
     pub fn open(alloc: Global, config: Config) -> Result<Spare, NoMemory>
         ensures { IfOk result (λ s. s.setting ≡ config) }
     {

@@ -25,7 +25,7 @@ impl Model for Head {
     ghost invariant = { λ h. h.word ≡ head_of h.word.book };
 }
 
-// A front of the log that was seen. Contracts see it, and which book it is of.
+// A prefix of the log that was seen. Contracts see it, and which book it is of.
 #[derive(Drop)]
 pub(crate) struct Trail {
     count: u64,
@@ -73,7 +73,7 @@ impl Trail {
         }
     }
 
-    // Whether it is a front of the other, of the same book; else the other is one of it.
+    // Whether it is a prefix of the other, of the same book; else the other is a prefix of it.
     pub(crate) fn is_front_of(&self, other: &Trail) -> bool
         requires { other.now.book ≡ self.now.book }
         ensures front { IsTrue result → IsPrefix self.now.log other.now.log }

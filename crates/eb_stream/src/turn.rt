@@ -1,10 +1,12 @@
-//! The log of turns, and the rule of its book. No value of `Turn` is made: contracts speak of it.
+//! The log of turns, and the rule of its book. No value of `Turn` is ever made; contracts speak of
+//! it.
 use eb_base::Document;
 use eb_engine::{Index, Reader};
 use logbook::{Gain, Plain, Play, Rule};
 use std::collections::LinkedList;
 
-/// A generation was begun: its index, and the documents of the generation before it, which is closed by that.
+/// A generation was begun: its index, and the documents of the generation before it, which is
+/// closed by that.
 pub struct Turn {
     /// The index.
     pub index: Index,
@@ -33,7 +35,7 @@ impl Rule<Turn, u64> for Law {
     ghost moves = { λ ask before after answer. Unit {0} };
 }
 
-/// Callers trade nothing.
+/// Callers gain nothing by a step.
 pub struct Nothing;
 
 impl Gain<Turn, u64> for Nothing {
@@ -51,7 +53,8 @@ impl Play<Turn, u64> for Begin {
     ghost then = { Begins };
 }
 
-/// A reader of the index that is begun, and one of the index that is closed, which knows all of its documents.
+/// A reader of the index that is begun, and one of the index that is closed, which knows all of its
+/// documents.
 #[derive(Drop)]
 pub(crate) struct Pair {
     pub(crate) begun: Reader,

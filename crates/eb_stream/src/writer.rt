@@ -4,7 +4,8 @@ ghost use Rattle.std.specs.Prelude.{IsTrue, IsFalse, IfOk, IfSome, OnOk, OnErr, 
 ghost use mathlib.Core.List.{IsPrefix};
 ghost use Rattle.eb_base.specs.Document.{Doc};
 ghost use Rattle.eb_base.specs.Match.{answer};
-ghost use Rattle.eb_cursor.specs.Frames.{query_of, k_of, ids_of};
+ghost use Rattle.eb_count.specs.Tallies.{HasCounted};
+ghost use Rattle.eb_cursor.specs.Frames.{query_of, k_of, ids_of, SeenAs};
 ghost use Rattle.eb_place.specs.Room.{has_room};
 ghost use Rattle.eb_feed.specs.Generations.{with_generation, joined_generations};
 ghost use Rattle.eb_stream.specs.Turns.{generations_of, past_of, history_of, stretch_of, counted, AreHeld, HasLapsed, HasTaken};
@@ -13,12 +14,13 @@ ghost use Rattle.eb_stream.specs.declared.turn.Turn.{Turn};
 
 use crate::converter::FeedConverter;
 use crate::piece::{Piece, copy_all};
-use crate::reader::{FeedReader, covers, search_behind};
+use crate::reader::{FeedReader, count_behind, covers, search_behind};
 use crate::released::Released;
 use crate::spare::Spare;
 use crate::trail::{Head, Trail};
 use crate::turn::Pair;
 use eb_base::{Config, Document, Gate, NoMemory};
+use eb_count::Tally;
 use eb_cursor::Frame;
 use eb_engine::{Index, Writer};
 use eb_place::Steps;
@@ -28,8 +30,8 @@ use std::marker::Model;
 use std::sync::Arc;
 use std::sync::ledger::Ledger;
 
-/// The one writer of a feed. It may go to a thread of its own. Contracts see its setting, and what a reader sees that
-/// knows all.
+/// The one writer of a feed. It may go to a thread of its own. Contracts see its setting, and what
+/// a reader that knows all sees.
 #[derive(Drop)]
 pub struct FeedWriter {
     alloc: Global,
@@ -41,11 +43,12 @@ pub struct FeedWriter {
     writer: Writer,
     // The generations that are closed and kept, the newest first.
     older: Vec<Piece>,
-    // How many documents stand before the newest generation.
+    // How many documents come before the newest generation.
     before: u64,
     // The index of the next generation, where one was lent.
     spare: Option<Spare>,
-    // The generation that the last turn let go, where it began a lent index, until that is taken.
+    // The generation that the last turn dropped, where the turn began a lent index, until it is
+    // taken.
     released: Option<Released>,
     // The converter of the newest generation, until it is given out.
     converter: Option<FeedConverter>,
@@ -71,8 +74,8 @@ impl Model for FeedWriter {
 }
 
 impl FeedWriter {
-    /// A feed without a document, which keeps so many generations of an index of this setting. Takes memory for one
-    /// index.
+    /// A feed without a document, which keeps `keep` generations of an index of this setting. Takes
+    /// memory for one index.
     pub fn open(alloc: Global, config: Config, keep: u32) -> Result<FeedWriter, NoMemory>
         requires { (2 ≤ keep) × (keep ≤ 64) }
         ensures setting { IfOk result (λ w. (w.setting ≡ config) × (w.keep ≡ keep)) }
@@ -104,11 +107,12 @@ impl FeedWriter {
         })
     }
 
-    /// Adds a document after the history. Where the newest generation has no room for it, another is begun, in the index
-    /// that was lent or in one for which it takes memory, and the oldest that it holds is let go where it holds as many as
-    /// it keeps. Gives how many documents stand in the history then. `NoMemory` only where another has to be begun and
-    /// there is no memory for it: nothing is changed then. The gate is told of the number of documents of the newest
-    /// generation. Doesn't wait.
+    /// Adds a document after the history. Where the newest generation has no room for it, the
+    /// writer begins another, in the index that was lent or in one for which it takes memory, and
+    /// drops the oldest if it holds as many as it keeps. Returns how many documents are in the
+    /// history then. `NoMemory` only where another generation has to be begun and memory runs out:
+    /// nothing changes then. The number of documents of the newest generation is reported to the
+    /// gate. Doesn't wait.
     pub fn add<G: Gate>(&mut self, document: &Document, gate: &G) -> Result<u64, NoMemory>
         ensures setting { (self.new.setting ≡ self.old.setting) × (self.new.keep ≡ self.old.keep) × (self.new.feed.book ≡ self.old.feed.book) }
         ensures turns { IsPrefix self.old.feed.log self.new.feed.log }
@@ -118,7 +122,7 @@ impl FeedWriter {
         ensures count { IfOk result (λ n. n ≡ counted (history_of self.new.feed.log self.new.feed.docs)) }
         ensures no_memory { OnErr result ((has_room self.old.setting self.old.feed.docs document.now ≡ false) × (self.new ≡ self.old)) }
     {
-        // This call says that the setting is allowed.
+        // This call shows that the setting is allowed.
         let _words = self.config.words();
         match self.add_here_or_behind(document, gate) {
             Ok(()) => Ok(self.accepted()),
@@ -148,7 +152,7 @@ impl FeedWriter {
             ≡ (document.now ∷ []) ∷ generations_of self.old.feed.log self.old.feed.docs) }
         ensures unchanged { OnErr result (self.new ≡ self.old) }
     {
-        // This call says that the setting is allowed.
+        // This call shows that the setting is allowed.
         let _words = self.config.words();
         self.turn()?;
         match self.writer.add(&self.index, document, gate) {
@@ -171,7 +175,7 @@ impl FeedWriter {
         Ok(())
     }
 
-    // Begins another generation in this index, and sets aside the one that is let go.
+    // Begins another generation in this index, and sets aside the one that is dropped.
     fn turn_to(&mut self, spare: Spare) -> Result<(), NoMemory>
         requires { spare.setting ≡ self.old.setting }
         ensures begun { OnOk result (IsBegun self.old self.new) }
@@ -209,9 +213,10 @@ impl FeedWriter {
         }
     }
 
-    /// Lends the index of the next generation, so that the turn doesn't have to open one, and gives back the one that was
-    /// lent before and isn't taken yet. So it may be called before each add, and where nothing comes back another index
-    /// has to be opened, on a thread of its own. Takes no memory.
+    /// Lends the index of the next generation, so that the turn doesn't have to open one, and
+    /// returns the one that was lent before and isn't taken yet. So it may be called before each
+    /// add. Where nothing comes back, another index has to be opened, on a thread of its own. Takes
+    /// no memory.
     pub fn lend(&mut self, spare: Spare) -> Option<Spare>
         requires { spare.setting ≡ self.old.setting }
         ensures this { self.new ≡ self.old }
@@ -220,10 +225,12 @@ impl FeedWriter {
         self.spare.replace(spare)
     }
 
-    /// The generation that the last turn let go, where that turn began a lent index, and it wasn't taken yet. So the add of
-    /// the turn gives no memory back: who drops the generation does, on any thread, unless a reader or its converter
-    /// holds it on. Where it isn't taken, the next turn lets it go, so at most one is held beyond those that are kept. A
-    /// turn that opens an index itself lets the oldest go at once. Takes no memory and gives none back.
+    /// The generation that the last turn dropped, if that turn began a lent index and the
+    /// generation wasn't taken yet. So the add of the turn gives no memory back: whoever drops the
+    /// generation does, on any thread, unless a reader or its converter still holds it. Where
+    /// nobody takes it, the next turn drops it, so at most one is held beyond those that are kept.
+    /// A turn that opens an index itself drops the oldest at once. Takes no memory and gives none
+    /// back.
     pub fn released(&mut self) -> Option<Released>
         ensures this { self.new ≡ self.old }
         ensures let_go { IfSome result (λ r. IsLetGo r self.old.keep self.old.feed.log) }
@@ -238,8 +245,8 @@ impl FeedWriter {
         self.config
     }
 
-    /// The converter of the newest generation, where it wasn't given out since the turn. Where it is never asked for, the
-    /// generation's segments stay unpacked. Takes no memory.
+    /// The converter of the newest generation, if it wasn't given out since the turn. Where nobody
+    /// asks for it, the generation's segments stay unpacked. Takes no memory.
     pub fn converter(&mut self) -> Option<FeedConverter>
         ensures this { self.new ≡ self.old }
         ensures converter { IfSome result (λ c. IsOfNewest c.index self.old.feed.log) }
@@ -260,8 +267,9 @@ impl FeedWriter {
         Ok(FeedReader::new(self.trail.again(), pieces, self.before))
     }
 
-    /// Takes in a reader. True where all that it knew is a front of the history; false only where the generation that is
-    /// the newest that it knew is held no more, or the writer knows fewer of its documents, or fewer turns. Takes no memory.
+    /// Meets a reader, which is used up. True where all that it knew is a prefix of the history.
+    /// False only where the writer has dropped the generation that was the reader's newest, or
+    /// knows fewer of its documents, or fewer turns. Takes no memory.
     pub fn meet(&mut self, reader: FeedReader) -> bool
         requires { reader.book ≡ self.old.feed.book }
         ensures this { self.new ≡ self.old }
@@ -284,8 +292,9 @@ impl FeedWriter {
         covers(self.older.as_mut_slice(), behind as usize - 1, newest)
     }
 
-    /// Searches the generations that it holds, of which it knows all. Since no document is added meanwhile, the answer is
-    /// over all that a reader can find that is made now. Gives how many documents stand in the history. Takes no memory.
+    /// Searches the generations that it holds, of which it knows all. Since no document is added
+    /// meanwhile, the answer is over all that a reader made now can find. Returns how many
+    /// documents are in the history. Takes no memory.
     pub fn search<G: Gate, L: Ledger>(
         &mut self,
         frame: &mut Frame,
@@ -305,14 +314,36 @@ impl FeedWriter {
         self.before.saturating_add(count)
     }
 
-    /// How many documents stand in the history.
+    /// Counts, in the tally, all matches among the documents that [`FeedWriter::search`] would
+    /// search: all in all, and in each of the tally's buckets, added to what the tally held.
+    /// Returns how many documents are in the history. The frame stays as it is. Takes no memory.
+    pub fn count<G: Gate, L: Ledger>(
+        &mut self,
+        frame: &mut Frame,
+        tally: &mut Tally,
+        gate: &G,
+        steps: &mut Steps<L>,
+    ) -> u64
+        ensures this { self.new ≡ self.old }
+        ensures held { self.new.feed.held ≡ min self.new.keep (length self.new.feed.log) }
+        ensures count { result ≡ counted (history_of self.new.feed.log self.new.feed.docs) }
+        ensures seen { SeenAs frame.old frame.new }
+        ensures counts { HasCounted (query_of frame.old) (stretch_of self.new.feed.held self.new.feed.log self.new.feed.docs) tally.old tally.new }
+    {
+        let newest = self.writer.count(&self.index, frame, tally, gate, steps);
+        count_behind(self.older.as_mut_slice(), frame, tally, steps);
+        self.before.saturating_add(newest)
+    }
+
+    /// How many documents are in the history.
     pub fn accepted(&self) -> u64
         ensures { result ≡ counted (history_of self.now.feed.log self.now.feed.docs) }
     {
         self.before.saturating_add(self.writer.accepted())
     }
 
-    /// How many documents stand in the generations that it holds, which are the newest, as many as it keeps, or all.
+    /// How many documents are in the generations that it holds, which are the newest, as many as it
+    /// keeps, or all.
     pub fn kept(&self) -> u64
         ensures kept { result ≡ counted (stretch_of self.now.feed.held self.now.feed.log self.now.feed.docs) }
         ensures held { self.now.feed.held ≡ min self.now.keep (length self.now.feed.log) }
@@ -341,7 +372,8 @@ fn seen_in(pieces: &[Piece]) -> u64
     count
 }
 
-// Puts a piece in front, and keeps so many of the others. Gives the one that is let go, if there were more.
+// Puts a piece first, and keeps this many of the others. Returns the one that is dropped, if there
+// were more.
 fn put_first(older: &mut Vec<Piece>, most: usize, piece: Piece) -> Option<Released>
     requires room { vec_len older.old < vec_capacity older.old }
     requires few { vec_len older.old ≤ most + 1 }
@@ -354,7 +386,7 @@ fn put_first(older: &mut Vec<Piece>, most: usize, piece: Piece) -> Option<Releas
     last
 }
 
-// Takes out the last piece, where there are more than so many.
+// Removes the last piece, where there are more than this many.
 fn last_behind(pieces: &mut Vec<Piece>, most: usize) -> Option<Released>
     requires { vec_len pieces.old ≤ most + 1 }
     ensures capacity { vec_capacity pieces.new ≡ vec_capacity pieces.old }

@@ -1,4 +1,4 @@
--- The tests tell the facts, and the facts pass the tests.
+-- The tests decide the facts: a true test gives its fact, and a fact passes its test.
 use Rattle.std.proofs.Common.{◌≡◌, ℕ, suc, ◌<◌, ◌≤◌, ◌==◌, ⊎_elim, List, [], ◌∷◌, ◌++◌, length, take, drop, Option, Some, None, true, ◌&&◌, ltb, leb, refl, ap, sym, ◌∙◌, arith}
 use Rattle.std.specs.Prelude.{bytes_eq}
 use Rattle.std.specs.Bool.{Decides}
@@ -19,7 +19,7 @@ use Rattle.eb_place.specs.Later.{Further, Goes, Reaches, ReachesPacked, IsNotBef
 use Rattle.eb_place.specs.Meets.{later_documents}
 use Rattle.eb_place.proofs.MeetOfParts.{documents_meet}
 use Rattle.eb_place.proofs.WordsAtMoment.{placed_all}
-use Rattle.eb_table.specs.InLine.{same_doc, is_front_of, further, goes, reaches, in_line, reaches_packed, unreal}
+use Rattle.eb_table.specs.InLine.{same_doc, is_prefix, is_further, goes_on, is_reached, in_line, is_packed_reached, unreal}
 
 same_doc_decides : (d e : Doc) → Decides (same_doc d e) (d ≡ e)
 same_doc_decides d e =
@@ -29,7 +29,7 @@ same_doc_decides d e =
 same_docs_decides : (xs ys : List Doc) → Decides (pointwise same_doc xs ys) (xs ≡ ys)
 same_docs_decides = pointwise_decides same_doc_decides
 
-begins_decides : (xs ys : List Doc) → Decides (is_front_of xs ys) (IsPrefix xs ys)
+begins_decides : (xs ys : List Doc) → Decides (is_prefix xs ys) (IsPrefix xs ys)
 begins_decides xs ys =
     let d = same_docs_decides (take (length xs) ys) xs in (
       (λ t. (drop (length xs) ys, ap (λ (l : List Doc). l ++ drop (length xs) ys) (sym (d.0 t)) ∙ take-append-drop (length xs) ys)),
@@ -39,33 +39,33 @@ begins_decides xs ys =
 leb_decides : (a b : ℕ) → Decides (leb a b) (a ≤ b)
 leb_decides a b = (leb-true a b, le-leb a b)
 
-further_decides : (c : Doc × ℕ) (e : Option (Doc × ℕ)) → Decides (further c e) (Further c e)
+further_decides : (c : Doc × ℕ) (e : Option (Doc × ℕ)) → Decides (is_further c e) (Further c e)
 further_decides c None = ((λ t. absurd cc), λ f. absurd f)
 further_decides c (Some e) = Decides-and (same_doc c.0 e.0) (leb c.1 e.1) (same_doc_decides c.0 e.0) (leb_decides c.1 e.1)
 
-goes_decides : (docs : List Doc) (c : Option (Doc × ℕ)) (b : Documents) → Decides (goes docs c b) (Goes docs c b)
+goes_decides : (docs : List Doc) (c : Option (Doc × ℕ)) (b : Documents) → Decides (goes_on docs c b) (Goes docs c b)
 goes_decides docs None b = ((λ _. tt), λ _. refl)
 goes_decides docs (Some c) b =
-    Decides-or (pointwise same_doc docs b.accepted && further c b.current) (is_front_of (docs ++ c.0 ∷ []) b.accepted)
-    (Decides-and (pointwise same_doc docs b.accepted) (further c b.current) (same_docs_decides docs b.accepted) (further_decides c b.current))
+    Decides-or (pointwise same_doc docs b.accepted && is_further c b.current) (is_prefix (docs ++ c.0 ∷ []) b.accepted)
+    (Decides-and (pointwise same_doc docs b.accepted) (is_further c b.current) (same_docs_decides docs b.accepted) (further_decides c b.current))
     (begins_decides (docs ++ c.0 ∷ []) b.accepted)
 
-pub reaches_decides : (a b : Documents) → Decides (reaches a b) (Reaches a b)
-unfolding reaches
+pub reaches_decides : (a b : Documents) → Decides (is_reached a b) (Reaches a b)
+unfolding is_reached
 reaches_decides a b =
-    let d = Decides-and (is_front_of a.accepted b.accepted) (goes a.accepted a.current b) (begins_decides a.accepted b.accepted) (goes_decides a.accepted a.current b) in
+    let d = Decides-and (is_prefix a.accepted b.accepted) (goes_on a.accepted a.current b) (begins_decides a.accepted b.accepted) (goes_decides a.accepted a.current b) in
     ((λ t. let p = d.0 t in record { accepted = p.0; current = p.1 }), λ r. d.1 (r.accepted, r.current))
 
 pub in_line_decides : (a b : Documents) → Decides (in_line a b) (Reaches a (later_documents a b) × Reaches b (later_documents a b))
 unfolding in_line
-in_line_decides a b = Decides-and (reaches a (later_documents a b)) (reaches b (later_documents a b)) (reaches_decides a _) (reaches_decides b _)
+in_line_decides a b = Decides-and (is_reached a (later_documents a b)) (is_reached b (later_documents a b)) (reaches_decides a _) (reaches_decides b _)
 
 -- documents parts that a third is reached from are in line
 pub in_line_passes : (a b c : Documents) → Reaches a c → Reaches b c → in_line a b ≡ true
 in_line_passes a b c r s = let m = documents_meet a b c r s in (in_line_decides a b).1 (m.first, m.second)
 
-pub packed_decides : (a b : Conversions) → Decides (reaches_packed a b) (ReachesPacked a b)
-unfolding reaches_packed
+pub packed_decides : (a b : Conversions) → Decides (is_packed_reached a b) (ReachesPacked a b)
+unfolding is_packed_reached
 packed_decides a b =
     Decides-or (ltb a.converted b.converted) ((a.converted == b.converted) && leb a.packed b.packed) (Decides-ltb a.converted b.converted)
     (Decides-and (a.converted == b.converted) (leb a.packed b.packed) (Decides-eqb a.converted b.converted) (leb_decides a.packed b.packed))

@@ -1,4 +1,4 @@
--- What a join and the confirmation after it tell.
+-- What a join and the confirmation after it show.
 use Rattle.std.proofs.Common.{◌+◌, ◌<◌, ◌≤◌, ◌≡◌, ℕ, suc, inl, inr, ⊎_elim, List, [], ◌∷◌, length, Option, Some, None, Bool, true, false, ◌&&◌, ltb, cond, length-append}
 use Rattle.std.proofs.Common.{refl, ap, sym, ◌∙◌, subst, arith}
 use Rattle.std.proofs.lemmas.Bool.{lt-ltb, le-ltb}
@@ -21,7 +21,7 @@ use Rattle.eb_place.proofs.MeetOfMoments.{conversions_meet, moments_meet}
 use Rattle.eb_table.specs.declared.view.View.{View}
 use Rattle.eb_table.specs.declared.view.View.TheVariants.{Writer, Converter, Reader}
 use Rattle.eb_table.specs.Rule.{moment_of}
-use Rattle.eb_table.specs.InLine.{reaches, in_line, reaches_packed, unreal}
+use Rattle.eb_table.specs.InLine.{is_reached, in_line, is_packed_reached, unreal}
 use Rattle.eb_table.specs.Steps.{Confirmed, met, met_moment}
 use Rattle.eb_table.specs.Known.{Known, Words, MadeWith}
 use Rattle.eb_table.proofs.InLine.{reaches_decides, in_line_decides, packed_decides, not_unreal}
@@ -76,12 +76,13 @@ packed_first a b r = by_count (dec_lt a.converted b.converted) (dec_lt b.convert
     by_count (no h) (no k) (yes l) = ⊎_elim (λ (x : b.converted < a.converted). absurd (omega arith)) (λ (x : (b.converted ≡ a.converted) × (b.packed ≤ a.packed)). absurd (omega (arith, x.1))) r
     by_count (no h) (no k) (no l) = here false false false (le-ltb _ _ (omega arith)) (le-ltb _ _ (omega arith)) (le-ltb _ _ (omega arith)) refl
 
--- m and n are moments before l, and what a seat of this kind makes of them is not after l: then it is the least moment after both
+-- m and n are moments before l, and what a seat of this kind makes of them is not after l: then it
+-- is the least moment after both
 pub writer_met : (m n l : Moment) → IsMoment m → IsMoment n → IsMoment l → m.setting ≡ n.setting → IsNotBefore l (met_moment (Writer m) n)
     → IsLeastAfter m n (met_moment (Writer m) n) × ((met_moment (Writer m) n).documents ≡ m.documents)
 writer_met m n l mm nn ll same i =
     let made : Moment = record { setting = m.setting; documents = m.documents; conversions = later_conversions m.conversions n.conversions } in
-    let a = after_if (reaches n.documents m.documents) m.setting made l i ll in
+    let a = after_if (is_reached n.documents m.documents) m.setting made l i ll in
     let r = (reaches_decides n.documents m.documents).0 a.0 in
     let p = packed_both m.conversions n.conversions in
     let first : IsNotBefore l m = later_on m made l record { setting = refl; documents = reaches_self m.documents; conversions = p.0 } a.1 in
@@ -94,8 +95,8 @@ pub converter_met : (m n l : Moment) → IsMoment m → IsMoment n → IsMoment 
     → IsLeastAfter m n (met_moment (Converter m) n) × ((met_moment (Converter m) n).conversions ≡ m.conversions)
 converter_met m n l mm nn ll same i =
     let made : Moment = record { setting = m.setting; documents = later_documents m.documents n.documents; conversions = m.conversions } in
-    let a = after_if (in_line m.documents n.documents && reaches_packed n.conversions m.conversions) m.setting made l i ll in
-    let t = (Decides-and (in_line m.documents n.documents) (reaches_packed n.conversions m.conversions) (in_line_decides m.documents n.documents)
+    let a = after_if (in_line m.documents n.documents && is_packed_reached n.conversions m.conversions) m.setting made l i ll in
+    let t = (Decides-and (in_line m.documents n.documents) (is_packed_reached n.conversions m.conversions) (in_line_decides m.documents n.documents)
     (packed_decides n.conversions m.conversions)).0 a.0 in
     let first : IsNotBefore l m = later_on m made l record { setting = refl; documents = t.0.0; conversions = packed_self m.conversions } a.1 in
     let second : IsNotBefore l n = later_on n made l record { setting = sym same; documents = t.0.1; conversions = t.1 } a.1 in

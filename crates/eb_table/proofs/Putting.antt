@@ -59,7 +59,7 @@ put_whole m whole p v l e n =
           ap (λ (xs : List (ℕ × ℕ)). slice_get xs m.conversions.packed) same ∙ n.pair;
     }
 
--- and comes to the same conversion part
+-- and has the same conversion part then
 same_put : (m whole : Moment) (p v : ℕ) → IsNotBefore whole m → m.conversions ≡ whole.conversions → IsNextPut m p v → (after_put m).conversions ≡ (after_put whole).conversions
 unfolding after_put
 same_put m whole p v l e n =

@@ -1,4 +1,18 @@
--- The rule of the shared words.
+-- The rule of the shared words: what holds between any two stores, whichever thread makes them.
+--
+-- The words are the image of one moment, which says how many stores of documents and of conversions
+-- are done. So what is proved of the words that one thread holds (`eb_flat`) serves here too, and
+-- no region of the words has an invariant of its own.
+--
+-- Each seat knows a moment, and the words never fall behind it. The writer alone stores documents,
+-- so it knows that part of the moment exactly; the converter knows the part of conversions. A
+-- reader knows the least that it has seen: moments only grow, so each load finds a word of a moment
+-- that isn't before the one that the reader knows.
+--
+-- A seat that meets another then knows the least moment that isn't before what either knew. One
+-- that is split off knows what the other knows.
+--
+-- Rejected: an invariant for each region of the words, which says everything twice.
 use Rattle.std.specs.Prelude.{◌≡◌, ℕ, ◌⊎◌, List, [], ◌∷◌}
 use mathlib.Core.Option.{some}
 use lib.ListN.{get_elem?}
@@ -35,8 +49,9 @@ abbrev pub IsUnspent : View → Type 0
 IsUnspent Spent = ⊥
 IsUnspent v = Unit {0}
 
--- what seat number `by` may know where `whole` is the moment of the words, and these are the numbers of the writer's and the
--- converter's seats: no moment after it, the writer all of its documents part, the converter all of its conversion part
+-- what seat number `by` may know, where `whole` is the moment of the words, and these are the
+-- numbers of the writer's and the converter's seats: no moment after it; the writer all of its
+-- documents part; the converter all of its conversion part
 abbrev pub MayKnow : ℕ → ℕ → Moment → ℕ → View → Type 0
 MayKnow w c whole by (Opening m) = ⊥
 MayKnow w c whole by (Writer m) = (by ≡ w) × (m.documents ≡ whole.documents) × IsNotBefore whole m
@@ -52,8 +67,9 @@ pub record Running (whole : Moment) (views : List View) : Type 0 where
   pub converts : (m : Moment) × (get_elem? views converter ≡ some (Converter m))
   pub each : (by : ℕ) (v : View) → get_elem? views by ≡ some v → MayKnow writer converter whole by v
 
--- the rule: the words are the image of a moment of the setting. Either the one seat is opening and the moment is the empty one,
--- or there are one writer, one converter and readers, of which none knows a moment after that of the words
+-- the rule: the words are the image of a moment of the setting. Either the one seat is opening and
+-- the moment is the empty one, or there are one writer, one converter and readers, none of which
+-- knows a moment after that of the words
 pub record KeepsWords (σ : Setting) (s : State (Unit {0}) View) : Type 0 where
   pub whole : Moment
   pub setting : whole.setting ≡ σ

@@ -10,7 +10,7 @@ use Rattle.eb_place.specs.Meets.{later_documents, later_conversions, later_of}
 use Rattle.eb_table.specs.declared.view.View.{View}
 use Rattle.eb_table.specs.declared.view.View.TheVariants.{Opening, Writer, Converter, Reader, Spent}
 use Rattle.eb_table.specs.Rule.{no_setting, moment_of}
-use Rattle.eb_table.specs.InLine.{reaches, in_line, reaches_packed, unreal}
+use Rattle.eb_table.specs.InLine.{is_reached, in_line, is_packed_reached, unreal}
 
 -- a seat of this kind that knows this moment
 abbrev pub at_moment : View → Moment → View
@@ -54,7 +54,8 @@ Put s me found new = new ≡ (Converter (after_put (moment_of me.0)), me.1)
 
 -- ---- split
 
--- the first seat becomes the writer's, with a converter's beside it; any other stays, with a reader's beside it
+-- the first seat becomes the writer's, and the new one the converter's; any other seat stays, and
+-- the new one is a reader's
 abbrev pub left_of : View → View
 left_of (Opening m) = Writer m
 left_of v = v
@@ -68,9 +69,9 @@ right_of v = Reader (moment_of v)
 
 -- the least moment after both, where they lie on one history; else one that no words have
 abbrev pub met_moment : View → Moment → Moment
-met_moment (Writer m) n = cond (reaches n.documents m.documents)
+met_moment (Writer m) n = cond (is_reached n.documents m.documents)
     (record { setting = m.setting; documents = m.documents; conversions = later_conversions m.conversions n.conversions }) (unreal m.setting)
-met_moment (Converter m) n = cond (in_line m.documents n.documents && reaches_packed n.conversions m.conversions)
+met_moment (Converter m) n = cond (in_line m.documents n.documents && is_packed_reached n.conversions m.conversions)
     (record { setting = m.setting; documents = later_documents m.documents n.documents; conversions = m.conversions }) (unreal m.setting)
 met_moment (Reader m) n = cond (in_line m.documents n.documents) (later_of m n) (unreal m.setting)
 met_moment (Opening m) n = m

@@ -10,9 +10,10 @@ use eb_base::{Config, Document};
 use eb_place::{PackPen, Pen, Port, Steps};
 use std::sync::ledger::Ledger;
 
-/// A reader's seat at the words, as a port. It is made by its literal in the function that uses it, of a seat that
-/// was made with the words. It stands for the moment that the seat knows, and what its calls leave is in the seat
-/// when the port is gone. A load may show a later moment, and leaves which seat and which words these are.
+/// A reader's seat at the words, as a port. A function that uses it makes it by its literal, from a
+/// seat that was made with the words. It stands for the moment that the seat knows, and the seat
+/// has what the port's calls showed when the port is gone. A load may show a later moment; which
+/// seat and which words these are stays.
 #[derive(Drop)]
 pub struct ReaderPort<'a> {
     /// The seat, made with the words.
@@ -48,8 +49,8 @@ impl<'a> Port for ReaderPort<'a> {
     ghost same_on = { λ s t u h k. (k.0 ∙ h.0, k.1 ∙ h.1) };
 }
 
-/// The writer's seat at the words, as a pen; else as `ReaderPort`. Its loads may show later conversions, and leave
-/// the documents part of its moment.
+/// The writer's seat at the words, as a pen; otherwise like `ReaderPort`. Its loads may show later
+/// conversions, and leave the documents part of its moment.
 #[derive(Drop)]
 pub struct WriterPort<'a> {
     /// The seat, made with the words.
@@ -93,8 +94,8 @@ impl<'a> Pen for WriterPort<'a> {
     ghost pen_keeps = { λ s t m n h. h.2 };
 }
 
-/// The converter's seat at the words, as a pen of conversions; else as `ReaderPort`. Its loads may show later
-/// documents, and leave the conversion part of its moment.
+/// The converter's seat at the words, as a pen of conversions; otherwise like `ReaderPort`. Its
+/// loads may show later documents, and leave the conversion part of its moment.
 #[derive(Drop)]
 pub struct ConverterPort<'a> {
     /// The seat, made with the words.

@@ -1,5 +1,5 @@
-//! The rule of the shared words, and what each kind of step tells: opening, split, join, load, the writer's
-//! store and the converter's store.
+//! The rule of the shared words, and what each kind of step shows its seat: opening, split, join,
+//! load, the writer's store and the converter's store.
 ghost use Rattle.std.specs.Prelude.{[]};
 ghost use Rattle.eb_base.specs.Document.{Doc};
 ghost use Rattle.eb_place.specs.Moments.{empty_moment};
@@ -28,7 +28,7 @@ impl Play<(), View> for LoadStep {
     ghost then = { LoadedWord };
 }
 
-/// A load that shows its seat nothing: what the seat knows lies on the history of the words.
+/// A load that shows its seat nothing new: what the seat knows lies on the history of the words.
 pub struct ConfirmStep;
 
 impl Play<(), View> for ConfirmStep {
@@ -40,7 +40,7 @@ pub trait Placed {
     ghost document: { Doc };
 }
 
-// `Brand` stands for any document: the store that it is handed to says which.
+// `Brand` serves for any document: the store that gets it says which.
 impl Placed for Brand {
     ghost document = { record { id = 0; terms = [] } };
 }
@@ -61,8 +61,8 @@ impl Play<(), View> for PutStep {
     ghost then = { Put };
 }
 
-/// How a seat is split: the first one into the seats of the writer and the converter, any other into itself and
-/// a seat of a reader.
+/// How a seat is split: the first one into the seats of the writer and the converter, any other
+/// into itself and a seat of a reader.
 pub struct SplitStep;
 
 impl Split<View> for SplitStep {
@@ -71,7 +71,7 @@ impl Split<View> for SplitStep {
     ghost right = { right_of };
 }
 
-/// How a seat takes in another: it then knows the least moment after both.
+/// How a seat meets another: it then knows the least moment after both.
 pub struct JoinStep;
 
 impl Join<View> for JoinStep {

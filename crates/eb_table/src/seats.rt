@@ -1,9 +1,10 @@
 //! The seats of the shared words.
 //!
-//! A join's moment is the least after both where tests say that they lie on one history, else a moment that no words
-//! have. A join tells nothing of the words, so a load of word 0 follows that rules the second one out; it shows the
-//! seat nothing else (`ConfirmStep`), so that the seat knows exactly the least moment after both, and no later one. A
-//! store of the writer names its document by a ghost type, since no word does.
+//! A join's moment is the least after both where tests say that they lie on one history, else a
+//! moment that no words have. A join alone shows nothing of the words, so a load of word 0 follows,
+//! which rules the second case out. That load shows the seat nothing else (`ConfirmStep`), so the
+//! seat then knows exactly the least moment after both, and no later one. A store of the writer
+//! names its document by a ghost type, since no word does.
 ghost use Rattle.std.specs.Prelude.{◌≡◌, ◌<◌};
 ghost use Rattle.eb_base.specs.Setting.{words_of};
 ghost use Rattle.eb_place.specs.Laws.{IsLeastAfter};
@@ -17,9 +18,9 @@ use atomic_table::Seat;
 use eb_base::Document;
 use std::marker::{Brand, Model};
 
-/// A reader's seat at the words of an index. It may load each word, and stores none. It takes no bytes, and may go
-/// to another thread. Contracts see the table that it was made with, and the moment that it knows: the words were
-/// at this moment or are, and never come to be at an earlier one.
+/// A reader's seat at the words of an index. It may load each word, and stores none. It takes no
+/// bytes, and may go to another thread. Contracts see the table that it was made with, and the
+/// moment that it knows: the words are at this moment or a later one.
 #[derive(Drop)]
 pub struct ReaderSeat {
     pub(crate) seat: Seat<(), View>,
@@ -36,9 +37,9 @@ impl Model for ReaderSeat {
     ghost invariant = { λ s. IsSeat Reader s.seat.me };
 }
 
-/// The one writer's seat at the words of an index: it alone places documents, so the moment that it knows has all
-/// that was stored of them. It takes no bytes, and may go to another thread. Contracts see the table that it was
-/// made with, and the moment that it knows.
+/// The one writer's seat at the words of an index. It alone places documents, so the moment that it
+/// knows has all that was stored of them. It takes no bytes, and may go to another thread.
+/// Contracts see the table that it was made with, and the moment that it knows.
 #[derive(Drop)]
 pub struct WriterSeat {
     pub(crate) seat: Seat<(), View>,
@@ -55,9 +56,9 @@ impl Model for WriterSeat {
     ghost invariant = { λ s. IsSeat Writer s.seat.me };
 }
 
-/// The one converter's seat at the words of an index: it alone converts segments, so the moment that it knows has
-/// all that was stored of their packed form. It takes no bytes, and may go to another thread. Contracts see the
-/// table that it was made with, and the moment that it knows.
+/// The one converter's seat at the words of an index. It alone converts segments, so the moment
+/// that it knows has all that was stored of their packed form. It takes no bytes, and may go to
+/// another thread. Contracts see the table that it was made with, and the moment that it knows.
 #[derive(Drop)]
 pub struct ConverterSeat {
     pub(crate) seat: Seat<(), View>,
@@ -84,8 +85,8 @@ impl ReaderSeat {
         words.load_word(&mut self.seat, place)
     }
 
-    /// A seat of a reader, which knows what this one knows. The seat must have been made with these words. Takes no
-    /// memory.
+    /// A reader's seat that knows what this one knows. This seat must have been made with these
+    /// words. Takes no memory.
     pub fn split(&mut self, words: &SharedWords) -> ReaderSeat
         requires { MadeWith self.old words.now }
         ensures this { self.new ≡ self.old }
@@ -95,8 +96,9 @@ impl ReaderSeat {
         ReaderSeat { seat }
     }
 
-    /// Takes in a reader's seat: both moments lie on one history, and this seat then knows the least one that is
-    /// not before either. Both seats must have been made with these words. One load of word 0. Takes no memory.
+    /// Meets a reader's seat, which is used up: both moments lie on one history, and this seat then
+    /// knows the least one that isn't before either. Both seats must have been made with these
+    /// words. One load of word 0. Takes no memory.
     pub fn meet(&mut self, words: &SharedWords, seat: ReaderSeat)
         requires this { MadeWith self.old words.now }
         requires other { MadeWith seat words.now }
@@ -128,8 +130,8 @@ impl WriterSeat {
         words.store_word::<Brand>(&mut self.seat, document, place, value)
     }
 
-    /// A seat of a reader, which knows what this one knows. The seat must have been made with these words. Takes no
-    /// memory.
+    /// A reader's seat that knows what this one knows. This seat must have been made with these
+    /// words. Takes no memory.
     pub fn split(&mut self, words: &SharedWords) -> ReaderSeat
         requires { MadeWith self.old words.now }
         ensures this { self.new ≡ self.old }
@@ -139,9 +141,10 @@ impl WriterSeat {
         ReaderSeat { seat }
     }
 
-    /// Takes in a reader's seat: both moments lie on one history, and this seat then knows the least one that is
-    /// not before either. What it knows of the documents stays, so all that the reader knew of them lies in it. Both
-    /// seats must have been made with these words. One load of word 0. Takes no memory.
+    /// Meets a reader's seat, which is used up: both moments lie on one history, and this seat then
+    /// knows the least one that isn't before either. What it knows of the documents stays, so it
+    /// includes all that the reader knew of them. Both seats must have been made with these words.
+    /// One load of word 0. Takes no memory.
     pub fn meet(&mut self, words: &SharedWords, seat: ReaderSeat)
         requires this { MadeWith self.old words.now }
         requires other { MadeWith seat words.now }
@@ -174,8 +177,8 @@ impl ConverterSeat {
         words.put_word(&mut self.seat, place, value)
     }
 
-    /// A seat of a reader, which knows what this one knows. The seat must have been made with these words. Takes no
-    /// memory.
+    /// A reader's seat that knows what this one knows. This seat must have been made with these
+    /// words. Takes no memory.
     pub fn split(&mut self, words: &SharedWords) -> ReaderSeat
         requires { MadeWith self.old words.now }
         ensures this { self.new ≡ self.old }
@@ -185,9 +188,9 @@ impl ConverterSeat {
         ReaderSeat { seat }
     }
 
-    /// Takes in a reader's seat: both moments lie on one history, and this seat then knows the least one that is
-    /// not before either. What it knows of the conversions stays. Both seats must have been made with these words. One
-    /// load of word 0. Takes no memory.
+    /// Meets a reader's seat, which is used up: both moments lie on one history, and this seat then
+    /// knows the least one that isn't before either. What it knows of the conversions stays. Both
+    /// seats must have been made with these words. One load of word 0. Takes no memory.
     pub fn meet(&mut self, words: &SharedWords, seat: ReaderSeat)
         requires this { MadeWith self.old words.now }
         requires other { MadeWith seat words.now }

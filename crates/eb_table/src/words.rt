@@ -19,9 +19,9 @@ use eb_base::{Config, Document, NoMemory};
 use std::alloc::Global;
 use std::marker::Model;
 
-/// The words of an index, which threads share: `config.words()` words of 64 bits. They change only by the stores
-/// of the writer's and the converter's seats that `open` gives, each of one word. Contracts see which table it
-/// is, and the setting.
+/// The words of an index, which threads share: `config.words()` words of 64 bits. They change only
+/// by the stores of the writer's and the converter's seats that `open` gives, each of one word.
+/// Contracts see which table it is, and the setting.
 #[derive(Drop)]
 pub struct SharedWords {
     table: Table<(), View, Config, WordsRule, Global>,
@@ -41,11 +41,12 @@ impl Model for SharedWords {
 }
 
 impl SharedWords {
-    /// The words of an index without a document, all 0, with the seats of its writer and its converter, which
-    /// know the empty moment. The layout of the words is this project's profile, docs/FORMATS.md. Takes all memory
-    /// of the index, and holds the words twice until it returns, since the table is made from a list of its words:
-    /// 117 MiB at the usual setting, of which 58 MiB stay, and 2 GiB at the greatest, of which 1 GiB stays.
-    /// `NoMemory` where that isn't there: nothing is kept then.
+    /// The words of an index without a document, all 0, with the seats of its writer and its
+    /// converter, which know the empty moment. The layout of the words is this project's profile,
+    /// docs/FORMATS.md. Takes all memory of the index, and holds the words twice until it returns,
+    /// since the table is made from a list of its words: 117 MiB at the usual setting, of which 58
+    /// MiB stay, and 2 GiB at the greatest, of which 1 GiB stays. `NoMemory` where memory runs out:
+    /// nothing is kept then.
     pub fn open(
         alloc: Global,
         config: Config,
@@ -81,7 +82,8 @@ impl SharedWords {
         Ok((SharedWords { table, config }, seat))
     }
 
-    // Loads a word: the seat then knows the moment of the words, or an earlier one that isn't before its own.
+    // Loads a word: the seat then knows the moment of the words, or an earlier one that isn't
+    // before its own.
     pub(crate) fn load_word(&self, seat: &mut Seat<(), View>, place: u64) -> u64
         requires live { IsLive seat.old.me.0 × (seat.old.me.1 ≡ []) }
         requires made { seat.old.table_id ≡ self.now.table }
@@ -92,7 +94,8 @@ impl SharedWords {
         self.table.shared.load::<LoadStep>(seat, place as usize)
     }
 
-    // Looks whether what a seat knows lies on the history of the words, by a load of word 0 that shows it no later moment.
+    // Checks that what a seat knows lies on the history of the words, by a load of word 0 that
+    // shows it no later moment.
     pub(crate) fn confirm(&self, seat: &mut Seat<(), View>)
         requires live { IsLive seat.old.me.0 × (seat.old.me.1 ≡ []) }
         requires made { seat.old.table_id ≡ self.now.table }
@@ -139,8 +142,8 @@ impl SharedWords {
             .store::<PutStep>(seat, place as usize, value);
     }
 
-    // Splits a seat: of the first one this stays the writer's, and the new one is the converter's; of any other
-    // the new one is a reader's, which knows the same.
+    // Splits a seat. The first seat becomes the writer's, and the new one the converter's; any
+    // other seat stays, and the new one is a reader's, which knows the same.
     pub(crate) fn split(&self, seat: &mut Seat<(), View>) -> Seat<(), View>
         requires live { IsUnspent seat.old.me.0 × (seat.old.me.1 ≡ []) }
         requires made { seat.old.table_id ≡ self.now.table }
@@ -151,7 +154,7 @@ impl SharedWords {
         self.table.shared.split_seat::<SplitStep>(seat)
     }
 
-    // Takes in a reader's seat.
+    // Meets a reader's seat.
     pub(crate) fn join(&self, seat: &mut Seat<(), View>, other: Seat<(), View>)
         requires live { IsLive seat.old.me.0 × (seat.old.me.1 ≡ []) }
         requires other { IsSeat Reader other.me }

@@ -301,7 +301,7 @@ enters m n d s t k is l f bytes next number =
       number = has_number a s k t here g;
     }
 
--- and that `used` tells the segment
+-- and that `used` describes the segment
 pub enters_tells : (m n : Moment) (d : Doc) (s : ℕ) (t : Term) (u v : Used) → IsMoment n → IsNotBefore n m → n.documents ≡ m.documents → AreBytes t → IsNextTerm n d s t → TellsSegment u m s
     → v ≡ record u { terms = u.terms + 1; text = u.text + text_words t } → TellsSegment v (with_placed n d (text_words t + 2)) s
 enters_tells m n d s t u v is l f bytes next tells e =

@@ -1,4 +1,4 @@
--- What the words of the dictionary tell a reader, also at later moments.
+-- What the words of the dictionary say to a reader, also at later moments.
 use Rattle.std.proofs.Common.{◌≡◌, ℕ, zero, suc, ◌+◌, ◌-◌, ◌*◌, ◌/◌, ◌^◌, ◌<◌, ◌≤◌, ◌==◌, List, [], ◌∷◌, length, get_or, sum_by, refl, ap, sym, ◌∙◌, subst, arith, inl, inr, nat_lt, None}
 use Rattle.std.specs.List.{common_prefix_len}
 use Rattle.std.proofs.lemmas.Bool.{cases_Bool, cases_lt, eq-eqb, ne_eqb}
@@ -29,7 +29,7 @@ use Rattle.eb_terms.specs.Comparing.{term_at, cell_of, IsNumber, CellHolds, IsTe
 pub cell_later : (m n : Moment) (c : ℕ) → IsNotBefore n m → c < cells_in m → c < cells_in n
 cell_later m n c l h = subst (λ (σ : Setting). c < 2 * σ.terms) l.setting h
 
--- ---- what a word tells
+-- ---- what a word says
 
 -- a cell without a number
 pub holds_none : (m : Moment) (s c w : ℕ) → w ≡ word m (place m.setting (slot s cell_region c)) → w ≡ 0 → CellHolds m s c None
@@ -87,7 +87,7 @@ text_later m n s k at l h =
 
 -- ---- comparing
 
--- the words in front of this place are the same
+-- the words before this place are the same
 abbrev pub AreSame : List ℕ → List ℕ → ℕ → Type 0
 AreSame xs ys n = (i : ℕ) → i < n → get_or xs i 0 ≡ get_or ys i 0
 
@@ -119,7 +119,7 @@ words_same t u n h same = let e : length t ≡ length u = same 0 (omega arith) i
 pub start_small : (m : Moment) (s k at : ℕ) → IsMoment m → IsText m s k at → at < 2 ^ 32
 start_small m s k at is h = let l = text_low m s k at 0 is h (omega arith) in let t = number_small m s k is h.inside h.number in omega (arith, l, t.1)
 
--- where all words in front of a text word are the same, both terms have this word
+-- where all words before a text word are the same, both terms have this word
 pub at_low : (t u : Term) (i : ℕ) → i < text_words u → AreSame (text_of t) (text_of u) i → i < text_words t
 at_low t u zero l same = omega arith
 at_low t u (suc i) l same = let w = words_same t u (suc i) (omega arith) same in omega (arith, w.1)

@@ -19,7 +19,8 @@ pub text_word_at : (t : Term) (i : ℕ) → 1 ≤ i → i < text_words t → get
 text_word_at t zero h l = absurd (omega arith)
 text_word_at t (suc i) h l = eights_at ((length t + 7) / 8) t i (omega arith) ∙ ap (λ k. little_endian (take 8 (drop k t))) (let e : 8 * i ≡ (suc i - 1) * 8 = omega arith in e)
 
--- the bytes of a text word after the length, as the rest of the bytes from there on and no more than eight
+-- the bytes of a text word after the length, as the rest of the bytes from there on and no more
+-- than eight
 pub word_from : (t bs : List ℕ) (i n w : ℕ) → bs ≡ t → (i ≡ 0 → ⊥) → i < text_words t → n ≡ min (length (take (length bs - (i - 1) * 8) (drop ((i - 1) * 8) bs))) 8
     → w ≡ little_endian (take n (take (length bs - (i - 1) * 8) (drop ((i - 1) * 8) bs))) → w ≡ get_or (text_of t) i 0
 word_from t bs i n w e some low few is =

@@ -24,7 +24,7 @@ text_start m s number = sum_by text_words (take number (entered m s))
 abbrev pub IsNumber : Moment → ℕ → ℕ → Type 0
 IsNumber m s number = number < length (entered m s)
 
--- what a cell tells: that it is free, or the number of the term whose cell it is
+-- what a cell says: that it is free, or the number of the term whose cell it is
 abbrev pub CellHolds : Moment → ℕ → ℕ → Option ℕ → Type 0
 CellHolds m s cell None = is_filled m s cell ≡ false
 CellHolds m s cell (Some number) = IsNumber m s number × (cell_of m s number ≡ cell)

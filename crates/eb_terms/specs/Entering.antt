@@ -1,4 +1,4 @@
--- Where a placing has come to a new term, and the moment after the stores that enter it.
+-- How far a placing is at a new term, and the moment after the stores that enter it.
 use Rattle.std.specs.Prelude.{◌≡◌, ℕ, [], ◌∷◌, ◌++◌, length}
 use Rattle.eb_base.specs.Term.{Term}
 use Rattle.eb_base.specs.Document.{Doc}
@@ -10,7 +10,8 @@ use Rattle.eb_place.specs.NextStores.{AreNext, with_stores}
 use Rattle.eb_place.specs.Seen.{entered}
 use Rattle.eb_terms.specs.Finding.{HasNumber}
 
--- the next stores are those that enter the term in the segment, after the terms that are entered there
+-- the next stores are those that enter the term in the segment, after the terms that are entered
+-- there
 abbrev pub IsNextTerm : Moment → Doc → ℕ → Term → Type 0
 IsNextTerm m d s t = AreNext m d (enter_stores m.setting s (entered m s) t)
 
@@ -18,8 +19,8 @@ IsNextTerm m d s t = AreNext m d (enter_stores m.setting s (entered m s) t)
 abbrev pub IsNextText : Moment → Doc → ℕ → ℕ → Term → Type 0
 IsNextText m d s start t = AreNext m d (in_row s text_region start (text_of t))
 
--- n is not before m, and of the placing of d exactly the stores that enter the term are done besides: it is
--- the last entered term, and has this number
+-- n is not before m, and of the placing of d exactly the stores that enter the term are done
+-- besides: it is the last entered term, and has this number
 pub record HasEntered (m n : Moment) (d : Doc) (s : ℕ) (t : Term) (k : ℕ) : Type 0 where
   pub later : IsNotBefore n m
   pub documents : n.documents ≡ with_stores m.documents d (length (enter_stores m.setting s (entered m s) t))

@@ -1,4 +1,4 @@
--- What a search of a segment's dictionary answers, and how many loads it may take.
+-- What a lookup in a segment's dictionary answers, and how many loads it may make.
 use Rattle.std.specs.Prelude.{◌≡◌, ℕ, ◌+◌, ◌*◌, ◌%◌, Bool, nat_lt, Option, Some, None}
 use Rattle.std.specs.List.{prefix_len, range_with_len}
 use Rattle.eb_base.specs.Term.{Term}
@@ -17,8 +17,8 @@ pub record HasNumber (m : Moment) (s : ℕ) (t : Term) (k : ℕ) : Type 0 where
   pub entered : IsEntered m s t
   pub number : k ≡ number_of t (terms_of (segment m s))
 
--- what a search may answer that begins at moment m and ends at moment n: the term's number at n, or none
--- where the term isn't entered at m
+-- what a lookup that begins at moment m and ends at moment n may answer: the term's number at n, or
+-- none where the term isn't entered at m
 abbrev pub IsAnswer : Moment → Moment → ℕ → Term → Option ℕ → Type 0
 IsAnswer m n s t None = IsEntered m s t → ⊥
 IsAnswer m n s t (Some number) = HasNumber n s t number
@@ -39,6 +39,7 @@ is_home_filled m s t = is_filled m s (home_cell (cells_in m) t)
 unfoldable pub filled_run : Moment → ℕ → Term → ℕ
 filled_run m s t = prefix_len (λ k. is_filled m s ((home_cell (cells_in m) t + k) % cells_in m)) (range_with_len 0 (cells_in m))
 
--- the most loads of a search: three and the text words of the term, for each cell of the run and the one after it
+-- the most loads of a lookup: three and the text words of the term, for each cell of the run and
+-- the one after it
 abbrev pub most_finding_loads : Moment → ℕ → Term → ℕ
 most_finding_loads m s t = (filled_run m s t + 1) * (3 + text_words t)

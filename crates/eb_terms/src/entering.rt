@@ -1,8 +1,8 @@
 //! Entering a term into the dictionary.
 //!
-//! The condition is that the next stores of the placing enter this term after the entered ones: room for the term and
-//! its text, and that the segment is one of the index, follow from it. The free cell is found before the first store,
-//! by a counter of its own.
+//! The condition says that the next stores of the placing enter this term after the entered ones.
+//! That there is room for the term and its text, and that the segment is one of the index, follows
+//! from it. The free cell is found before the first store, with a counter of loads of its own.
 ghost use Rattle.std.specs.Prelude.{◌≡◌, ◌+◌, ◌<◌};
 ghost use Rattle.eb_place.specs.declared.moment.Moment.{Moment};
 ghost use Rattle.eb_place.specs.Room.{text_words};
@@ -23,10 +23,11 @@ use eb_place::{Pen, Places, Port, Steps, Used};
 use std::marker::Brand;
 use std::sync::ledger::{Blank, Ledger};
 
-/// Enters a term in a segment, and gives its number: the stores of the placing of a document that come next
-/// are the text words of this term, its text place and its cell, and exactly these are done, in this order
-/// (this project's profile, docs/FORMATS.md). Where these stores come next there is room for the term and
-/// its text. `used` tells the segment before the call and after it. Takes no memory.
+/// Enters a term in a segment, and returns its number. The next stores of the placing of a document
+/// must be the text words of this term, its text place and its cell; the call does exactly these,
+/// in this order (this project's profile, docs/FORMATS.md). Where these stores come next there is
+/// room for the term and its text. `used` describes the segment before the call and after it. Takes
+/// no memory.
 pub fn enter<P: Pen>(
     pen: &mut P,
     document: &Document,
@@ -67,7 +68,7 @@ fn store_text<P: Pen>(pen: &mut P, document: &Document, segment: u32, start: u32
     }
 }
 
-// The cell of a term that isn't entered yet: the first free one from the term's home cell on.
+// The cell for a term that isn't entered yet: the first free one from the term's home cell on.
 fn free_cell<P: Port, L: Ledger>(
     port: &mut P,
     segment: u32,
@@ -92,7 +93,7 @@ fn free_cell<P: Port, L: Ledger>(
     unreachable!()
 }
 
-// The same with a counter of its own.
+// The cell for a term that isn't entered yet, with a counter of loads of its own.
 fn free_cell_alone<P: Port, L: Ledger>(port: &mut P, segment: u32, term: &Term, blank: Blank) -> u32
     requires blank { (blank.name ≡ L.name) × (blank.parts ≡ L.parts) × (0 < blank.parts) }
     requires inside { (m : Moment) × P.stands port.old m × (segment < m.setting.segments) }

@@ -1,7 +1,7 @@
 //! Finding a term in the dictionary.
 //!
-//! A filled cell is one whose word isn't 0; the run from the home cell counts at most all cells. None is answered
-//! where all cells were come round; a free one is always met earlier.
+//! A cell whose word isn't 0 is filled. The run from the home cell has at most all cells. A lookup
+//! that came round all cells answers none, but it always meets a free cell earlier.
 ghost use Rattle.std.specs.Prelude.{◌≡◌, ◌+◌, ◌*◌, ◌<◌, ◌≤◌, ◌↔◌, IsTrue, false};
 ghost use Rattle.eb_place.specs.declared.moment.Moment.{Moment};
 ghost use Rattle.eb_place.specs.Placing.{hash, text_of};
@@ -18,13 +18,14 @@ use eb_base::Term;
 use eb_place::{Places, Port, Steps};
 use std::sync::ledger::Ledger;
 
-/// The number of a term in a segment's dictionary, by linear probing from the term's home cell (this
-/// project's profile, docs/FORMATS.md).
+/// The number of a term in a segment's dictionary, by linear probing from the term's home cell
+/// (this project's profile, docs/FORMATS.md).
 ///
-/// A number is that of the term at the moment on exit, at which it is entered. None comes only where the
-/// term isn't entered at the moment on entry, also where words grow between two loads. The loads are
-/// fewer than `(r + 1) * (3 + w)`, with `r` the filled cells that follow each other from the home cell, wrapping,
-/// at the moment on exit, and `w` the text words of the term. Takes no memory.
+/// A number is that of the term at the moment on exit, at which it is entered. `None` comes only
+/// where the term isn't entered at the moment on entry, even if words grow between two loads. The
+/// loads are fewer than `(r + 1) * (3 + w)`, where `r` is the number of filled cells that follow
+/// each other from the home cell, wrapping, at the moment on exit, and `w` the number of text words
+/// of the term. Takes no memory.
 pub fn find<P: Port, L: Ledger>(
     port: &mut P,
     segment: u32,
@@ -39,8 +40,8 @@ pub fn find<P: Port, L: Ledger>(
     find_hashed(port, segment, term, hash_of(term), steps)
 }
 
-/// The same of a term whose hash is known, so that it is told once where several segments are searched, or where it
-/// serves elsewhere too. Takes no memory.
+/// The number of a term whose hash is known, as [`find`] says: the hash is computed once where
+/// several segments are searched. Takes no memory.
 pub fn find_hashed<P: Port, L: Ledger>(
     port: &mut P,
     segment: u32,
@@ -70,8 +71,9 @@ pub fn find_hashed<P: Port, L: Ledger>(
     None
 }
 
-/// Whether a term whose hash is known may be entered in a segment: whether its home cell is filled at the moment on exit.
-/// Where it isn't, the term isn't entered at that moment. One load, and `find` makes one less than it may. Takes no memory.
+/// Whether a term whose hash is known may be entered in a segment: whether its home cell is filled
+/// at the moment on exit. Where it isn't, the term isn't entered at that moment. One load; with it,
+/// a `find` loads at most `(r + 1) * (3 + w)` words. Takes no memory.
 pub fn may_be_entered<P: Port, L: Ledger>(
     port: &mut P,
     segment: u32,
@@ -95,8 +97,8 @@ pub fn may_be_entered<P: Port, L: Ledger>(
     true
 }
 
-// Whether the entered term of this number is the given one: the lengths are compared first, then the words
-// of the bytes, up to the first that differs.
+// Whether the entered term of this number is the given one. The lengths are compared first, then
+// the words of the bytes, up to the first that differs.
 fn is_term<P: Port, L: Ledger>(
     port: &mut P,
     places: Places,

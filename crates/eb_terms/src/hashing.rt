@@ -1,11 +1,19 @@
+//! The hash of a term, and its home cell.
+//!
+//! A term is hashed once a document: one hash gives its home cell in the segment and its bucket
+//! among the document's earlier tokens. A search for one word hashes it once for the home cells of
+//! all segments. A term that is new in its segment is hashed anew where it is entered, and each
+//! term where its list is opened. Rejected: the hash kept in the term, which takes 8 bytes more of
+//! each, and brings the hash down to `eb_base`.
 ghost use Rattle.std.specs.Prelude.{◌≡◌, ◌+◌, ◌*◌, ◌<◌, ◌≤◌, ◌^◌, ◌%◌};
 ghost use Rattle.eb_place.specs.Placing.{hash, home_cell};
 
 use eb_base::Term;
 
-/// The home cell of a term among this many cells: the cell where the search for the term begins. It is the
-/// rest of the term's hash, of 32 bits, by the number of cells (this project's profile, docs/FORMATS.md). Where
-/// the cells are a power of two, it is the lowest bits of the hash, and nothing is divided. Takes no memory.
+/// The home cell of a term among this many cells: the cell where the lookup of the term begins. It
+/// is the remainder of the term's hash, of 32 bits, by the number of cells (this project's profile,
+/// docs/FORMATS.md). Where the cells are a power of two, it is the lowest bits of the hash, and
+/// nothing is divided. Takes no memory.
 pub fn home(term: &Term, cells: u32) -> u32
     requires { 1 ≤ cells }
     ensures { result ≡ home_cell cells term.now }
@@ -13,7 +21,7 @@ pub fn home(term: &Term, cells: u32) -> u32
     home_of(hash_of(term), cells)
 }
 
-/// The home cell of a term by its hash, as [`home`] tells it. Takes no memory.
+/// The home cell of a term by its hash. Takes no memory.
 pub fn home_of(hashed: u32, cells: u32) -> u32
     requires { 1 ≤ cells }
     ensures { result ≡ hashed % cells }
@@ -21,7 +29,7 @@ pub fn home_of(hashed: u32, cells: u32) -> u32
     rest(hashed, cells)
 }
 
-// The rest of a number by another one that isn't 0.
+// The remainder of a number by another one that isn't 0.
 fn rest(number: u32, by: u32) -> u32
     requires { 1 ≤ by }
     ensures { result ≡ number % by }
@@ -34,8 +42,8 @@ fn rest(number: u32, by: u32) -> u32
     }
 }
 
-/// The hash of a term, from which its home cell comes: 0, and for each byte 31 times the hash plus the byte, modulo
-/// 2^32 (this project's profile, docs/FORMATS.md). Takes no memory.
+/// The hash of a term, from which its home cell comes: 0, and for each byte 31 times the hash plus
+/// the byte, modulo 2^32 (this project's profile, docs/FORMATS.md). Takes no memory.
 pub fn hash_of(term: &Term) -> u32
     ensures { result ≡ hash term.now }
 {
@@ -46,7 +54,7 @@ pub fn hash_of(term: &Term) -> u32
     hash
 }
 
-// The cell that comes so many cells after a first one, wrapping at the number of cells. Nothing is divided.
+// The cell `step` cells after a first one, wrapping at the number of cells. Nothing is divided.
 pub(crate) fn cell_behind(first: u32, step: u32, cells: u32) -> u32
     requires first { first < cells }
     requires step { step < cells }

@@ -1,6 +1,6 @@
-//! The dictionary of a segment: an open-addressed hash table over parallel arrays of words. Its cells hold
-//! term numbers; a term's text stands among the text words, from its text place on. It is filled by single
-//! stores and read while it grows. No call takes memory.
+//! The dictionary of a segment: an open-addressed hash table over parallel arrays of words. Its
+//! cells hold term numbers. A term's text is among the text words, from its text place on. The
+//! dictionary is filled by single stores and read while it grows. No call takes memory.
 #![tactic(auto)]
 
 mod entering;

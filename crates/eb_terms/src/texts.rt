@@ -30,7 +30,10 @@ pub(crate) fn text_word(term: &Term, at: usize) -> u64
     lowest_first(&rest[..rest.len().min(WORD_BYTES)])
 }
 
-// Up to eight bytes as a number, the first lowest: the first four at once, where there are so many.
+// Up to eight bytes as a number, the first lowest. The first four are one load where there are
+// four. A loop over the bytes ends where the processor can't guess, since lengths vary: with it a
+// Zipf document took 15,278 instructions in place of 14,274, and a rare word 3,099 in place of
+// 2,981. Rejected: eight bytes at once always, which reads past the end of a term.
 #[inline(always)]
 fn lowest_first(bytes: &[u8]) -> u64
     requires { length bytes.now ≤ 8 }

@@ -58,7 +58,7 @@ plain_by w text n some whole all =
 front_is : (text : List ℕ) (k : ℕ) → slice_range text 0 k ≡ take k text
 front_is text k = let e : k - 0 ≡ k = omega arith in ap (λ n. take n text) e
 
--- the tokens so far and those of what is left, where a part was taken off
+-- the tokens so far and those of what is left, where a part was removed
 pub told_more : (w : Cut) (terms more : List (List ℕ)) (rest front back : List ℕ) (end : ℕ) → front ≡ slice_range rest 0 end → back ≡ drop (end + 1) rest
     → words rest ≡ words (take end rest) ++ words (drop (end + 1) rest) → more ≡ terms ++ tokens_by w front
     → more ++ tokens_by w back ≡ terms ++ tokens_by w rest
@@ -75,7 +75,7 @@ one_token t = append-nil (pieces t)
 pub one_more : (w : Cut) (t : List ℕ) (ts : List (List ℕ)) → in_cut w (t ∷ ts) ≡ in_cut w (t ∷ []) ++ in_cut w ts
 one_more w t ts = in_cut_append w (t ∷ []) ts
 
--- the tokens so far and those of the words that are left, where one word more was put
+-- the tokens so far and those of the words that are left, where one more word was put
 pub told_word : (w : Cut) (terms more : List (List ℕ)) (t : List ℕ) (ts : List (List ℕ)) → more ≡ terms ++ in_cut w (t ∷ []) → more ++ in_cut w ts ≡ terms ++ in_cut w (t ∷ ts)
 told_word w terms more t ts e =
     ap (λ z. z ++ in_cut w ts) e ∙ append_assoc terms (in_cut w (t ∷ [])) (in_cut w ts) ∙ ap (λ z. terms ++ z) (sym (one_more w t ts))

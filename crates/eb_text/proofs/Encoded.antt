@@ -103,7 +103,7 @@ append_utf8 : (xs ys : List (List ℕ)) → AreUtf8 xs → AreUtf8 ys → AreUtf
 append_utf8 [] ys h k = k
 append_utf8 (x ∷ xs) ys h k = (h.0, append_utf8 xs ys h.1 k)
 
--- up to an ASCII character, and behind it
+-- up to an ASCII character, and after it
 module _ (text : List ℕ) (u : IsUtf8 text) (at : ℕ) (lt : at < length text) (low : slice_index text at < 128) where
   front_utf8 : IsUtf8 (take at text)
   front_utf8 = IsUtf8-take text at u (IsCharBoundary-before_ascii text at lt low)

@@ -44,7 +44,7 @@ folded_ascii w ascii =
     ∙ ap encode_utf8_all (default_case_fold-ascii w low)
     ∙ lower_encoded w low
 
--- a character more that folds to itself
+-- one more character that folds to itself
 pub stays-cons : (c : ℕ) (cs : List ℕ) → full_fold c ≡ c ∷ [] → default_case_fold cs ≡ cs → default_case_fold (c ∷ cs) ≡ c ∷ cs
 stays-cons c cs own rest = default_case_fold-cons c cs ∙ ap₂ ◌++◌ own rest
 

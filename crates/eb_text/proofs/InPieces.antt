@@ -18,7 +18,7 @@ abbrev pub begins : List ℕ → Bool
 begins [] = false
 begins (c ∷ cs) = not (is_mark c)
 
--- the pieces with one character more before them, where a piece begins right behind it or not
+-- the pieces with one more character before them, where a piece begins right after it or not
 abbrev pub step : Bool → ℕ → Bool → List (List ℕ) → List (List ℕ)
 step m c b ps = cond m ps (cond b (onto_first c ps) ((c ∷ []) ∷ ps))
 
@@ -45,14 +45,14 @@ pieces-cons c cs = chosen (is_mark c) c cs
 
 -- ---- part by part
 
--- up to a mark, and behind it
+-- up to a mark, and after it
 pub pieces_first : (text : List ℕ) → position_or_len is_mark text < length text
     → pieces text ≡ filter has_byte (before_first is_mark text ∷ []) ++ pieces (after_first is_mark text)
 pieces_first text h =
     ap (filter has_byte) (slice_split_first is_mark text 0 h)
     ∙ filter-append has_byte (before_first is_mark text ∷ []) (slice_split is_mark (after_first is_mark text))
 
--- one piece more
+-- one more piece
 pub pieces_more : (terms more : List (List ℕ)) (text front behind : List ℕ) (at y : ℕ) (ys : List ℕ) → at ≡ position_or_len is_mark text → front ≡ take at text → behind ≡ drop at text
     → behind ≡ y ∷ ys → more ≡ terms ++ filter has_byte (front ∷ []) → more ++ pieces ys ≡ terms ++ pieces text
 pieces_more terms more text front behind at y ys e f b parts k = elim (cases_lt at (length text)) [ inl lt ↦ go lt | inr le ↦ none le ]
@@ -69,7 +69,7 @@ pieces_more terms more text front behind at y ys e f b parts k = elim (cases_lt 
         ∙ ap (λ ps. terms ++ ps)
         (ap (λ n. filter has_byte (take n text ∷ []) ++ pieces (drop (n + 1) text)) e ∙ sym (pieces_first text (subst (λ n. n < length text) e lt)))
 
--- where no mark stands
+-- where there is no mark
 pub pieces_none : (text : List ℕ) → All (λ b. is_mark b ≡ false) text → pieces text ≡ filter has_byte (text ∷ [])
 pieces_none text h = ap (filter has_byte) (slice_split_none is_mark text h)
 
@@ -119,6 +119,6 @@ filled : (t : List ℕ) → 0 < length t → filter has_byte (t ∷ []) ≡ t �
 filled [] some = absurd (omega arith)
 filled (c ∷ cs) some = refl
 
--- where no mark stands, and a byte does
+-- where there is no mark, and there is a byte
 pub pieces_whole : (t : List ℕ) → 0 < length t → position_or_len is_mark t ≡ length t → pieces t ≡ t ∷ []
 pieces_whole t some e = pieces_last t e ∙ filled t some

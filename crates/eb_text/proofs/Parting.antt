@@ -217,7 +217,7 @@ rule_left x xs before (d ∷ after) some =
 
 -- ---- the pieces
 
--- a character before the pieces, as one of its own or as the front of the first
+-- a character before the pieces, as one of its own or at the start of the first
 abbrev attach : Bool → ℕ → List (List ℕ) → List (List ℕ)
 attach b c pieces = cond b ((c ∷ []) ∷ pieces) (prepend (c ∷ []) pieces)
 

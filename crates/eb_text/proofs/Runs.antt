@@ -1,4 +1,4 @@
--- The pieces of a text of ASCII are its runs of letters and digits, whatever words they stand in.
+-- The pieces of a text of ASCII are its runs of letters and digits, whatever words they are in.
 use Rattle.std.proofs.Common.{◌≡◌, ℕ, ◌<◌, Bool, true, false, cond, not, ◌||◌, List, [], ◌∷◌, ◌++◌, map, IsAscii, encode_utf8_all, refl, sym, ap, ap₂, ◌∙◌, arith, append-nil}
 use Rattle.std.specs.List.{filter, flat_map, list_any, onto_first, AllByRecursion}
 use Rattle.std.specs.Char.{is_ascii_alphanumeric, to_ascii_lowercase}
@@ -25,7 +25,7 @@ IsLow c = c < 128
 abbrev all_pieces : List (List ℕ) → List (List ℕ)
 all_pieces = flat_map pieces
 
--- ---- where words are cut, a mark stands
+-- ---- where words are cut, there is a mark
 
 no_mark : (c : ℕ) → c < 128 → is_mark c ≡ false → IsAlphanumeric c
 no_mark c low h = grind (arith, nat_tests)

@@ -16,14 +16,14 @@ nothing p = omega (arith, p.0)
 low_line : IsPlain (codes "a_b") → ⊥
 low_line p = false≢true (p.1 1 0 (omega arith))
 
--- between two letters, and behind a comma
+-- between two letters, and after a comma
 between : IsParting (codes "a b") 1
 between = record { space = refl; within = (omega arith, omega arith); ascii = omega arith; other = λ e. omega (arith, e); behind = refl }
 
 behind_a_comma : IsParting (codes "a, 7") 2
 behind_a_comma = record { space = refl; within = (omega arith, omega arith); ascii = omega arith; other = λ e. omega (arith, e); behind = refl }
 
--- the first of two, the second of two, and one in front
+-- the first of two, the second of two, and one at the start
 first_of_two : IsParting (codes "a  b") 1 → ⊥
 first_of_two p = false≢true p.behind
 
@@ -33,6 +33,6 @@ second_of_two p = p.other refl
 in_front : IsParting (codes " b") 0 → ⊥
 in_front p = omega (arith, p.within.0)
 
--- one that a mark stands on (U+0345, which is a letter)
+-- one before a mark (U+0345, which is a letter)
 under_a_mark : IsParting (97 ∷ 32 ∷ 205 ∷ 133 ∷ []) 1 → ⊥
 under_a_mark p = false≢true p.behind

@@ -18,7 +18,7 @@ digits = refl
 apostrophe : pieces (codes "can't") ≡ codes "can" ∷ codes "t" ∷ []
 apostrophe = refl
 
--- at both ends, and two side by side
+-- at both ends, and two in a row
 ends : pieces (codes "_a__b_") ≡ codes "a" ∷ codes "b" ∷ []
 ends = refl
 

@@ -76,7 +76,7 @@ module _ (text : List ℕ) (u : IsUtf8 text) (at : ℕ) (p : IsParting text at) 
       ap chars (sym (take-append-drop at text)) ∙ chars-append (take at text) (drop at text) (IsUtf8-take text at u ends)
       ∙ ap₂ ◌++◌ front_chars (space ∙ ap (λ cs. 32 ∷ cs) back_chars) ∙ append_assoc (chars (take (at - 1) text)) (l ∷ []) _
 
-  -- the words of a text are those before such a space, and those behind it
+  -- the words of a text are those before such a space, and those after it
   pub words_at : words text ≡ words (take at text) ++ words (drop (at + 1) text)
   words_at =
       words_by_chars text ∙ ap words_of all_chars
@@ -100,7 +100,7 @@ words_whole (c ∷ cs) some all =
     ∙ ap (λ t. filter has_alphanumeric (t ∷ [])) (encodes-IsAscii text ascii)
     ∙ ap (λ b. cond b (text ∷ []) []) (has_letter c cs ascii (all zero 0 (suc-le-suc zero-le)))
 
--- letters and digits of ASCII are one word, where all of a text are such
+-- letters and digits of ASCII are one word, where a text has nothing else
 pub words_plain : (text : List ℕ) (n : ℕ) → n ≢ 0 → n ≡ length text → All IsAlphanumeric (take n text) → words text ≡ text ∷ []
 words_plain text n some whole all =
     let long : length text ≤ n = omega (arith, whole) in
@@ -123,6 +123,6 @@ take_least (suc n) zero xs le = absurd (omega arith)
 take_least (suc n) (suc m) [] le = refl
 take_least (suc n) (suc m) (x ∷ xs) le = ap (λ ys. x ∷ ys) (take_least n m xs (omega arith))
 
--- the front of a front
+-- the prefix of a prefix
 pub take_front : (n m : ℕ) (xs : List ℕ) → n ≤ m → take n (slice_range xs 0 m) ≡ take n xs
 take_front n m xs le = let same : m - 0 ≡ m = omega arith in ap (λ k. take n (take k xs)) same ∙ take_least n m xs le

@@ -7,11 +7,12 @@ use Rattle.std.specs.Char.{is_ascii_alphanumeric}
 abbrev pub IsAlphanumeric : ℕ → Type 0
 IsAlphanumeric b = IsTrue (is_ascii_alphanumeric b)
 
--- a text of these alone, of one at least
+-- a text of letters and digits of ASCII alone, of at least one
 abbrev pub IsPlain : List ℕ → Type 0
 IsPlain text = (0 < length text) × All IsAlphanumeric text
 
--- a space (32) stands at this place of the text, after a byte of ASCII that is no space, and before a letter or a digit of ASCII
+-- a space (32) is at this place of the text, after a byte of ASCII that is no space, and before a
+-- letter or a digit of ASCII
 pub record IsParting (text : List ℕ) (at : ℕ) : Type 0 where
   pub space : slice_index text at ≡ 32
   pub within : (0 < at) × (at + 1 < length text)

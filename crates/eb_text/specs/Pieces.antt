@@ -14,7 +14,7 @@ abbrev pub has_byte : List ℕ → Bool
 has_byte [] = false
 has_byte (b ∷ bs) = true
 
--- what stands between the marks of a token, where anything does
+-- the runs between the marks of a token that aren't empty
 abbrev pub pieces : List ℕ → List (List ℕ)
 pieces token = filter has_byte (slice_split is_mark token)
 

@@ -14,6 +14,6 @@ pub record IsFoldedByte (b : ℕ) : Type 0 where
   pub small : (b < 65) ⊎ (90 < b)
 
 -- the words of the text in order, each folded: the pieces between the word boundaries of UAX #29
--- that hold a letter or a number
+-- that have a letter or a number
 abbrev pub tokens_of : List ℕ → List (List ℕ)
 tokens_of text = map folded (words text)

@@ -5,7 +5,7 @@
 pub enum Cut {
     /// Each word is a token.
     Words,
-    /// What stands between the marks of a word is a token each: a mark is a character of ASCII that is neither a letter
-    /// nor a digit.
+    /// Each run between the marks of a word is a token. A mark is a character of ASCII that is
+    /// neither a letter nor a digit.
     Pieces,
 }

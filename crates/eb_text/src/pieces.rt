@@ -17,7 +17,7 @@ fn is_mark_byte(byte: u8) -> bool
     byte < 128 && !byte.is_ascii_alphanumeric()
 }
 
-// How many bytes stand before the first mark.
+// How many bytes come before the first mark.
 fn mark_at(bytes: &[u8]) -> usize
     ensures place { result ≡ position_or_len is_mark bytes.now }
     ensures within { result ≤ length bytes.now }
@@ -30,7 +30,7 @@ fn mark_at(bytes: &[u8]) -> usize
     bytes.len()
 }
 
-// Puts a piece at the end, where it has a byte.
+// Puts a piece at the end, unless it is empty.
 fn push_piece(alloc: Global, piece: &[u8], terms: &mut Terms) -> Result<(), NoMemory>
     ensures { IfOk result (λ _. terms.new ≡ terms.old ++ filter has_byte (piece.now ∷ [])) }
 {
@@ -76,7 +76,7 @@ pub(crate) fn push_token(
     }
 }
 
-// Puts the pieces of a token at the end; of one without a mark it is itself.
+// Puts the pieces of a token at the end; a token without a mark is its own piece.
 #[tactic(auto, using(crate::proofs::ByCut::one_token))]
 fn push_whole(alloc: Global, token: Term, terms: &mut Terms) -> Result<(), NoMemory>
     ensures { IfOk result (λ _. terms.new ≡ terms.old ++ in_cut by.Pieces (token ∷ [])) }
@@ -89,7 +89,7 @@ fn push_whole(alloc: Global, token: Term, terms: &mut Terms) -> Result<(), NoMem
     push_cut(alloc, token.bytes(), terms)
 }
 
-// The same of the tokens of a text of ASCII: the runs of letters and digits.
+// Puts the tokens of a text of ASCII at the end: its runs of letters and digits.
 #[tactic(auto, using(crate::proofs::Runs::runs))]
 fn push_runs(alloc: Global, text: &str, terms: &mut Terms) -> Result<(), NoMemory>
     requires { IsAscii text.now }

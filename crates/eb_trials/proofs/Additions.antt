@@ -46,7 +46,8 @@ drop_front : {A : Type 0} (xs ys : List A) → drop (length xs) (xs ++ ys) ≡ y
 drop_front [] ys = refl
 drop_front (x ∷ xs) ys = drop_front xs ys
 
--- the record of a history with one document more, without that of the history, is the placing of the document
+-- the record of a history with one more document, without that of the history, is the placing of
+-- the document
 pub placing_recorded : (σ : Setting) (docs : List Doc) (d : Doc) (xs ys : List (ℕ × ℕ)) (n : ℕ) → n ≡ length xs
     → xs ≡ pairs_of σ (document_stores σ record { accepted = docs; current = None })
     → ys ≡ pairs_of σ (document_stores σ record { accepted = docs ++ d ∷ []; current = None })
@@ -69,7 +70,8 @@ left_behind m σ docs d left h is room e = record {
   stores = e ∙ (λ i. drop (stores_done (sym h.idle i)) (placing (sym h.setting i) (sym h.accepted i) d));
 }
 
--- what a pen recorded of a history with one document more is left of its placing, where words hold the history
+-- what a pen recorded of a history with one more document is left of its placing, where words hold
+-- the history
 pub left_for : (m : Moment) (σ : Setting) (docs : List Doc) (d : Doc) (x y : RecordingPen) (p : PlacerProgress) (n : ℕ) (stores : List (ℕ × ℕ)) (after : Moment)
     → (a : HasAdded IsRecord x p (empty_moment σ) docs) → HasRoom a.moment.setting a.moment.documents.accepted d → IsAccepted a.moment after d → IsRecord y after
     → x.has_lost ≡ false → y.has_lost ≡ false → n ≡ length x.stores.items → stores ≡ y.stores.items → IsDocument d → Holds m σ docs → AreLeft m d (drop n stores)

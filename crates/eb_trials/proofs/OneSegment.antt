@@ -43,7 +43,7 @@ alone m is one =
     let few = (placed_all m.setting m.documents.accepted is.setting (accepted_lawful m is)).short in
     all_in_one m.setting [] m.documents.accepted (omega arith)
 
--- so many as it holds, and at least so many later
+-- as many as it holds, and at least as many later
 pub held : (m n : Moment) (σ : Setting) (docs : List Doc) → IsMoment n → Holds m σ docs → σ.segments ≡ 1 → IsNotBefore n m → length docs ≤ length (accepted_in n 0)
 held m n σ docs is h one l =
     let s : n.setting.segments ≡ 1 = ap (λ (τ : Setting). τ.segments) (sym l.setting ∙ h.setting) ∙ one in

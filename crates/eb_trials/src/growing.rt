@@ -17,8 +17,8 @@ pub enum Pace {
     OneFrom(u64),
 }
 
-/// Words in a vector that grow between two loads: before some of its loads the port does stores of the
-/// placing of one document, in order, as a writer might that runs beside the reader.
+/// Words in a vector that grow between two loads: before some of its loads the port does stores of
+/// the placing of one document, in order, as a writer on another thread might.
 #[derive(Drop)]
 pub struct GrowingPort {
     words: FlatWords,
@@ -30,8 +30,8 @@ pub struct GrowingPort {
 }
 
 impl GrowingPort {
-    /// Words that will grow by the placing of a document. Its stores, as pairs of place and value, are
-    /// those of the list from number `done` on. Takes no memory.
+    /// Words that will grow by the placing of a document. Its stores, as pairs of place and value,
+    /// are those of the list from number `done` on. Takes no memory.
     pub fn new(
         words: FlatWords,
         document: Document,
@@ -52,7 +52,8 @@ impl GrowingPort {
         }
     }
 
-    /// The stores of the list that are done, also those before the document's: pairs of place and value.
+    /// The stores of the list that are done, also those before the document's: pairs of place and
+    /// value.
     pub fn stores_done(&self) -> &[(u64, u64)]
         ensures { result.now ≡ take self.now.done self.now.stores.items }
     {

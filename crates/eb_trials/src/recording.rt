@@ -8,9 +8,10 @@ use eb_place::{PackPen, Pen, Places, Port, Steps};
 use std::alloc::Global;
 use std::sync::ledger::Ledger;
 
-/// Words in a vector, and all stores that were done to them, in order, as pairs of place and value: a
-/// writer's and a converter's pen whose stores can be looked at, and how many segments are converted.
-/// Where there is no memory for a store it is done and not recorded, nor is one after it, and the record says so.
+/// Words in a vector, and all stores that were done to them, in order, as pairs of place and value:
+/// a writer's and a converter's pen whose stores can be looked at, and how many segments are
+/// converted. Where memory runs out for a store it is done and not recorded, nor is one after it,
+/// and the record says so.
 #[derive(Drop)]
 pub struct RecordingPen {
     words: FlatWords,
@@ -23,8 +24,8 @@ pub struct RecordingPen {
 }
 
 impl RecordingPen {
-    /// The words of an index without a document, and no store. Takes the memory of the words; a store
-    /// may take more.
+    /// The words of an index without a document, and no store. Takes the memory of the words; a
+    /// store may take more.
     pub fn new(alloc: Global, config: Config) -> Result<RecordingPen, NoMemory>
         ensures { IfOk result (λ pen. IsRecord pen (empty_moment config)) }
     {

@@ -12,8 +12,8 @@ use std::alloc::Global;
 use std::marker::Brand;
 use std::sync::ledger::{Blank, Ledger};
 
-/// What a search answered: how many stores were done before it, how many documents it saw, and the ids that
-/// it found, newest first.
+/// What a search answered: how many stores were done before it, how many documents it saw, and the
+/// ids that it found, newest first.
 #[derive(Debug, Drop, PartialEq)]
 pub struct Answer {
     pub stores: u64,
@@ -21,9 +21,9 @@ pub struct Answer {
     pub ids: Vec<u64>,
 }
 
-/// Words in a vector that are searched after each store of a writer or a converter, always by the same
-/// query: a pen that notes each answer that differs from the one before it. Where there is no memory to note
-/// one, the note says so.
+/// Words in a vector that are searched after each store of a writer or a converter, always by the
+/// same query: a pen that notes each answer that differs from the one before it. Where memory runs
+/// out for a note, the record says so.
 #[derive(Drop)]
 pub struct SearchingPen {
     pen: RecordingPen,
@@ -35,8 +35,8 @@ pub struct SearchingPen {
 }
 
 impl SearchingPen {
-    /// The words of an index without a document, the frame that searches them, and no answer. Takes the
-    /// memory of the words; a store may take more.
+    /// The words of an index without a document, the frame that searches them, and no answer. Takes
+    /// the memory of the words; a store may take more.
     pub fn new(alloc: Global, config: Config, frame: Frame) -> Result<SearchingPen, NoMemory>
         ensures { IfOk result (λ pen. IsRecord pen.pen (empty_moment config)) }
     {
@@ -51,7 +51,8 @@ impl SearchingPen {
         })
     }
 
-    /// The answers that differ from the one before, in order; before the first, a search saw no document.
+    /// The answers that differ from the one before, in order; before the first, a search saw no
+    /// document.
     pub fn answers(&self) -> &[Answer]
         ensures { result.now ≡ self.now.answers.items }
     {

@@ -1,4 +1,4 @@
--- Lists that are gathered term by term.
+-- Lists that are collected term by term.
 use Rattle.std.proofs.Common.{◌≡◌, ℕ, zero, suc, ◌+◌, ◌<◌, nat_eq, Bool, true, false, ◌&&◌, ◌||◌, Option, None, Some}
 use Rattle.std.proofs.Common.{bytes_eq, List, [], ◌∷◌, ◌++◌, length, take, get_or, refl, sym, ap, ◌∙◌, inl, inr}
 use Rattle.std.specs.List.{list_any}
@@ -32,7 +32,7 @@ not_yet b x p xs i h = elim (and_cases b (list_any p xs) h) [
 ]
 
 module _ {X : Type 0} (f : X → Bool) (xs : List X) (i : ℕ) (x : X) (within : i < length xs) (at : x ≡ get_or xs i x) where
-  -- one element more
+  -- one more element
   one_more : list_any f (take (i + 1) xs) ≡ (list_any f (take i xs) || f x)
   one_more = ap (list_any f) (take_more xs i x within) ∙ any_append f (take i xs) (get_or xs i x ∷ []) ∙ ap (λ (b : Bool). list_any f (take i xs) || b) (or_none (f (get_or xs i x)) ∙ ap f (sym at))
 
@@ -46,7 +46,7 @@ module _ {X : Type 0} (f : X → Bool) (xs : List X) (i : ℕ) (x : X) (within :
         group true b c = refl
         group false b c = refl
 
-    -- the list stayed, since what the element leads to stands in it
+    -- the list stays, since it has what the element leads to
     pub skip_more : new ≡ old → (f x ≡ true → list_any f (take i xs) ≡ true) → list_any (nat_eq n) new ≡ (a || list_any f (take (i + 1) xs))
     skip_more stayed stands =
         ap (list_any (nat_eq n)) stayed ∙ before ∙ ap (λ (b : Bool). a || b) (covered (list_any f (take i xs)) (f x) stands ∙ sym one_more)

@@ -93,7 +93,7 @@ one_more m n numbers more terms at number term told is put e = record {
         (omega (arith, e2, f.0), ap (λ (j : ℕ). get_or terms j []) (sym e2) ∙ f.1 ∙ sym same)
 
 module _ {Z S : Type 0} (m : HashMap (Vec ℕ Z) ℕ S) (numbers : List ℕ) (terms : List (List ℕ)) (told : AreNumberedTo m numbers terms (length terms)) where
-  -- the places that have the number of a term are those where it stands
+  -- the places that have the number of a term are those where it occurs
   pub are_places : (t : List ℕ) (n : ℕ) → number_of m t ≡ Some n → ArePlaces numbers terms n t
   are_places t n e k h = (
     λ has.
@@ -104,7 +104,7 @@ module _ {Z S : Type 0} (m : HashMap (Vec ℕ Z) ℕ S) (numbers : List ℕ) (te
         some_inj (get_or numbers k 0) n (sym (told.each k h) ∙ ap (number_of m) own ∙ e),
   )
 
-  -- a term without a number stands nowhere
+  -- a term without a number occurs nowhere
   pub nowhere : (t : List ℕ) → number_of m t ≡ None → (k : ℕ) → slice_get terms k ≡ Some t → ⊥
   nowhere t none k is =
       let own : get_or terms k [] ≡ t = get_or_from_slice_get terms k t [] is in

@@ -158,7 +158,7 @@ module _ {Z S : Type 0} (bs : List ℕ) (m n : HashMap (Vec ℕ Z) (BTreeSet ℕ
       → (t : List ℕ) (k : ℕ) → leads n t k ≡ (leads m t k && not ((k == number) && bytes_eq t bs))
   take_found up take = take_one bs m n (Some s') up number (λ q. set_take s s' number take q ∙ ap (λ (b : Bool). b && not (q == number)) (had q))
 
-  -- a set that became empty was taken away too
+  -- a set that became empty was removed too
   pub take_last : (l : HashMap (Vec ℕ Z) (BTreeSet ℕ) S) → hash.UpdatesBy (λ x y. bytes_eq x.items y.items) (λ k. bytes_eq bs k.items) m n (Some s')
       → hash.UpdatesBy (λ x y. bytes_eq x.items y.items) (λ k. bytes_eq bs k.items) n l None → sorted.UpdatesBy nat_cmp (nat_cmp number) s s' false → length s'.keys ≡ 0
       → (t : List ℕ) (k : ℕ) → leads l t k ≡ (leads m t k && not ((k == number) && bytes_eq t bs))

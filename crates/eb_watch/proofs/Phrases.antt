@@ -8,7 +8,7 @@ use Rattle.eb_base.specs.Query.{phrase, window}
 use Rattle.eb_base.specs.Match.{Stand, has_phrase, has_window}
 use Rattle.eb_watch.proofs.Standing.{StandNear, stand_long}
 
--- the list from a place on begins with what stands there
+-- the list from a place on begins with the element there
 begins : (us : List (List ℕ)) (i : ℕ) (t : List ℕ) → slice_get us i ≡ Some t → drop i us ≡ t ∷ drop (suc i) us
 begins us i t e = drop-cons us i [] (slice_get_within us i t e) ∙ ap (λ (x : List ℕ). x ∷ drop (suc i) us) (get_or_from_slice_get us i t [] e)
 
@@ -41,7 +41,7 @@ stands_phrase us t (v ∷ ts) f l s near =
     stands_phrase us v ts (suc f) l (subst (λ (n : ℕ). Stand us (v ∷ ts) n l) one s.1.2) (omega (arith, near)) in
     ap (take (length (t ∷ v ∷ ts))) (begins us f t s.0) ∙ ap (λ (xs : List (List ℕ)). t ∷ xs) rest
 
--- a test that tells whether terms stand so near is the one of a window
+-- a test whether terms occur this near is the test of a window
 pub window_by : (r : Bool) (ts terms : List (List ℕ)) (reach : ℕ) → Decides r (StandNear terms ts reach) → r ≡ has_window ts reach terms
 window_by r ts terms reach d = same_from_decides r (has_window ts reach terms) d (match_decides (window ts reach) (record { id = 0; terms = terms }))
 

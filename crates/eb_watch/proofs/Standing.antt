@@ -1,4 +1,4 @@
--- Ends of terms that stand in their order, term by term.
+-- Ends of terms that occur in their order, term by term.
 use Rattle.std.proofs.Common.{◌≡◌, ◌⊎◌, ℕ, zero, suc, ◌+◌, ◌-◌, ◌<◌, ◌≤◌, nat_lt, eqb, true, false, List, [], ◌∷◌, length, drop, get_or, Some, slice_get, refl, sym, ap, ◌∙◌, arith}
 use Rattle.std.proofs.Common.{inl, inr, subst, eq-eqb, drop-cons, length-drop}
 use Rattle.std.specs.Prelude.{if◌then◌else◌, slice_set}
@@ -58,7 +58,7 @@ least_in (e ∷ es) = elim (cases_Bool (nat_lt (least es) e)) [
 
 -- ---- one step of `put_next`
 
--- the places from `at` on are told
+-- the places from `at` on have their ends
 pub record IsTold (number at : ℕ) (places old ends : List ℕ) (m : ℕ) : Type 0 where
   pub long : length ends ≡ length places
   pub within : at ≤ length places
@@ -148,7 +148,7 @@ next_ends terms t u us places old ends number long at before is = record {
         let last = before.lowest n l s in
         omega (arith, e, few, there, last)
 
--- ---- what stands
+-- ---- where terms occur
 
 -- each of the terms is one of the document's
 pub stand_has : (terms ts : List (List ℕ)) (f l : ℕ) → Stand terms ts f l → (j : ℕ) → j < length ts → (k : ℕ) × (slice_get terms k ≡ Some (get_or ts j []))
@@ -175,7 +175,7 @@ stand_last terms [] f l s = absurd s
 stand_last terms (t ∷ []) f l s = let h = slice_get_within terms f t s.0 in omega (arith, h, s.1)
 stand_last terms (t ∷ u ∷ ts) f l s = stand_last terms (u ∷ ts) s.1.0 l s.1.2
 
--- some end is near exactly where the terms stand so
+-- some end is near exactly where the terms occur so
 abbrev pub StandNear : List (List ℕ) → List (List ℕ) → ℕ → Type 0
 StandNear terms ts reach = (first : ℕ) × (last : ℕ) × Stand terms ts first last × (last ≤ first + reach)
 

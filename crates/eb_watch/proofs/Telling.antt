@@ -62,7 +62,8 @@ found by_term keyless ws d l k n =
     ∙ ap (λ (b : Bool). finds is_keyless ws n || b) (sym (finds_any (λ q. key_has (watch_key q)) d.terms ws n))
     ∙ sym (finds_or is_keyless (λ q. list_any (key_has (watch_key q)) d.terms) ws n)
 
--- numbers that rise, and are those that a property finds, are those of the watches with the property
+-- numbers that rise, and are those that a property finds, are those of the watches with the
+-- property
 these : (p : Tree → Bool) (ws : List Watched) (ns : List ℕ) → IsStrictlyIncreasing (numbers_of ws) → IsStrictlyIncreasing ns → ((n : ℕ) → list_any (nat_eq n) ns ≡ finds p ws n)
     → ns ≡ numbers_of (filter (λ w. p w.1) ws)
 these p ws ns up rising has =

@@ -12,7 +12,7 @@ use Rattle.eb_watch.proofs.Numbered.{nowhere}
 use Rattle.eb_watch.proofs.Phrases.{window_by}
 use Rattle.eb_watch.proofs.Standing.{ArePlaces, StandNear, first_ends, next_ends, near_stands, stands_near, stand_has, stand_long, stand_last}
 
--- where they can't stand so near, the window isn't there
+-- where they can't occur this near, the window isn't there
 pub none_near : (window terms : List (List ℕ)) (reach : ℕ) → (StandNear terms window reach → ⊥) → false ≡ has_window window reach terms
 none_near window terms reach never = window_by false window terms reach (λ h. absurd (let f : ⊥ = cc in f), λ s. absurd (never s))
 
@@ -55,7 +55,7 @@ module _ (window before : List (List ℕ)) (last : List ℕ) (parts : window ≡
       subst (λ (ts : List (List ℕ)). AreEnds terms ts ends) (sym (here ∙ ap (λ (ts : List (List ℕ)). t ∷ ts) next))
       (next_ends terms t (get_or window (suc p) []) (drop (suc (suc p)) window) places old ends number same at (subst (λ (ts : List (List ℕ)). AreEnds terms ts old) next had) is)
 
--- a test whether some end is near tells the window
+-- a test whether some end is near is the test of the window
 pub near_by : (r : Bool) (window terms : List (List ℕ)) (ends : List ℕ) (reach left : ℕ) → left ≡ 0 → length ends ≡ length terms → length terms ≤ none → AreEnds terms (drop left window) ends
     → Decides r (IsNear ends reach) → r ≡ has_window window reach terms
 near_by r window terms ends reach left e same fits are d =

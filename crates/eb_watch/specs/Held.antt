@@ -1,4 +1,4 @@
--- Watches as they lie in memory.
+-- Watches as they are in memory.
 use Rattle.std.specs.Prelude.{◌≡◌, ℕ, List, map, get_or}
 use Rattle.std.specs.List.{All}
 use Rattle.std.specs.Ordering.{nat_cmp}
@@ -29,6 +29,6 @@ AreKeyless keyless ws = (n : ℕ) → contains nat_cmp keyless n ≡ finds is_ke
 abbrev pub AllWellFormed : List Watched → Type 0
 AllWellFormed ws = All (λ w. IsWellFormed w.1) ws
 
--- and that has one proof at most
+-- and this fact has one proof at most
 pub all_formed_prop : (ws : List Watched) → IsProp (AllWellFormed ws)
 all_formed_prop ws = Π_prop (λ k. Π_prop (λ w. Π_prop (λ inside. well_formed_prop (get_or ws k w).1)))

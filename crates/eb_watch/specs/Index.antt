@@ -21,15 +21,16 @@ leads by_term t n = has_number (get_by (λ k. bytes_eq t k.items) by_term) n
 abbrev pub finds : (Tree → Bool) → List Watched → ℕ → Bool
 finds p ws n = list_any (λ w. (n == w.0) && p w.1) ws
 
--- from the terms that the test tells the map leads to the number too, and else as before
+-- from the terms of which the test is true the map leads to the number too, and else as before
 abbrev pub LeadsAlso : {S Z : Type 0} → HashMap (Vec ℕ Z) (BTreeSet ℕ) S → HashMap (Vec ℕ Z) (BTreeSet ℕ) S → (List ℕ → Bool) → ℕ → Type 0
 LeadsAlso old new tells number = (t : List ℕ) (n : ℕ) → leads new t n ≡ (((n == number) && tells t) || leads old t n)
 
--- from the terms that the test tells the map leads to the number no more, and else as before
+-- from the terms of which the test is true the map no longer leads to the number, and else as
+-- before
 abbrev pub LeadsNoMore : {S Z : Type 0} → HashMap (Vec ℕ Z) (BTreeSet ℕ) S → HashMap (Vec ℕ Z) (BTreeSet ℕ) S → (List ℕ → Bool) → ℕ → Type 0
 LeadsNoMore old new tells number = (t : List ℕ) (n : ℕ) → leads new t n ≡ (leads old t n && not ((n == number) && tells t))
 
--- but from those terms to the number the map leads as before
+-- except from those terms to the number, the map leads as before
 abbrev pub LeadsElsewhere : {S Z : Type 0} → HashMap (Vec ℕ Z) (BTreeSet ℕ) S → HashMap (Vec ℕ Z) (BTreeSet ℕ) S → (List ℕ → Bool) → ℕ → Type 0
 LeadsElsewhere old new tells number = (t : List ℕ) (n : ℕ) → ((n == number) && tells t) ≡ false → leads new t n ≡ leads old t n
 
@@ -37,11 +38,11 @@ LeadsElsewhere old new tells number = (t : List ℕ) (n : ℕ) → ((n == number
 abbrev pub LeadsAsBefore : {S Z : Type 0} → HashMap (Vec ℕ Z) (BTreeSet ℕ) S → HashMap (Vec ℕ Z) (BTreeSet ℕ) S → Type 0
 LeadsAsBefore old new = (t : List ℕ) (n : ℕ) → leads new t n ≡ leads old t n
 
--- the set has the number too, where the fact holds, and else what it had
+-- the set has the number too, where the fact holds, besides what it had
 abbrev pub HasAlso : BTreeSet ℕ → BTreeSet ℕ → Bool → ℕ → Type 0
 HasAlso old new fact number = (n : ℕ) → contains nat_cmp new n ≡ (((n == number) && fact) || contains nat_cmp old n)
 
--- the set has the number no more, where the fact holds, and else what it had
+-- the set no longer has the number, where the fact holds, and else has what it had
 abbrev pub HasNoMore : BTreeSet ℕ → BTreeSet ℕ → Bool → ℕ → Type 0
 HasNoMore old new fact number = (n : ℕ) → contains nat_cmp new n ≡ (contains nat_cmp old n && not ((n == number) && fact))
 

@@ -46,6 +46,7 @@ abbrev pub key_has : Option (List (List ℕ)) → List ℕ → Bool
 key_has None t = false
 key_has (Some ts) t = list_any (bytes_eq t) ts
 
--- the query has no key, or one of the document's terms is in its key: no other query can match the document
+-- the query has no key, or one of the document's terms is in its key: no other query can match the
+-- document
 abbrev pub is_candidate : Tree → Doc → Bool
 is_candidate q d = is_keyless q || list_any (key_has (watch_key q)) d.terms

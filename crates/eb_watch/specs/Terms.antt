@@ -1,4 +1,4 @@
--- A key as it lies in memory.
+-- A key as it is in memory.
 use Rattle.std.specs.Prelude.{ℕ, List, Option, option_map}
 use Rattle.std.specs.declared.vec.Vec.{Vec}
 

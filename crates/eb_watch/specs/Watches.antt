@@ -1,4 +1,4 @@
--- Watches as a list of numbers and queries, and what is told of a document.
+-- Watches as a list of numbers and queries, and which of them a document matches.
 use Rattle.std.specs.Prelude.{ℕ, ◌==◌, nat_lt, not, Bool, cond, List, [], ◌∷◌, map, filter}
 use Rattle.std.specs.List.{list_any}
 use Rattle.eb_base.specs.Document.{Doc}

@@ -1,4 +1,4 @@
-//! Adding a document, and telling the watches that it matches.
+//! Adding a document, and finding the watches that it matches.
 ghost use Rattle.std.specs.Prelude.{◌≡◌, ◌+◌, ◌≤◌, ◌++◌, ◌∷◌, [], false, length, IfOk, IsErrOf, OnErr};
 ghost use Rattle.std.specs.List.Sorted.{IsStrictlyIncreasing};
 ghost use Rattle.eb_place.specs.Room.{HasRoom, has_room};
@@ -18,13 +18,15 @@ use std::alloc::Global;
 use std::sync::ledger::Ledger;
 
 impl Watches {
-    /// Adds a document as `Writer::add` does, and gives the length of the history then, with the rising list of the
-    /// numbers of the watches whose query matches the document. `Full` exactly where the index has no room for the
-    /// document. `NoMemory` comes before the document is added. After both the history is as before, and no store is
-    /// done. The writer must have been made with this index.
+    /// Adds a document as `Writer::add` does, and returns the length of the history then, with the
+    /// rising list of the numbers of the watches whose query matches the document. `Full` exactly
+    /// where the index has no room for the document. `NoMemory` comes before the document is added.
+    /// After either the history is as before, and no store is done. The writer must have been made
+    /// with this index.
     ///
-    /// The tests count each query that the document is tested against: at most those of the watches without a key,
-    /// and of those with one of the document's terms in their key. Takes memory for the list.
+    /// The tests count each query that the document is tested against: at most those of the watches
+    /// without a key, and of those with one of the document's terms in their key. Takes memory for
+    /// the list.
     pub fn add<G: Gate, L: Ledger>(
         &self,
         alloc: Global,
@@ -53,7 +55,8 @@ impl Watches {
         }
     }
 
-    /// The numbers of the watches whose query matches the document, rising. Takes memory for the list.
+    /// The numbers of the watches whose query matches the document, rising. Takes memory for the
+    /// list.
     pub fn told<L: Ledger>(
         &self,
         alloc: Global,

@@ -11,7 +11,8 @@ use eb_base::{Document, NoMemory, Term};
 use std::alloc::Global;
 use std::collections::BTreeSet;
 
-// The numbers of the watches without a key, and of those to which a term of the document leads, rising, each once.
+// The numbers of the watches without a key, and of those to which a term of the document leads,
+// rising, each once.
 pub(crate) fn candidate_numbers(
     alloc: Global,
     by_term: &ByTerm,
@@ -30,7 +31,8 @@ pub(crate) fn candidate_numbers(
     Ok(numbers)
 }
 
-// Puts the numbers after the list to which one of the terms leads, those of a term that stands several times once.
+// Puts after the list the numbers to which one of the terms leads, those of a term that occurs
+// several times once.
 fn put_led(by_term: &ByTerm, terms: &[Term], numbers: &mut Vec<u32>) -> Result<(), NoMemory>
     ensures { OnOk result ((n : ℕ) → list_any (nat_eq n) numbers.new.items
         ≡ (list_any (nat_eq n) numbers.old.items || list_any (λ t. leads by_term.now t n) terms.now)) }

@@ -1,8 +1,8 @@
-//! Where terms that stand in their order end.
+//! Where terms that occur in their order end.
 ghost use Rattle.std.specs.Prelude.{◌≡◌, ◌≢◌, ◌+◌, ◌<◌, ◌≤◌, ◌↔◌, ℕ, eqb, nat_lt, if◌then◌else◌, length, get_or, IsTrue};
 ghost use Rattle.eb_watch.specs.Ends.{none, first_end, stepped, IsNear};
 
-// Of a place from which no terms stand.
+// Of a place from which no terms occur.
 const NONE: usize = usize::MAX;
 
 // The end where a place has the number.
@@ -19,14 +19,14 @@ fn lesser(one: usize, other: usize) -> usize
     if one < other { one } else { other }
 }
 
-// Whether the end is at most so many after the place.
+// Whether the end is at most this many after the place.
 fn is_near_at(end: usize, place: usize, reach: usize) -> bool
     ensures { IsTrue result ↔ (end ≢ none) × (end ≤ place + reach) }
 {
     end != NONE && end.saturating_sub(place) <= reach
 }
 
-// Puts the end of one term that stands at a place: the place itself.
+// Puts the end of one term that is at a place: the place itself.
 pub(crate) fn put_first(places: &[usize], number: usize, ends: &mut [usize])
     requires { length ends.old ≡ length places.now }
     ensures length { length ends.new ≡ length places.now }
@@ -37,7 +37,8 @@ pub(crate) fn put_first(places: &[usize], number: usize, ends: &mut [usize])
     }
 }
 
-// Puts the least end of terms of which the first has this number and stands at a place, from the least ends of those after it.
+// Puts the least end of terms of which the first has this number and is at a place, from the least
+// ends of those after it.
 pub(crate) fn put_next(places: &[usize], number: usize, ends: &mut [usize])
     requires { length ends.old ≡ length places.now }
     ensures length { length ends.new ≡ length places.now }
@@ -53,7 +54,7 @@ pub(crate) fn put_next(places: &[usize], number: usize, ends: &mut [usize])
     }
 }
 
-// Whether some end is at most so many after its place.
+// Whether some end is at most this many after its place.
 pub(crate) fn is_near(ends: &[usize], reach: usize) -> bool
     ensures { IsTrue result ↔ IsNear ends.now reach }
 {

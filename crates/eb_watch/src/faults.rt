@@ -45,7 +45,7 @@ impl fmt::Display for NoWatch {
 
 impl Error for NoWatch {}
 
-/// Why a document was not added.
+/// Why a document wasn't added.
 #[derive(Clone, Copy, Debug, PartialEq, Eq)]
 pub enum WatchFault {
     /// The index has no room for the document.

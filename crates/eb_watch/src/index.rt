@@ -29,7 +29,7 @@ fn put_number(alloc: Global, by_term: &mut ByTerm, term: &Term, number: u32) -> 
     Ok(())
 }
 
-// Takes the number out of the set of the term; a set that becomes empty goes.
+// Removes the number from the set of the term; a set that becomes empty goes.
 fn take_number(by_term: &mut ByTerm, term: &Term, number: u32)
     ensures { LeadsNoMore by_term.old by_term.new (λ t. bytes_eq t term.now) number }
 {
@@ -53,7 +53,7 @@ fn put_all(alloc: Global, by_term: &mut ByTerm, terms: &[Term], number: u32) -> 
     Ok(())
 }
 
-// Takes the number out of the sets of all these terms.
+// Removes the number from the sets of all these terms.
 fn take_all(by_term: &mut ByTerm, terms: &[Term], number: u32)
     ensures { LeadsNoMore by_term.old by_term.new (λ t. list_any (bytes_eq t) terms.now) number }
 {
@@ -62,8 +62,8 @@ fn take_all(by_term: &mut ByTerm, terms: &[Term], number: u32)
     }
 }
 
-// Lets the key lead to the number, which no term leads to yet; a watch without a key goes among the keyless. Without
-// memory all is as before.
+// Lets the key lead to the number, to which no term leads yet; a watch without a key goes among the
+// keyless. Without memory all is as before.
 pub(crate) fn put_key(
     alloc: Global,
     by_term: &mut ByTerm,
@@ -91,7 +91,7 @@ pub(crate) fn put_key(
     Ok(())
 }
 
-// Lets the key lead to the number no more.
+// The key no longer leads to the number.
 pub(crate) fn take_key(
     by_term: &mut ByTerm,
     keyless: &mut BTreeSet<u32>,

@@ -1,6 +1,6 @@
-//! Standing queries: a watch is a query with a number, and each document that is added tells which watches it
-//! matches. A document is tested against few of them: those without a key, and those with one of its terms in
-//! their key.
+//! Standing queries: a watch is a query with a number, and for each document that is added the
+//! watches that it matches are found. A document is tested against few of them: those without a
+//! key, and those with one of its terms in their key.
 #![tactic(auto)]
 
 mod add;

@@ -13,10 +13,11 @@ use eb_place::Steps;
 use eb_plain::is_match;
 use std::sync::ledger::Ledger;
 
-/// Whether the query matches the document: a word where it is one of the document's terms, a phrase where its terms
-/// stand one after another in the document, a window where they stand in their order at places of which the last is
-/// at most its reach after the first, a bound where the document's id is greater, a Not where its part doesn't match,
-/// an And where each part matches, an Or where some part does. The tests count it. Takes no memory.
+/// Whether the query matches the document: a word where it is one of the document's terms, a phrase
+/// where its terms follow one another in the document, a window where they occur in their order,
+/// the last at most its reach after the first, a bound where the document's id is greater, a Not
+/// where its part doesn't match, an And where each part matches, an Or where some part does. The
+/// tests count it. Takes no memory.
 pub fn matches<L: Ledger>(query: &Query, document: &Document, tests: &mut Steps<L>) -> bool
     ensures fact { IsTrue result ↔ Matches (tree query.now) document.now }
     ensures test { result ≡ spec.is_match (tree query.now) document.now }
@@ -26,7 +27,8 @@ pub fn matches<L: Ledger>(query: &Query, document: &Document, tests: &mut Steps<
     is_match(query, document)
 }
 
-// The same of a document whose terms have numbers. The ends have a place for each term. The tests count it.
+// Whether the query matches a document whose terms have numbers. `ends` has a place for each term.
+// The tests count it.
 pub(crate) fn matches_by<L: Ledger>(
     query: &Query,
     document: &Document,
@@ -44,6 +46,7 @@ pub(crate) fn matches_by<L: Ledger>(
     is_told(query, document, message, ends)
 }
 
+// Whether the query matches, without counting a test.
 #[cycle(told)]
 fn is_told(query: &Query, document: &Document, message: &Message, ends: &mut [usize]) -> bool
     requires numbered { AreNumbered message.now document.now.terms }
@@ -64,6 +67,7 @@ fn is_told(query: &Query, document: &Document, message: &Message, ends: &mut [us
     }
 }
 
+// Whether each part matches.
 #[cycle(told)]
 fn each_is_told(parts: &Queries, document: &Document, message: &Message, ends: &mut [usize]) -> bool
     requires numbered { AreNumbered message.now document.now.terms }
@@ -79,6 +83,7 @@ fn each_is_told(parts: &Queries, document: &Document, message: &Message, ends: &
     true
 }
 
+// Whether some part matches.
 #[cycle(told)]
 fn some_is_told(parts: &Queries, document: &Document, message: &Message, ends: &mut [usize]) -> bool
     requires numbered { AreNumbered message.now document.now.terms }
@@ -102,7 +107,7 @@ fn has_term(document: &Document, message: &Message, term: &Term) -> bool
     message.number(term).is_some()
 }
 
-// Whether the terms stand one after another: their last is then as far after the first as they are many.
+// Whether the terms follow one another: then their last is as far after the first as they are many.
 fn has_phrase_of(
     document: &Document,
     message: &Message,
@@ -120,8 +125,9 @@ fn has_phrase_of(
     has_window_of(document, message, phrase, phrase.len() - 1, ends)
 }
 
-// Whether the terms stand in their order at places of which the last is at most so many after the first. From the last term to the
-// first one it is told for each place where the terms from there on end first: so each term looks at each place once.
+// Whether the terms occur in their order, the last at most this many places after the first. It
+// goes from the last term to the first, and keeps for each place where the terms from there on end
+// first. So each term looks at each place once.
 fn has_window_of(
     document: &Document,
     message: &Message,

@@ -7,7 +7,7 @@ use eb_base::{NoMemory, Term};
 use std::alloc::Global;
 use std::collections::HashMap;
 
-// Of each term of a document the first place where it stands, which is its number.
+// For each term of a document the first place where it occurs, which is its number.
 pub(crate) type ByText = HashMap<Vec<u8>, usize>;
 
 // The terms of a document by number, and the number of the term at each place.
@@ -49,7 +49,7 @@ impl Message {
     }
 }
 
-// The number of a term that stands at this place: that of an earlier place, or else this one.
+// The number of a term that is at this place: that of an earlier place, or else this one.
 fn put_number(
     alloc: Global,
     by_text: &mut ByText,

@@ -1,9 +1,9 @@
 //! The watches that are set.
 //!
-//! The watches lie in a `BTreeMap` by number, from a term of a key leads a `HashMap` to a `BTreeSet` of numbers, and
-//! the watches without a key are a set of their own: setting and removing one touches only the sets of its own terms,
-//! and a document costs a look-up for each of its terms. What `set` had put in when memory ran out is taken out
-//! again.
+//! The watches are in a `BTreeMap` by number. A `HashMap` leads from a term of a key to a
+//! `BTreeSet` of numbers, and the watches without a key are a set of their own. So setting and
+//! removing a watch touches only the sets of its own terms, and a document costs a look-up for each
+//! of its terms. When memory runs out, what `set` had put in is removed again.
 ghost use Rattle.std.specs.Prelude.{◌≡◌, ◌≤◌, ◌↔◌, [], true, false, length, IsTrue, IsErr, IsErrOf, OnOk, OnErr};
 ghost use Rattle.std.specs.BTreeMap.{btree_map_len, keys};
 ghost use Rattle.std.specs.List.Sorted.{IsStrictlyIncreasing};
@@ -22,8 +22,8 @@ use std::collections::{BTreeMap, BTreeSet, HashMap};
 /// The most watches that can be set (this project's profile).
 pub const MAX_WATCHES: usize = 10_000;
 
-/// The watches that are set: queries that are well formed, each with a number of its own. Contracts see the list of the
-/// numbers and queries, in rising order of the numbers.
+/// The watches that are set: queries that are well formed, each with a number of its own. Contracts
+/// see the list of the numbers and queries, in rising order of the numbers.
 #[derive(Drop)]
 pub struct Watches {
     alloc: Global,
@@ -70,9 +70,10 @@ impl Watches {
     }
 
     #[tactic(auto, using(crate::proofs::Lists::set_watched))]
-    /// Sets a watch of this number, which asks the query. `Taken` exactly where a watch has the number; `Full` exactly
-    /// where none has it and [`MAX_WATCHES`] watches are set. After a refusal, `NoMemory` included, the watches are as
-    /// before, and the query is dropped. The query must be well formed. Takes memory.
+    /// Sets a watch of this number, which asks the query. `Taken` exactly where a watch has the
+    /// number; `Full` exactly where none has it and [`MAX_WATCHES`] watches are set. After a
+    /// refusal, `NoMemory` included, the watches are as before, and the query is dropped. The query
+    /// must be well formed. Takes memory.
     pub fn set(&mut self, number: u32, query: Query) -> Result<(), SetFault>
         requires { IsWellFormed (tree query) }
         ensures ok { OnOk result (watches_of self.new ≡ with_watch (watches_of self.old) number (tree query)) }
@@ -108,8 +109,8 @@ impl Watches {
         Ok(())
     }
 
-    /// Takes the watch of this number away. `NoWatch` exactly where none has it; the watches are then as before. Takes
-    /// no memory.
+    /// Removes the watch of this number. `NoWatch` exactly where none has it; the watches are then
+    /// as before. Takes no memory.
     pub fn remove(&mut self, number: u32) -> Result<(), NoWatch>
         ensures ok { OnOk result (watches_of self.new ≡ without_watch (watches_of self.old) number) }
         ensures no_watch { IsErr result ↔ (is_set (watches_of self.old) number ≡ false) }

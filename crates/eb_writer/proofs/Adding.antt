@@ -38,7 +38,7 @@ use Rattle.eb_writer.proofs.Coming.{joined}
 abbrev pub nothing : Used
 nothing = record { documents = 0; terms = 0; text = 0; pool0 = 0; pool1 = 0; pool2 = 0; pool3 = 0 }
 
--- a new placer stands where there is no document
+-- a new placer stands for the moment without a document
 pub stands_first : (σ : Setting) → PlacerStands record { setting = σ; segments = 0; documents = 0; used = nothing } (empty_moment σ)
 unfolding cut
 stands_first σ = record { setting = refl; idle = refl; segments = refl; documents = refl; used = tells_nothing σ (0 - 1) }
@@ -179,7 +179,7 @@ no_room m d is e f =
 
 -- ---- afterwards
 
--- what is used tells the segment with the document
+-- what is used describes the segment with the document
 pub tells_accepted : (m k n : Moment) (d : Doc) (s : ℕ) (u v : Used) → IsMoment m → IsMoment n → IsPlaced m d s → HasComeTo k d s (length d.terms)
     → TellsSegment u k s → before_it k d ≡ before_it m d → IsAccepted m n d → u.documents ≡ length (before_it m d)
     → v ≡ record u { documents = u.documents + 1 } → TellsSegment v n s
@@ -194,7 +194,7 @@ tells_accepted m k n d s u v is last p h tells same a count e =
     (omega (arith, count, ap length seg, length_push (before_it m d) d))
     (record { terms = used.terms; text = used.text; pool0 = used.pool0; pool1 = used.pool1; pool2 = used.pool2; pool3 = used.pool3 }))
 
--- and the placer stands there
+-- and the placer stands for that moment
 pub stands_accepted : (p q : PlacerProgress) (m n : Moment) (d : Doc) (s : ℕ) → PlacerStands p m → IsPlaced m d s → IsAccepted m n d
     → q.setting ≡ p.setting → q.segments ≡ s + 1 → q.documents ≡ p.documents + 1 → TellsSegment q.used n s → PlacerStands q n
 stands_accepted p q m n d s h placed a e segments documents tells =

@@ -155,7 +155,7 @@ no_first s count seg l = elim (cases_Bool (length seg == 0)) [
   | inr e ↦ rw e refl
 ]
 
--- a document that joins a segment has come to its first token
+-- a document that joins a segment is at its first token
 pub join_first : (m : Moment) (d : Doc) (s : ℕ) → IsMoment m → IsIdle m → IsPlaced m d s → 1 ≤ length (before_it m d) → HasComeTo m d s 0
 join_first m d s is idle p some =
     let σ = m.setting in

@@ -34,7 +34,7 @@ pub count_few : (u : Term) (ts : List Term) (i : ℕ) → i ≤ length ts → co
 count_few u ts zero h = omega (arith, count_of-nil u)
 count_few u ts (suc i) h = omega (arith, count_few u ts i (omega arith), count_take u ts i (omega arith), Rattle.eb_writer.proofs.Tallies.one_low (Rattle.std.proofs.Common.bytes_eq u (token_at ts i)))
 
--- a front and what stands after a shorter one
+-- a prefix and what comes after a shorter one
 take_rest : {X : Type 0} (xs : List X) (q i : ℕ) → q ≤ i → (rest : List X) × (take i xs ≡ take q xs ++ rest)
 take_rest xs zero i h = (take i xs, refl)
 take_rest [] (suc q) zero h = absurd (omega arith)
@@ -47,7 +47,7 @@ take_at_end [] p h = absurd (omega arith)
 take_at_end (x ∷ xs) zero h = refl
 take_at_end (x ∷ xs) (suc p) h = ap (λ z. x ∷ z) (take_at_end xs p (omega arith))
 
--- a token whose term stood at place p last
+-- a token whose term was at place p last
 pub again : (A ts : List Term) (i p : ℕ) (k : Found) → i < length ts → StoodAt ts i p → IsFound A ts p k → IsFound A ts i record { number = k.number; tail = k.tail; earlier = k.earlier + 1 }
 again A ts i p k low st h =
     let t = token_at ts i in
@@ -65,7 +65,7 @@ again A ts i p k low st h =
           omega (arith, h.earlier, ap (λ z. count_of z (take p ts)) e, st.last, count_take t ts p (let o = st.earlier in omega arith), ap (λ z. one_if (Rattle.std.proofs.Common.bytes_eq t z)) e, o);
     }
 
--- a token whose term doesn't stand earlier
+-- a token whose term doesn't occur earlier
 pub first : (A ts : List Term) (i next : ℕ) (t : Term) (k : Found) → t ≡ token_at ts i → count_of (token_at ts i) (take i ts) ≡ 0
     → next ≡ length (distinct (A ++ take i ts)) → IsFirst A t next k → IsFound A ts i k
 first A ts i next t k e z n h' =

@@ -58,7 +58,8 @@ idle_tokens m s is h =
     (λ i. take (count_in s tail_region (idle_stores m h i)) (idle_segment m s h i))
     ∙ take_all (count_in s tail_region (placings m.setting m.documents.accepted)) (tokens_in m s) (let k = c.tails in omega arith)
 
--- numbers that tell a segment are what its tokens use, where these are the entered terms and the seen tokens
+-- numbers that describe a segment are what its tokens use, where these are the entered terms and
+-- the seen tokens
 pub told_used : (m : Moment) (s : ℕ) (u : Used) (ts : List Term) → entered m s ≡ distinct ts → tokens_seen m s ≡ ts → TellsSegment u m s → IsUsedBy u ts
 told_used m s u ts e f h = record {
   terms = h.terms ∙ ap length e;
@@ -110,7 +111,7 @@ small_first m s u is inside h =
 
 -- ---- a term of the segment
 
--- a term that stands in the segment is entered
+-- a term that occurs in the segment is entered
 pub there_entered : (m : Moment) (s : ℕ) (t : Term) → IsMoment m → IsIdle m → 1 ≤ count_of t (tokens_in m s) → IsEntered m s t
 there_entered m s t is h some =
     let A = tokens_in m s in
@@ -149,7 +150,7 @@ tail_word_of t ts f n e q fit =
     let base : IsTailWord (suc f) (suc (address_of t f ts)) = record { pool = w.0; offset = w.1 } in
     subst (λ (z : ℕ × ℕ). IsTailWord z.0 z.1) (λ i. (sym e i, (ap suc (ap (λ k. address_of t k ts) (sym q)) ∙ (let o : suc (address_of t n ts) ≡ address_of t n ts + 1 = omega arith in o)) i)) base
 
--- its tail's word tells of as many postings as it has there
+-- its tail's word says as many postings as it has there
 pub tail_in : (m : Moment) (s : ℕ) (t : Term) (k : ℕ) → IsMoment m → IsIdle m → s < m.setting.segments
     → IsKnown m s t k → IsTailWord (count_of t (tokens_in m s)) (word m (place m.setting (slot s tail_region k)))
 tail_in m s t k is h inside known =

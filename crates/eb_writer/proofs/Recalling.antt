@@ -46,7 +46,7 @@ bucket_low t = omega arith
 pub leads_nothing : (ts : List Term) (b : ℕ) → LeadsBack ts 0 b 0
 leads_nothing ts b = record { back = omega arith; there = λ p e. absurd cc; passed = λ u e. refl }
 
--- how far a search is: no token of the term at place i stands at `next` or after it, before place i
+-- how far a search is: no token of the term at place i is at `next` or after it, before place i
 pub record IsSought (ts : List Term) (i next : ℕ) : Type 0 where
   pub back : next ≤ i
   pub there : (p : ℕ) → next ≡ suc p → bucket (token_at ts p) ≡ bucket (token_at ts i)

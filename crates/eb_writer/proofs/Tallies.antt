@@ -36,7 +36,7 @@ distinct_new t before h = elim (with_term_cases (distinct before) t) [
   | inr w ↦ distinct_push before t ∙ w.1
 ]
 
--- its number tells which of the two
+-- its number says which of the two
 pub number_tells_new : (t : Term) (before : List Term) → number_of t before ≡ length (distinct before) → count_of t before ≡ 0
 number_tells_new t before e = elim (cases_lt 0 (count_of t before)) [
   | inl l ↦ absurd (omega (arith, number_low t before l))

@@ -22,7 +22,7 @@ IsIdle m = m.documents.current ≡ None
 abbrev pub tokens_in : Moment → ℕ → List Term
 tokens_in m s = terms_of (get_or (cut m.setting m.documents.accepted) s [])
 
--- these tokens use so many terms, text words and slices of a segment
+-- these tokens use this many terms, text words and slices of a segment
 pub record IsUsedBy (u : Used) (ts : List Term) : Type 0 where
   pub terms : u.terms ≡ length (distinct ts)
   pub text : u.text ≡ sum_by text_words (distinct ts)
@@ -31,8 +31,9 @@ pub record IsUsedBy (u : Used) (ts : List Term) : Type 0 where
   pub pool2 : u.pool2 ≡ slices_begun 2 ts
   pub pool3 : u.pool3 ≡ slices_begun 3 ts
 
--- of the token at place i of a document that comes after the tokens of a segment: the number that its term
--- has or will get, the term's tail word before the document, and how often the term stands earlier in it
+-- of the token at place i of a document that comes after the tokens of a segment: the number that
+-- its term has or gets, the term's tail word before the document, and how often the term occurs
+-- earlier in it
 pub record IsFound (before ts : List Term) (i : ℕ) (k : Found) : Type 0 where
   pub number : k.number ≡ number_of (token_at ts i) (before ++ take i ts)
   pub tail : IsTailWord (count_of (token_at ts i) before) k.tail
@@ -43,21 +44,21 @@ pub record AreFound (before ts : List Term) (found : List Found) (n : ℕ) : Typ
   pub places : length found ≡ most_tokens
   pub each : (i : ℕ) (k : Found) → i < n → slice_get found i ≡ Some k → IsFound before ts i k
 
--- what a segment and the tails say of a term that doesn't stand earlier in the document; a new term will get
--- the number `next`
+-- what a segment and the tails say of a term that doesn't occur earlier in the document; a new term
+-- gets the number `next`
 pub record IsFirst (before : List Term) (t : Term) (next : ℕ) (k : Found) : Type 0 where
   pub known : 1 ≤ count_of t before → k.number ≡ number_of t before
   pub new : count_of t before ≡ 0 → k.number ≡ next
   pub tail : IsTailWord (count_of t before) k.tail
   pub earlier : k.earlier ≡ 0
 
--- no document is being placed, and `used` tells the segment
+-- no document is being placed, and `used` describes the segment
 pub record IsReady (m : Moment) (s : ℕ) (u : Used) : Type 0 where
   pub idle : IsIdle m
   pub inside : s < m.setting.segments
   pub tells : TellsSegment u m s
 
--- the document's tokens are found in the segment, and so much of it is used with them
+-- the document's tokens are found in the segment, and this much of it is used with them
 pub record IsPlan (m : Moment) (s : ℕ) (u : Used) (d : Doc) (plan : Plan) : Type 0 where
   pub limits : IsDocument d
   pub found : AreFound (tokens_in m s) d.terms plan.found (length d.terms)

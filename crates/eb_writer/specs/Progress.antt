@@ -1,4 +1,4 @@
--- How far a placer has come, and what a call of it does.
+-- How far a placer is, and what a call of it does.
 use Rattle.std.specs.Prelude.{◌≡◌, ℕ, ◌-◌, ◌≤◌, false, length, None}
 use Rattle.eb_base.specs.Document.{Doc}
 use Rattle.eb_base.specs.Setting.{Setting}
@@ -7,15 +7,16 @@ use Rattle.eb_place.specs.declared.used.Used.{Used}
 use Rattle.eb_place.specs.Room.{cut, last_of, fits, has_room}
 use Rattle.eb_place.specs.Tells.{TellsSegment}
 
--- what a placer keeps: the setting of its index, how many segments it has begun, how many documents it has
--- placed, and how much of the last segment is used
+-- what a placer keeps: the setting of its index, how many segments it has begun, how many documents
+-- it has placed, and how much of the last segment is used
 pub record PlacerProgress : Type 0 where
   pub setting : Setting
   pub segments : ℕ
   pub documents : ℕ
   pub used : Used
 
--- the placer has the setting of the index, has done all placings of its words, and no document is being placed
+-- the placer has the setting of the index, has done all placings of its words, and no document is
+-- being placed
 pub record PlacerStands (p : PlacerProgress) (m : Moment) : Type 0 where
   pub setting : p.setting ≡ m.setting
   pub idle : m.documents.current ≡ None

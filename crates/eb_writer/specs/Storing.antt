@@ -1,4 +1,4 @@
--- How far the placing of a document has come.
+-- How far the placing of a document is.
 use Rattle.std.specs.Prelude.{◌≡◌, ℕ, ◌+◌, ◌-◌, ◌<◌, ◌≤◌, List, [], ◌∷◌, ◌++◌, length, take, drop, None}
 use Rattle.eb_base.specs.Term.{Term}
 use Rattle.eb_base.specs.Document.{Doc, IsDocument}
@@ -14,11 +14,11 @@ use Rattle.eb_chain.specs.Appends.{tokens_before, stores_from}
 use Rattle.eb_writer.specs.Recall.{token_at}
 use Rattle.eb_writer.specs.Counting.{IsIdle}
 
--- the documents that stand before d in its segment
+-- the documents that come before d in its segment
 abbrev pub before_it : Moment → Doc → List Doc
 before_it m d = segment_before m.setting m.documents.accepted d
 
--- the tokens of the segment that stand before the token of d at place i
+-- the tokens of the segment that come before the token of d at place i
 abbrev pub tokens_until : Moment → Doc → ℕ → List Term
 tokens_until m d i = tokens_before m.setting m.documents.accepted d (take i d.terms)
 
@@ -29,8 +29,8 @@ pub record IsPlaced (m : Moment) (d : Doc) (s : ℕ) : Type 0 where
   pub current : IsCurrent m.documents.current d
   pub place : s ≡ length (with_doc m.setting (cut m.setting m.documents.accepted) d) - 1
 
--- the placing of d in segment s has come to its token at place i: those before it are stored, and left are
--- the stores of this and the later ones, of the id and of the count
+-- the placing of d in segment s is at its token at place i: those before it are stored, and left
+-- are the stores of this and the later ones, of the id and of the count
 pub record HasComeTo (m : Moment) (d : Doc) (s i : ℕ) : Type 0 where
   pub placed : IsPlaced m d s
   pub few : i ≤ length d.terms
@@ -52,7 +52,7 @@ pub record HasStoredMore (m n : Moment) : Type 0 where
   pub later : IsNotBefore n m
   pub accepted : n.documents.accepted ≡ m.documents.accepted
 
--- the number of the term of the token at place i, or that it will get
+-- the number of the term of the token at place i, or that it gets
 abbrev pub IsNumbered : Moment → Doc → ℕ → ℕ → Type 0
 IsNumbered m d i k = k ≡ number_of (token_at d.terms i) (tokens_until m d i)
 

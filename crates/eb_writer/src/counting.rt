@@ -17,7 +17,7 @@ use eb_place::{Pen, Places, Steps, Used};
 use eb_terms::{count_words, find_hashed};
 use std::sync::ledger::{Blank, Ledger};
 
-// Counts what a document needs of a segment, token by token, before anything is stored of it.
+// Counts what a document needs of a segment, token by token, before any of it is stored.
 pub(crate) fn make_plan<P: Pen, L: Ledger>(
     pen: &mut P,
     document: &Document,
@@ -57,8 +57,8 @@ pub(crate) fn make_plan<P: Pen, L: Ledger>(
     }
 }
 
-// What is found of the token at a place: that of the same term's last token in the document, with one more
-// earlier token, or what the segment says.
+// What is found of the token at a place: what was found of the same term's last token in the
+// document, with one more earlier token; else what the segment says.
 fn found_at<P: Pen, L: Ledger>(
     pen: &mut P,
     segment: u32,

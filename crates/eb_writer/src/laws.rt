@@ -1,7 +1,7 @@
 ghost use Rattle.eb_writer.specs.Laws.{StandsLater};
 
-/// A law: a placer that stands at a moment stands at each later moment of the same documents, as conversions go
-/// on beside it. Does nothing.
+/// A law: a placer that stands for a moment stands for each later moment of the same documents, as
+/// conversions go on meanwhile. Does nothing.
 pub fn placer_stands_later()
     ensures { StandsLater }
 {}

@@ -1,12 +1,10 @@
 //! The placer: it plans a document, and then stores it.
 //!
-//! What a document needs is counted posting by posting (`needs_next`) on a copy of what is used, where a term that stands
-//! several times is entered once. Earlier tokens of the same document are found by hash chains of 512 buckets in fixed
-//! arrays, in numbers of 16 bits, which are kept and not made anew: an add that made them set 73 KB to 0 and moved 50
-//! KB for each document of 15 words.
+//! What a document needs is counted posting by posting (`needs_next`) on a copy of what is used.
+//! `plan.rt` says how, and why.
 //!
-//! A document that begins a segment is counted a second time, over the empty segment: one more probe for each
-//! distinct term, which finds a free cell at once.
+//! A document that begins a segment is counted a second time, over the empty segment: one more
+//! probe for each distinct term, which finds a free cell at once.
 ghost use Rattle.std.specs.Prelude.{◌≡◌, ◌<◌, ◌+◌, ◌-◌, ◌*◌, ◌/◌, ◌&&◌, length, nat_le, IfOk, OnErr, MatchOption};
 ghost use Rattle.eb_place.specs.declared.moment.Moment.{Moment};
 ghost use Rattle.eb_place.specs.Layout.{pool_slices};
@@ -30,8 +28,8 @@ use std::fmt;
 use std::marker::{Brand, Model};
 use std::sync::ledger::Blank;
 
-/// There is no room for the document: it doesn't fit the last segment that is begun, and all segments of
-/// the index are begun.
+/// There is no room for the document: it doesn't fit the last segment that is begun, and all
+/// segments of the index are begun.
 #[derive(Clone, Copy, Debug, PartialEq, Eq)]
 pub struct Full;
 
@@ -58,8 +56,9 @@ const NOTHING: Used = Used {
     pool3: 0,
 };
 
-/// Adds documents to an index, for its one writer: it knows how many segments are begun, and how much of
-/// the last one is used. The relation `PlacerStands` of `specs/` says when it stands at a moment of the words.
+/// Adds documents to an index, for its one writer. It knows how many segments are begun, and how
+/// much of the last one is used. The relation `PlacerStands` of `specs/` says for which moments of
+/// the words it stands.
 #[derive(Drop)]
 pub struct Placer {
     config: Config,
@@ -92,10 +91,11 @@ impl Placer {
         }
     }
 
-    /// The placer that has begun so many segments and placed so many documents of an index of this setting, and has
-    /// used so much of the last segment: one that was put down, from what `config`, `segments`, `documents` and `used`
-    /// gave of it. No number is tested: it stands at a moment of the words where all four are those of that moment,
-    /// as `PlacerStands` says, and at no other. Takes no memory.
+    /// The placer that has begun `segments` segments, placed `documents` documents of an index of
+    /// this setting, and used `used` of the last segment: one that was put down, by what its
+    /// `config`, `segments`, `documents` and `used` returned. No number is tested. It stands for a
+    /// moment of the words where all four are those of that moment, as `PlacerStands` says, and for
+    /// no other. Takes no memory.
     pub fn resume(config: Config, segments: u32, documents: u64, used: Used) -> Placer
         ensures { result ≡ record { setting = config; segments = segments; documents = documents; used = used } }
     {
@@ -131,7 +131,7 @@ impl Placer {
         self.documents
     }
 
-    /// How much of the last segment that is begun is used; all 0 where none is.
+    /// How much of the last segment that is begun is used; all 0 where none is begun.
     pub fn used(&self) -> Used
         ensures kept { result ≡ self.now.used }
         ensures segment { (m : Moment) → PlacerStands self.now m → TellsSegment result m (length (cut m.setting m.documents.accepted) - 1) }
@@ -139,11 +139,11 @@ impl Placer {
         self.used
     }
 
-    /// Adds a document: it does exactly the stores of the document's placing, in order, and gives the new
-    /// count of accepted documents. `Full` exactly where there is no room for the document; then no store is
-    /// done. What the document needs is counted before the first store: the work is that of one search of
-    /// the dictionary for each distinct term, and of a bounded number of steps for each token; where the
-    /// document begins a segment, twice that. Takes no memory.
+    /// Adds a document: does exactly the stores of the document's placing, in order, and returns
+    /// the new count of accepted documents. `Full` exactly where there is no room for the document;
+    /// then no store is done. What the document needs is counted before the first store. The work
+    /// is one lookup in the dictionary for each distinct term, and a bounded number of steps for
+    /// each token; twice that where the document begins a segment. Takes no memory.
     pub fn add<P: Pen>(&mut self, pen: &mut P, document: &Document) -> Result<u64, Full>
         requires { (m : Moment) × P.stands pen.old m × PlacerStands self.old m }
         ensures ok { IfOk result (λ count. (m : Moment) → P.stands pen.old m → PlacerStands self.old m
@@ -228,7 +228,8 @@ impl Placer {
     }
 }
 
-// Stores the tokens of a document, its id and the greater count, and gives what is used of its segment then.
+// Stores the tokens of a document, its id and the greater count, and returns what is used of its
+// segment then.
 fn store_rest<P: Pen>(
     pen: &mut P,
     document: &Document,
@@ -252,8 +253,8 @@ fn store_rest<P: Pen>(
     }
 }
 
-// Whether a segment has room for so much, and for one more document: for its terms, their text words and
-// the slices of each pool.
+// Whether a segment has room for one more document that needs this much: for its terms, their text
+// words and the slices of each pool.
 fn is_within(used: Used, config: Config) -> bool
     ensures { result ≡ (nat_le (used.documents + 1) config.docs && nat_le used.terms config.terms && nat_le used.text (4 * config.terms)
         && nat_le used.pool0 (pool_slices config 0) && nat_le used.pool1 (pool_slices config 1)

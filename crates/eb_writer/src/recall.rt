@@ -8,7 +8,7 @@ use crate::plan::{BUCKETS, Recall};
 use eb_base::Terms;
 use eb_terms::{hash_of, home_of};
 
-// Forgets all tokens: those of another document come.
+// Forgets all tokens, before those of another document.
 pub(crate) fn forget(recall: &mut Recall, terms: &Terms)
     ensures { Remembers recall.new terms.now 0 }
 {
@@ -31,7 +31,7 @@ pub(crate) fn bucket_of(hashed: u32) -> usize
     home_of(hashed, BUCKETS as u32) as usize
 }
 
-// Where the term of the token at a place stood last before it, if it did.
+// Where the term of the token at a place occurred last before it, if it did.
 pub(crate) fn last_place(recall: &Recall, terms: &Terms, at: usize, bucket: usize) -> Option<usize>
     requires { (at < length terms.now) × (length terms.now ≤ most_tokens) × Remembers recall.now terms.now at × (bucket ≡ bucket_in terms.now at) }
     ensures { MatchOption result (count_of (token_at terms.now at) (take at terms.now) ≡ 0) (λ place. StoodAt terms.now at place) }

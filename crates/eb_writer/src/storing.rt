@@ -24,7 +24,7 @@ pub(crate) fn begin<P: Pen>(pen: &mut P, document: &Document, segment: u32, coun
     pen.store(document, place, count + 1);
 }
 
-// Stores the tokens of a document, in order. `used` tells the segment before and afterwards.
+// Stores the tokens of a document, in order. `used` describes the segment before and afterwards.
 pub(crate) fn store_tokens<P: Pen>(
     pen: &mut P,
     document: &Document,
@@ -43,7 +43,7 @@ pub(crate) fn store_tokens<P: Pen>(
     }
 }
 
-// Stores the token at a place of the document: where its term is new it is entered first.
+// Stores the token at a place of the document. A new term is entered first.
 fn store_token<P: Pen>(
     pen: &mut P,
     document: &Document,
@@ -63,7 +63,7 @@ fn store_token<P: Pen>(
     append(pen, document, segment, used, number, value);
 }
 
-// The number of the token's term, which is entered where it is new.
+// The number of the token's term, which is entered if it is new.
 fn entered_number<P: Pen>(
     pen: &mut P,
     document: &Document,

@@ -1,7 +1,8 @@
 //! A program that embeds the index: one thread adds messages, and two threads search while it does.
 //!
-//! The index is shared by reference. Its writer and its readers are values: each goes to its thread and comes back.
-//! Each call's contract asks that they were made with this index, and promises what is written beside it here.
+//! The index is shared by reference. Its writer and its readers are values: each goes to its thread
+//! and comes back. Each call's contract requires that they were made with this index, and promises
+//! what is written beside it here.
 #![tactic(auto)]
 
 ghost use Rattle.std.specs.Prelude.{◌≡◌, ◌<◌, length, IfOk};
@@ -64,8 +65,8 @@ fn frame(alloc: Global, word: &[u8]) -> Result<Frame, NoMemory> {
     Frame::new(alloc, Query::Word(Term::new(alloc, word)?), 10)
 }
 
-// Adds the messages. `Writer::add` puts each after the history, or answers that there is no room for it, and takes no
-// memory. The gate is told of each document; this one does nothing.
+// Adds the messages. `Writer::add` puts each after the history, or answers that there is no room
+// for it, and takes no memory. Each document is reported to the gate; this one does nothing.
 fn add_all(index: &Index, writer: Writer, messages: &[Document]) -> Writer
     requires { writer.index ≡ index.now }
     ensures { result.index ≡ index.now }
@@ -80,8 +81,9 @@ fn add_all(index: &Index, writer: Writer, messages: &[Document]) -> Writer
     writer
 }
 
-// One search. Its result is how many documents it saw: the first ones of the history, all that the reader knew among
-// them. The ids are those of exactly the newest of these that match. `steps` counts the loads of words.
+// One search. Its result is how many documents it saw: the first ones of the history, all that the
+// reader knew among them. The ids are those of exactly the newest of these that match. `steps`
+// counts the loads of words.
 fn search_once<L: Ledger>(
     index: &Index,
     reader: &mut Reader,
@@ -100,7 +102,8 @@ fn search_once<L: Ledger>(
     reader.search(index, frame, &OpenGate, &mut steps)
 }
 
-// Searches until it sees so many documents. What the frame holds then is the answer over all that the reader knows.
+// Searches until it sees this many documents. Then the frame holds the answer over all that the
+// reader knows.
 fn search_until(index: &Index, reader: Reader, frame: Frame, documents: u64) -> (Reader, Frame)
     requires { reader.index ≡ index.now }
     ensures index { result.0.index ≡ index.now }
@@ -172,7 +175,8 @@ fn search_beside<R: Threads + Sync>(
     )
 }
 
-// An index of two segments of at most 100 messages and 1,024 terms each, and its writer. `open` takes all memory of the index.
+// An index of two segments of at most 100 messages and 1,024 terms each, and its writer. `open`
+// takes all memory of the index.
 fn opened(alloc: Global) -> Result<(Index, Writer), Trouble>
     ensures { IfOk result (λ made. made.1.index ≡ made.0) }
 {
@@ -185,7 +189,8 @@ fn opened(alloc: Global) -> Result<(Index, Writer), Trouble>
     }
 }
 
-// Prints what was found. Who takes in a reader learns that what it knew is a front of the history.
+// Prints what was found. A writer that meets a reader learns that what it knew is a prefix of the
+// history.
 fn report(
     rt: &impl Print,
     index: &Index,

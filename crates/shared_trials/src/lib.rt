@@ -1,5 +1,6 @@
-//! Trials of what threads share: an index with its writer, readers and converter, blends, and watches;
-//! beside rows that were worked by hand and beside the plain scan, on one thread and on several.
+//! Trials of what threads share: an index with its writer, readers and converter, blends, and
+//! watches. Each is compared with rows that were worked by hand and with the plain scan, on one
+//! thread and on several.
 #![tactic(auto)]
 
 #[cfg(test)]

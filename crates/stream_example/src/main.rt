@@ -1,8 +1,9 @@
-//! A feed that threads share: one thread adds 200,000 messages, which begin twenty generations, and two threads search
-//! while it does and check each answer.
+//! A feed that threads share: one thread adds 200,000 messages, which begin twenty generations, and
+//! two threads search while it does and check each answer.
 //!
-//! Message n has the id n and one word, by n modulo 7. So an answer is known from what the follower says beside it: how many
-//! messages it saw, and how many of the generations that were begun it holds.
+//! Message n has the id n and one word, by n modulo 7. So an answer is known from what the follower
+//! says beside it: how many messages it saw, and how many of the generations that were begun it
+//! holds.
 #![tactic(auto)]
 
 ghost use Rattle.std.specs.Prelude.{◌≡◌, ◌<◌};
@@ -10,15 +11,16 @@ ghost use Rattle.std.specs.Prelude.{◌≡◌, ◌<◌};
 use eb_base::{Config, Document, NoMemory, OpenGate, Query, Term};
 use eb_cursor::Frame;
 use eb_place::Steps;
-use eb_stream::{FeedWriter, Follower, Leader};
 use eb_text::tokens;
+use eb_stream::{FeedWriter, Follower, Leader};
 use std::alloc::Global;
 use std::marker::Brand;
 use std::sync::ledger::{Blank, Ledger};
 use std::thread::Threads;
 use std::{io, thread};
 
-// How many messages are added, and how many of them a generation has room for: two segments of 5,000.
+// How many messages are added, and how many of them a generation has room for: two segments of
+// 5,000.
 const MESSAGES: u64 = 200_000;
 
 const GENERATION: u64 = 10_000;
@@ -56,7 +58,8 @@ fn message(alloc: Global, number: u64) -> Result<Document, NoMemory> {
     }
 }
 
-// Adds the messages, and tells the followers of each generation. `Leader::add` never finds the feed full.
+// Adds the messages, and sends the followers news of each generation. `Leader::add` never finds the
+// feed full.
 fn add_all(alloc: Global, leader: Leader) -> Result<Leader, NoMemory> {
     let mut leader = leader;
     for number in 0..MESSAGES {
@@ -73,7 +76,8 @@ fn add_all(alloc: Global, leader: Leader) -> Result<Leader, NoMemory> {
     Ok(leader)
 }
 
-// Whether these are the newest ids with the word below `count`, at most ten, and none below `first`.
+// Whether these are the newest ids with the word below `count`, at most ten, and none below
+// `first`.
 fn are_newest(ids: &[u64], word: u64, first: u64, count: u64) -> bool {
     let mut above = count;
     for id in ids {
@@ -99,7 +103,7 @@ fn searched(follower: &mut Follower, frame: &mut Frame) -> u64 {
     search_once::<Brand>(follower, frame, Blank::new(1))
 }
 
-// Whether the answer of a search is right, which saw so many messages.
+// Whether the answer of a search is right, which saw this many messages.
 fn is_right(follower: &Follower, frame: &Frame, word: u64, count: u64) -> bool {
     let passed = follower.turns().saturating_sub(follower.held() as u64);
     are_newest(frame.ids(), word, passed.saturating_mul(GENERATION), count)

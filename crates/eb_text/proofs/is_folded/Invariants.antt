@@ -3,7 +3,7 @@ use Rattle.std.specs.Str.Iter.{chars_rest}
 use Rattle.caseless.specs.Caseless.{default_case_fold}
 use Rattle.eb_text.proofs.is_folded.Given as goal
 
--- if what is left stays as it is, so does the whole text
+-- if what is left is its own folding, so is the whole text
 abbrev pub invariant-loop-c : goal.invariant-loop-c
 invariant-loop-c l =
     let left = chars (chars_rest l.c-iterator) in

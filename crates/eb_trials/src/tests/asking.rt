@@ -11,7 +11,7 @@ use std::alloc::Global;
 use std::sync::ledger::Ledger;
 use std::test::Fail;
 
-// Takes so many queries from the end, and puts them in order.
+// Takes this many queries from the end, and puts them in order.
 fn taken(alloc: Global, queries: &mut Vec<Query>, count: usize) -> Result<Queries, Fail> {
     let mut reversed = Vec::new(alloc);
     for _ in 0..count {
@@ -75,9 +75,10 @@ fn put(alloc: Global, queries: &mut Vec<Query>, word: &[u8]) -> Result<(), Fail>
     Ok(())
 }
 
-// The query that a text writes, with each operator after its parts: `-` is Not, `&2` and `&3` are And of
-// so many parts, `|2` and `|3` Or, `"` begins and ends a phrase, `~` and a number make of the phrase before
-// it a window of that reach, `>` and a number are a bound on the id, and any other word is a word.
+// The query that a text writes, with each operator after its parts: `-` is Not, `&2` and `&3` are
+// And of that many parts, `|2` and `|3` Or, `"` begins and ends a phrase, `~` and a number make of
+// the phrase before it a window of that reach, `>` and a number are a bound on the id, and any
+// other word is a word.
 pub(super) fn query(alloc: Global, text: &[u8]) -> Result<Query, Fail> {
     let mut queries = Vec::new(alloc);
     let mut phrase = Terms::new(alloc);
@@ -102,8 +103,8 @@ pub(super) fn query(alloc: Global, text: &[u8]) -> Result<Query, Fail> {
     }
 }
 
-// The numbers of those of the first documents of segment 0 that the query matches, greatest first, as the
-// cursors find them.
+// The numbers of those of the first documents of segment 0 that the query matches, greatest first,
+// as the cursors find them.
 pub(super) fn found<P: Port, L: Ledger>(
     alloc: Global,
     port: &mut P,

@@ -40,7 +40,8 @@ fn is_packable(postings: &[Posting]) -> bool
     true
 }
 
-// Packs the postings of one block and unpacks it: the words go after `words`, the postings after `back`.
+// Packs the postings of one block and unpacks it: the words go after `words`, the postings after
+// `back`.
 fn put_block(
     postings: &[Posting],
     words: &mut Vec<u64>,
@@ -69,7 +70,7 @@ fn blocks_of(alloc: Global, postings: &[Posting]) -> Result<(Vec<u64>, Vec<Posti
     Ok((words, back))
 }
 
-// So many numbers down to 0.
+// This many numbers, down to 0.
 fn down_to_0(alloc: Global, from: Posting) -> Result<Vec<Posting>, Fail> {
     let mut postings = Vec::new(alloc);
     for i in 0..=from {
@@ -78,7 +79,7 @@ fn down_to_0(alloc: Global, from: Posting) -> Result<Vec<Posting>, Fail> {
     Ok(postings)
 }
 
-// Looks that the blocks of these postings have these words, and give the postings back.
+// Asserts that the blocks of these postings have these words, and that they unpack to the postings.
 fn packed_as(
     rt: &impl Abort,
     alloc: Global,
@@ -125,7 +126,7 @@ fn blocks_have_their_words(rt: HostRuntime) -> Result<(), Fail> {
     Ok(())
 }
 
-// Postings whose greatest difference, in the middle, has so many bits; `power` is 2 to this.
+// Postings whose greatest difference, in the middle, has this many bits; `power` is 2 to this.
 fn made(alloc: Global, count: usize, power: u64) -> Result<Vec<Posting>, Fail> {
     let mut postings = Vec::new(alloc);
     let mut posting = GREATEST;
@@ -180,7 +181,8 @@ fn defined(alloc: Global, postings: &[Posting], width: u64) -> Result<Vec<u64>, 
     Ok(words)
 }
 
-// Looks at blocks of one posting and up whose greatest difference has so many bits; `power` is 2 to this.
+// Tries blocks of one posting and up whose greatest difference has this many bits; `power` is 2 to
+// this.
 fn of_width(rt: &impl Abort, alloc: Global, width: u32, power: u64) -> Result<(), Fail> {
     for count in 1..=BLOCK_POSTINGS {
         let postings = made(alloc, count, power)?;

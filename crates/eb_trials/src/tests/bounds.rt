@@ -1,4 +1,5 @@
-//! How many words a search of a word in a converted segment loads, by a port that counts its own loads.
+//! How many words a search of a word in a converted segment loads, by a port that counts its own
+//! loads.
 ghost use Rattle.std.specs.Prelude.{◌≡◌, ◌<◌, IfOk};
 ghost use Rattle.eb_place.specs.declared.moment.Moment.{Moment};
 ghost use Rattle.eb_trials.specs.Recorded.{IsRecord};
@@ -94,8 +95,8 @@ pub(super) fn search_alone<L: Ledger>(
     search(words, frame, &OpenGate, &mut steps)
 }
 
-// A search for a word in an index that holds these documents, and whose first segment is converted: how many
-// documents it saw, the frame with the ids, and how many loads it made.
+// A search for a word in an index that holds these documents, and whose first segment is converted:
+// how many documents it saw, the frame with the ids, and how many loads it made.
 fn searched(
     alloc: Global,
     config: Config,
@@ -111,7 +112,8 @@ fn searched(
     Ok((count, frame, words.loads))
 }
 
-// Looks that a search for a word sees all these documents, finds these ids, and loads at most so many words.
+// Asserts that a search for a word sees all these documents, finds these ids, and loads at most
+// this many words.
 fn finds(
     rt: &impl Abort,
     alloc: Global,
@@ -161,7 +163,8 @@ fn newest_first(alloc: Global) -> Result<Vec<u64>, Fail> {
     Ok(ids)
 }
 
-// The 128 postings of `a` are 35 packed words; over their slices the same search makes 131 loads for them.
+// The 128 postings of `a` are 35 packed words; over their slices the same search makes 131 loads
+// for them.
 #[test]
 fn a_search_of_a_word_loads_the_packed_words(rt: HostRuntime) -> Result<(), Fail> {
     let alloc = rt.alloc();

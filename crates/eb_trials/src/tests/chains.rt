@@ -19,7 +19,7 @@ use std::marker::Brand;
 use std::sync::ledger::{Blank, Ledger};
 use std::test::Fail;
 
-// A document of so many times the term `a`.
+// A document of this many times the term `a`.
 pub(super) fn of_a(alloc: Global, times: usize) -> Result<Document, Fail> {
     let mut terms = Terms::new(alloc);
     for _ in 0..times {
@@ -37,7 +37,7 @@ fn put_postings(postings: &mut Vec<u64>, document: u64, times: u64) -> Result<()
     Ok(())
 }
 
-// Adds documents of the term `a` with so many postings in all, which are put after the list.
+// Adds documents of the term `a` with this many postings in all, which are put after the list.
 fn add_postings(
     alloc: Global,
     placer: &mut Placer,
@@ -99,7 +99,7 @@ pub(super) fn open<P: Port, L: Ledger>(
     Some(Chain::open(port, 0, number, steps))
 }
 
-// What so many calls of a chain give.
+// What this many calls of a chain give.
 fn ask<P: Port, L: Ledger>(
     alloc: Global,
     chain: &mut Chain,
@@ -116,7 +116,7 @@ fn ask<P: Port, L: Ledger>(
     Ok(given)
 }
 
-// What so many calls of the chain of a term give.
+// What this many calls of the chain of a term give.
 fn walk<L: Ledger>(
     alloc: Global,
     words: &mut FlatWords,
@@ -134,8 +134,8 @@ fn walk<L: Ledger>(
     ask(alloc, &mut chain, words, times, &mut steps)
 }
 
-// The tail word of the first term, and the link words of the first slices of pools 1 and 2 and of the
-// first two of pool 3, in an index of one segment with 4,096 documents and 8,192 terms.
+// The tail word of the first term, and the link words of the first slices of pools 1 and 2 and of
+// the first two of pool 3, in an index of one segment with 4,096 documents and 8,192 terms.
 fn chain_words(words: &mut FlatWords) -> [u64; 5]
     requires { (m : Moment) × StandsFor words.old m }
     ensures { words.new ≡ words.old }
@@ -198,8 +198,8 @@ pub(super) fn postings_stored(
     Ok(postings)
 }
 
-// Whether a walk gives what was seen when it was opened, while a document is placed, with one store more
-// before each load.
+// Whether a walk gives what was seen when it was opened, while a document is placed, with one more
+// store before each load.
 fn is_walk_of_seen<L: Ledger>(
     alloc: Global,
     port: &mut GrowingPort,
@@ -219,7 +219,7 @@ fn is_walk_of_seen<L: Ledger>(
     Ok(are_given(given.as_slice(), postings.as_slice()))
 }
 
-// The same, with so many stores done before.
+// The same, with this many stores done before.
 fn walks_what_it_saw(alloc: Global, stores: usize) -> Result<bool, Fail> {
     let config = Config::new(1, 4096, 1024)?;
     let documents = [of_a(alloc, 16)?];

@@ -27,8 +27,8 @@ fn one_segment(alloc: Global, documents: &[Document]) -> Result<FlatWords, Fail>
     Ok(words)
 }
 
-// The same, which grows by one document more: so many of its stores are done, and one more is done before
-// each load.
+// The same, which grows by one more document: this many of its stores are done, and one more is
+// done before each load.
 fn growing_segment(
     alloc: Global,
     documents: &[Document],
@@ -43,8 +43,8 @@ fn growing_segment(
     Ok(port)
 }
 
-// The numbers of the documents that the query of this text matches, greatest first, as the cursors find
-// them.
+// The numbers of the documents that the query of this text matches, greatest first, as the cursors
+// find them.
 fn asked<P: Port, L: Ledger>(
     alloc: Global,
     port: &mut P,
@@ -99,7 +99,7 @@ fn next(number: u64) -> u64 {
         .wrapping_add(1_442_695_040_888_963_407)
 }
 
-// So many documents of none to five of the words `a`, `b` and `c`, made by a rule.
+// This many documents of none to five of the words `a`, `b` and `c`, made by a rule.
 pub(super) fn made(alloc: Global, count: usize) -> Result<Vec<Document>, Fail> {
     let mut documents = Vec::new(alloc);
     let mut number = 7;
@@ -256,7 +256,7 @@ fn cursors_find_as_a_scan_does(rt: HostRuntime) -> Result<(), Fail> {
     Ok(())
 }
 
-// What cursors find while one document more is placed, of which so many stores are done.
+// What cursors find while one more document is placed, of which this many stores are done.
 fn found_growing(
     alloc: Global,
     text: &[u8],
@@ -268,7 +268,8 @@ fn found_growing(
     asked::<GrowingPort, Brand>(alloc, &mut port, text, documents, Blank::new(1))
 }
 
-// Whether cursors find what a scan of the documents does, however many stores of one document more are done.
+// Whether cursors find what a scan of the documents does, however many stores of one more document
+// are done.
 fn is_as_accepted(alloc: Global, text: &[u8], documents: &[Document]) -> Result<bool, Fail> {
     let want = scanned(alloc, text, documents)?;
     for stores in [0, 3, 10, 19] {

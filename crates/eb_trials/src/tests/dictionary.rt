@@ -1,4 +1,4 @@
-//! Where terms stand in a dictionary, and how they are found, also while it grows.
+//! Where terms are in a dictionary, and how they are found, also while it grows.
 ghost use Rattle.std.specs.Prelude.{◌≡◌, ◌<◌};
 ghost use Rattle.eb_place.specs.declared.moment.Moment.{Moment};
 ghost use Rattle.eb_flat.specs.Flat.{StandsFor};
@@ -52,7 +52,8 @@ fn numbers_in(
     Ok(numbers)
 }
 
-// Looks that the terms `po`, `r1`, `aonpo`, `aonr1` and `zz` have these numbers in the two segments.
+// Asserts that the terms `po`, `r1`, `aonpo`, `aonr1` and `zz` have these numbers in the two
+// segments.
 fn are_numbered(
     rt: &impl Abort,
     alloc: Global,
@@ -143,12 +144,12 @@ struct Search {
     text: &'static [u8],
     // The term.
     term: &'static [u8],
-    // The store of the term's cell, a place and a value; one that isn't done where the term isn't in the
-    // document.
+    // The store of the term's cell, a place and a value; one that isn't done where the term isn't
+    // in the document.
     store: (u64, u64),
 }
 
-// Searches a term after so many stores of the document's placing, at this pace of the others.
+// Searches a term after this many stores of the document's placing, at this pace of the others.
 fn find_after(
     alloc: Global,
     search: Search,
@@ -166,8 +167,8 @@ fn find_after(
 // How the searches of a term went.
 #[derive(Clone, Copy, Debug, Drop, PartialEq, Eq)]
 struct Tally {
-    // Answers that are wrong: another number, a number of a term that isn't entered, or none where the term
-    // was entered.
+    // Answers that are wrong: another number, a number of a term that isn't entered, or none where
+    // the term was entered.
     wrong: u64,
     // Numbers of terms that were entered only while they were searched.
     entered_meanwhile: u64,
@@ -187,8 +188,8 @@ fn count(tally: &mut Tally, found: &Found, number: u32) {
     }
 }
 
-// Searches a term after each number of stores, with the others done before the load of each number, and
-// with one done before each load from that number on.
+// Searches a term after each number of stores, with the others done before the load of each number,
+// and with one done before each load from that number on.
 fn search_all(alloc: Global, search: Search, number: u32) -> Result<Tally, Fail> {
     let mut tally = Tally {
         wrong: 0,

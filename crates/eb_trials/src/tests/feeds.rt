@@ -99,7 +99,8 @@ fn step(
     Ok(())
 }
 
-// The ids of documents of the term `a` that are added, how many generations are begun then, and what is found.
+// The ids of documents of the term `a` that are added, how many generations are begun then, and
+// what is found.
 const STEPS: [(u64, u64, &[u64]); 7] = [
     (1, 1, &[1]),
     (2, 1, &[2, 1]),

@@ -1,4 +1,5 @@
-//! The fullest segment: each kind of room is used up to the last, and what has no room changes no word.
+//! The fullest segment: each kind of room is used up to the last, and what has no room changes no
+//! word.
 ghost use Rattle.std.specs.Prelude.{◌≡◌};
 ghost use Rattle.eb_place.specs.declared.moment.Moment.{Moment};
 ghost use Rattle.eb_flat.specs.Flat.{StandsFor};
@@ -12,7 +13,8 @@ use eb_writer::Placer;
 use std::alloc::Global;
 use std::test::Fail;
 
-// The words of a document: how many bytes each has, the number of the first, how many there are, and how often each stands.
+// The words of a document: how many bytes each has, the number of the first, how many there are,
+// and how often each occurs.
 type Words = (usize, u64, u64, usize);
 
 // Puts a word: a letter where it has one byte, else a number in three digits and then letters `x`.
@@ -76,7 +78,8 @@ fn add(
     Ok((has_room, has_room || before.as_slice() == after.as_slice()))
 }
 
-// Which of these documents, added in order to one segment, have room; none where one that has none changes a word.
+// Which of these documents, added in order to one segment, have room; none where one that has none
+// changes a word.
 fn room(alloc: Global, documents: &[Words]) -> Result<Option<Vec<bool>>, Fail> {
     let config = Config::new(1, 4096, 1024)?;
     let mut words = FlatWords::new(alloc, config)?;

@@ -1,4 +1,4 @@
-//! The ids that a search leaves, newest first, and what its gate is told.
+//! The ids that a search leaves, newest first, and what its gate observes.
 ghost use Rattle.std.specs.Prelude.{◌≡◌, ◌<◌, ◌≤◌};
 ghost use Rattle.eb_place.specs.declared.moment.Moment.{Moment};
 ghost use Rattle.eb_flat.specs.Flat.{StandsFor};
@@ -52,8 +52,8 @@ impl Port for CountedWords<'_> {
     ghost same_on = { λ s t u h k. k ∙ h };
 }
 
-// A gate that keeps the last count that it was told of, how often it was told of a point, and how many loads
-// there were by then.
+// A gate that keeps the last count that was reported, how often a point was reported, and how many
+// loads there were by then.
 #[derive(Drop)]
 struct Recorder<'a> {
     loads: &'a Cell<u64>,
@@ -138,8 +138,9 @@ fn the_newest_come_first(rt: HostRuntime) -> Result<(), Fail> {
     let mut many = frame(rt.alloc(), 9)?;
     let seen = searched(&mut port, &mut few, &gate);
     assert_eq!(rt; (seen, few.ids()), (4, [4, 3, 2].as_slice()));
-    // One load for the count, two for each of the two segments, one for each of three ids, and in each
-    // segment ten to find the term, two for its postings, one for its slice and one for its tail.
+    // One load for the count, two for each of the two segments, one for each of three ids, and in
+    // each segment ten to find the term, two for its postings, one for its slice and one for its
+    // tail.
     assert!(rt; loads.get() <= 36);
     let seen = searched(&mut port, &mut many, &gate);
     assert_eq!(rt; (seen, many.ids()), (4, [4, 3, 2, 1].as_slice()));

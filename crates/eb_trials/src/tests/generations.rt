@@ -1,4 +1,4 @@
-//! Feeds of made documents beside the plain scan of what they are to keep.
+//! Feeds of made documents, compared with the plain scan of what they are to keep.
 ghost use Rattle.std.specs.Prelude.{◌<◌, ℕ, List};
 ghost use Rattle.eb_base.specs.Document.{Doc};
 ghost use Rattle.eb_base.specs.Setting.{Setting};
@@ -34,7 +34,7 @@ struct Row {
 // How many generations are kept.
 const KEEP: usize = 3;
 
-// A made term of at least so many bytes.
+// A made term of at least this many bytes.
 fn term(alloc: Global, number: u64, at: u32, len: usize) -> Result<Term, Fail> {
     let mut text = String::new(alloc);
     write!(text, "{number}-{at}")?;
@@ -116,7 +116,8 @@ fn ask(rt: &impl Abort, alloc: Global, row: &mut Row, number: u64) -> Result<(),
     Ok(())
 }
 
-// Takes so many made documents, compares after each, and gives the number of generations that were begun.
+// Takes this many made documents, compares after each, and returns the number of generations that
+// were begun.
 fn compare(rt: &impl Abort, alloc: Global, fills: Fills, documents: u64) -> Result<usize, Fail> {
     let config = Config::new(1, 20, 1024)?;
     let mut row = Row {
@@ -132,10 +133,11 @@ fn compare(rt: &impl Abort, alloc: Global, fills: Fills, documents: u64) -> Resu
     Ok(row.begins.len())
 }
 
-// What fills generations, how many documents are added, and how many generations are begun. A generation here has room for 20
-// documents, 1,024 terms, 4,096 text words, and 64 terms of more than 17 postings, each of which takes a slice of pool 2. So it
-// takes 20 short documents; 4 of 240 further terms each; 2 of 8 further terms of 1,600 bytes; and 3 of 20 further terms that stand
-// 18 times each.
+// What fills generations, how many documents are added, and how many generations are begun. A
+// generation here has room for 20 documents, 1,024 terms, 4,096 text words, and 64 terms of more
+// than 17 postings, each of which takes a slice of pool 2. So it takes 20 short documents; 4 of 240
+// further terms each; 2 of 8 further terms of 1,600 bytes; and 3 of 20 further terms that occur 18
+// times each.
 const GENERATIONS: [(Fills, u64, usize); 4] = [
     (Fills::Documents, 1000, 50),
     (Fills::Terms, 20, 5),

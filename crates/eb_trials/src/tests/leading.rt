@@ -15,8 +15,8 @@ use std::marker::Brand;
 use std::sync::ledger::Blank;
 use std::test::Fail;
 
-// The text of a document by its id, 1 to 200: `a` stands in each, `b` and `d` in 20 of them, `c` in 19 of the older half, and `e`
-// in two.
+// The text of a document by its id, 1 to 200: `a` is in each, `b` and `d` in 20 of them, `c` in 19
+// of the older half, and `e` in two.
 fn text(id: u64) -> &'static [u8] {
     if id == 50 || id == 150 {
         return b"a b e";
@@ -66,8 +66,9 @@ fn searched(alloc: Global, documents: &[Document], text: &[u8]) -> Result<(u64, 
     Ok((frame.ids().len() as u64, words.loads))
 }
 
-// Parts in both orders, and how many documents have them all: a word of few documents and one of many, twice; words of as many,
-// one of which begins lower; a word and a bound on the id; and a not and a bound.
+// Parts in both orders, and how many documents have them all: a word of few documents and one of
+// many, twice; words of as many, one of which begins lower; a word and a bound on the id; and a not
+// and a bound.
 const ORDERS: [(&[u8], &[u8], u64); 5] = [
     (b"e a &2", b"a e &2", 2),
     (b"b a &2", b"a b &2", 20),
@@ -88,8 +89,8 @@ fn the_same_part_leads_in_each_order(rt: HostRuntime) -> Result<(), Fail> {
     Ok(())
 }
 
-// One load for the count, two for the segment, ten to find each word, and four for the postings of `a`: none of the 200 documents
-// with `a` is walked where the other word is in no document.
+// One load for the count, two for the segment, ten to find each word, and four for the postings of
+// `a`: none of the 200 documents with `a` is walked where the other word is in no document.
 #[test]
 fn a_word_without_a_posting_ends_a_search(rt: HostRuntime) -> Result<(), Fail> {
     let documents = documents(rt.alloc())?;

@@ -1,5 +1,5 @@
-//! Leaps: what a chain gives at or below a number, against the list of what it stands for, while its words
-//! grow between any two loads.
+//! Leaps: what a chain gives at or below a number, compared with the list of its postings, while
+//! its words grow between any two loads.
 ghost use Rattle.std.specs.Prelude.{◌≡◌, ◌<◌};
 ghost use Rattle.eb_place.specs.declared.moment.Moment.{Moment};
 ghost use Rattle.eb_trials.specs.Grown.{Grows};
@@ -14,7 +14,7 @@ use std::marker::Brand;
 use std::sync::ledger::{Blank, Ledger};
 use std::test::Fail;
 
-// Documents of the term `a` with so many postings in all, full but for the last.
+// Documents of the term `a` with this many postings in all, full but for the last.
 fn documents_of(alloc: Global, postings: usize) -> Result<Vec<Document>, Fail> {
     let mut documents = Vec::new(alloc);
     let mut left = postings;
@@ -49,13 +49,14 @@ fn is_last(given: Option<Posting>, postings: &[u64], left: usize) -> bool {
     }
 }
 
-// The slices of all pools that so many postings stand in: of 2, 15, 127, and further ones of 2,047.
+// The slices of all pools that this many postings are in: of 2, 15, 127, and further ones of 2,047.
 fn slices_of(postings: usize) -> u64 {
     let firsts = [0, 2, 17, 144, 2191, 4238, 6285];
     firsts.iter().filter(|first| **first < postings).count() as u64
 }
 
-// What a leap to a posting gave, the next one then, and a leap to the half of it; and how many loads the first leap made.
+// What a leap to a posting gave, the next one then, and a leap to the half of it; and how many
+// loads the first leap made.
 #[derive(Clone, Copy)]
 struct Leapt {
     first: Option<Posting>,
@@ -64,8 +65,8 @@ struct Leapt {
     loads: u64,
 }
 
-// Whether that is what these postings have at or below `most`, after it, and at or below its half; and whether the first leap
-// made at most two loads for each slice that it leaves behind, and 23.
+// Whether that is what these postings have at or below `most`, after it, and at or below its half;
+// and whether the first leap made at most two loads for each slice that it leaves, and 23.
 fn is_as_listed(postings: &[u64], most: Posting, leapt: Leapt) -> bool {
     let at_first = count_at_most(postings, most);
     let at_second = at_first.saturating_sub(1);
@@ -108,8 +109,8 @@ fn leaps_as_listed<L: Ledger>(
     Ok(is_as_listed(stored.as_slice(), most, leapt))
 }
 
-// The same for so many postings, with five stores of a further document done before, and one more before
-// each load.
+// The same for this many postings, with five stores of a further document done before, and one more
+// before each load.
 fn leaps(alloc: Global, postings: usize, most: Posting) -> Result<bool, Fail> {
     let config = Config::new(1, 4096, 1024)?;
     let documents = documents_of(alloc, postings)?;

@@ -1,4 +1,5 @@
-//! Packed lists of 1 to 100,000 postings: a leap to each posting, to one below it and to one above it.
+//! Packed lists of 1 to 100,000 postings: a leap to each posting, to one below it and to one above
+//! it.
 ghost use Rattle.std.specs.Prelude.{◌≡◌, ◌<◌, IfOk};
 ghost use Rattle.eb_place.specs.declared.moment.Moment.{Moment};
 ghost use Rattle.eb_trials.specs.Recorded.{IsRecord};
@@ -15,7 +16,7 @@ use std::marker::Brand;
 use std::sync::ledger::{Blank, Ledger};
 use std::test::Fail;
 
-// So many documents in which `a` stands so many times, and one of `b`.
+// Documents in which `a` occurs this many times, and one of `b`.
 fn documents_of(alloc: Global, documents: u64, times: u64) -> Result<Vec<Document>, Fail> {
     let mut text = Vec::new(alloc);
     for _ in 0..times {
@@ -60,7 +61,8 @@ fn put(leaps: &mut Leaps, to: Posting, give: Posting) -> Result<(), Fail> {
     Ok(())
 }
 
-// To one above each posting, to itself and to one below it, from the least on. None stands below 0.
+// To one above each posting, to itself and to one below it, from the least on. There is none below
+// 0.
 fn leaps_of(alloc: Global, documents: u64, times: u64) -> Result<Leaps, Fail> {
     let mut leaps = Leaps {
         to: Vec::new(alloc),
@@ -100,7 +102,7 @@ fn leaps_are<L: Ledger>(
     Ok(given.as_slice() == leaps.give.as_slice())
 }
 
-// Whether all leaps over the list of so many documents and places do.
+// Whether all leaps over the list of this many documents and places do.
 fn are_leapt_over(alloc: Global, documents: u64, times: u64) -> Result<bool, Fail> {
     let all = documents_of(alloc, documents, times)?;
     let mut pen = converted(alloc, all.as_slice())?;
@@ -108,7 +110,7 @@ fn are_leapt_over(alloc: Global, documents: u64, times: u64) -> Result<bool, Fai
     leaps_are::<Brand>(alloc, &mut pen, &leaps, Blank::new(1))
 }
 
-// How many documents there are, and how often the word stands in each.
+// How many documents there are, and how often the word occurs in each.
 const LISTS: [(u64, u64); 7] = [
     (1, 1),
     (1, 2),

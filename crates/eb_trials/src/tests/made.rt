@@ -138,7 +138,7 @@ fn load<L: Ledger>(words: &mut FlatWords, place: u64, blank: Blank) -> u64
     words.load(place, &mut steps)
 }
 
-// Does so many stores.
+// Does this many stores.
 pub(super) fn grow_by(port: &mut GrowingPort, stores: usize)
     requires { (m : Moment) × Grows port.old m }
     ensures { (m : Moment) → Grows port.old m → HasGrown port.old port.new m }

@@ -42,7 +42,7 @@ fn convert(pen: &mut RecordingPen) -> Option<Converted>
     Some(convert_next(pen, segment))
 }
 
-// What so many calls of the converter do.
+// What this many calls of the converter do.
 pub(super) fn convert_all(
     alloc: Global,
     pen: &mut RecordingPen,
@@ -86,7 +86,8 @@ fn a_segment_is_converted_word_by_word(rt: HostRuntime) -> Result<(), Fail> {
 // How many documents there are, and how many segments are converted.
 const CLOSED: [(u64, u32); 7] = [(0, 0), (1, 0), (2, 0), (3, 1), (4, 1), (5, 2), (6, 2)];
 
-// How many segments of an index of so many documents are converted, and what the last call of the converter does.
+// How many segments of an index of this many documents are converted, and what the last call of the
+// converter does.
 fn converted(alloc: Global, count: u64) -> Result<(u32, Option<Converted>), Fail> {
     let mut documents = Vec::new(alloc);
     for id in 0..count {
@@ -129,7 +130,7 @@ pub(super) fn open<L: Ledger>(
     Some(PackedList::open(pen, 0, number, steps))
 }
 
-// What so many calls of a list's `next` give.
+// What this many calls of a list's `next` give.
 fn ask<L: Ledger>(
     alloc: Global,
     mut list: PackedList,
@@ -237,7 +238,8 @@ fn around(alloc: Global, postings: &[Posting]) -> Result<Vec<Posting>, Fail> {
     Ok(mosts)
 }
 
-// What a walk over a list of these postings, rising here, gives with two calls more than it has postings.
+// What a walk over a list of these postings, rising here, gives with two more calls than it has
+// postings.
 fn walked(alloc: Global, postings: &[Posting]) -> Result<Vec<Option<Posting>>, Fail> {
     let mut given = Vec::new(alloc);
     for posting in postings.iter().rev() {
@@ -257,8 +259,8 @@ fn some_of(alloc: Global, mosts: &[Posting]) -> Result<Vec<Posting>, Fail> {
     Ok(some)
 }
 
-// What a list has to give when it is walked; to where it is leapt each time from its front, and what it gives then; and to where
-// it is leapt one after the other, and what it gives then.
+// What a list has to give when it is walked; to where it is leapt each time from its start, and
+// what it gives then; and to where it is leapt one after the other, and what it gives then.
 #[derive(Drop)]
 struct Wanted {
     walked: Vec<Option<Posting>>,
@@ -268,7 +270,8 @@ struct Wanted {
     on: Vec<Option<Posting>>,
 }
 
-// Of a list of these postings, rising here: leaps to each of them, to one above and to one below it.
+// Of a list of these postings, rising here: leaps to each of them, to one above and to one below
+// it.
 fn leaps_wanted(alloc: Global, postings: &[Posting]) -> Result<Wanted, Fail> {
     let mosts = around(alloc, postings)?;
     let some = some_of(alloc, mosts.as_slice())?;
@@ -309,8 +312,8 @@ fn gives<L: Ledger>(
     )
 }
 
-// Whether the packed list of a word in segment 0 gives these postings, rising here, and leaps to each of them, one above and one
-// below it.
+// Whether the packed list of a word in segment 0 gives these postings, rising here, and leaps to
+// each of them, one above and one below it.
 fn is_packed(
     alloc: Global,
     pen: &mut RecordingPen,
@@ -325,8 +328,8 @@ fn is_packed(
     gives::<Brand>(alloc, pen, &term, &wanted, Blank::new(1))
 }
 
-// A list of a term whose greatest difference of two postings has so many bits: it stands in as many documents
-// as it has postings, from the first on but for its last one.
+// A list of a term whose greatest difference of two postings has this many bits: it is in as many
+// documents as it has postings, from the first on but for its last one.
 #[derive(Clone, Copy)]
 struct Wide {
     bits: u32,
@@ -334,8 +337,8 @@ struct Wide {
 }
 
 impl Wide {
-    // The number of the last document that it stands in. Where it is the first word of each, 17 bits hold the
-    // difference from one document to the next.
+    // The number of the last document that it is in. Where it is the first word of each, 17 bits
+    // hold the difference from one document to the next.
     fn last(self) -> u64 {
         let gap = if self.bits < 18 {
             0
@@ -345,7 +348,7 @@ impl Wide {
         self.postings.wrapping_sub(1).wrapping_add(gap)
     }
 
-    // Whether it stands in a document.
+    // Whether it is in a document.
     fn has(self, document: u64) -> bool {
         document < self.postings.wrapping_sub(1) || document == self.last()
     }
@@ -354,8 +357,8 @@ impl Wide {
 // How many postings a list has, of three for each number of bits.
 const COUNTS: [u64; 3] = [2, 3, 128];
 
-// The lists: the first has eleven blocks, the second one posting, and the others have greatest differences of
-// all numbers of bits from 17 to 40.
+// The lists: the first has eleven blocks, the second one posting, and the others have greatest
+// differences of all numbers of bits from 17 to 40.
 fn wide_lists(alloc: Global) -> Result<Vec<Wide>, Fail> {
     let mut lists = Vec::new(alloc);
     lists.push(Wide {
@@ -382,7 +385,7 @@ fn put_word(text: &mut Vec<u8>, list: usize) -> Result<(), Fail> {
     Ok(())
 }
 
-// The document of this number: the words of the lists that stand in it, in order.
+// The document of this number: the words of the lists that are in it, in order.
 fn with_lists(alloc: Global, lists: &[Wide], number: u64) -> Result<Document, Fail> {
     let mut text = Vec::new(alloc);
     for at in 0..lists.len() {
@@ -394,12 +397,12 @@ fn with_lists(alloc: Global, lists: &[Wide], number: u64) -> Result<Document, Fa
     document(alloc, number, text.as_slice())
 }
 
-// The word of the document with a difference of so many bits.
+// The word of the document with a difference of this many bits.
 fn narrow_word(bits: u32) -> [u8; 2] {
     [b'n', b'0' + (bits % 10) as u8]
 }
 
-// A document whose word stands twice, with a difference of so many bits.
+// A document whose word occurs twice, with a difference of this many bits.
 fn narrow(alloc: Global, bits: u32) -> Result<Document, Fail> {
     let word = narrow_word(bits);
     let mut text = Vec::new(alloc);
@@ -412,7 +415,7 @@ fn narrow(alloc: Global, bits: u32) -> Result<Document, Fail> {
     document(alloc, 0, text.as_slice())
 }
 
-// The postings of a list, rising: in each document the lists before it stand before it.
+// The postings of a list, rising: in each document the lists before it come before it.
 fn postings_of(alloc: Global, lists: &[Wide], list: usize) -> Result<Vec<Posting>, Fail> {
     let mut postings = Vec::new(alloc);
     if list >= lists.len() {
@@ -436,7 +439,7 @@ fn postings_of(alloc: Global, lists: &[Wide], list: usize) -> Result<Vec<Posting
     Ok(postings)
 }
 
-// Adds an empty document until there are so many in all.
+// Adds an empty document until there are this many in all.
 fn fill(placer: &mut Placer, pen: &mut RecordingPen, empty: &Document, from: u64, upto: u64)
     requires { (m : Moment) × IsRecord pen.old m × PlacerStands placer.old m }
     ensures { (m : Moment) × IsRecord pen.new m × PlacerStands placer.new m }
@@ -446,7 +449,7 @@ fn fill(placer: &mut Placer, pen: &mut RecordingPen, empty: &Document, from: u64
     }
 }
 
-// Adds the first 2,001 documents, of the lists that stand in them.
+// Adds the first 2,001 documents, of the lists that are in them.
 fn add_first(
     alloc: Global,
     lists: &[Wide],
@@ -475,8 +478,8 @@ fn add_narrow(alloc: Global, placer: &mut Placer, pen: &mut RecordingPen) -> Res
     Ok(())
 }
 
-// Adds the document of this number, which a list ends in, if it comes after the first 2,011, and empty ones between what is done and
-// it: how many are done then.
+// Adds the document of this number, which a list ends in, if it comes after the first 2,011, and
+// empty ones between what is done and it: how many are done then.
 fn add_end(
     alloc: Global,
     lists: &[Wide],
@@ -498,7 +501,8 @@ fn add_end(
     Ok(last.wrapping_add(1))
 }
 
-// Adds after these 2,011 the further documents that a list ends in, and empty ones between and after them, up to 8,388,801 in all.
+// Adds after these 2,011 the further documents that a list ends in, and empty ones between and
+// after them, up to 8,388,801 in all.
 fn add_last(
     alloc: Global,
     lists: &[Wide],
@@ -517,7 +521,8 @@ fn add_last(
     Ok(())
 }
 
-// An index of two segments whose first one has the lists, and from its document 2,001 on the ten narrow ones.
+// An index of two segments whose first one has the lists, and from its document 2,001 on the ten
+// narrow ones.
 fn with_all_widths(alloc: Global, lists: &[Wide]) -> Result<RecordingPen, Fail>
     ensures { IfOk result (λ pen. (m : Moment) × IsRecord pen m) }
 {
@@ -546,7 +551,7 @@ fn list_is_packed(
     is_packed(alloc, pen, word.as_slice(), postings.as_slice())
 }
 
-// Whether the list with a difference of so many bits is packed.
+// Whether the list with a difference of this many bits is packed.
 fn narrow_is_packed(alloc: Global, pen: &mut RecordingPen, bits: u32) -> Result<bool, Fail>
     requires { (m : Moment) × IsRecord pen.old m }
     ensures { (m : Moment) × IsRecord pen.new m }

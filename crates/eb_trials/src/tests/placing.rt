@@ -49,7 +49,7 @@ fn a_document_is_stored_word_by_word(rt: HostRuntime) -> Result<(), Fail> {
     Ok(())
 }
 
-// What each of so many adds of a document answers.
+// What each of this many adds of a document answers.
 fn counts(
     alloc: Global,
     words: &mut FlatWords,

@@ -7,9 +7,9 @@ use eb_plain::{cut, fits, has_room, is_match, newest};
 use std::alloc::Global;
 use std::test::Fail;
 
-// Windows and bounds on ids, and which of a document 1 of the text `a b b a b a` and a document 2 of `b a` they match, the
-// newest first. A window wants its terms in order, each at a place of its own, the last at most so far after; a bound takes
-// the greater ids alone.
+// Windows and bounds on ids, and which of a document 1 of the text `a b b a b a` and a document 2
+// of `b a` they match, the newest first. A window wants its terms in order, each at a place of its
+// own, the last at most so far after; a bound takes the greater ids alone.
 const MATCHES: [(&[u8], &[u64]); 23] = [
     (b"\" a a \" ~2", &[1]),
     (b"\" a a \" ~1", &[]),

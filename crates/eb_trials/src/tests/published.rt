@@ -1,4 +1,5 @@
-//! A search after each store: nothing of a document or of a conversion is seen before its last store.
+//! A search after each store: nothing of a document or of a conversion is seen before its last
+//! store.
 ghost use Rattle.std.specs.Prelude.{IfOk};
 ghost use Rattle.eb_place.specs.declared.moment.Moment.{Moment};
 ghost use Rattle.eb_place.specs.Moments.{empty_moment};
@@ -19,7 +20,8 @@ use eb_writer::Placer;
 use std::alloc::Global;
 use std::test::Fail;
 
-// An index without a document, searched by the query of this text for the newest 10 after each store.
+// An index without a document, searched by the query of this text for the newest 10 after each
+// store.
 fn searched(alloc: Global, config: Config, text: &[u8]) -> Result<SearchingPen, Fail>
     ensures { IfOk result (λ pen. IsRecord pen.pen (empty_moment config)) }
 {
@@ -43,7 +45,7 @@ fn convert(pen: &mut SearchingPen) -> Option<Converted>
     Some(convert_next(pen, segment))
 }
 
-// Whether this is an answer after so many stores, of so many documents, with these ids.
+// Whether this is an answer after this many stores, of this many documents, with these ids.
 fn is_answer(answer: Option<&Answer>, stores: u64, seen: usize, ids: &[u64]) -> bool {
     match answer {
         Some(answer) => {
@@ -72,7 +74,8 @@ fn a_document_is_seen_with_its_last_store(rt: HostRuntime) -> Result<(), Fail> {
     Ok(())
 }
 
-// Adds the documents: whether the answer changes with the last store of each, to that of a scan of all so far.
+// Adds the documents: whether the answer changes with the last store of each, to that of a scan of
+// all so far.
 fn are_seen_whole(
     alloc: Global,
     placer: &mut Placer,
@@ -98,7 +101,7 @@ fn are_seen_whole(
     Ok(true)
 }
 
-// How many of so many calls of the converter convert a segment.
+// How many of this many calls of the converter convert a segment.
 fn conversions(pen: &mut SearchingPen, calls: u32) -> u32
     requires { (m : Moment) × IsRecord pen.old.pen m }
 {
@@ -111,8 +114,9 @@ fn conversions(pen: &mut SearchingPen, calls: u32) -> u32
     converted
 }
 
-// Whether the answer to the query of this text changes with the last store of each document, as often as there are documents, and
-// with none of 16 calls of the converter, 15 of which convert a segment.
+// Whether the answer to the query of this text changes with the last store of each document, as
+// often as there are documents, and with none of 16 calls of the converter, 15 of which convert a
+// segment.
 fn are_answered(alloc: Global, text: &[u8], documents: &[Document]) -> Result<bool, Fail> {
     let config = Config::new(16, 7, 1024)?;
     let mut pen = searched(alloc, config, text)?;

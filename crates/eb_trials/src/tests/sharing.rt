@@ -1,5 +1,5 @@
-//! Shared words: a reader walks a dictionary and a chain on a second thread while the writer adds documents, and
-//! seats meet.
+//! Shared words: a reader walks a dictionary and a chain on a second thread while the writer adds
+//! documents, and seats meet.
 ghost use Rattle.std.specs.Prelude.{◌≡◌, ◌<◌};
 ghost use Rattle.eb_place.specs.declared.moment.Moment.{Moment};
 ghost use Rattle.eb_table.specs.Known.{MadeWith};
@@ -64,8 +64,8 @@ fn add_beside(
     (seat, last)
 }
 
-// Walks the chain of a term to its end, where it is entered: how many postings it gave, if they are those of the
-// first position of some first documents, newest first.
+// Walks the chain of a term to its end, where it is entered: how many postings it gave, if they are
+// those of the first position of some first documents, newest first.
 fn walked<P: Port, L: Ledger>(port: &mut P, term: &Term, steps: &mut Steps<L>) -> Option<u32>
     requires { (m : Moment) × P.stands port.old m }
 {
@@ -111,8 +111,8 @@ fn walk_shared<L: Ledger>(
     walked(&mut port, term, &mut steps)
 }
 
-// Walks until the postings of all documents are seen: whether each walk gave those of some first documents, and
-// none of fewer than the walk before.
+// Walks until the postings of all documents are seen: whether each walk gave those of some first
+// documents, and none of fewer than the walk before.
 fn walk_beside(words: &SharedWords, seat: ReaderSeat, term: &Term) -> (ReaderSeat, bool)
     requires { MadeWith seat words.now }
     ensures { MadeWith result.0 words.now }
@@ -180,7 +180,8 @@ fn count_of<P: Port>(port: &mut P) -> u64
     count_by::<P, Brand>(port, Blank::new(1))
 }
 
-// Each kind of seat takes in a reader's, and then still loads: the counts by a reader, the writer and the converter.
+// Each kind of seat takes in a reader's, and then still loads: the counts by a reader, the writer
+// and the converter.
 fn counts_met(
     words: &SharedWords,
     reader: &mut ReaderSeat,

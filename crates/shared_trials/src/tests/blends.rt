@@ -1,4 +1,5 @@
-//! Blends beside rows that were worked by hand, beside the plain scan of one history, and while threads add and convert.
+//! Blends, compared with rows that were worked by hand and with the plain scan of one history, and
+//! while threads add and convert.
 mod beside;
 mod counting;
 mod made;

@@ -1,4 +1,4 @@
-//! A gate that keeps what it was told.
+//! A gate that keeps what it observed.
 use eb_base::{Gate, Point};
 use std::sync::atomic::{AtomicU64, Ordering};
 

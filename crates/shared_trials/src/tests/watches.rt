@@ -1,4 +1,4 @@
-//! Watches beside rows that were worked by hand.
+//! Watches, compared with rows that were worked by hand.
 mod keys;
 mod made;
 mod rows;

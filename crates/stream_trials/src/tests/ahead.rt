@@ -75,7 +75,7 @@ fn add_ahead(
     Ok(back.is_none())
 }
 
-// Lends an index before each of the documents, and gives how often the feed had none.
+// Lends an index before each of the documents, and returns how often the feed had none.
 fn add_all_ahead(
     alloc: Global,
     feed: &mut FeedWriter,
@@ -93,8 +93,8 @@ fn add_all_ahead(
     Ok(lacked)
 }
 
-// A generation of two segments of two documents: the first segment is converted once the third document is there, also
-// where the generation is closed; the second one never is.
+// A generation of two segments of two documents: the first segment is converted once the third
+// document is there, also where the generation is closed; the second one never is.
 fn converts(rt: &impl Abort, converter: &mut FeedConverter) {
     assert_eq!(rt; converter.convert(), Converted::One(0));
     assert_eq!(rt; converter.convert(), Converted::Nothing);

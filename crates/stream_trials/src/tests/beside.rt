@@ -1,6 +1,6 @@
-//! A leader adds documents through a hundred turns, while two followers hear and search on threads of their own. Each
-//! answer is that of the plain scan over the generations that the follower holds, and none is over fewer documents than
-//! before.
+//! A leader adds documents through a hundred turns, while two followers hear and search on threads
+//! of their own. Each answer is that of the plain scan over the generations that the follower
+//! holds, and none is over fewer documents than before.
 ghost use Rattle.std.specs.Prelude.{◌≡◌, ◌<◌};
 
 use super::made::{Question, documents, first_held, is_scanned, question_of};
@@ -29,8 +29,8 @@ fn followed(follower: &mut Follower, question: &mut Question) -> u64 {
     follow_alone::<Brand>(follower, question, Blank::new(1))
 }
 
-// Hears and searches until all documents are seen: whether each answer was right, and none over fewer documents than
-// before.
+// Hears and searches until all documents are seen: whether each answer was right, and none over
+// fewer documents than before.
 fn follow(alloc: Global, follower: Follower, question: Question, documents: &[Document]) -> bool {
     let mut follower = follower;
     let mut question = question;
@@ -59,7 +59,7 @@ fn follow(alloc: Global, follower: Follower, question: Question, documents: &[Do
     false
 }
 
-// Tells the followers, until all of them are told.
+// Sends the news to the followers, until all of them have it.
 fn tell(leader: &mut Leader) {
     for _ in 0..u64::MAX {
         if leader.tell() {
@@ -69,7 +69,7 @@ fn tell(leader: &mut Leader) {
     }
 }
 
-// Adds all documents, and gives how many were accepted, and how many generations were begun.
+// Adds all documents, and returns how many were accepted, and how many generations were begun.
 fn lead(leader: Leader, documents: &[Document]) -> (u64, u64) {
     let mut leader = leader;
     for document in documents {

@@ -1,5 +1,6 @@
-//! A search that is held after the load of its count, while the writer goes on through more turns than it keeps
-//! generations, so that it lets all go that the reader holds; and the reader that is let go afterwards.
+//! A search that is held after the load of its count, while the writer goes on through more turns
+//! than it keeps generations, so that it drops all that the reader holds; and the reader that goes
+//! on afterwards.
 use super::made::{add, documents, frame, renewed, searched, word};
 use eb_base::{Config, Document, Gate, OpenGate, Point};
 use eb_cursor::Frame;
@@ -35,7 +36,7 @@ impl<'a> Gate for Hold<'a> {
     }
 }
 
-// A search that is held after the load of its count, until the flag is up. The reader is let go then.
+// A search that is held after the load of its count, until the flag is up. The reader goes on then.
 fn held_search(
     reader: FeedReader,
     frame: Frame,
@@ -49,7 +50,8 @@ fn held_search(
     (frame, found)
 }
 
-// Adds the documents behind the first four when the first flag is up, and puts the second up. Gives the turns then.
+// Adds the documents after the first four when the first flag is up, and puts the second up.
+// Returns the turns then.
 fn late_adds(feed: FeedWriter, documents: &[Document], loaded: &AtomicU64, go: &AtomicU64) -> u64 {
     let mut feed = feed;
     wait_for(loaded);

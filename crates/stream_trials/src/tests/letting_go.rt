@@ -1,4 +1,4 @@
-//! Generations that are let go, and given out, so that who drops them gives their memory back.
+//! Generations that a feed drops and gives out, so that whoever drops them gives their memory back.
 ghost use Rattle.std.specs.Prelude.{◌≡◌, IfOk};
 
 use super::made::{document, frame, own_search, renewed, searched, word};
@@ -100,8 +100,9 @@ fn finds_as(
     assert_eq!(rt; frames.0.ids(), frames.1.ids());
 }
 
-// Generations, one after another: whether an index is lent for it, and whether another one is given out then that it let go,
-// where that is asked. One whose turn wasn't asked for it is let go by the next turn.
+// Generations, one after another: whether an index is lent for it, and whether another one is given
+// out then that it dropped, where that is asked. One whose turn wasn't asked for it is dropped by
+// the next turn.
 fn row(
     rt: &impl Abort,
     alloc: Global,
@@ -145,7 +146,7 @@ fn a_turn_into_a_lent_index_gives_out_what_it_let_go(rt: HostRuntime) -> Result<
     row(&rt, alloc, feeds, (every(alloc)?, every(alloc)?), config)
 }
 
-// What the last turn let go.
+// What the last turn dropped.
 fn released(feed: &mut FeedWriter) -> Result<Released, Fail> {
     match feed.released() {
         Some(released) => Ok(released),
@@ -153,7 +154,7 @@ fn released(feed: &mut FeedWriter) -> Result<Released, Fail> {
     }
 }
 
-// A reader of the first two generations, and the first of them, which the third let go.
+// A reader of the first two generations, and the first of them, which the third dropped.
 fn let_go(alloc: Global, feed: FeedWriter, config: Config) -> Result<(FeedReader, Released), Fail>
     requires { feed.setting ≡ config }
 {

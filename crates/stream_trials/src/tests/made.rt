@@ -96,7 +96,7 @@ pub(super) fn is_scanned(
     }
 }
 
-// Where the generations begin that are held, where each takes so many documents.
+// Where the generations begin that are held, where each takes this many documents.
 pub(super) fn first_held(turns: u64, held: usize, size: u64) -> u64 {
     turns.saturating_sub(held as u64).saturating_mul(size)
 }

@@ -28,7 +28,7 @@ fn add_ids(alloc: Global, feed: &mut FeedWriter, first: u64, last: u64) -> Resul
     add_id(alloc, feed, last)
 }
 
-// Looks that a search finds these, over so many documents of the history.
+// Asserts that a search finds these, over this many documents of the history.
 fn finds(rt: &impl Abort, reader: &mut FeedReader, frame: &mut Frame, seen: u64, ids: &[u64])
     ensures { reader.new.book ≡ reader.old.book }
 {
@@ -37,7 +37,8 @@ fn finds(rt: &impl Abort, reader: &mut FeedReader, frame: &mut Frame, seen: u64,
     assert_eq!(rt; frame.ids(), ids);
 }
 
-// Looks that a count finds so many, and of the ids 4 and 5 these, over so many documents of the history.
+// Asserts that a count finds this many, and of the ids 4 and 5 these, over this many documents of
+// the history.
 fn counts(
     rt: &impl Abort,
     alloc: Global,
@@ -126,7 +127,8 @@ fn forgets(
     Ok(())
 }
 
-// A reader that slept through as many turns as generations are kept holds the newest ones afterwards.
+// A reader that slept through as many turns as generations are kept holds the newest ones
+// afterwards.
 fn sleeps(
     rt: &impl Abort,
     alloc: Global,
@@ -197,7 +199,8 @@ fn writer_finds(rt: &impl Abort, feed: &mut FeedWriter, frame: &mut Frame) {
     assert_eq!(rt; (feed.turns(), feed.accepted()), (6, 11));
 }
 
-// A reader that slept through twice as many turns as generations are kept finds what it holds, until it is told.
+// A reader that slept through twice as many turns as generations are kept finds what it holds,
+// until it gets the news.
 fn oversleeps(
     rt: &impl Abort,
     alloc: Global,
@@ -214,7 +217,7 @@ fn oversleeps(
     Ok(())
 }
 
-// A writer takes in a reader that slept for as long: of what that one knew it holds nothing more.
+// A writer meets a reader that slept for as long: it has dropped all that the reader knew.
 fn is_lost(
     rt: &impl Abort,
     alloc: Global,

@@ -1,5 +1,6 @@
-//! Standing workers over a feed: a clerk adds documents and asks a query after each, and waits for the answers then. Each
-//! is that of the plain scan over the generations that were held when it was asked.
+//! Standing workers over a feed: a clerk adds documents and asks a query after each, and waits for
+//! the answers then. Each is that of the plain scan over the generations that were held when it was
+//! asked.
 ghost use Rattle.std.specs.Prelude.{◌≡◌, ◌+◌, List, [], All, IfOk, OnOk};
 ghost use Rattle.eb_base.specs.Document.{Doc};
 ghost use Rattle.eb_stream.specs.Turns.{HasTaken};
@@ -93,7 +94,7 @@ fn ask_all<R: Wait>(
     Ok(())
 }
 
-// Whether an answer is right, where so many documents and one were added before it was asked.
+// Whether an answer is right, where this many documents and one were added before it was asked.
 fn is_right(alloc: Global, query: &Query, documents: &[Document], answer: Answer) -> bool {
     let (number, told, seen) = (answer.number(), answer.told(), answer.seen());
     let (frame, reader) = answer.finish();
@@ -127,7 +128,7 @@ fn wait_all<R: Wait>(
     right
 }
 
-// The clerk's part: gives how many answers were right.
+// The clerk's part: returns how many answers were right.
 fn serve<R: Wait>(
     rt: &R,
     alloc: Global,
@@ -162,7 +163,7 @@ fn work<R: Threads + Wait + Sync>(rt: &R, desk: &Desk, workers: Vec<Worker>)
     work_all(rt, desk, &(), &OpenGate, workers.as_mut_slice());
 }
 
-// The workers beside the clerk.
+// The workers, while the clerk's part runs.
 fn serve_beside<R: Threads + Wait + Sync>(
     rt: &R,
     alloc: Global,

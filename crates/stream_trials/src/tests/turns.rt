@@ -1,5 +1,6 @@
-//! Turns at each boundary of a segment and of a generation: after each document a reader that is made then, one that is
-//! made at first and meets another, and the writer answer what the plain scan finds in the generations that they hold.
+//! Turns at each boundary of a segment and of a generation: after each document a reader that is
+//! made then, one that is made at first and meets another, and the writer answer what the plain
+//! scan finds in the generations that they hold.
 ghost use Rattle.std.specs.Prelude.{◌≡◌};
 
 use super::made::{
@@ -11,7 +12,7 @@ use std::alloc::Global;
 use std::process::Abort;
 use std::test::Fail;
 
-// Whether a search by the reader is right, where each generation takes so many documents.
+// Whether a search by the reader is right, where each generation takes this many documents.
 fn is_right(
     alloc: Global,
     reader: &mut FeedReader,
@@ -47,7 +48,7 @@ fn is_fresh_right(
     Ok(is_right(alloc, &mut fresh, question, documents, size))
 }
 
-// Whether that of a reader is right that was made earlier and is told now.
+// Whether the search of a reader is right that was made earlier and gets the news now.
 fn is_told_right(
     alloc: Global,
     feed: &mut FeedWriter,
@@ -104,7 +105,7 @@ fn all_fresh_right(
     Ok(true)
 }
 
-// Adds all documents, and asks a reader that is told after each.
+// Adds all documents, and asks a reader that gets the news after each.
 fn all_told_right(
     alloc: Global,
     feed: &mut FeedWriter,
@@ -149,7 +150,7 @@ fn opened(alloc: Global, segments: u32, docs: u32) -> Result<FeedWriter, Fail> {
     }
 }
 
-// Looks that so many documents and turns were counted.
+// Asserts that this many documents and turns were counted.
 fn counts(rt: &impl Abort, feed: &FeedWriter, turns: u64) {
     assert_eq!(rt; (feed.accepted(), feed.turns()), (26, turns));
 }

@@ -1,6 +1,6 @@
 use Rattle.std.proofs.Common.{◌≡◌, ◌+◌, ◌<◌, [], ◌∷◌, ◌++◌, take, length, ap, ap₂, sym, ◌∙◌, arith, append_assoc, append-nil}
 use Rattle.std.proofs.lemmas.List.{get_or_default}
-use Rattle.eb_blend.specs.Adding.{fulls_of, told, told_from, last_after, last_from}
+use Rattle.eb_blend.specs.Adding.{fulls_of, told_item, told_from, last_after, last_from}
 use Rattle.eb_blend.proofs.Turns.{next_items, long_front, whole_front, told_from-nil, told_from-push, last_from-nil, last_from-push}
 use Rattle.eb_blend.proofs.adding.gather.Goals as goal
 
@@ -30,11 +30,11 @@ loop-at-preserved g c =
     let outs = c.args.outcomes.now.items in
     let put = c.push_reserved.ensures in
     record {
-      outcomes = put.items ∙ ap₂ (λ z o. z ++ o ∷ []) inv.outcomes c.told_of-outcome.ensures ∙ append_assoc outs (told_from fulls 0 front) (told fulls n x ∷ [])
+      outcomes = put.items ∙ ap₂ (λ z o. z ++ o ∷ []) inv.outcomes c.told_of-outcome.ensures ∙ append_assoc outs (told_from fulls 0 front) (told_item fulls n x ∷ [])
           ∙ ap (λ z. outs ++ z) (sym (ap (told_from fulls 0) more ∙ told_from-push fulls 0 front x n at));
       len = omega (arith, inv.len, put.len);
       capacity = omega (arith, inv.capacity, put.capacity);
-      last = c.last_id-last.ensures ∙ ap₂ (λ o l. last_after o l y) (c.told_of-outcome.ensures ∙ ap (told fulls n) same) inv.last
+      last = c.last_id-last.ensures ∙ ap₂ (λ o l. last_after o l y) (c.told_of-outcome.ensures ∙ ap (told_item fulls n) same) inv.last
           ∙ sym (ap (last_from fulls 0 c.args.last) (next_items items n y lt c.index-items-at-in-loop-at.is) ∙ last_from-push fulls 0 c.args.last front y n at);
     }
 

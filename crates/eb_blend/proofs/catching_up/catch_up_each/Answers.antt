@@ -1,4 +1,4 @@
-use Rattle.std.proofs.Common.{◌≡◌, ◌<◌, ◌≤◌, ℕ, List, length, get_or, sym, subst, ◌∙◌, arith}
+use Rattle.std.proofs.Common.{◌≡◌, ◌<◌, ◌≤◌, ℕ, List, length, get_or, subst, ◌∙◌, arith}
 use Rattle.eb_blend.specs.Parts.{converter_indexes_of, converted_of, histories_of}
 use Rattle.eb_blend.proofs.Each.{as_many_converters, fronts_trans}
 use Rattle.eb_blend.proofs.Convertings.{kept_indexes, known_more, rising_more, all_converted}

@@ -11,7 +11,7 @@ use Rattle.eb_blend.specs.Parts.{histories_of}
 use Rattle.eb_blend.proofs.Each.{indexes_set, fronts_set, fronts_trans, fronts_self, take_set, length_histories}
 use Rattle.eb_blend.proofs.reader.tally_each.Goals as goal
 
--- one part more
+-- one more part
 all_push : (hs : List (List Doc)) (h : List Doc) → all_of (hs ++ h ∷ []) ≡ h ++ all_of hs
 all_push [] h = sym (append-nil h)
 all_push (x ∷ hs) h = ap (λ (z : List Doc). z ++ x) (all_push hs h) ∙ append_assoc h (all_of hs) x

@@ -1,4 +1,4 @@
-use Rattle.std.proofs.Common.{◌≡◌, ◌&&◌, ◌||◌, ◌+◌, map, drop, ap, sym, ◌∙◌, subst, arith}
+use Rattle.std.proofs.Common.{◌&&◌, ◌||◌, ◌+◌, map, drop, ap, sym, ◌∙◌, arith}
 use Rattle.eb_base.specs.Query.{tree, trees_of}
 use Rattle.eb_bloom.specs.Likely.{has_mark, may_match, each_may_match, some_may_match}
 use Rattle.eb_bloom.proofs.MarkBits.{marked_and, marked_or, marked_all, each_next, some_next, tree_Since, tree_Not}

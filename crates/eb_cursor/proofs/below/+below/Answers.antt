@@ -48,8 +48,9 @@ below-returns-in-Phrase-clause-found g t c = λ docs last h.
 
 pub below-returns-in-Window-clause-found : goal.below-returns-in-Window-clause-found
 below-returns-in-Window-clause-found g t c = λ docs last h.
-    let i : tree c.args.query.now ≡ window c.in-Window.field-0 c.in-Window.reach = ap tree c.in-Window.is ∙ tree_Window c.in-Window.field-0 c.in-Window.reach in
-    told_as g.met.P.Port.lawful (c.window_below.ensures.found docs c.in-Window.field-0 last h)
+    let i : tree c.args.query.now ≡ window c.as_slice.result.now c.in-Window.reach = ap tree c.in-Window.is
+    ∙ tree_Window c.in-Window.terms c.in-Window.reach ∙ ap (λ (x : List (List ℕ)). window x c.in-Window.reach) (sym c.as_slice.ensures) in
+    told_as g.met.P.Port.lawful (c.window_below.ensures.found docs last h)
     (λ m r. subst (λ x. Ready (gives m) docs x c.args.cursors.now last) i r)
     (λ m n later r w. (w.0 ∙ ap (λ (x : Tree). top (match_at docs x) c.args.end) (sym i), subst (λ x. Ready (gives n) docs x c.window_below.new.cursors c.args.end) (sym i) w.1))
 
@@ -73,14 +74,14 @@ below-returns-in-Some-clause-found g t c = λ docs last h.
 pub below-and_below-requires : goal.below-and_below-requires
 below-and_below-requires g t c = λ κs lv.
     let r = c.requires.ready in
-    let i : tree c.args.query.now ≡ conjunction (trees_in c.as_slice.result.now) = ap tree c.in-And.is
-    ∙ tree_And c.in-And.parts ∙ ap (λ (x : List Query). conjunction (trees_in x)) (sym c.as_slice.ensures) in
+    let i : tree c.args.query.now ≡ conjunction (trees_in c.as_slice-in-And.result.now) = ap tree c.in-And.is
+    ∙ tree_And c.in-And.parts ∙ ap (λ (x : List Query). conjunction (trees_in x)) (sym c.as_slice-in-And.ensures) in
     (search rules, (search rules, (search rules, (search rules, (r.0, r.1, r.2, r.3, r.4, subst (λ x. Ready (gives r.0) r.1 x c.args.cursors.now r.2) i r.5)))))
 
 pub below-returns-in-And-clause-found : goal.below-returns-in-And-clause-found
 below-returns-in-And-clause-found g t c = λ docs last h.
-    let i : tree c.args.query.now ≡ conjunction (trees_in c.as_slice.result.now) = ap tree c.in-And.is
-    ∙ tree_And c.in-And.parts ∙ ap (λ (x : List Query). conjunction (trees_in x)) (sym c.as_slice.ensures) in
+    let i : tree c.args.query.now ≡ conjunction (trees_in c.as_slice-in-And.result.now) = ap tree c.in-And.is
+    ∙ tree_And c.in-And.parts ∙ ap (λ (x : List Query). conjunction (trees_in x)) (sym c.as_slice-in-And.ensures) in
     told_as g.met.P.Port.lawful (c.and_below.ensures.found docs last h)
     (λ m r. subst (λ x. Ready (gives m) docs x c.args.cursors.now last) i r)
     (λ m n later r w. (w.0 ∙ ap (λ (x : Tree). top (match_at docs x) c.args.end) (sym i), subst (λ x. Ready (gives n) docs x c.and_below.new.cursors c.args.end) (sym i) w.1))

@@ -3,7 +3,8 @@ use Rattle.eb_base.specs.Term.{Term}
 use Rattle.eb_place.specs.declared.moment.Moment.{Moment}
 use Rattle.eb_place.proofs.LaterMoments.{later_on}
 use Rattle.eb_chain.specs.Chains.{Stands, Given}
-use Rattle.eb_chain.specs.Leaps.{at_most, slices_in_use}
+use Rattle.eb_place.specs.Postings.{at_most}
+use Rattle.eb_chain.specs.Leaps.{slices_in_use}
 use Rattle.eb_chain.specs.declared.chain.Chain.{Chain}
 use Rattle.eb_chain.proofs.Leaping.{at_most_in, at_most_past, slices_grow}
 use Rattle.eb_cursor.proofs.Leaps.{fewer, leaps_to, next_two, walk_two}

@@ -5,21 +5,21 @@ use Rattle.eb_doc.specs.declared.look.Look.{Look}
 use Rattle.eb_doc.specs.DocumentLine.{value_of}
 use Rattle.eb_doc.specs.Looked.{IsLook}
 use Rattle.eb_doc.specs.WithFields.{id_name, text_name}
-use Rattle.eb_doc.proofs.WithNames.{with_by_value, is_look}
+use Rattle.eb_doc.proofs.WithNames.{with_by_value, as_look}
 use Rattle.eb_doc.proofs.DocumentReader.read_quickly.Goals as goal
 
 pub returns-in-Ok-Object-clause-document : goal.returns-in-Ok-Object-clause-document
 returns-in-Ok-Object-clause-document c =
     let how = dialect_of c.args.dialect in
     let look : IsLook (id_name how) (text_name how) (Look.Object c.in-Ok-Object.found) (value_of c.args.line.now) =
-    is_look how _ _ _ _ _ c.names_by.ensures.id c.names_by.ensures.text c.in-Ok-Object.field-0-is c.in-Ok-Object.ensures in
+    as_look how _ _ _ c.in-Ok-Object.field-0-is c.in-Ok-Object.ensures in
     IfOk-weaker c.document_by.result _ _ (λ document told. with_by_value how c.args.line.now (Some look.0) look.1 ∙ told look.0 look.2) c.document_by.ensures.document
 
 pub returns-in-Ok-Object-clause-refused : goal.returns-in-Ok-Object-clause-refused
 returns-in-Ok-Object-clause-refused c =
     let how = dialect_of c.args.dialect in
     let look : IsLook (id_name how) (text_name how) (Look.Object c.in-Ok-Object.found) (value_of c.args.line.now) =
-    is_look how _ _ _ _ _ c.names_by.ensures.id c.names_by.ensures.text c.in-Ok-Object.field-0-is c.in-Ok-Object.ensures in
+    as_look how _ _ _ c.in-Ok-Object.field-0-is c.in-Ok-Object.ensures in
     IfErr-weaker c.document_by.result _ _
     (λ fault told. elim told [
       | inl memory ↦ inl memory
@@ -29,4 +29,4 @@ returns-in-Ok-Object-clause-refused c =
 pub returns-in-Ok-NoJson-clause-refused : goal.returns-in-Ok-NoJson-clause-refused
 returns-in-Ok-NoJson-clause-refused c =
     let how = dialect_of c.args.dialect in
-    inr (with_by_value how c.args.line.now None (is_look how _ _ _ Look.NoJson _ c.names_by.ensures.id c.names_by.ensures.text c.in-Ok-NoJson.field-0-is c.in-Ok-NoJson.ensures))
+    inr (with_by_value how c.args.line.now None (as_look how _ Look.NoJson _ c.in-Ok-NoJson.field-0-is c.in-Ok-NoJson.ensures))

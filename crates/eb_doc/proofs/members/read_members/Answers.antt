@@ -39,7 +39,7 @@ members-preserved c =
       (
         put k d old,
         l.invariant.2.1 ∙ member_read p old n k l.reader s r d (omega (arith, l.invariant.1, less)) named done.ok.1,
-        record { id = c.latest-id.ensures old d l.invariant.2.2.id done.ok.2; text = c.latest-text.ensures old d l.invariant.2.2.text done.ok.2 },
+        record { id = c.see_member.ensures old d l.invariant.2.2.id done.ok.2; text = c.see_member-in-members.ensures old d l.invariant.2.2.text done.ok.2 },
       ),
     )
 

@@ -1,4 +1,8 @@
-use Rattle.std.proofs.Common.{rules, refl, sym, arith}
+use Rattle.std.proofs.Common.{[], length, take, rules, refl, sym, arith}
+use Rattle.eb_base.specs.Query.{word}
+use Rattle.eb_count.specs.Counts.{match_count}
+use Rattle.eb_search.specs.Bounds.{match_loads}
+use Rattle.eb_engine.specs.Loads.{IsWithinBound}
 use Rattle.eb_engine.proofs.calls.count_words.Goals as goal
 
 pub returns-clause-made : goal.returns-clause-made
@@ -16,3 +20,12 @@ returns-clause-counts g c =
     let at = k.1.1 in
     let l = k.3 in
     grind (arith, same, at, l)
+
+pub returns-clause-loads : goal.returns-clause-loads
+returns-clause-loads g c = λ t is.
+    let k = c.count_on.ensures.loads c.args.seat.now.moment t (c.requires.made, refl) is in
+    let same = sym k.3.0 in
+    let at = sym k.1.1 in
+    let ids = match_loads (length c.args.tally.now.buckets) (match_count (word t) (take c.count_on.result k.0.documents.accepted)) in
+    let few : IsWithinBound [] c.args.seat.now.moment k.0 t c.count_on.result ids c.args.steps.now c.count_on.new.steps = record { few = k.4 } in
+    grind (arith, same, at, few)

@@ -1,4 +1,4 @@
-use Rattle.std.proofs.Common.{List, length, take, get_or, subst, sym, ap, ◌∙◌, arith, ◌+◌, [], refl}
+use Rattle.std.proofs.Common.{List, length, take, get_or, subst, sym, ap, ◌∙◌, arith, [], refl}
 use Rattle.eb_base.specs.Document.{Doc}
 use Rattle.eb_count.specs.Tallies.{HasCounted}
 use Rattle.eb_count.proofs.Counting.{counted_none, counted_on}

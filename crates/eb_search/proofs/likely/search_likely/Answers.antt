@@ -73,7 +73,7 @@ returns-clause-loads g c = λ m t st is.
         c.visible_segments-begun.ensures.loads l.0 l.1,
         ap (λ (σ : Setting). σ.segments) zp.setting,
         z.4,
-        ap (λ k. loads_from m z.0 0 k t) segments,
+        ap (λ k. loads_from c.args.likely.now m z.0 0 k t) segments,
       ),
     )
 
@@ -99,6 +99,6 @@ returns-clause-rounds g c = λ m ts st is.
         ap (λ (σ : Setting). σ.segments) z.2.setting,
         few,
         z.4,
-        ap (λ xs. and_loads_from z.0 0 ts (cut z.0.setting xs)) now,
+        ap (λ xs. and_loads_from c.args.likely.now z.0 0 ts (cut z.0.setting xs)) now,
       ),
     )

@@ -1,4 +1,4 @@
-use Rattle.std.proofs.Common.{◌≡◌, ◌≤◌, length, take, ap, sym, ◌∙◌, arith}
+use Rattle.std.proofs.Common.{◌≡◌, ◌≤◌, [], length, take, ap, sym, ◌∙◌, arith}
 use Rattle.eb_base.specs.Setting.{Setting}
 use Rattle.eb_place.specs.Room.{cut}
 use Rattle.eb_search.specs.Bounds.{loads_from, and_loads_from}
@@ -65,7 +65,7 @@ returns-clause-loads g c = λ m t st is.
         ap (λ (σ : Setting). σ.segments) z.2.setting,
         few,
         z.4,
-        ap (λ k. loads_from m z.0 0 k t) segments,
+        ap (λ k. loads_from [] m z.0 0 k t) segments,
       ),
     )
 
@@ -91,6 +91,6 @@ returns-clause-rounds g c = λ m ts st is.
         ap (λ (σ : Setting). σ.segments) z.2.setting,
         few,
         z.4,
-        ap (λ xs. and_loads_from z.0 0 ts (cut z.0.setting xs)) now,
+        ap (λ xs. and_loads_from [] z.0 0 ts (cut z.0.setting xs)) now,
       ),
     )

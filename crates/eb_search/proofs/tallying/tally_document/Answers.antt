@@ -1,4 +1,4 @@
-use Rattle.std.proofs.Common.{◌≡◌, ℕ, ◌<◌, length, ap, sym, subst, ◌∙◌, arith}
+use Rattle.std.proofs.Common.{◌<◌, ap, sym, subst, ◌∙◌}
 use Rattle.eb_base.specs.Setting.{Setting, words_of}
 use Rattle.eb_place.specs.Layout.{place}
 use Rattle.eb_place.specs.Layout.Slot.{slot}
@@ -25,8 +25,8 @@ load-id-requires g c =
     let r = c.requires in
     (r.0, r.2, subst (λ (σ : Setting). c.id.result < words_of σ) (c.new-places.ensures ∙ c.config.ensures r.0 r.2) c.id.ensures.inside)
 
-pub returns : goal.returns
-returns g c = λ docs d there low. record {
+pub returns-clause-counted : goal.returns-clause-counted
+returns-clause-counted g c = λ docs d there low. record {
   told = λ m st p.
       let y = c.load-id.ensures.told m st in
       let first = first_later m y.0 c.args.segment docs y.2 p in

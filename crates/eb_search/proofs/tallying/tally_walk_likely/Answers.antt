@@ -1,13 +1,20 @@
-use Rattle.std.proofs.Common.{◌≡◌, ℕ, subst, ◌<◌, ◌≤◌, ◌+◌, ◌-◌, List, [], ◌++◌, length, drop, get_or, ap, sym, ◌∙◌, arith, refl}
+use Rattle.std.proofs.Common.{◌≡◌, ℕ, suc, subst, ◌<◌, ◌+◌, ◌-◌, Bool, if◌then◌else◌, List, [], length, drop, get_or, ap, sym, ◌∙◌, arith, refl}
 use Rattle.eb_base.specs.Document.{Doc}
+use Rattle.eb_base.specs.Query.{word}
+use Rattle.eb_count.specs.Counts.{match_count}
 use Rattle.eb_count.specs.Tallies.{HasCounted}
 use Rattle.eb_place.specs.Room.{cut}
 use Rattle.eb_place.proofs.LaterMoments.{later_on}
+use Rattle.eb_cursor.specs.Costs.{word_loads}
 use Rattle.eb_cursor.specs.Frames.{query_of}
 use Rattle.eb_cursor.proofs.Tellings.{told_itself}
+use Rattle.eb_search.specs.Bounds.{loads_from, match_loads}
 use Rattle.eb_search.specs.Visible.{documents_before}
+use Rattle.eb_search.proofs.Beginnings.{cut_short}
+use Rattle.eb_search.proofs.Bounded.{loads_from_later, loads_back}
+use Rattle.eb_search.proofs.CountBounded.{loads_segment, loads_all}
 use Rattle.eb_search.proofs.Parts.{before_end}
-use Rattle.eb_search.proofs.Segments.{is_step, visible_later, start_later, none_later, inside_same}
+use Rattle.eb_search.proofs.Segments.{is_step, visible_later, start_later, none_later, inside_same, inside_on}
 use Rattle.eb_search.proofs.Totals.{tally_start, tally_segment, tally_past, tally_all}
 use Rattle.eb_search.proofs.tallying.tally_walk_likely.Goals as goal
 
@@ -15,6 +22,13 @@ pub loop-segment-init : goal.loop-segment-init
 loop-segment-init g c = record {
   seen = record { query = refl; k = refl; ids = refl };
   within = omega arith;
+  buckets = refl;
+  costs = λ was docs t same is. told_itself g.met.P.Port.keeps_itself (λ m h. (
+    h.0,
+    sym same ∙ sym (before_end m.setting docs) ∙ ap (documents_before (cut m.setting docs)) (sym h.0.words.all),
+    h.1,
+    omega arith,
+  ));
   told = λ docs same. told_itself g.met.P.Port.keeps_itself (λ m v. (
     v,
     sym same ∙ sym (before_end m.setting docs) ∙ ap (documents_before (cut m.setting docs)) (sym v.words.all),
@@ -94,6 +108,43 @@ loop-segment-preserved-then-likely-segment g c =
     record {
       seen = record { query = took.seen.query ∙ inv.seen.query; k = took.seen.k ∙ inv.seen.k; ids = took.seen.ids ∙ inv.seen.ids };
       within = omega (arith, inv.within);
+      buckets = took.buckets ∙ inv.buckets;
+      costs = λ was docs t same is. record {
+        told = λ m st h.
+            let x = (inv.costs was docs t same is).told m st h in
+            let segs = cut x.0.setting docs in
+            let lawful = g.met.P.Port.lawful _ x.0 x.1 in
+            let s = is_step x.0 docs c.args.firsts.now c.args.begun older c.loop-segment.end lawful x.4.0 (omega (arith, inv.within)) (x.4.1 ∙ ap (documents_before segs) at) in
+            let part : List Doc = get_or segs older [] in
+            let start : get_or c.args.firsts.now older 0 - 1 ≡ documents_before segs older = omega (arith, s.word) in
+            let y = (took.costs was part t (omega (arith, s.word, s.next)) (inv.seen.query ∙ is)).told x.0 x.1 (s.first, x.4.2) in
+            let few = cut_short x.0 docs lawful x.4.0.accepted in
+            let more = loads_from_later c.args.likely.now was x.0 y.0 c.loop-segment.segment (c.args.begun - c.loop-segment.segment) t
+            lawful (g.met.P.Port.lawful _ y.0 y.1) y.2 x.4.2 (omega (arith, inv.within, x.4.0.words.all, few)) in
+            let one : c.args.begun - older ≡ suc (c.args.begun - c.loop-segment.segment) = omega (arith, inv.within, c.loop-segment-test.true) in
+            let loads = ap (λ (b : Bool). if b then word_loads was y.0 older t else 0) (inside_on c.args.likely.now older c.if-likely-segment.true) in (
+              y.0,
+              y.1,
+              later_on m x.0 y.0 x.2 y.2,
+              g.met.P.Port.keeps_on _ _ _ m x.0 y.0 x.3 y.3,
+              (
+                visible_later x.0 y.0 docs c.args.firsts.now c.args.begun y.2 x.4.0,
+                start_later x.0 y.0 docs older (get_or c.args.firsts.now older 0 - 1) y.2 start,
+                later_on was x.0 y.0 x.4.2 y.2,
+                omega (
+                  arith,
+                  x.4.3,
+                  y.4,
+                  more,
+                  loads,
+                  ap (λ k. match_loads k (match_count (word t) part)) inv.buckets,
+                  loads_segment (word t) docs part (length c.args.tally.now.buckets) (get_or c.args.firsts.now older 0 - 1) c.loop-segment.end (ap (λ n. drop n docs) start ∙ s.rest),
+                  ap (λ k. loads_from c.args.likely.now was y.0 older k t) one,
+                  ap (λ j. loads_from c.args.likely.now was y.0 j (c.args.begun - c.loop-segment.segment) t) (sym at),
+                ),
+              ),
+            );
+      };
       told = λ docs same. record {
         told = λ m st v.
             let x = (inv.told docs same).told m st v in
@@ -142,6 +193,34 @@ loop-segment-preserved g c =
     record {
       seen = inv.seen;
       within = omega (arith, inv.within);
+      buckets = inv.buckets;
+      costs = λ was docs t same is. record {
+        told = λ m st h.
+            let x = (inv.costs was docs t same is).told m st h in
+            let segs = cut x.0.setting docs in
+            let s = is_step x.0 docs c.args.firsts.now c.args.begun older c.loop-segment.end (g.met.P.Port.lawful _ x.0 x.1) x.4.0 (omega (arith, inv.within)) (x.4.1
+            ∙ ap (documents_before segs) at) in
+            let part : List Doc = get_or segs older [] in
+            let start : get_or c.args.firsts.now older 0 - 1 ≡ documents_before segs older = omega (arith, s.word) in
+            let one : c.args.begun - older ≡ suc (c.args.begun - c.loop-segment.segment) = omega (arith, inv.within, c.loop-segment-test.true) in (
+              x.0,
+              x.1,
+              x.2,
+              x.3,
+              (
+                x.4.0,
+                start,
+                x.4.2,
+                omega (
+                  arith,
+                  x.4.3,
+                  loads_segment (word t) docs part (length c.args.tally.now.buckets) (get_or c.args.firsts.now older 0 - 1) c.loop-segment.end (ap (λ n. drop n docs) start ∙ s.rest),
+                  ap (λ k. loads_from c.args.likely.now was x.0 older k t) one,
+                  ap (λ j. loads_from c.args.likely.now was x.0 j (c.args.begun - c.loop-segment.segment) t) (sym at),
+                ),
+              ),
+            );
+      };
       told = λ docs same. record {
         told = λ m st v.
             let x = (inv.told docs same).told m st v in
@@ -173,3 +252,11 @@ loop-segment-preserved g c =
             );
       };
     }
+
+pub returns-clause-costs : goal.returns-clause-costs
+returns-clause-costs g c = λ was docs t same is. record {
+  told = λ m st h.
+      let x = (c.loop-segment.invariant.costs was docs t same is).told m st h in
+      let back = loads_back c.args.likely.now was x.0 c.loop-segment.segment c.args.begun t c.loop-segment.invariant.within in
+      (x.0, x.1, x.2, x.3, omega (arith, x.4.3, back, loads_all (word t) docs (length c.args.tally.now.buckets) c.loop-segment.end));
+}

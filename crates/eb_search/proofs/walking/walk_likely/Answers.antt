@@ -1,20 +1,21 @@
-use Rattle.std.proofs.Common.{◌≡◌, ℕ, suc, subst, ◌<◌, ◌≤◌, ◌+◌, ◌-◌, List, [], ◌++◌, length, drop, get_or, ap, sym, ◌∙◌, arith, refl, append-nil}
+use Rattle.std.proofs.Common.{◌≡◌, ℕ, suc, subst, ◌<◌, ◌≤◌, ◌+◌, ◌-◌, Bool, if◌then◌else◌, List, [], ◌++◌, length, drop, get_or, ap, sym, ◌∙◌, arith, refl, append-nil}
 use Rattle.eb_base.specs.Document.{Doc}
 use Rattle.std.proofs.lemmas.List.{length-drop}
 use Rattle.eb_base.specs.Match.{answer}
 use Rattle.eb_base.specs.Setting.{Setting}
 use Rattle.eb_place.specs.Room.{cut}
 use Rattle.eb_place.proofs.LaterMoments.{later_on}
+use Rattle.eb_cursor.specs.Costs.{word_loads}
 use Rattle.eb_cursor.specs.Frames.{query_of, k_of, ids_of}
 use Rattle.eb_cursor.proofs.Tellings.{told_itself}
 use Rattle.eb_search.specs.Visible.{documents_before}
-use Rattle.eb_search.specs.Bounds.{loads_from, and_loads_from}
+use Rattle.eb_search.specs.Bounds.{loads_from, and_loads_in, and_loads_from}
 use Rattle.eb_search.proofs.AndBounded.{and_from_later, and_from_all, and_from_step}
 use Rattle.eb_search.proofs.Beginnings.{cut_short}
 use Rattle.eb_search.proofs.Bounded.{loads_from_later, loads_back}
 use Rattle.eb_search.proofs.Parts.{before_end}
 use Rattle.eb_search.proofs.Matches.{more_first, more_next, more_full}
-use Rattle.eb_search.proofs.Segments.{is_step, visible_later, start_later, none_later, inside_same}
+use Rattle.eb_search.proofs.Segments.{is_step, visible_later, start_later, none_later, inside_same, inside_on}
 use Rattle.eb_search.proofs.walking.walk_likely.Goals as goal
 
 pub loop-segment-init : goal.loop-segment-init
@@ -117,10 +118,11 @@ loop-segment-preserved-then-likely-segment g c =
             let older : ℕ = c.loop-segment.segment - 1 in
             let inside : older < x.0.setting.segments = omega (arith, inv.within, x.4.0, c.loop-segment-test.true) in
             let y = (c.take_matches.ensures.costs was t (inv.query ∙ is)).told x.0 x.1 (inside, x.4.1) in
-            let more = loads_from_later was x.0 y.0 c.loop-segment.segment (c.args.begun - c.loop-segment.segment) t
+            let more = loads_from_later c.args.likely.now was x.0 y.0 c.loop-segment.segment (c.args.begun - c.loop-segment.segment) t
             (g.met.P.Port.lawful _ x.0 x.1) (g.met.P.Port.lawful _ y.0 y.1) y.2 x.4.1 (omega (arith, inv.within, x.4.0)) in
             let one : c.args.begun - older ≡ suc (c.args.begun - c.loop-segment.segment) = omega (arith, inv.within, c.loop-segment-test.true) in
-            let two : older + 1 ≡ c.loop-segment.segment = omega (arith, c.loop-segment-test.true) in (
+            let two : older + 1 ≡ c.loop-segment.segment = omega (arith, c.loop-segment-test.true) in
+            let counts = ap (λ (b : Bool). if b then word_loads was y.0 older t else 0) (inside_on c.args.likely.now older c.if-likely-segment.true) in (
               y.0,
               y.1,
               later_on m x.0 y.0 x.2 y.2,
@@ -128,7 +130,15 @@ loop-segment-preserved-then-likely-segment g c =
               (
                 subst (λ σ. c.args.begun ≤ σ.segments) y.2.setting x.4.0,
                 later_on was x.0 y.0 x.4.1 y.2,
-                omega (arith, x.4.2, y.4, more, ap (λ k. loads_from was y.0 older k t) one, ap (λ j. loads_from was y.0 j (c.args.begun - c.loop-segment.segment) t) two),
+                omega (
+                  arith,
+                  x.4.2,
+                  y.4,
+                  more,
+                  counts,
+                  ap (λ k. loads_from c.args.likely.now was y.0 older k t) one,
+                  ap (λ j. loads_from c.args.likely.now was y.0 j (c.args.begun - c.loop-segment.segment) t) two,
+                ),
               ),
             );
       };
@@ -151,8 +161,9 @@ loop-segment-preserved-then-likely-segment g c =
               cut_short x.0 docs (g.met.P.Port.lawful _ x.0 x.1) x.4.0.accepted,
               here,
             ) in
-            let more = and_from_later x.0 y.0 c.loop-segment.segment ts rest (g.met.P.Port.lawful _ x.0 x.1) (g.met.P.Port.lawful _ y.0 y.1) y.2 inside in
-            let step = and_from_step y.0 older c.loop-segment.segment ts segs here at in (
+            let more = and_from_later c.args.likely.now x.0 y.0 c.loop-segment.segment ts rest (g.met.P.Port.lawful _ x.0 x.1) (g.met.P.Port.lawful _ y.0 y.1) y.2 inside in
+            let step = and_from_step c.args.likely.now y.0 older c.loop-segment.segment ts segs here at in
+            let counts = ap (λ (b : Bool). if b then and_loads_in y.0 older ts part else 0) (inside_on c.args.likely.now older c.if-likely-segment.true) in (
               y.0,
               y.1,
               later_on m x.0 y.0 x.2 y.2,
@@ -160,7 +171,17 @@ loop-segment-preserved-then-likely-segment g c =
               (
                 visible_later x.0 y.0 docs c.args.firsts.now c.args.begun y.2 x.4.0,
                 start_later x.0 y.0 docs older (get_or c.args.firsts.now older 0 - 1) y.2 start,
-                omega (arith, x.4.2, y.4, more, step, inv.within, c.loop-segment-test.true, ap (λ (σ : Setting). and_loads_from y.0 older ts (drop older (cut σ docs))) y.2.setting),
+                omega (
+                  arith,
+                  x.4.2,
+                  y.4,
+                  more,
+                  step,
+                  counts,
+                  inv.within,
+                  c.loop-segment-test.true,
+                  ap (λ (σ : Setting). and_loads_from c.args.likely.now y.0 older ts (drop older (cut σ docs))) y.2.setting,
+                ),
               ),
             );
       };
@@ -230,7 +251,7 @@ loop-segment-preserved g c =
               (
                 x.4.0,
                 x.4.1,
-                omega (arith, x.4.2, ap (λ k. loads_from was x.0 older k t) one, ap (λ j. loads_from was x.0 j (c.args.begun - c.loop-segment.segment) t) (sym at)),
+                omega (arith, x.4.2, ap (λ k. loads_from c.args.likely.now was x.0 older k t) one, ap (λ j. loads_from c.args.likely.now was x.0 j (c.args.begun - c.loop-segment.segment) t) (sym at)),
               ),
             );
       };
@@ -241,7 +262,7 @@ loop-segment-preserved g c =
             let s = is_step x.0 docs c.args.firsts.now c.args.begun older c.loop-segment.end (g.met.P.Port.lawful _ x.0 x.1) x.4.0 (omega (arith, inv.within)) (x.4.1
             ∙ ap (documents_before segs) at) in
             let here : older < length segs = omega (arith, inv.within, x.4.0.words.all, c.loop-segment-test.true) in
-            let step = and_from_step x.0 older c.loop-segment.segment ts segs here at in
+            let step = and_from_step c.args.likely.now x.0 older c.loop-segment.segment ts segs here at in
             (x.0, x.1, x.2, x.3, (x.4.0, omega (arith, s.word), omega (arith, x.4.2, step, inv.within, c.loop-segment-test.true)));
       };
       told = λ docs same. record {
@@ -292,14 +313,14 @@ pub returns-then-is_full-clause-costs : goal.returns-then-is_full-clause-costs
 returns-then-is_full-clause-costs g c = λ was t is. record {
   told = λ m st h.
       let x = (c.loop-segment.invariant.costs was t is).told m st h in
-      (x.0, x.1, x.2, x.3, omega (arith, x.4.2, loads_back was x.0 c.loop-segment.segment c.args.begun t c.loop-segment.invariant.within));
+      (x.0, x.1, x.2, x.3, omega (arith, x.4.2, loads_back c.args.likely.now was x.0 c.loop-segment.segment c.args.begun t c.loop-segment.invariant.within));
 }
 
 pub returns-clause-costs : goal.returns-clause-costs
 returns-clause-costs g c = λ was t is. record {
   told = λ m st h.
       let x = (c.loop-segment.invariant.costs was t is).told m st h in
-      (x.0, x.1, x.2, x.3, omega (arith, x.4.2, loads_back was x.0 c.loop-segment.segment c.args.begun t c.loop-segment.invariant.within));
+      (x.0, x.1, x.2, x.3, omega (arith, x.4.2, loads_back c.args.likely.now was x.0 c.loop-segment.segment c.args.begun t c.loop-segment.invariant.within));
 }
 
 -- ---- an and of words
@@ -308,12 +329,12 @@ pub returns-then-is_full-clause-rounds : goal.returns-then-is_full-clause-rounds
 returns-then-is_full-clause-rounds g c = λ docs ts same is. record {
   told = λ m st v.
       let x = (c.loop-segment.invariant.rounds docs ts same is).told m st v in
-      (x.0, x.1, x.2, x.3, omega (arith, x.4.2, c.loop-segment.invariant.within, and_from_all x.0 c.loop-segment.segment ts (cut x.0.setting docs)));
+      (x.0, x.1, x.2, x.3, omega (arith, x.4.2, c.loop-segment.invariant.within, and_from_all c.args.likely.now x.0 c.loop-segment.segment ts (cut x.0.setting docs)));
 }
 
 pub returns-clause-rounds : goal.returns-clause-rounds
 returns-clause-rounds g c = λ docs ts same is. record {
   told = λ m st v.
       let x = (c.loop-segment.invariant.rounds docs ts same is).told m st v in
-      (x.0, x.1, x.2, x.3, omega (arith, x.4.2, c.loop-segment.invariant.within, and_from_all x.0 c.loop-segment.segment ts (cut x.0.setting docs)));
+      (x.0, x.1, x.2, x.3, omega (arith, x.4.2, c.loop-segment.invariant.within, and_from_all c.args.likely.now x.0 c.loop-segment.segment ts (cut x.0.setting docs)));
 }

@@ -1,7 +1,8 @@
-//! One writer adds documents to four parts through rollovers, while a converter converts the closed segments and two
-//! readers search beside them. Each answer is what the definition makes of the lengths that the search names: of each
-//! part the plain scan over so many of its first documents, and of what these found the greatest ids. No part's length
-//! gets less for a reader, and a search that begins after the last add is over all documents.
+//! One writer adds documents to four parts through rollovers, while a converter converts the closed
+//! segments and two readers search. Each answer is what the definition makes of the lengths that
+//! the search names: of each part the plain scan over that many of its first documents, and of what
+//! these found the greatest ids. No part's length gets less for a reader, and a search that begins
+//! after the last add is over all documents.
 ghost use Rattle.std.specs.Prelude.{◌≡◌, length, IfOk};
 ghost use Rattle.eb_base.specs.Query.{tree};
 ghost use Rattle.eb_blend.specs.Frames.{Asks};
@@ -32,8 +33,8 @@ struct Asker {
     frame: BlendFrame,
 }
 
-// What a reader saw: whether each answer was right, the lengths that its last search named, how many searches it made,
-// and how many different sums of lengths these had.
+// What a reader saw: whether each answer was right, the lengths that its last search named, how
+// many searches it made, and how many different sums of lengths these had.
 #[derive(Clone, Copy, Debug)]
 struct Seen {
     right: bool,
@@ -42,7 +43,8 @@ struct Seen {
     sums: u64,
 }
 
-// Whether there is no document of this id: the parts 0 to 3 then have 400, 360, 390 and 350 of the ids below 1,600.
+// Whether there is no document of this id: the parts 0 to 3 then have 400, 360, 390 and 350 of the
+// ids below 1,600.
 fn is_left_out(id: u64) -> bool {
     id % 40 == 1 || id % 160 == 2 || id % 32 == 3
 }
@@ -72,7 +74,7 @@ fn made_documents(alloc: Global) -> Result<Documents, Fail> {
     Ok(Documents { all, parts })
 }
 
-// A reader of the writer, who asks this.
+// A reader of the writer, which asks this.
 fn asker_of(
     alloc: Global,
     blend: &Blend,
@@ -97,7 +99,8 @@ fn asker_of(
     })
 }
 
-// What the definition answers over so many of the first documents of each part; none where a part hasn't so many.
+// What the definition answers over this many of the first documents of each part; none where a part
+// hasn't as many.
 fn blended(
     alloc: Global,
     query: &Query,
@@ -124,8 +127,8 @@ fn is_blended(alloc: Global, query: &Query, parts: &[Vec<Document>], frame: &Ble
     }
 }
 
-// What is seen with one search more, which gave this count. Wrong where the count isn't the sum of the lengths that the
-// frame names, and where one of these is less than before.
+// What is seen with one search more, which gave this count. Wrong where the count isn't the sum of
+// the lengths that the frame names, and where one of these is less than before.
 fn with_search(seen: Seen, frame: &BlendFrame, count: u64) -> Seen {
     let [first, second, third, fourth] = frame.lengths() else {
         return Seen {
@@ -194,7 +197,7 @@ fn search_beside(
     seen
 }
 
-// Adds all documents, and gives the last count and the number of segments.
+// Adds all documents, and returns the last count and the number of segments.
 fn add_beside(
     blend: &Blend,
     writer: BlendWriter,
@@ -215,7 +218,8 @@ fn add_beside(
     (last, writer.segments())
 }
 
-// Converts until a round that began after the last add is done, and gives how many segments are converted.
+// Converts until a round that began after the last add is done, and returns how many segments are
+// converted.
 fn convert_beside(blend: &Blend, converter: BlendConverter, done: &AtomicU64) -> u32
     requires { converter.indexes ≡ blend.now.indexes }
 {

@@ -1,4 +1,5 @@
-//! Counts of the documents 1 to 30 in three parts; worked by hand. `b` is in those of even ids, `d` in those that 5 divides.
+//! Counts of the documents 1 to 30 in three parts; worked by hand. `b` is in those of even ids, `d`
+//! in those that 5 divides.
 ghost use Rattle.std.specs.Prelude.{◌≡◌, ◌<◌};
 
 use super::made::{added, word};

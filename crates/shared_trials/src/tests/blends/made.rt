@@ -82,8 +82,8 @@ pub(super) fn searched(
     search_alone::<Brand>(reader, blend, frame, gate, Blank::new(1))
 }
 
-// What a new reader finds of a query in so many parts, at most `k` ids: a frame with the ids, the number of documents, and the
-// counts that the gate heard of, summed.
+// What a new reader finds of a query in `parts` parts, at most `k` ids: a frame with the ids, the
+// number of documents, and the sum of the counts that the gate observed.
 pub(super) fn asked(
     alloc: Global,
     blend: &Blend,

@@ -26,7 +26,7 @@ fn add_all(
     Ok(())
 }
 
-// Looks that the documents with `a` in two parts are these, among so many in each part.
+// Asserts that the documents with `a` in two parts are these, among this many in each part.
 fn finds(
     rt: &impl Abort,
     alloc: Global,

@@ -1,4 +1,4 @@
-//! Some hundred documents beside the plain scan of one history.
+//! Some hundred documents, compared with the plain scan of one history.
 ghost use Rattle.std.specs.Prelude.{◌≡◌, length};
 
 use super::made::{asked, document, word};
@@ -57,7 +57,7 @@ fn add(
     ask(rt, alloc, blend, writer, history.as_slice())
 }
 
-// Adds so many made documents, and asks after each.
+// Adds this many made documents, and asks after each.
 fn fill(
     rt: &impl Abort,
     alloc: Global,

@@ -1,4 +1,5 @@
-//! The parts of a blend add side by side, and what comes of each document is what comes of it one after the other.
+//! The parts of a blend add concurrently, and what comes of each document is what comes of it one
+//! after the other.
 use super::made::document;
 use eb_base::{Config, Document, Gate, OpenGate, Point};
 use eb_blend::{Blend, BlendRefusal};
@@ -7,7 +8,8 @@ use std::sync::atomic::{AtomicU64, Ordering};
 use std::test::Fail;
 use std::thread;
 
-// A gate at which two adds meet: each is held until another came there, for at most 10,000,000 turns.
+// A gate at which two adds meet: each is held until another came there, for at most 10,000,000
+// turns.
 #[derive(Drop)]
 struct Meeting {
     came: AtomicU64,
@@ -35,7 +37,7 @@ impl Gate for Meeting {
     }
 }
 
-// Documents of these ids, and behind each tenth of them an item that is none.
+// Documents of these ids, and after each tenth of them an item that is none.
 fn items(alloc: Global, ids: &[u64]) -> Result<Vec<Result<Document, u64>>, Fail> {
     let mut items = Vec::new(alloc);
     for id in ids {
@@ -74,8 +76,8 @@ fn two_parts_add_at_once(rt: HostRuntime) -> Result<(), Fail> {
     Ok(())
 }
 
-// Two parts have room for 20 documents each. The ids 1 to 40 fill them, and 41 to 44 find none; 40 isn't above the last one, and
-// 41 is, since it wasn't accepted.
+// Two parts have room for 20 documents each. The ids 1 to 40 fill them, and 41 to 44 find none; 40
+// isn't above the last one, and 41 is, since it wasn't accepted.
 #[test]
 fn each_document_is_told_of(rt: HostRuntime) -> Result<(), Fail> {
     let alloc = rt.alloc();

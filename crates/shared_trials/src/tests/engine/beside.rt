@@ -1,6 +1,6 @@
-//! One writer adds documents through rollovers, while a converter converts the closed segments and two readers search
-//! beside them, by a query of each form. Each answer is that of the plain scan over the first documents, as many as the search says, and these
-//! never get fewer for a reader.
+//! One writer adds documents through rollovers, while a converter converts the closed segments and
+//! two readers search, by a query of each form. Each answer is that of the plain scan over the
+//! first documents, as many as the search says, and these never get fewer for a reader.
 ghost use Rattle.std.specs.Prelude.{◌≡◌};
 
 use super::made::{Question, added, documents, is_scanned, question_of, searched};
@@ -11,7 +11,8 @@ use std::test::Fail;
 use std::thread;
 use std::thread::Threads;
 
-// Searches until all documents are seen: whether each answer was right, and none over fewer documents than before.
+// Searches until all documents are seen: whether each answer was right, and none over fewer
+// documents than before.
 fn search_beside(
     alloc: Global,
     index: &Index,
@@ -37,7 +38,7 @@ fn search_beside(
     false
 }
 
-// Adds all documents, and gives the last count.
+// Adds all documents, and returns the last count.
 fn add_beside(index: &Index, writer: Writer, documents: &[Document]) -> u64
     requires { writer.index ≡ index.now }
 {
@@ -52,7 +53,7 @@ fn add_beside(index: &Index, writer: Writer, documents: &[Document]) -> u64
     last
 }
 
-// Converts until so many segments are converted, and gives their number.
+// Converts until this many segments are converted, and returns their number.
 fn convert_beside(index: &Index, converter: Converter, most: u32) -> u32
     requires { converter.index ≡ index.now }
 {
@@ -115,7 +116,8 @@ fn convert_and_search<R: Threads + Sync>(
     )
 }
 
-// A writer, a converter and two readers, which ask the queries of two numbers, each on a thread of its own.
+// A writer, a converter and two readers, which ask the queries of two numbers, each on a thread of
+// its own.
 fn all_beside<R: Threads + Sync>(
     rt: &R,
     alloc: Global,

@@ -1,5 +1,5 @@
-//! A query of each form over converted and unconverted segments of one index, before and after each conversion: each
-//! answer is that of the plain scan.
+//! A query of each form over converted and unconverted segments of one index, before and after each
+//! conversion: each answer is that of the plain scan.
 ghost use Rattle.std.specs.Prelude.{◌≡◌};
 
 use super::made::{Question, added, documents, is_scanned, question_of, searched};

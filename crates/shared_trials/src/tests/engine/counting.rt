@@ -1,5 +1,5 @@
-//! Counts of the documents 0 to 389 over four segments, before and after two of these are converted; worked by hand. `d` is in
-//! each document, `a` in those of even ids.
+//! Counts of the documents 0 to 389 over four segments, before and after two of these are
+//! converted; worked by hand. `d` is in each document, `a` in those of even ids.
 ghost use Rattle.std.specs.Prelude.{◌≡◌, ◌<◌};
 
 use super::conversions::add_all;
@@ -45,7 +45,8 @@ fn count_by_reader<L: Ledger>(
     reader.count(index, frame, tally, &OpenGate, &mut steps)
 }
 
-// Counts twice into one tally, by the writer and by a reader, after the tally is cleared: each adds the same.
+// Counts twice into one tally, by the writer and by a reader, after the tally is cleared: each adds
+// the same.
 fn counted(index: &Index, writer: &mut Writer, frame: &mut Frame, tally: &mut Tally) -> (u64, u64)
     requires { writer.old.index ≡ index.now }
     ensures { writer.new.index ≡ index.now }
@@ -57,7 +58,8 @@ fn counted(index: &Index, writer: &mut Writer, frame: &mut Frame, tally: &mut Ta
     (first, second)
 }
 
-// What is counted of a term twice: in all, and in the buckets 10 to 109, 110 to 209, 210 to 309 and 310 to 409.
+// What is counted of a term twice: in all, and in the buckets 10 to 109, 110 to 209, 210 to 309 and
+// 310 to 409.
 const COUNTS: [(&[u8], u64, [u64; 4]); 4] = [
     (b"d", 780, [200, 200, 200, 160]),
     (b"a", 390, [100, 100, 100, 80]),

@@ -1,5 +1,6 @@
-//! A search that is held after the load of its count, while the writer adds a document on a second thread and the
-//! converter converts on a third; and an index that fills up and is converted meanwhile.
+//! A search that is held after the load of its count, while the writer adds a document on a second
+//! thread and the converter converts on a third; and an index that fills up and is converted
+//! meanwhile.
 ghost use Rattle.std.specs.Prelude.{◌≡◌, IfOk};
 ghost use mathlib.Core.List.{IsPrefix};
 
@@ -94,7 +95,8 @@ fn late_convert(
     converted
 }
 
-// One thread adds a document when the first flag is up; the other then converts, and puts the second up.
+// One thread adds a document when the first flag is up; the other then converts, and puts the
+// second up.
 fn add_and_convert<R: Threads + Sync>(
     rt: &R,
     index: &Index,
@@ -121,7 +123,8 @@ fn add_and_convert<R: Threads + Sync>(
     )
 }
 
-// One thread searches, and is held after the load of its count; meanwhile another adds a document, and a third converts.
+// One thread searches, and is held after the load of its count; meanwhile another adds a document,
+// and a third converts.
 fn overlapping<R: Threads + Sync>(
     rt: &R,
     index: &Index,
@@ -160,8 +163,8 @@ fn opened(alloc: Global) -> Result<(Index, Writer, Converter), Fail>
     Ok(Index::open(alloc, Config::new(2, 2, 1024)?)?)
 }
 
-// Adds the documents with ids 1 to 5, and converts once after the second and twice after the third: what the adds
-// answer, and what the conversions do.
+// Adds the documents with ids 1 to 5, and converts once after the second and twice after the third:
+// what the adds answer, and what the conversions do.
 fn fill(
     alloc: Global,
     index: &Index,
@@ -185,8 +188,8 @@ fn fill(
     Ok((counts, conversions))
 }
 
-// Tells the converter and the writer what readers of the writer know: the length of the history then, the number of its
-// segments, and that of the converted ones.
+// The converter and the writer learn what readers of the writer know: the length of the history
+// then, the number of its segments, and that of the converted ones.
 fn told(index: &Index, writer: Writer, converter: Converter) -> (u64, u32, u32)
     requires writer { writer.index ≡ index.now }
     requires converter { converter.index ≡ index.now }
@@ -211,7 +214,7 @@ fn with_two(alloc: Global) -> Result<(Index, Writer, Converter), Fail>
     Ok((index, writer, converter))
 }
 
-// Looks that a search by a reader is over so many documents, and finds these.
+// Asserts that a search by a reader is over this many documents, and finds these.
 fn finds(rt: &impl Abort, reader: &mut Reader, index: &Index, frame: &mut Frame, ids: &[u64])
     requires { reader.old.index ≡ index.now }
     ensures { reader.new.index ≡ reader.old.index }
@@ -221,7 +224,7 @@ fn finds(rt: &impl Abort, reader: &mut Reader, index: &Index, frame: &mut Frame,
     assert_eq!(rt; frame.ids(), ids);
 }
 
-// Looks that another reader and one that is told of the third document find it.
+// Asserts that another reader, and one that learned of the third document, find it.
 fn find_the_third(
     rt: &impl Abort,
     index: &Index,

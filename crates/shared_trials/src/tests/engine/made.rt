@@ -74,8 +74,8 @@ fn without(alloc: Global, first: &[u8], second: &[u8]) -> Result<Query, Fail> {
     Ok(Query::And(both(alloc, word(alloc, first)?, other)?))
 }
 
-// The query of a number below 7: a word of each document, `a` without `b`, `b` or `c`, `a` before `b`, `a` and `d` within two
-// places, `c` from id 57 on, and `b` before `d` or `c` without `a`.
+// The query of a number below 7: a word of each document, `a` without `b`, `b` or `c`, `a` before
+// `b`, `a` and `d` within two places, `c` from id 57 on, and `b` before `d` or `c` without `a`.
 fn query(alloc: Global, number: u32) -> Result<Query, Fail> {
     match number {
         0 => word(alloc, b"d"),

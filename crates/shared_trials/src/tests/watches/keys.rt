@@ -1,11 +1,12 @@
-//! What queries of each kind, and so with keys of each kind, are told of.
+//! Which documents match queries of each kind, and so with keys of each kind.
 use super::made::{both, either, matched, no_word, phrase, set, window, word};
 use eb_base::{NoMemory, Query};
 use eb_watch::{SetFault, Watches};
 use std::alloc::Global;
 use std::test::Fail;
 
-// The query of each of the watches 1 to 8: some with a key of one term, one with a key of two, and some without one.
+// The query of each of the watches 1 to 8: some with a key of one term, one with a key of two, and
+// some without one.
 fn query(alloc: Global, number: u32) -> Result<Query, NoMemory> {
     match number {
         1 => word(alloc, b"a"),

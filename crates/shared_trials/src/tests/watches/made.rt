@@ -109,7 +109,7 @@ fn added(
     added_counted::<Brand>(alloc, watches, index, writer, document, gate, Blank::new(1))
 }
 
-// Adds a document of these terms with this gate, and tells the watches that it matches.
+// Adds a document of these terms with this gate, and finds the watches that it matches.
 pub(super) fn told(
     alloc: Global,
     watches: &Watches,

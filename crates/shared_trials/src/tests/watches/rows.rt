@@ -1,4 +1,4 @@
-//! Watches that are set, removed and told.
+//! Watches that are set, removed and matched.
 ghost use Rattle.std.specs.Prelude.{◌≡◌};
 
 use super::super::heard::Heard;
@@ -10,7 +10,8 @@ use std::alloc::Global;
 use std::process::Abort;
 use std::test::Fail;
 
-// Adds a document of these terms, and looks that it is this one, that the gate hears of it, and that these watches are told.
+// Adds a document of these terms, and asserts that it is this one, that the gate observes it, and
+// that it matches these watches.
 fn tells(
     rt: &impl Abort,
     alloc: Global,
@@ -57,8 +58,8 @@ fn a_document_is_told_to_those_it_matches(rt: HostRuntime) -> Result<(), Fail> {
     tells(&rt, alloc, &watches, &index, &mut writer, &[b"a"], (2, &[]))
 }
 
-// Whether there is no watch at first; what the removal of one answers then, and what it answers when one is set twice; and how
-// many there are in the end.
+// Whether there is no watch at first; what the removal of one answers then, and what it answers
+// when one is set twice; and how many there are in the end.
 fn set_twice(alloc: Global) -> (bool, Result<(), NoWatch>, [Result<(), SetFault>; 2], usize) {
     let mut watches = Watches::new(alloc);
     let is_empty = watches.is_empty();
@@ -83,7 +84,8 @@ fn fill(alloc: Global, watches: &mut Watches) -> Result<(), SetFault> {
     Ok(())
 }
 
-// The watches of which none can be set: 10,000 for `a`, but for the number 7; and one for `b` of the number 10,000.
+// The watches of which none can be set: 10,000 for `a`, but for the number 7; and one for `b` of
+// the number 10,000.
 fn full(alloc: Global) -> Result<Watches, Fail> {
     let mut watches = Watches::new(alloc);
     fill(alloc, &mut watches)?;
@@ -92,7 +94,8 @@ fn full(alloc: Global) -> Result<Watches, Fail> {
     Ok(watches)
 }
 
-// What it answers when 10,000 are set, then a further one, and then one of the same number; and how many there are in the end.
+// What it answers when 10,000 are set, then a further one, and then one of the same number; and how
+// many there are in the end.
 fn overfilled(alloc: Global) -> ([Result<(), SetFault>; 3], usize) {
     let mut watches = Watches::new(alloc);
     let filled = fill(alloc, &mut watches);

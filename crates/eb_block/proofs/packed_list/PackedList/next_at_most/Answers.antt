@@ -1,6 +1,7 @@
 use Rattle.std.proofs.Common.{Bool, sym, ◌∙◌, refl, subst, arith}
 use Rattle.eb_place.proofs.LaterMoments.{later_on}
-use Rattle.eb_block.specs.Reading.{ListStands, up_to}
+use Rattle.eb_place.specs.Postings.{at_most}
+use Rattle.eb_block.specs.Reading.{ListStands}
 use Rattle.eb_block.proofs.Loads.{seek_few, seek_near}
 use Rattle.eb_block.proofs.Standing.{at_low, gives_some}
 use Rattle.eb_block.proofs.packed_list.PackedList.next_at_most.Goals as goal
@@ -35,7 +36,7 @@ returns-then-self-most g c = record {
         let q = c.seek_near.new.self in
         let low = at_low n.0 s t q n.4.0 n.4.1 c.args.most n.4.2 c.if-self-most.true c.seek_near.ensures.near in
         let end = subst (λ zs. ListStands n.0 s t q zs n.4.1) (sym low ∙ n.4.4) n.4.2 in
-        let k = (c.give.ensures.told s t (up_to c.args.most rest) n.4.1).told n.0 n.1 end in
+        let k = (c.give.ensures.told s t (at_most c.args.most rest) n.4.1).told n.0 n.1 end in
         (k.0, k.1, later_on m n.0 k.0 n.2 k.2, g.met.P.Port.keeps_on _ _ _ m n.0 k.0 n.3 k.3, (k.4.0, k.4.1, omega (arith, n.4.3, k.4.2))));
   };
 }
@@ -70,7 +71,7 @@ returns-then-found g c = record {
         let k = (c.seek_inside-found.ensures.told s t n.4.0 n.4.1).told n.0 n.1 n.4.2 in
         let q = record c.seek_inside-found.new.self { held = c.seek_inside-found.result } in
         let end = subst (λ zs. ListStands k.0 s t q zs k.4.0) n.4.4 k.4.1 in
-        let gives = gives_some k.0 s t q (up_to c.args.most rest) k.4.0 end c.if-found.true in
+        let gives = gives_some k.0 s t q (at_most c.args.most rest) k.4.0 end c.if-found.true in
         (k.0, k.1, later_on m n.0 k.0 n.2 k.2, g.met.P.Port.keeps_on _ _ _ m n.0 k.0 n.3 k.3, (k.4.0, gives, omega (arith, n.4.3, k.4.2))));
   };
 }
@@ -83,10 +84,10 @@ give-requires-2 g c =
       k.0,
       r.1,
       r.2,
-      up_to c.args.most n.4.0,
+      at_most c.args.most n.4.0,
       k.4.0,
       k.1,
-      subst (λ (x : Bool). ListStands k.0 r.1 r.2 record c.seek_inside-found.new.self { held = x } (up_to c.args.most n.4.0) k.4.0) c.if-found.false k.4.1,
+      subst (λ (x : Bool). ListStands k.0 r.1 r.2 record c.seek_inside-found.new.self { held = x } (at_most c.args.most n.4.0) k.4.0) c.if-found.false k.4.1,
     )
 
 pub returns : goal.returns
@@ -113,8 +114,8 @@ returns g c = record {
         let k = (c.seek_inside-found.ensures.told s t n.4.0 n.4.1).told n.0 n.1 n.4.2 in
         let q = record c.seek_inside-found.new.self { held = c.seek_inside-found.result } in
         let end = subst (λ zs. ListStands k.0 s t q zs k.4.0) n.4.4 k.4.1 in
-        let free = subst (λ (x : Bool). ListStands k.0 s t record c.seek_inside-found.new.self { held = x } (up_to c.args.most rest) k.4.0) c.if-found.false end in
-        let v = (c.give-2.ensures.told s t (up_to c.args.most rest) k.4.0).told k.0 k.1 free in (
+        let free = subst (λ (x : Bool). ListStands k.0 s t record c.seek_inside-found.new.self { held = x } (at_most c.args.most rest) k.4.0) c.if-found.false end in
+        let v = (c.give-2.ensures.told s t (at_most c.args.most rest) k.4.0).told k.0 k.1 free in (
           v.0,
           v.1,
           later_on m k.0 v.0 (later_on m n.0 k.0 n.2 k.2) v.2,

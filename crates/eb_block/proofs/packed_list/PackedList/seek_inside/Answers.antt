@@ -1,6 +1,7 @@
 use Rattle.std.proofs.Common.{◌≤◌, false, leb, refl, ap, sym, ◌∙◌, subst, arith}
 use Rattle.eb_place.proofs.LaterMoments.{later_self, later_on}
-use Rattle.eb_block.specs.Reading.{ListStands, remaining, up_to}
+use Rattle.eb_place.specs.Postings.{at_most}
+use Rattle.eb_block.specs.Reading.{ListStands, remaining}
 use Rattle.eb_block.proofs.Copies.{same_block}
 use Rattle.eb_block.proofs.Standing.{drop_held, at_end, stopped, stopped_fewer}
 use Rattle.eb_block.proofs.packed_list.PackedList.seek_inside.Goals as goal
@@ -74,7 +75,7 @@ returns g c =
               g.met.P.Port.keeps_on c.args.port.now c.above.port c.pass_above.new.port m n.0 k.0 n.3 k.3,
               (
                 k.4.1,
-                subst (λ z. ListStands k.0 s t record z { held = leb q.last c.args.most } (up_to c.args.most rest) k.4.1) same done,
+                subst (λ z. ListStands k.0 s t record z { held = leb q.last c.args.most } (at_most c.args.most rest) k.4.1) same done,
                 omega (arith, n.4.3, k.4.3),
               ),
             ));

@@ -1,4 +1,4 @@
-use Rattle.std.proofs.Common.{◌<◌, ◌+◌, ◌==◌, ap, sym, ◌∙◌, subst, arith}
+use Rattle.std.proofs.Common.{◌+◌, ◌==◌, ap, sym, ◌∙◌, subst, arith}
 use Rattle.std.proofs.lemmas.Nat.Bits.{bit_at-zero}
 use Rattle.eb_bloom.proofs.MarkBits.{Marked, marked_one, marked_none}
 use Rattle.eb_bloom.proofs.filters.Filters.marks.Goals.{then-has_noted, else-has_noted}

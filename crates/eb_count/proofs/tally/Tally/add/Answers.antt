@@ -1,4 +1,4 @@
-use Rattle.std.proofs.Common.{◌≡◌, ℕ, ◌+◌, ◌-◌, ◌/◌, ◌≤◌, ◌<◌, List, length, get_or, set, refl, subst, ◌∙◌, arith}
+use Rattle.std.proofs.Common.{◌≡◌, ℕ, ◌-◌, ◌/◌, ◌<◌, length, get_or, set, refl, subst, ◌∙◌, arith}
 use Rattle.eb_count.specs.Tallies.{HasAdded, raised}
 use Rattle.eb_count.proofs.Counting.{added_in, inside_same}
 use Rattle.eb_count.proofs.tally.Tally.add.Goals as goal

@@ -6,4 +6,6 @@ pub invariant_of-self : goal.invariant_of-self
 invariant_of-self g c = worker_took [] g.J.Job.pair g.J.Job.answer_pair g.J.Job.made g.J.Job.answer_made _ _ _ _ c.self.invariant c.sure_task.ensures.pass.2 c.sure_task.ensures.moved
 
 pub returns : goal.returns
-returns g c = worker_takes [] g.J.Job.pair g.J.Job.answer_pair g.J.Job.made g.J.Job.answer_made c.sure_task.result c.self.inside.jobs c.sure_task.new.pass c.self.inside.answers _ c.self.view_is c.self.invariant c.sure_task.ensures.pass.0 c.sure_task.ensures.moved
+returns g c =
+    worker_takes [] g.J.Job.pair g.J.Job.answer_pair g.J.Job.made g.J.Job.answer_made
+    c.sure_task.result c.self.inside.jobs c.sure_task.new.pass c.self.inside.answers _ c.self.view_is c.self.invariant c.sure_task.ensures.pass.0 c.sure_task.ensures.moved

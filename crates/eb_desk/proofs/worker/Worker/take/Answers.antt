@@ -6,4 +6,6 @@ pub invariant_of-self : goal.invariant_of-self
 invariant_of-self g c = worker_took [] g.J.Job.pair g.J.Job.answer_pair g.J.Job.made g.J.Job.answer_made _ _ _ _ c.self.invariant c.take_task.ensures.pass.2 c.take_task.ensures.moved
 
 pub returns : goal.returns
-returns g c = worker_takes [] g.J.Job.pair g.J.Job.answer_pair g.J.Job.made g.J.Job.answer_made c.take_task.result c.self.inside.jobs c.take_task.new.pass c.self.inside.answers _ c.self.view_is c.self.invariant c.take_task.ensures.pass.0 c.take_task.ensures.moved
+returns g c =
+    worker_takes [] g.J.Job.pair g.J.Job.answer_pair g.J.Job.made g.J.Job.answer_made
+    c.take_task.result c.self.inside.jobs c.take_task.new.pass c.self.inside.answers _ c.self.view_is c.self.invariant c.take_task.ensures.pass.0 c.take_task.ensures.moved

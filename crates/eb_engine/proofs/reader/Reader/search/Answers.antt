@@ -1,13 +1,10 @@
-use Rattle.std.proofs.Common.{ℕ, ◌≤◌, List, length, ap, sym, ◌∙◌, subst, arith}
-use Rattle.std.proofs.lemmas.List.{length-take-le}
+use Rattle.std.proofs.Common.{ℕ, ◌≤◌, List, [], ap, ◌∙◌, subst}
 use Rattle.eb_place.proofs.LaterMoments.{later_on}
-use Rattle.eb_place.proofs.Prefixes.{prefix_length}
-use Rattle.eb_cursor.specs.Frames.{ids_of}
-use Rattle.eb_engine.specs.Loads.{IsWithinBound, IsWithinAndBound}
 use Rattle.eb_table.specs.Known.{Words}
 use mathlib.Core.List.{IsPrefix}
 use Rattle.eb_base.specs.Document.{Doc}
 use Rattle.eb_engine.specs.Tokens.{HistoryToken, first_of}
+use Rattle.eb_engine.proofs.Bounded.{bounded, and_bounded, counted_then}
 use Rattle.eb_engine.proofs.Knows.{finds_more, front_of}
 use Rattle.eb_engine.proofs.reader.Reader.search.Goals as goal
 
@@ -20,35 +17,14 @@ returns-clause-known g c =
 pub returns-clause-loads : goal.returns-clause-loads
 returns-clause-loads g c = λ t is.
     let was = c.self.inside.seat.moment in
-    let now = c.search_words-count.new.seat.moment in
     let e = c.search_words-count.ensures in
-    let all : List Doc = now.documents.accepted in
-    let n : ℕ = c.search_words-count.result in
-    let long : n ≤ length all = omega (arith, e.answer.count, prefix_length _ _ e.answer.before.documents.accepted) in
-    record {
-      was = was;
-      now = now;
-      is = e.made.moment;
-      later = later_on _ _ _ e.answer.after e.answer.before;
-      setting = e.made.setting ∙ ap (λ (w : Words). w.setting) c.index.view_is;
-      knew_then = subst (λ (docs : List Doc). IsPrefix docs was.documents.accepted) (ap (λ (t : HistoryToken). t.docs) c.self.view_is) (front_of c.self.inside.seen was.documents.accepted);
-      packed_then = subst (λ (k : ℕ). k ≤ was.conversions.converted) (ap (λ (t : HistoryToken). t.converted) c.self.view_is) c.self.invariant.2;
-      knows_now = front_of n all;
-      loads = subst (λ k. IsWithinBound was now t k (length (ids_of c.search_words-count.new.frame)) c.args.steps.now c.search_words-count.new.steps) (sym (length-take-le n all long)) (e.loads t is);
-    }
+    let knew = subst (λ (docs : List Doc). IsPrefix docs was.documents.accepted) (ap (λ (t : HistoryToken). t.docs) c.self.view_is) (front_of c.self.inside.seen was.documents.accepted) in
+    let packed = subst (λ (k : ℕ). k ≤ was.conversions.converted) (ap (λ (t : HistoryToken). t.converted) c.self.view_is) c.self.invariant.2 in
+    bounded [] was _ _ _ e.made.moment (e.made.setting ∙ ap (λ (w : Words). w.setting) c.index.view_is) (counted_then _ _ _ e.answer.count e.answer.before)
+    _ _ t _ _ _ (later_on _ _ _ e.answer.after e.answer.before) knew packed (e.loads t is)
 
 pub returns-clause-rounds : goal.returns-clause-rounds
 returns-clause-rounds g c = λ ts is.
-    let now = c.search_words-count.new.seat.moment in
     let e = c.search_words-count.ensures in
-    let all : List Doc = now.documents.accepted in
-    let n : ℕ = c.search_words-count.result in
-    let long : n ≤ length all = omega (arith, e.answer.count, prefix_length _ _ e.answer.before.documents.accepted) in
-    record {
-      now = now;
-      is = e.made.moment;
-      setting = e.made.setting ∙ ap (λ (w : Words). w.setting) c.index.view_is;
-      knows_now = front_of n all;
-      loads = subst (λ k. IsWithinAndBound now ts k (length (ids_of c.search_words-count.new.frame)) c.args.steps.now c.search_words-count.new.steps)
-          (sym (length-take-le n all long)) (e.rounds ts is);
-    }
+    and_bounded [] c.self.inside.seat.moment _ _ _ e.made.moment (e.made.setting ∙ ap (λ (w : Words). w.setting) c.index.view_is)
+    (counted_then _ _ _ e.answer.count e.answer.before) ts _ _ _ (e.rounds ts is)

@@ -1,4 +1,4 @@
-use Rattle.std.proofs.Common.{◌≡◌, ◌<◌, ◌≤◌, ◌-◌, List, length, get_or, reverse, ap, sym, ◌∙◌, subst, arith, length-append, inr, []}
+use Rattle.std.proofs.Common.{◌≡◌, ◌<◌, ◌-◌, List, length, get_or, reverse, ap, sym, ◌∙◌, subst, arith, length-append, inr, []}
 use Rattle.std.proofs.lemmas.List.{with_items_is}
 use mathlib.Core.List.{IsPrefix}
 use Rattle.eb_base.specs.Document.{Doc}
