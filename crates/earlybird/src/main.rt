@@ -1,5 +1,5 @@
-//! The program `earlybird`: hands the words of its command line to `run`, or those after the word `feed` to `run_feed`, with
-//! standard input, standard output and standard error.
+//! The program `earlybird`: `main` reads the command line and calls `run`, or `run_feed` with the
+//! words after `feed`, with standard input, standard output and standard error.
 #![tactic(auto)]
 
 ghost use Rattle.std.specs.Prelude.{◌≡◌, ◌↔◌};
@@ -40,7 +40,8 @@ fn main(rt: HostRuntime) -> ExitCode {
     ExitCode::from(status.code())
 }
 
-// The words of the command line, without the program's name. Where they can't be read, how the program ends.
+// The words of the command line, without the program's name. Where they can't be read, how the
+// program ends.
 fn read_words(rt: &(impl Env + AllocGlobal), alloc: Global) -> Result<Vec<String>, Status> {
     match env::args(rt) {
         Ok(args) => args.skip(1).collect(alloc).map_err(|_| Status::NoMemory),
@@ -48,8 +49,8 @@ fn read_words(rt: &(impl Env + AllocGlobal), alloc: Global) -> Result<Vec<String
     }
 }
 
-// How the program ends where its words can't be read for this cause: for want of memory, or since a word isn't UTF-8, which
-// asks for no command.
+// How the program ends where its words can't be read for this cause: out of memory, or since a word
+// isn't UTF-8, which is an invalid command line.
 fn without_words(kind: ErrorKind) -> Status
     ensures memory { result ≡ Status.NoMemory ↔ kind ≡ ErrorKind.OutOfMemory }
     ensures usage { (kind ≡ ErrorKind.OutOfMemory → ⊥) → result ≡ Status.Usage }

@@ -1,4 +1,4 @@
--- Lines that wait stay where they are while others are put behind them.
+-- Lines that wait stay where they are while others are put after them.
 use Rattle.std.proofs.Common.{◌≡◌, ℕ, suc, ◌-◌, ◌≤◌, List, [], ◌∷◌, ◌++◌, length, map, take, drop, Option, Some, None, refl, ap, ap₂, ◌∙◌, arith, length-drop}
 use Rattle.std.specs.List.{All}
 use Rattle.std.proofs.lemmas.List.{drop-append-le, take-append-le, map-append}

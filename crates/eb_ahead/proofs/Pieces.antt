@@ -12,7 +12,7 @@ module _ {X Y : Type 0} (R : X → Y → Type 0) where
       let all = take (n + m) xs in
       ap₂ (λ zs ws. zs ++ ws) (sym (take-take n (n + m) xs (omega arith))) (sym (drop-take n m xs)) ∙ take-append-drop n all
 
-  -- a piece more
+  -- one more piece
   pub next_piece : (n m : ℕ) (xs : List X) (ys zs : List Y) → AllZip R (take n xs) ys → AllZip R (take m (drop n xs)) zs → AllZip R (take (n + m) xs) (ys ++ zs)
   next_piece n m xs ys zs h k = subst (λ ws. AllZip R ws (ys ++ zs)) (take_both n m xs) (AllZip-append R (take n xs) (take m (drop n xs)) ys zs h k)
 

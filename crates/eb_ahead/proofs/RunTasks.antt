@@ -14,7 +14,7 @@ use Rattle.eb_lines.specs.Reading.{Reading, blank, document, query, refused}
 use Rattle.eb_lines.specs.Reads.{ReadsByKind}
 use Rattle.eb_ahead.specs.declared.reading.Other.{Other}
 use Rattle.eb_ahead.specs.declared.reading.Other.TheVariants.{Blank, Ask, Refuse, Leave}
-use Rattle.eb_ahead.specs.Tasks.{IsTaskOfKind, IsLeft, IsTaskBy, IsTaskOf, is_run_task, AreRun, cause, cause_line, one_cause, run_text, run_refused}
+use Rattle.eb_ahead.specs.Tasks.{IsTaskOfKind, IsLeftToStore, IsTaskBy, IsTaskOf, is_run_task, AreRun, cause, cause_line, one_cause, run_text, run_refused}
 
 -- ---- the first lines that may be added at once
 
@@ -44,14 +44,14 @@ of_kind how k bytes (Err (Ask q)) h = h.1
 of_kind how k bytes (Err (Refuse x)) h = h
 of_kind how k bytes (Err Leave) h = absurd h
 
-by_kind : (other : Dialect → List ℕ → Reading → Type 0) (how : Dialect) (k : Kind) (bytes : List ℕ) (task : Result Doc Other) → (IsLeft task → ⊥)
+by_kind : (other : Dialect → List ℕ → Reading → Type 0) (how : Dialect) (k : Kind) (bytes : List ℕ) (task : Result Doc Other) → (IsLeftToStore task → ⊥)
     → IsTaskBy how k bytes task → ReadsKind other how k bytes (raw_reading task)
 by_kind other how blank_line bytes task kept h = of_kind how blank_line bytes task h
 by_kind other how document_line bytes task kept h = of_kind how document_line bytes task h
 by_kind other how query_line bytes task kept h = of_kind how query_line bytes task h
 by_kind other how bad_line bytes task kept h = absurd (kept h)
 
-pub reads_raw : (other : Dialect → List ℕ → Reading → Type 0) (how : Dialect) (l : Line) (task : Result Doc Other) → (IsLeft task → ⊥) → IsTaskOf how l task
+pub reads_raw : (other : Dialect → List ℕ → Reading → Type 0) (how : Dialect) (l : Line) (task : Result Doc Other) → (IsLeftToStore task → ⊥) → IsTaskOf how l task
     → ReadsWith other how l (raw_reading task)
 reads_raw other how (line bytes) task kept h = by_kind other how (kind_of how bytes) bytes task kept h
 reads_raw other how long_line task kept h = ap raw_reading h

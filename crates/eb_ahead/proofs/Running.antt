@@ -148,7 +148,7 @@ module _ {G S W : Type 0} (other : Dialect → List ℕ → Reading → Type 0) 
       )
 
   module _ (s : Answering G S) (r : IsRunning (HasAnswered other holds) s) where
-    -- with so many more documents there are still few
+    -- with n more documents there are still few
     pub holding_for : (n : ℕ) → s.number + n ≤ 2 ^ 40 + 1 → IsHoldingFor holds s.store n
     holding_for n few =
         let rules = r.0 in

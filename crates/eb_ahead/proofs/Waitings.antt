@@ -9,8 +9,10 @@ use Rattle.std.proofs.lemmas.Slice.Zip.{AllZip-long}
 use Rattle.std.proofs.lemmas.Option.{get_or_from_slice_get}
 use Rattle.std.proofs.Math.Seq.{drop-cons}
 use Rattle.eb_answer.specs.declared.answering.Answering.{Answering}
-use Rattle.eb_answer.specs.Answering.{HasAnswered}
-use Rattle.eb_answer.specs.Rules.{Rules, IsBody, IsText, HasRefusal, HasNoRefusal}
+use Rattle.eb_answer.specs.Answering.{HasAnswered, answered_body}
+use Rattle.eb_answer.specs.Rules.{Rules, HasRefusal, HasNoRefusal}
+use Rattle.eb_answer.specs.Sees.{exactly}
+use Rattle.eb_answer.specs.Text.{IsBody, IsText}
 use Rattle.eb_base.specs.Document.{Doc}
 use Rattle.eb_io.specs.Lines.{Line}
 use Rattle.eb_lines.specs.Programs.{IsRunning, WorksOn, WorksOnGiven, Finishes}
@@ -51,7 +53,7 @@ module _ {P A : Type 0} (has_run : P → A → List Line → List ℕ → Type 0
       let y = v a given (so_far ++ x.0) x.1 in
       (x.0 ++ y.0, subst (has_run new a (given ++ l ∷ [])) (append_assoc so_far x.0 y.0) y.1, y.2 ∙ ap (λ t. t ++ y.0) x.2 ∙ append_assoc t0 x.0 y.0)
 
-  -- what holds throughout stays beside
+  -- what holds throughout stays true
   pub on_beside : (T : Type 0) (old new : P) (t0 t1 : List ℕ) → WorksOn has_run old new t0 t1
       → (a : A) (given : List Line) (so_far : List ℕ) → T × has_run old a given so_far → (printed : List ℕ) × (T × has_run new a given (so_far ++ printed)) × (t1 ≡ t0 ++ printed)
   on_beside T old new t0 t1 on a given so_far h = let w = on a given so_far h.1 in (w.0, (h.0, w.1), w.2)
@@ -186,7 +188,7 @@ module _ {G S W : Type 0} (other : Dialect → List ℕ → Reading → Type 0) 
       (omega (arith, none)) (omega (arith, none)) (takes_none mid.answering new.answering t1 t1 (stays_at (HasAnswered other holds) mid.answering new.answering t1 t1 answering refl)) in
       goes_on (HasHeld other holds) old mid new t0 t1 t1 on stays
 
-  -- a line more waits
+  -- one more line waits
   pub put_more : (old new : Ahead G S) (l : Line) → new.answering ≡ old.answering → new.held ≡ old.held ++ l ∷ [] → new.worked ≡ old.worked → new.number ≡ old.number + 1
       → old.number ≤ 2 ^ 40 → (text : List ℕ) → WorksOnGiven (HasHeld other holds) old new text text l
   put_more old new l answering held worked number few text = λ rules given so_far h.
@@ -223,10 +225,6 @@ module _ {G S W : Type 0} (other : Dialect → List ℕ → Reading → Type 0) 
     short = omega (arith, number);
   }
 
-  -- some of the lines that wait are taken, and then the first of the others
-  pub worked_more : (old mid new : Ahead G S) (n m : ℕ) → HasWorked old mid n → HasWorked mid new m → HasWorked old new (n + m)
-  worked_more old mid new n m w v = (v.0 ∙ w.0, omega (arith, w.1, v.1))
-
   -- where no line waits
   module _ (s : Ahead G S) (none : HoldsNone s) (rules : Rules W) (given : List Line) (so_far : List ℕ) (h : HasHeld other holds s rules given so_far) where
     all_done : h.done ≡ given
@@ -234,15 +232,15 @@ module _ {G S W : Type 0} (other : Dialect → List ℕ → Reading → Type 0) 
         let rest : waiting_in s ≡ [] = ap (λ xs. drop s.worked xs) none.0 ∙ drop_all s.worked [] (omega arith) in
         sym (append-nil h.done) ∙ ap (λ hs. h.done ++ hs) (sym rest) ∙ sym h.lines
 
-    pub held_body : IsBody other rules given so_far
-    held_body = subst (λ ls. IsBody other rules ls so_far) all_done (record { readings = h.answered.readings; read = h.answered.read; bytes = h.answered.printed })
+    pub held_body : IsBody other exactly rules given so_far
+    held_body = subst (λ ls. IsBody other exactly rules ls so_far) all_done (answered_body other holds s.answering rules h.done so_far h.answered)
 
   pub held_finishes : {Q E : Type 0} (T : Type 0) (q : Q) (has : Q → Rules W → List Line → List ℕ → Type 0) (s : Ahead G S) → HoldsNone s → (t0 t1 : List ℕ) (r : Result ℕ E)
       → IfOk r (λ refused. (rules : Rules W) (given : List Line) (so_far : List ℕ) → HasAnswered other holds s.answering rules given so_far
-      → Finishes (HasAnswered other holds) (IsText other) (HasRefusal other) (HasNoRefusal other) s.answering t0 t1 refused rules given so_far)
+      → Finishes (HasAnswered other holds) (IsText other exactly) (HasRefusal other) (HasNoRefusal other) s.answering t0 t1 refused rules given so_far)
       → MatchResult r (λ refused. (rules : Rules W) (given : List Line) (so_far : List ℕ) → T × HasHeld other holds s rules given so_far
-      → Finishes has (IsText other) (HasRefusal other) (HasNoRefusal other) q t0 t1 refused rules given so_far) (λ e. ⊤)
+      → Finishes has (IsText other exactly) (HasRefusal other) (HasNoRefusal other) q t0 t1 refused rules given so_far) (λ e. ⊤)
   held_finishes T q has s none t0 t1 r f = ok_match r f (λ refused ends rules given so_far h.
-      let x = subst (λ ls. Finishes (HasAnswered other holds) (IsText other) (HasRefusal other) (HasNoRefusal other) s.answering t0 t1 refused rules ls so_far)
+      let x = subst (λ ls. Finishes (HasAnswered other holds) (IsText other exactly) (HasRefusal other) (HasNoRefusal other) s.answering t0 t1 refused rules ls so_far)
       (all_done s none rules given so_far h.1) (ends rules h.1.done so_far h.1.answered) in
       record { printed = x.printed; whole = x.whole; text = x.text; some = x.some; none = x.none })

@@ -1,12 +1,14 @@
--- How far a run has come between two lines, where some lines wait.
+-- How far a run is between two lines, where some lines wait.
 use Rattle.eb_fields.specs.Dialect.{Dialect, dialect_of}
 use Rattle.std.specs.Prelude.{◌≡◌, ℕ, ◌+◌, ◌≤◌, ◌^◌, List, [], ◌++◌, length, drop, Result, OnOk}
 use Rattle.std.specs.List.{AllZip}
 use Rattle.std.specs.declared.vec.Vec.{Vec}
-use Rattle.std.proofs.Common.{append-nil, ◌∙◌}
+use Rattle.std.proofs.Common.{append-nil, sym, subst}
 use denote.MutBor.{MutBor}
-use Rattle.eb_answer.specs.Answering.{HasAnswered}
-use Rattle.eb_answer.specs.Rules.{Rules, IsBody}
+use Rattle.eb_answer.specs.Answering.{HasAnswered, answered_body}
+use Rattle.eb_answer.specs.Rules.{Rules}
+use Rattle.eb_answer.specs.Sees.{exactly}
+use Rattle.eb_answer.specs.Text.{IsBody}
 use Rattle.eb_base.specs.Document.{Doc}
 use Rattle.eb_io.specs.Lines.{Line}
 use Rattle.eb_lines.specs.Programs.{IsRunning, WorksOn, PrintsFront}
@@ -27,7 +29,7 @@ waiting_in s = drop s.worked s.held
 abbrev pub AreWaiting : {G S : Type 0} → Ahead G S → List (Result Doc Other) → Type 0
 AreWaiting s tasks = AllZip (IsTaskOf (dialect_of s.answering.dialect)) (waiting_in s) tasks
 
--- so many more of the lines that wait are processed
+-- this many more of the lines that wait are processed
 abbrev pub HasWorked : {G S : Type 0} → Ahead G S → Ahead G S → ℕ → Type 0
 HasWorked old new n = (new.held ≡ old.held) × (new.worked ≡ old.worked + n)
 
@@ -42,7 +44,7 @@ pub record HasHeld {G S W : Type 0} (other : Dialect → List ℕ → Reading �
   pub number : s.number ≡ length given
   pub short : s.number ≤ 2 ^ 40 + 1
 
--- what may be called between two lines, and processes those that wait, if memory suffices
+-- what may be called between two lines, and processes those that wait, unless memory runs out
 pub record WorksOffHeld {G S W F Z E : Type 0} (other : Dialect → List ℕ → Reading → Type 0) (holds : S → Rules W → List Doc → W → Type 0)
     (pre : F → MutBor (Ahead G S) → MutBor (Vec ℕ Z) → Type 0)
     (post : F → MutBor (Ahead G S) → MutBor (Vec ℕ Z) → Result (Unit {0}) E → MutBor (Ahead G S) → MutBor (Vec ℕ Z) → Type 0) (worker : F) : Type 0 where
@@ -52,7 +54,7 @@ pub record WorksOffHeld {G S W F Z E : Type 0} (other : Dialect → List ℕ →
   pub none : (old new : MutBor (Ahead G S)) (text more : MutBor (Vec ℕ Z)) (r : Result (Unit {0}) E) → post worker old text r new more → OnOk r (HoldsNone new.now)
   pub same : (old new : MutBor (Ahead G S)) (text more : MutBor (Vec ℕ Z)) (r : Result (Unit {0}) E) → post worker old text r new more → new.now.number ≡ old.now.number
 
--- a run that is worked by such a worker
+-- a run whose lines such a worker processes
 abbrev pub HasHeldBy : {G S W F Z E : Type 0} → (Dialect → List ℕ → Reading → Type 0) → (S → Rules W → List Doc → W → Type 0)
     → (F → MutBor (Ahead G S) → MutBor (Vec ℕ Z) → Type 0) → (F → MutBor (Ahead G S) → MutBor (Vec ℕ Z) → Result (Unit {0}) E → MutBor (Ahead G S) → MutBor (Vec ℕ Z) → Type 0)
     → F → Ahead G S → Rules W → List Line → List ℕ → Type 0
@@ -61,11 +63,11 @@ HasHeldBy other holds pre post worker s rules given so_far = WorksOffHeld other 
 -- the lines that are processed are the first ones, and printed this
 pub held_first : {G S W : Type 0} (other : Dialect → List ℕ → Reading → Type 0) (holds : S → Rules W → List Doc → W → Type 0)
     (s : Ahead G S) (rules : Rules W) (given : List Line) (so_far : List ℕ)
-    → HasHeld other holds s rules given so_far → PrintsFront (IsBody other) rules given so_far
+    → HasHeld other holds s rules given so_far → PrintsFront (IsBody other exactly) rules given so_far
 held_first other holds s rules given so_far h = (
   h.done,
   waiting_in s,
   [],
   h.lines,
-  record { readings = h.answered.readings; read = h.answered.read; bytes = append-nil so_far ∙ h.answered.printed },
+  subst (IsBody other exactly rules h.done) (sym (append-nil so_far)) (answered_body other holds s.answering rules h.done so_far h.answered),
 )

@@ -8,7 +8,8 @@ use Rattle.eb_io.specs.Lines.{Line}
 use Rattle.eb_ahead.specs.declared.reading.Other.{Other}
 use Rattle.eb_ahead.specs.Tasks.{IsTaskOf}
 
--- this is what piece i of some lines, in pieces of so many, is read as with these fields, if memory suffices
+-- this is what piece i of some lines, in pieces of n, is read as with these fields, unless memory
+-- runs out
 abbrev pub IsPiece : {A E : Type 0} → Dialect → List Line → ℕ → ℕ → Result (Vec (Result Doc Other) A) E → Type 0
 IsPiece how lines size i piece = IfOk piece (λ tasks. AllZip (IsTaskOf how) (take size (drop (i * size) lines)) tasks.items)
 

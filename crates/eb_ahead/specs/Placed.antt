@@ -5,7 +5,8 @@ use Rattle.eb_base.specs.Document.{Doc}
 use Rattle.eb_lines.specs.declared.refusal.Refusal.{Refusal}
 use Rattle.eb_lines.specs.Progress.{documents_in}
 
--- the store holds some documents by some rules, and with so many more there are still no more than an input may have
+-- the store holds some documents by some rules, and with n more there are still no more than an
+-- input may have
 pub record IsHoldingFor {P W : Type 0} (holds : P → Rules W → List Doc → W → Type 0) (s : P) (more : ℕ) : Type 0 where
   pub rules : Rules W
   pub docs : List Doc
@@ -18,7 +19,7 @@ abbrev pub item_refusal : {E W : Type 0} → Rules W → List Doc → Result Doc
 item_refusal rules docs (Ok d) = rules.refusal docs d
 item_refusal rules docs (Err e) = None
 
--- what is held behind it
+-- what is held after it
 abbrev pub docs_with : {E W : Type 0} → Rules W → List Doc → Result Doc E → List Doc
 docs_with rules docs (Ok d) = docs ++ documents_in (document_outcome d (rules.refusal docs d))
 docs_with rules docs (Err e) = docs
@@ -37,7 +38,8 @@ abbrev pub PlacesItem : {E P W : Type 0} → (P → Rules W → List Doc → W �
 PlacesItem {E} {P} {W} holds old new item r = (rules : Rules W) (docs : List Doc) (ws : W) → holds old rules docs ws
     → (r ≡ item_refusal rules docs item) × holds new rules (docs_with rules docs item) ws
 
--- the documents among the items were added in order, and these are the causes of those that are refused
+-- the documents among the items were added in order, and these are the causes of those that are
+-- refused
 abbrev pub PlacesAll : {E P W : Type 0} → (P → Rules W → List Doc → W → Type 0) → P → P → List (Result Doc E) → List (Option Refusal) → Type 0
 PlacesAll {E} {P} {W} holds old new items rs = (rules : Rules W) (docs : List Doc) (ws : W) → holds old rules docs ws
     → (rs ≡ item_refusals rules docs items) × holds new rules (docs_after rules docs items) ws

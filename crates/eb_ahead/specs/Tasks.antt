@@ -22,7 +22,8 @@ abbrev pub line_of : HeldLine → Line
 line_of (held.Line bytes) = line bytes.now
 line_of held.Long = long_line
 
--- this is to be done for a line of a kind other than the last one, with these fields; one of the last kind is left to the store
+-- this is to be done for a line of a kind other than the last one, with these fields; one of the
+-- last kind is left to the store
 abbrev pub IsTaskOfKind : Dialect → Kind → List ℕ → Result Doc Other → Type 0
 IsTaskOfKind how kind bytes (Ok d) = ReadsByKind how kind bytes (document d)
 IsTaskOfKind how kind bytes (Err Blank) = ReadsByKind how kind bytes blank
@@ -30,18 +31,18 @@ IsTaskOfKind how kind bytes (Err (Ask q)) = MayAsk q.ask q.query × ReadsByKind 
 IsTaskOfKind how kind bytes (Err (Refuse x)) = ReadsByKind how kind bytes (refused x)
 IsTaskOfKind how kind bytes (Err Leave) = ⊥
 
-abbrev pub IsLeft : Result Doc Other → Type 0
-IsLeft (Ok d) = ⊥
-IsLeft (Err Blank) = ⊥
-IsLeft (Err (Ask q)) = ⊥
-IsLeft (Err (Refuse x)) = ⊥
-IsLeft (Err Leave) = Unit {0}
+abbrev pub IsLeftToStore : Result Doc Other → Type 0
+IsLeftToStore (Ok d) = ⊥
+IsLeftToStore (Err Blank) = ⊥
+IsLeftToStore (Err (Ask q)) = ⊥
+IsLeftToStore (Err (Refuse x)) = ⊥
+IsLeftToStore (Err Leave) = Unit {0}
 
 abbrev pub IsTaskBy : Dialect → Kind → List ℕ → Result Doc Other → Type 0
 IsTaskBy how blank_line bytes task = IsTaskOfKind how blank_line bytes task
 IsTaskBy how document_line bytes task = IsTaskOfKind how document_line bytes task
 IsTaskBy how query_line bytes task = IsTaskOfKind how query_line bytes task
-IsTaskBy how bad_line bytes task = IsLeft task
+IsTaskBy how bad_line bytes task = IsLeftToStore task
 
 -- this is to be done for a line
 abbrev pub IsTaskOf : Dialect → Line → Result Doc Other → Type 0
@@ -77,7 +78,8 @@ abbrev pub one_cause : Option Refusal → ℕ
 one_cause None = 0
 one_cause (Some x) = 1
 
--- what is printed for lines of which the first is line `before + 1`, and how many of them are refused
+-- what is printed for lines of which the first is line `before + 1`, and how many of them are
+-- refused
 unfoldable pub run_text : Form → ℕ → List (Result Doc Other) → List (Option Refusal) → List ℕ
 run_text form before [] rs = []
 run_text form before (task ∷ tasks) [] = []

@@ -10,9 +10,9 @@ ghost use Rattle.eb_lines.specs.Text.{room_of};
 
 use crate::lines::HeldLine;
 use crate::reading::Other;
-use eb_answer::{Answering, Store};
 use eb_base::{Document, Gate, NoMemory};
 use eb_lines::{Form, Refusal, line_room, put_refusal};
+use eb_answer::{Answering, Store};
 use std::alloc::Global;
 
 // Why a line is refused, where this came of what it is read as.
@@ -26,7 +26,8 @@ fn cause_of(task: &Result<Document, Other>, refusal: Option<Refusal>) -> Option<
     }
 }
 
-// Prints a refusal for this cause, if there is one, and gives how many lines are refused. Takes no memory.
+// Prints a refusal for this cause, if there is one, and returns how many lines are refused. Takes
+// no memory.
 fn put_cause(text: &mut Vec<u8>, form: Form, number: u64, cause: Option<Refusal>) -> u64
     requires { vec_len text.old + room_of 0 ≤ vec_capacity text.old }
     ensures text { text.new.items ≡ text.old.items ++ cause_line form number cause }
@@ -43,7 +44,8 @@ fn put_cause(text: &mut Vec<u8>, form: Form, number: u64, cause: Option<Refusal>
     }
 }
 
-// Prints what came of lines behind line `before`, and gives how many of them are refused. Takes no memory.
+// Prints what came of lines after line `before`, and returns how many of them are refused. Takes no
+// memory.
 fn put_run(
     text: &mut Vec<u8>,
     form: Form,
@@ -65,8 +67,8 @@ fn put_run(
     refused
 }
 
-// Takes lines, none of which is a query or left to the store, and adds their documents at once. What they print has its room
-// before: where memory doesn't suffice, nothing is done.
+// Takes lines, none of which is a query or left to the store, and adds their documents at once.
+// Room for what they print is taken before: where memory runs out, nothing is done.
 pub(crate) fn work_run<
     P: Store,
     G: Gate,
@@ -94,7 +96,7 @@ pub(crate) fn work_run<
     Ok(())
 }
 
-// Takes a line alone that is read as no document.
+// Takes a line alone that isn't read as a document.
 fn work_other<P: Store, G: Gate>(
     answering: &mut Answering<'_, G, P>,
     alloc: Global,

@@ -12,14 +12,14 @@ ghost use Rattle.eb_lines.specs.Programs.{IsRunning, WorksOn, WorksOnGiven};
 use crate::adding::{work_line, work_run};
 use crate::lines::{HeldLine, HeldLines};
 use crate::reading::{Other, let_go, read_lines, run_length};
-use eb_answer::{Answering, Store};
 use eb_base::{Document, Gate, NoMemory};
 use eb_lines::Refusal;
+use eb_answer::{Answering, Store};
 use std::alloc::Global;
 use std::thread::Threads;
 
-// A run over a store, the lines that wait, of which the first so many are processed, whether a query may be among them, and
-// the number of the last line given.
+// A run over a store, the lines that wait, of which the first `worked` are processed, whether a
+// query may be among them, and the number of the last line given.
 #[derive(Drop)]
 pub(crate) struct Ahead<'a, G, S> {
     pub(crate) answering: Answering<'a, G, S>,
@@ -62,7 +62,7 @@ impl<'a, G: Gate, S: Store> Ahead<'a, G, S> {
         Ok(())
     }
 
-    // Lets the next line wait, where few do.
+    // Lets the next line wait, where there is room for it.
     fn put(&mut self, line: HeldLine<'_>, asks: bool) -> Result<(), NoMemory>
         requires state { IsRunning (HasHeld S.other S.holds) self.old }
         requires number { self.old.number ≤ 2 ^ 40 }
@@ -90,7 +90,7 @@ impl<'a, G: Gate, S: Store> Ahead<'a, G, S> {
         worker(self, text)
     }
 
-    // Processes the lines that wait where they are as many as may.
+    // Processes the lines that wait where no further one may.
     fn make_way<W: Fn(&mut Ahead<'a, G, S>, &mut Vec<u8>) -> Result<(), NoMemory>>(
         &mut self,
         worker: &W,
@@ -108,7 +108,7 @@ impl<'a, G: Gate, S: Store> Ahead<'a, G, S> {
         }
     }
 
-    // Lets the next line wait, and processes those that wait before where they are as many as may.
+    // Lets the next line wait. Where no further one may, those that wait are processed before.
     pub(crate) fn hold<W: Fn(&mut Ahead<'a, G, S>, &mut Vec<u8>) -> Result<(), NoMemory>>(
         &mut self,
         line: HeldLine<'_>,
@@ -145,7 +145,8 @@ impl<'a, G: Gate, S: Store> Ahead<'a, G, S> {
     }
 }
 
-// Takes the first lines that wait, which are read so, and none of which is a query or left to the store.
+// Takes the first lines that wait, which are read so, and none of which is a query or left to the
+// store.
 fn work_first<
     P: Store,
     G: Gate,
@@ -170,7 +171,8 @@ fn work_first<
     Ok(())
 }
 
-// Takes the first run of the lines that wait, which are read so, and the line behind it, if any, and gives how many these are.
+// Takes the first run of the lines that wait, which are read so, and the line after it, if any, and
+// returns how many these are.
 fn work_some<
     P: Store,
     G: Gate,
@@ -230,8 +232,8 @@ fn work_all<
     Ok(())
 }
 
-// Processes the lines that wait, with what they print after the text: they are read side by side, and then taken run after
-// run. Where memory doesn't suffice, some of the first may be processed.
+// Processes the lines that wait, with what they print after the text: they are read concurrently,
+// and then taken run after run. Where memory runs out, some of the first may be processed.
 pub(crate) fn work_held<
     P: Store,
     R: Threads + Sync,

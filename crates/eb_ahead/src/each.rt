@@ -2,12 +2,12 @@ ghost use Rattle.std.specs.Prelude.{length, IfOk, OnErr};
 ghost use Rattle.eb_ahead.specs.Placed.{IsHoldingFor, PlacesItem, PlacesAll};
 ghost use Rattle.eb_answer.specs.Stores.{IsHolding, Keeps};
 
-use eb_answer::Store;
 use eb_base::{Document, Gate, NoMemory};
 use eb_lines::Refusal;
+use eb_answer::Store;
 use std::alloc::Global;
 
-// Adds an item that is a document, and gives why it is refused, if it is.
+// Adds an item that is a document, and returns why it is refused, if it is.
 fn place_item<S: Store, E, G: Gate>(
     store: &mut S,
     item: &Result<Document, E>,
@@ -22,8 +22,9 @@ fn place_item<S: Store, E, G: Gate>(
     }
 }
 
-/// Adds the documents among some items to a store, one after the other, and gives what came of each item: why it is refused,
-/// where it is a document that is. Where memory doesn't suffice, which shows before the first is added, nothing is done.
+/// Adds the documents among some items to a store, one after the other, and returns why each
+/// document is refused, if it is. Where memory runs out, which shows before the first is added,
+/// nothing is done.
 pub fn place_each<S: Store, E, G: Gate>(
     store: &mut S,
     alloc: Global,

@@ -1,4 +1,5 @@
-//! A run over the lines of an input whose lines wait a little: they are read side by side, and their documents are added to a store many at once.
+//! A run over the lines of an input whose lines wait a little: they are read concurrently, and
+//! their documents are added to a store many at once.
 #![tactic(auto)]
 
 mod adding;

@@ -1,4 +1,4 @@
-//! Lines that wait until they are processed, one behind the other in one buffer.
+//! Lines that wait until they are processed, one after the other in one buffer.
 ghost use Rattle.std.specs.Prelude.{◌≡◌, ◌<◌, ◌++◌, ◌∷◌, [], Some, length, slice_get, vec_len, IfOk, OnOk, OnErr};
 ghost use Rattle.eb_ahead.specs.Held.{IsWithin, line_in};
 ghost use Rattle.eb_ahead.specs.Tasks.{line_of};
@@ -7,7 +7,7 @@ use eb_base::NoMemory;
 use std::alloc::Global;
 use std::marker::Model;
 
-// At most so many lines wait, and as soon as they are so many bytes, no more.
+// The most lines that wait, and the bytes of waiting lines from which on no further line waits.
 const MOST_LINES: usize = 32_768;
 
 const MOST_BYTES: usize = 8 << 20;
@@ -46,7 +46,7 @@ impl Model for HeldLines {
     ghost invariant = { λ h. All (IsWithin (vec_len h.bytes)) h.spans.items };
 }
 
-// Puts the bytes of a line behind the others, and gives where they are.
+// Puts the bytes of a line after the others, and returns where they are.
 fn put_line(bytes: &mut Vec<u8>, line: HeldLine<'_>) -> Result<Option<Span>, NoMemory>
     ensures line { IfOk result (λ span. line_in bytes.new.items span ≡ line_of line.entry) }
     ensures within { IfOk result (IsWithin (vec_len bytes.new)) }
@@ -85,7 +85,7 @@ impl HeldLines {
         self.spans.len() >= MOST_LINES || self.bytes.len() >= MOST_BYTES
     }
 
-    // Puts a line behind the others.
+    // Puts a line after the others.
     pub(crate) fn push(&mut self, line: HeldLine<'_>) -> Result<(), NoMemory>
         ensures ok { OnOk result (self.new ≡ self.old ++ line_of line.entry ∷ []) }
         ensures err { OnErr result (self.new ≡ self.old) }
@@ -107,7 +107,7 @@ impl HeldLines {
         HeldLine::Line(&self.bytes[span.from..span.to])
     }
 
-    // Lets all lines go, and keeps their memory for others.
+    // Drops all lines, and keeps their memory for others.
     pub(crate) fn clear(&mut self)
         ensures { self.new ≡ [] }
     {

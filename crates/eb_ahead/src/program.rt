@@ -2,13 +2,13 @@
 
 use crate::ahead::Ahead;
 use crate::lines::HeldLine;
-use eb_answer::Store;
 use eb_base::{Gate, NoMemory};
 use eb_lines::LineProgram;
+use eb_answer::Store;
 use std::alloc::Global;
 
-// A run, with its allocator, and with what processes the lines that wait: a closure, since what is sent to other threads needs the
-// bounds of a function.
+// A run, with its allocator, and with what processes the lines that wait: a closure, since what is
+// sent to other threads needs the bounds of a function.
 #[derive(Drop)]
 pub(crate) struct AheadProgram<'a, G, S, W> {
     pub(crate) alloc: Global,
@@ -24,15 +24,17 @@ impl<
 > LineProgram for AheadProgram<'a, G, S, W> {
     ghost use Rattle.eb_ahead.specs.Ahead.{HasHeldBy, HoldsNone, held_first};
     ghost use Rattle.eb_answer.specs.Answering.{body_first};
-    ghost use Rattle.eb_answer.specs.Rules.{Rules, IsBody, IsText, HasRefusal, HasNoRefusal};
+    ghost use Rattle.eb_answer.specs.Rules.{Rules, HasRefusal, HasNoRefusal};
+    ghost use Rattle.eb_answer.specs.Sees.{exactly};
+    ghost use Rattle.eb_answer.specs.Text.{IsBody, IsText};
 
     ghost Asked = { Rules S.Watches };
 
     ghost has_run = { λ p. HasHeldBy S.other S.holds W.pre W.post p.worker p.ahead };
 
-    ghost prints = { IsBody S.other };
+    ghost prints = { IsBody S.other exactly };
 
-    ghost ends_with = { IsText S.other };
+    ghost ends_with = { IsText S.other exactly };
 
     ghost refuses = { HasRefusal S.other };
 
@@ -44,7 +46,7 @@ impl<
 
     fn take_line(&mut self, bytes: &[u8], text: &mut Vec<u8>) -> Result<(), NoMemory> {
         let line = HeldLine::Line(bytes);
-        let asks = bytes.first() == Some(&b'?');
+        let asks = bytes.first() == Some(&b'?') || bytes.first() == Some(&b'#');
         self.ahead.hold(line, asks, &self.worker, text)
     }
 
@@ -67,7 +69,7 @@ impl<
 
     ghost printed_first = { λ p a given so_far h. held_first S.other S.holds p.ahead a given so_far h.1 };
 
-    ghost whole = { body_first S.other };
+    ghost whole = { body_first S.other exactly };
 
     ghost counts = { λ p a given so_far h. h.1.number };
 }

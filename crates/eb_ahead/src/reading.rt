@@ -9,7 +9,6 @@ ghost use Rattle.eb_io.specs.Lines.{Line, line};
 ghost use Rattle.eb_lines.specs.Kinds.{document_line, query_line};
 
 use crate::lines::{HeldLine, HeldLines};
-use eb_answer::read_question;
 use eb_base::{Document, NoMemory, Query};
 use eb_beside::each_place;
 use eb_doc::DocumentReader;
@@ -17,6 +16,7 @@ use eb_fields::Dialect;
 use eb_lines::{LineKind, Refusal, line_kind, read_document_line_by};
 use eb_query::Ask;
 use rayon::current_num_threads;
+use eb_answer::read_question;
 use std::alloc::Global;
 use std::thread;
 use std::thread::Threads;
@@ -28,7 +28,7 @@ pub struct Question {
     pub(crate) query: Query,
 }
 
-/// What is to be done for a line that is no document.
+/// What is to be done for a line that isn't a document.
 #[derive(Drop)]
 pub enum Other {
     /// Nothing.
@@ -41,10 +41,10 @@ pub enum Other {
     Leave,
 }
 
-// How few lines are worth a thread of their own.
+// The fewest lines that are worth a thread of their own.
 const LEAST_LINES: usize = 128;
 
-// What some lines that stand one behind the other are read as.
+// What some lines that follow one another are read as.
 type Piece = Result<Vec<Result<Document, Other>>, NoMemory>;
 
 // Reads a document line.
@@ -108,7 +108,7 @@ fn read_line(
     }
 }
 
-// Reads the lines from this place on, at most so many, one after the other by one reader.
+// Reads the lines from this place on, at most this many, one after the other by one reader.
 fn read_some(
     alloc: Global,
     dialect: Dialect<'_>,
@@ -129,7 +129,7 @@ fn read_some(
     Ok(tasks)
 }
 
-// So many pieces, nothing of which is read yet.
+// This many pieces, nothing of which is read yet.
 fn no_pieces(alloc: Global, count: usize) -> Result<Vec<Piece>, NoMemory>
     ensures { IfOk result (λ pieces. vec_len pieces ≡ count) }
 {
@@ -140,7 +140,7 @@ fn no_pieces(alloc: Global, count: usize) -> Result<Vec<Piece>, NoMemory>
     Ok(pieces)
 }
 
-// Reads the lines from this place on in pieces of so many lines, each by a thread of its own.
+// Reads the lines from this place on in pieces of `size` lines, each by a thread of its own.
 fn read_pieces<R: Threads + Sync>(
     rt: &R,
     alloc: Global,
@@ -166,7 +166,7 @@ fn read_pieces<R: Threads + Sync>(
     );
 }
 
-// Puts a piece behind what was read before.
+// Puts a piece after what was read before.
 fn join_piece(tasks: &mut Vec<Result<Document, Other>>, piece: &mut Piece) -> Result<(), NoMemory>
     ensures { OnOk result ((more : _) × (piece.old ≡ Ok more) × (tasks.new.items ≡ tasks.old.items ++ more.items)) }
 {
@@ -179,7 +179,7 @@ fn join_piece(tasks: &mut Vec<Result<Document, Other>>, piece: &mut Piece) -> Re
     }
 }
 
-// Puts the pieces together, which hold at most so many lines.
+// Puts the pieces together, which have at most this many lines.
 fn join_pieces(alloc: Global, count: usize, pieces: &mut [Piece]) -> Piece
     ensures { (how : Spoken) (lines : List Line) (size : ℕ) → ArePieces how lines size pieces.old
         → IfOk result (λ tasks. AllZip (IsTaskOf how) (take (length pieces.old * size) lines) tasks.items) }
@@ -191,7 +191,8 @@ fn join_pieces(alloc: Global, count: usize, pieces: &mut [Piece]) -> Piece
     Ok(tasks)
 }
 
-// Reads the lines from this place on, in list order, in pieces of so many lines, which are enough.
+// Reads the lines from this place on, in list order, in pieces of `size` lines, of which there are
+// enough.
 fn read_in_pieces<R: Threads + Sync>(
     rt: &R,
     alloc: Global,
@@ -227,7 +228,7 @@ pub(crate) fn read_lines<R: Threads + Sync>(
     read_in_pieces(rt, alloc, dialect, lines, from, size, pieces.as_mut_slice())
 }
 
-// Gives the memory of what lines were read as back, by several threads where they are many.
+// Gives back the memory of what lines were read as, by several threads where they are many.
 pub(crate) fn let_go<R: Threads + Sync>(rt: &R, tasks: &mut [Result<Document, Other>]) {
     let size = tasks
         .len()
@@ -245,7 +246,8 @@ pub(crate) fn let_go<R: Threads + Sync>(rt: &R, tasks: &mut [Result<Document, Ot
     );
 }
 
-// Whether a line may be among those whose documents are added many at once: it is no query, and not left to the store.
+// Whether a line may be among those whose documents are added many at once: it isn't a query, and
+// isn't left to the store.
 fn is_added(task: &Result<Document, Other>) -> bool
     ensures { result ≡ is_run_task task.now }
 {

@@ -1,26 +1,28 @@
 ghost use Rattle.std.specs.Prelude.{◌≡◌, OnOk};
 ghost use Rattle.eb_ahead.specs.Ahead.{HasHeld, HoldsNone};
 ghost use Rattle.eb_ahead.specs.Placing.{PlacesTogether, TellsNone};
-ghost use Rattle.eb_answer.specs.Rules.{Rules, IsBody, IsText, HasRefusal, HasNoRefusal};
+ghost use Rattle.eb_answer.specs.Rules.{Rules};
+ghost use Rattle.eb_answer.specs.Sees.{exactly};
+ghost use Rattle.eb_answer.specs.Text.{EndsOf};
 ghost use Rattle.eb_fields.specs.Dialect.{dialect_of};
 ghost use Rattle.eb_io.specs.Faults.{HasRisen};
-ghost use Rattle.eb_lines.specs.Passing.{Ends};
 ghost use Rattle.eb_lines.specs.Programs.{IsRunning, WorksOn};
 
 use crate::ahead::{Ahead, work_held};
 use crate::program::AheadProgram;
 use crate::reading::Other;
-use eb_answer::{Answering, Store};
 use eb_base::{Document, Gate, NoMemory};
 use eb_fields::Dialect;
 use eb_io::{Sink, Source};
 use eb_lines::{Refusal, Status, pass_lines};
+use eb_answer::{Answering, Store};
 use std::alloc::Global;
 use std::thread::Threads;
 
-/// As `answer_lines` of eb_answer, and prints the same, while at most 32,768 lines wait: they are read side by side, by several
-/// threads where there are many, and the documents up to the next query are added many at once. No query waits for a further
-/// line. Memory for what a run of documents prints is taken before the first of them is added.
+/// As `answer_lines` of eb_answer, and prints the same, while at most 32,768 lines wait. Several
+/// threads read them where there are many, and the documents up to the next query are added many at
+/// once. No query waits for a further line. Memory for what a run of documents prints is taken
+/// before the first of them is added.
 pub fn answer_lines_ahead<
     P: Store + Drop,
     R: Threads + Sync,
@@ -42,8 +44,7 @@ pub fn answer_lines_ahead<
     requires placing { PlacesTogether P.holds W.pre W.post place_all.now }
     requires tells { TellsNone P.holds }
     ensures ends { (rules : Rules P.Watches) → dialect_of dialect.entry ≡ rules.dialect → P.holds store rules rules.start rules.watches
-        → Ends (IsBody P.other rules) (IsText P.other rules) (HasRefusal P.other rules) (HasNoRefusal P.other rules)
-        result (S.left source.old) (S.left source.new) (K.taken out.old) (K.taken out.new) }
+        → EndsOf P.other exactly rules result (S.left source.old) (S.left source.new) (K.taken out.old) (K.taken out.new) }
     ensures read_fault { result ≡ Status.ReadFault → HasRisen (S.faults source.old) (S.faults source.new) }
     ensures write_fault { result ≡ Status.WriteFault → HasRisen (K.faults out.old) (K.faults out.new) }
 {

@@ -1,13 +1,13 @@
--- What lines come to and print, with one line more.
+-- What lines come to, with one line more.
 use Rattle.eb_fields.specs.Dialect.{Dialect}
-use Rattle.std.proofs.Common.{◌≡◌, ℕ, ◌+◌, suc, List, [], ◌∷◌, ◌++◌, length, refl, sym, ap, ◌∙◌, arith, append_assoc, append-nil}
+use Rattle.std.proofs.Common.{◌≡◌, ℕ, suc, List, [], ◌∷◌, ◌++◌, length, refl, sym, ap, ◌∙◌, append_assoc, append-nil}
 use Rattle.std.proofs.lemmas.Slice.Zip.{AllZip-long}
 use Rattle.eb_base.specs.Document.{Doc}
 use Rattle.eb_io.specs.Lines.{Line}
 use Rattle.eb_lines.specs.Progress.{documents_in, accepted}
 use Rattle.eb_lines.specs.Reading.{Reading}
 use Rattle.eb_lines.proofs.OneReading.{raw_push}
-use Rattle.eb_answer.specs.Rules.{Rules, comes, come_behind, watches_after, watches_from, ReadsWith, AreRead, held_behind, watches_behind, says, body_from, body}
+use Rattle.eb_answer.specs.Rules.{Rules, comes, come_behind, watches_after, watches_from, ReadsWith, ComeTo, AreRead, held_behind, watches_behind}
 
 module _ {W : Type 0} (rules : Rules W) where
   come-push : (docs : List Doc) (ws : W) (rs : List Reading) (r : Reading)
@@ -36,39 +36,29 @@ module _ {W : Type 0} (rules : Rules W) where
   unfolding watches_from
   watches-nil ws = refl
 
-  module _ (other : Dialect → List ℕ → Reading → Type 0) where
-    pub read_none : AreRead other rules [] []
+  module _ (reads : Line → Reading → Type 0) where
+    pub come_none : ComeTo reads rules [] []
     unfolding come_behind
-    read_none = ([], tt, refl)
+    come_none = ([], tt, refl)
 
-    pub read_push : (ls : List Line) (rs : List Reading) (l : Line) (r : Reading) → AreRead other rules ls rs → ReadsWith other rules.dialect l r
-        → AreRead other rules (ls ++ l ∷ []) (rs ++ comes rules (held_behind rules rs) (watches_behind rules rs) r ∷ [])
-    read_push ls rs l r h e = (
+    pub come_more : (ls : List Line) (rs : List Reading) (l : Line) (r : Reading) → ComeTo reads rules ls rs → reads l r
+        → ComeTo reads rules (ls ++ l ∷ []) (rs ++ comes rules (held_behind rules rs) (watches_behind rules rs) r ∷ [])
+    come_more ls rs l r h e = (
       h.0 ++ r ∷ [],
-      raw_push (ReadsWith other rules.dialect) ls h.0 l r h.1 e,
+      raw_push reads ls h.0 l r h.1 e,
       ap (λ xs. xs ++ comes rules (held_behind rules xs) (watches_behind rules xs) r ∷ []) h.2 ∙ sym (come-push rules.start rules.watches h.0 r),
     )
 
+    pub come_as_many : (ls : List Line) (rs : List Reading) → ComeTo reads rules ls rs → length rs ≡ length ls
+    come_as_many ls rs h = ap length h.2 ∙ come_long rules.start rules.watches h.0 ∙ AllZip-long reads ls h.0 h.1
+
+  module _ (other : Dialect → List ℕ → Reading → Type 0) where
+    pub read_none : AreRead other rules [] []
+    read_none = come_none (ReadsWith other rules.dialect)
+
+    pub read_push : (ls : List Line) (rs : List Reading) (l : Line) (r : Reading) → AreRead other rules ls rs → ReadsWith other rules.dialect l r
+        → AreRead other rules (ls ++ l ∷ []) (rs ++ comes rules (held_behind rules rs) (watches_behind rules rs) r ∷ [])
+    read_push = come_more (ReadsWith other rules.dialect)
+
     pub read_long : (ls : List Line) (rs : List Reading) → AreRead other rules ls rs → length rs ≡ length ls
-    read_long ls rs h = ap length h.2 ∙ come_long rules.start rules.watches h.0 ∙ AllZip-long (ReadsWith other rules.dialect) ls h.0 h.1
-
-  from-push : (j : ℕ) (docs : List Doc) (ws : W) (rs : List Reading) (r : Reading) (number : ℕ) → number ≡ j + length rs + 1
-      → body_from rules j docs ws (rs ++ r ∷ []) ≡ body_from rules j docs ws rs ++ says rules number (docs ++ accepted rs) (watches_from rules ws rs) r
-  unfolding body_from accepted watches_from
-  from-push j docs ws [] r number e =
-      let same : j + 1 ≡ number = omega (arith, e) in
-      append-nil (says rules (j + 1) docs ws r) ∙ ap (λ n. says rules n docs ws r) same ∙ ap (λ ds. says rules number ds ws r) (sym (append-nil docs))
-  from-push j docs ws (s ∷ rs) r number e =
-      let own = says rules (j + 1) docs ws s in
-      let more = docs ++ documents_in s in
-      let next = watches_after rules ws s in
-      ap (λ b. own ++ b) (from-push (j + 1) more next rs r number (omega (arith, e)))
-      ∙ sym (append_assoc own (body_from rules (j + 1) more next rs) (says rules number (more ++ accepted rs) (watches_from rules next rs) r))
-      ∙ ap (λ ds. (own ++ body_from rules (j + 1) more next rs) ++ says rules number ds (watches_from rules next rs) r) (append_assoc docs (documents_in s) (accepted rs))
-
-  pub body-nil : body rules [] ≡ []
-  unfolding body_from
-  body-nil = refl
-
-  pub body-push : (rs : List Reading) (r : Reading) → body rules (rs ++ r ∷ []) ≡ body rules rs ++ says rules (length rs + 1) (held_behind rules rs) (watches_behind rules rs) r
-  body-push rs r = from-push 0 rules.start rules.watches rs r (length rs + 1) (omega arith)
+    read_long = come_as_many (ReadsWith other rules.dialect)

@@ -1,13 +1,55 @@
--- Lines have exactly one text, whatever the rules, where each other line has exactly one reading.
+-- Lines have a text in each way, whatever the rules, and where queries see exactly the documents before their lines exactly one, where
+-- each other line has exactly one reading.
 use Rattle.eb_fields.specs.Dialect.{Dialect}
-use Rattle.std.proofs.Common.{◌≡◌, ℕ, List, [], ◌∷◌, ◌++◌, refl, sym, ap, ap₂, ◌∙◌}
+use Rattle.std.proofs.Common.{◌≡◌, ℕ, zero, suc, ◌+◌, ◌≤◌, List, [], ◌∷◌, ◌++◌, take, refl, sym, ap, ap₂, subst, ◌∙◌, arith}
 use Rattle.std.specs.List.{AllZip}
 use Rattle.eb_io.specs.Lines.{Line, line, long_line}
 use Rattle.eb_lines.specs.declared.refusal.Refusal.TheVariants.{BadLine, LongLine}
 use Rattle.eb_lines.specs.Kinds.{Kind, blank_line, document_line, query_line, bad_line, kind_of}
 use Rattle.eb_lines.specs.Reading.{Reading, refused}
 use Rattle.eb_lines.proofs.OneReading.{one_by_kind, some_by_kind}
-use Rattle.eb_answer.specs.Rules.{Rules, ReadsKind, ReadsWith, come_behind, body, end_of, IsText, is_bad}
+use Rattle.eb_lines.specs.Progress.{accepted, told}
+use Rattle.eb_lines.proofs.Advancing.{told_within}
+use Rattle.eb_answer.specs.Rows.{added_count}
+use Rattle.eb_answer.specs.Rules.{Rules, ReadsKind, ReadsWith, come_behind, is_bad}
+use Rattle.eb_answer.specs.Sees.{Reach, exactly, between, at_least, Reaches}
+use Rattle.eb_answer.specs.Text.{body, end_of, IsText}
+use Rattle.eb_answer.specs.Laws.{SomeText, OneText, OrderText}
+use Rattle.eb_answer.proofs.Seeing.{told-count, count-cons}
+
+-- ---- what the documents before each line are
+
+told_rises : (rs : List Reading) (i j : ℕ) → i ≤ j → added_count (take i rs) ≤ added_count (take j rs)
+unfolding accepted
+told_rises [] zero j le = omega arith
+told_rises [] (suc i) zero le = omega arith
+told_rises [] (suc i) (suc j) le = omega arith
+told_rises (r ∷ rs) zero j le = omega arith
+told_rises (r ∷ rs) (suc i) zero le = absurd (omega (arith, le))
+told_rises (r ∷ rs) (suc i) (suc j) le =
+    let more = told_rises rs i j (omega (arith, le)) in
+    let low = count-cons r (take i rs) in
+    let high = count-cons r (take j rs) in
+    omega (arith, more, low, high)
+
+told_next : (rs : List Reading) (i j : ℕ) → i ≤ j → told rs i ≤ told rs j
+told_next rs i j le = omega (arith, told_rises rs i j le, told-count rs i, told-count rs j)
+
+-- queries may see them in each way
+pub told_reaches : (way : Reach) (rs : List Reading) → Reaches way rs (told rs)
+told_reaches exactly rs = λ j. refl
+told_reaches between rs = record {
+  least = λ j e. omega arith;
+  most = λ j e. (let more = told_next rs j (j + 1) (omega arith) in omega (arith, more));
+  rises = λ i j le e f. told_next rs i j le;
+}
+told_reaches at_least rs = record { least = λ j e. omega arith; most = λ j e. told_within rs j }
+
+-- numbers that are these
+as_told : (rs : List Reading) (n : ℕ → ℕ) → Reaches exactly rs n → n ≡ told rs
+as_told rs n h = λ i j. h j i
+
+-- ---- lines
 
 module _ (other : Dialect → List ℕ → Reading → Type 0) where
   module _ (one : (how : Dialect) (bytes : List ℕ) (a b : Reading) → other how bytes a → other how bytes b → a ≡ b) where
@@ -29,10 +71,13 @@ module _ (other : Dialect → List ℕ → Reading → Type 0) where
     raw_one how (l ∷ ls) (r ∷ rs) [] e f = absurd f
     raw_one how (l ∷ ls) (r ∷ rs) (s ∷ ss) e f = ap₂ (λ x xs. x ∷ xs) (one_line how l r s e.0 f.0) (raw_one how ls rs ss e.1 f.1)
 
-    pub one_text_of : {W : Type 0} (rules : Rules W) (lines : List Line) (a b : List ℕ) → IsText other rules lines a → IsText other rules lines b → a ≡ b
+    pub one_text_of : {W : Type 0} (rules : Rules W) (lines : List Line) (a b : List ℕ) → IsText other exactly rules lines a → IsText other exactly rules lines b → a ≡ b
     one_text_of rules lines a b p q =
-        let same = raw_one rules.dialect lines p.read.0 q.read.0 p.read.1 q.read.1 in
-        p.bytes ∙ ap (λ rs. body rules rs ++ end_of rules rs) (p.read.2 ∙ ap (come_behind rules rules.start rules.watches) same ∙ sym q.read.2) ∙ sym q.bytes
+        let same : p.readings ≡ q.readings =
+        p.read.2 ∙ ap (come_behind rules rules.start rules.watches) (raw_one rules.dialect lines p.read.0 q.read.0 p.read.1 q.read.1) ∙ sym q.read.2 in
+        p.bytes ∙ ap (λ n. body rules n p.readings ++ end_of rules p.readings) (as_told p.readings p.numbers p.reach)
+        ∙ ap (λ rs. body rules (told rs) rs ++ end_of rules rs) same
+        ∙ ap (λ n. body rules n q.readings ++ end_of rules q.readings) (sym (as_told q.readings q.numbers q.reach)) ∙ sym q.bytes
 
   module _ (some : (how : Dialect) (bytes : List ℕ) → (r : Reading) × other how bytes r) where
     some_kind : (how : Dialect) (k : Kind) (bytes : List ℕ) → (r : Reading) × ReadsKind other how k bytes r
@@ -49,14 +94,35 @@ module _ (other : Dialect → List ℕ → Reading → Type 0) where
     raw_some how [] = ([], tt)
     raw_some how (l ∷ ls) = let r = some_line how l in let rs = raw_some how ls in (r.0 ∷ rs.0, (r.1, rs.1))
 
-    pub some_text_of : {W : Type 0} (rules : Rules W) (lines : List Line) → (printed : List ℕ) × IsText other rules lines printed
-    some_text_of rules lines =
+    pub some_text_of : {W : Type 0} (way : Reach) (rules : Rules W) (lines : List Line) → (printed : List ℕ) × IsText other way rules lines printed
+    some_text_of way rules lines =
         let raw = raw_some rules.dialect lines in
         let rs = come_behind rules rules.start rules.watches raw.0 in
-        (body rules rs ++ end_of rules rs, record { readings = rs; read = (raw.0, raw.1, refl); bytes = refl })
+        (body rules (told rs) rs ++ end_of rules rs, record { readings = rs; numbers = told rs; read = (raw.0, raw.1, refl); reach = told_reaches way rs; bytes = refl })
+
+  -- the text where queries see exactly the documents before their lines is one of each other way
+  pub order_text_of : {W : Type 0} (way : Reach) (rules : Rules W) (lines : List Line) (printed : List ℕ) → IsText other exactly rules lines printed → IsText other way rules lines printed
+  order_text_of way rules lines printed t = record {
+    readings = t.readings;
+    numbers = t.numbers;
+    read = t.read;
+    reach = subst (Reaches way t.readings) (sym (as_told t.readings t.numbers t.reach)) (told_reaches way t.readings);
+    bytes = t.bytes;
+  }
 
 pub one_bad : (how : Dialect) (bytes : List ℕ) (a b : Reading) → is_bad how bytes a → is_bad how bytes b → a ≡ b
 one_bad how bytes a b e f = e ∙ sym f
 
 pub some_bad : (how : Dialect) (bytes : List ℕ) → (r : Reading) × is_bad how bytes r
 some_bad how bytes = (refused BadLine, refl)
+
+-- ---- of rules without watches
+
+pub some_text : SomeText
+some_text = some_text_of is_bad some_bad
+
+pub one_text : OneText
+one_text = one_text_of is_bad one_bad
+
+pub order_text : OrderText
+order_text = order_text_of is_bad

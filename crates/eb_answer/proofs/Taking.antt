@@ -1,4 +1,4 @@
--- A run over a store takes a line more, and ends.
+-- A run over a store takes one more line, and ends.
 use Rattle.eb_fields.specs.Dialect.{Dialect, dialect_of}
 use Rattle.std.proofs.Common.{◌≡◌, ℕ, ◌+◌, ◌≤◌, List, [], ◌∷◌, ◌++◌, length, Option, Some, None, refl, sym, ap, ap₂, subst, ◌∙◌, arith, append_assoc, append-nil, length-append}
 use Rattle.std.specs.Prelude.{◌^◌}
@@ -11,24 +11,27 @@ use Rattle.eb_lines.specs.declared.form.Form.{Form}
 use Rattle.eb_lines.specs.declared.form.Tail.{Tail}
 use Rattle.eb_lines.specs.declared.refusal.Refusal.{Refusal}
 use Rattle.eb_lines.specs.declared.status.Status.TheVariants.{NoMemory}
-use Rattle.eb_lines.specs.Passing.{Ends}
 use Rattle.eb_lines.specs.Programs.{IsRunning, WorksOn, Finishes}
-use Rattle.eb_lines.specs.Progress.{documents_in, accepted, queries, refusals, is_query, is_refused, one_if}
+use Rattle.eb_lines.specs.Progress.{documents_in, accepted, queries, refusals, told, is_query, is_refused, one_if}
 use Rattle.eb_lines.specs.Reading.{Reading, blank, document, query, refused, watch}
-use Rattle.eb_lines.specs.Text.{asked_line, refusal_line, watch_line, summary_with}
+use Rattle.eb_lines.specs.Text.{refusal_line, watch_line, summary_with}
 use Rattle.eb_lines.proofs.PassingLines.{ends_at_once}
 use Rattle.eb_lines.proofs.Advancing.{accepted-push, accepted_few, queries-push, refusals-push}
 use Rattle.eb_answer.specs.declared.answering.Answering.{Answering}
-use Rattle.eb_answer.specs.Answering.{HasAnswered, TakesLine, body_first}
-use Rattle.eb_answer.specs.Rules.{Rules, document_outcome, comes, watches_after, ReadsWith, AreRead, held_behind, watches_behind, says, end_of, IsBody, IsText, HasRefusal, HasNoRefusal}
+use Rattle.eb_answer.specs.Answering.{HasAnswered, TakesLine, body_text, body_first, answered_body}
+use Rattle.eb_answer.specs.Rules.{Rules, document_outcome, comes, watches_after, ReadsWith, AreRead, held_behind, watches_behind, HasRefusal, HasNoRefusal}
+use Rattle.eb_answer.specs.Sees.{Reach, exactly}
+use Rattle.eb_answer.specs.Text.{says, end_of, IsBody, IsText, EndsOf}
 use Rattle.eb_answer.specs.Stores.{IsHolding, HasForm, Places, Tells, PutsAnswer, IsOutcome, TakesOther, Keeps}
-use Rattle.eb_answer.proofs.Coming.{read_none, read_push, read_long, watches-push, watches-nil, body-nil, body-push}
+use Rattle.eb_answer.proofs.Coming.{read_none, read_push, read_long, watches-push, watches-nil}
+use Rattle.eb_answer.proofs.Texts.{says_all, body-nil, body-push}
+use Rattle.eb_answer.proofs.OneText.{told_reaches}
 
-queries_few : (rs : List Reading) → queries rs ≤ length rs
+pub queries_few : (rs : List Reading) → queries rs ≤ length rs
 unfolding queries
 queries_few rs = count_by-le-length is_query rs
 
-refusals_few : (rs : List Reading) → refusals rs ≤ length rs
+pub refusals_few : (rs : List Reading) → refusals rs ≤ length rs
 unfolding refusals
 refusals_few rs = count_by-le-length is_refused rs
 
@@ -71,7 +74,7 @@ module _ {G S W : Type 0} (other : Dialect → List ℕ → Reading → Type 0) 
     queries = asked;
     refused = failed;
     short = omega (arith, number);
-    printed = sym (body-nil rules);
+    printed = sym (body-nil rules (told []));
   }
 
   -- ---- a line that came to this was taken
@@ -81,7 +84,8 @@ module _ {G S W : Type 0} (other : Dialect → List ℕ → Reading → Type 0) 
     pub one_more : (r : Reading) → r ≡ comes rules (held_behind rules h.readings) (watches_behind rules h.readings) raw
         → holds new.store rules (held_behind rules h.readings ++ documents_in r) (watches_after rules (watches_behind rules h.readings) r)
         → new.number ≡ old.number + 1 → old.number ≤ 2 ^ 40 → new.queries ≡ old.queries + one_if (is_query r) → new.refused ≡ old.refused + one_if (is_refused r)
-        → HasAnswered other holds new rules (given ++ l ∷ []) (so_far ++ says rules (old.number + 1) (held_behind rules h.readings) (watches_behind rules h.readings) r)
+        → HasAnswered other holds new rules (given ++ l ∷ []) (so_far ++ says rules (old.number + 1) (length (held_behind rules h.readings))
+        (held_behind rules h.readings) (watches_behind rules h.readings) r)
     one_more r is store number few asked failed =
         let rs = h.readings in
         let docs = held_behind rules rs in
@@ -100,7 +104,7 @@ module _ {G S W : Type 0} (other : Dialect → List ℕ → Reading → Type 0) 
           queries = asked ∙ ap (λ n. n + one_if (is_query r)) h.queries ∙ sym (queries-push rs r);
           refused = failed ∙ ap (λ n. n + one_if (is_refused r)) h.refused ∙ sym (refusals-push rs r);
           short = omega (arith, number, few);
-          printed = ap₂ (λ x n. x ++ says rules (n + 1) docs ws r) h.printed (sym long) ∙ sym (body-push rules rs r);
+          printed = ap₂ (λ x n. x ++ says rules (n + 1) (length docs) docs ws r) h.printed (sym long) ∙ sym (body-push rules rs r);
         }
 
   -- ---- the kinds of lines
@@ -139,9 +143,9 @@ module _ {G S W : Type 0} (other : Dialect → List ℕ → Reading → Type 0) 
       let docs = held_behind rules h.readings in
       let ws = watches_behind rules h.readings in
       let put = puts rules docs ws h.store (few_held old rules given so_far h) in (
-        asked_line rules.form (old.number + 1) (length docs) k q (rules.sees docs),
+        says rules (old.number + 1) (length docs) docs ws (query k q),
         one_more old new rules given so_far l (query k q) h reads same (query k q) refl (holds_more holds new.store rules docs ws put.0) number few asked (failed ∙ omega arith),
-        put.1,
+        put.1 ∙ ap (λ x. t0 ++ x) (sym (says_all rules (old.number + 1) docs ws k q)),
       )
 
   pub takes_document : (old new : Answering G S) → dialect_of new.dialect ≡ dialect_of old.dialect → (form : Form) → HasForm holds old.store form → (d : Doc) (ns t0 t1 : List ℕ)
@@ -168,7 +172,7 @@ module _ {G S W : Type 0} (other : Dialect → List ℕ → Reading → Type 0) 
         text ∙ ap (λ (f : Form). t0 ++ refusal_line f (old.number + 1) x) (written rules _ _ h.store),
       )
 
-  -- a line that is neither blank, nor a document or query line, that comes to this
+  -- a line that is neither blank, nor a document or query line, and what comes of it
   module _ (old new : Answering G S) (rules : Rules W) (given : List Line) (so_far : List ℕ) (l : Line) (raw : Reading)
       (h : HasAnswered other holds old rules given so_far) (reads : ReadsWith other (dialect_of old.dialect) l raw) (same : dialect_of new.dialect ≡ dialect_of old.dialect)
       (number : new.number ≡ old.number + 1) (few : old.number ≤ 2 ^ 40) (asked : new.queries ≡ old.queries) (t0 t1 : List ℕ) where
@@ -242,13 +246,13 @@ module _ {G S W : Type 0} (other : Dialect → List ℕ → Reading → Type 0) 
       → (t0 t1 : List ℕ) (tail : Tail) (documents : ℕ) (rules : Rules W) (given : List Line) (so_far : List ℕ) (h : HasAnswered other holds s rules given so_far)
       → documents ≡ length (held_behind rules h.readings) → tail ≡ rules.tail (held_behind rules h.readings)
       → t1 ≡ t0 ++ summary_with form documents s.queries s.refused tail
-      → Finishes (HasAnswered other holds) (IsText other) (HasRefusal other) (HasNoRefusal other) s t0 t1 s.refused rules given so_far
+      → Finishes (HasAnswered other holds) (IsText other exactly) (HasRefusal other) (HasNoRefusal other) s t0 t1 s.refused rules given so_far
   answering_ends s form written t0 t1 tail documents rules given so_far h count behind put =
       let rs = h.readings in
       let last = end_of rules rs in
       record {
         printed = last;
-        whole = record { readings = rs; read = h.read; bytes = ap (λ b. b ++ last) h.printed };
+        whole = body_text other exactly rules given so_far (answered_body other holds s rules given so_far h);
         text = put ∙ (λ i. t0 ++ summary_with (written rules _ _ h.store i) (count i) (h.queries i) (h.refused i) (behind i));
         some = λ n e. (rs, h.read, omega (arith, e, h.refused));
         none = λ e. (rs, h.read, sym h.refused ∙ e);
@@ -256,8 +260,9 @@ module _ {G S W : Type 0} (other : Dialect → List ℕ → Reading → Type 0) 
 
 -- ---- where nothing was read
 
-pub ends_none : {W : Type 0} (other : Dialect → List ℕ → Reading → Type 0) (rules : Rules W) (left printed : Option (List ℕ))
-    → Ends (IsBody other rules) (IsText other rules) (HasRefusal other rules) (HasNoRefusal other rules) NoMemory left left printed printed
-ends_none other rules left printed =
-    ends_at_once (IsBody other rules) (IsText other rules) (HasRefusal other rules) (HasNoRefusal other rules) (body_first other rules) left printed []
-    (record { readings = []; read = read_none rules other; bytes = sym (body-nil rules) })
+pub body_of_none : {W : Type 0} (other : Dialect → List ℕ → Reading → Type 0) (way : Reach) (rules : Rules W) → IsBody other way rules [] []
+body_of_none other way rules = record { readings = []; numbers = told []; read = read_none rules other; reach = told_reaches way []; bytes = sym (body-nil rules (told [])) }
+
+pub ends_none : {W : Type 0} (other : Dialect → List ℕ → Reading → Type 0) (way : Reach) (rules : Rules W) (left printed : Option (List ℕ)) → EndsOf other way rules NoMemory left left printed printed
+ends_none other way rules left printed =
+    ends_at_once (IsBody other way rules) (IsText other way rules) (HasRefusal other rules) (HasNoRefusal other rules) (body_first other way rules) left printed [] (body_of_none other way rules)

@@ -1,6 +1,6 @@
 -- What a store makes of the lines of an input.
 use Rattle.eb_fields.specs.Dialect.{Dialect}
-use Rattle.std.specs.Prelude.{◌≡◌, ℕ, ◌+◌, ◌<◌, List, [], ◌∷◌, ◌++◌, length, Option, Some, None}
+use Rattle.std.specs.Prelude.{◌≡◌, ℕ, ◌<◌, List, [], ◌∷◌, ◌++◌, Option, Some, None}
 use Rattle.std.specs.List.{AllZip}
 use Rattle.eb_base.specs.Document.{Doc}
 use Rattle.eb_base.specs.Query.{Tree}
@@ -10,15 +10,14 @@ use Rattle.eb_lines.specs.declared.form.Tail.{Tail}
 use Rattle.eb_lines.specs.declared.refusal.Refusal.{Refusal}
 use Rattle.eb_lines.specs.declared.refusal.Refusal.TheVariants.{BadLine, LongLine}
 use Rattle.eb_lines.specs.Kinds.{Kind, blank_line, document_line, query_line, bad_line, kind_of}
-use Rattle.eb_lines.specs.Progress.{documents_in, accepted, queries, refusals}
+use Rattle.eb_lines.specs.Progress.{documents_in, accepted, refusals}
 use Rattle.eb_lines.specs.Reading.{Reading, blank, document, query, refused, watch}
 use Rattle.eb_lines.specs.Reads.{ReadsByKind}
-use Rattle.eb_lines.specs.Text.{asked_line, refusal_line, watch_line, summary_with}
 
 -- by which rules a store takes lines, where W is what it holds beside documents: how lines are read; what it holds before the first line; why it
 -- refuses a document after those that it has accepted, if it does, and which watches it tells else; over which of them a query is
 -- answered; why it refuses a watch line, and what it holds after one that it doesn't refuse; how what is printed is written, and what is
--- told beside the counts of the summary
+-- printed beside the counts of the summary
 pub record Rules (W : Type 0) : Type 0 where
   pub dialect : Dialect
   pub start : List Doc
@@ -40,13 +39,17 @@ abbrev pub watch_outcome : ℕ → Option Tree → Option Refusal → Reading
 watch_outcome n q None = watch n q
 watch_outcome n q (Some r) = refused r
 
--- what a line comes to after these
+-- what a line comes to, where a document and a watch are refused for these causes
+abbrev pub comes_by : (Doc → Option Refusal) → (ℕ → Option Tree → Option Refusal) → Reading → Reading
+comes_by refusal watch_refusal blank = blank
+comes_by refusal watch_refusal (document d) = document_outcome d (refusal d)
+comes_by refusal watch_refusal (query a q) = query a q
+comes_by refusal watch_refusal (refused r) = refused r
+comes_by refusal watch_refusal (watch n q) = watch_outcome n q (watch_refusal n q)
+
+-- what it comes to after these
 abbrev pub comes : {W : Type 0} → Rules W → List Doc → W → Reading → Reading
-comes rules docs ws blank = blank
-comes rules docs ws (document d) = document_outcome d (rules.refusal docs d)
-comes rules docs ws (query a q) = query a q
-comes rules docs ws (refused r) = refused r
-comes rules docs ws (watch n q) = watch_outcome n q (rules.watch_refusal ws n q)
+comes rules docs ws r = comes_by (rules.refusal docs) (rules.watch_refusal ws) r
 
 -- what is held beside documents after a line that came to this
 abbrev pub watches_after : {W : Type 0} → Rules W → W → Reading → W
@@ -77,9 +80,12 @@ abbrev pub ReadsWith : (Dialect → List ℕ → Reading → Type 0) → Dialect
 ReadsWith other how (line bytes) r = ReadsKind other how (kind_of how bytes) bytes r
 ReadsWith other how long_line r = r ≡ refused LongLine
 
--- the lines are read one by one, and come to these
+-- the lines are read one by one in this way, and come to these
+abbrev pub ComeTo : {W : Type 0} → (Line → Reading → Type 0) → Rules W → List Line → List Reading → Type 0
+ComeTo reads rules lines rs = (raw : List Reading) × AllZip reads lines raw × (rs ≡ come_behind rules rules.start rules.watches raw)
+
 abbrev pub AreRead : {W : Type 0} → (Dialect → List ℕ → Reading → Type 0) → Rules W → List Line → List Reading → Type 0
-AreRead other rules lines rs = (raw : List Reading) × AllZip (ReadsWith other rules.dialect) lines raw × (rs ≡ come_behind rules rules.start rules.watches raw)
+AreRead other rules = ComeTo (ReadsWith other rules.dialect) rules
 
 -- what a store holds after lines that came to these
 abbrev pub held_behind : {W : Type 0} → Rules W → List Reading → List Doc
@@ -87,38 +93,6 @@ held_behind rules rs = rules.start ++ accepted rs
 
 abbrev pub watches_behind : {W : Type 0} → Rules W → List Reading → W
 watches_behind rules rs = watches_from rules rules.watches rs
-
--- what line `number` prints after these
-abbrev pub says : {W : Type 0} → Rules W → ℕ → List Doc → W → Reading → List ℕ
-says rules number docs ws blank = []
-says rules number docs ws (document d) = watch_line rules.form number (rules.tells ws d)
-says rules number docs ws (query a q) = asked_line rules.form number (length docs) a q (rules.sees docs)
-says rules number docs ws (refused r) = refusal_line rules.form number r
-says rules number docs ws (watch n q) = []
-
--- what the lines from line j + 1 on print, after these
-unfoldable pub body_from : {W : Type 0} → Rules W → ℕ → List Doc → W → List Reading → List ℕ
-body_from rules j docs ws [] = []
-body_from rules j docs ws (r ∷ rs) = says rules (j + 1) docs ws r ++ body_from rules (j + 1) (docs ++ documents_in r) (watches_after rules ws r) rs
-
-abbrev pub body : {W : Type 0} → Rules W → List Reading → List ℕ
-body rules rs = body_from rules 0 rules.start rules.watches rs
-
--- the summary, with what is told beside the counts
-abbrev pub end_of : {W : Type 0} → Rules W → List Reading → List ℕ
-end_of rules rs = summary_with rules.form (length (held_behind rules rs)) (queries rs) (refusals rs) (rules.tail (held_behind rules rs))
-
--- what these lines print
-pub record IsBody {W : Type 0} (other : Dialect → List ℕ → Reading → Type 0) (rules : Rules W) (lines : List Line) (printed : List ℕ) : Type 0 where
-  pub readings : List Reading
-  pub read : AreRead other rules lines readings
-  pub bytes : printed ≡ body rules readings
-
--- their whole text
-pub record IsText {W : Type 0} (other : Dialect → List ℕ → Reading → Type 0) (rules : Rules W) (lines : List Line) (printed : List ℕ) : Type 0 where
-  pub readings : List Reading
-  pub read : AreRead other rules lines readings
-  pub bytes : printed ≡ body rules readings ++ end_of rules readings
 
 -- some line is refused; none is
 abbrev pub HasRefusal : {W : Type 0} → (Dialect → List ℕ → Reading → Type 0) → Rules W → List Line → Type 0

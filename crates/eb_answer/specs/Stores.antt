@@ -10,7 +10,8 @@ use Rattle.eb_lines.specs.Reading.{Reading, blank, document, query, refused, wat
 use Rattle.eb_lines.specs.Text.{asked_line}
 use Rattle.eb_answer.specs.Rules.{Rules, document_outcome, comes, watches_after}
 
--- the store holds some documents by some rules, of which no more came from lines than an input may have
+-- the store holds some documents by some rules, of which no more came from lines than an input may
+-- have
 pub record IsHolding {P W : Type 0} (holds : P → Rules W → List Doc → W → Type 0) (s : P) : Type 0 where
   pub rules : Rules W
   pub docs : List Doc
@@ -18,7 +19,7 @@ pub record IsHolding {P W : Type 0} (holds : P → Rules W → List Doc → W �
   pub is : holds s rules docs watches
   pub few : length docs ≤ length rules.start + 2 ^ 41
 
--- what is printed is written so
+-- the output is written so
 abbrev pub HasForm : {P W : Type 0} → (P → Rules W → List Doc → W → Type 0) → P → Form → Type 0
 HasForm {P} {W} holds s form = (rules : Rules W) (docs : List Doc) (ws : W) → holds s rules docs ws → form ≡ rules.form
 

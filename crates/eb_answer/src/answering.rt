@@ -27,9 +27,9 @@ use std::alloc::Global;
 #[derive(Drop)]
 pub struct Answering<'a, G, S> {
     alloc: Global,
-    /// It is told what the store does.
+    /// The gate, which observes what the store does.
     pub gate: &'a G,
-    /// What the lines fill and ask.
+    /// What the lines fill and query.
     pub store: S,
     /// How lines are read.
     pub dialect: Dialect<'a>,
@@ -44,7 +44,8 @@ pub struct Answering<'a, G, S> {
 }
 
 impl<'a, G: Gate, S: Store> Answering<'a, G, S> {
-    /// A run before the first line, over this store, which reads lines by this dialect. The gate is told what the store does.
+    /// A run before the first line, over this store, which reads lines by this dialect. The gate
+    /// observes what the store does.
     pub fn new(alloc: Global, gate: &'a G, store: S, dialect: Dialect<'a>) -> Answering<'a, G, S>
         ensures { (rules : Rules S.Watches) → dialect_of dialect.entry ≡ rules.dialect → S.holds store rules rules.start rules.watches
             → HasAnswered S.other S.holds result rules [] [] }
@@ -61,7 +62,7 @@ impl<'a, G: Gate, S: Store> Answering<'a, G, S> {
         }
     }
 
-    /// Passes over a blank line.
+    /// Skips a blank line.
     pub fn pass(&mut self)
         requires state { IsRunning (HasAnswered S.other S.holds) self.old }
         requires number { self.old.number ≤ 2 ^ 40 }
@@ -70,7 +71,8 @@ impl<'a, G: Gate, S: Store> Answering<'a, G, S> {
         self.number += 1;
     }
 
-    /// Refuses a line for this cause, and puts so after the text. Where memory doesn't suffice, nothing is done.
+    /// Refuses a line for this cause, and puts the refusal after the text. Where memory runs out,
+    /// nothing is done.
     pub fn refuse(&mut self, refusal: Refusal, text: &mut Vec<u8>) -> Result<(), NoMemory>
         requires state { IsRunning (HasAnswered S.other S.holds) self.old }
         requires number { self.old.number ≤ 2 ^ 40 }
@@ -85,8 +87,8 @@ impl<'a, G: Gate, S: Store> Answering<'a, G, S> {
         Ok(())
     }
 
-    /// Adds a document, and puts the watches that it matches after the text; where it isn't accepted, its line is refused. Where
-    /// memory doesn't suffice, nothing is done.
+    /// Adds a document, and puts the watches that it matches after the text; where it isn't
+    /// accepted, its line is refused. Where memory runs out, nothing is done.
     pub fn add(&mut self, document: &Document, text: &mut Vec<u8>) -> Result<(), NoMemory>
         requires state { IsRunning (HasAnswered S.other S.holds) self.old }
         requires number { self.old.number ≤ 2 ^ 40 }
@@ -106,8 +108,8 @@ impl<'a, G: Gate, S: Store> Answering<'a, G, S> {
         Ok(())
     }
 
-    /// Puts what is asked of a query after the text: the ids of its newest matches, or its counts. Where memory doesn't suffice,
-    /// nothing is done.
+    /// Puts what is asked of a query after the text: the ids of its newest matches, or its counts.
+    /// Where memory runs out, nothing is done.
     pub fn answer(&mut self, ask: Ask, query: Query, text: &mut Vec<u8>) -> Result<(), NoMemory>
         requires state { IsRunning (HasAnswered S.other S.holds) self.old }
         requires number { self.old.number ≤ 2 ^ 40 }
@@ -123,7 +125,8 @@ impl<'a, G: Gate, S: Store> Answering<'a, G, S> {
         Ok(())
     }
 
-    /// Takes a line that is neither blank, nor a document or query line, nor long. Where memory doesn't suffice, it isn't taken.
+    /// Takes a line that is neither blank, nor a document or query line, nor long. Where memory
+    /// runs out, it isn't taken.
     pub fn take_other(&mut self, bytes: &[u8], text: &mut Vec<u8>) -> Result<(), NoMemory>
         requires state { IsRunning (HasAnswered S.other S.holds) self.old }
         requires number { self.old.number ≤ 2 ^ 40 }
@@ -176,15 +179,17 @@ impl<'a, G: Gate, S: Store> Answering<'a, G, S> {
 
 impl<G: Gate, S: Store> LineProgram for Answering<'_, G, S> {
     ghost use Rattle.eb_answer.specs.Answering.{HasAnswered, answered_first, body_first};
-    ghost use Rattle.eb_answer.specs.Rules.{Rules, IsBody, IsText, HasRefusal, HasNoRefusal};
+    ghost use Rattle.eb_answer.specs.Rules.{Rules, HasRefusal, HasNoRefusal};
+    ghost use Rattle.eb_answer.specs.Sees.{exactly};
+    ghost use Rattle.eb_answer.specs.Text.{IsBody, IsText};
 
     ghost Asked = { Rules S.Watches };
 
     ghost has_run = { HasAnswered S.other S.holds };
 
-    ghost prints = { IsBody S.other };
+    ghost prints = { IsBody S.other exactly };
 
-    ghost ends_with = { IsText S.other };
+    ghost ends_with = { IsText S.other exactly };
 
     ghost refuses = { HasRefusal S.other };
 
@@ -229,7 +234,7 @@ impl<G: Gate, S: Store> LineProgram for Answering<'_, G, S> {
 
     ghost printed_first = { answered_first S.other S.holds };
 
-    ghost whole = { body_first S.other };
+    ghost whole = { body_first S.other exactly };
 
     ghost counts = { λ p a given so_far h. h.number };
 }

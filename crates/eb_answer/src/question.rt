@@ -9,7 +9,8 @@ use eb_lines::{Refusal, query_refusal};
 use eb_query::{Ask, read_ask};
 use std::alloc::Global;
 
-/// What a query line asks by this dialect, and the query of which it asks it, or why the line is refused.
+/// What a query line asks by this dialect, and of which query, or why the line is refused.
+#[inline(always)]
 pub fn read_question(
     alloc: Global,
     dialect: Dialect<'_>,

@@ -14,18 +14,20 @@ use eb_lines::{Form, Refusal, Tail};
 use eb_query::Ask;
 use std::alloc::Global;
 
-/// What the lines of an input fill and ask.
+/// What the lines of an input fill and query.
 pub trait Store {
     // What it holds beside documents.
     ghost Watches: { Type 0 };
 
-    // How a line is read, by the dialect, that is neither blank, nor a document or query line, nor long.
+    // How a line is read, by the dialect, that is neither blank, nor a document or query line, nor
+    // long.
     ghost other: { Spoken → List ℕ → Reading → Type 0 };
 
     // It holds these, and goes by these rules.
     ghost holds: { Self → Rules Watches → List Doc → Watches → Type 0 };
 
-    /// Adds a document after the others, or gives why it is refused, and holds what it held. Takes no memory.
+    /// Adds a document after the others, or returns why it is refused, and holds what it held.
+    /// Takes no memory.
     fn place<G: Gate>(&mut self, document: &Document, gate: &G) -> Option<Refusal>
         requires { IsHolding holds self.old }
         ensures { Places holds self.old self.new document.now result };
@@ -36,8 +38,8 @@ pub trait Store {
         ensures told { IfOk result (λ numbers. Tells holds self.now document.now numbers.items) }
         ensures few { IfOk result (λ numbers. length numbers.items ≤ 2 ^ 32) };
 
-    /// Takes a line that is neither blank, nor a document or query line, nor long, or gives why it is refused. Where memory
-    /// doesn't suffice, it holds what it held.
+    /// Takes a line that is neither blank, nor a document or query line, nor long, or returns why
+    /// it is refused. Where memory runs out, it holds what it held.
     fn take_other(
         &mut self,
         alloc: Global,
@@ -49,8 +51,8 @@ pub trait Store {
         ensures ok { IfOk result (λ refusal. (r : Reading) × other (dialect_of dialect.entry) bytes.now r × TakesOther holds self.old self.new r refusal) }
         ensures err { OnErr result (Keeps holds self.old self.new) };
 
-    /// Answers line `number`: puts what it asks of the query after the text, the ids of the newest matches or the counts.
-    /// Where memory doesn't suffice, nothing is done.
+    /// Answers line `number`: puts what it asks of the query after the text, the ids of the newest
+    /// matches or the counts. Where memory runs out, nothing is done.
     fn answer<G: Gate>(
         &mut self,
         alloc: Global,
@@ -71,12 +73,12 @@ pub trait Store {
         ensures { (rules : Rules Watches) (docs : List Doc) (ws : Watches) → holds self.now rules docs ws → length docs ≤ length rules.start + 2 ^ 41
             → result ≡ length docs };
 
-    /// How what is printed is written.
+    /// How the output is written.
     fn form(&self) -> Form
         requires { IsHolding holds self.now }
         ensures { HasForm holds self.now result };
 
-    /// Ends an input, and gives what is told beside the counts of its summary.
+    /// Ends an input, and returns what is printed beside the counts of its summary.
     fn close(&mut self, alloc: Global) -> Result<Tail, NoMemory>
         requires { IsHolding holds self.old }
         ensures { IfOk result (λ tail. (rules : Rules Watches) (docs : List Doc) (ws : Watches)

@@ -1,4 +1,4 @@
--- What the bytes taken tell of images.
+-- What the bytes taken say of images.
 use Rattle.std.proofs.Common.{◌≡◌, ℕ, zero, suc, inl, inr, true, false, true≢false, List, [], ◌∷◌, ◌++◌, length, take, Option, Some, refl, sym, ap, subst, ◌∙◌}
 use Rattle.std.proofs.Common.{arith, append_assoc, append-nil}
 use Rattle.std.specs.Prelude.{slice_get}
@@ -95,7 +95,7 @@ module _ (σ : Setting) (docs : List Doc) (fs : IsSetting σ) (fd : All IsDocume
           | inr long ↦ b.none n.0 n.1 (front_both n.0 t n.2.0 front.rest (sym n.2.1) long)
         ]
 
--- ---- a part more
+-- ---- one more part
 
 module _ (σ : Setting) (docs : List Doc) (d : Doc) (fs : IsSetting σ) (fd : All IsDocument docs) (within : IsDocument d) where
   pub all_push : All IsDocument (docs ++ d ∷ [])

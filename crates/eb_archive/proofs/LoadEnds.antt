@@ -1,6 +1,6 @@
 -- A load of an image and of lines after it ends in time.
 use Rattle.eb_fields.specs.Dialect.{Dialect}
-use Rattle.std.proofs.Common.{◌≡◌, ℕ, ◌<◌, ◌⊎◌, inl, inr, List, [], ◌++◌, length, Option, Some, None, refl, sym, ap, ap₂, subst, ◌∙◌, arith, append-nil, length-append, append_assoc}
+use Rattle.std.proofs.Common.{◌≡◌, ℕ, ◌<◌, inl, inr, List, [], ◌++◌, length, Option, Some, None, refl, sym, ap, ap₂, subst, ◌∙◌, arith, append-nil, length-append, append_assoc}
 use Rattle.std.proofs.lemmas.Bool.{cases_lt}
 use Rattle.std.proofs.lemmas.List.{append_cancel_left}
 use Rattle.eb_base.specs.Document.{Doc}
@@ -100,7 +100,7 @@ module _ (σ : Setting) (docs : List Doc) (rest : List ℕ) (allowed : IsSetting
     of_unread WriteFault u f = absurd u.why
     of_unread InputTooLong u f = absurd u.why
 
-  -- what is told of the lines
+  -- what is said of the lines
   module _ (how : Dialect) (form : Form) (status : Status) (l0 l1 p0 p1 : Option (List ℕ)) (e : EndsLoad how form status l0 l1 p0 p1) (source : l0 ≡ Some (image_of σ docs ++ rest)) where
     maybe_unread : (s : Status) → IsUnread s l0 l1 p0 p1 → IsCutShort s rest l1
     maybe_unread ReadFault u = (inl refl, cut_short u.taken l1 (sym u.left ∙ source) u.why.0)

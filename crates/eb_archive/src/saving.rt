@@ -17,11 +17,12 @@ use eb_lines::{LineKind, LineProgram, Refusal, line_kind, read_document_line};
 use eb_writer::Full;
 use std::alloc::Global;
 
-// An index of the documents that the lines added so far, with its writer, and how many lines were given and refused.
+// An index of the documents that the lines added so far, with its writer, and how many lines were
+// given and refused.
 #[derive(Drop)]
 pub(crate) struct Saving<'a, G> {
     alloc: Global,
-    // It is told what the writer does.
+    // The gate, which observes what the writer does.
     gate: &'a G,
     // How lines are read.
     dialect: Dialect<'a>,
@@ -61,7 +62,7 @@ impl<'a, G: Gate> Saving<'a, G> {
         })
     }
 
-    // Passes over a blank line.
+    // Skips a blank line.
     fn pass(&mut self)
         requires state { IsRunning HasSaved self.old }
         requires number { self.old.number ≤ 2 ^ 40 }
@@ -80,8 +81,8 @@ impl<'a, G: Gate> Saving<'a, G> {
         self.refused += 1;
     }
 
-    // Adds a document, with its part after the text; where there is no room for it, the line is refused. Where memory
-    // doesn't suffice, nothing is done.
+    // Adds a document, with its part after the text; where there is no room for it, the line is
+    // refused. Where memory runs out, nothing is done.
     fn save(&mut self, document: &Document, text: &mut Vec<u8>) -> Result<(), NoMemory>
         requires state { IsRunning HasSaved self.old }
         requires number { self.old.number ≤ 2 ^ 40 }

@@ -1,4 +1,4 @@
--- What a reader of a feed holds is what a feed keeps of the front that it knows.
+-- What a reader of a feed holds is what a feed keeps of the prefix that it knows.
 use Rattle.std.proofs.Common.{◌≡◌, ℕ, zero, suc, ◌+◌, ◌-◌, ◌^◌, ◌<◌, ◌≤◌, ◌⊎◌, inl, inr, ⊎_elim, true, false}
 use Rattle.std.proofs.Common.{List, [], ◌∷◌, ◌++◌, length, take, reverse, min, refl, ap, sym, ◌∙◌, subst, arith, append_assoc, append-nil, length-append}
 use Rattle.std.proofs.lemmas.Bool.{cases_Bool}
@@ -12,10 +12,10 @@ use Rattle.eb_feed.specs.Generations.{with_generation, generations, joined_gener
 use Rattle.eb_feed.proofs.Generations.{generations_push, generations_none, joined_all}
 use Rattle.eb_stream.specs.declared.turn.Turn.{Turn}
 use Rattle.eb_stream.specs.Turns.{FeedToken, WriterToken, past_of, history_of, stretch_of, counted, HasTaken}
-use Rattle.eb_feed_workers.specs.Bodies.{side}
+use Rattle.eb_workers.specs.Bodies.{side}
 use Rattle.eb_feed_workers.specs.Offices.{taken_by}
 
--- ---- a front that ends in the newest generation
+-- ---- a prefix that ends in the newest generation
 
 -- the generations of a history, of whose newest the first n documents are taken
 abbrev pub FrontsAreOwn : Setting → List Doc → Type 0
@@ -37,7 +37,7 @@ FrontsOf σ past = (n : ℕ) → 1 ≤ n → n ≤ length (first_of past) → ge
 whole : (σ : Setting) (docs : List Doc) (g : List Doc) (gs : List (List Doc)) → generations σ docs ≡ g ∷ gs → generations σ (joined_generations (g ∷ gs)) ≡ g ∷ gs
 whole σ docs g gs e = ap (λ p. generations σ (joined_generations p)) (sym e) ∙ ap (generations σ) (joined_all σ docs) ∙ e
 
--- the newest has one document more than it had, or is new
+-- the newest has one more document than it had, or is new
 fronts_with : (σ : Setting) (docs : List Doc) (d : Doc) (past : List (List Doc)) → generations σ docs ≡ past → FrontsOf σ past → FrontsOf σ (with_generation σ past d)
 fronts_with σ docs d [] e h = λ n low high.
     let all : take n (d ∷ []) ≡ d ∷ [] = take_all n (d ∷ []) (omega (arith, low)) in
@@ -108,7 +108,7 @@ own_taken σ history past is = ⊎_elim
     (λ (e : (history ≡ []) × (past ≡ [] ∷ [])). inr e.1)
     is
 
--- a front of the newest one, which has a document where it isn't the first
+-- a prefix of the newest one, which has a document where it isn't the first
 pub own_front : (σ : Setting) (docs known : List Doc) (gs : List (List Doc)) → IsOwn σ (docs ∷ gs) → IsPrefix known docs → (length gs ≡ 0) ⊎ (1 ≤ length known) → IsOwn σ (known ∷ gs)
 own_front σ docs [] [] is p begun = inr refl
 own_front σ docs [] (g ∷ gs) is p begun = ⊎_elim (λ (e : length (g ∷ gs) ≡ 0). absurd (omega (arith, e))) (λ (e : 1 ≤ 0). absurd (omega (arith, e))) begun
@@ -181,7 +181,7 @@ reader_keeps w r is held begun turns front known =
 pub counted_is : (docs : List Doc) → length docs < 2 ^ 64 - 1 → counted docs ≡ length docs
 counted_is docs few = omega (arith, few)
 
--- a front that the writer has seen
+-- a prefix that the writer has seen
 pub settled_within : (w : WriterToken) (known : List Doc) (seen : ℕ) → IsPrefix known (taken_by w) → seen ≡ counted known → length (taken_by w) < 2 ^ 64 - 1
     → (seen ≡ length known) × (seen ≤ length (taken_by w))
 settled_within w known seen p e few =

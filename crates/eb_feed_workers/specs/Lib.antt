@@ -1,8 +1,3 @@
-pub mod Output
-pub mod Texts
+pub mod FeedRules
 pub mod Offices
-pub mod Waiting
-pub mod Serving
-pub mod Bodies
-pub mod ServingLaws
 pub mod Laws

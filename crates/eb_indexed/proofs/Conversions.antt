@@ -9,7 +9,7 @@ use Rattle.eb_place.proofs.CutSegments.{closed_stays}
 use Rattle.eb_engine.specs.Tokens.{AreClosed}
 use Rattle.eb_indexed.specs.Conversions.{AreConverted, most_converted}
 
--- what is closed in a front is closed in the whole, which has no fewer segments
+-- what is closed in a prefix is closed in the whole, which has no fewer segments
 front_closed : (σ : Setting) (xs ys : List Doc) (s : ℕ) → IsPrefix xs ys → s + 1 < length (cut σ xs) → length (cut σ xs) ≤ length (cut σ ys)
 front_closed σ xs ys s p h = let g = (closed_stays σ xs p.0 s h).0 in rw p.1 at g
 
@@ -17,7 +17,7 @@ front_closed σ xs ys s p h = let g = (closed_stays σ xs p.0 s h).0 in rw p.1 a
 pub few_left : (σ : Setting) (xs ys : List Doc) (n : ℕ) → IsPrefix xs ys → length (cut σ ys) ≤ n + 1 → AreConverted σ xs n
 few_left σ xs ys n p few = record { each = λ s h. let g = front_closed σ xs ys s p h in omega (arith, g, few, h) }
 
--- what holds of a history holds of its fronts
+-- what holds of a history holds of its prefixes
 pub converted_front : (σ : Setting) (xs ys : List Doc) (n : ℕ) → IsPrefix xs ys → AreConverted σ ys n → AreConverted σ xs n
 converted_front σ xs ys n p are = record { each = λ s h. let g = front_closed σ xs ys s p h in are.each s (omega (arith, g, h)) }
 

@@ -1,6 +1,6 @@
 -- An index before the first line.
 use Rattle.eb_fields.specs.Dialect.{Dialect}
-use Rattle.std.proofs.Common.{◌≡◌, ℕ, List, ap, sym}
+use Rattle.std.proofs.Common.{◌≡◌, List, ap, sym}
 use Rattle.eb_base.specs.Document.{Doc}
 use Rattle.eb_base.specs.Setting.{Setting}
 use Rattle.eb_lines.specs.declared.form.Form.{Form}

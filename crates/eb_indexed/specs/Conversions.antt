@@ -4,7 +4,8 @@ use Rattle.eb_base.specs.Document.{Doc}
 use Rattle.eb_base.specs.Setting.{Setting}
 use Rattle.eb_place.specs.Room.{cut}
 
--- each segment whose following segment has a document of the history is among the first n, which are converted
+-- each segment whose following segment has a document of the history is among the first n, which
+-- are converted
 pub record AreConverted (σ : Setting) (docs : List Doc) (n : ℕ) : Type 0 where
   pub each : (s : ℕ) → s + 1 < length (cut σ docs) → s < n
 

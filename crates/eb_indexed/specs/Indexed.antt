@@ -1,6 +1,6 @@
--- What an index holds that lines fill.
+-- An index that lines fill and query.
 use Rattle.eb_fields.specs.Dialect.{Dialect}
-use Rattle.std.specs.Prelude.{◌≡◌, ℕ, Bool, true, false, List, [], ◌∷◌, ◌++◌}
+use Rattle.std.specs.Prelude.{◌≡◌, Bool, true, false, List, [], ◌∷◌, ◌++◌}
 use Rattle.eb_answer.specs.Rules.{Rules}
 use Rattle.eb_base.specs.Document.{Doc}
 use Rattle.eb_base.specs.Setting.{Setting}
@@ -11,7 +11,8 @@ use Rattle.eb_indexed.specs.declared.indexed.Indexed.{Indexed}
 use Rattle.eb_indexed.specs.Conversions.{AreConverted}
 use Rattle.eb_indexed.specs.IndexRules.{index_rules}
 
--- an index of this setting holds these documents, each segment that is closed is converted, and the filters cover the documents
+-- an index of this setting holds these documents, each segment that is closed is converted, and the
+-- filters cover the documents
 pub record Holds (s : Indexed) (σ : Setting) (docs : List Doc) : Type 0 where
   pub words : Words
   pub index : s.index ≡ words

@@ -33,7 +33,7 @@ pub fn has_waiting(writer: &Writer, converter: &Converter) -> bool
     writer.segments().saturating_sub(converter.converted()) > 1
 }
 
-/// Tells the converter the history, and lets it convert where a segment waits for it. Takes no memory.
+/// The converter learns the history, and converts where a segment waits for it. Takes no memory.
 pub fn catch_up(index: &Index, writer: &mut Writer, converter: &mut Converter)
     requires writer { writer.old.index ≡ index.now }
     requires converter { converter.old.index ≡ index.now }
@@ -49,9 +49,10 @@ pub fn catch_up(index: &Index, writer: &mut Writer, converter: &mut Converter)
     }
 }
 
-/// Closes an input: the converter is told the whole history and converts until there is nothing to convert, so that of the
-/// segments begun all but the last one are converted, and the writer is told of these. The result is how many are begun,
-/// and how many converted. The tokens must have been made with this index. Takes no memory.
+/// Closes an input: the converter learns the whole history and converts until there is nothing to
+/// convert. So of the segments begun all but the last one are converted, and the writer knows
+/// these. The result is how many are begun, and how many converted. The tokens must have been made
+/// with this index. Takes no memory.
 pub fn close(index: &Index, writer: &mut Writer, converter: &mut Converter) -> SegmentCounts
     requires writer { writer.old.index ≡ index.now }
     requires converter { converter.old.index ≡ index.now }

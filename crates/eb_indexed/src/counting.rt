@@ -12,6 +12,7 @@ use eb_place::Steps;
 use std::marker::Brand;
 use std::sync::ledger::{Blank, Ledger};
 
+// Counts with a counter of loads that nobody reads.
 fn count_with<G: Gate, L: Ledger>(
     index: &Index,
     filters: &Filters,
@@ -34,10 +35,12 @@ fn count_with<G: Gate, L: Ledger>(
     writer.count_likely(index, frame, tally, gate, &likely, &mut steps)
 }
 
-/// Counts, in the tally, all matches among the whole history of an index, by its writer: all in all, and in each of the
-/// tally's buckets, after what the tally held. Gives the number of documents. To spare loads, segments in which the query
-/// can't match by the terms that are noted in their filters aren't searched; no clause says so. The writer must have been
-/// made with this index, of which the filters cover the history, and stays as it is, as the frame does. Takes no memory.
+/// Counts, in the tally, all matches among the whole history of an index, by its writer: all in
+/// all, and in each of the tally's buckets, added to what the tally held. Returns the number of
+/// documents. To spare loads, segments in which the query can't match by the terms that are noted
+/// in their filters aren't searched; no clause says so. The writer must have been made with this
+/// index, and the filters must cover its history. The writer and the frame stay as they are. Takes
+/// no memory.
 pub fn count_all<G: Gate>(
     index: &Index,
     filters: &Filters,

@@ -17,7 +17,7 @@ pub struct Counts {
     pub refused: u64,
 }
 
-/// What tells the segments beside the counts of a summary, where they are told.
+/// The segments, as they are printed beside the counts of a summary, or nothing.
 pub fn tell_segments(form: Form, segments: SegmentCounts) -> Tail
     ensures { result ≡ segments_tail form segments.segments segments.converted }
 {
@@ -30,8 +30,8 @@ pub fn tell_segments(form: Form, segments: SegmentCounts) -> Tail
     }
 }
 
-/// The end of a run, after the text: the summary, and the segments where they are told. Where memory doesn't suffice, the text
-/// is as before.
+/// The end of a run, after the text: the summary, and the segments where they are printed. Where
+/// memory runs out, the text is as before.
 pub fn put_end(
     text: &mut Vec<u8>,
     form: Form,

@@ -18,7 +18,6 @@ use crate::counting::count_all;
 use crate::ending::tell_segments;
 use crate::searching::search_all;
 use crate::spare::Spare;
-use eb_answer::Store;
 use eb_base::{Config, Document, Gate, NoMemory, Query};
 use eb_bloom::Filters;
 use eb_count::Tally;
@@ -28,10 +27,11 @@ use eb_fields::Dialect;
 use eb_lines::{Form, Refusal, Tail, line_room, put_answer, put_count};
 use eb_query::Ask;
 use eb_writer::Full;
+use eb_answer::Store;
 use std::alloc::Global;
 
-/// An index with its writer, its converter and the filters of its segments, and how what is printed of it is written. The
-/// memory of the last query serves the next one.
+/// An index with its writer, its converter and the filters of its segments, and how its output is
+/// written. The memory of the last query serves the next one.
 #[derive(Drop)]
 pub struct Indexed {
     index: Index,
@@ -60,7 +60,7 @@ impl Indexed {
         })
     }
 
-    /// The same, of which what is printed is written in this form.
+    /// This index, whose output is written in this form.
     pub fn telling(self, form: Form) -> Indexed
         ensures holds { (σ : Setting) (docs : List Doc) → Holds self σ docs → Holds result σ docs }
         ensures form { result.form ≡ form }
@@ -83,8 +83,8 @@ impl Indexed {
         }
     }
 
-    /// Adds a document after the others, and converts the segment that it closed. False exactly where there is no room for
-    /// it. Takes no memory.
+    /// Adds a document after the others, and converts the segment that it closed. False exactly
+    /// where there is no room for it. Takes no memory.
     pub fn add<G: Gate>(&mut self, document: &Document, gate: &G) -> bool
         requires { (σ : Setting) × (docs : List Doc) × Holds self.old σ docs }
         ensures placed { (σ : Setting) (docs : List Doc) → Holds self.old σ docs → WithPlaced self.new σ docs document.now result }
@@ -100,7 +100,7 @@ impl Indexed {
         }
     }
 
-    /// Searches all documents, and gives their number. Takes no memory.
+    /// Searches all documents, and returns their number. Takes no memory.
     pub fn search<G: Gate>(&mut self, frame: &mut Frame, gate: &G) -> u64
         requires { (σ : Setting) × (docs : List Doc) × Holds self.old σ docs }
         ensures same { self.new ≡ self.old }
@@ -111,8 +111,8 @@ impl Indexed {
         search_all(&self.index, &self.filters, &mut self.writer, frame, gate)
     }
 
-    /// Clears the tally, counts in it all matches among all documents, and gives the number of documents. The frame stays as
-    /// it is. Takes no memory.
+    /// Clears the tally, counts in it all matches among all documents, and returns the number of
+    /// documents. The frame stays as it is. Takes no memory.
     pub fn count<G: Gate>(&mut self, frame: &mut Frame, tally: &mut Tally, gate: &G) -> u64
         requires { (σ : Setting) × (docs : List Doc) × Holds self.old σ docs }
         ensures same { self.new ≡ self.old }
@@ -163,7 +163,7 @@ impl Indexed {
         Ok(())
     }
 
-    // Answers line `number` by the counts of this tally, in which nothing is counted yet.
+    // Answers line `number` by the counts of this tally, which is empty.
     fn answer_counts<G: Gate>(
         &mut self,
         alloc: Global,
@@ -203,7 +203,7 @@ impl Indexed {
         self.writer.accepted()
     }
 
-    /// Converts all segments but the last one, and gives what is told of them.
+    /// Converts all segments but the last one, and returns what is printed of them.
     pub fn tail(&mut self) -> Tail
         requires { (σ : Setting) × (docs : List Doc) × Holds self.old σ docs }
         ensures { (σ : Setting) (docs : List Doc) → Holds self.old σ docs → result ≡ index_tail σ self.old.form docs }
@@ -212,7 +212,7 @@ impl Indexed {
         tell_segments(self.form, counts)
     }
 
-    /// How what is printed is written.
+    /// How the output is written.
     pub fn form(&self) -> Form
         ensures { result ≡ self.now.form }
     {

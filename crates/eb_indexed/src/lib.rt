@@ -1,4 +1,4 @@
-//! An index that the lines of an input fill and ask.
+//! An index that the lines of an input fill and query.
 #![tactic(auto)]
 
 mod converting;

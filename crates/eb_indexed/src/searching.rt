@@ -1,7 +1,9 @@
-ghost use Rattle.std.specs.Prelude.{◌≡◌, ◌<◌, ◌≤◌, length};
+ghost use Rattle.std.specs.Prelude.{◌≡◌, ◌<◌, ◌≤◌, ℕ, List, length};
 ghost use Rattle.eb_base.specs.Match.{answer};
+ghost use Rattle.eb_base.specs.Query.{word};
 ghost use Rattle.eb_bloom.specs.Covers.{Covers};
 ghost use Rattle.eb_cursor.specs.Frames.{query_of, k_of, ids_of};
+ghost use Rattle.eb_indexed.specs.Spared.{IsSpared};
 
 use eb_base::Gate;
 use eb_bloom::Filters;
@@ -11,6 +13,30 @@ use eb_place::Steps;
 use std::marker::Brand;
 use std::sync::ledger::{Blank, Ledger};
 
+// Searches the segments in which the query may match by what is noted in their filters. Of a word
+// it makes no load for what is in the other segments.
+fn search_noted<G: Gate, L: Ledger>(
+    index: &Index,
+    filters: &Filters,
+    writer: &mut Writer,
+    frame: &mut Frame,
+    gate: &G,
+    steps: &mut Steps<L>,
+) -> u64
+    requires writer { writer.old.index ≡ index.now }
+    requires covers { Covers filters.now index.now.setting writer.old.docs }
+    ensures writer { writer.new ≡ writer.old }
+    ensures count { result ≡ length writer.new.docs }
+    ensures ids { ids_of frame.new ≡ answer (query_of frame.old) (k_of frame.old) writer.new.docs }
+    ensures few { length (ids_of frame.new) ≤ k_of frame.old }
+    ensures loads { (t : List ℕ) → query_of frame.old ≡ word t
+        → IsSpared filters.now index.now.setting writer.new.docs writer.new.converted t (length (ids_of frame.new)) steps.old steps.new }
+{
+    let likely = filters.likely(frame.query(), writer.segments());
+    writer.search_likely(index, frame, gate, &likely, steps)
+}
+
+// Searches with a counter of loads that nobody reads.
 fn search_with<G: Gate, L: Ledger>(
     index: &Index,
     filters: &Filters,
@@ -28,14 +54,15 @@ fn search_with<G: Gate, L: Ledger>(
     ensures few { length (ids_of frame.new) ≤ k_of frame.old }
 {
     let mut steps = Steps::<L>::new(blank);
-    let likely = filters.likely(frame.query(), writer.segments());
-    writer.search_likely(index, frame, gate, &likely, &mut steps)
+    search_noted(index, filters, writer, frame, gate, &mut steps)
 }
 
-/// Searches the whole history of an index, by its writer, where nobody asks how many loads it took: puts the ids of
-/// the newest `k` matches into the frame, newest first, and gives the number of documents. To spare loads, segments in
-/// which the query can't match by the terms that are noted in their filters aren't searched; no clause says so. The writer
-/// must have been made with this index, of which the filters cover the history, and stays as it is. Takes no memory.
+/// Searches the whole history of an index, by its writer, without counting loads: puts the ids of
+/// the newest `k` matches into the frame, newest first, and returns the number of documents. To
+/// spare loads, segments in which the query can't match by the terms that are noted in their
+/// filters aren't searched; for a word a clause of `search_noted` says so. The writer must have
+/// been made with this index, and the filters must cover its history. The writer stays as it is.
+/// Takes no memory.
 pub fn search_all<G: Gate>(
     index: &Index,
     filters: &Filters,

@@ -26,8 +26,9 @@ impl Spare {
         Spare { frame: None }
     }
 
-    /// A frame without ids for a query that is well formed and a `k` from 1 to 1,000, in the memory of the one that is
-    /// kept, and else in memory of its own. Without memory the query is dropped.
+    /// A frame without ids for a query that is well formed and a `k` from 1 to 1,000, in the memory
+    /// of the kept frame, or in memory of its own. Without memory the query is dropped.
+    #[inline(always)]
     pub fn frame(&mut self, alloc: Global, query: Query, k: u32) -> Result<Frame, NoMemory>
         requires well_formed { IsWellFormed (tree query) }
         requires k { (1 ≤ k) × (k ≤ 1000) }
@@ -42,6 +43,7 @@ impl Spare {
     }
 
     /// Keeps the memory of a frame. Takes none.
+    #[inline(always)]
     pub fn keep(&mut self, frame: Frame) {
         self.frame = Some(frame);
     }

@@ -1,4 +1,4 @@
--- The JSON lines that are printed are read as what they tell.
+-- The JSON lines that are printed are read as what they say.
 use Rattle.std.proofs.Common.{◌≡◌, ℕ, ◌≤◌, List, [], ◌∷◌, ◌++◌, Option, Some, refl, sym, ap, ◌∙◌, arith, append-nil}
 use Rattle.std.specs.Prelude.{codes, if◌then◌else◌, option_and_then}
 use Rattle.std.specs.List.{AllByRecursion}

@@ -19,7 +19,7 @@ IsWord n = n < 2 ^ 64
 abbrev pub IsLineOf : List ℕ → Data → Type 0
 IsLineOf line v = (text : List ℕ) × (line ≡ text ++ 10 ∷ []) × (read text ≡ Some v)
 
--- as a value is read, its members stand in the order of their keys
+-- as a value is read: its members come in the order of their keys
 abbrev pub AnswersRead : Type 0
 AnswersRead = (form : Form) → form.json ≡ true → (line seen : ℕ) (ids : List ℕ) → IsWord line → IsWord seen → AllByRecursion IsWord ids
     → IsLineOf (answer_line form line seen ids) (object (member (codes "ids") (array (numbers ids)) (counted (codes "line") line (counted (codes "seen") seen no_members))))
@@ -28,7 +28,7 @@ abbrev pub WatchesRead : Type 0
 WatchesRead = (form : Form) → form.json ≡ true → (line n : ℕ) (ns : List ℕ) → IsWord line → AllByRecursion IsWord (n ∷ ns)
     → IsLineOf (watch_line form line (n ∷ ns)) (object (counted (codes "line") line (member (codes "watches") (array (numbers (n ∷ ns))) no_members)))
 
--- the number that a refusal tells
+-- the number that a refusal gives
 abbrev pub IsToldWord : Option Told → Type 0
 IsToldWord None = ⊤
 IsToldWord (Some told) = IsWord told.number
@@ -45,18 +45,18 @@ abbrev pub RefusalsRead : Type 0
 RefusalsRead = (form : Form) → form.json ≡ true → (line : ℕ) (r : Refusal) → IsWord line → TellsWord r
     → IsLineOf (refusal_line form line r) (object (followed_by (beside_cause r) (counted (codes "line") line (member (codes "refused") (string (cause r)) no_members))))
 
--- the numbers that are told beside the counts
+-- the numbers that are printed beside the counts
 abbrev pub TellsWords : Tail → Type 0
 TellsWords Nothing = ⊤
 TellsWords (Kept kept) = IsWord kept
 TellsWords (Segments begun converted) = IsWord begun × IsWord converted
 TellsWords (Generations kept segments converted begun) = IsWord kept × IsWord segments × IsWord converted × IsWord begun
 
--- the counts, and the documents kept where that is told
+-- the counts, and the documents kept where that is printed
 abbrev pub counts_read_as : ℕ → ℕ → ℕ → Tail → Data
 counts_read_as d q r t = object (counted (codes "documents") d (followed_by (kept_member t) (counted (codes "queries") q (counted (codes "refused") r no_members))))
 
--- the counts stand in a line of their own, and the segments, where they are told, in one after it
+-- the counts are in a line of their own, and the segments, where they are printed, in one after it
 abbrev pub EndsRead : Type 0
 EndsRead = (form : Form) → form.json ≡ true → (d q r : ℕ) (t : Tail) → IsWord d → IsWord q → IsWord r → TellsWords t
     → (line : List ℕ) × (summary_with form d q r t ≡ line ++ segments_lines t)

@@ -1,5 +1,6 @@
-//! What the lines that are printed as JSON are read as: each is one JSON text, whose value says what the line says. The
-//! reader is that of `serde_json`, by its own definition of a text's value (RFC 8259).
+//! What the lines that are printed as JSON are read as: each is one JSON text, whose value says
+//! what the line says. The reader is that of `serde_json`, by its own definition of a text's value
+//! (RFC 8259).
 #![tactic(auto)]
 
 mod laws;

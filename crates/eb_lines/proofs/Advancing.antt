@@ -1,4 +1,4 @@
--- How far some lines come, with one line more.
+-- How far some lines come, with one more line.
 use Rattle.std.proofs.Common.{◌≡◌, ℕ, ◌+◌, ◌≤◌, Bool, List, [], ◌∷◌, ◌++◌, length, take, drop, count_by, flat_map, sym, ap, ◌∙◌, arith, append-nil, zero-add, length-append}
 use Rattle.std.proofs.lemmas.Grind.{flat_map-append}
 use Rattle.std.proofs.lemmas.List.{take-append-drop}

@@ -191,7 +191,7 @@ module _ {P A : Type 0} (has_run : P → A → List Line → List ℕ → Type 0
           parts = ap (λ b. b ++ w.0) at.parts ∙ append_assoc at.written text w.0 ∙ ap (λ t. at.written ++ t) (sym w.2);
         }
 
-    -- a front of what is gathered is written
+    -- a prefix of what is buffered is written
     pub at_written : (p2 : Option (List ℕ)) (front t : List ℕ) → p2 ≡ grown p1 front → text ≡ front ++ t → IsAt has_run a l0 l1 p0 p2 h run t
     at_written p2 front t e split = record {
       taken = at.taken;
@@ -306,7 +306,7 @@ module _ {P A : Type 0} (has_run : P → A → List Line → List ℕ → Type 0
   pub few_lines : (a : A) (l0 l1 p0 p1 : Option (List ℕ)) (h : Held) (run : P) (text : List ℕ) → IsAt has_run a l0 l1 p0 p1 h run text → number run ≤ longest_input
   few_lines a l0 l1 p0 p1 h run text at = omega (arith, counts run a at.given at.so_far at.works, lines_few at.taken at.given h at.lines, at.within, at.limit)
 
-  -- a line more counts one more
+  -- one more line counts one more
   pub goes_number : (old new : P) (t0 t1 : List ℕ) (l : Line) → IsRunning has_run old → WorksOnGiven has_run old new t0 t1 l → number new ≡ number old + 1
   goes_number old new t0 t1 l r f =
       let w = f r.0 r.1 r.2 r.3 in

@@ -1,4 +1,4 @@
--- A program over lines where it does nothing, and a run that stands in a program.
+-- A program over lines that does nothing, and a run as a program.
 use Rattle.std.proofs.Common.{◌≡◌, ℕ, List, [], sym, subst, append-nil}
 use Rattle.std.specs.Prelude.{Result, IfOk, MatchResult, ⊤}
 use Rattle.eb_io.specs.Lines.{Line}

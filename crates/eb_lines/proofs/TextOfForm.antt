@@ -53,7 +53,7 @@ module _ (form : Form) where
     unfolding summary_with
     word_summary d q r t = ap (λ b. if b then json_line (summary_value d q r t) ++ segments_lines t else summary_words d q r t) (sym is)
 
-  -- where some watch is told
+  -- where some watch is listed
   pub watch_told : (number : ℕ) (ns : List ℕ) → (ns ≡ [] → ⊥) → some_watch_line form number ns ≡ watch_line form number ns
   watch_told number [] some = absurd (some refl)
   watch_told number (n ∷ ns) some = refl

@@ -1,4 +1,4 @@
--- What the end of a program tells of an input whose bytes are told.
+-- What the end of a program says of an input whose bytes are known.
 use Rattle.std.proofs.Common.{◌≡◌, ℕ, ◌<◌, inl, inr, List, [], ◌++◌, length, take, Option, Some, None, refl, sym, ap, subst, ◌∙◌, arith, append-nil, length-append}
 use Rattle.std.proofs.Math.Seq.{take-append_seam}
 use Rattle.eb_io.specs.Lines.{Line, longest_input, lines_of}

@@ -25,7 +25,7 @@ count_text number seen total buckets = codes "{\"line\":" ++ decimal number ++ c
 abbrev pub watch_text : ℕ → List ℕ → List ℕ
 watch_text number ns = codes "{\"line\":" ++ decimal number ++ codes ",\"watches\":[" ++ listed ns ++ codes "]}\n"
 
--- what a refusal tells, as a further member
+-- what a refusal gives, as a further member
 abbrev pub told_text : Option Told → List ℕ
 told_text None = []
 told_text (Some told) = codes ",\"" ++ told.key ++ codes "\":" ++ decimal told.number

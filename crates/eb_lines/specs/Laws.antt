@@ -9,7 +9,7 @@ use Rattle.eb_lines.specs.Kinds.{Kind, blank_line, document_line, query_line, ba
 use Rattle.eb_lines.specs.Reading.{Reading, blank, refused}
 use Rattle.eb_lines.specs.Reads.{IsOfDocument, Reads, of_query}
 
--- by the rules that know nothing of options
+-- by the rules without options
 abbrev pub ReadsPlainly : Kind → List ℕ → Reading → Type 0
 ReadsPlainly blank_line bytes r = r ≡ blank
 ReadsPlainly document_line bytes r = IsOfDocument (document_of bytes) r

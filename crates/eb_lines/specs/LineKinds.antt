@@ -1,4 +1,4 @@
--- What the kind that a line is told to be stands for.
+-- What each kind says of a line.
 use Rattle.std.specs.Prelude.{◌≡◌, ℕ, true, List, Some, slice_get}
 use Rattle.eb_fields.specs.Dialect.{Dialect}
 use Rattle.eb_query.specs.Head.{begins_query}

@@ -1,11 +1,12 @@
--- What a program over lines wrote of the bytes of an input, and what its status says of them. What some lines print, with
--- and without the end of the input, and whether any of them is refused, is the program's own.
+-- What a program over lines wrote of the bytes of an input, and what its status says of them. What
+-- some lines print, with and without the end of the input, and whether any of them is refused, is
+-- the program's own.
 use Rattle.std.specs.Prelude.{◌≡◌, ℕ, ◌<◌, ◌⊎◌, List, [], ◌++◌, length, take, Option, Some}
 use Rattle.eb_io.specs.Lines.{Line, longest_input, lines_of, whole_lines}
 use Rattle.eb_lines.specs.declared.status.Status.{Status}
 use Rattle.eb_lines.specs.declared.status.Status.TheVariants.{Done, Refused, Usage, ReadFault, WriteFault, NoMemory, InputTooLong, BadImage}
 
--- a front of the whole text of the first `count` lines of an input of these bytes
+-- a prefix of the whole text of the first `count` lines of an input of these bytes
 pub record IsPartOfOutput (ends_with : List Line → List ℕ → Type 0) (bytes printed : List ℕ) : Type 0 where
   pub count : ℕ
   pub whole : List ℕ
@@ -37,9 +38,10 @@ pub record AreTaken (bytes : List ℕ) (left : Option (List ℕ)) (taken : List 
   pub whole : bytes ≡ taken ++ rest
   pub still : left ≡ Some rest
 
--- what a status says of an input of these bytes of which this is left, whatever became of the output: at Done and
--- Refused all was taken, which is less than an input may have, and no line or some line is refused; at ReadFault less
--- was taken than an input may have, and at InputTooLong as much
+-- what a status says of an input of these bytes of which this is left, whatever became of the
+-- output: at Done and Refused all was taken, which is less than an input may have, and no line or
+-- some line is refused; at ReadFault less was taken than an input may have, and at InputTooLong as
+-- much
 abbrev pub Means : (refuses accepts : List Line → Type 0) → Status → List ℕ → Option (List ℕ) → Type 0
 Means refuses accepts Done bytes left = (left ≡ Some []) × (length bytes < longest_input) × accepts (lines_of bytes)
 Means refuses accepts Refused bytes left = (left ≡ Some []) × (length bytes < longest_input) × refuses (lines_of bytes)

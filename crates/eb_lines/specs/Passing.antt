@@ -1,5 +1,5 @@
--- How far a program over lines has come between two of them, and how it ends, also over a source or a sink that tells no
--- bytes.
+-- How far a program over lines is between two of them, and how it ends, also over a source or a
+-- sink that tells no bytes.
 use Rattle.std.specs.Prelude.{◌≡◌, ℕ, ◌<◌, ◌≤◌, true, List, ◌++◌, length, Option, Some, Result, Ok, Err}
 use Rattle.eb_io.specs.Lines.{Line, longest_input, lines_of, whole_lines}
 use Rattle.eb_io.specs.Held.{Held, HasGiven, HasNoLine, HasAllLines}
@@ -10,12 +10,12 @@ use Rattle.eb_lines.specs.declared.status.Status.TheVariants.{Done, Refused, Usa
 use Rattle.eb_lines.specs.declared.passing.Upcoming.{Upcoming}
 use Rattle.eb_lines.specs.declared.passing.Upcoming.TheVariants as next
 
--- these are the first lines of the bytes taken and what is left, where that is told
+-- these are the first lines of the bytes taken and what is left, where that is known
 abbrev pub AreFirstLines : List Line → List ℕ → Option (List ℕ) → Type 0
 AreFirstLines lines taken left = (rest : List ℕ) → left ≡ Some rest → (more : List Line) × (lines_of (taken ++ rest) ≡ lines ++ more)
 
--- between two lines: the lines given are those of the bytes taken, and what those that are processed print is written or
--- gathered
+-- between two lines: the lines given are those of the bytes taken, and what those that are
+-- processed print is written or buffered
 pub record IsAt {P A : Type 0} (has_run : P → A → List Line → List ℕ → Type 0)
     (a : A) (left_old left_new printed_old printed_new : Option (List ℕ)) (held : Held) (run : P) (gathered : List ℕ) : Type 0 where
   pub taken : List ℕ
@@ -46,7 +46,8 @@ IsStopped has_run BadImage a l0 l1 p0 p1 held run gathered = ⊥
 IsStopped has_run WriteFault a l0 l1 p0 p1 held run gathered = ⊥
 IsStopped has_run NoMemory a l0 l1 p0 p1 held run gathered = ⊥
 
--- the program may stop here: a front of what some first lines of the input print is written or gathered
+-- the program may stop here: a prefix of what some first lines of the input print is written or
+-- buffered
 pub record MayStop (prints : List Line → List ℕ → Type 0) (left_old left_new printed_old printed_new : Option (List ℕ)) (gathered : List ℕ) : Type 0 where
   pub taken : List ℕ
   pub done : List Line
@@ -59,7 +60,7 @@ pub record MayStop (prints : List Line → List ℕ → Type 0) (left_old left_n
   pub wrote : printed_new ≡ grown printed_old written
   pub parts : so_far ≡ written ++ gathered
 
--- a front of the whole text of some first lines
+-- a prefix of the whole text of some first lines
 pub record IsFrontOfWhole (ends_with : List Line → List ℕ → Type 0) (taken : List ℕ) (left : Option (List ℕ)) (printed : List ℕ) : Type 0 where
   pub lines : List Line
   pub whole : List ℕ
@@ -87,11 +88,11 @@ pub record Ends (prints ends_with : List Line → List ℕ → Type 0) (refuses 
   pub put : printed_new ≡ grown printed_old printed
   pub ends : EndsAs prints ends_with refuses accepts status taken left_new printed
 
--- a program that stands somewhere between two lines
+-- a program that is somewhere between two lines
 abbrev pub IsSomewhere : {P A : Type 0} → (P → A → List Line → List ℕ → Type 0) → Option (List ℕ) → Option (List ℕ) → Held → P → List ℕ → Type 0
 IsSomewhere {P} {A} has_run l1 p1 held run gathered = (a : A) × (l0 : Option (List ℕ)) × (p0 : Option (List ℕ)) × IsAt has_run a l0 l1 p0 p1 held run gathered
 
--- where the program stands after the next line was asked for
+-- where the program is after the next line was asked for
 abbrev pub Comes : {P A : Type 0} → (P → A → List Line → List ℕ → Type 0) → (A → List Line → List ℕ → Type 0) → Upcoming
     → A → Option (List ℕ) → Option (List ℕ) → Option (List ℕ) → Option (List ℕ) → Held → P → List ℕ → Type 0
 Comes has_run prints next.Line a l0 l1 p0 p1 held run gathered = IsAt has_run a l0 l1 p0 p1 held run gathered

@@ -1,4 +1,4 @@
--- What a refusal tells, of the code, as the table has it.
+-- What a refusal gives, of the code, as the table has it.
 use Rattle.eb_lines.specs.declared.refusal.Told.{Told}
 use Rattle.eb_lines.specs.Refusals as table
 

@@ -1,11 +1,13 @@
--- The table of refusals: each with its name, the kind of line that is refused so, and what it tells beside its name.
+-- The table of refusals: each with its name, the kind of line that is refused so, and what it gives
+-- beside its name.
 use Rattle.std.specs.Prelude.{ℕ, ◌+◌, ◌≤◌, List, codes, length, Option, Some, None}
 use Rattle.std.specs.Option.{option_map_or}
 use Rattle.eb_lines.specs.declared.refusal.Refusal.{Refusal}
 use Rattle.eb_lines.specs.declared.refusal.Refusal.TheVariants.{BadLine, LongLine, BadJson, BadDocument, TooLong}
 use Rattle.eb_lines.specs.declared.refusal.Refusal.TheVariants.{NotRising, Full, BadNumber, BadQuery, QueryTooLarge, QueryTooDeep, NoWatch, WatchTaken, WatchesFull}
 
--- the lines that are refused so: document lines, query lines, those that set or remove a watch, or others
+-- the lines that are refused so: document lines, query lines, those that set or remove a watch, or
+-- others
 pub data RefusedLine : Type 0 where
   of_document of_query of_watch of_other : RefusedLine
 
@@ -44,7 +46,7 @@ row WatchesFull = named (codes "watches full") of_watch
 
 -- ---- room
 
--- the most bytes of a name and of the words or the key that stand beside it
+-- the most bytes of a name and of the words or the key beside it
 abbrev pub most_beside : ℕ
 most_beside = 17
 

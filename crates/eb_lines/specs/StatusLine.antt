@@ -14,7 +14,8 @@ code_of NoMemory = 5
 code_of InputTooLong = 6
 code_of BadImage = 7
 
--- the line of a status, with its LF, of a program with this line of usage; Done and Refused say nothing
+-- the line of a status, with its LF, of a program with this line of usage; Done and Refused say
+-- nothing
 abbrev pub line_of : List ℕ → Status → List ℕ
 line_of usage Done = []
 line_of usage Refused = []

@@ -23,8 +23,8 @@ numbers (n ∷ ns) = item (number (unsigned n)) (numbers ns)
 abbrev pub answer_value : ℕ → ℕ → List ℕ → Data
 answer_value line seen ids = object (counted (codes "line") line (counted (codes "seen") seen (member (codes "ids") (array (numbers ids)) no_members)))
 
--- the count of a query in line `line`: how many accepted documents it saw, how many of them it matches, and how many of these lie in each
--- bucket, where there are any
+-- the count of a query in line `line`: how many accepted documents it saw, how many of them it
+-- matches, and how many of these lie in each bucket, where there are any
 abbrev pub buckets_member : List ℕ → Members
 buckets_member [] = no_members
 buckets_member (n ∷ ns) = member (codes "buckets") (array (numbers (n ∷ ns))) no_members
@@ -36,7 +36,7 @@ count_value line seen total buckets = object (counted (codes "line") line (count
 abbrev pub watch_value : ℕ → List ℕ → Data
 watch_value line ns = object (counted (codes "line") line (member (codes "watches") (array (numbers ns)) no_members))
 
--- what stands beside the name of a refusal
+-- what comes beside the name of a refusal
 abbrev pub told_member : Option Told → Members
 told_member None = no_members
 told_member (Some told) = counted told.key told.number no_members
@@ -51,7 +51,8 @@ beside_cause r = told_member (row r).told
 abbrev pub refusal_value : ℕ → Refusal → Data
 refusal_value line r = object (counted (codes "line") line (member (codes "refused") (string (cause r)) (beside_cause r)))
 
--- the end: the documents accepted, the queries answered, the lines refused, and the documents kept where that is told
+-- the end: the documents accepted, the queries answered, the lines refused, and the documents kept
+-- where that is printed
 abbrev pub kept_member : Tail → Members
 kept_member Nothing = no_members
 kept_member (Kept kept) = counted (codes "kept") kept no_members
@@ -64,7 +65,7 @@ counts_value d q r tail = object (counted (codes "documents") d (counted (codes 
 abbrev pub summary_value : ℕ → ℕ → ℕ → Tail → Data
 summary_value d q r tail = object (member (codes "end") (counts_value d q r tail) no_members)
 
--- the segments, where they are told
+-- the segments, where they are printed
 abbrev pub segments_value : ℕ → ℕ → Data
 segments_value begun converted = object (counted (codes "segments") begun (counted (codes "converted") converted no_members))
 

@@ -1,4 +1,4 @@
--- What the reading of a line, and its work, stand for.
+-- What the reading of a line, and its work, represent.
 use Rattle.std.specs.Prelude.{Option, Some, None, Result, Ok, Err}
 use Rattle.eb_base.specs.Document.{Doc}
 use Rattle.eb_cursor.specs.Frames.{query_of, k_of}
@@ -17,7 +17,7 @@ abbrev pub document_reading : Result Doc Refusal → Reading
 document_reading (Ok d) = document d
 document_reading (Err r) = refused r
 
--- the refusal of a line whose query has this fault; want of memory refuses no line
+-- the refusal of a line whose query has this fault; out of memory refuses no line
 abbrev pub refusal_of : QueryFault → Option Refusal
 refusal_of faults.BadNumber = Some BadNumber
 refusal_of (faults.BadQuery column) = Some (BadQuery column)

@@ -1,13 +1,13 @@
-/// How what a run prints is written.
+/// How the output of a run is written.
 #[derive(Clone, Copy, Debug, PartialEq, Eq)]
 pub struct Form {
     /// Whether each line is a JSON object, or words.
     pub json: bool,
-    /// Whether the segments are told at the end.
+    /// Whether the segments are printed at the end.
     pub stats: bool,
 }
 
-/// What is told at the end beside the counts.
+/// What is printed at the end beside the counts.
 #[derive(Clone, Copy, Debug, PartialEq, Eq)]
 pub enum Tail {
     /// Nothing.
@@ -29,7 +29,7 @@ pub enum Tail {
         segments: u64,
         /// How many of them are converted.
         converted: u64,
-        /// How many generations are begun, also those that are kept no more.
+        /// How many generations are begun, also those that were dropped.
         begun: u64,
     },
 }

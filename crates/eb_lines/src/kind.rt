@@ -57,7 +57,8 @@ pub fn line_kind<'a>(dialect: Dialect<'_>, bytes: &'a [u8]) -> LineKind<'a>
     other_kind(dialect, bytes)
 }
 
-/// The kind of a line where no line asks for a count: one that begins with `#` is none of the others. Takes no memory.
+/// The kind of a line where no line asks for a count: one that begins with `#` is none of the
+/// others. Takes no memory.
 pub fn plain_kind(bytes: &[u8]) -> LineKind<'_>
     ensures kind { IsOfKind plain bytes.now result }
     ensures mark { HasQuestionMark result }

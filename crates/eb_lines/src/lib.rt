@@ -1,5 +1,6 @@
-//! One line in, one line out: what a line of the input is read as, how far some lines come, what a line prints, and how a
-//! program over lines ends. The forms are those of this project's profile, docs/FORMATS.md.
+//! The line protocol: what a line of the input is read as, what a line prints, how far a run is
+//! after some lines, and how a program over lines ends. The forms are those of this project's
+//! profile, docs/FORMATS.md.
 #![tactic(auto)]
 
 mod form;

@@ -6,6 +6,7 @@ use crate::form::Tail;
 use crate::pieces::{put, put_id_list, put_number, put_number_list};
 use crate::refusal::Refusal;
 
+// The answer to a query in line `number`, as an object.
 pub(crate) fn put_answer_json(text: &mut Vec<u8>, number: u64, seen: u64, ids: &[u64])
     requires { vec_len text.old + (96 + 21 * length ids.now) ≤ vec_capacity text.old }
     ensures text { text.new.items ≡ text.old.items ++ answer_text number seen ids.now }
@@ -37,6 +38,7 @@ fn put_buckets(text: &mut Vec<u8>, buckets: &[u64])
     put(text, b"]}\n");
 }
 
+// The count of a query in line `number`, as an object.
 pub(crate) fn put_count_json(
     text: &mut Vec<u8>,
     number: u64,
@@ -58,6 +60,7 @@ pub(crate) fn put_count_json(
     put_buckets(text, buckets);
 }
 
+// The numbers of the watches that the document in line `number` matches, as an object.
 pub(crate) fn put_watch_json(text: &mut Vec<u8>, number: u64, watches: &[u32])
     requires { vec_len text.old + (96 + 21 * length watches.now) ≤ vec_capacity text.old }
     ensures text { text.new.items ≡ text.old.items ++ watch_text number watches.now }
@@ -91,6 +94,7 @@ fn put_cause(text: &mut Vec<u8>, refusal: Refusal)
     put(text, b"}\n");
 }
 
+// The refusal of line `number`, as an object.
 pub(crate) fn put_refusal_json(text: &mut Vec<u8>, number: u64, refusal: Refusal)
     requires { vec_len text.old + 96 ≤ vec_capacity text.old }
     ensures text { text.new.items ≡ text.old.items ++ refusal_text number refusal }
@@ -116,7 +120,7 @@ fn put_segments(text: &mut Vec<u8>, begun: u64, converted: u64)
     put_number(text, converted);
 }
 
-// What is told beside the counts, from the end of the object of the counts on.
+// What is printed beside the counts, from the end of the object of the counts on.
 fn put_tail(text: &mut Vec<u8>, tail: Tail)
     requires { vec_len text.old + 144 ≤ vec_capacity text.old }
     ensures { text.new.items ≡ text.old.items ++ tail_text tail }
@@ -148,6 +152,7 @@ fn put_tail(text: &mut Vec<u8>, tail: Tail)
     }
 }
 
+// The counts, and what is printed beside them, as objects.
 pub(crate) fn put_summary_json(
     text: &mut Vec<u8>,
     documents: u64,

@@ -11,7 +11,7 @@ use eb_base::NoMemory;
 use eb_io::{Lines, Next, Sink, SinkFailed, Source};
 use std::alloc::Global;
 
-// How a program ends for want of memory: what is gathered is written before.
+// How a program ends out of memory: the buffer is written before.
 fn give_up<P: LineProgram, K: Sink>(text: &mut Vec<u8>, out: &mut K) -> Status
     ensures ends { (a : P.Asked) (l0 l1 p0 : Option (List ℕ)) → MayStop (P.prints a) l0 l1 p0 (K.taken out.old) text.old.items
         → Ends (P.prints a) (P.ends_with a) (P.refuses a) (P.accepts a) result l0 l1 p0 (K.taken out.new) }
@@ -25,7 +25,8 @@ fn give_up<P: LineProgram, K: Sink>(text: &mut Vec<u8>, out: &mut K) -> Status
     }
 }
 
-// Before the next line: where the source is asked for it, nothing waits that may not, and what is gathered is written.
+// Before the next line: where the source is read for it, nothing that may not wait is left, and the
+// buffer is written.
 fn settle<P: LineProgram, K: Sink>(
     program: &mut P,
     lines: &Lines,
@@ -98,7 +99,8 @@ fn take_next<P: LineProgram, S: Source>(
     }
 }
 
-// How a program ends where reading does, by this status: all lines are processed before, and what is gathered is written.
+// How a program ends where reading does, by this status: all lines are processed before, and the
+// buffer is written.
 fn stop<P: LineProgram, K: Sink>(
     program: &mut P,
     text: &mut Vec<u8>,
@@ -121,7 +123,7 @@ fn stop<P: LineProgram, K: Sink>(
     }
 }
 
-// The status at the end of an input of which so many lines are refused.
+// The status at the end of an input of which this many lines are refused.
 fn status_of(refused: u64) -> Status
     ensures some { 0 < refused → result ≡ Status.Refused }
     ensures none { refused ≡ 0 → result ≡ Status.Done }
@@ -153,9 +155,10 @@ fn close<P: LineProgram, K: Sink>(program: &mut P, text: &mut Vec<u8>, out: &mut
     status_of(refused)
 }
 
-/// Passes the lines that the source gives to the program, and writes on `out` what it prints: in one write before the source
-/// is asked again, or once 64 KiB are gathered. `text` is what the program printed before its first line. The answer is how the
-/// input ended, and whether a line of it is refused.
+/// Passes the lines that the source gives to the program, and writes on `out` what it prints: in
+/// one write before the source is read again, or once 64 KiB are buffered. `text` is what the
+/// program printed before its first line. Returns how the input ended, and whether a line of it is
+/// refused.
 pub fn pass_lines<P: LineProgram, S: Source, K: Sink>(
     alloc: Global,
     program: &mut P,

@@ -16,6 +16,7 @@ pub(crate) fn put(text: &mut Vec<u8>, bytes: &[u8])
     text.extend_from_slice(bytes).unwrap();
 }
 
+// A number in decimal.
 pub(crate) fn put_number(text: &mut Vec<u8>, number: u64)
     requires { vec_len text.old + 20 ≤ vec_capacity text.old }
     ensures text { text.new.items ≡ text.old.items ++ decimal number }
@@ -26,7 +27,7 @@ pub(crate) fn put_number(text: &mut Vec<u8>, number: u64)
     put(text, buffer.format(number).as_bytes());
 }
 
-// A number after a byte that parts it from what stands before.
+// A number after a byte that separates it from what comes before.
 fn put_next(text: &mut Vec<u8>, part: u8, number: u64)
     requires { vec_len text.old + 21 ≤ vec_capacity text.old }
     ensures text { text.new.items ≡ text.old.items ++ part ∷ decimal number }
@@ -49,6 +50,7 @@ pub(crate) fn put_ids(text: &mut Vec<u8>, part: u8, ids: &[u64])
     }
 }
 
+// Each number after a byte that separates them.
 pub(crate) fn put_numbers(text: &mut Vec<u8>, part: u8, numbers: &[u32])
     requires { vec_len text.old + 21 * length numbers.now ≤ vec_capacity text.old }
     ensures text { text.new.items ≡ text.old.items ++ parted part numbers.now }
@@ -73,6 +75,7 @@ pub(crate) fn put_id_list(text: &mut Vec<u8>, ids: &[u64])
     }
 }
 
+// The numbers with a comma between two of them.
 pub(crate) fn put_number_list(text: &mut Vec<u8>, numbers: &[u32])
     requires { vec_len text.old + 21 * length numbers.now ≤ vec_capacity text.old }
     ensures text { text.new.items ≡ text.old.items ++ listed numbers.now }

@@ -5,8 +5,8 @@ ghost use Rattle.eb_lines.specs.Programs.{IsRunning, WorksOn, WorksOnGiven, Prin
 
 use eb_base::NoMemory;
 
-/// A program over the lines of an input: what it does with each of them, and at the end. What it prints it puts after a
-/// text that is written by whoever calls it.
+/// A program over the lines of an input: what it does with each of them, and at the end. It puts
+/// what it prints after a text, which its caller writes.
 pub trait LineProgram {
     // What the program was asked to do.
     ghost Asked: { Type 0 };
@@ -30,7 +30,7 @@ pub trait LineProgram {
     // How many lines it was given.
     ghost number: { Self → ℕ };
 
-    /// Takes the next line, which isn't a long one. Where memory doesn't suffice for it, it isn't taken.
+    /// Takes the next line, which isn't a long one. Where memory runs out, it isn't taken.
     fn take_line(&mut self, bytes: &[u8], text: &mut Vec<u8>) -> Result<(), NoMemory>
         requires state { IsRunning has_run self.old }
         requires number { number self.old ≤ 2 ^ 40 }
@@ -56,8 +56,8 @@ pub trait LineProgram {
         ensures all { OnOk result (settled self.new) }
         ensures printed { OnOk result (HasPrinted has_run prints self.new) };
 
-    /// Puts the end of the input after the text, where all lines are processed, and gives how many of them are refused.
-    /// Where memory doesn't suffice, the text is as before.
+    /// Puts the end of the input after the text, where all lines are processed, and returns how
+    /// many of them are refused. Where memory runs out, the text is as before.
     fn finish(&mut self, text: &mut Vec<u8>) -> Result<u64, NoMemory>
         requires running { IsRunning has_run self.old }
         requires settled { settled self.old }
@@ -65,7 +65,7 @@ pub trait LineProgram {
             → Finishes has_run ends_with refuses accepts self.old text.old.items text.new.items refused a given so_far) (λ e. ⊤) }
         ensures err { OnErr result (text.new.items ≡ text.old.items) };
 
-    // What it printed is a front of what some first lines print.
+    // What it printed is a prefix of what some first lines print.
     ghost printed_first: { (p : Self) (a : Asked) (given : List Line) (so_far : List ℕ) → has_run p a given so_far → PrintsFront prints a given so_far };
 
     // What some lines print comes first in their whole text.

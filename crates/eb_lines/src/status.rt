@@ -11,7 +11,7 @@ pub enum Status {
     Done,
     /// The input is processed, and at least one line was refused.
     Refused,
-    /// The words ask for no command. Nothing was read, and nothing was printed.
+    /// The command line is invalid. Nothing was read, and nothing was printed.
     Usage,
     /// Reading failed. What was read of whole lines is processed.
     ReadFault,
@@ -21,7 +21,7 @@ pub enum Status {
     NoMemory,
     /// [`MAX_INPUT`] bytes were read without an end. Their whole lines are processed.
     InputTooLong,
-    /// What was read is no image. It comes from a load alone; nothing was printed.
+    /// What was read isn't an image. Only a load ends so; nothing was printed.
     BadImage,
 }
 
@@ -42,8 +42,8 @@ impl Status {
         }
     }
 
-    /// The line of the status on the error output, which may be empty; `usage` is the line that says how the program is
-    /// called.
+    /// The line of the status on the error output, which may be empty; `usage` is the line that
+    /// says how to call the program.
     pub fn line(self, usage: &'static [u8]) -> &'static [u8]
         ensures { result.now ≡ line_of usage.now self }
     {

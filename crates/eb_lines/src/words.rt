@@ -6,6 +6,7 @@ use crate::form::Tail;
 use crate::pieces::{put, put_ids, put_number, put_numbers};
 use crate::refusal::Refusal;
 
+// The answer to a query in line `number`, in words.
 pub(crate) fn put_answer_words(text: &mut Vec<u8>, number: u64, seen: u64, ids: &[u64])
     requires { vec_len text.old + (96 + 21 * length ids.now) ≤ vec_capacity text.old }
     ensures text { text.new.items ≡ text.old.items ++ answer_words number seen ids.now }
@@ -20,6 +21,7 @@ pub(crate) fn put_answer_words(text: &mut Vec<u8>, number: u64, seen: u64, ids: 
     put(text, b"\n");
 }
 
+// The count of a query in line `number`, in words.
 pub(crate) fn put_count_words(
     text: &mut Vec<u8>,
     number: u64,
@@ -41,6 +43,7 @@ pub(crate) fn put_count_words(
     put(text, b"\n");
 }
 
+// The numbers of the watches that the document in line `number` matches, in words.
 pub(crate) fn put_watch_words(text: &mut Vec<u8>, number: u64, watches: &[u32])
     requires { vec_len text.old + (96 + 21 * length watches.now) ≤ vec_capacity text.old }
     ensures text { text.new.items ≡ text.old.items ++ watch_words number watches.now }
@@ -53,6 +56,7 @@ pub(crate) fn put_watch_words(text: &mut Vec<u8>, number: u64, watches: &[u32])
     put(text, b"\n");
 }
 
+// The name of a refusal, and the number that it gives.
 fn put_name(text: &mut Vec<u8>, refusal: Refusal)
     requires { vec_len text.old + 37 ≤ vec_capacity text.old }
     ensures text { text.new.items ≡ text.old.items ++ refusal_name refusal }
@@ -67,6 +71,7 @@ fn put_name(text: &mut Vec<u8>, refusal: Refusal)
     }
 }
 
+// The refusal of line `number`, in words.
 pub(crate) fn put_refusal_words(text: &mut Vec<u8>, number: u64, refusal: Refusal)
     requires { vec_len text.old + 96 ≤ vec_capacity text.old }
     ensures text { text.new.items ≡ text.old.items ++ refusal_words number refusal }
@@ -92,6 +97,7 @@ fn put_segments(text: &mut Vec<u8>, begun: u64, converted: u64)
     put_number(text, converted);
 }
 
+// What is printed beside the counts, in words.
 fn put_tail(text: &mut Vec<u8>, tail: Tail)
     requires { vec_len text.old + 128 ≤ vec_capacity text.old }
     ensures text { text.new.items ≡ text.old.items ++ tail_words tail }
@@ -120,6 +126,7 @@ fn put_tail(text: &mut Vec<u8>, tail: Tail)
     }
 }
 
+// The counts, and what is printed beside them, in words.
 pub(crate) fn put_summary_words(
     text: &mut Vec<u8>,
     documents: u64,

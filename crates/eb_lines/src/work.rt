@@ -28,7 +28,8 @@ pub enum Work {
     Refuse(Refusal),
 }
 
-/// The document of a document line by this dialect, or why the line is refused. Takes the memory of its terms.
+/// The document of a document line by this dialect, or why the line is refused. Takes the memory of
+/// its terms.
 pub fn read_document_line(
     alloc: Global,
     dialect: Dialect<'_>,
@@ -40,7 +41,8 @@ pub fn read_document_line(
     read_document_line_by(&mut reader, dialect, bytes)
 }
 
-/// The same by a reader that is kept from line to line.
+/// The document of a document line, as [`read_document_line`] says, by a reader that is kept from
+/// line to line.
 pub fn read_document_line_by(
     reader: &mut DocumentReader,
     dialect: Dialect<'_>,
@@ -57,7 +59,7 @@ pub fn read_document_line_by(
     }
 }
 
-/// The refusal of a line whose query has this fault; want of memory refuses no line.
+/// The refusal of a line whose query has this fault; out of memory refuses no line.
 pub fn query_refusal(fault: QueryFault) -> Result<Refusal, NoMemory>
     ensures ok { IfOk result (λ refusal. refusal_of fault ≡ Some refusal) }
     ensures err { OnErr result (refusal_of fault ≡ None) }
@@ -71,8 +73,8 @@ pub fn query_refusal(fault: QueryFault) -> Result<Refusal, NoMemory>
     }
 }
 
-/// A frame for the query of a line that begins with `?`, by this dialect, or why the line is refused. Takes the memory of a
-/// search, so that the search takes none.
+/// A frame for the query of a line that begins with `?`, by this dialect, or why the line is
+/// refused. Takes the memory of a search, so that the search takes none.
 pub fn read_query_text(
     alloc: Global,
     dialect: Dialect<'_>,
@@ -108,8 +110,8 @@ fn text_work(alloc: Global, dialect: Dialect<'_>, text: &str) -> Result<Work, No
     }
 }
 
-/// The work of a line that isn't long by this dialect, where no line asks for a count: one that begins with `#` is refused.
-/// Takes the memory that the work needs.
+/// The work of a line that isn't long by this dialect, where no line asks for a count: one that
+/// begins with `#` is refused. Takes the memory that the work needs.
 pub fn read_line(alloc: Global, dialect: Dialect<'_>, bytes: &[u8]) -> Result<Work, NoMemory>
     ensures { IfOk result (λ work. Reads (uncounted_of dialect.entry) (line bytes.now) (reading_of work)) }
 {

@@ -1,10 +1,10 @@
 -- A count over the parts of a history is the count over it.
-use Rattle.std.proofs.Common.{◌≡◌, ℕ, zero, suc, ◌+◌, ◌%◌, ◌<◌, ◌≤◌, ◌==◌, leb, nat_lt, ◌&&◌, cond, inl, inr, Bool, true, false, List, [], ◌∷◌, ◌++◌}
-use Rattle.std.proofs.Common.{length, map, get_or, refl, ap, ap₂, sym, ◌∙◌, subst, arith}
+use Rattle.std.proofs.Common.{◌≡◌, ℕ, zero, suc, ◌+◌, ◌%◌, ◌<◌, ◌≤◌, ◌==◌, leb, nat_lt, ◌&&◌, cond, inl, inr, Bool, true, false, List, [], ◌∷◌}
+use Rattle.std.proofs.Common.{map, get_or, refl, ap, sym, ◌∙◌, arith}
 use Rattle.std.proofs.lemmas.Bool.Decides.{nat_tests}
 use Rattle.std.specs.Prelude.{filter}
 use Rattle.std.specs.List.{range_with_len, count_by}
-use Rattle.std.proofs.lemmas.Bool.{cases_Bool, lt-ltb, le-leb}
+use Rattle.std.proofs.lemmas.Bool.{cases_Bool}
 use Rattle.std.proofs.lemmas.List.{ext_get_or}
 use Rattle.std.proofs.Math.Nat.{mod-lt}
 use Rattle.eb_base.specs.Document.{Doc}
@@ -13,7 +13,7 @@ use Rattle.eb_base.specs.Query.{Tree}
 use Rattle.eb_blend.specs.Counted.{all_of}
 use Rattle.eb_blend.specs.Laws.{part, cut_into}
 use Rattle.eb_blend.specs.Parts.{AreFronts, history}
-use Rattle.eb_count.specs.Counts.{match_count, bucket_count, is_in_bucket}
+use Rattle.eb_count.specs.Counts.{is_in_bucket}
 use Rattle.eb_count.specs.Tallies.{Numbers, raised, HasCounted}
 use Rattle.eb_count.proofs.Counting.{count_cons, count_append}
 use Rattle.eb_place.proofs.Prefixes.{prefix_whole, prefix_length}
@@ -89,7 +89,7 @@ parts_counted q parts docs old new some c = record {
   buckets = λ i l. c.buckets i l ∙ ap (raised (get_or old.buckets i 0)) (all_counted (λ d. is_match q d && is_in_bucket old.start old.width i d.id) parts docs some);
 }
 
--- ---- fronts of one another
+-- ---- prefixes of one another
 
 pub same_histories : (hs all : List (List Doc)) → AreFronts hs all → AreFronts all hs → hs ≡ all
 same_histories hs all f g =

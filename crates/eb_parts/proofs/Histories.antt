@@ -1,4 +1,4 @@
--- The parts of a history, with one document more.
+-- The parts of a history, with one more document.
 use Rattle.std.proofs.Common.{◌≡◌, ℕ, zero, suc, ◌+◌, ◌-◌, ◌%◌, ◌<◌, ◌≤◌, inl, inr, Bool, true, false, List, [], ◌∷◌, ◌++◌}
 use Rattle.std.proofs.Common.{length, map, get_or, set, Some, refl, ap, ap₂, sym, ◌∙◌, subst, arith, length-append, zero-add}
 use Rattle.std.specs.Prelude.{min, ◌^◌, nat_lt, ◌||◌}

@@ -97,7 +97,8 @@ short_more parts σ docs d p some few room short = elim (cases_lt p parts) [
   | inr le ↦ subst (λ (h : List Doc). length (cut σ h) ≤ 64) (sym (history_past parts p (docs ++ d ∷ []) le)) (short_none σ)
 ]
 
--- of all parts but that of the document the segments were converted before, and that part is caught up with
+-- of all parts but that of the document the segments were converted before, and that part is caught
+-- up with
 converted_more : (parts : ℕ) (σ : Setting) (docs : List Doc) (d : Doc) (old new : ConverterTokens) → 1 ≤ parts → AllConverted σ (cut_into parts docs) old.converted
     → IsCaughtUp σ (cut_into parts (docs ++ d ∷ [])) (d.id % parts) old new → AllConverted σ (cut_into parts (docs ++ d ∷ [])) new.converted
 converted_more parts σ docs d old new some are caught = record {

@@ -1,4 +1,4 @@
--- Documents that parts add side by side are those that lines add one after the other.
+-- Documents that parts add concurrently are those that lines add one after the other.
 use Rattle.eb_fields.specs.Dialect.{Dialect}
 use Rattle.std.proofs.Common.{◌≡◌, ℕ, suc, ◌%◌, ◌≤◌, inl, inr, Bool, true, false, List, [], ◌∷◌, ◌++◌, Option, Some, None, length, refl, ap, sym, subst, ◌∙◌, append-nil}
 use Rattle.std.specs.Prelude.{nat_le, if◌then◌else◌, map, option_map, Result, Ok, Err, min, ◌^◌, ◌-◌}
@@ -131,7 +131,7 @@ module _ (how : Dialect) (parts : ℕ) (σ : Setting) (form : Form) (some : 1 �
       (ap (λ v. map (option_map refused_by) (adding.outcomes_of σ v xs)) (writer_same words parts σ some docs d) ∙ outcomes_same words after xs)
   outcomes_same words docs (Err e ∷ xs) = ap (λ rs. None ∷ rs) (outcomes_same words docs xs)
 
--- so many outcomes as items
+-- as many outcomes as items
 pub outcomes_long : {E : Type 0} (σ : Setting) (w : WriterTokens) (xs : List (Result Doc E)) → length (adding.outcomes_of σ w xs) ≡ length xs
 unfolding adding.outcomes_of
 outcomes_long σ w [] = refl

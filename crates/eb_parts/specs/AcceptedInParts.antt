@@ -1,4 +1,4 @@
--- Which documents several indexes of one setting take, to which documents go by their ids.
+-- Which documents several indexes of one setting accept, where documents go to them by their ids.
 use Rattle.std.specs.Prelude.{ℕ, ◌%◌, List, [], ◌∷◌, Option, Some, None, if◌then◌else◌, nat_le}
 use Rattle.eb_base.specs.Document.{Doc}
 use Rattle.eb_base.specs.Setting.{Setting}
@@ -15,8 +15,8 @@ last_id [] = None
 last_id (d ∷ []) = Some d.id
 last_id (d ∷ e ∷ ds) = last_id (e ∷ ds)
 
--- a document goes to the part that is its id modulo the number of parts, where that has room for it after those of
--- these documents that went there; else it is refused as full
+-- a document goes to the part that is its id modulo the number of parts, where that has room for it
+-- after those of these documents that went there; else it is refused as full
 abbrev pub refusal_of_part : ℕ → Setting → List Doc → Doc → Option Refusal
 refusal_of_part parts σ docs d = if has_room σ (part parts docs (d.id % parts)) d then None else Some Full
 

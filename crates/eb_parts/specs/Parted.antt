@@ -1,6 +1,6 @@
--- What parts hold that lines fill.
+-- Parts that lines fill and query.
 use Rattle.eb_fields.specs.Dialect.{Dialect}
-use Rattle.std.specs.Prelude.{◌≡◌, ℕ, List}
+use Rattle.std.specs.Prelude.{◌≡◌, List}
 use Rattle.eb_answer.specs.Rules.{Rules}
 use Rattle.eb_base.specs.Document.{Doc}
 use Rattle.eb_base.specs.Setting.{Setting}
@@ -8,7 +8,7 @@ use Rattle.eb_parts.specs.declared.parted.Parted.{Parted}
 use Rattle.eb_parts.specs.Stores.{Holds}
 use Rattle.eb_parts.specs.Texts.{parts_rules}
 
--- these documents, by the rules of so many parts of this setting
+-- these documents, by the rules of this many parts of this setting
 pub record IsParted (s : Parted) (rules : Rules (Unit {0})) (docs : List Doc) (none : Unit {0}) : Type 0 where
   pub dialect : Dialect
   pub setting : Setting

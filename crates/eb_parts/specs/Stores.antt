@@ -13,8 +13,8 @@ use Rattle.eb_table.specs.Known.{Words}
 use Rattle.eb_parts.specs.declared.store.Store.{Store}
 use Rattle.eb_parts.specs.AcceptedInParts.{last_id, refusal_in_parts}
 
--- these documents, cut into so many parts of this setting; and in each part each segment whose following segment has a document is
--- converted
+-- these documents, cut into this many parts of this setting; and in each part each segment whose
+-- following segment has a document is converted
 pub record Holds (s : Store) (parts : ℕ) (σ : Setting) (docs : List Doc) : Type 0 where
   pub some : 1 ≤ parts
   pub most : parts ≤ 16

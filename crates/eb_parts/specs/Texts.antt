@@ -1,15 +1,13 @@
 -- What a run over parts prints.
 use Rattle.eb_fields.specs.Dialect.{Dialect}
-use Rattle.std.specs.Prelude.{ℕ, List, [], map, sum, length, Option}
-use Rattle.eb_answer.specs.Rules.{Rules, plain_rules, is_bad, IsBody, IsText, HasRefusal, HasNoRefusal}
+use Rattle.std.specs.Prelude.{ℕ, List, [], map, sum, length}
+use Rattle.eb_answer.specs.Rules.{Rules, plain_rules}
 use Rattle.eb_base.specs.Document.{Doc}
 use Rattle.eb_base.specs.Setting.{Setting}
 use Rattle.eb_blend.specs.Laws.{cut_into}
 use Rattle.eb_indexed.specs.Conversions.{most_converted}
 use Rattle.eb_indexed.specs.IndexRules.{segments_tail}
 use Rattle.eb_lines.specs.declared.form.Form.{Form}
-use Rattle.eb_lines.specs.declared.status.Status.{Status}
-use Rattle.eb_lines.specs.Outcomes.{Wrote, Means}
 use Rattle.eb_place.specs.Room.{cut}
 use Rattle.eb_parts.specs.AcceptedInParts.{refusal_in_parts}
 
@@ -17,15 +15,8 @@ use Rattle.eb_parts.specs.AcceptedInParts.{refusal_in_parts}
 abbrev pub segments_in : ℕ → Setting → List Doc → List ℕ
 segments_in n σ docs = map (λ h. length (cut σ h)) (cut_into n docs)
 
--- so many parts of this setting, where lines are read by this dialect: a query sees all documents, and of each part all segments but the last one are converted at the end
+-- this many parts of this setting, where lines are read by this dialect: a query sees all
+-- documents, and of each part all segments but the last one are converted at the end
 abbrev pub parts_rules : Dialect → ℕ → Setting → Form → Rules (Unit {0})
 parts_rules how n σ form =
     plain_rules how [] (refusal_in_parts n σ) (λ docs. docs) form (λ docs. segments_tail form (sum (segments_in n σ docs)) (sum (map most_converted (segments_in n σ docs))))
-
--- what a run that ends so has written, of an input of these bytes of which this is left
-abbrev pub WroteInParts : Rules (Unit {0}) → Status → List ℕ → Option (List ℕ) → List ℕ → Type 0
-WroteInParts rules = Wrote (IsBody is_bad rules) (IsText is_bad rules) (HasRefusal is_bad rules) (HasNoRefusal is_bad rules)
-
--- what its status says of that input, whatever became of the output
-abbrev pub MeansInParts : Rules (Unit {0}) → Status → List ℕ → Option (List ℕ) → Type 0
-MeansInParts rules = Means (HasRefusal is_bad rules) (HasNoRefusal is_bad rules)

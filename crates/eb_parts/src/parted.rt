@@ -1,4 +1,4 @@
-//! The parts that lines fill and ask.
+//! The parts that lines fill and query.
 ghost use Rattle.eb_fields.specs.Dialect.{Dialect as Spoken};
 ghost use Rattle.std.specs.Prelude.{◌≡◌, ◌≤◌, ℕ, List, [], length, IfOk, OnErr, OnOk};
 ghost use Rattle.eb_ahead.specs.Placed.{IsHoldingFor, PlacesAll};
@@ -11,19 +11,19 @@ ghost use Rattle.eb_parts.specs.Parted.{IsParted};
 ghost use Rattle.eb_parts.specs.Texts.{parts_rules};
 
 use crate::store::Store as Parts;
-use eb_answer::Store;
 use eb_base::{Config, Document, Gate, NoMemory, Query};
 use eb_blend::BlendFrame;
 use eb_count::Tally;
 use eb_cursor::Frame;
 use eb_fields::Dialect;
-use eb_indexed::tell_segments;
 use eb_lines::{Form, Refusal, Tail, line_room, put_answer, put_count};
 use eb_query::Ask;
+use eb_indexed::tell_segments;
+use eb_answer::Store;
 use std::alloc::Global;
 use std::thread::Threads;
 
-// So many parts, and how what is printed of them is written.
+// The blend of the parts, and how the output is written.
 #[derive(Drop)]
 pub(crate) struct Parted {
     parts: Parts,
@@ -32,7 +32,7 @@ pub(crate) struct Parted {
 }
 
 impl Parted {
-    // So many empty parts, from 1 to 16. Takes all their memory.
+    // Empty parts, from 1 to 16. Takes all their memory.
     pub(crate) fn new(
         alloc: Global,
         number: u32,
@@ -50,8 +50,9 @@ impl Parted {
         })
     }
 
-    // Adds the documents among some items, one after the other, all parts side by side, and gives why each is refused, where it
-    // is a document that is. Where memory doesn't suffice, which shows before the first is added, nothing is done.
+    // Adds the documents among some items, one after the other, all parts concurrently, and returns
+    // why each document is refused, if it is. Where memory runs out, which shows before the first
+    // is added, nothing is done.
     pub(crate) fn place_all<R: Threads + Sync, E: Sync, G: Gate + Sync>(
         &mut self,
         rt: &R,
@@ -88,7 +89,7 @@ impl Parted {
         Ok(())
     }
 
-    // Answers line `number` by the counts of this tally, in which nothing is counted yet.
+    // Answers line `number` by the counts of this tally, which is empty.
     fn answer_counts<G: Gate>(
         &mut self,
         alloc: Global,

@@ -1,4 +1,4 @@
-//! The blend that a run over parts fills and asks.
+//! The blend that a run over parts fills and queries.
 ghost use Rattle.eb_fields.specs.Dialect.{Dialect as Spoken};
 ghost use Rattle.std.specs.Prelude.{◌≡◌, ◌+◌, ◌<◌, ◌≤◌, ◌^◌, ◌++◌, ℕ, List, [], length, map, sum, vec_len, vec_capacity, option_map, IfOk, OnErr, OnOk};
 ghost use Rattle.eb_base.specs.Document.{Doc};
@@ -24,9 +24,9 @@ use eb_base::{Config, Document, Gate, NoMemory};
 use eb_blend::{Blend, BlendConverter, BlendFrame, BlendReader, BlendRefusal, BlendWriter};
 use eb_count::Tally;
 use eb_cursor::Frame;
-use eb_indexed::SegmentCounts;
 use eb_lines::Refusal;
 use eb_place::Steps;
+use eb_indexed::SegmentCounts;
 use std::alloc::Global;
 use std::marker::Brand;
 use std::sync::ledger::{Blank, Ledger};
@@ -40,7 +40,8 @@ pub(crate) struct Store {
     converter: BlendConverter,
 }
 
-// Searches all documents with a counter of its own, and gives their number. Takes no memory.
+// Searches all documents with a counter of loads of its own, and returns their number. Takes no
+// memory.
 fn search_alone<G: Gate, L: Ledger>(
     blend: &Blend,
     writer: &mut BlendWriter,
@@ -60,8 +61,8 @@ fn search_alone<G: Gate, L: Ledger>(
     writer.search(blend, frame, gate, &mut steps)
 }
 
-// Counts what matches among all documents that the reader comes to see, with a counter of its own, after what the tally held.
-// The frame stays as it is. Takes no memory.
+// Counts what matches among all documents that the reader comes to see, with a counter of loads of
+// its own, added to what the tally held. The frame stays as it is. Takes no memory.
 fn count_alone<G: Gate, L: Ledger>(
     blend: &Blend,
     reader: &mut BlendReader,
@@ -101,12 +102,12 @@ fn put_outcomes(outcomes: &[Option<BlendRefusal>], all: &mut Vec<Option<Refusal>
 }
 
 impl Store {
-    // So many empty parts, from 1 to 16. Takes all their memory.
+    // Empty parts, from 1 to 16. Takes all their memory.
     pub(crate) fn new(alloc: Global, parts: u32, config: Config) -> Result<Store, NoMemory>
         requires { (1 ≤ parts) × (parts ≤ 16) }
         ensures { IfOk result (λ store. Holds store parts config []) }
     {
-        // the call that counts the words says that the setting is allowed
+        // the call that counts the words shows that the setting is allowed
         let _words = config.words();
         let (blend, writer, converter) = Blend::open(alloc, parts, config)?;
         Ok(Store {
@@ -116,8 +117,8 @@ impl Store {
         })
     }
 
-    // Adds a document to its part, and converts the segment that it closed there; or gives why it is refused. Takes no
-    // memory.
+    // Adds a document to its part, and converts the segment that it closed there; or returns why it
+    // is refused. Takes no memory.
     pub(crate) fn add<G: Gate>(&mut self, document: &Document, gate: &G) -> Option<Refusal>
         requires { (parts : ℕ) × (σ : Setting) × (docs : List Doc) × Holds self.old parts σ docs }
         ensures { (parts : ℕ) (σ : Setting) (docs : List Doc) → Holds self.old parts σ docs → WithPlaced self.new parts σ docs document.now result }
@@ -131,9 +132,9 @@ impl Store {
         }
     }
 
-    // Adds the documents among some items, one after the other, all parts side by side, and converts the segments that
-    // they closed; gives why each is refused, where it is a document that is. Where memory doesn't suffice, which shows
-    // before the first is added, nothing is done.
+    // Adds the documents among some items, one after the other, all parts concurrently, and
+    // converts the segments that they closed; returns why each document is refused, if it is. Where
+    // memory runs out, which shows before the first is added, nothing is done.
     pub(crate) fn add_all<R: Threads + Sync, E: Sync, G: Gate + Sync>(
         &mut self,
         rt: &R,
@@ -156,7 +157,7 @@ impl Store {
         Ok(refusals)
     }
 
-    // Searches all documents, and gives their number. Takes no memory.
+    // Searches all documents, and returns their number. Takes no memory.
     pub(crate) fn search<G: Gate>(&mut self, frame: &mut BlendFrame, gate: &G) -> u64
         requires holds { (parts : ℕ) × (σ : Setting) × (docs : List Doc) × Holds self.old parts σ docs }
         requires frame { (q : Tree) × (k : ℕ) × Asks frame.old q k (length self.old.blend.indexes) }
@@ -170,8 +171,8 @@ impl Store {
         search_alone::<G, Brand>(&self.blend, &mut self.writer, frame, gate, Blank::new(1))
     }
 
-    // Counts what matches among all documents, after what the tally held, and gives their number. Takes memory for a reader of
-    // the parts; without it nothing is counted.
+    // Counts what matches among all documents, added to what the tally held, and returns their
+    // number. Takes memory for a reader of the parts; without it nothing is counted.
     pub(crate) fn count<G: Gate>(
         &mut self,
         alloc: Global,
@@ -198,7 +199,8 @@ impl Store {
         self.writer.accepted()
     }
 
-    // Converts of each part all segments but the last one, and gives how many are begun and how many are converted.
+    // Converts of each part all segments but the last one, and returns how many are begun and how
+    // many are converted.
     pub(crate) fn close(&mut self, alloc: Global) -> Result<SegmentCounts, NoMemory>
         requires { (parts : ℕ) × (σ : Setting) × (docs : List Doc) × Holds self.old parts σ docs }
         ensures documents { self.new.writer ≡ self.old.writer }

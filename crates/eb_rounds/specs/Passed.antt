@@ -1,5 +1,4 @@
--- What a line that is passed to a round is.
-use Rattle.std.specs.Prelude.{◌≡◌, Some, slice_get}
+-- What a line that is given to a round is.
 use Rattle.eb_rounds.specs.declared.input.Input.{Input}
 use Rattle.eb_rounds.specs.declared.input.Input.TheVariants as passed
 use Rattle.eb_rounds.specs.declared.input.Kind.{Kind}
@@ -17,9 +16,3 @@ abbrev pub input_kind : Input → Kind
 input_kind (passed.DocumentLine bytes) = DocumentLine
 input_kind (passed.QueryLine text) = QueryLine
 input_kind (passed.RefusedLine r) = RefusedLine
-
--- a query line begins with `?` (63)
-abbrev pub HasMark : Input → Type 0
-HasMark (passed.DocumentLine bytes) = Unit {0}
-HasMark (passed.QueryLine text) = slice_get text.now 0 ≡ Some 63
-HasMark (passed.RefusedLine r) = Unit {0}

@@ -9,7 +9,7 @@ use Rattle.eb_lines.specs.declared.form.Form.{Form}
 use Rattle.eb_lines.specs.Reading.{Reading, blank, document, query, refused, watch}
 use Rattle.eb_lines.specs.Progress.{is_query, is_refused}
 use Rattle.eb_lines.specs.Text.{room_of, most_listed}
-use Rattle.eb_indexed.specs.Text.{output_of}
+use Rattle.eb_indexed.specs.IndexRules.{output_of}
 use Rattle.eb_rounds.specs.Inputs.{HeldLine, Entry, ReadsLine, admitted_in, added}
 
 -- a line, and how many documents it sees where it is a query
@@ -27,11 +27,11 @@ output_in form docs s = output_of form s.line.number s.seen docs s.line.reading
 unfoldable pub shown_text : Form → List Doc → List Shown → List ℕ
 shown_text form docs ss = flat_map (output_in form docs) ss
 
--- what the queries so far saw at most, where a line more is shown
+-- what the queries so far saw at most, where one more line is shown
 abbrev pub least_after : ℕ → Shown → ℕ
 least_after least s = if is_query s.line.reading then s.seen else least
 
--- no query sees less than one before it, and each sees from `least` to `most`
+-- no query sees fewer than one before it, and each sees from `least` to `most`
 abbrev pub Rises : ℕ → List Shown → ℕ → Type 0
 Rises least [] most = least ≤ most
 Rises least (s ∷ ss) most = (least ≤ least_after least s) × Rises (least_after least s) ss most
@@ -48,7 +48,8 @@ asks e = is_query e.reading
 abbrev pub fails : Entry → Bool
 fails e = is_refused e.reading
 
--- these lines, read by this dialect, were processed over an index of this setting, whose documents were the old ones and are the new ones, and printed this text
+-- these lines, read by this dialect, were processed over an index of this setting, whose documents
+-- were the old ones and are the new ones, and printed this text
 pub record WorkedOff (how : Dialect) (form : Form) (σ : Setting) (held : List HeldLine) (docs_old docs_new : List Doc) (counts_old counts_new : Counted) (printed : List ℕ) : Type 0 where
   pub raw : List Entry
   pub shown : List Shown
@@ -72,7 +73,8 @@ pub record WorkedOffBoth (how : Dialect) (form : Form) (σ : Setting) (ahead hel
   pub behind : WorkedOff how form σ held docs_between docs_new counts_between counts_new printed_then
   pub text : printed ≡ printed_first ++ printed_then
 
--- the lines were processed, whatever was counted before: with so many documents, queries and refused lines more
+-- the lines were processed, whatever was counted before: with this many more documents, queries and
+-- refused lines
 abbrev pub WorksOff : Dialect → Form → Setting → List HeldLine → List Doc → List Doc → List ℕ → List ℕ → ℕ → ℕ → ℕ → Type 0
 WorksOff how form σ held docs_old docs_new text_old text_new d q r = (before after : Counted)
     → after.documents ≡ before.documents + d → after.queries ≡ before.queries + q → after.refused ≡ before.refused + r
@@ -88,7 +90,8 @@ need (watch n q) = room_of 0
 
 -- ---- the two halves of a round
 
--- these lines without documents were processed, over an index that held the old documents at first and the new ones at last
+-- these lines without documents were processed, over an index that held the old documents at first
+-- and the new ones at last
 pub record AreAnswered (form : Form) (docs_old docs_new : List Doc) (entries : List Entry) (text_old text_new : List ℕ) (answers refusals : ℕ) : Type 0 where
   pub shown : List Shown
   pub lines : map shown_entry shown ≡ entries
@@ -108,7 +111,8 @@ pub record AreAdded (form : Form) (σ : Setting) (docs_old docs_new : List Doc) 
   pub documents : additions ≡ length (added (admitted_in σ docs_old entries))
   pub refused : refusals ≡ count_by fails (admitted_in σ docs_old entries)
 
--- a round of which the lines before the first document line were answered over a front of the documents that it leaves
+-- a round whose lines before the first document line were answered over a prefix of the documents
+-- that it leaves
 pub record IsRoundOfLines (form : Form) (σ : Setting) (docs_old docs_new : List Doc) (ahead behind : List Entry)
     (text_old text_new : List ℕ) (answers additions first_refusals last_refusals : ℕ) : Type 0 where
   pub seen : List Doc

@@ -1,10 +1,10 @@
--- How the held lines of a run are seen.
+-- What contracts see of the held lines of a run.
 use Rattle.std.specs.Prelude.{ℕ, ◌+◌, Bool, true, false, List, [], ◌∷◌, ◌++◌, count_by}
 use Rattle.eb_rounds.specs.Inputs.{HeldInput, document_line, query_line, refused_line, HeldLine}
 use Rattle.eb_rounds.specs.Shown.{Counted}
 
--- the held lines in order, those of the round before that is closed and those of the round that is open, the counts of what was
--- processed, and the greatest number that was put
+-- the held lines in order, those of the round before that is closed and those of the round that is
+-- open, the counts of what was processed, and the greatest number that was put
 pub record Standing : Type 0 where
   pub ahead : List HeldLine
   pub held : List HeldLine
@@ -39,10 +39,10 @@ refused_held held = count_by (λ (h : HeldLine). is_refused_input h.input) held
 abbrev pub no_counts : Counted
 no_counts = record { documents = 0; queries = 0; refused = 0 }
 
--- one held line more
+-- one more held line
 abbrev pub with_held : Standing → ℕ → HeldInput → Standing
 with_held s number input = record { ahead = s.ahead; held = s.held ++ record { number = number; input = input } ∷ []; counts = s.counts; greatest = number }
 
--- a round more is open, and the lines held before are ahead of it
+-- one more round is open, and the lines held before are ahead of it
 abbrev pub with_round : Standing → Standing
 with_round s = record { ahead = s.held; held = []; counts = s.counts; greatest = s.greatest }

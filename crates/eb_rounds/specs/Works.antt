@@ -1,4 +1,4 @@
--- The work of a held line stands for what the line is.
+-- The work of a held line represents what the line is.
 use Rattle.eb_fields.specs.Dialect.{Dialect}
 use Rattle.std.specs.Prelude.{◌≡◌, ℕ, ◌+◌, ◌*◌, ◌≤◌, ◌++◌, Bool, true, false, List, [], length, map, string_bytes, sum_by, vec_len, vec_capacity}
 use Rattle.std.specs.List.{AllZip}
@@ -18,14 +18,14 @@ use Rattle.eb_rounds.specs.declared.tasks.AskedWork.{AskedWork}
 use Rattle.eb_rounds.specs.declared.tasks.AskedWork.TheVariants as asked
 use Rattle.eb_rounds.specs.declared.tasks.GivenWork.{GivenWork}
 use Rattle.eb_rounds.specs.declared.tasks.GivenWork.TheVariants as given
-use Rattle.eb_query.specs.declared.ask.Ask.TheVariants.{Newest}
+use Rattle.eb_query.specs.declared.ask.Ask.TheVariants.{Newest, Counts}
 use Rattle.eb_lines.specs.Reading.{Reading, document, query, refused}
 use Rattle.eb_lines.specs.Progress.{is_query}
 use Rattle.eb_lines.specs.Text.{room_of}
 use Rattle.eb_rounds.specs.Inputs.{HeldInput, document_line, query_line, refused_line, HeldLine, Entry, ReadsLine}
 
 abbrev pub first_input : FirstInput → HeldInput
-first_input (first.Query line) = query_line (string_bytes line.text)
+first_input (first.Query line) = query_line (string_bytes line)
 first_input (first.Refused r) = refused_line r
 
 abbrev pub then_input : ThenInput → HeldInput
@@ -40,6 +40,7 @@ then_line l = record { number = l.number; input = then_input l.input }
 
 abbrev pub asked_reading : AskedWork → Reading
 asked_reading (asked.Answer frame) = query (Newest (k_of frame)) (query_of frame)
+asked_reading (asked.Count c) = query (Counts c.tally.start c.tally.width (length c.tally.buckets)) (query_of c.frame)
 asked_reading (asked.Refuse r) = refused r
 
 abbrev pub given_reading : GivenWork → Reading
@@ -86,7 +87,8 @@ HasRoomForRefusals t = (t.refusals.items ≡ []) × (vec_len t.refusals ≡ 0) �
 abbrev pub count_of_tasks : Tasks → ℕ
 count_of_tasks t = length t.asked.items + length t.given.items
 
--- the lines of the round are read as these by the dialect, each under its number, and room was taken
+-- the lines of the round are read as these by the dialect, each under its number, and room was
+-- taken
 pub record IsReadAs (how : Dialect) (h : Held) (t : Tasks) : Type 0 where
   pub read : AllZip (ReadsLine how) (lines_of_round h) (entries_of t)
   pub refusals : HasRoomForRefusals t

@@ -3,12 +3,13 @@ ghost use Rattle.eb_rounds.specs.Passed.{input_kind};
 
 use eb_lines::Refusal;
 
-/// A line that is to be processed. A blank line is none.
+/// A line that is to be processed. A blank line isn't one.
 #[derive(Clone, Copy, Debug, Drop)]
 pub enum Input<'a> {
     /// A document line, as JSON text of any bytes.
     DocumentLine(&'a [u8]),
-    /// A query line, which begins with `?`.
+    /// A query line, which begins with `?`, or with `#` where counts are asked for; one that
+    /// doesn't is refused as a bad line.
     QueryLine(&'a str),
     /// A line that is refused before it is read: a bad line or a long line.
     RefusedLine(Refusal),

@@ -1,7 +1,9 @@
-//! Rounds of lines: lines are read side by side, and documents are added while queries are answered.
+//! Rounds of lines: lines are read concurrently, and documents are added while queries are
+//! answered.
 //!
-//! [`Rounds`] holds lines until they are processed, round after round. What a query of a round may see, and what the lines print, is said by
-//! `WorkedOff` (`specs/Shown.antt`); which prefixes the queries of a whole input may see, by `Sees` of `eb_indexed`.
+//! [`Rounds`] holds lines until they are processed, round after round. `WorkedOff`
+//! (`specs/Shown.antt`) says what a query of a round may see, and what the lines print; `Sees` of
+//! `eb_indexed` says which prefixes the queries of a whole input may see.
 #![tactic(auto)]
 
 mod adding;
@@ -13,7 +15,7 @@ mod rounds;
 mod tasks;
 mod working;
 
-pub use eb_indexed::Counts;
 pub use eb_lines::Refusal;
 pub use input::{Input, Kind};
 pub use rounds::Rounds;
+pub use eb_indexed::Counts;

@@ -1,28 +1,34 @@
-//! Rounds of lines.
+//! Rounds of lines: documents are added while queries are answered.
 //!
-//! Held lines stand in two lists: query lines first, document lines after, since a query is only taken where no
-//! document line is held. A round takes the room of its whole text before its first add: that of a line for each line,
-//! and for each id that a query may have.
+//! A round is query lines and then document lines. None of its queries comes after one of its
+//! documents, so each query needs to see only documents of earlier rounds, and all queries of the
+//! round can be answered while its documents are added. A query may see some of these documents too
+//! (`Sees` of `eb_indexed` says which prefixes). Two rounds are held at most: one that is full, and
+//! one that is open.
 //!
-//! A second thread costs some 26 microseconds, so it is started only where a round has both documents to add and
-//! queries to answer once its lines are read; no size of a round leaves it out, so that a tiny one shows that both go
-//! on at once. The new thread answers: adding stays on the thread that calls, whose caches know the index. Document
-//! lines are read in pieces of 128 lines and up, one a thread: `rayon`'s own least piece is 1,024, so that a round of
-//! fewer than 2,048 lines was read on one thread.
-ghost use Rattle.std.specs.Prelude.{◌≡◌, ◌+◌, ◌<◌, ◌≤◌, ◌^◌, ◌++◌, true, Some, slice_get, ℕ, List, []};
+//! A round takes the memory of its whole text before its first add: room for each line, and for
+//! each id that a query may find. So where memory runs out, nothing of the round is done.
+//!
+//! A second thread costs some 26 microseconds. It is started only where a round has both documents
+//! to add and queries to answer once its lines are read; it is started for however few, so that a
+//! tiny round of a test shows that both go on at once. The new thread answers. The calling thread
+//! adds, since its caches hold the index. Document lines are read in pieces of at least 128 lines,
+//! one thread a piece: by `rayon`'s own least piece of 1,024, a round of fewer than 2,048 lines was
+//! read on one thread.
+ghost use Rattle.std.specs.Prelude.{◌≡◌, ◌+◌, ◌<◌, ◌≤◌, ◌^◌, ◌++◌, true, ℕ, List, []};
 ghost use Rattle.std.specs.Prelude.{length, vec_len, vec_capacity, IfOk, OnErr, OnOk, IsTrue, ◌↔◌};
 ghost use Rattle.std.specs.List.{AllZip};
 ghost use mathlib.Core.List.{IsPrefix};
-ghost use Rattle.eb_fields.specs.Dialect.{uncounted_of};
+ghost use Rattle.eb_fields.specs.Dialect.{dialect_of};
 ghost use Rattle.eb_indexed.specs.Conversions.{AreConverted};
 ghost use Rattle.eb_rounds.specs.Inputs.{ReadsLine, document_line, query_line, refused_line};
-ghost use Rattle.eb_rounds.specs.Passed.{input_of, input_kind, HasMark};
+ghost use Rattle.eb_rounds.specs.Passed.{input_of, input_kind};
 ghost use Rattle.eb_rounds.specs.Takes.{takes_kind};
 ghost use Rattle.eb_rounds.specs.Shown.{WorkedOffBoth};
 ghost use Rattle.eb_rounds.specs.Standing.{Standing, documents_held, queries_held, no_counts, with_held, with_round};
 ghost use Rattle.eb_rounds.specs.Works.{entries_of, need_of_tasks, HasRoomForRefusals};
 
-use crate::held::{FirstInput, FirstLine, Held, QueryLine, ThenInput, ThenLine};
+use crate::held::{FirstInput, FirstLine, Held, ThenInput, ThenLine};
 use crate::input::{Input, Kind};
 use crate::reading::read_rounds;
 use crate::tasks::Tasks;
@@ -30,16 +36,17 @@ use crate::working::{needs_of, work_tasks};
 use eb_base::{Gate, NoMemory};
 use eb_engine::{Converter, Index, Reader, Writer};
 use eb_fields::Dialect;
-use eb_indexed::Counts;
 use eb_lines::{Form, Refusal};
+use eb_indexed::Counts;
 use std::alloc::Global;
 use std::marker::Model;
 use std::mem;
 use std::thread::Threads;
 
-/// The lines that are held, of a round that is open and of one before it that isn't, and the counts of what was processed. In
-/// a round no query line is after a document line, and at most 4,096 document lines, 512 query lines and 4,096 refused lines
-/// are held of it (this project's profile, docs/FORMATS.md).
+/// The lines that are held, of a round that is open and of one before it that isn't, and the counts
+/// of what was processed. In a round no query line is after a document line, and at most 4,096
+/// document lines, 512 query lines and 4,096 refused lines are held of it (this project's profile,
+/// docs/FORMATS.md).
 #[derive(Drop)]
 pub struct Rounds {
     alloc: Global,
@@ -94,8 +101,9 @@ impl Rounds {
         self.counts
     }
 
-    /// Whether a line of this kind may be held of the open round: a document line where fewer than 4,096 are, a query line
-    /// where fewer than 512 and no document line are, a refused line where fewer than 4,096 are. Takes no memory.
+    /// Whether a line of this kind may be held of the open round: a document line where fewer than
+    /// 4,096 are, a query line where fewer than 512 and no document line are, a refused line where
+    /// fewer than 4,096 are. Takes no memory.
     pub fn takes(&self, kind: Kind) -> bool
         ensures { result ≡ takes_kind self.now.held kind }
     {
@@ -120,7 +128,8 @@ impl Rounds {
         self.ahead.first.len() + self.ahead.last.len() > 0
     }
 
-    /// Opens a round after the held lines: these are processed with its lines, and read beside them. Takes no memory.
+    /// Opens a round after the held lines. Both are read together, and processed one after the
+    /// other. Takes no memory.
     pub fn open_round(&mut self)
         requires { self.old.ahead ≡ [] }
         ensures { self.new ≡ with_round self.old }
@@ -135,12 +144,11 @@ impl Rounds {
         self.held.documents > 0
     }
 
-    /// Holds a line of the input, whose number is above those that were put before. A query line begins with `?`. Where
-    /// memory doesn't suffice, nothing is held more.
+    /// Holds a line of the input, whose number is above those that were put before. Where memory
+    /// runs out, no further line is held.
     pub fn put(&mut self, number: u64, line: Input<'_>) -> Result<(), NoMemory>
         requires takes { takes_kind self.old.held (input_kind line) ≡ true }
         requires number { self.old.greatest < number }
-        requires question_mark { HasMark line }
         ensures ok { OnOk result (self.new ≡ with_held self.old number (input_of line.entry)) }
         ensures err { OnErr result (self.new ≡ self.old) }
     {
@@ -172,11 +180,10 @@ impl Rounds {
     fn put_query(&mut self, number: u64, line: &str) -> Result<(), NoMemory>
         requires takes { takes_kind self.old.held Kind.QueryLine ≡ true }
         requires number { self.old.greatest < number }
-        requires question_mark { slice_get line.now 0 ≡ Some 63 }
         ensures ok { OnOk result (self.new ≡ with_held self.old number (query_line line.now)) }
         ensures err { OnErr result (self.new ≡ self.old) }
     {
-        let line = QueryLine::new(String::from_str(self.alloc, line)?);
+        let line = String::from_str(self.alloc, line)?;
         self.held.first.push(FirstLine {
             number,
             input: FirstInput::Query(line),
@@ -186,7 +193,7 @@ impl Rounds {
         Ok(())
     }
 
-    // Holds a refused line ahead of all document lines.
+    // Holds a refused line before all document lines.
     fn put_first(&mut self, number: u64, refusal: Refusal) -> Result<(), NoMemory>
         requires takes { takes_kind self.old.held Kind.RefusedLine ≡ true }
         requires documents { documents_held self.old.held ≡ 0 }
@@ -234,7 +241,7 @@ impl Rounds {
         }
     }
 
-    // Reads the held lines by this dialect, and takes all memory that working them off needs.
+    // Reads the held lines by this dialect, and takes all memory that processing them needs.
     fn prepare<R: Threads + Sync>(
         &self,
         rt: &R,
@@ -243,8 +250,8 @@ impl Rounds {
         text: &mut Vec<u8>,
     ) -> Result<(Tasks, Tasks), NoMemory>
         ensures few { (length self.now.ahead ≤ 2 ^ 14) × (length self.now.held ≤ 2 ^ 14) }
-        ensures ahead { IfOk result (λ r. AllZip (ReadsLine (uncounted_of dialect.entry)) self.now.ahead (entries_of r.0)) }
-        ensures held { IfOk result (λ r. AllZip (ReadsLine (uncounted_of dialect.entry)) self.now.held (entries_of r.1)) }
+        ensures ahead { IfOk result (λ r. AllZip (ReadsLine (dialect_of dialect.entry)) self.now.ahead (entries_of r.0)) }
+        ensures held { IfOk result (λ r. AllZip (ReadsLine (dialect_of dialect.entry)) self.now.held (entries_of r.1)) }
         ensures text { text.new.items ≡ text.old.items }
         ensures room { IfOk result (λ r. vec_len text.new + (need_of_tasks r.0 + need_of_tasks r.1) ≤ vec_capacity text.new) }
         ensures refusals { IfOk result (λ r. HasRoomForRefusals r.0 × HasRoomForRefusals r.1) }
@@ -254,7 +261,7 @@ impl Rounds {
         Ok((ahead, held))
     }
 
-    // Counts what was processed, and holds no line any more.
+    // Counts what was processed, and no longer holds a line.
     fn close(&mut self, counts: Counts)
         requires { counts.documents + (counts.queries + counts.refused) ≤ length self.old.ahead + length self.old.held }
         ensures { self.new ≡ record {
@@ -275,11 +282,12 @@ impl Rounds {
         self.counts.refused += counts.refused;
     }
 
-    /// Processes the held lines: they are read by this dialect by several threads where there are many, and then, round after round, documents
-    /// are added beside answering the queries, which one reader answers in order, and beside converting each segment that was
-    /// closed before. The result is what they print, line for line. Afterwards no line is held, and reader and converter know the writer's
-    /// history. Where memory doesn't suffice, which shows before the first document is added, nothing is done. The tokens
-    /// must have been made with this index.
+    /// Processes the held lines. Several threads read them by this dialect where there are many.
+    /// Then, round after round, documents are added, while one reader answers the queries in order,
+    /// and while the converter converts each segment that was closed before. The result is what
+    /// they print, line for line. Afterwards no line is held, and reader and converter know the
+    /// writer's history. Where memory runs out, which shows before the first document is added,
+    /// nothing is done. The tokens must have been made with this index.
     pub fn step<R: Threads + Sync, G: Gate + Sync>(
         &mut self,
         rt: &R,
@@ -299,7 +307,7 @@ impl Rounds {
         ensures reader { reader.new.index ≡ reader.old.index }
         ensures converter { converter.new.index ≡ converter.old.index }
         ensures ok { IfOk result
-            (λ text. WorkedOffBoth (uncounted_of dialect.entry) form index.now.setting self.old.ahead self.old.held writer.old.docs writer.new.docs
+            (λ text. WorkedOffBoth (dialect_of dialect.entry) form index.now.setting self.old.ahead self.old.held writer.old.docs writer.new.docs
             self.old.counts self.new.counts text.items) }
         ensures held { OnOk result ((self.new.ahead ≡ []) × (self.new.held ≡ []) × (self.new.greatest ≡ self.old.greatest)) }
         ensures told { OnOk result (IsPrefix writer.new.docs converter.new.docs × IsPrefix writer.new.docs reader.new.docs) }
@@ -315,8 +323,8 @@ impl Rounds {
         Ok(text)
     }
 
-    /// As `step`, with what the lines print after the text, and over a reader of its own, which the writer then takes in.
-    /// Where memory doesn't suffice, the text is as before, too.
+    /// As `step`, with what the lines print after the text, and over a reader of its own, which the
+    /// writer then meets. Where memory runs out, the text is as before, too.
     pub fn step_behind<R: Threads + Sync, G: Gate + Sync>(
         &mut self,
         rt: &R,
@@ -334,7 +342,7 @@ impl Rounds {
         ensures writer { writer.new.index ≡ writer.old.index }
         ensures converter { converter.new.index ≡ converter.old.index }
         ensures ok { OnOk result ((printed : List ℕ)
-            × WorkedOffBoth (uncounted_of dialect.entry) form index.now.setting self.old.ahead self.old.held writer.old.docs writer.new.docs
+            × WorkedOffBoth (dialect_of dialect.entry) form index.now.setting self.old.ahead self.old.held writer.old.docs writer.new.docs
             self.old.counts self.new.counts printed
             × (text.new.items ≡ text.old.items ++ printed)) }
         ensures held { OnOk result ((self.new.ahead ≡ []) × (self.new.held ≡ []) × (self.new.greatest ≡ self.old.greatest)) }

@@ -13,8 +13,8 @@ use crate::answering::answer_all;
 use crate::tasks::{Asked, AskedWork, Given, GivenWork, Tasks};
 use eb_base::Gate;
 use eb_engine::{Converter, Index, Reader, Writer};
-use eb_indexed::{Counts, convert_all, has_waiting};
 use eb_lines::{Form, line_room};
+use eb_indexed::{Counts, convert_all, has_waiting};
 use std::thread::{Threads, join_mut};
 
 // The most bytes that a line prints.
@@ -24,6 +24,7 @@ fn need_of(task: &Asked) -> usize
 {
     match &task.work {
         AskedWork::Answer(frame) => line_room(frame.k() as usize),
+        AskedWork::Count(counted) => line_room(1 + counted.tally.buckets().len()),
         AskedWork::Refuse(_) => line_room(0),
     }
 }
@@ -51,12 +52,23 @@ pub(crate) fn needs_of(tasks: &Tasks) -> usize
     needs_of_asked(tasks.asked.as_slice()) + line_room(0) * tasks.given.len()
 }
 
+// Whether the line is a query that is to be answered.
+fn is_query(task: &Asked) -> bool
+    ensures { result ≡ is_answer task.now }
+{
+    match &task.work {
+        AskedWork::Answer(_) => true,
+        AskedWork::Count(_) => true,
+        AskedWork::Refuse(_) => false,
+    }
+}
+
 // Whether some line is a query that is to be answered.
 fn has_answer(tasks: &[Asked]) -> bool
     ensures { result ≡ list_any is_answer tasks.now }
 {
     for task in tasks {
-        if let AskedWork::Answer(_) = &task.work {
+        if is_query(task) {
             return true;
         }
     }
@@ -75,7 +87,7 @@ fn has_add(tasks: &[Given]) -> bool
     false
 }
 
-// Adds the documents beside answering the queries: a thread is started. Takes no memory.
+// Adds the documents while the queries are answered: a thread is started. Takes no memory.
 fn work_beside<R: Threads + Sync, G: Gate + Sync>(
     rt: &R,
     index: &Index,
@@ -110,7 +122,8 @@ fn work_beside<R: Threads + Sync, G: Gate + Sync>(
     (added, answered)
 }
 
-// The same, by one thread where there aren't both documents to add and queries to answer.
+// Adds the documents and answers the queries, at the same time where there are both, else by one
+// thread.
 fn work_either<R: Threads + Sync, G: Gate + Sync>(
     rt: &R,
     index: &Index,
@@ -186,7 +199,7 @@ fn work_round<R: Threads + Sync, G: Gate + Sync>(
     counts
 }
 
-// Converts beside processing the lines of a round: a thread is started. Takes no memory.
+// Converts while the lines of a round are processed: a thread is started. Takes no memory.
 fn convert_beside<R: Threads + Sync, G: Gate + Sync>(
     rt: &R,
     index: &Index,
@@ -225,8 +238,8 @@ fn convert_beside<R: Threads + Sync, G: Gate + Sync>(
     counts
 }
 
-// Processes the lines of a round, and converts all segments that are closed before it: beside the lines where both is to be
-// done. The converter knows the history. Takes no memory.
+// Processes the lines of a round, and converts all segments that are closed before it: at the same
+// time where both is to be done. The converter knows the history. Takes no memory.
 fn work_and_convert<R: Threads + Sync, G: Gate + Sync>(
     rt: &R,
     index: &Index,
@@ -266,8 +279,8 @@ fn work_and_convert<R: Threads + Sync, G: Gate + Sync>(
     work_round(rt, index, writer, asked, given, gate, form, text, refusals)
 }
 
-// Tells the converter the history, processes the lines of a round, and converts all segments that are closed before it. Takes
-// no memory.
+// The converter learns the history; then the lines of a round are processed, and all segments that
+// are closed before it converted. Takes no memory.
 pub(crate) fn work_tasks<R: Threads + Sync, G: Gate + Sync>(
     rt: &R,
     index: &Index,

@@ -1,6 +1,6 @@
--- The figures of some lines, with one line more.
+-- The figures of some lines, with one more line.
 use Rattle.eb_fields.specs.Dialect.{plain}
-use Rattle.std.proofs.Common.{◌≡◌, ℕ, suc, ◌+◌, ◌-◌, ◌*◌, ◌<◌, ◌≤◌, ◌^◌, List, [], ◌∷◌, ◌++◌, length, take, drop, Option, Some, inl, inr}
+use Rattle.std.proofs.Common.{◌≡◌, ℕ, suc, ◌+◌, ◌-◌, ◌*◌, ◌<◌, ◌≤◌, ◌^◌, List, [], ◌∷◌, ◌++◌, length, take, drop, Option, Some, None, inl, inr}
 use Rattle.std.proofs.Common.{map, filter, refl, sym, ap, subst, ◌∙◌, arith, append_assoc, append-nil, length-append}
 use Rattle.std.specs.Prelude.{sum, true, false, if◌then◌else◌}
 use Rattle.std.proofs.lemmas.List.{take-append-drop, length-map, length-take, length-reverse}
@@ -18,15 +18,17 @@ use Rattle.eb_lines.specs.declared.status.Status.TheVariants as status
 use Rattle.eb_lines.specs.Reading.{Reading, blank, document, query, refused, watch}
 use Rattle.eb_lines.specs.Reads.{Reads}
 use Rattle.eb_lines.specs.Progress.{documents_in, accepted, queries, refusals, is_query, is_refused, one_if}
-use Rattle.eb_indexed.specs.Admitted.{admit, admitted}
+use Rattle.eb_answer.specs.Rules.{is_bad, document_outcome, come_behind}
+use Rattle.eb_answer.proofs.ByKind.{reads_plain, all_plain}
+use Rattle.eb_answer.proofs.Coming.{read_none, read_push, read_long}
+use Rattle.eb_indexed.specs.IndexRules.{admit}
 use Rattle.eb_indexed.specs.Indexed.{Holds, WithPlaced}
 use Rattle.eb_indexed.specs.declared.indexed.Indexed.{Indexed}
 use Rattle.eb_lines.specs.declared.refusal.Refusal.TheVariants.{Full}
-use Rattle.eb_run.specs.Bench.{usual, answer_in, answers_from, all_answers, bench_line, figures, Closes, PrintsFigures, WroteBench, MeansBench, HasCounted, Takes}
+use Rattle.eb_run.specs.Bench.{usual, bench_rules, answer_in, answers_from, all_answers, bench_line, figures, Closes, PrintsFigures, WroteBench, MeansBench, HasCounted, Takes}
 use Rattle.eb_lines.specs.Outcomes.{IsWorkedOff}
 use Rattle.eb_lines.proofs.OneReading.{some_read}
 use Rattle.eb_lines.proofs.Advancing.{accepted_few, accepted-push, queries-push, refusals-push}
-use Rattle.eb_indexed.proofs.LinesRead.{read_none, read_push, read_long}
 
 -- ---- the answers of the lines
 
@@ -71,7 +73,7 @@ sum-append xs ys = sum_by-append (λ x. x) xs ys
 
 module _ (b : Bench) (lines : List Line) (h : HasCounted b lines) (few : length lines < 2 ^ 17) where
   long : length h.readings ≡ length lines
-  long = read_long (Reads plain) usual [] lines h.readings h.read
+  long = read_long bench_rules is_bad lines h.readings h.read
 
   -- the documents so far are no more than the lines, nor are the queries or the refused lines
   documents_few : length (accepted h.readings) ≤ length lines
@@ -103,7 +105,7 @@ module _ (b : Bench) (lines : List Line) (h : HasCounted b lines) (few : length 
         let more : all_answers all ≡ all_answers h.readings ++ own = all_answers-push h.readings next ∙ ap (λ xs. all_answers h.readings ++ xs) (sym same) in
         record {
           readings = all;
-          read = read_push (Reads plain) usual [] lines h.readings l raw h.read reads;
+          read = read_push bench_rules is_bad lines h.readings l raw h.read (reads_plain plain l raw reads);
           holds = subst (Holds c.indexed usual) (sym (accepted-push h.readings next)) holds;
           queries = asked ∙ ap (λ n. n + one_if (is_query next)) h.queries ∙ sym (queries-push h.readings next);
           refused = failed ∙ ap (λ n. n + one_if (is_refused next)) h.refused ∙ sym (refusals-push h.readings next);
@@ -140,7 +142,7 @@ module _ (b c : Bench) (d : Doc) (asked : c.queries ≡ b.queries) (ids : c.ids 
   takes_placed place failed = λ lines l reads h few.
       let docs = accepted h.readings in
       let placed = place docs h.holds in
-      let is : admit usual docs (document d) ≡ document d = ap (λ t. if t then document d else refused Full) placed.0 in
+      let is : admit usual docs (document d) ≡ document d = ap (λ t. document_outcome d (if t then None else Some Full)) placed.0 in
       let none_asked : b.queries ≡ b.queries + 0 = omega arith in
       let none_failed : b.refused ≡ b.refused + 0 = omega arith in
       counted_push b lines h few l (document d) reads c [] (subst (λ x. Holds c.indexed usual (docs ++ documents_in x)) (sym is) placed.1)
@@ -151,7 +153,7 @@ module _ (b c : Bench) (d : Doc) (asked : c.queries ≡ b.queries) (ids : c.ids 
   takes_full place failed = λ lines l reads h few.
       let docs = accepted h.readings in
       let placed = place docs h.holds in
-      let is : admit usual docs (document d) ≡ refused Full = ap (λ t. if t then document d else refused Full) placed.0 in
+      let is : admit usual docs (document d) ≡ refused Full = ap (λ t. document_outcome d (if t then None else Some Full)) placed.0 in
       let none_asked : b.queries ≡ b.queries + 0 = omega arith in
       counted_push b lines h few l (document d) reads c []
       (subst (λ x. Holds c.indexed usual (docs ++ documents_in x)) (sym is) (subst (Holds c.indexed usual) (sym (append-nil docs)) placed.1))
@@ -162,7 +164,7 @@ pub counted_none : (b : Bench) → b.ids ≡ 0 → b.sum ≡ 0 → b.queries ≡
 unfolding accepted queries refusals
 counted_none b ids sums asked failed holds = record {
   readings = [];
-  read = read_none (Reads plain) usual [];
+  read = read_none bench_rules is_bad;
   holds = holds;
   queries = asked;
   refused = failed;
@@ -229,7 +231,7 @@ figures_end status.BadImage lines old new rose f fault sound = absurd f.2
 
 -- memory ran out before the end
 pub figures_none : (lines : List Line) (printed : Option (List ℕ)) → PrintsFigures status.NoMemory lines printed printed
-figures_none lines printed = let raw = some_read plain lines in (admitted usual raw.0, (raw.0, raw.1, refl), refl)
+figures_none lines printed = let raw = some_read plain lines in (come_behind bench_rules [] tt raw.0, (raw.0, all_plain plain lines raw.0 raw.1, refl), refl)
 
 -- five parts of a text, one after the other
 pub five_parts : (a b c d e : List ℕ) → a ++ (b ++ (c ++ (d ++ e))) ≡ a ++ b ++ c ++ d ++ e

@@ -1,5 +1,5 @@
 -- What follows from how a command ends.
-use Rattle.eb_fields.specs.Dialect.{Dialect, uncounted}
+use Rattle.eb_fields.specs.Dialect.{Dialect}
 use Rattle.std.proofs.Common.{◌≡◌, ◌⊎◌, ℕ, inl, inr, List, [], ◌++◌, Option, Some, None, refl, sym, ap, subst, ◌∙◌, append-nil}
 use Rattle.std.specs.Prelude.{IfSome}
 use Rattle.eb_archive.specs.Loaded.{EndsLoad, IsUnread, IsRead, IsBodyBehind, IsTextBehind, HasRefusalBehind, HasNoRefusalBehind, Loaded}
@@ -12,26 +12,23 @@ use Rattle.eb_lines.specs.declared.status.Status.TheVariants.{Done, Refused, Rea
 use Rattle.eb_lines.specs.Outcomes as outcomes
 use Rattle.eb_lines.proofs.Told.{ends_told, ends_mean, completes}
 use Rattle.eb_answer.specs.Rules.{is_bad}
+use Rattle.eb_answer.specs.Sees.{exactly, at_least}
 use Rattle.eb_answer.proofs.Taking.{ends_none}
 use Rattle.eb_parts.specs.Texts.{parts_rules}
-use Rattle.eb_workers.specs.Output as workers
+use Rattle.eb_indexed.specs.IndexRules.{index_rules}
 use Rattle.eb_run.specs.Command.{Asks, asks}
 use Rattle.eb_run.specs.declared.command.Command.{Command}
 use Rattle.eb_run.specs.declared.command.Command.TheVariants.{Run, RunWorkers, RunParts, RunWatches, Bench, Save, Load}
-use Rattle.eb_run.specs.Output as output
+use Rattle.eb_run.specs.Output.{way_of}
 use Rattle.eb_run.specs.Ran.{EndsBy, HasImage, WroteLoad, Prints, Ran, Means, Completes}
-use Rattle.eb_run.specs.Running.{body_first}
 use Rattle.eb_run.proofs.Benches.{figures_told, figures_mean, figures_end, figures_none}
 use Rattle.eb_run.proofs.Loads.{bad_told, load_none}
-use Rattle.eb_run.proofs.Runs.{body_none}
 use Rattle.eb_archive.specs.SavingLaws.{parts_first}
 use Rattle.eb_archive.proofs.Savings.{parts_none}
 use Rattle.eb_image.specs.Image.{head_of, image_of}
 use Rattle.eb_lines.proofs.PassingLines as passing
 use Rattle.eb_watching.specs.Others.{ReadsOther}
 use Rattle.eb_watching.specs.WatchRules.{watch_rules}
-use Rattle.eb_workers.specs.ServingLaws as serving
-use Rattle.eb_workers.proofs.Beginnings.{body_none_given}
 
 left_told : (bytes taken : List ℕ) (left : Option (List ℕ)) → Some bytes ≡ after taken left → (rest : List ℕ) × (left ≡ Some rest) × (bytes ≡ taken ++ rest)
 left_told bytes taken None e = let no : ⊥ = cc in absurd no
@@ -138,11 +135,10 @@ ends_asked o a how c status l0 l1 p0 p1 own is ends = subst (λ (x : Option Asks
 -- ---- where memory ran out before anything was done
 
 pub none_done : (how : Dialect) (c : Command) (left printed : Option (List ℕ)) → EndsBy how c NoMemory left left printed printed
-none_done how (Run overlap form σ) left printed = let a = output.asked (output.read_by overlap how) σ overlap form in passing.ends_at_once _ _ _ _ (body_first a) left printed [] (body_none a)
-none_done how (RunWorkers n form σ) left printed =
-    passing.ends_at_once _ _ _ _ (serving.body_first (workers.asked (uncounted how) σ form)) left printed [] (body_none_given (workers.asked (uncounted how) σ form))
-none_done how (RunParts n overlap form σ) left printed = ends_none is_bad (parts_rules how n σ form) left printed
-none_done how (RunWatches form σ) left printed = ends_none ReadsOther (watch_rules how σ form) left printed
+none_done how (Run overlap form σ) left printed = ends_none is_bad (way_of overlap) (index_rules how σ form []) left printed
+none_done how (RunWorkers n form σ) left printed = ends_none is_bad at_least (index_rules how σ form []) left printed
+none_done how (RunParts n overlap form σ) left printed = ends_none is_bad exactly (parts_rules how n σ form) left printed
+none_done how (RunWatches form σ) left printed = ends_none ReadsOther exactly (watch_rules how σ form) left printed
 none_done how (Bench start count) left printed = figures_none _ printed
 none_done how (Save σ) left printed = passing.ends_at_once _ _ _ _ (parts_first (saved.asked how σ)) left printed (head_of σ) (parts_none (saved.asked how σ))
 none_done how (Load form) left printed = load_none how form left printed

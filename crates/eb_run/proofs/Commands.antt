@@ -1,7 +1,7 @@
 -- The words ask for nothing out of range.
 use Rattle.eb_fields.specs.Dialect.{Dialect, plain}
 use Rattle.std.proofs.Common.{◌≡◌, ℕ, ◌≤◌, List, [], ◌∷◌, ◌++◌, Option, None, Some, refl, subst}
-use Rattle.std.specs.Prelude.{◌&&◌, not, ◌*◌, ◌^◌, Bool, true, false, codes, nat_le, if◌then◌else◌, option_map, option_and_then}
+use Rattle.std.specs.Prelude.{◌&&◌, ◌*◌, ◌^◌, Bool, true, false, codes, nat_le, if◌then◌else◌, option_map, option_and_then}
 use Rattle.std.specs.Str.{bytes_eq}
 use Rattle.std.proofs.lemmas.Bool.{and_parts, leb-true}
 use Rattle.eb_lines.specs.declared.form.Form.{Form}
@@ -13,9 +13,10 @@ use Rattle.eb_run.specs.declared.command.Command.{Command}
 use Rattle.eb_run.specs.declared.command.Command.TheVariants.{Run, RunWorkers, RunParts, RunWatches, Bench, Save, Load}
 use Rattle.eb_run.specs.Command.{form_of, run_flags, run_options}
 use Rattle.eb_run.specs.Command.{is_few, with_workers, over_parts, run_by, run_with, run_of, bench_docs, bench_of, save_with, save_of, load_flags}
-use Rattle.eb_run.specs.Command.{load_with, load_of, Counting, may_count, with_counts, asks_counting, Asks, DialectApart, asks, asked_of, dialect_apart, text_options, with_dialect}
+use Rattle.eb_run.specs.Command.{load_with, load_of, Counting, counting, asks_counting, Asks, DialectApart, asks, asked_of, dialect_apart, text_options, with_dialect}
 
--- what is asked for is in range: a made input of at most 40,000 documents, 1 to 16 workers, 1 to 16 parts
+-- what is asked for is in range: a made input of at most 40,000 documents, 1 to 16 workers, 1 to 16
+-- parts
 abbrev IsInRange : Option Command → Type 0
 IsInRange None = Unit {0}
 IsInRange (Some (Run overlap form σ)) = Unit {0}
@@ -66,17 +67,13 @@ by_in true false (Some n) (Some p) form σ = tt
 by_in false true (Some n) (Some p) form σ = tt
 by_in true true (Some n) (Some p) form σ = tt
 
--- the command beside which it is said whether its lines ask for counts
+-- the command, given whether its lines may ask for counts
 abbrev command_of : Option Counting → Option Command
 command_of o = option_map (λ (c : Counting). c.command) o
 
-test_in : (b counts : Bool) (c : Command) → IsInRange (Some c) → IsInRange (command_of (if b then None else Some (record { counts = counts; command = c })))
-test_in true counts c h = tt
-test_in false counts c h = h
-
-with_counts_in : (counts : Bool) (o : Option Command) → IsInRange o → IsInRange (command_of (option_and_then (with_counts counts) o))
-with_counts_in counts None h = tt
-with_counts_in counts (Some c) h = test_in (counts && not (may_count c)) counts c h
+counting_in : (counts : Bool) (o : Option Command) → IsInRange o → IsInRange (command_of (option_map (counting counts) o))
+counting_in counts None h = tt
+counting_in counts (Some c) h = h
 
 then_counts : {A : Type 0} (f : A → Option Counting) → ((x : A) → IsInRange (command_of (f x))) → (o : Option A) → IsInRange (command_of (option_and_then f o))
 then_counts f h None = tt
@@ -90,18 +87,20 @@ ways_in items = then_in
 
 run_in : (words : List (List ℕ)) → IsInRange (command_of (run_of words))
 run_in words =
-    then_counts (λ items. option_and_then (with_counts (has (codes "counts") items)) (run_with items))
-    (λ items. with_counts_in (has (codes "counts") items) (run_with items) (ways_in items)) (items_of run_flags run_options words)
+    then_counts (λ items. option_map (counting (has (codes "counts") items)) (run_with items))
+    (λ items. counting_in (has (codes "counts") items) (run_with items) (ways_in items)) (items_of run_flags run_options words)
 
 save_in : (words : List (List ℕ)) → IsInRange (command_of (save_of words))
 save_in words =
-    with_counts_in false (option_and_then save_with (items_of [] setting_options words))
+    counting_in false (option_and_then save_with (items_of [] setting_options words))
     (then_in save_with (λ items. mapped (λ (σ : Setting). Save σ) (λ σ. tt) (setting_of items)) (items_of [] setting_options words))
 
 load_in : (words : List (List ℕ)) → IsInRange (command_of (load_of words))
-load_in words =
-    then_counts (λ items. with_counts (has (codes "counts") items) (load_with items))
-    (λ items. with_counts_in (has (codes "counts") items) (Some (load_with items)) tt) (items_of load_flags [] words)
+load_in words = go (items_of load_flags [] words)
+  where
+    go : (o : Option Items) → IsInRange (command_of (option_map (λ items. counting (has (codes "counts") items) (load_with items)) o))
+    go None = tt
+    go (Some items) = tt
 
 counted_in : (start n : ℕ) (b : Bool) → (b ≡ true → n ≤ 40000) → IsInRange (option_map (λ count. Bench start count) (if b then Some n else None))
 counted_in start n true h = h refl
@@ -127,9 +126,9 @@ asks_in : (how : Dialect) (o : Option Command) → IsInRange o → IsInRange (co
 asks_in how None h = tt
 asks_in how (Some c) h = h
 
-counting_in : (how : Dialect) (o : Option Counting) → IsInRange (command_of o) → IsInRange (command_in (option_map (asks_counting how) o))
-counting_in how None h = tt
-counting_in how (Some c) h = h
+spoken_in : (how : Dialect) (o : Option Counting) → IsInRange (command_of o) → IsInRange (command_in (option_map (asks_counting how) o))
+spoken_in how None h = tt
+spoken_in how (Some c) h = h
 
 with_dialect_in : (options : List (List ℕ)) (ask : List (List ℕ) → Option Counting) (words : List (List ℕ)) → ((words : List (List ℕ)) → IsInRange (command_of (ask words)))
     → IsInRange (command_in (with_dialect options ask words))
@@ -137,7 +136,7 @@ with_dialect_in options ask words h = go (dialect_apart (text_options ++ options
   where
     go : (o : Option DialectApart) → IsInRange (command_in (option_and_then (λ (a : DialectApart). option_map (asks_counting a.dialect) (ask a.others)) o))
     go None = tt
-    go (Some a) = counting_in a.dialect (ask a.others) (h a.others)
+    go (Some a) = spoken_in a.dialect (ask a.others) (h a.others)
 
 either_asks : (b : Bool) (x y : Option Asks) → IsInRange (command_in x) → IsInRange (command_in y) → IsInRange (command_in (if b then x else y))
 either_asks true x y h k = h

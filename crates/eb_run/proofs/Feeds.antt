@@ -1,22 +1,19 @@
 -- A feed by the way in which its lines are processed.
 use Rattle.eb_fields.specs.Dialect.{Dialect}
-use Rattle.std.proofs.Common.{◌≡◌, ℕ, List, [], Option, sym, subst}
+use Rattle.std.proofs.Common.{◌≡◌, ℕ, List, Option, sym, subst}
 use Rattle.eb_answer.specs.Rules.{is_bad}
+use Rattle.eb_answer.specs.Sees.{exactly, at_least}
 use Rattle.eb_answer.proofs.OneText.{one_text_of, some_text_of, one_bad, some_bad}
 use Rattle.eb_answer.proofs.Taking.{ends_none}
-use Rattle.eb_feed_workers.specs.ServingLaws.{body_first}
-use Rattle.eb_feed_workers.proofs.Beginnings.{body_none_given}
 use Rattle.eb_io.specs.Lines.{Line}
 use Rattle.eb_lines.specs.declared.status.Status.{Status}
 use Rattle.eb_lines.specs.declared.status.Status.TheVariants.{NoMemory}
 use Rattle.eb_lines.specs.Passing.{Ends}
-use Rattle.eb_lines.proofs.PassingLines.{ends_at_once}
 use Rattle.eb_run.specs.declared.feed.command.FeedCommand.{FeedCommand}
 use Rattle.eb_run.specs.declared.feed.command.FeedWay.{FeedWay}
 use Rattle.eb_run.specs.declared.feed.command.FeedWay.TheVariants.{InOrder, Watches, Overlap, Workers}
 use Rattle.eb_run.specs.FeedLaws.{IsSettledWay}
-use Rattle.eb_run.specs.FeedOutput.{read_in, rules_of, asked_of, IsBodyFed, IsTextFed, HasRefusalFed, HasNoRefusalFed}
-use Rattle.eb_run.proofs.FeedsInOrder.{some_text}
+use Rattle.eb_run.specs.FeedOutput.{rules_of, workers_of, IsBodyFed, IsTextFed, HasRefusalFed, HasNoRefusalFed}
 use Rattle.eb_watching.proofs.OtherLines.{one_other, some_other}
 use Rattle.eb_watching.specs.Others.{ReadsOther}
 use Rattle.eb_watching.specs.WatchRules.{with_watches}
@@ -25,16 +22,16 @@ use Rattle.eb_watching.specs.WatchRules.{with_watches}
 abbrev pub EndsFed : FeedWay → Dialect → FeedCommand → Status → Option (List ℕ) → Option (List ℕ) → Option (List ℕ) → Option (List ℕ) → Type 0
 EndsFed w how c = Ends (IsBodyFed w how c) (IsTextFed w how c) (HasRefusalFed w how c) (HasNoRefusalFed w how c)
 
-pub ended : (v w : FeedWay) (how : Dialect) (c : FeedCommand) (s : Status) (l0 l1 p0 p1 : Option (List ℕ)) → v ≡ w → EndsFed w (read_in w how) c s l0 l1 p0 p1
-    → EndsFed v (read_in v how) c s l0 l1 p0 p1
-ended v w how c s l0 l1 p0 p1 same e = subst (λ (x : FeedWay). EndsFed x (read_in x how) c s l0 l1 p0 p1) (sym same) e
+pub ended : (v w : FeedWay) (how : Dialect) (c : FeedCommand) (s : Status) (l0 l1 p0 p1 : Option (List ℕ)) → v ≡ w → EndsFed w how c s l0 l1 p0 p1
+    → EndsFed v how c s l0 l1 p0 p1
+ended v w how c s l0 l1 p0 p1 same e = subst (λ (x : FeedWay). EndsFed x how c s l0 l1 p0 p1) (sym same) e
 
 -- where nothing was read
 pub fed_none : (w : FeedWay) (how : Dialect) (c : FeedCommand) (left printed : Option (List ℕ)) → EndsFed w how c NoMemory left left printed printed
-fed_none InOrder how c left printed = ends_none is_bad (rules_of how c) left printed
-fed_none Watches how c left printed = ends_none ReadsOther (with_watches (rules_of how c)) left printed
-fed_none Overlap how c left printed = ends_none is_bad (rules_of how c) left printed
-fed_none (Workers n) how c left printed = let a = asked_of how c in ends_at_once _ _ _ _ (body_first a) left printed [] (body_none_given a)
+fed_none InOrder how c left printed = ends_none is_bad exactly (rules_of how c) left printed
+fed_none Watches how c left printed = ends_none ReadsOther exactly (with_watches (rules_of how c)) left printed
+fed_none Overlap how c left printed = ends_none is_bad exactly (rules_of how c) left printed
+fed_none (Workers n) how c left printed = ends_none is_bad at_least (workers_of how c) left printed
 
 -- lines have one text
 pub one_fed : (w : FeedWay) (how : Dialect) (c : FeedCommand) (lines : List Line) (x y : List ℕ) → IsSettledWay w → IsTextFed w how c lines x → IsTextFed w how c lines y → x ≡ y
@@ -44,7 +41,7 @@ one_fed Overlap how c lines x y settled = one_text_of is_bad one_bad (rules_of h
 one_fed (Workers n) how c lines x y settled = absurd settled
 
 pub some_fed : (w : FeedWay) (how : Dialect) (c : FeedCommand) (lines : List Line) → (printed : List ℕ) × IsTextFed w how c lines printed
-some_fed InOrder how c lines = some_text_of is_bad some_bad (rules_of how c) lines
-some_fed Watches how c lines = some_text_of ReadsOther some_other (with_watches (rules_of how c)) lines
-some_fed Overlap how c lines = some_text_of is_bad some_bad (rules_of how c) lines
-some_fed (Workers n) how c lines = some_text how c lines
+some_fed InOrder how c lines = some_text_of is_bad some_bad exactly (rules_of how c) lines
+some_fed Watches how c lines = some_text_of ReadsOther some_other exactly (with_watches (rules_of how c)) lines
+some_fed Overlap how c lines = some_text_of is_bad some_bad exactly (rules_of how c) lines
+some_fed (Workers n) how c lines = some_text_of is_bad some_bad at_least (workers_of how c) lines

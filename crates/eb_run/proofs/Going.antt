@@ -12,22 +12,23 @@ use Rattle.eb_io.specs.Lines.{Line}
 use Rattle.eb_lines.specs.declared.form.Form.{Form}
 use Rattle.eb_lines.specs.Reading.{Reading, blank, document, query, refused, watch}
 use Rattle.eb_lines.specs.Progress.{documents_in, is_query, is_refused, one_if, accepted, queries, refusals}
-use Rattle.eb_indexed.specs.Admitted.{admit, admitted_from}
-use Rattle.eb_indexed.specs.Text.{output_of, body_from}
+use Rattle.eb_answer.specs.Rules.{Rules, is_bad, come_behind, AreRead, ReadsWith}
+use Rattle.eb_answer.specs.Text.{body_from}
+use Rattle.eb_answer.proofs.ByKind.{all_plain}
+use Rattle.eb_answer.proofs.Coming.{read_long}
+use Rattle.eb_indexed.specs.IndexRules.{admit, output_of}
 use Rattle.eb_lines.specs.Text.{asked_line}
 use Rattle.eb_rounds.specs.Inputs.{ReadsLine, admitted_in, added}
 use Rattle.eb_rounds.specs.Shown.{shown_entry, shown_text, Counted, asks, fails, WorkedOff}
-use Rattle.eb_indexed.specs.Sees.{is_document_line, is_query_line, IsAsked, SeesBetween}
-use Rattle.eb_indexed.specs.Rows.{added_count, NoQueryLine, QueriesFirst, joined_numbers, SeesWithin}
+use Rattle.eb_answer.specs.Sees.{is_document_line, is_query_line, IsAsked, SeesBetween}
+use Rattle.eb_answer.specs.Rows.{added_count, NoQueryLine, QueriesFirst, joined_numbers, SeesWithin}
 use Rattle.eb_rounds.specs.Standing.{Standing}
-use Rattle.eb_indexed.proofs.Seeing.{accepted-append, sees_on, front_is, back_is, next_within}
-use Rattle.eb_indexed.proofs.LinesRead.{read_long}
+use Rattle.eb_answer.proofs.Seeing.{accepted-append, sees_on, front_is, back_is, next_within}
 use Rattle.eb_rounds.proofs.Rounded.{zip_append}
-use Rattle.eb_indexed.proofs.Texts.{body_append}
-use Rattle.eb_indexed.specs.LinesRead.{AreRead}
+use Rattle.eb_answer.proofs.Texts.{body_append}
 use Rattle.eb_lines.specs.Reads.{Reads}
 use Rattle.eb_run.specs.Holding.{entries_from}
-use Rattle.eb_run.specs.Waiting.{HasWorkedOff, HasSettled, counts_of}
+use Rattle.eb_run.specs.Waiting.{HasWorkedOff, HasSettled, counts_of, rules_in}
 use Rattle.eb_run.proofs.Waitings.{read_back, admitted_entries, added_entries, seen_in, round_text, round_sees}
 
 -- ---- a refused document is still a document line
@@ -52,27 +53,33 @@ admit_query σ docs (query k q) = refl
 admit_query σ docs (refused x) = refl
 admit_query σ docs (watch n q) = refl
 
-no_query_on : (σ : Setting) (docs : List Doc) (rs : List Reading) → NoQueryLine rs → NoQueryLine (admitted_from σ docs rs)
-unfolding admitted_from
-no_query_on σ docs [] h = tt
-no_query_on σ docs (r ∷ rs) h = (admit_query σ docs r ∙ h.0, no_query_on σ (docs ++ documents_in (admit σ docs r)) rs h.1)
+module _ (how : Dialect) (form : Form) (σ : Setting) where
+  abbrev rules : Rules (Unit {0})
+  rules = rules_in how form σ
 
-first_on : (σ : Setting) (docs : List Doc) (rs : List Reading) → QueriesFirst rs → QueriesFirst (admitted_from σ docs rs)
-unfolding admitted_from
-first_on σ docs [] h = tt
-first_on σ docs (r ∷ rs) h =
-    let more = docs ++ documents_in (admit σ docs r) in
-    (λ e. no_query_on σ more rs (h.0 (sym (admit_document σ docs r) ∙ e)), first_on σ more rs h.1)
+  no_query_on : (docs : List Doc) (rs : List Reading) → NoQueryLine rs → NoQueryLine (come_behind rules docs tt rs)
+  unfolding come_behind
+  no_query_on docs [] h = tt
+  no_query_on docs (r ∷ rs) h = (admit_query σ docs r ∙ h.0, no_query_on (docs ++ documents_in (admit σ docs r)) rs h.1)
 
--- ---- lists
+  first_on : (docs : List Doc) (rs : List Reading) → QueriesFirst rs → QueriesFirst (come_behind rules docs tt rs)
+  unfolding come_behind
+  first_on docs [] h = tt
+  first_on docs (r ∷ rs) h =
+      let more = docs ++ documents_in (admit σ docs r) in
+      (λ e. no_query_on more rs (h.0 (sym (admit_document σ docs r) ∙ e)), first_on more rs h.1)
 
-admitted-append : (σ : Setting) (docs : List Doc) (rs ss : List Reading) → admitted_from σ docs (rs ++ ss) ≡ admitted_from σ docs rs ++ admitted_from σ (docs ++ accepted (admitted_from σ docs rs)) ss
-unfolding admitted_from accepted
-admitted-append σ docs [] ss = ap (λ ds. admitted_from σ ds ss) (sym (append-nil docs))
-admitted-append σ docs (r ∷ rs) ss =
-    let own = admit σ docs r in
-    let more = docs ++ documents_in own in
-    ap (λ xs. own ∷ xs) (admitted-append σ more rs ss ∙ ap (λ ds. admitted_from σ more rs ++ admitted_from σ ds ss) (append_assoc docs (documents_in own) (accepted (admitted_from σ more rs))))
+  -- ---- lists
+
+  come-append : (docs : List Doc) (rs ss : List Reading)
+      → come_behind rules docs tt (rs ++ ss) ≡ come_behind rules docs tt rs ++ come_behind rules (docs ++ accepted (come_behind rules docs tt rs)) tt ss
+  unfolding come_behind accepted
+  come-append docs [] ss = ap (λ ds. come_behind rules ds tt ss) (sym (append-nil docs))
+  come-append docs (r ∷ rs) ss =
+      let own = admit σ docs r in
+      let more = docs ++ documents_in own in
+      ap (λ xs. own ∷ xs) (come-append more rs ss
+      ∙ ap (λ ds. come_behind rules more tt rs ++ come_behind rules ds tt ss) (append_assoc docs (documents_in own) (accepted (come_behind rules more tt rs))))
 
 output_asked : (form : Form) (number n m : ℕ) (docs more : List Doc) (r : Reading) → (is_query r ≡ true → (m ≡ n) × (n ≤ length docs))
     → output_of form number n docs r ≡ output_of form number m (docs ++ more) r
@@ -85,15 +92,16 @@ output_asked form number n m docs more (refused x) h = refl
 output_asked form number n m docs more (watch w q) h = refl
 
 -- lines print the same among more documents, where their queries see the same
-body_asked : (form : Form) (n m : ℕ → ℕ) (docs more : List Doc) (j : ℕ) (rs : List Reading) → ((i : ℕ) → IsAsked rs i → (m (j + i) ≡ n (j + i)) × (n (j + i) ≤ length docs))
-    → body_from form n docs j rs ≡ body_from form m (docs ++ more) j rs
+body_asked : (how : Dialect) (form : Form) (σ : Setting) (n m : ℕ → ℕ) (docs more : List Doc) (j : ℕ) (rs : List Reading)
+    → ((i : ℕ) → IsAsked rs i → (m (j + i) ≡ n (j + i)) × (n (j + i) ≤ length docs)) → body_from (rules_in how form σ) n docs j tt rs ≡ body_from (rules_in how form σ) m (docs ++ more) j tt rs
 unfolding body_from
-body_asked form n m docs more j [] h = refl
-body_asked form n m docs more j (r ∷ rs) h =
+body_asked how form σ n m docs more j [] h = refl
+body_asked how form σ n m docs more j (r ∷ rs) h =
     let none : j + 0 ≡ j = omega arith in
     ap₂ (λ a b. a ++ b)
     (output_asked form (j + 1) (n j) (m j) docs more r (λ a. subst (λ k. (m k ≡ n k) × (n k ≤ length docs)) none (h 0 a)))
-    (body_asked form n m docs more (j + 1) rs (λ i a. let plus : j + suc i ≡ j + 1 + i = omega arith in subst (λ k. (m k ≡ n k) × (n k ≤ length docs)) plus (h (suc i) a)))
+    (body_asked how form σ n m docs more (j + 1) rs
+    (λ i a. let plus : j + suc i ≡ j + 1 + i = omega arith in subst (λ k. (m k ≡ n k) × (n k ≤ length docs)) plus (h (suc i) a)))
 
 -- ---- counts
 
@@ -145,10 +153,10 @@ module _ (how : Dialect) (form : Form) (σ : Setting) (given : List Line) (docs 
 
   -- what the waiting lines come to
   abbrev pub ss : List Reading
-  ss = admitted_from σ docs back.0
+  ss = come_behind (rules_in how form σ) docs tt back.0
 
   pub lines_are : map shown_entry w.shown ≡ entries_from k ss
-  lines_are = w.lines ∙ ap (admitted_in σ docs) back.2 ∙ admitted_entries σ k docs back.0
+  lines_are = w.lines ∙ ap (admitted_in σ docs) back.2 ∙ admitted_entries how form σ k docs back.0
 
   adds_are : added (map shown_entry w.shown) ≡ accepted ss
   adds_are = ap added lines_are ∙ added_entries k ss
@@ -157,17 +165,17 @@ module _ (how : Dialect) (form : Form) (σ : Setting) (given : List Line) (docs 
   docs_are = w.docs ∙ ap₂ (λ x y. x ++ y) a.adds adds_are
 
   long_is : length a.readings ≡ k
-  long_is = read_long (Reads how) σ [] a.done a.readings a.read
+  long_is = read_long (rules_in how form σ) is_bad a.done a.readings a.read
 
-  read_on : AreRead how σ given (a.readings ++ ss)
-  read_on = subst (λ ls. AreRead how σ ls (a.readings ++ ss)) (sym a.parts) (
+  read_on : AreRead is_bad (rules_in how form σ) given (a.readings ++ ss)
+  read_on = subst (λ ls. AreRead is_bad (rules_in how form σ) ls (a.readings ++ ss)) (sym a.parts) (
     a.read.0 ++ back.0,
-    zip_append (Reads how) a.done a.read.0 a.waiting back.0 a.read.1 back.1,
-    ap₂ (λ x ds. x ++ admitted_from σ ds back.0) a.read.2 (a.adds ∙ ap accepted a.read.2) ∙ sym (admitted-append σ [] a.read.0 back.0),
+    zip_append (ReadsWith is_bad how) a.done a.read.0 a.waiting back.0 a.read.1 (all_plain how a.waiting back.0 back.1),
+    ap₂ (λ x ds. x ++ come_behind (rules_in how form σ) ds tt back.0) a.read.2 (a.adds ∙ ap accepted a.read.2) ∙ sym (come-append how form σ [] a.read.0 back.0),
   )
 
   pub first_is : QueriesFirst ss
-  first_is = first_on σ docs back.0 (a.round back.0 back.1)
+  first_is = first_on how form σ docs back.0 (a.round back.0 back.1)
 
   pub within : SeesWithin ss (seen_in ss w.shown) (added_count a.readings) (added_count a.readings + added_count ss)
   within =
@@ -192,11 +200,11 @@ module _ (how : Dialect) (form : Form) (σ : Setting) (given : List Line) (docs 
     printed =
         let zero_front : (i : ℕ) → IsAsked a.readings i → (n (0 + i) ≡ a.numbers (0 + i)) × (a.numbers (0 + i) ≤ length (accepted a.readings)) =
         λ i q. let same : i ≡ 0 + i = omega arith in subst (λ j. (n j ≡ a.numbers j) × (a.numbers j ≤ length (accepted a.readings))) same (front i q) in
-        let own = body_asked form a.numbers n (accepted a.readings) (accepted ss) 0 a.readings zero_front in
+        let own = body_asked how form σ a.numbers n (accepted a.readings) (accepted ss) 0 a.readings zero_front in
         let last : (i : ℕ) → IsAsked ss i → n (k + i) ≡ seen_in ss w.shown i = λ i q. ap (λ x. n (x + i)) (sym long_is) ∙ rest i q in
-        let more = w.text ∙ ap (λ ds. shown_text form ds w.shown) docs_are ∙ round_text form n (accepted a.readings ++ accepted ss) k ss w.shown lines_are last in
-        let whole = body_append form n (accepted a.readings ++ accepted ss) 0 k a.readings ss (omega (arith, long_is)) in
-        ap₂ (λ x y. x ++ y) (a.printed ∙ own) more ∙ sym whole ∙ ap (λ ds. body_from form n ds 0 (a.readings ++ ss)) (sym (accepted-append a.readings ss));
+        let more = w.text ∙ ap (λ ds. shown_text form ds w.shown) docs_are ∙ round_text how form σ n (accepted a.readings ++ accepted ss) k ss w.shown lines_are last in
+        let whole = body_append (rules_in how form σ) n (accepted a.readings ++ accepted ss) 0 k tt a.readings ss (omega (arith, long_is)) in
+        ap₂ (λ x y. x ++ y) (a.printed ∙ own) more ∙ sym whole ∙ ap (λ ds. body_from (rules_in how form σ) n ds 0 tt (a.readings ++ ss)) (sym (accepted-append a.readings ss));
   }
 
 asked_low : (rs : List Reading) (j : ℕ) → IsAsked rs j → j < length rs

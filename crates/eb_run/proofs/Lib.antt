@@ -3,13 +3,11 @@ pub mod Waitings
 pub mod Going
 pub mod Waits
 pub mod Runnings
-pub mod OneOutput
 pub mod Runs
 pub mod Loads
 pub mod Benches
 pub mod Commands
 pub mod Commanded
-pub mod InOrder
 pub mod MadeLines
 pub mod Feeds
 pub mod FeedsInOrder

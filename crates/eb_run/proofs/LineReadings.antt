@@ -1,4 +1,4 @@
--- What a line is held as tells what its reading may be.
+-- What a line is held as says what its reading may be.
 use Rattle.eb_fields.specs.Dialect.{Dialect}
 use Rattle.std.proofs.Common.{◌≡◌, ℕ, ◌+◌, Bool, true, false, List, [], ◌∷◌, Option, Some, None, Ok, Err, refl, sym, ap, ◌∙◌, arith, zero-add}
 use Rattle.std.specs.Prelude.{Result}
@@ -14,7 +14,7 @@ use Rattle.eb_lines.specs.Reading.{Reading}
 use Rattle.eb_lines.specs.Progress.{one_if}
 use Rattle.eb_rounds.specs.Inputs.{HeldInput, HeldLine}
 use Rattle.eb_lines.specs.Reads.{IsOfDocument, of_query}
-use Rattle.eb_indexed.specs.Sees.{is_document_line, is_query_line}
+use Rattle.eb_answer.specs.Sees.{is_document_line, is_query_line}
 use Rattle.eb_rounds.specs.Standing.{documents_held, is_document_input, is_query_input}
 use Rattle.eb_lines.specs.Kinds.{Kind, blank_line, bad_line, kind_of}
 use Rattle.eb_lines.specs.Kinds as kind

@@ -21,7 +21,7 @@ use Rattle.eb_run.specs.Bench.{query_lines, lines_until}
 abbrev is_printed : ℕ → Bool
 is_printed b = nat_le 32 b
 
--- printed characters, so many at most
+-- at most n printed characters
 record Plain (xs : List ℕ) (most : ℕ) : Type 0 where
   pub printed : list_all is_printed xs ≡ true
   pub short : length xs ≤ most
@@ -139,7 +139,7 @@ unfolding lines_until
 made_lines start count h =
     cut_from start count 0 count (omega (arith, h)) ∙ until_from start count 0 count ∙ ap (lines_until start count) (let e : 0 + count ≡ count = omega arith in e)
 
--- ---- one document more
+-- ---- one more document
 
 query_few : (start count n : ℕ) → length (query_lines start count n) ≤ 1
 query_few start count n = elim (cases_Bool (((n + 1) % 1000 == 0) || (n + 1 == count))) [ inl yes_is ↦ rw yes_is (omega arith) | inr no_is ↦ rw no_is (omega arith) ]

@@ -1,5 +1,5 @@
 -- A run takes lines, and processes them.
-use Rattle.eb_fields.specs.Dialect.{uncounted_of, Dialect}
+use Rattle.eb_fields.specs.Dialect.{dialect_of, Dialect}
 use Rattle.std.proofs.Common.{◌≡◌, ℕ, ◌+◌, ◌≤◌, true, false, List, [], ◌∷◌, ◌++◌, length, Some, None, refl, sym, ap, ap₂, subst, ◌∙◌, arith, append_assoc, append-nil, length-append}
 use Rattle.std.specs.Prelude.{Result, Ok, Err, OnOk, OnErr}
 use Rattle.std.proofs.lemmas.Bool.Decides.{nat_tests}
@@ -21,8 +21,7 @@ use Rattle.eb_run.specs.Holding.{held_as, before_held}
 use Rattle.eb_run.specs.Waiting.{HasGathered, AreRound}
 use Rattle.eb_lines.specs.declared.form.Form.{Form}
 use Rattle.eb_lines.specs.Programs.{WorksOn, WorksOnGiven}
-use Rattle.eb_run.specs.Output.{Asked}
-use Rattle.eb_run.specs.Running.{HasRun, HoldsNone}
+use Rattle.eb_run.specs.Running.{Asked, HasRun, HoldsNone}
 use Rattle.eb_run.proofs.LineReadings.{asks_query, reads_quiet, free_of}
 use Rattle.eb_run.proofs.Waits.{both_off, gathered_none, round_opened, one_more, round_quiet, round_free}
 
@@ -66,20 +65,20 @@ pub goes_beside : (T : Type 0) (old new : Running) (t0 t1 : List ℕ) (l : Line)
 goes_beside T old new t0 t1 l goes a given so_far h = let w = goes a given so_far h.1 in (w.0, (h.0, w.1), w.2)
 
 module _ (old new : Running) (a : Asked) (given : List Line) (so_far : List ℕ)
-    (h : HasRun old a given so_far) (how : uncounted_of new.dialect ≡ uncounted_of old.dialect) (form : new.form ≡ old.form) (index : new.index ≡ old.index)
+    (h : HasRun old a given so_far) (how : dialect_of new.dialect ≡ dialect_of old.dialect) (form : new.form ≡ old.form) (index : new.index ≡ old.index)
     (writer : new.writer.index ≡ old.writer.index) (converter : new.converter.index ≡ old.converter.index) where
   setting_is : old.index.setting ≡ a.setting
   setting_is = ap (λ (x : Words). x.setting) h.index ∙ h.setting
 
   -- the held lines are processed
   pub run_off : (printed : List ℕ) → new.number ≡ old.number
-      → WorkedOffBoth (uncounted_of old.dialect) old.form old.index.setting old.rounds.ahead old.rounds.held old.writer.docs new.writer.docs old.rounds.counts new.rounds.counts printed
+      → WorkedOffBoth (dialect_of old.dialect) old.form old.index.setting old.rounds.ahead old.rounds.held old.writer.docs new.writer.docs old.rounds.counts new.rounds.counts printed
       → HoldsNone new → new.rounds.greatest ≡ old.rounds.greatest → HasRun new a given (so_far ++ printed)
   run_off printed number w none greatest =
       let W : Dialect → Form → Setting → Type 0 = λ ns f s.
       WorkedOffBoth ns f s old.rounds.ahead old.rounds.held old.writer.docs new.writer.docs old.rounds.counts new.rounds.counts printed in
       let worked = subst (λ (ns : Dialect). W ns a.form a.setting) h.dialect
-      (subst (λ (f : Form). W (uncounted_of old.dialect) f a.setting) h.form (subst (λ (s : Setting). W (uncounted_of old.dialect) old.form s) setting_is w)) in
+      (subst (λ (f : Form). W (dialect_of old.dialect) f a.setting) h.form (subst (λ (s : Setting). W (dialect_of old.dialect) old.form s) setting_is w)) in
       let s = both_off a.dialect a.form a.setting given old.writer.docs new.writer.docs old.rounds new.rounds.counts so_far printed h.worked worked in
       record {
         words = h.words;
@@ -87,7 +86,6 @@ module _ (old new : Running) (a : Asked) (given : List Line) (so_far : List ℕ)
         setting = h.setting;
         writer = writer ∙ h.writer;
         converter = converter ∙ h.converter;
-        mode = h.mode;
         dialect = how ∙ h.dialect;
         form = form ∙ h.form;
         number = number ∙ h.number;
@@ -102,7 +100,6 @@ module _ (old new : Running) (a : Asked) (given : List Line) (so_far : List ℕ)
     setting = h.setting;
     writer = writer ∙ h.writer;
     converter = converter ∙ h.converter;
-    mode = h.mode;
     dialect = how ∙ h.dialect;
     form = form ∙ h.form;
     number = number ∙ h.number;
@@ -118,7 +115,6 @@ module _ (old new : Running) (a : Asked) (given : List Line) (so_far : List ℕ)
     setting = h.setting;
     writer = writer ∙ h.writer;
     converter = converter ∙ h.converter;
-    mode = h.mode;
     dialect = how ∙ h.dialect;
     form = form ∙ h.form;
     number = number ∙ h.number;
@@ -139,10 +135,6 @@ module _ (old new : Running) (a : Asked) (given : List Line) (so_far : List ℕ)
     quiet_round : asks_query (held_as a.dialect l) ≡ false → AreRound a.dialect (h.worked.behind ++ l ∷ [])
     quiet_round quiet = round_quiet a.dialect h.worked.behind l h.worked.round (λ r reads. reads_quiet a.dialect l r quiet reads)
 
-    no_documents : documents_held [] ≡ 0
-    unfolding documents_held
-    no_documents = refl
-
     -- the line is held, or passed over
     more : (docs : new.writer.docs ≡ old.writer.docs) → AreRound a.dialect (h.worked.behind ++ l ∷ []) → new.rounds.ahead ≡ old.rounds.ahead
         → new.rounds.held ≡ old.rounds.held ++ before_held (length given + 1) (held_as a.dialect l) [] → new.rounds.counts ≡ old.rounds.counts → new.rounds.greatest ≤ length given + 1
@@ -153,7 +145,6 @@ module _ (old new : Running) (a : Asked) (given : List Line) (so_far : List ℕ)
       setting = h.setting;
       writer = writer ∙ h.writer;
       converter = converter ∙ h.converter;
-      mode = h.mode;
       dialect = how ∙ h.dialect;
       form = form ∙ h.form;
       number = number_is;
@@ -166,7 +157,7 @@ module _ (old new : Running) (a : Asked) (given : List Line) (so_far : List ℕ)
     input_round (passed.QueryLine text) takes is = free_round (grind (arith, nat_tests))
     input_round (passed.RefusedLine r) takes is = quiet_round (ap asks_query is)
 
-    pub run_held : (input : Input) → new.writer.docs ≡ old.writer.docs → takes_kind old.rounds.held (input_kind input) ≡ true → held_as (uncounted_of old.dialect) l ≡ Some (input_of input)
+    pub run_held : (input : Input) → new.writer.docs ≡ old.writer.docs → takes_kind old.rounds.held (input_kind input) ≡ true → held_as (dialect_of old.dialect) l ≡ Some (input_of input)
         → new.rounds ≡ with_held old.rounds (old.number + 1) (input_of input) → HasRun new a (given ++ l ∷ []) so_far
     run_held input docs takes is_held rounds =
         let is : held_as a.dialect l ≡ Some (input_of input) = ap (λ d. held_as d l) (sym h.dialect) ∙ is_held in
@@ -177,7 +168,7 @@ module _ (old new : Running) (a : Asked) (given : List Line) (so_far : List ℕ)
         held ∙ ap₂ (λ n o. old.rounds.held ++ before_held (n + 1) o []) h.number (sym is) in
         more docs (input_round input takes is) (ap (λ (s : Standing). s.ahead) rounds) lines counts (omega (arith, greatest, h.number))
 
-    pub run_blank : new.writer.docs ≡ old.writer.docs → held_as (uncounted_of old.dialect) l ≡ None → new.rounds ≡ old.rounds → HasRun new a (given ++ l ∷ []) so_far
+    pub run_blank : new.writer.docs ≡ old.writer.docs → held_as (dialect_of old.dialect) l ≡ None → new.rounds ≡ old.rounds → HasRun new a (given ++ l ∷ []) so_far
     run_blank docs is_held rounds =
         let is : held_as a.dialect l ≡ None = ap (λ d. held_as d l) (sym h.dialect) ∙ is_held in
         let held = ap (λ (s : Standing). s.held) rounds in
@@ -189,7 +180,7 @@ module _ (old new : Running) (a : Asked) (given : List Line) (so_far : List ℕ)
 
 -- ---- the held lines, processed or not
 
-module _ (old new : Running) (t0 t1 : List ℕ) (how : uncounted_of new.dialect ≡ uncounted_of old.dialect) (form : new.form ≡ old.form) (index : new.index ≡ old.index)
+module _ (old new : Running) (t0 t1 : List ℕ) (how : dialect_of new.dialect ≡ dialect_of old.dialect) (form : new.form ≡ old.form) (index : new.index ≡ old.index)
     (writer : new.writer.index ≡ old.writer.index)
     (converter : new.converter.index ≡ old.converter.index) (number : new.number ≡ old.number) where
   pub unchanged_on : new.rounds ≡ old.rounds → new.writer.docs ≡ old.writer.docs → t1 ≡ t0 → WorksOn HasRun old new t0 t1
@@ -202,7 +193,7 @@ module _ (old new : Running) (t0 t1 : List ℕ) (how : uncounted_of new.dialect 
 
   pub held_on : {T E : Type 0} (r : Result T E)
       → OnOk r ((printed : List ℕ)
-      × WorkedOffBoth (uncounted_of old.dialect) old.form old.index.setting old.rounds.ahead old.rounds.held old.writer.docs new.writer.docs old.rounds.counts new.rounds.counts printed
+      × WorkedOffBoth (dialect_of old.dialect) old.form old.index.setting old.rounds.ahead old.rounds.held old.writer.docs new.writer.docs old.rounds.counts new.rounds.counts printed
       × (t1 ≡ t0 ++ printed))
       → OnOk r ((new.rounds.ahead ≡ []) × (new.rounds.held ≡ []) × (new.rounds.greatest ≡ old.rounds.greatest)) → OnErr r (WorksOn HasRun old new t0 t1) → WorksOn HasRun old new t0 t1
   held_on (Ok x) done held err = λ a given so_far h. (done.0, run_off old new a given so_far h how form index writer converter done.0 number done.1 (held.0, held.1) held.2, done.2)

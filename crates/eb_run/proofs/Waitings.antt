@@ -2,7 +2,8 @@
 use Rattle.eb_fields.specs.Dialect.{Dialect}
 use Rattle.std.proofs.Common.{◌≡◌, ℕ, zero, suc, ◌+◌, ◌≤◌, Bool, true, false, List, [], ◌∷◌, ◌++◌, map, Option, Some}
 use Rattle.std.proofs.Common.{None, Ok, Err, refl, sym, ap, ap₂, subst, ◌∙◌, arith, append-nil, le_refl, le_trans}
-use Rattle.std.specs.Prelude.{Result}
+use Rattle.std.specs.Prelude.{Result, ◌==◌, ◌&&◌, if◌then◌else◌}
+use Rattle.std.specs.Str.{is_utf8}
 use Rattle.std.specs.List.{AllZip}
 use Rattle.eb_base.specs.Document.{Doc}
 use Rattle.eb_base.specs.Setting.{Setting}
@@ -11,22 +12,25 @@ use Rattle.eb_io.specs.Lines.{Line, line, long_line}
 use Rattle.eb_doc.specs.WithFields.{document_with}
 use Rattle.eb_doc.specs.declared.LineFault.{LineFault}
 use Rattle.eb_doc.specs.declared.LineFault.TheVariants as fault
+use Rattle.eb_query.specs.Head.{begins_query}
 use Rattle.eb_query.specs.Reading.{Outcome, asks, bad_number, bad_query, too_deep, too_many_nodes}
 use Rattle.eb_lines.specs.declared.form.Form.{Form}
 use Rattle.eb_lines.specs.Reading.{Reading, blank, document, query, refused, watch}
 use Rattle.eb_lines.specs.Progress.{documents_in, is_query, accepted}
-use Rattle.eb_indexed.specs.Admitted.{admit, admitted_from}
-use Rattle.eb_indexed.specs.Text.{output_of, body_from}
+use Rattle.eb_answer.specs.Rules.{come_behind}
+use Rattle.eb_answer.specs.Text.{body_from}
+use Rattle.eb_indexed.specs.IndexRules.{admit, output_of}
 use Rattle.eb_rounds.specs.Inputs.{HeldInput, document_line, query_line, refused_line, Entry, ReadsInput, ReadsLine, admitted_in, added}
 use Rattle.eb_lines.specs.Reads.{IsOfDocument, of_query}
 use Rattle.eb_rounds.specs.Shown.{Shown, shown_entry, output_in, shown_text, least_after, Rises}
 use Rattle.eb_rounds.proofs.Rounding.{rises_le}
-use Rattle.eb_indexed.specs.Sees.{IsAsked}
-use Rattle.eb_indexed.specs.Rows.{SeesWithin}
+use Rattle.eb_answer.specs.Sees.{IsAsked}
+use Rattle.eb_answer.specs.Rows.{SeesWithin}
 use Rattle.eb_lines.specs.Kinds.{Kind, blank_line, bad_line, kind_of}
 use Rattle.eb_lines.specs.Kinds as kind
 use Rattle.eb_lines.specs.Reads.{ReadsByKind, Reads}
 use Rattle.eb_run.specs.Holding.{input_by, held_as, before_held, held_from, before_entries, entries_from}
+use Rattle.eb_run.specs.Waiting.{rules_in}
 
 -- ---- what held lines are read as, the blank ones among them
 
@@ -46,8 +50,20 @@ query_not_blank too_many_nodes number es = refl
 
 not_blank : (how : Dialect) (i : HeldInput) (r : Reading) (number : ℕ) (es : List Entry) → ReadsInput how i r → before_entries number r es ≡ record { number = number; reading = r } ∷ es
 not_blank how (document_line bytes) r number es h = document_not_blank (document_with how bytes) r number es h
-not_blank how (query_line bytes) r number es h = subst (λ (x : Reading). before_entries number x es ≡ record { number = number; reading = x } ∷ es) (sym h.2) (query_not_blank h.0 number es)
+not_blank how (query_line bytes) r number es h = by_mark (begins_query how bytes) h where
+  by_mark : (b : Bool) → ReadsByKind how (if b then kind.query_line else bad_line) bytes r → before_entries number r es ≡ record { number = number; reading = r } ∷ es
+  by_mark true h = subst (λ (x : Reading). before_entries number x es ≡ record { number = number; reading = x } ∷ es) (sym h.2) (query_not_blank h.0 number es)
+  by_mark false h = rw h refl
 not_blank how (refused_line x) r number es h = rw h refl
+
+-- a query line begins as one
+begins_so : (how : Dialect) (bytes : List ℕ) → kind_of how bytes ≡ kind.query_line → begins_query how bytes ≡ true
+begins_so how [] e = absurd (cc e)
+begins_so how (b ∷ bs) e = go (b == 123) (begins_query how (b ∷ bs)) (is_utf8 (b ∷ bs)) e where
+  go : (x m u : Bool) → (if x then kind.document_line else if m && u then kind.query_line else bad_line) ≡ kind.query_line → m ≡ true
+  go true m u e = absurd (cc e)
+  go false true u e = refl
+  go false false u e = absurd (cc e)
 
 -- a line that isn't held is blank, and one that is held is read as its input
 blank_reads : (how : Dialect) (l : Line) → held_as how l ≡ None → Reads how l blank
@@ -60,12 +76,15 @@ blank_reads how (line bytes) e = by_kind (kind_of how bytes) e where
 blank_reads how long_line e = absurd (cc e)
 
 held_reads : (how : Dialect) (l : Line) (i : HeldInput) (r : Reading) → held_as how l ≡ Some i → ReadsInput how i r → Reads how l r
-held_reads how (line bytes) i r e h = by_kind (kind_of how bytes) e where
-  by_kind : (k : Kind) → input_by k bytes ≡ Some i → ReadsByKind how k bytes r
-  by_kind blank_line e = absurd (cc e)
-  by_kind kind.document_line e = (let same : i ≡ document_line bytes = cc e in subst (λ x. ReadsInput how x r) same h)
-  by_kind kind.query_line e = (let same : i ≡ query_line bytes = cc e in subst (λ x. ReadsInput how x r) same h)
-  by_kind bad_line e = (let same : i ≡ refused_line _ = cc e in subst (λ x. ReadsInput how x r) same h)
+held_reads how (line bytes) i r e h = by_kind (kind_of how bytes) refl e where
+  by_kind : (k : Kind) → kind_of how bytes ≡ k → input_by k bytes ≡ Some i → ReadsByKind how k bytes r
+  by_kind blank_line is e = absurd (cc e)
+  by_kind kind.document_line is e = (let same : i ≡ document_line bytes = cc e in subst (λ x. ReadsInput how x r) same h)
+  by_kind kind.query_line is e = (
+      let same : i ≡ query_line bytes = cc e in
+      subst (λ (b : Bool). ReadsByKind how (if b then kind.query_line else bad_line) bytes r) (begins_so how bytes is) (subst (λ x. ReadsInput how x r) same h)
+      )
+  by_kind bad_line is e = (let same : i ≡ refused_line _ = cc e in subst (λ x. ReadsInput how x r) same h)
 held_reads how long_line i r e h = (let same : i ≡ refused_line _ = cc e in subst (λ x. ReadsInput how x r) same h)
 
 -- the readings of lines, from those of the held ones among them
@@ -92,14 +111,14 @@ read_back how k (l ∷ ls) raw h = back_one how k l ls (held_as how l) refl (λ 
 
 -- ---- entries and readings
 
-module _ (σ : Setting) where
+module _ (how : Dialect) (form : Form) (σ : Setting) where
   kept_entry : (docs : List Doc) (d : Doc) (number : ℕ) (es : List Entry) (b : Bool) → has_room σ docs d ≡ b
       → before_entries number (admit σ docs (document d)) es ≡ record { number = number; reading = admit σ docs (document d) } ∷ es
   kept_entry docs d number es true is = rw is refl
   kept_entry docs d number es false is = rw is refl
 
-  pub admitted_entries : (k : ℕ) (docs : List Doc) (rs : List Reading) → admitted_in σ docs (entries_from k rs) ≡ entries_from k (admitted_from σ docs rs)
-  unfolding admitted_in admitted_from
+  pub admitted_entries : (k : ℕ) (docs : List Doc) (rs : List Reading) → admitted_in σ docs (entries_from k rs) ≡ entries_from k (come_behind (rules_in how form σ) docs tt rs)
+  unfolding admitted_in come_behind
   admitted_entries k docs [] = refl
   admitted_entries k docs (blank ∷ rs) = ap (λ ds. admitted_in σ ds (entries_from (k + 1) rs)) (sym (append-nil docs)) ∙ admitted_entries (k + 1) (docs ++ []) rs
   admitted_entries k docs (query j q ∷ rs) = ap (λ es. record { number = k + 1; reading = query j q } ∷ es) (admitted_entries (k + 1) (docs ++ []) rs)
@@ -107,7 +126,7 @@ module _ (σ : Setting) where
   admitted_entries k docs (watch w x ∷ rs) = ap (λ es. record { number = k + 1; reading = watch w x } ∷ es) (admitted_entries (k + 1) (docs ++ []) rs)
   admitted_entries k docs (document d ∷ rs) =
       ap (λ es. record { number = k + 1; reading = admit σ docs (document d) } ∷ es) (admitted_entries (k + 1) (docs ++ documents_in (admit σ docs (document d))) rs)
-      ∙ sym (kept_entry docs d (k + 1) (entries_from (k + 1) (admitted_from σ (docs ++ documents_in (admit σ docs (document d))) rs)) (has_room σ docs d) refl)
+      ∙ sym (kept_entry docs d (k + 1) (entries_from (k + 1) (come_behind (rules_in how form σ) (docs ++ documents_in (admit σ docs (document d))) tt rs)) (has_room σ docs d) refl)
 
 pub added_entries : (k : ℕ) (rs : List Reading) → added (entries_from k rs) ≡ accepted rs
 unfolding added accepted
@@ -160,36 +179,36 @@ here : (rs : List Reading) (r : Reading) (k : ℕ) (n f : ℕ → ℕ) → ((i :
 here rs r k n f h a = let plus : k ≡ k + 0 = omega arith in ap n plus ∙ h 0 a
 
 -- what a round prints is what its lines print, where each query sees what it is shown to see
-pub round_text : (form : Form) (n : ℕ → ℕ) (docs : List Doc) (k : ℕ) (rs : List Reading) (ss : List Shown) → map shown_entry ss ≡ entries_from k rs
-    → ((i : ℕ) → IsAsked rs i → n (k + i) ≡ seen_in rs ss i) → shown_text form docs ss ≡ body_from form n docs k rs
+pub round_text : (how : Dialect) (form : Form) (σ : Setting) (n : ℕ → ℕ) (docs : List Doc) (k : ℕ) (rs : List Reading) (ss : List Shown) → map shown_entry ss ≡ entries_from k rs
+    → ((i : ℕ) → IsAsked rs i → n (k + i) ≡ seen_in rs ss i) → shown_text form docs ss ≡ body_from (rules_in how form σ) n docs k tt rs
 unfolding shown_text body_from
-round_text form n docs k [] [] e h = refl
-round_text form n docs k [] (s ∷ ss) e h = absurd (cc e)
-round_text form n docs k (blank ∷ rs) ss e h = round_text form n docs (k + 1) rs ss e (further rs ss blank k n (seen_in (blank ∷ rs) ss) h)
-round_text form n docs k (document d ∷ rs) [] e h = absurd (cc e)
-round_text form n docs k (document d ∷ rs) (s ∷ ss) e h =
+round_text how form σ n docs k [] [] e h = refl
+round_text how form σ n docs k [] (s ∷ ss) e h = absurd (cc e)
+round_text how form σ n docs k (blank ∷ rs) ss e h = round_text how form σ n docs (k + 1) rs ss e (further rs ss blank k n (seen_in (blank ∷ rs) ss) h)
+round_text how form σ n docs k (document d ∷ rs) [] e h = absurd (cc e)
+round_text how form σ n docs k (document d ∷ rs) (s ∷ ss) e h =
     let first : s.line ≡ record { number = k + 1; reading = document d } = cc e in
     let rest : map shown_entry ss ≡ entries_from (k + 1) rs = cc e in
     ap₂ (λ a b. a ++ b) (one_text form s (k + 1) (document d) (n k) docs first (here rs (document d) k n (seen_in (document d ∷ rs) (s ∷ ss)) h))
-    (round_text form n docs (k + 1) rs ss rest (further rs ss (document d) k n (seen_in (document d ∷ rs) (s ∷ ss)) h))
-round_text form n docs k (query j q ∷ rs) [] e h = absurd (cc e)
-round_text form n docs k (query j q ∷ rs) (s ∷ ss) e h =
+    (round_text how form σ n docs (k + 1) rs ss rest (further rs ss (document d) k n (seen_in (document d ∷ rs) (s ∷ ss)) h))
+round_text how form σ n docs k (query j q ∷ rs) [] e h = absurd (cc e)
+round_text how form σ n docs k (query j q ∷ rs) (s ∷ ss) e h =
     let first : s.line ≡ record { number = k + 1; reading = query j q } = cc e in
     let rest : map shown_entry ss ≡ entries_from (k + 1) rs = cc e in
     ap₂ (λ a b. a ++ b) (one_text form s (k + 1) (query j q) (n k) docs first (here rs (query j q) k n (seen_in (query j q ∷ rs) (s ∷ ss)) h))
-    (round_text form n docs (k + 1) rs ss rest (further rs ss (query j q) k n (seen_in (query j q ∷ rs) (s ∷ ss)) h))
-round_text form n docs k (refused x ∷ rs) [] e h = absurd (cc e)
-round_text form n docs k (refused x ∷ rs) (s ∷ ss) e h =
+    (round_text how form σ n docs (k + 1) rs ss rest (further rs ss (query j q) k n (seen_in (query j q ∷ rs) (s ∷ ss)) h))
+round_text how form σ n docs k (refused x ∷ rs) [] e h = absurd (cc e)
+round_text how form σ n docs k (refused x ∷ rs) (s ∷ ss) e h =
     let first : s.line ≡ record { number = k + 1; reading = refused x } = cc e in
     let rest : map shown_entry ss ≡ entries_from (k + 1) rs = cc e in
     ap₂ (λ a b. a ++ b) (one_text form s (k + 1) (refused x) (n k) docs first (here rs (refused x) k n (seen_in (refused x ∷ rs) (s ∷ ss)) h))
-    (round_text form n docs (k + 1) rs ss rest (further rs ss (refused x) k n (seen_in (refused x ∷ rs) (s ∷ ss)) h))
-round_text form n docs k (watch w x ∷ rs) [] e h = absurd (cc e)
-round_text form n docs k (watch w x ∷ rs) (s ∷ ss) e h =
+    (round_text how form σ n docs (k + 1) rs ss rest (further rs ss (refused x) k n (seen_in (refused x ∷ rs) (s ∷ ss)) h))
+round_text how form σ n docs k (watch w x ∷ rs) [] e h = absurd (cc e)
+round_text how form σ n docs k (watch w x ∷ rs) (s ∷ ss) e h =
     let first : s.line ≡ record { number = k + 1; reading = watch w x } = cc e in
     let rest : map shown_entry ss ≡ entries_from (k + 1) rs = cc e in
     ap₂ (λ a b. a ++ b) (one_text form s (k + 1) (watch w x) (n k) docs first (here rs (watch w x) k n (seen_in (watch w x ∷ rs) (s ∷ ss)) h))
-    (round_text form n docs (k + 1) rs ss rest (further rs ss (watch w x) k n (seen_in (watch w x ∷ rs) (s ∷ ss)) h))
+    (round_text how form σ n docs (k + 1) rs ss rest (further rs ss (watch w x) k n (seen_in (watch w x ∷ rs) (s ∷ ss)) h))
 
 -- ---- what the queries of a round see
 

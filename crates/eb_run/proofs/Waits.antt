@@ -9,8 +9,8 @@ use Rattle.eb_lines.specs.declared.form.Form.{Form}
 use Rattle.eb_lines.specs.Reading.{Reading}
 use Rattle.eb_rounds.specs.Inputs.{HeldInput, HeldLine, admitted_in, added}
 use Rattle.eb_rounds.specs.Shown.{Counted, shown_text, WorkedOff, WorkedOffBoth}
-use Rattle.eb_indexed.specs.Rows.{NoQueryLine, QueriesFirst}
-use Rattle.eb_indexed.specs.Sees.{is_document_line, is_query_line}
+use Rattle.eb_answer.specs.Rows.{NoQueryLine, QueriesFirst}
+use Rattle.eb_answer.specs.Sees.{is_document_line, is_query_line}
 use Rattle.eb_rounds.specs.Standing.{Standing, with_round}
 use Rattle.eb_lines.specs.Reads.{Reads}
 use Rattle.eb_run.specs.Holding.{held_as, before_held, held_from}
@@ -66,7 +66,7 @@ settled how form σ given docs held so_far a none =
     (off_none how form σ docs held.counts) in
     subst (HasSettled how form σ given docs held.counts) (append-nil so_far) (overlapped how form σ given docs docs held held.counts so_far [] a w)
 
--- ---- a line more
+-- ---- one more line
 
 held_push : (how : Dialect) (k : ℕ) (ls : List Line) (l : Line) → held_from how k (ls ++ l ∷ []) ≡ held_from how k ls ++ before_held (k + length ls + 1) (held_as how l) []
 held_push how k [] l = ap (λ n. before_held (n + 1) (held_as how l) []) (let same : k ≡ k + 0 = omega arith in same)

@@ -1,6 +1,6 @@
 -- What `bench` prints: the figures of a made input.
 use Rattle.eb_fields.specs.Dialect.{plain}
-use Rattle.std.specs.Prelude.{◌≡◌, ℕ, zero, suc, ◌+◌, ◌*◌, ◌%◌, ◌^◌, ◌<◌, ◌≤◌, ◌==◌, ◌||◌, List, [], ◌∷◌, ◌++◌, length, sum, take, Option, codes, if◌then◌else◌}
+use Rattle.std.specs.Prelude.{◌≡◌, ℕ, false, zero, suc, ◌+◌, ◌*◌, ◌%◌, ◌^◌, ◌<◌, ◌≤◌, ◌==◌, ◌||◌, List, [], ◌∷◌, ◌++◌, length, sum, take, Option, codes, if◌then◌else◌}
 use Rattle.std.specs.Fmt.{decimal}
 use Rattle.eb_base.specs.Document.{Doc}
 use Rattle.eb_base.specs.Match.{answer}
@@ -16,11 +16,16 @@ use Rattle.eb_lines.specs.Reading.{Reading, blank, document, query, refused, wat
 use Rattle.eb_lines.specs.Reads.{Reads}
 use Rattle.eb_lines.specs.Progress.{documents_in, accepted, queries, refusals}
 use Rattle.eb_indexed.specs.Indexed.{Holds}
-use Rattle.eb_indexed.specs.LinesRead.{AreRead, HasRefusal, HasNoRefusal}
+use Rattle.eb_answer.specs.Rules.{Rules, is_bad, AreRead, HasRefusal, HasNoRefusal}
+use Rattle.eb_indexed.specs.IndexRules.{index_rules}
 
 -- the setting that an index has where none is asked for
 abbrev pub usual : Setting
 usual = record { segments = 12; docs = 4096; terms = 8192 }
+
+-- the rules of such an index, by which nothing is printed
+abbrev pub bench_rules : Rules (Unit {0})
+bench_rules = index_rules plain usual (record { json = false; stats = false }) []
 
 -- the ids in the answer of a line after these documents
 abbrev pub answer_in : List Doc → Reading → List ℕ
@@ -55,14 +60,14 @@ bench_line d q i x = counts_text d q ++ sums_text i x
 abbrev pub figures : List Reading → List ℕ
 figures rs = bench_line (length (accepted rs)) (queries rs) (length (all_answers rs)) (sum (all_answers rs))
 
--- the line of figures of the made input of so many documents, processed with the usual setting
+-- the line of figures of the made input of this many documents, processed with the usual setting
 pub record IsBenchOf (start count : ℕ) (printed : List ℕ) (refused_lines : ℕ) : Type 0 where
   pub readings : List Reading
-  pub read : AreRead plain usual (lines_of (made start count)) readings
+  pub read : AreRead is_bad bench_rules (lines_of (made start count)) readings
   pub refusals : refused_lines ≡ refusals readings
   pub bytes : printed ≡ figures readings
 
--- what a bench that ends so has printed: the line of figures, or a front of it
+-- what a bench that ends so has printed: the line of figures, or a prefix of it
 abbrev pub WroteBench : Status → ℕ → ℕ → List ℕ → Type 0
 WroteBench status.Done start count printed = IsBenchOf start count printed 0
 WroteBench status.Refused start count printed = (n : ℕ) × IsBenchOf start count printed (suc n)
@@ -73,11 +78,11 @@ WroteBench status.ReadFault start count printed = ⊥
 WroteBench status.InputTooLong start count printed = ⊥
 WroteBench status.BadImage start count printed = ⊥
 
--- what the status of a bench says of its input, whatever became of the output: at Done no line of it is refused, at
--- Refused some line is
+-- what the status of a bench says of its input, whatever became of the output: at Done no line of
+-- it is refused, at Refused some line is
 abbrev pub MeansBench : Status → ℕ → ℕ → Type 0
-MeansBench status.Done start count = HasNoRefusal plain usual (lines_of (made start count))
-MeansBench status.Refused start count = HasRefusal plain usual (lines_of (made start count))
+MeansBench status.Done start count = HasNoRefusal is_bad bench_rules (lines_of (made start count))
+MeansBench status.Refused start count = HasRefusal is_bad bench_rules (lines_of (made start count))
 MeansBench status.WriteFault start count = Unit {0}
 MeansBench status.NoMemory start count = Unit {0}
 MeansBench status.Usage start count = ⊥
@@ -85,7 +90,7 @@ MeansBench status.ReadFault start count = ⊥
 MeansBench status.InputTooLong start count = ⊥
 MeansBench status.BadImage start count = ⊥
 
--- what printing the last line leaves, where so many lines are refused
+-- what printing the last line leaves, where this many lines are refused
 abbrev pub Closes : Status → ℕ → List ℕ → Option (List ℕ) → Option (List ℕ) → Type 0
 Closes status.Done count last printed_old printed_new = (count ≡ 0) × (printed_new ≡ grown printed_old last)
 Closes status.Refused count last printed_old printed_new = (0 < count) × (printed_new ≡ grown printed_old last)
@@ -98,7 +103,7 @@ Closes status.InputTooLong count last printed_old printed_new = ⊥
 
 -- what printing the line of figures of these lines leaves
 abbrev pub PrintsFigures : Status → List Line → Option (List ℕ) → Option (List ℕ) → Type 0
-PrintsFigures status lines printed_old printed_new = (rs : List Reading) × AreRead plain usual lines rs × Closes status (refusals rs) (figures rs) printed_old printed_new
+PrintsFigures status lines printed_old printed_new = (rs : List Reading) × AreRead is_bad bench_rules lines rs × Closes status (refusals rs) (figures rs) printed_old printed_new
 
 -- ---- between two lines
 
@@ -114,7 +119,7 @@ lines_until start count (suc n) = lines_until start count n ++ line (made_line s
 -- these lines are processed, and the ids in their answers are counted and summed
 pub record HasCounted (b : Bench) (lines : List Line) : Type 0 where
   pub readings : List Reading
-  pub read : AreRead plain usual lines readings
+  pub read : AreRead is_bad bench_rules lines readings
   pub holds : Holds b.indexed usual (accepted readings)
   pub queries : b.queries ≡ queries readings
   pub refused : b.refused ≡ refusals readings

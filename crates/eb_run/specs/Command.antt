@@ -1,6 +1,6 @@
 -- What the words of a command line ask; they are without the program's name.
 use Rattle.eb_fields.specs.Dialect.{Dialect, plain}
-use Rattle.std.specs.Prelude.{ℕ, ◌*◌, ◌^◌, ◌&&◌, not, Bool, true, false, List, [], ◌∷◌, ◌++◌, codes, nat_le, Option, Some, None, if◌then◌else◌, option_map, option_and_then}
+use Rattle.std.specs.Prelude.{ℕ, ◌*◌, ◌^◌, ◌&&◌, Bool, true, false, List, [], ◌∷◌, ◌++◌, codes, nat_le, Option, Some, None, if◌then◌else◌, option_map, option_and_then}
 use Rattle.std.specs.Str.{bytes_eq}
 use Rattle.eb_base.specs.Setting.{Setting, words_of}
 use Rattle.eb_lines.specs.declared.form.Form.{Form}
@@ -14,7 +14,7 @@ use Rattle.eb_text.specs.declared.cutting.Cut.TheVariants.{Words, Pieces}
 use Rattle.eb_run.specs.declared.command.Command.{Command}
 use Rattle.eb_run.specs.declared.command.Command.TheVariants.{Run, RunWorkers, RunParts, RunWatches, Bench, Save, Load}
 
--- in which form what is printed is written, where the items say so
+-- in which form the output is written, where the items say so
 abbrev pub form_of : Items → Form
 form_of items = record { json = has (codes "json") items; stats = has (codes "stats") items }
 
@@ -25,19 +25,8 @@ pub record Counting : Type 0 where
   pub counts : Bool
   pub command : Command
 
--- this command answers them: a run in order, over parts or with watches, and a load
-abbrev pub may_count : Command → Bool
-may_count (Run overlap form σ) = not overlap
-may_count (RunWorkers n form σ) = false
-may_count (RunParts n overlap form σ) = true
-may_count (RunWatches form σ) = true
-may_count (Bench start count) = false
-may_count (Save σ) = false
-may_count (Load form) = true
-
--- they are asked for only where it does
-abbrev pub with_counts : Bool → Command → Option Counting
-with_counts counts c = if counts && not (may_count c) then None else Some (record { counts = counts; command = c })
+abbrev pub counting : Bool → Command → Counting
+counting counts c = record { counts = counts; command = c }
 
 -- ---- `run`
 
@@ -52,15 +41,16 @@ run_options = codes "workers" ∷ codes "parts" ∷ setting_options
 abbrev pub is_few : ℕ → Bool
 is_few n = nat_le 1 n && nat_le n 16
 
--- to run with so many workers
+-- to run with this many workers
 abbrev pub with_workers : ℕ → Form → Setting → Option Command
 with_workers n form σ = if is_few n then Some (RunWorkers n form σ) else None
 
--- to run over so many parts, with or without overlap, which together have at most as many words as an index may have
+-- to run over this many parts, with or without overlap, which together have at most as many words
+-- as an index may have
 abbrev pub over_parts : ℕ → Bool → Form → Setting → Option Command
 over_parts n overlap form σ = if is_few n && nat_le (n * words_of σ) (2 ^ 27) then Some (RunParts n overlap form σ) else None
 
--- at most one of overlap, watches, workers and parts, but that overlap may stand beside parts
+-- at most one of overlap, watches, workers and parts, except that overlap may go with parts
 abbrev pub run_by : Bool → Bool → Option ℕ → Option ℕ → Form → Setting → Option Command
 run_by overlap false None None form σ = Some (Run overlap form σ)
 run_by false true None None form σ = Some (RunWatches form σ)
@@ -75,7 +65,7 @@ run_with items = option_and_then (λ σ. run_by (has (codes "overlap") items) (h
 
 -- what the words after `run` ask for: its flags and options, in any order, each at most once
 abbrev pub run_of : List (List ℕ) → Option Counting
-run_of words = option_and_then (λ items. option_and_then (with_counts (has (codes "counts") items)) (run_with items)) (items_of run_flags run_options words)
+run_of words = option_and_then (λ items. option_map (counting (has (codes "counts") items)) (run_with items)) (items_of run_flags run_options words)
 
 -- ---- `bench`
 
@@ -96,7 +86,7 @@ save_with items = option_map (λ σ. Save σ) (setting_of items)
 
 -- what the words after `save` ask for: the options of a setting
 abbrev pub save_of : List (List ℕ) → Option Counting
-save_of words = option_and_then (with_counts false) (option_and_then save_with (items_of [] setting_options words))
+save_of words = option_map (counting false) (option_and_then save_with (items_of [] setting_options words))
 
 abbrev pub load_flags : List (List ℕ)
 load_flags = codes "json" ∷ codes "stats" ∷ codes "counts" ∷ []
@@ -107,7 +97,7 @@ load_with items = Load (form_of items)
 
 -- what the words after `load` ask for: its flags, in any order, each at most once
 abbrev pub load_of : List (List ℕ) → Option Counting
-load_of words = option_and_then (λ items. with_counts (has (codes "counts") items) (load_with items)) (items_of load_flags [] words)
+load_of words = option_map (λ items. counting (has (codes "counts") items) (load_with items)) (items_of load_flags [] words)
 
 -- ---- how lines are read
 
@@ -136,7 +126,8 @@ member_in (Some (b ∷ bs)) = Some (Some (b ∷ bs))
 abbrev pub text_options : List (List ℕ)
 text_options = codes "fields" ∷ codes "words" ∷ codes "id" ∷ codes "text" ∷ []
 
--- the text of the option of this name, if it stands among words whose options with a value are these; and the words without it
+-- the text of the option of this name, if it is among words whose options with a value are these;
+-- and the words without it
 abbrev pub text_of : List ℕ → List (List ℕ) → List (List ℕ) → Option (Option (List ℕ))
 text_of name options words = option_map (λ (a : Apart). a.text) (text_apart name options words)
 
@@ -156,7 +147,8 @@ others_in options words =
     option_and_then (without (codes "text") options) (option_and_then (without (codes "id") options)
     (option_and_then (without (codes "words") options) (without (codes "fields") options words)))
 
--- the words after the name of a command whose options with a value are these, with those apart that say how lines are read
+-- the words after the name of a command whose options with a value are these, without those that
+-- say how lines are read, and how lines are read
 abbrev pub dialect_apart : List (List ℕ) → List (List ℕ) → Option DialectApart
 dialect_apart options words = option_and_then (λ how. option_map (λ others. record { dialect = how; others = others }) (others_in options words)) (dialect_in options words)
 
@@ -174,7 +166,8 @@ asks how command = record { dialect = how; command = command }
 abbrev pub asks_counting : Dialect → Counting → Asks
 asks_counting how c = asks (record how { counts = c.counts }) c.command
 
--- the words after the name of a command that has these options with numbers, which say how lines are read beside what they ask else
+-- the words after the name of a command that has these options with numbers: how they say that
+-- lines are read, and what else they ask
 abbrev pub with_dialect : List (List ℕ) → (List (List ℕ) → Option Counting) → List (List ℕ) → Option Asks
 with_dialect options ask words = option_and_then (λ (a : DialectApart). option_map (asks_counting a.dialect) (ask a.others)) (dialect_apart (text_options ++ options) words)
 

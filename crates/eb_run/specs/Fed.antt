@@ -1,4 +1,4 @@
--- What a feed that lines fill holds.
+-- A feed that lines fill.
 use Rattle.eb_fields.specs.Dialect.{Dialect}
 use Rattle.std.specs.Prelude.{◌≡◌, ℕ, List}
 use Rattle.eb_answer.specs.Rules.{Rules}

@@ -14,7 +14,7 @@ use Rattle.eb_run.specs.FeedOutput.{AreFed, IsTextFed, IsFeedOutput}
 abbrev pub SomeFeedText : Type 0
 SomeFeedText = (how : Dialect) (c : FeedCommand) (bytes : List ℕ) → (printed : List ℕ) × IsFeedOutput how c bytes printed
 
--- the text doesn't turn on how fast workers answer
+-- the text doesn't depend on how fast workers answer
 abbrev pub IsSettledWay : FeedWay → Type 0
 IsSettledWay InOrder = Unit {0}
 IsSettledWay Watches = Unit {0}

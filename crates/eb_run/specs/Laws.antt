@@ -5,7 +5,8 @@ use Rattle.eb_base.specs.Setting.{Setting}
 use Rattle.eb_lines.specs.declared.form.Form.{Form}
 use Rattle.eb_run.specs.Output.{IsOutput}
 
--- each input has a text, however lines are read, in each setting, with and without overlap and statistics
+-- each input has a text, however lines are read, in each setting, with and without overlap and
+-- statistics
 abbrev pub SomeText : Type 0
 SomeText = (how : Dialect) (σ : Setting) (overlap : Bool) (form : Form) (bytes : List ℕ) → (printed : List ℕ) × IsOutput how σ overlap form bytes printed
 

@@ -14,4 +14,3 @@ pub mod StatusLine
 pub mod Requests
 pub mod FeedRequests
 pub mod Splits
-pub mod FieldWords

@@ -1,9 +1,11 @@
--- What the program leaves, by the command that the words ask for and by the dialect: `l0` and `l1` are what the source has left before and
--- after it, and `p0` and `p1` what `out` has taken, each where that is told.
-use Rattle.eb_fields.specs.Dialect.{Dialect, uncounted}
+-- What the program leaves, by the command that the words ask for and by the dialect: `l0` and `l1`
+-- are what the source has left before and after it, and `p0` and `p1` what `out` has taken, each
+-- where that is known.
+use Rattle.eb_fields.specs.Dialect.{Dialect}
 use Rattle.std.specs.Prelude.{◌≡◌, ◌⊎◌, ℕ, ◌<◌, Bool, true, false, List, [], ◌++◌, length, Option, Some, None}
-use Rattle.eb_answer.specs.Rules.{is_bad, IsBody, IsText}
-use Rattle.eb_answer.specs.Rules as answered
+use Rattle.eb_answer.specs.Rules.{is_bad}
+use Rattle.eb_answer.specs.Sees.{exactly, at_least}
+use Rattle.eb_answer.specs.Text.{EndsOf, WroteOf, MeansOf}
 use Rattle.eb_archive.specs.Loaded.{Loaded, EndsLoad, IsImage, WhyUnread, WroteLoaded, MeansLoaded, IsBodyBehind, IsTextBehind, HasRefusalBehind, HasNoRefusalBehind}
 use Rattle.eb_archive.specs.Saved as saved
 use Rattle.eb_base.specs.Document.{Doc}
@@ -18,29 +20,23 @@ use Rattle.eb_lines.specs.declared.status.Status.{Status}
 use Rattle.eb_lines.specs.declared.status.Status.TheVariants.{Done, Refused, BadImage}
 use Rattle.eb_lines.specs.Outcomes as outcomes
 use Rattle.eb_lines.specs.Passing as passing
-use Rattle.eb_parts.specs.Texts.{parts_rules, WroteInParts, MeansInParts}
+use Rattle.eb_parts.specs.Texts.{parts_rules}
 use Rattle.eb_place.specs.Room.{IsLawful}
-use Rattle.eb_indexed.specs.LinesRead.{HasRefusal, HasNoRefusal}
+use Rattle.eb_indexed.specs.IndexRules.{index_rules}
 use Rattle.eb_watching.specs.Others.{ReadsOther}
-use Rattle.eb_watching.specs.WatchRules.{watch_rules, WroteWatches, MeansWatches}
-use Rattle.eb_workers.specs.Output as workers
+use Rattle.eb_watching.specs.WatchRules.{watch_rules}
 use Rattle.eb_run.specs.declared.command.Command.{Command}
 use Rattle.eb_run.specs.declared.command.Command.TheVariants.{Run, RunWorkers, RunParts, RunWatches, Bench, Save, Load}
 use Rattle.eb_run.specs.Bench.{WroteBench, MeansBench, PrintsFigures}
-use Rattle.eb_run.specs.Output.{Ends, Wrote, read_by}
-use Rattle.eb_run.specs.Output as output
+use Rattle.eb_run.specs.Output.{way_of}
 
 -- ---- how a command ends, also where source and `out` tell no bytes
 
 abbrev pub EndsBy : Dialect → Command → Status → (l0 l1 p0 p1 : Option (List ℕ)) → Type 0
-EndsBy how (Run overlap form σ) status l0 l1 p0 p1 = Ends (read_by overlap how) σ overlap form status l0 l1 p0 p1
-EndsBy how (RunWorkers n form σ) status l0 l1 p0 p1 =
-    let a = workers.asked (uncounted how) σ form in passing.Ends (workers.IsWorkersBody a) (workers.IsWorkersText a) (HasRefusal a.dialect σ) (HasNoRefusal a.dialect σ) status l0 l1 p0 p1
-EndsBy how (RunParts n overlap form σ) status l0 l1 p0 p1 =
-    let rules = parts_rules how n σ form in passing.Ends (IsBody is_bad rules) (IsText is_bad rules) (answered.HasRefusal is_bad rules) (answered.HasNoRefusal is_bad rules) status l0 l1 p0 p1
-EndsBy how (RunWatches form σ) status l0 l1 p0 p1 =
-    let rules = watch_rules how σ form in
-    passing.Ends (IsBody ReadsOther rules) (IsText ReadsOther rules) (answered.HasRefusal ReadsOther rules) (answered.HasNoRefusal ReadsOther rules) status l0 l1 p0 p1
+EndsBy how (Run overlap form σ) status l0 l1 p0 p1 = EndsOf is_bad (way_of overlap) (index_rules how σ form []) status l0 l1 p0 p1
+EndsBy how (RunWorkers n form σ) status l0 l1 p0 p1 = EndsOf is_bad at_least (index_rules how σ form []) status l0 l1 p0 p1
+EndsBy how (RunParts n overlap form σ) status l0 l1 p0 p1 = EndsOf is_bad exactly (parts_rules how n σ form) status l0 l1 p0 p1
+EndsBy how (RunWatches form σ) status l0 l1 p0 p1 = EndsOf ReadsOther exactly (watch_rules how σ form) status l0 l1 p0 p1
 EndsBy how (Bench start count) status l0 l1 p0 p1 = PrintsFigures status (lines_of (made start count)) p0 p1
 EndsBy how (Save σ) status l0 l1 p0 p1 =
     let a = saved.asked how σ in passing.Ends (saved.AreParts a) (saved.IsSaved a) (saved.HasUnsaved a) (saved.HasNoUnsaved a) status l0 l1 p0 p1
@@ -52,7 +48,7 @@ EndsBy how (Load form) status l0 l1 p0 p1 = EndsLoad how form status l0 l1 p0 p1
 abbrev pub Prints : (List ℕ → Option (List ℕ) → List ℕ → Type 0) → (l0 l1 p0 p1 : Option (List ℕ)) → Type 0
 Prints wrote l0 l1 p0 p1 = (bytes before : List ℕ) → l0 ≡ Some bytes → p0 ≡ Some before → (printed : List ℕ) × (p1 ≡ Some (before ++ printed)) × wrote bytes l1 printed
 
--- an image comes first in these bytes, and then a rest
+-- an image is a prefix of these bytes, and then a rest
 pub record HasImage (bytes : List ℕ) : Type 0 where
   pub setting : Setting
   pub documents : List Doc
@@ -61,13 +57,15 @@ pub record HasImage (bytes : List ℕ) : Type 0 where
   pub lawful : IsLawful setting documents
   pub is : bytes ≡ image_of setting documents ++ rest
 
--- what a load that ends so has printed, of any bytes: nothing where no image was read to its end, and else what it says of the lines after it
+-- what a load that ends so has printed, of any bytes: nothing where no image was read to its end,
+-- and else what it says of the lines after it
 abbrev pub WroteLoad : Dialect → Form → Status → List ℕ → Option (List ℕ) → List ℕ → Type 0
 WroteLoad how form status bytes left printed = ((printed ≡ []) × ((taken : List ℕ) × outcomes.AreTaken bytes left taken × WhyUnread status taken left))
     ⊎ ((i : HasImage bytes) × (let a : Loaded = record { dialect = how; setting = i.setting; documents = i.documents; form = form } in
     outcomes.Wrote (IsBodyBehind a) (IsTextBehind a) (HasRefusalBehind a) (HasNoRefusalBehind a) status i.rest left printed))
 
--- of bytes that are an image and a rest, it is what it says of the rest; at BadImage `out` took nothing, also where it tells no bytes
+-- of bytes that are an image and a rest, it is what it says of the rest; at BadImage `out` took
+-- nothing, also where it tells no bytes
 pub record RanLoad (how : Dialect) (form : Form) (status : Status) (l0 l1 p0 p1 : Option (List ℕ)) : Type 0 where
   pub all : Prints (WroteLoad how form status) l0 l1 p0 p1
   pub lines : (σ : Setting) (docs : List Doc) (rest before : List ℕ) → IsSetting σ → IsLawful σ docs → l0 ≡ Some (image_of σ docs ++ rest) → p0 ≡ Some before
@@ -75,10 +73,10 @@ pub record RanLoad (how : Dialect) (form : Form) (status : Status) (l0 l1 p0 p1 
   pub bad_image : status ≡ BadImage → p1 ≡ p0
 
 abbrev pub Ran : Dialect → Command → Status → (l0 l1 p0 p1 : Option (List ℕ)) → Type 0
-Ran how (Run overlap form σ) status l0 l1 p0 p1 = Prints (Wrote (read_by overlap how) σ overlap form status) l0 l1 p0 p1
-Ran how (RunWorkers n form σ) status l0 l1 p0 p1 = Prints (workers.WroteWorkers (workers.asked (uncounted how) σ form) status) l0 l1 p0 p1
-Ran how (RunParts n overlap form σ) status l0 l1 p0 p1 = Prints (WroteInParts (parts_rules how n σ form) status) l0 l1 p0 p1
-Ran how (RunWatches form σ) status l0 l1 p0 p1 = Prints (WroteWatches (watch_rules how σ form) status) l0 l1 p0 p1
+Ran how (Run overlap form σ) status l0 l1 p0 p1 = Prints (WroteOf is_bad (way_of overlap) (index_rules how σ form []) status) l0 l1 p0 p1
+Ran how (RunWorkers n form σ) status l0 l1 p0 p1 = Prints (WroteOf is_bad at_least (index_rules how σ form []) status) l0 l1 p0 p1
+Ran how (RunParts n overlap form σ) status l0 l1 p0 p1 = Prints (WroteOf is_bad exactly (parts_rules how n σ form) status) l0 l1 p0 p1
+Ran how (RunWatches form σ) status l0 l1 p0 p1 = Prints (WroteOf ReadsOther exactly (watch_rules how σ form) status) l0 l1 p0 p1
 Ran how (Bench start count) status l0 l1 p0 p1 = (before : List ℕ) → p0 ≡ Some before → (printed : List ℕ) × (p1 ≡ Some (before ++ printed)) × WroteBench status start count printed
 Ran how (Save σ) status l0 l1 p0 p1 = Prints (saved.WroteSaved (saved.asked how σ) status) l0 l1 p0 p1
 Ran how (Load form) status l0 l1 p0 p1 = RanLoad how form status l0 l1 p0 p1
@@ -96,10 +94,10 @@ pub record LoadMeans (how : Dialect) (form : Form) (status : Status) (l0 l1 : Op
   pub bad_image : status ≡ BadImage → (taken : List ℕ) × (l0 ≡ after taken l1) × IsBad IsImage taken l1
 
 abbrev pub Means : Dialect → Command → Status → (l0 l1 : Option (List ℕ)) → Type 0
-Means how (Run overlap form σ) status l0 l1 = Told (output.Means (read_by overlap how) σ status) l0 l1
-Means how (RunWorkers n form σ) status l0 l1 = Told (workers.MeansWorkers (workers.asked (uncounted how) σ form) status) l0 l1
-Means how (RunParts n overlap form σ) status l0 l1 = Told (MeansInParts (parts_rules how n σ form) status) l0 l1
-Means how (RunWatches form σ) status l0 l1 = Told (MeansWatches (watch_rules how σ form) status) l0 l1
+Means how (Run overlap form σ) status l0 l1 = Told (MeansOf is_bad (index_rules how σ form []) status) l0 l1
+Means how (RunWorkers n form σ) status l0 l1 = Told (MeansOf is_bad (index_rules how σ form []) status) l0 l1
+Means how (RunParts n overlap form σ) status l0 l1 = Told (MeansOf is_bad (parts_rules how n σ form) status) l0 l1
+Means how (RunWatches form σ) status l0 l1 = Told (MeansOf ReadsOther (watch_rules how σ form) status) l0 l1
 Means how (Bench start count) status l0 l1 = MeansBench status start count
 Means how (Save σ) status l0 l1 = Told (saved.MeansSaved (saved.asked how σ) status) l0 l1
 Means how (Load form) status l0 l1 = LoadMeans how form status l0 l1

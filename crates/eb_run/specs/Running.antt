@@ -1,17 +1,32 @@
--- What the index of a run holds, and which lines of the input wait; and that what a run printed is a front of a whole text.
-use Rattle.eb_fields.specs.Dialect.{uncounted_of}
-use Rattle.std.specs.Prelude.{◌≡◌, ℕ, true, List, [], ◌++◌, length, Result, OnOk}
+-- What the index of a run holds, and which lines of the input wait; and that what a run printed is a prefix of a whole text.
+use Rattle.eb_fields.specs.Dialect.{Dialect, dialect_of}
+use Rattle.std.specs.Prelude.{◌≡◌, ℕ, List, [], ◌++◌, length, Result, OnOk}
 use Rattle.std.specs.declared.vec.Vec.{Vec}
 use denote.MutBor.{MutBor}
-use Rattle.std.proofs.Common.{sym, ap, subst, ◌∙◌, append_assoc, append-nil}
+use Rattle.std.proofs.Common.{refl, sym, ap, ◌∙◌, append_assoc, append-nil}
+use Rattle.eb_answer.specs.Rules.{Rules, is_bad}
+use Rattle.eb_answer.specs.Sees.{between}
+use Rattle.eb_answer.specs.Text.{IsBody}
+use Rattle.eb_answer.proofs.Texts.{body_empty}
+use Rattle.eb_base.specs.Setting.{Setting}
 use Rattle.eb_io.specs.Lines.{Line}
+use Rattle.eb_lines.specs.declared.form.Form.{Form}
 use Rattle.eb_lines.specs.Programs.{IsRunning, WorksOn, PrintsFront}
-use Rattle.eb_indexed.specs.Sees.{Sees}
-use Rattle.eb_indexed.specs.Text.{end_of}
 use Rattle.eb_table.specs.Known.{Words}
 use Rattle.eb_run.specs.declared.running.Running.{Running}
-use Rattle.eb_run.specs.Output.{Asked, IsBodyOf, IsTextOf}
-use Rattle.eb_run.specs.Waiting.{HasGathered}
+use Rattle.eb_run.specs.Waiting.{rules_in, HasGathered}
+
+-- how lines are read, the setting of the index, and how what is printed is written
+pub record Asked : Type 0 where
+  pub dialect : Dialect
+  pub setting : Setting
+  pub form : Form
+
+abbrev pub asked : Dialect → Setting → Form → Asked
+asked how σ form = record { dialect = how; setting = σ; form = form }
+
+abbrev pub rules_of : Asked → Rules (Unit {0})
+rules_of a = rules_in a.dialect a.form a.setting
 
 -- no line is held
 abbrev pub HoldsNone : Running → Type 0
@@ -25,8 +40,7 @@ pub record HasRun (r : Running) (a : Asked) (given : List Line) (so_far : List �
   pub setting : words.setting ≡ a.setting
   pub writer : r.writer.index ≡ words
   pub converter : r.converter.index ≡ words
-  pub mode : a.overlap ≡ true
-  pub dialect : uncounted_of r.dialect ≡ a.dialect
+  pub dialect : dialect_of r.dialect ≡ a.dialect
   pub form : r.form ≡ a.form
   pub number : r.number ≡ length given
   pub worked : HasGathered a.dialect a.form a.setting given r.writer.docs r.rounds so_far
@@ -46,25 +60,18 @@ abbrev pub HasRunBy : {W Z E : Type 0} → (W → MutBor Running → MutBor (Vec
 HasRunBy pre post worker r a given so_far = WorksOffHeld pre post worker × HasRun r a given so_far
 
 -- the lines that are processed are the first ones, and printed this
-pub run_first : (r : Running) (a : Asked) (given : List Line) (so_far : List ℕ) → HasRun r a given so_far → PrintsFront IsBodyOf a given so_far
+pub run_first : (r : Running) (a : Asked) (given : List Line) (so_far : List ℕ) → HasRun r a given so_far → PrintsFront (λ x. IsBody is_bad between (rules_of x)) a given so_far
 run_first r a given so_far h =
     let w = h.worked.worked in (
       w.done,
       w.waiting ++ h.worked.behind,
       [],
       h.worked.parts ∙ ap (λ ls. ls ++ h.worked.behind) w.parts ∙ append_assoc w.done w.waiting h.worked.behind,
-      record { readings = w.readings; numbers = w.numbers; read = w.read; sees = subst (λ b. Sees b w.readings w.numbers) (sym h.mode) w.sees; bytes = append-nil so_far ∙ w.printed },
+      record {
+        readings = w.readings;
+        numbers = w.numbers;
+        read = w.read;
+        reach = w.sees;
+        bytes = append-nil so_far ∙ w.printed ∙ sym (body_empty (rules_of a) refl w.numbers w.readings);
+      },
     )
-
-pub body_text : (a : Asked) (lines : List Line) (printed : List ℕ) (b : IsBodyOf a lines printed) → IsTextOf a lines (printed ++ end_of a.setting a.form b.readings)
-body_text a lines printed b = record {
-  readings = b.readings;
-  numbers = b.numbers;
-  read = b.read;
-  sees = b.sees;
-  bytes = ap (λ x. x ++ end_of a.setting a.form b.readings) b.bytes;
-}
-
--- what lines print comes first in their whole text
-pub body_first : (a : Asked) (lines : List Line) (printed : List ℕ) → IsBodyOf a lines printed → (more : List ℕ) × IsTextOf a lines (printed ++ more)
-body_first a lines printed b = (end_of a.setting a.form b.readings, body_text a lines printed b)

@@ -1,4 +1,4 @@
--- Words apart from those that say how lines are read, as the code has them.
+-- Words without those that say how lines are read, as the code has them.
 use Rattle.eb_fields.specs.Dialect.{dialect_of}
 use Rattle.std.specs.Prelude.{map, string_bytes}
 use Rattle.eb_run.specs.Command.{DialectApart}

@@ -3,7 +3,7 @@ use Rattle.std.specs.Prelude.{ℕ, List, ◌++◌, codes}
 use Rattle.eb_lines.specs.declared.status.Status.{Status}
 use Rattle.eb_lines.specs.StatusLine.{line_of}
 
--- how the program is called
+-- how to call the program
 abbrev pub usage : List ℕ
 usage = codes "earlybird: usage: run [--overlap | --workers N | --parts N | --watch] [--stats] [--segments N] [--docs N] [--terms N] | "
     ++ codes "bench START DOCS | save [--segments N] [--docs N] [--terms N] | load [--stats]\n"
@@ -12,7 +12,7 @@ usage = codes "earlybird: usage: run [--overlap | --workers N | --parts N | --wa
 abbrev pub status_line : Status → List ℕ
 status_line status = line_of usage status
 
--- how the program is called for a feed, and the line of its status
+-- how to call the program for a feed, and the line of its status
 abbrev pub feed_usage : List ℕ
 feed_usage = codes "earlybird: usage: feed [--overlap | --workers N | --watch] [--keep N] [--fields LIST] [--stats] [--json] [--segments N] [--docs N] [--terms N]\n"
 

@@ -14,13 +14,13 @@ use eb_base::{Config, Document, Gate, NoMemory};
 use eb_cursor::Frame;
 use eb_fields::Dialect;
 use eb_gen::{line_of, query_of};
-use eb_indexed::Indexed;
 use eb_io::Sink;
 use eb_lines::{Form, Refusal, Status, Work, read_line};
+use eb_indexed::Indexed;
 use std::alloc::Global;
 
-// A run over a made input: its index, how many queries were answered and lines refused, and the number of ids in all answers
-// and their sum.
+// A run over a made input: its index, how many queries were answered and lines refused, and the
+// number of ids in all answers and their sum.
 #[derive(Drop)]
 pub(crate) struct Bench {
     indexed: Indexed,
@@ -147,6 +147,7 @@ impl Bench {
     }
 }
 
+// Prints the line of figures of these numbers.
 fn print_figures<K: Sink>(
     documents: u64,
     queries: u64,
@@ -191,7 +192,7 @@ fn count_made<G: Gate>(alloc: Global, start: u64, docs: u32, gate: &G) -> Result
     Ok(bench)
 }
 
-// Processes the made input of so many documents, and prints its line of figures.
+// Processes the made input of `docs` documents, and prints its line of figures.
 pub(crate) fn run_bench<K: Sink, G: Gate>(
     alloc: Global,
     start: u64,

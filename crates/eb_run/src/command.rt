@@ -2,8 +2,7 @@ ghost use Rattle.std.specs.Prelude.{◌≡◌, [], Some, None, IfOk, IsErrOf, ma
 ghost use Rattle.eb_options.specs.Items.{texts};
 ghost use Rattle.eb_run.specs.Command.{asked_of, with_dialect, run_of, run_options, save_of, load_of};
 ghost use Rattle.eb_options.specs.Settings.{setting_options};
-ghost use Rattle.eb_run.specs.Command as spec;
-ghost use Rattle.eb_run.specs.Requests.{request_view, counting_view};
+ghost use Rattle.eb_run.specs.Requests.{request_view};
 
 mod bench;
 pub(crate) mod form;
@@ -26,7 +25,8 @@ pub enum Command {
     Run {
         /// Whether documents are added while queries are answered (`--overlap`).
         overlap: bool,
-        /// How what is printed is written (`--json`), and whether the segments are told after the summary (`--stats`).
+        /// How the output is written (`--json`), and whether the segments are printed after the
+        /// summary (`--stats`).
         form: Form,
         /// The setting that the options give; what they don't name is as in `Config::usual`.
         config: Config,
@@ -35,7 +35,8 @@ pub enum Command {
     RunWorkers {
         /// How many workers live for the whole run, 1 to 16.
         workers: u32,
-        /// How what is printed is written (`--json`), and whether the segments are told after the summary (`--stats`).
+        /// How the output is written (`--json`), and whether the segments are printed after the
+        /// summary (`--stats`).
         form: Form,
         /// The setting that the options give, as of `Run`.
         config: Config,
@@ -44,17 +45,18 @@ pub enum Command {
     RunParts {
         /// How many indexes there are, 1 to 16.
         parts: u32,
-        /// Whether lines are read side by side, and the parts add side by side (`--overlap`).
+        /// Whether lines are read concurrently, and the parts add concurrently (`--overlap`).
         overlap: bool,
-        /// How what is printed is written (`--json`), and whether the segments of all parts are told after the summary
-        /// (`--stats`).
+        /// How the output is written (`--json`), and whether the segments of all parts are printed
+        /// after the summary (`--stats`).
         form: Form,
         /// The setting of each of them, that the options give, as of `Run`.
         config: Config,
     },
     /// `run --watch`: read lines, those that set and remove watches among them.
     RunWatches {
-        /// How what is printed is written (`--json`), and whether the segments are told after the summary (`--stats`).
+        /// How the output is written (`--json`), and whether the segments are printed after the
+        /// summary (`--stats`).
         form: Form,
         /// The setting that the options give, as of `Run`.
         config: Config,
@@ -73,7 +75,8 @@ pub enum Command {
     },
     /// `load`: read an image, and then lines as `run` does.
     Load {
-        /// How what is printed is written (`--json`), and whether the segments are told after the summary (`--stats`).
+        /// How the output is written (`--json`), and whether the segments are printed after the
+        /// summary (`--stats`).
         form: Form,
     },
 }
@@ -83,16 +86,17 @@ pub enum Command {
 pub struct Request<'a> {
     /// The command.
     pub command: Command,
-    /// How its lines are read (`--fields`, `--words`, `--id`, `--text` and `--counts`); plain for `bench`.
+    /// How its lines are read (`--fields`, `--words`, `--id`, `--text` and `--counts`); plain for
+    /// `bench`.
     pub dialect: Dialect<'a>,
 }
 
-/// Why no command is read from the words.
+/// Why the words are no command.
 #[derive(Clone, Copy, Debug, PartialEq, Eq)]
 pub enum CommandFault {
     /// The words aren't in the grammar, or ask for a setting that isn't allowed.
     Usage,
-    /// There was no memory to read them.
+    /// Memory ran out while they were read.
     NoMemory,
 }
 
@@ -101,31 +105,6 @@ pub enum CommandFault {
 pub(crate) struct Counting {
     pub(crate) counts: bool,
     pub(crate) command: Command,
-}
-
-// Whether this command answers counts: a run in order, over parts or with watches, and a load.
-fn may_count(command: &Command) -> bool
-    ensures { result ≡ spec.may_count command.now }
-{
-    match command {
-        Command::Run { overlap, .. } => !*overlap,
-        Command::RunParts { .. } => true,
-        Command::RunWatches { .. } => true,
-        Command::Load { .. } => true,
-        Command::RunWorkers { .. } => false,
-        Command::Bench { .. } => false,
-        Command::Save { .. } => false,
-    }
-}
-
-// The command, of which lines may ask for counts where that is asked for and it answers them.
-pub(crate) fn with_counts(counts: bool, command: Command) -> Option<Counting>
-    ensures { option_map counting_view result ≡ spec.with_counts counts command }
-{
-    if counts && !may_count(&command) {
-        return None;
-    }
-    Some(Counting { counts, command })
 }
 
 // What the words after `run` ask for.
@@ -190,19 +169,20 @@ fn ask_load<'a>(alloc: Global, words: &'a [String]) -> Result<Request<'a>, Comma
 
 /// What the words ask for; they are without the program's name.
 ///
-/// - `run`, and then items in any order, each option at most once: `--overlap`, `--watch`, `--json`, `--stats`, and for x of
+/// - `run`, and then items in any order, each option at most once: `--overlap`, `--watch`, `--json`, `--stats`, `--counts`, and for x of
 ///   `workers`, `parts`, `segments`, `docs` and `terms` the two words `--x V` or the one word `--x=V`. V is one to nine digits, leading
-///   zeros allowed; what isn't named of a setting is as in `Config::usual`. `Config::new` has to allow the setting. At most
-///   one of `--overlap`, `--workers`, `--parts` and `--watch` stands there, or `--overlap` beside `--parts`; the number of workers and of parts is from 1 to
-///   16, and the words of all parts together are at most 134,217,728.
+///   zeros allowed; what isn't named of a setting is as in `Config::usual`. `Config::new` has to allow the setting. There is at most
+///   one of `--overlap`, `--workers`, `--parts` and `--watch`, or `--overlap` with `--parts`; the number of workers and of parts is
+///   from 1 to 16, and the words of all parts together are at most 134,217,728.
 /// - `bench START DOCS`: one to twenty digits of value at most 18446744073709551615, and one to nine
 ///   digits of value 1 to 40,000; leading zeros allowed.
 /// - `save`, and then the options of a setting as after `run`.
-/// - `load`, and then `--json` and `--stats`, each at most once.
+/// - `load`, and then `--json`, `--stats` and `--counts`, each at most once.
 ///
-/// After `run`, `save` and `load` there may stand among these items, each once and as two words `--x V` or one word `--x=V`: `--fields`
-/// with a list that `Fields::read` takes, `--words pieces`, and `--id` and `--text` with any text that isn't empty, the names of the
-/// members that are a document's id and text.
+/// After `run`, `save` and `load` there may be among these items, each once and as two words `--x
+/// V` or one word `--x=V`: `--fields` with a list that `Fields::read` takes, `--words pieces`, and
+/// `--id` and `--text` with any text that isn't empty, the names of the members that are a
+/// document's id and text.
 ///
 /// Usage comes exactly where the words are none of these; NoMemory is free.
 pub fn read_command<'a>(alloc: Global, words: &'a Vec<String>) -> Result<Request<'a>, CommandFault>

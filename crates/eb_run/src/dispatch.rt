@@ -1,9 +1,14 @@
-ghost use Rattle.std.specs.Prelude.{◌≡◌, ◌≤◌, ◌⊎◌, ◌++◌, true, false, List, [], ℕ, None, Some, OnOk, map, option_map, string_bytes};
-ghost use Rattle.eb_fields.specs.Dialect.{Dialect as Spoken, dialect_of, uncounted_of};
+ghost use Rattle.std.specs.Prelude.{◌≡◌, ◌⊎◌, ◌++◌, false, List, ℕ, None, Some, OnOk, map, option_map, string_bytes};
+ghost use Rattle.eb_answer.specs.Rules.{is_bad};
+ghost use Rattle.eb_answer.specs.Sees.{exactly, between};
+ghost use Rattle.eb_answer.specs.Text.{EndsOf};
+ghost use Rattle.eb_fields.specs.Dialect.{Dialect as Spoken, dialect_of};
+ghost use Rattle.eb_indexed.specs.IndexRules.{rules_of};
 ghost use Rattle.eb_io.specs.Faults.{HasRisen};
+ghost use Rattle.eb_lines.specs.declared.form.Form.{Form};
 ghost use Rattle.eb_lines.specs.Programs.{IsRunning, WorksOn};
 ghost use Rattle.eb_run.specs.Command.{asked_of, asks};
-ghost use Rattle.eb_run.specs.Output.{Ends, read_by};
+ghost use Rattle.eb_run.specs.Output.{way_of};
 ghost use Rattle.eb_run.specs.Ran.{EndsBy, Ran, Means, Completes, reads_source};
 ghost use Rattle.eb_run.specs.Running.{HasRun, HoldsNone};
 ghost use Rattle.eb_run.specs.StatusLine.{status_line};
@@ -13,14 +18,13 @@ use crate::command::{Command, CommandFault, Request, read_command};
 use crate::program::RunProgram;
 use crate::running::Running;
 use crate::usage::USAGE;
-use eb_answer::answer_lines;
-use eb_archive::{load_lines, save_lines};
-use eb_base::{Config, Gate, NoMemory};
-use eb_fields::Dialect;
-use eb_indexed::Indexed;
+use eb_base::{Gate, NoMemory};
 use eb_io::{Sink, Source, write_all};
-use eb_lines::{Form, Status, pass_lines};
-use eb_parts::{run_parts, run_parts_beside};
+use eb_lines::{Status, pass_lines};
+use eb_archive::{load_lines, save_lines};
+use eb_indexed::Indexed;
+use eb_parts::run_parts;
+use eb_answer::{Plan, answer_lines};
 use eb_watching::run_watches;
 use eb_workers::run_workers;
 use std::alloc::Global;
@@ -49,11 +53,11 @@ where
     K: Sink,
     E: Sink,
     G: Gate + Sync,
-    // Usage comes only where the words ask for no command; then nothing is read and nothing printed.
+    // Usage comes only where the command line is invalid; then nothing is read and nothing printed.
     ensures usage { result ≡ Status.Usage → asked_of (map string_bytes words.now.items) ≡ None }
     ensures no_command { asked_of (map string_bytes words.now.items) ≡ None → (result ≡ Status.Usage) ⊎ (result ≡ Status.NoMemory) }
     ensures unprinted { asked_of (map string_bytes words.now.items) ≡ None → out.new ≡ out.old }
-    // The source isn't read where they ask for no command, or to process a made input.
+    // The source isn't read where it is invalid, or asks to process a made input.
     ensures unread { reads_source (option_map (λ a. a.command) (asked_of (map string_bytes words.now.items))) ≡ false → source.new ≡ source.old }
     // What was printed, by the command: where source and `out` tell their bytes, a text of the input as the status says.
     ensures ran { (how : Spoken) (c : Command) → asked_of (map string_bytes words.now.items) ≡ Some (asks how c)
@@ -61,7 +65,7 @@ where
     // What the status says of the input holds whatever becomes of the output.
     ensures means { (how : Spoken) (c : Command) → asked_of (map string_bytes words.now.items) ≡ Some (asks how c)
         → Means how c result (S.left source.old) (S.left source.new) }
-    // A bad image is told by `load` alone.
+    // Only `load` reports a bad image.
     ensures bad_image { (how : Spoken) (c : Command) → asked_of (map string_bytes words.now.items) ≡ Some (asks how c)
         → result ≡ Status.BadImage → (form : Form) × (c ≡ Command.Load form) }
     // Without a fault and with an end in time, the input is processed.
@@ -106,22 +110,46 @@ fn run_words<R: Threads + Wait + Sync, S: Source, K: Sink, G: Gate + Sync>(
             overlap,
             form,
             config,
-        } => run_lines(rt, alloc, overlap, dialect, form, config, source, out, gate),
+        } => {
+            let plan = Plan {
+                dialect,
+                form,
+                config,
+            };
+            run_lines(rt, alloc, overlap, &plan, source, out, gate)
+        }
         Command::RunWorkers {
             workers,
             form,
             config,
-        } => run_workers(rt, alloc, workers, dialect, form, config, source, out, gate),
+        } => {
+            let plan = Plan {
+                dialect,
+                form,
+                config,
+            };
+            run_workers(rt, alloc, workers, &plan, source, out, gate)
+        }
         Command::RunParts {
             parts,
             overlap,
             form,
             config,
-        } => run_in_parts(
-            rt, alloc, parts, overlap, dialect, form, config, source, out, gate,
-        ),
+        } => {
+            let plan = Plan {
+                dialect,
+                form,
+                config,
+            };
+            run_parts(rt, alloc, parts, overlap, &plan, source, out, gate)
+        }
         Command::RunWatches { form, config } => {
-            run_watches(alloc, dialect, form, config, source, out, gate)
+            let plan = Plan {
+                dialect,
+                form,
+                config,
+            };
+            run_watches(alloc, &plan, source, out, gate)
         }
         Command::Bench { start, docs } => run_bench(alloc, start, docs, out, gate),
         Command::Save { config } => save_lines(alloc, dialect, config, source, out, gate),
@@ -129,91 +157,62 @@ fn run_words<R: Threads + Wait + Sync, S: Source, K: Sink, G: Gate + Sync>(
     }
 }
 
-// Processes the lines over so many parts, one after the other, or while the parts add side by side.
-fn run_in_parts<R: Threads + Sync, S: Source, K: Sink, G: Gate + Sync>(
-    rt: &R,
-    alloc: Global,
-    parts: u32,
-    overlap: bool,
-    dialect: Dialect<'_>,
-    form: Form,
-    config: Config,
-    source: &mut S,
-    out: &mut K,
-    gate: &G,
-) -> Status
-    requires { (1 ≤ parts) × (parts ≤ 16) }
-    ensures ends { EndsBy (dialect_of dialect.entry) (Command.RunParts parts overlap form config) result
-        (S.left source.old) (S.left source.new) (K.taken out.old) (K.taken out.new) }
-    ensures read_fault { result ≡ Status.ReadFault → HasRisen (S.faults source.old) (S.faults source.new) }
-    ensures write_fault { result ≡ Status.WriteFault → HasRisen (K.faults out.old) (K.faults out.new) }
-{
-    if overlap {
-        return run_parts_beside(rt, alloc, parts, dialect, form, config, source, out, gate);
-    }
-    run_parts(alloc, parts, dialect, form, config, source, out, gate)
-}
-
 // Processes the lines one after the other, or adds documents while queries are answered.
 fn run_lines<R: Threads + Sync, S: Source, K: Sink, G: Gate + Sync>(
     rt: &R,
     alloc: Global,
     overlap: bool,
-    dialect: Dialect<'_>,
-    form: Form,
-    config: Config,
+    plan: &Plan<'_>,
     source: &mut S,
     out: &mut K,
     gate: &G,
 ) -> Status
-    ensures ends { Ends (read_by overlap (dialect_of dialect.entry)) config overlap form result
+    ensures ends { EndsOf is_bad (way_of overlap) (rules_of (dialect_of plan.entry.now.dialect) plan.entry.now) result
         (S.left source.old) (S.left source.new) (K.taken out.old) (K.taken out.new) }
     ensures read_fault { result ≡ Status.ReadFault → HasRisen (S.faults source.old) (S.faults source.new) }
     ensures write_fault { result ≡ Status.WriteFault → HasRisen (K.faults out.old) (K.faults out.new) }
 {
     if overlap {
-        run_beside(rt, alloc, dialect, form, config, source, out, gate)
+        run_beside(rt, alloc, plan, source, out, gate)
     } else {
-        run_in_order(alloc, dialect, form, config, source, out, gate)
+        run_in_order(alloc, plan, source, out, gate)
     }
 }
 
 // Processes the lines one after the other.
 fn run_in_order<S: Source, K: Sink, G: Gate>(
     alloc: Global,
-    dialect: Dialect<'_>,
-    form: Form,
-    config: Config,
+    plan: &Plan<'_>,
     source: &mut S,
     out: &mut K,
     gate: &G,
 ) -> Status
-    ensures ends { Ends (dialect_of dialect.entry) config false form result (S.left source.old) (S.left source.new) (K.taken out.old) (K.taken out.new) }
+    ensures ends { EndsOf is_bad exactly (rules_of (dialect_of plan.entry.now.dialect) plan.entry.now) result
+        (S.left source.old) (S.left source.new) (K.taken out.old) (K.taken out.new) }
     ensures read_fault { result ≡ Status.ReadFault → HasRisen (S.faults source.old) (S.faults source.new) }
     ensures write_fault { result ≡ Status.WriteFault → HasRisen (K.faults out.old) (K.faults out.new) }
 {
-    let Ok(indexed) = Indexed::new(alloc, form, config) else {
+    let Ok(indexed) = Indexed::new(alloc, plan.form, plan.config) else {
         return Status::NoMemory;
     };
-    answer_lines(alloc, indexed, dialect, source, out, gate)
+    answer_lines(alloc, indexed, plan.dialect, source, out, gate)
 }
 
 // Adds documents while queries are answered.
 fn run_beside<R: Threads + Sync, S: Source, K: Sink, G: Gate + Sync>(
     rt: &R,
     alloc: Global,
-    dialect: Dialect<'_>,
-    form: Form,
-    config: Config,
+    plan: &Plan<'_>,
     source: &mut S,
     out: &mut K,
     gate: &G,
 ) -> Status
-    ensures ends { Ends (uncounted_of dialect.entry) config true form result (S.left source.old) (S.left source.new) (K.taken out.old) (K.taken out.new) }
+    ensures ends { EndsOf is_bad between (rules_of (dialect_of plan.entry.now.dialect) plan.entry.now) result
+        (S.left source.old) (S.left source.new) (K.taken out.old) (K.taken out.new) }
     ensures read_fault { result ≡ Status.ReadFault → HasRisen (S.faults source.old) (S.faults source.new) }
     ensures write_fault { result ≡ Status.WriteFault → HasRisen (K.faults out.old) (K.faults out.new) }
 {
-    let Ok(running) = Running::new(alloc, dialect, form, config) else {
+    let Ok(running) = Running::new(alloc, plan) else {
         return Status::NoMemory;
     };
     let mut program = RunProgram {

@@ -1,12 +1,13 @@
 ghost use Rattle.std.specs.Prelude.{◌≡◌, ◌⊎◌, ◌<◌, ◌≤◌, ◌++◌, List, ℕ, None, Some, IfOk, OnErr, length, map, string_bytes};
 ghost use Rattle.eb_ahead.specs.Placed.{IsHoldingFor, PlacesAll};
-ghost use Rattle.eb_answer.specs.Rules.{Rules, is_bad, IsBody, IsText, HasRefusal, HasNoRefusal};
+ghost use Rattle.eb_answer.specs.Rules.{Rules, is_bad};
+ghost use Rattle.eb_answer.specs.Sees.{exactly};
 ghost use Rattle.eb_answer.specs.Stores.{Keeps};
+ghost use Rattle.eb_answer.specs.Text.{EndsOf};
 ghost use Rattle.eb_fields.specs.Dialect.{Dialect as Spoken, dialect_of};
 ghost use Rattle.eb_io.specs.Faults.{HasRisen};
 ghost use Rattle.eb_io.specs.Lines.{longest_input};
 ghost use Rattle.eb_lines.specs.Outcomes.{IsWorkedOff};
-ghost use Rattle.eb_lines.specs.Passing.{Ends};
 ghost use Rattle.eb_run.specs.Fed.{IsFed};
 ghost use Rattle.eb_run.specs.FeedCommand.{feed_asked_of, AsksFeed};
 ghost use Rattle.eb_run.specs.StatusLine.{feed_status_line};
@@ -19,23 +20,25 @@ mod fed;
 use crate::command::CommandFault;
 use crate::usage::FEED_USAGE;
 pub use command::{FeedCommand, FeedRequest, FeedWay, read_feed_command};
-use eb_ahead::{Other, answer_lines_ahead, place_each};
-use eb_answer::answer_lines;
 use eb_base::{Document, Gate, NoMemory};
-use eb_feed_workers::run_feed_workers;
 use eb_fields::Dialect;
 use eb_io::{Sink, Source, write_all};
 use eb_lines::{Refusal, Status};
-use eb_watching::answer_watched;
 use fed::Fed;
+use eb_feed_workers::run_feed_workers;
+use eb_ahead::{Other, answer_lines_ahead, place_each};
+use eb_answer::{Plan, answer_lines};
+use eb_watching::answer_watched;
 use std::alloc::Global;
 use std::sync::Wait;
 use std::thread::Threads;
 
-/// Runs the feed that the words ask for, which are without the program's name and the word `feed`: reads document lines
-/// and query lines, and with `--watch` lines that set watches, from the source, and prints answers, what watches are told
-/// and refusals on `out`. Each document is taken; the oldest go. What is printed goes out in one write before the source is
-/// asked again, or once 64 KiB are gathered. What the status has to say goes to `err`; a fault there changes no status.
+/// Runs the feed that the words ask for, which are without the program's name and the word `feed`:
+/// reads document lines and query lines, and with `--watch` lines that set watches, from the
+/// source, and prints answers, the watches that documents match and refusals on `out`. Each
+/// document is taken; the oldest are dropped. The output is written in one write before the source
+/// is read again, or once 64 KiB are buffered. The line of the status goes to `err`; a fault there
+/// changes no status.
 pub fn run_feed<R, S, K, E, G>(
     rt: &R,
     alloc: Global,
@@ -51,12 +54,12 @@ where
     K: Sink,
     E: Sink,
     G: Gate + Sync,
-    // Usage comes only where the words ask for no feed; then nothing is read and nothing printed.
+    // Usage comes only where the command line is invalid; then nothing is read and nothing printed.
     ensures usage { result ≡ Status.Usage → feed_asked_of (map string_bytes words.now) ≡ None }
     ensures no_command { feed_asked_of (map string_bytes words.now) ≡ None → (result ≡ Status.Usage) ⊎ (result ≡ Status.NoMemory) }
     ensures unread { feed_asked_of (map string_bytes words.now) ≡ None → (source.new ≡ source.old) × (out.new ≡ out.old) }
-    // Where the words ask for a feed, and source and `out` tell their bytes, the run printed the text of the input as the
-    // status says.
+    // Where the words ask for a feed, and source and `out` tell their bytes, the run printed the
+    // text of the input as the status says.
     ensures output { (how : Spoken) (c : FeedCommand) → AsksFeed (map string_bytes words.now) how c
         → (bytes before : List ℕ) → S.left source.old ≡ Some bytes → K.taken out.old ≡ Some before
         → (printed : List ℕ) × (K.taken out.new ≡ Some (before ++ printed)) × WroteFeed how c result bytes (S.left source.new) printed }
@@ -79,6 +82,7 @@ where
     status
 }
 
+// Runs the feed that the words ask for, without the line of its status.
 fn run_words<R: Threads + Wait + Sync, S: Source, K: Sink, G: Gate + Sync>(
     rt: &R,
     alloc: Global,
@@ -102,23 +106,17 @@ fn run_words<R: Threads + Wait + Sync, S: Source, K: Sink, G: Gate + Sync>(
     };
     let FeedRequest { command, dialect } = request;
     if let FeedWay::Workers(workers) = command.way {
-        return run_feed_workers(
-            rt,
-            alloc,
-            workers,
+        let plan = Plan {
             dialect,
-            command.form,
-            command.config,
-            command.keep,
-            source,
-            out,
-            gate,
-        );
+            form: command.form,
+            config: command.config,
+        };
+        return run_feed_workers(rt, alloc, workers, &plan, command.keep, source, out, gate);
     }
     run_lines(rt, alloc, dialect, command, source, out, gate)
 }
 
-// Processes an input over a feed, whose queries are answered by the thread that adds.
+// Processes an input over a feed, where the thread that adds answers the queries.
 fn run_lines<R: Threads + Sync, S: Source, K: Sink, G: Gate + Sync>(
     rt: &R,
     alloc: Global,
@@ -145,7 +143,7 @@ fn run_lines<R: Threads + Sync, S: Source, K: Sink, G: Gate + Sync>(
     }
 }
 
-// Processes an input over a feed whose lines are read by several threads.
+// Processes an input over a feed whose lines several threads read.
 fn answer_ahead<R: Threads + Sync, S: Source, K: Sink, G: Gate>(
     rt: &R,
     alloc: Global,
@@ -157,8 +155,7 @@ fn answer_ahead<R: Threads + Sync, S: Source, K: Sink, G: Gate>(
 ) -> Status
     requires { (rules : Rules (Unit {0})) × (dialect_of dialect ≡ rules.dialect) × IsFed fed rules rules.start rules.watches }
     ensures ends { (rules : Rules (Unit {0})) → dialect_of dialect.entry ≡ rules.dialect → IsFed fed rules rules.start rules.watches
-        → Ends (IsBody is_bad rules) (IsText is_bad rules) (HasRefusal is_bad rules) (HasNoRefusal is_bad rules)
-        result (S.left source.old) (S.left source.new) (K.taken out.old) (K.taken out.new) }
+        → EndsOf is_bad exactly rules result (S.left source.old) (S.left source.new) (K.taken out.old) (K.taken out.new) }
     ensures read_fault { result ≡ Status.ReadFault → HasRisen (S.faults source.old) (S.faults source.new) }
     ensures write_fault { result ≡ Status.WriteFault → HasRisen (K.faults out.old) (K.faults out.new) }
 {

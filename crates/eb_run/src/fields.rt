@@ -1,12 +1,13 @@
-//! The options that say how lines are read: `--fields`, which members of a document's line are fields, `--words`, how texts are cut, and
-//! `--id` and `--text`, which members are a document's id and text.
+//! The options that say how lines are read: `--fields`, which members of a document's line are
+//! fields, `--words`, how texts are cut, and `--id` and `--text`, which members are a document's id
+//! and text.
 ghost use Rattle.std.specs.Prelude.{◌≡◌, Some, None, IfOk, IsErrOf, map, string_bytes};
 ghost use Rattle.eb_fields.specs.Dialect.{dialect_of};
 ghost use Rattle.eb_options.specs.Items.{texts};
 ghost use Rattle.eb_run.specs.Command.{dialect_apart, dialect_in, others_in, fields_in, cut_in, member_in};
 ghost use Rattle.eb_run.specs.Command as spec;
 ghost use Rattle.eb_run.specs.Splits.{apart_view};
-ghost use Rattle.eb_run.specs.FieldWords.{told_fields, told_member, told_text};
+ghost use Rattle.eb_fields.specs.Given.{told_fields, told_member, told_text};
 
 use crate::command::CommandFault;
 use eb_fields::{Dialect, Fields};
@@ -14,7 +15,8 @@ use eb_options::{OptionFault, take_text};
 use eb_text::Cut;
 use std::alloc::Global;
 
-// The words after a command's name without the options that say how lines are read, and what these say.
+// The words after a command's name without the options that say how lines are read, and what these
+// say.
 #[derive(Drop)]
 pub(crate) struct WordsApart<'a> {
     pub(crate) dialect: Dialect<'a>,
@@ -63,7 +65,7 @@ fn read_member<'a>(text: Option<&'a str>) -> Option<Option<&'a str>>
     }
 }
 
-// The text of an option, if it stands there.
+// The text of an option, if it is there.
 fn text_of<'a>(
     alloc: Global,
     words: &'a [String],
@@ -134,7 +136,8 @@ fn other_words(
     without(alloc, least.as_slice(), "text", options)
 }
 
-// The words with these options apart, for a command whose options with a value are these, those among them.
+// The words without these options, and what they say, for a command whose options with a value are
+// these, those among them.
 pub(crate) fn take_dialect<'a>(
     alloc: Global,
     words: &'a [String],

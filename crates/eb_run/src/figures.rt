@@ -20,6 +20,7 @@ pub(crate) fn put_figures(
     Ok(())
 }
 
+// The counts of documents and queries.
 fn put_counts(text: &mut String, documents: u64, queries: u64) -> Result<(), NoMemory>
     ensures { OnOk result (string_bytes text.new ≡ string_bytes text.old ++ counts_text documents queries) }
 {
@@ -28,6 +29,7 @@ fn put_counts(text: &mut String, documents: u64, queries: u64) -> Result<(), NoM
     Ok(())
 }
 
+// The number of the ids and their sum.
 fn put_sums(text: &mut String, ids: u64, sum: u128) -> Result<(), NoMemory>
     ensures { OnOk result (string_bytes text.new ≡ string_bytes text.old ++ sums_text ids sum) }
 {

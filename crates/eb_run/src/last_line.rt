@@ -5,7 +5,7 @@ ghost use Rattle.eb_run.specs.Bench.{Closes};
 use eb_io::{Sink, write_all};
 use eb_lines::Status;
 
-// Prints the last line, where so many lines are refused.
+// Prints the last line, where `refused` lines are refused.
 pub(crate) fn print_last<K: Sink>(refused: u64, text: &String, out: &mut K) -> Status
     ensures printed { Closes result refused (string_bytes text.now) (K.taken out.old) (K.taken out.new) }
     ensures memory { result ≡ Status.NoMemory → ⊥ }

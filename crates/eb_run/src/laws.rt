@@ -1,19 +1,20 @@
 ghost use Rattle.eb_run.specs.FeedLaws.{SomeFeedText, OneFeedText, OrderFeedText, NeverFull};
 ghost use Rattle.eb_run.specs.Laws.{SomeText, OneText, OrderText};
 
-/// The rules leave no input out: each has a text, with and without `--overlap`. The call does nothing.
+/// The rules leave no input out: each has a text, with and without `--overlap`. The call does
+/// nothing.
 pub fn some_text()
     ensures { SomeText }
 {}
 
-/// Without `--overlap` the rules give an input one text and no other. So what a run prints up to the end of its input is
-/// settled by the input's bytes. The call does nothing.
+/// Without `--overlap` the rules give an input one text and no other. So the input's bytes decide
+/// what a run prints up to the end of its input. The call does nothing.
 pub fn one_text()
     ensures { OneText }
 {}
 
-/// This text is one of those that the rules allow with `--overlap`: to see just the documents before it is allowed to each
-/// query. The call does nothing.
+/// This text is one of those that the rules allow with `--overlap`: they allow each query to see
+/// just the documents before it. The call does nothing.
 pub fn order_text()
     ensures { OrderText }
 {}
@@ -23,14 +24,14 @@ pub fn feed_some_text()
     ensures { SomeFeedText }
 {}
 
-/// Without workers they give an input one text and no other. So what a feed prints up to the end of its input is settled by
-/// the input's bytes. The call does nothing.
+/// Without workers they give an input one text and no other. So the input's bytes decide what a
+/// feed prints up to the end of its input. The call does nothing.
 pub fn feed_one_text()
     ensures { OneFeedText }
 {}
 
-/// This text is one of those that the rules allow with workers: to see just the documents before it is allowed to each query.
-/// The call does nothing.
+/// This text is one of those that the rules allow with workers: they allow each query to see just
+/// the documents before it. The call does nothing.
 pub fn feed_order_text()
     ensures { OrderFeedText }
 {}

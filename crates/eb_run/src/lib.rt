@@ -1,7 +1,9 @@
-//! The commands of the program: what the words of a command line ask for, and the runs over a source and a sink.
+//! The commands of the program: what the words of a command line ask for, and the runs over a
+//! source and a sink.
 //!
-//! [`run`] reads the commands `run`, `bench`, `save` and `load`, and [`run_feed`] what stands after the word `feed`.
-//! `specs/Ran.antt` says what `run` leaves, by the command, and `specs/FeedOutput.antt` what a feed prints.
+//! [`run`] reads the commands `run`, `bench`, `save` and `load`, and [`run_feed`] the words after
+//! `feed`. `specs/Ran.antt` says what `run` leaves, by the command, and `specs/FeedOutput.antt`
+//! what a feed prints.
 #![tactic(auto)]
 
 mod bench;

@@ -1,13 +1,14 @@
-//! The program over the lines of an input: what `run` with `--overlap` does with each line, and at the end.
+//! The program over the lines of an input: what `run` with `--overlap` does with each line, and at
+//! the end.
 
 use crate::running::Running;
 use eb_base::NoMemory;
-use eb_indexed::put_end;
 use eb_lines::LineProgram;
+use eb_indexed::put_end;
 use std::alloc::Global;
 
-// A run, with its allocator, and with what processes the lines that it holds: a closure, since what is sent to other threads
-// needs the bounds of a function.
+// A run, with its allocator, and with what processes the lines that it holds: a closure, since what
+// is sent to other threads needs the bounds of a function.
 #[derive(Drop)]
 pub(crate) struct RunProgram<'a, W: Fn(&mut Running<'a>, &mut Vec<u8>) -> Result<(), NoMemory>> {
     pub(crate) alloc: Global,
@@ -17,21 +18,23 @@ pub(crate) struct RunProgram<'a, W: Fn(&mut Running<'a>, &mut Vec<u8>) -> Result
 
 impl<'a, W: Fn(&mut Running<'a>, &mut Vec<u8>) -> Result<(), NoMemory>> LineProgram
     for RunProgram<'a, W> {
-    ghost use Rattle.eb_indexed.specs.LinesRead.{HasRefusal, HasNoRefusal};
-    ghost use Rattle.eb_run.specs.Output.{Asked as AskedRun, IsBodyOf, IsTextOf};
-    ghost use Rattle.eb_run.specs.Running.{HasRunBy, HoldsNone, run_first, body_first};
+    ghost use Rattle.eb_answer.specs.Answering.{body_first};
+    ghost use Rattle.eb_answer.specs.Rules.{is_bad, HasRefusal, HasNoRefusal};
+    ghost use Rattle.eb_answer.specs.Sees.{between};
+    ghost use Rattle.eb_answer.specs.Text.{IsBody, IsText};
+    ghost use Rattle.eb_run.specs.Running.{Asked as AskedRun, rules_of, HasRunBy, HoldsNone, run_first};
 
     ghost Asked = { AskedRun };
 
     ghost has_run = { λ p. HasRunBy W.pre W.post p.worker p.running };
 
-    ghost prints = { IsBodyOf };
+    ghost prints = { λ a. IsBody is_bad between (rules_of a) };
 
-    ghost ends_with = { IsTextOf };
+    ghost ends_with = { λ a. IsText is_bad between (rules_of a) };
 
-    ghost refuses = { λ a. HasRefusal a.dialect a.setting };
+    ghost refuses = { λ a. HasRefusal is_bad (rules_of a) };
 
-    ghost accepts = { λ a. HasNoRefusal a.dialect a.setting };
+    ghost accepts = { λ a. HasNoRefusal is_bad (rules_of a) };
 
     ghost settled = { λ p. HoldsNone p.running };
 
@@ -64,7 +67,7 @@ impl<'a, W: Fn(&mut Running<'a>, &mut Vec<u8>) -> Result<(), NoMemory>> LineProg
 
     ghost printed_first = { λ p a given so_far h. run_first p.running a given so_far h.1 };
 
-    ghost whole = { body_first };
+    ghost whole = { λ a. body_first is_bad between (rules_of a) };
 
     ghost counts = { λ p a given so_far h. h.1.number };
 }

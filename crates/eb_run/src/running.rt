@@ -1,27 +1,27 @@
 ghost use Rattle.std.specs.Prelude.{◌≡◌, ◌+◌, ◌<◌, ◌^◌, true, Some, None, ℕ, List, [], length, IfOk, OnErr, OnOk, IsTrue};
-ghost use Rattle.eb_fields.specs.Dialect.{uncounted_of};
+ghost use Rattle.eb_fields.specs.Dialect.{dialect_of};
 ghost use Rattle.eb_io.specs.Lines.{Line, line, long_line};
-ghost use Rattle.eb_rounds.specs.Passed.{HasMark, input_of, input_kind};
+ghost use Rattle.eb_rounds.specs.Passed.{input_of, input_kind};
 ghost use Rattle.eb_rounds.specs.Standing.{queries_held};
 ghost use Rattle.eb_rounds.specs.Takes.{takes_kind};
 ghost use Rattle.eb_place.specs.Room.{cut};
 ghost use Rattle.eb_indexed.specs.Conversions.{most_converted};
 ghost use Rattle.eb_run.specs.Holding.{held_as};
 ghost use Rattle.eb_lines.specs.Programs.{IsRunning, WorksOn, WorksOnGiven};
-ghost use Rattle.eb_run.specs.Output.{asked};
-ghost use Rattle.eb_run.specs.Running.{HasRun, HoldsNone, WorksOffHeld};
+ghost use Rattle.eb_run.specs.Running.{asked, HasRun, HoldsNone, WorksOffHeld};
 
-use eb_base::{Config, Gate, NoMemory};
+use eb_base::{Gate, NoMemory};
 use eb_engine::{Converter, Index, Writer};
 use eb_fields::Dialect;
-use eb_indexed::{Counts, SegmentCounts, close};
 use eb_lines::{Form, LineKind, Refusal, line_kind};
 use eb_rounds::{Input, Kind, Rounds};
+use eb_indexed::{Counts, SegmentCounts, close};
+use eb_answer::Plan;
 use std::alloc::Global;
 use std::thread::Threads;
 
-// A run with overlap between two lines: how lines are read, how what is printed is written, the index of the
-// accepted documents, the lines that are held, and the number of the last line given.
+// A run with overlap between two lines: how lines are read, how the output is written, the index of
+// the accepted documents, the lines that are held, and the number of the last line given.
 #[derive(Drop)]
 pub(crate) struct Running<'a> {
     dialect: Dialect<'a>,
@@ -35,18 +35,13 @@ pub(crate) struct Running<'a> {
 
 impl<'a> Running<'a> {
     // A run with an empty index. Takes all the memory of the index.
-    pub(crate) fn new(
-        alloc: Global,
-        dialect: Dialect<'a>,
-        form: Form,
-        config: Config,
-    ) -> Result<Running<'a>, NoMemory>
-        ensures { IfOk result (λ running. HasRun running (asked (uncounted_of dialect.entry) config true form) [] []) }
+    pub(crate) fn new(alloc: Global, plan: &Plan<'a>) -> Result<Running<'a>, NoMemory>
+        ensures { IfOk result (λ running. HasRun running (asked (dialect_of plan.entry.now.dialect) plan.entry.now.config plan.entry.now.form) [] []) }
     {
-        let (index, writer, converter) = Index::open(alloc, config)?;
+        let (index, writer, converter) = Index::open(alloc, plan.config)?;
         Ok(Running {
-            dialect,
-            form,
+            dialect: plan.dialect,
+            form: plan.form,
             index,
             writer,
             converter,
@@ -63,7 +58,8 @@ impl<'a> Running<'a> {
         self.rounds.counts()
     }
 
-    // Converts what can be of an input that is over, and gives how many segments are begun, and how many converted.
+    // Converts what can be of an input that is over, and returns how many segments are begun, and
+    // how many converted.
     pub(crate) fn finish(&mut self) -> SegmentCounts
         requires { IsRunning HasRun self.old }
         ensures segments { result.segments ≡ length (cut self.old.index.setting self.old.writer.docs) }
@@ -72,7 +68,8 @@ impl<'a> Running<'a> {
         close(&self.index, &mut self.writer, &mut self.converter)
     }
 
-    // Processes the held lines, with what they print after the text. Where memory doesn't suffice, nothing is done.
+    // Processes the held lines, with what they print after the text. Where memory runs out, nothing
+    // is done.
     pub(crate) fn work_held<R: Threads + Sync, G: Gate + Sync>(
         &mut self,
         rt: &R,
@@ -117,15 +114,16 @@ impl<'a> Running<'a> {
         }
     }
 
-    // Whether a line of this kind, which doesn't go after the held ones, opens a round: a query line after documents alone,
-    // which are read beside what comes after it.
+    // Whether a line of this kind, which can't follow the held ones in their round, opens a round:
+    // a query line after documents alone, which are then read together with what follows it.
     fn opens_round(&self, kind: Kind) -> bool
         ensures { IsTrue result → self.now.rounds.ahead ≡ [] }
     {
         kind == Kind::QueryLine && !self.rounds.has_query() && !self.rounds.has_round_ahead()
     }
 
-    // Where no line of this kind goes after the held lines, opens a round for it, or processes them.
+    // Where no line of this kind goes after the held lines, opens a round for it, or processes
+    // them.
     fn make_way<W: Fn(&mut Running<'a>, &mut Vec<u8>) -> Result<(), NoMemory>>(
         &mut self,
         kind: Kind,
@@ -153,8 +151,7 @@ impl<'a> Running<'a> {
         requires state { IsRunning HasRun self.old }
         requires number { self.old.number + 1 < 2 ^ 64 }
         requires takes { takes_kind self.old.rounds.held (input_kind input) ≡ true }
-        requires question_mark { HasMark input }
-        ensures ok { OnOk result ((l : Line) → held_as (uncounted_of self.old.dialect) l ≡ Some (input_of input.entry)
+        ensures ok { OnOk result ((l : Line) → held_as (dialect_of self.old.dialect) l ≡ Some (input_of input.entry)
             → (text : List ℕ) → WorksOnGiven HasRun self.old self.new text text l) }
         ensures err { OnErr result (self.new ≡ self.old) }
     {
@@ -174,8 +171,7 @@ impl<'a> Running<'a> {
         requires state { IsRunning HasRun self.old }
         requires worker { WorksOffHeld W.pre W.post worker.now }
         requires number { self.old.number + 1 < 2 ^ 64 }
-        requires question_mark { HasMark input }
-        ensures ok { OnOk result ((l : Line) → held_as (uncounted_of self.old.dialect) l ≡ Some (input_of input.entry)
+        ensures ok { OnOk result ((l : Line) → held_as (dialect_of self.old.dialect) l ≡ Some (input_of input.entry)
             → WorksOnGiven HasRun self.old self.new text.old.items text.new.items l) }
         ensures err { OnErr result (WorksOn HasRun self.old self.new text.old.items text.new.items) }
     {
@@ -183,11 +179,11 @@ impl<'a> Running<'a> {
         self.put(input)
     }
 
-    // Passes over a blank line.
+    // Skips a blank line.
     fn pass(&mut self)
         requires state { IsRunning HasRun self.old }
         requires number { self.old.number + 1 < 2 ^ 64 }
-        ensures { (l : Line) → held_as (uncounted_of self.old.dialect) l ≡ None → (text : List ℕ) → WorksOnGiven HasRun self.old self.new text text l }
+        ensures { (l : Line) → held_as (dialect_of self.old.dialect) l ≡ None → (text : List ℕ) → WorksOnGiven HasRun self.old self.new text text l }
     {
         self.number += 1;
     }
@@ -220,7 +216,7 @@ impl<'a> Running<'a> {
         ensures ok { OnOk result (WorksOnGiven HasRun self.old self.new text.old.items text.new.items (line bytes.now)) }
         ensures err { OnErr result (WorksOn HasRun self.old self.new text.old.items text.new.items) }
     {
-        match line_kind(self.dialect.uncounted(), bytes) {
+        match line_kind(self.dialect, bytes) {
             LineKind::Blank => {
                 self.pass();
                 Ok(())

@@ -19,7 +19,7 @@ use Rattle.eb_watching.specs.declared.watched.Watching.{Watching}
 use Rattle.eb_watching.specs.Watched.{IsWatched}
 use Rattle.eb_watching.specs.WatchRules.{watch_refusal, watches_then}
 
--- the watches after a watch line that comes to this
+-- the watches after a watch line and what comes of it
 abbrev pub behind : List Watched → ℕ → Option Tree → Option Refusal → List Watched
 behind ws n q None = watches_then ws n q
 behind ws n q (Some r) = ws

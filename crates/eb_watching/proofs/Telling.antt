@@ -1,4 +1,4 @@
--- No more watches are told than are set.
+-- A document matches no more watches than are set.
 use Rattle.std.proofs.Common.{◌≡◌, ◌≤◌, ℕ, List, length, refl, ap, arith}
 use Rattle.std.specs.Prelude.{◌^◌, not, IfOk, Result, Ok, Err}
 use Rattle.std.specs.declared.vec.Vec.{Vec}

@@ -1,4 +1,5 @@
--- How a line is read that is neither blank, nor a document or query line, where some lines set watches.
+-- How a line is read that is neither blank, nor a document or query line, where some lines set
+-- watches.
 use Rattle.eb_fields.specs.Dialect.{Dialect}
 use Rattle.std.specs.Prelude.{◌≡◌, ℕ, ◌==◌, ◌&&◌, Bool, true, false, List, [], ◌∷◌, Option, Some, None, Result, Ok, Err, option_map}
 use Rattle.std.specs.Str.{is_utf8}

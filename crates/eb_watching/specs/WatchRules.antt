@@ -1,17 +1,14 @@
 -- The rules of a store whose documents tell watches.
 use Rattle.eb_fields.specs.Dialect.{Dialect}
 use Rattle.std.specs.Prelude.{ℕ, ◌==◌, List, [], length, Option, Some, None, if◌then◌else◌}
-use Rattle.eb_answer.specs.Rules.{Rules, IsBody, IsText, HasRefusal, HasNoRefusal}
+use Rattle.eb_answer.specs.Rules.{Rules}
 use Rattle.eb_base.specs.Query.{Tree}
 use Rattle.eb_base.specs.Setting.{Setting}
 use Rattle.eb_indexed.specs.IndexRules.{index_rules}
 use Rattle.eb_lines.specs.declared.form.Form.{Form}
 use Rattle.eb_lines.specs.declared.refusal.Refusal.{Refusal}
 use Rattle.eb_lines.specs.declared.refusal.Refusal.TheVariants.{NoWatch, WatchTaken, WatchesFull}
-use Rattle.eb_lines.specs.declared.status.Status.{Status}
-use Rattle.eb_lines.specs.Outcomes.{Wrote, Means}
 use Rattle.eb_watch.specs.Watches.{Watched, is_set, with_watch, without_watch, numbers_of, matching}
-use Rattle.eb_watching.specs.Others.{ReadsOther}
 
 -- a watch of a number is set where no watch has the number and fewer than 10,000 are set, and removed where there is one
 abbrev pub watch_refusal : List Watched → ℕ → Option Tree → Option Refusal
@@ -40,11 +37,3 @@ with_watches rules = record {
 -- an index of this setting, where lines are read by this dialect, without documents or watches at first
 abbrev pub watch_rules : Dialect → Setting → Form → Rules (List Watched)
 watch_rules how σ form = with_watches (index_rules how σ form [])
-
--- what a run with watches that ends so has written, of an input of these bytes of which this is left
-abbrev pub WroteWatches : Rules (List Watched) → Status → List ℕ → Option (List ℕ) → List ℕ → Type 0
-WroteWatches rules = Wrote (IsBody ReadsOther rules) (IsText ReadsOther rules) (HasRefusal ReadsOther rules) (HasNoRefusal ReadsOther rules)
-
--- what its status says of that input, whatever became of the output
-abbrev pub MeansWatches : Rules (List Watched) → Status → List ℕ → Option (List ℕ) → Type 0
-MeansWatches rules = Means (HasRefusal ReadsOther rules) (HasNoRefusal ReadsOther rules)

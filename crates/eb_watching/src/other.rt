@@ -10,7 +10,8 @@ use eb_query::read_watch_with;
 use std::alloc::Global;
 use std::str;
 
-// The number of a watch, and the query that it is set to, if it isn't removed; or why the line is refused.
+// The number of a watch, and the query that it is set to, if it isn't removed; or why the line is
+// refused.
 pub(crate) type Other = Result<(u32, Option<Query>), Refusal>;
 
 // What a line asks, read by this dialect, that is neither blank, nor a document or query line.
@@ -27,7 +28,7 @@ pub(crate) fn read_other(
     }
 }
 
-// The same of a line that begins with `!`.
+// What a line asks that begins with `!`, read by this dialect.
 fn read_marked(alloc: Global, dialect: Dialect<'_>, bytes: &[u8]) -> Result<Other, NoMemory>
     requires { slice_get bytes.now 0 ≡ Some 33 }
     ensures { IfOk result (λ read. IsOther (dialect_of dialect.entry) bytes.now read) }
@@ -38,6 +39,7 @@ fn read_marked(alloc: Global, dialect: Dialect<'_>, bytes: &[u8]) -> Result<Othe
     }
 }
 
+// What a watch line asks, by the dialect, or its refusal.
 fn read_text(alloc: Global, dialect: Dialect<'_>, text: &str) -> Result<Other, NoMemory>
     requires { slice_get text.now 0 ≡ Some 33 }
     ensures { IfOk result (λ read. IsOther (dialect_of dialect.entry) text.now read) }

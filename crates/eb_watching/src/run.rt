@@ -1,20 +1,19 @@
-ghost use Rattle.std.specs.Prelude.{◌≡◌, ◌<◌, ◌++◌, ℕ, List, Some, length};
+ghost use Rattle.std.specs.Prelude.{◌≡◌};
+ghost use Rattle.eb_answer.specs.Rules.{Rules};
+ghost use Rattle.eb_answer.specs.Sees.{exactly};
+ghost use Rattle.eb_answer.specs.Text.{EndsOf};
 ghost use Rattle.eb_fields.specs.Dialect.{dialect_of};
 ghost use Rattle.eb_io.specs.Faults.{HasRisen};
-ghost use Rattle.eb_io.specs.Lines.{longest_input};
-ghost use Rattle.eb_lines.specs.Outcomes.{IsWorkedOff};
-ghost use Rattle.eb_lines.specs.Passing.{Ends};
-ghost use Rattle.eb_answer.specs.Rules.{Rules, IsBody, IsText, HasRefusal, HasNoRefusal};
 ghost use Rattle.eb_watching.specs.Others.{ReadsOther};
-ghost use Rattle.eb_watching.specs.WatchRules.{with_watches, watch_rules, WroteWatches, MeansWatches};
+ghost use Rattle.eb_watching.specs.WatchRules.{with_watches, watch_rules};
 
 use crate::watched::Watching;
-use eb_answer::{Store, answer_lines};
-use eb_base::{Config, Gate};
+use eb_base::Gate;
 use eb_fields::Dialect;
-use eb_indexed::Indexed;
 use eb_io::{Sink, Source};
-use eb_lines::{Form, Status};
+use eb_lines::Status;
+use eb_indexed::Indexed;
+use eb_answer::{Plan, Store, answer_lines};
 use std::alloc::Global;
 
 /// Processes the lines that the source gives, in order, over a store that holds what it holds at first, as `answer_lines`
@@ -30,9 +29,7 @@ pub fn answer_watched<P: Store + Drop, S: Source, K: Sink, G: Gate>(
 ) -> Status
     requires { (rules : Rules P.Watches) × (dialect_of dialect ≡ rules.dialect) × P.holds store rules rules.start rules.watches }
     ensures ends { (plain : Rules P.Watches) → dialect_of dialect.entry ≡ plain.dialect → P.holds store plain plain.start plain.watches
-        → let rules = with_watches plain in
-        Ends (IsBody ReadsOther rules) (IsText ReadsOther rules) (HasRefusal ReadsOther rules) (HasNoRefusal ReadsOther rules) result
-        (S.left source.old) (S.left source.new) (K.taken out.old) (K.taken out.new) }
+        → EndsOf ReadsOther exactly (with_watches plain) result (S.left source.old) (S.left source.new) (K.taken out.old) (K.taken out.new) }
     ensures read_fault { result ≡ Status.ReadFault → HasRisen (S.faults source.old) (S.faults source.new) }
     ensures write_fault { result ≡ Status.WriteFault → HasRisen (K.faults out.old) (K.faults out.new) }
 {
@@ -46,60 +43,27 @@ pub fn answer_watched<P: Store + Drop, S: Source, K: Sink, G: Gate>(
     )
 }
 
-/// Processes the lines that the source gives, in order, with an index of this setting; prints answers, what watches are
-/// told, refusals and the summary on `out`. Lines are numbered from 1. A line `!N QUERY` sets the watch N, and `!N` takes it
+/// Processes the lines that the source gives, in order, with an index of the plan's setting; prints answers, the matches of
+/// watches, refusals and the summary on `out`. Lines are numbered from 1. A line `!N QUERY` sets the watch N, and `!N` takes it
 /// away (this project's profile, docs/FORMATS.md); a document that is accepted tells the numbers of the set watches whose
-/// query it matches, where there are any. A query sees all documents that were accepted before its line. Lines are read by this dialect. The form says
-/// how what is printed is written, and whether the segments are told after the summary.
+/// query it matches, where there are any. A query sees all documents that were accepted before its line.
 ///
-/// What lines print is written before the source is asked for a line that it hasn't given yet. The gate is told of each add
-/// and each search. Takes the memory of the index at once, and that of each watch while it is set.
+/// What lines print is written before the source is asked for a line that it hasn't given yet. The gate sees each add
+/// and each search. Takes the memory of the index at once, and that of each watch while it is set. Faults come only from outside.
 pub fn run_watches<S: Source, K: Sink, G: Gate>(
     alloc: Global,
-    dialect: Dialect<'_>,
-    form: Form,
-    config: Config,
+    plan: &Plan<'_>,
     source: &mut S,
     out: &mut K,
     gate: &G,
 ) -> Status
-    ensures ends { let rules = watch_rules (dialect_of dialect.entry) config form in
-        Ends (IsBody ReadsOther rules) (IsText ReadsOther rules) (HasRefusal ReadsOther rules) (HasNoRefusal ReadsOther rules) result
-        (S.left source.old) (S.left source.new) (K.taken out.old) (K.taken out.new) }
-    // Where source and `out` tell their bytes, `out` took what the status says of the input.
-    ensures output { (bytes before : List ℕ) → S.left source.old ≡ Some bytes → K.taken out.old ≡ Some before
-        → (printed : List ℕ) × (K.taken out.new ≡ Some (before ++ printed))
-        × WroteWatches (watch_rules (dialect_of dialect.entry) config form) result bytes (S.left source.new) printed }
-    // What the status says of the input holds whatever becomes of the output.
-    ensures means { (bytes : List ℕ) → S.left source.old ≡ Some bytes
-        → MeansWatches (watch_rules (dialect_of dialect.entry) config form) result bytes (S.left source.new) }
-    // Faults come only from outside.
-    ensures read_fault { result ≡ Status.ReadFault → HasRisen (S.faults source.old) (S.faults source.new) }
-    ensures write_fault { result ≡ Status.WriteFault → HasRisen (K.faults out.old) (K.faults out.new) }
-    // Without a fault and with an end in time, the input is processed.
-    ensures completes { (HasRisen (S.faults source.old) (S.faults source.new) → ⊥) → (HasRisen (K.faults out.old) (K.faults out.new) → ⊥)
-        → (bytes : List ℕ) → S.left source.old ≡ Some bytes → length bytes < longest_input → IsWorkedOff result }
-{
-    pass_watched(alloc, dialect, form, config, source, out, gate)
-}
-
-fn pass_watched<S: Source, K: Sink, G: Gate>(
-    alloc: Global,
-    dialect: Dialect<'_>,
-    form: Form,
-    config: Config,
-    source: &mut S,
-    out: &mut K,
-    gate: &G,
-) -> Status
-    ensures ends { let rules = watch_rules (dialect_of dialect.entry) config form in
-        Ends (IsBody ReadsOther rules) (IsText ReadsOther rules) (HasRefusal ReadsOther rules) (HasNoRefusal ReadsOther rules) result
+    ensures ends { EndsOf ReadsOther exactly (watch_rules (dialect_of plan.entry.now.dialect) plan.entry.now.config plan.entry.now.form) result
         (S.left source.old) (S.left source.new) (K.taken out.old) (K.taken out.new) }
     ensures read_fault { result ≡ Status.ReadFault → HasRisen (S.faults source.old) (S.faults source.new) }
     ensures write_fault { result ≡ Status.WriteFault → HasRisen (K.faults out.old) (K.faults out.new) }
 {
-    let Ok(indexed) = Indexed::new(alloc, form, config) else {
+    let Ok(indexed) = Indexed::new(alloc, plan.form, plan.config) else {
         return Status::NoMemory;
     };
-    answer_watched(alloc, indexed, dialect, source, out, gate)
+    answer_watched(alloc, indexed, plan.dialect, source, out, gate)
 }

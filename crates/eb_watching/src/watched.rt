@@ -1,7 +1,8 @@
-//! A store whose documents tell watches.
+//! A store with watches.
 //!
-//! The room for all that a document may tell is taken before it is added, so that nothing can fail after the add: 21
-//! bytes for each watch that is set. The room stays with the text, so it is taken once.
+//! The room for all numbers that a document may print is taken before the document is added, so
+//! nothing can fail after the add: 21 bytes for each watch that is set. The room stays with the
+//! text, so it is taken once.
 ghost use Rattle.std.specs.Prelude.{◌≡◌, ◌<◌, ◌≤◌, ◌^◌, ℕ, List, [], Some, None, length, IfOk, OnErr};
 ghost use Rattle.eb_answer.specs.Rules.{Rules};
 ghost use Rattle.eb_answer.specs.Stores.{IsHolding, TakesOther, Keeps};
@@ -14,13 +15,13 @@ ghost use Rattle.eb_watching.specs.Watched.{IsWatched};
 ghost use Rattle.eb_watching.specs.WatchRules.{with_watches};
 
 use crate::other::read_other;
-use eb_answer::Store;
 use eb_base::{Document, Gate, NoMemory, Query};
 use eb_fields::Dialect;
 use eb_lines::{Form, Refusal, Tail};
 use eb_place::Steps;
 use eb_query::Ask;
 use eb_watch::{NoWatch, SetFault, Watches};
+use eb_answer::Store;
 use std::alloc::Global;
 use std::marker::Brand;
 use std::sync::ledger::{Blank, Ledger};
@@ -32,7 +33,7 @@ pub(crate) struct Watching<S> {
     watches: Watches,
 }
 
-// The numbers of the watches that a document matches, where nobody asks how many were tested.
+// The numbers of the watches that a document matches, without the number of tests.
 fn told_of<L: Ledger>(
     alloc: Global,
     watches: &Watches,
@@ -60,7 +61,7 @@ impl<S: Store> Watching<S> {
         }
     }
 
-    // Sets a watch, or gives why it isn't set.
+    // Sets a watch, or returns why it isn't set.
     fn set(&mut self, number: u32, query: Query) -> Result<Option<Refusal>, NoMemory>
         requires { IsWellFormed (tree query) }
         ensures ok { IfOk result (λ refusal. TakesOther (IsWatched S.holds) self.old self.new (watch number (Some (tree query))) refusal) }
@@ -74,7 +75,7 @@ impl<S: Store> Watching<S> {
         }
     }
 
-    // Removes a watch, or gives why it isn't removed.
+    // Removes a watch, or returns why it isn't removed.
     fn remove(&mut self, number: u32) -> Option<Refusal>
         ensures { TakesOther (IsWatched S.holds) self.old self.new (watch number None) result }
     {

@@ -1,6 +1,7 @@
 pub mod Waits
 pub mod NextLines
-pub mod Staffing
 pub mod Servings
 pub mod Endings
-pub mod Beginnings
+pub mod Staffing
+pub mod Tallies
+pub mod IndexOffices

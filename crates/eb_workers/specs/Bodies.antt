@@ -4,13 +4,13 @@ use Rattle.std.proofs.Common.{slice_get, refl, sym, ap, ◌∙◌, arith, nat_lt
 use Rattle.std.proofs.lemmas.Bool.{cases_Bool}
 use Rattle.std.proofs.lemmas.Bool.Decides.{nat_tests}
 use Rattle.eb_base.specs.Document.{Doc}
-use Rattle.eb_lines.specs.declared.form.Form.{Form}
 use Rattle.eb_lines.specs.Reading.{Reading}
-use Rattle.eb_indexed.specs.Sees.{is_asked, IsAsked}
-use Rattle.eb_indexed.specs.Rows.{joined_numbers}
-use Rattle.eb_indexed.specs.Text.{body_from}
-use Rattle.eb_indexed.proofs.Seeing.{get_front}
-use Rattle.eb_indexed.proofs.Texts.{body_same}
+use Rattle.eb_answer.specs.Rows.{joined_numbers}
+use Rattle.eb_answer.specs.Rules.{Rules}
+use Rattle.eb_answer.specs.Sees.{is_asked, IsAsked}
+use Rattle.eb_answer.specs.Text.{body_from}
+use Rattle.eb_answer.proofs.Seeing.{get_front}
+use Rattle.eb_answer.proofs.Texts.{body_same}
 
 -- ---- the numbers of the first k lines, and then others
 
@@ -21,8 +21,8 @@ module _ (k : ℕ) (n m : ℕ → ℕ) where
   pub joined_back : (j : ℕ) → k ≤ j → joined_numbers k n m j ≡ m (j - k)
   joined_back j high = let is : nat_lt j k ≡ false = grind (arith, nat_tests) in rw is refl
 
-  pub joined_body : (form : Form) (docs : List Doc) (rs : List Reading) → length rs ≡ k → body_from form (joined_numbers k n m) docs 0 rs ≡ body_from form n docs 0 rs
-  joined_body form docs rs e = body_same form (joined_numbers k n m) n docs docs 0 rs (λ i low high. let same = joined_front i (omega (arith, high, e)) in (same, refl))
+  pub joined_body : (rules : Rules (Unit {0})) (docs : List Doc) (rs : List Reading) → length rs ≡ k → body_from rules (joined_numbers k n m) docs 0 tt rs ≡ body_from rules n docs 0 tt rs
+  joined_body rules docs rs e = body_same rules (joined_numbers k n m) n docs docs 0 tt rs (λ i low high. let same = joined_front i (omega (arith, high, e)) in (same, refl))
 
 pub side : (j k : ℕ) → (j < k) ⊎ (k ≤ j)
 side j k = elim (cases_Bool (nat_lt j k)) [

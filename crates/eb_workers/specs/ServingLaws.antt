@@ -1,20 +1,23 @@
--- What a run has printed is a front of a whole text.
+-- What a run has printed is a prefix of a whole text.
 use Rattle.std.proofs.Common.{◌≡◌, ℕ, ◌+◌, ◌-◌, ◌≤◌, inl, inr, List, [], ◌++◌, length, refl, sym, ap, ◌∙◌, arith, append-nil}
+use Rattle.eb_answer.specs.Rows.{joined_numbers}
+use Rattle.eb_answer.specs.Rules.{Rules, is_bad}
+use Rattle.eb_answer.specs.Sees.{SeesTold, at_least}
+use Rattle.eb_answer.specs.Text.{body, body_from, IsBody}
+use Rattle.eb_answer.proofs.Seeing.{told_front}
+use Rattle.eb_answer.proofs.Texts.{body_append, body_empty}
+use Rattle.eb_base.specs.Document.{Doc}
 use Rattle.eb_io.specs.Lines.{Line}
 use Rattle.eb_lines.specs.Programs.{PrintsFront}
 use Rattle.eb_lines.specs.Reading.{Reading}
 use Rattle.eb_lines.specs.Progress.{accepted, told}
 use Rattle.eb_lines.proofs.Advancing.{told_within}
-use Rattle.eb_indexed.specs.Rows.{joined_numbers}
-use Rattle.eb_indexed.specs.Text.{body, body_from, end_of}
-use Rattle.eb_indexed.proofs.Seeing.{told_front}
-use Rattle.eb_indexed.proofs.Texts.{body_append}
 use Rattle.eb_workers.specs.declared.serving.Serving.{Serving}
-use Rattle.eb_workers.specs.Output.{Asked, SeesTold, IsWorkersBody, IsWorkersText}
 use Rattle.eb_workers.specs.Serving.{HasServed}
 use Rattle.eb_workers.specs.Bodies.{joined_front, joined_back, joined_body, side, asked_front}
 
-module _ (s : Serving) (a : Asked) (given : List Line) (so_far : List ℕ) (h : HasServed s a given so_far) where
+module _ {O A : Type 0} (holds : O → Rules (Unit {0}) → List Doc → Unit {0} → Type 0) (above : O → ℕ → Type 0) (s : Serving O A) (rules : Rules (Unit {0})) (given : List Line) (so_far : List ℕ)
+    (h : HasServed holds above s rules given so_far) where
   abbrev pub all_readings : List Reading
   all_readings = h.done ++ h.ahead
 
@@ -36,35 +39,20 @@ module _ (s : Serving) (a : Asked) (given : List Line) (so_far : List ℕ) (h : 
       | inr high ↦ omega (arith, back_is j high)
     ];
     most = λ j e. elim (side j (length h.done)) [
-      | inl low ↦ omega (arith, joined_front (length h.done) h.numbers back j low, h.most j, ap length h.documents)
+      | inl low ↦ omega (arith, joined_front (length h.done) h.numbers back j low, h.most j)
       | inr high ↦ omega (arith, back_is j high, told_within all_readings j)
     ];
   }
 
   abbrev pub rest : List ℕ
-  rest = body_from a.form numbers_all (accepted all_readings) (length h.done) h.ahead
+  rest = body_from rules numbers_all (accepted all_readings) (length h.done) tt h.ahead
 
-  pub body_all : body a.form numbers_all all_readings ≡ so_far ++ rest
+  pub body_all : body rules numbers_all all_readings ≡ so_far ++ rest
   body_all =
-      body_append a.form numbers_all (accepted all_readings) 0 (length h.done) h.done h.ahead (omega arith)
-      ∙ ap (λ b. b ++ rest) (joined_body (length h.done) h.numbers back a.form (accepted all_readings) h.done refl
-      ∙ ap (λ ds. body_from a.form h.numbers ds 0 h.done) (sym h.documents) ∙ sym h.printed)
+      body_empty rules h.start numbers_all all_readings
+      ∙ body_append rules numbers_all (accepted all_readings) 0 (length h.done) tt h.done h.ahead (omega arith)
+      ∙ ap (λ b. b ++ rest) (joined_body (length h.done) h.numbers back rules (accepted all_readings) h.done refl ∙ sym h.printed)
 
-  -- what was printed is a front of what the lines given print
-  pub served_first : PrintsFront IsWorkersBody a given so_far
-  served_first = (given, [], rest, sym (append-nil given), record { readings = all_readings; numbers = numbers_all; read = h.read; sees = sees_all; bytes = sym body_all })
-
--- ---- the whole text
-
-pub body_text : (a : Asked) (lines : List Line) (printed : List ℕ) (b : IsWorkersBody a lines printed) → IsWorkersText a lines (printed ++ end_of a.setting a.form b.readings)
-body_text a lines printed b = record {
-  readings = b.readings;
-  numbers = b.numbers;
-  read = b.read;
-  sees = b.sees;
-  bytes = ap (λ x. x ++ end_of a.setting a.form b.readings) b.bytes;
-}
-
--- a body comes first in the whole text
-pub body_first : (a : Asked) (lines : List Line) (printed : List ℕ) → IsWorkersBody a lines printed → (more : List ℕ) × IsWorkersText a lines (printed ++ more)
-body_first a lines printed b = (end_of a.setting a.form b.readings, body_text a lines printed b)
+  -- what was printed is a prefix of what the lines given print
+  pub served_first : PrintsFront (IsBody is_bad at_least) rules given so_far
+  served_first = (given, [], rest, sym (append-nil given), record { readings = all_readings; numbers = numbers_all; read = h.read; reach = sees_all; bytes = sym body_all })

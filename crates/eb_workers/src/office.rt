@@ -1,136 +1,106 @@
-//! A desk with its clerk, beside the writer and the converter of its index.
-ghost use Rattle.std.specs.Prelude.{◌≡◌, ◌+◌, length, max, MatchOption, ⊤};
-ghost use mathlib.Core.List.{IsPrefix};
-ghost use Rattle.eb_place.specs.Room.{cut};
-ghost use Rattle.eb_indexed.specs.Conversions.{most_converted};
-ghost use Rattle.eb_desk.specs.Desk.{with_put};
-ghost use Rattle.eb_serve.specs.Jobs.{answerer, pair};
-ghost use Rattle.eb_desk.specs.Rule.{IsAboveEach};
+//! What answers the queries of lines beside the one writer that their documents go to.
+ghost use Rattle.std.specs.Prelude.{◌≡◌, ◌+◌, ◌≤◌, ◌^◌, ℕ, List, length, IfOk, IfSome, OnErr, OnOk};
+ghost use Rattle.eb_answer.specs.Rules.{Rules};
+ghost use Rattle.eb_answer.specs.Stores.{IsHolding, HasForm, Places, Keeps};
+ghost use Rattle.eb_base.specs.Document.{Doc};
+ghost use Rattle.eb_cursor.specs.Frames.{query_of};
+ghost use Rattle.eb_workers.specs.Offices.{Settles, HasBucketsOf, CountsAll};
 
-use eb_base::{Document, Gate};
+use eb_base::{Document, Gate, NoMemory};
+use eb_count::Tally;
 use eb_cursor::Frame;
-use eb_engine::{Converter, Index, Reader, Writer};
-use eb_indexed::{SegmentCounts, catch_up, close};
-use eb_serve::{Answer, Clerk, Desk, Job, stop_all};
-use eb_writer::Full;
+use eb_lines::{Form, Refusal, Tail};
 use std::sync::Wait;
 
-// A clerk, with the writer and the converter of its index.
+/// An answer that is one over the first documents.
 #[derive(Drop)]
-pub(crate) struct Side {
-    pub(crate) clerk: Clerk,
-    pub(crate) writer: Writer,
-    pub(crate) converter: Converter,
+pub struct Settled {
+    /// The number of its line.
+    pub number: u64,
+    /// How many documents it is over.
+    pub seen: u64,
+    /// The query, with the ids.
+    pub frame: Frame,
 }
 
-// A desk with its clerk, who has put no stop yet, the index, its writer and its converter.
-#[derive(Drop)]
-pub(crate) struct Office<'a> {
-    pub(crate) desk: &'a Desk,
-    pub(crate) index: &'a Index,
-    pub(crate) clerk: Clerk,
-    pub(crate) writer: Writer,
-    pub(crate) converter: Converter,
-    ghost home: { clerk.queues ≡ desk.now.queues },
-    ghost goes_on: { clerk.stops ≡ 0 },
-}
+/// A store for lines whose queries are answered later than they are asked.
+pub trait Office: Sized + Drop {
+    /// An answer as it comes.
+    type Answer: Drop;
 
-impl Office<'_> {
-    ghost use Rattle.eb_workers.specs.Offices.{IsStaffed, Keeps, WithPlaced};
+    // It holds these documents, and goes by these rules.
+    ghost holds: { Self → Rules (Unit {0}) → List Doc → Unit {0} → Type 0 };
 
-    // Adds a document after the others, and converts the segment that it closed. False exactly where there is no room for
-    // it. Takes no memory.
-    pub(crate) fn add<G: Gate>(&mut self, document: &Document, gate: &G) -> bool
-        requires staffed { IsStaffed self.old }
-        ensures keeps { Keeps self.old self.new }
-        ensures clerk { self.new.clerk ≡ self.old.clerk }
-        ensures placed { WithPlaced self.old self.new document.now result }
-    {
-        match self.writer.add(self.index, document, gate) {
-            Ok(_) => {
-                catch_up(self.index, &mut self.writer, &mut self.converter);
-                true
-            }
-            Err(Full) => false,
-        }
-    }
+    // What it was asked was asked under numbers below this one.
+    ghost above: { Self → ℕ → Type 0 };
 
-    // How many documents were added.
-    pub(crate) fn documents(&self) -> u64
-        ensures { result ≡ length self.now.writer.docs }
-    {
-        self.writer.accepted()
-    }
+    // The answer is one to what it was asked.
+    ghost made: { Self → Self.Answer → Type 0 };
 
-    // Asks the query of a frame, under the number of its line, with a reader that knows all documents: the clerk puts this
-    // job after the others.
-    pub(crate) fn ask<R: Wait>(&mut self, rt: &R, number: u64, frame: Frame)
-        requires staffed { IsStaffed self.old }
-        requires above { IsAboveEach number self.old.clerk.put }
-        ensures keeps { Keeps self.old self.new }
-        ensures writer { self.new.writer ≡ self.old.writer }
-        ensures put { self.new.clerk ≡ with_put self.old.clerk (pair number (length self.old.writer.docs)) }
-        ensures above { IsAboveEach (number + 1) self.new.clerk.put }
-    {
-        let reader = self.writer.reader(self.index);
-        self.clerk
-            .ask(rt, self.desk, Job::new(number, frame, reader));
-    }
+    /// Adds a document after the others, or gives why it is refused. `NoMemory` leaves all as it was.
+    fn place<G: Gate>(&mut self, document: &Document, gate: &G) -> Result<Option<Refusal>, NoMemory>
+        requires { IsHolding holds self.old }
+        ensures placed { IfOk result (λ refusal. Places holds self.old self.new document.now refusal) }
+        ensures rises { OnOk result ((n : ℕ) → above self.old n → above self.new n) }
+        ensures err { OnErr result (self.new ≡ self.old) };
 
-    // Waits for an answer.
-    pub(crate) fn wait<R: Wait, G: Gate>(&mut self, rt: &R, gate: &G) -> Answer
-        requires staffed { IsStaffed self.old }
-        ensures keeps { Keeps self.old self.new }
-        ensures writer { self.new.writer ≡ self.old.writer }
-        ensures put { self.new.clerk.put ≡ self.old.clerk.put }
-        ensures made { (answerer result).index ≡ self.new.index.now }
-    {
-        self.clerk.wait(rt, self.desk, self.index, gate)
-    }
+    /// Asks the query of a frame, under the number of its line, which is above those before. `NoMemory` leaves all as it was.
+    fn ask<R: Wait>(&mut self, rt: &R, number: u64, frame: Frame) -> Result<(), NoMemory>
+        requires state { IsHolding holds self.old }
+        requires number { above self.old number }
+        ensures keeps { OnOk result (Keeps holds self.old self.new) }
+        ensures rises { OnOk result (above self.new (number + 1)) }
+        ensures err { OnErr result (self.new ≡ self.old) };
 
-    // Takes an answer where one is there.
-    pub(crate) fn take(&mut self) -> Option<Answer>
-        requires staffed { IsStaffed self.old }
-        ensures keeps { Keeps self.old self.new }
-        ensures writer { self.new.writer ≡ self.old.writer }
-        ensures put { self.new.clerk.put ≡ self.old.clerk.put }
-        ensures made { MatchOption result ⊤ (λ a. (answerer a).index ≡ self.new.index.now) }
-    {
-        self.clerk.take_answer(self.desk)
-    }
+    /// Takes an answer where one is there.
+    fn take(&mut self) -> Option<Self::Answer>
+        requires { IsHolding holds self.old }
+        ensures keeps { Keeps holds self.old self.new }
+        ensures rises { (n : ℕ) → above self.old n → above self.new n }
+        ensures made { IfSome result (λ answer. made self.new answer) };
 
-    // Meets the reader of an answer: what it knows comes first in the history.
-    pub(crate) fn meet(&mut self, reader: Reader)
-        requires staffed { IsStaffed self.old }
-        requires made { reader.index ≡ self.old.index.now }
-        ensures keeps { Keeps self.old self.new }
-        ensures writer { self.new.writer ≡ self.old.writer }
-        ensures clerk { self.new.clerk ≡ self.old.clerk }
-        ensures known { IsPrefix reader.docs self.new.writer.docs }
-    {
-        self.writer.meet(self.index, reader);
-    }
+    /// Waits for an answer.
+    fn wait<R: Wait, G: Gate>(&mut self, rt: &R, gate: &G) -> Self::Answer
+        requires { IsHolding holds self.old }
+        ensures keeps { Keeps holds self.old self.new }
+        ensures rises { (n : ℕ) → above self.old n → above self.new n }
+        ensures made { made self.new result };
 
-    // Converts all segments but the last one, and gives how many are begun and how many are converted.
-    pub(crate) fn close(&mut self) -> SegmentCounts
-        requires staffed { IsStaffed self.old }
-        ensures keeps { Keeps self.old self.new }
-        ensures clerk { self.new.clerk ≡ self.old.clerk }
-        ensures writer { self.new.writer
-            ≡ record { index = self.old.writer.index; docs = self.old.writer.docs; converted = max self.old.writer.converted result.converted } }
-        ensures segments { result.segments ≡ length (cut self.old.index.now.setting self.old.writer.docs) }
-        ensures converted { result.converted ≡ most_converted (length (cut self.old.index.now.setting self.old.writer.docs)) }
-    {
-        close(self.index, &mut self.writer, &mut self.converter)
-    }
+    /// Sees that an answer is one over the first documents, or answers its query again.
+    fn settle<G: Gate>(&mut self, answer: Self::Answer, gate: &G) -> Settled
+        requires state { IsHolding holds self.old }
+        requires made { made self.old answer }
+        ensures keeps { Keeps holds self.old self.new }
+        ensures rises { (n : ℕ) → above self.old n → above self.new n }
+        ensures settled { (rules : Rules (Unit {0})) (docs : List Doc) (ws : Unit {0}) → holds self.new rules docs ws
+            → length docs ≤ length rules.start + 2 ^ 41 → Settles rules docs result };
 
-    // Puts a stop for each of so many workers, and gives the clerk back.
-    pub(crate) fn stop<R: Wait>(self, rt: &R, workers: u32) -> Clerk
-        ensures { result.stops ≡ workers }
-    {
-        let Office { desk, clerk, .. } = self;
-        let mut clerk = clerk;
-        stop_all(rt, desk, &mut clerk, workers);
-        clerk
-    }
+    /// Clears the tally, counts in it all matches of a frame's query among all documents, and gives the number of documents.
+    fn count<G: Gate>(&mut self, frame: &mut Frame, tally: &mut Tally, gate: &G) -> u64
+        requires { IsHolding holds self.old }
+        ensures keeps { Keeps holds self.old self.new }
+        ensures rises { (n : ℕ) → above self.old n → above self.new n }
+        ensures buckets { HasBucketsOf tally.old tally.new }
+        ensures counts { (rules : Rules (Unit {0})) (docs : List Doc) (ws : Unit {0}) → holds self.new rules docs ws
+            → length docs ≤ length rules.start + 2 ^ 41 → CountsAll rules docs (query_of frame.old) result tally.new };
+
+    /// The number of documents.
+    fn documents(&self) -> u64
+        requires { IsHolding holds self.now }
+        ensures { (rules : Rules (Unit {0})) (docs : List Doc) (ws : Unit {0}) → holds self.now rules docs ws
+            → length docs ≤ length rules.start + 2 ^ 41 → result ≡ length docs };
+
+    /// How what is printed is written.
+    fn form(&self) -> Form
+        requires { IsHolding holds self.now }
+        ensures { HasForm holds self.now result };
+
+    /// Ends an input, and gives what is printed beside the counts of its summary.
+    fn close(&mut self) -> Tail
+        requires { IsHolding holds self.old }
+        ensures { (rules : Rules (Unit {0})) (docs : List Doc) (ws : Unit {0}) → holds self.old rules docs ws
+            → length docs ≤ length rules.start + 2 ^ 41 → result ≡ rules.tail docs };
+
+    // A number above those before is followed by another.
+    ghost rises: { (o : Self) (n : ℕ) → above o n → above o (n + 1) };
 }

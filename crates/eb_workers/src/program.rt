@@ -1,5 +1,7 @@
-//! The program over the lines of an input: what a run with workers does with each line, and at the end.
+//! The program over the lines of an input: what a run with workers does with each line, and at the
+//! end.
 
+use crate::office::Office;
 use crate::serving::Serving;
 use eb_base::{Gate, NoMemory};
 use eb_lines::LineProgram;
@@ -8,31 +10,33 @@ use std::sync::Wait;
 
 // A run, with the runtime, the allocator and the gate that it works by.
 #[derive(Drop)]
-pub(crate) struct WorkersProgram<'a, R: Wait, G: Gate> {
+pub(crate) struct WorkersProgram<'a, R: Wait, G: Gate, O: Office> {
     pub(crate) rt: &'a R,
     pub(crate) alloc: Global,
     pub(crate) gate: &'a G,
-    pub(crate) serving: Serving<'a>,
+    pub(crate) serving: Serving<'a, O>,
 }
 
-impl<R: Wait, G: Gate> LineProgram for WorkersProgram<'_, R, G> {
+impl<R: Wait, G: Gate, O: Office> LineProgram for WorkersProgram<'_, R, G, O> {
     ghost use Rattle.std.specs.Prelude.{◌≡◌, []};
-    ghost use Rattle.eb_indexed.specs.LinesRead.{HasRefusal, HasNoRefusal};
-    ghost use Rattle.eb_workers.specs.Output.{Asked as AskedRun, IsWorkersBody, IsWorkersText};
+    ghost use Rattle.eb_answer.specs.Answering.{body_first};
+    ghost use Rattle.eb_answer.specs.Rules.{Rules, is_bad, HasRefusal, HasNoRefusal};
+    ghost use Rattle.eb_answer.specs.Sees.{at_least};
+    ghost use Rattle.eb_answer.specs.Text.{IsBody, IsText};
     ghost use Rattle.eb_workers.specs.Serving.{HasServed};
-    ghost use Rattle.eb_workers.specs.ServingLaws.{served_first, body_first};
+    ghost use Rattle.eb_workers.specs.ServingLaws.{served_first};
 
-    ghost Asked = { AskedRun };
+    ghost Asked = { Rules (Unit {0}) };
 
-    ghost has_run = { λ p. HasServed p.serving };
+    ghost has_run = { λ p. HasServed O.holds O.above p.serving };
 
-    ghost prints = { IsWorkersBody };
+    ghost prints = { IsBody is_bad at_least };
 
-    ghost ends_with = { IsWorkersText };
+    ghost ends_with = { IsText is_bad at_least };
 
-    ghost refuses = { λ a. HasRefusal a.dialect a.setting };
+    ghost refuses = { HasRefusal is_bad };
 
-    ghost accepts = { λ a. HasNoRefusal a.dialect a.setting };
+    ghost accepts = { HasNoRefusal is_bad };
 
     ghost settled = { λ p. p.serving.waiting.items ≡ [] };
 
@@ -59,9 +63,9 @@ impl<R: Wait, G: Gate> LineProgram for WorkersProgram<'_, R, G> {
         self.serving.finish(text)
     }
 
-    ghost printed_first = { λ p. served_first p.serving };
+    ghost printed_first = { λ p. served_first O.holds O.above p.serving };
 
-    ghost whole = { body_first };
+    ghost whole = { body_first is_bad at_least };
 
-    ghost counts = { λ p a given so_far h. h.number };
+    ghost counts = { λ p rules given so_far h. h.number };
 }

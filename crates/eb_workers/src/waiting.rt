@@ -1,10 +1,12 @@
 //! A line that waits until it is its turn to be printed.
-ghost use Rattle.std.specs.Prelude.{◌≡◌, ◌+◌, ◌<◌, ◌≤◌, ◌++◌, ◌∷◌, [], ◌↔◌, IsTrue, vec_len, vec_capacity, set};
+ghost use Rattle.std.specs.Prelude.{◌≡◌, ◌+◌, ◌<◌, ◌≤◌, ◌++◌, ◌∷◌, [], ◌↔◌, IsTrue, length, vec_len, vec_capacity, set};
+ghost use Rattle.eb_query.specs.Head.{most_buckets};
 ghost use Rattle.std.specs.VecDeque.{deque_len, deque_capacity};
 
 use eb_base::Query;
+use eb_count::Tally;
 use eb_cursor::Frame;
-use eb_lines::{Form, Refusal, line_room, put_answer, put_refusal};
+use eb_lines::{Form, Refusal, line_room, put_answer, put_count, put_refusal};
 use std::collections::VecDeque;
 
 // What a line that was taken waits for, or what it prints.
@@ -14,10 +16,30 @@ pub(crate) enum Waiting {
     Nothing,
     // It is refused.
     Refused(Refusal),
-    // A query, which isn't answered yet: before its line so many documents were accepted.
+    // A query, which isn't answered yet: before its line this many documents were accepted.
     Asked { told: u64, k: u32, query: Query },
-    // An answer, over the first so many documents.
+    // An answer, over the first documents, this many.
     Answered { seen: u64, frame: Frame },
+    // Counts.
+    Counted(Counted),
+}
+
+// Counts over the first documents, this many.
+#[derive(Drop)]
+pub(crate) struct Counted {
+    pub(crate) seen: u64,
+    pub(crate) tally: Tally,
+    ghost few: { length tally.buckets ≤ most_buckets },
+}
+
+impl Counted {
+    pub(crate) fn new(seen: u64, tally: Tally) -> Counted
+        requires { length tally.buckets ≤ most_buckets }
+        ensures seen { result.seen ≡ seen }
+        ensures tally { result.tally ≡ tally }
+    {
+        Counted { seen, tally }
+    }
 }
 
 impl Waiting {
@@ -32,10 +54,11 @@ impl Waiting {
             Waiting::Refused(_) => true,
             Waiting::Asked { .. } => false,
             Waiting::Answered { .. } => true,
+            Waiting::Counted(_) => true,
         }
     }
 
-    // Whether it is a query that is answered by this frame, over so many documents.
+    // Whether it is a query that is answered by this frame, over this many documents.
     pub(crate) fn awaits(&self, frame: &Frame, seen: u64) -> bool
         ensures { IsTrue result ↔ Awaits self.now frame.now seen }
     {
@@ -46,6 +69,7 @@ impl Waiting {
                 *told <= seen && *k == frame.k() && query.is(frame.query())
             }
             Waiting::Answered { .. } => false,
+            Waiting::Counted(_) => false,
         }
     }
 
@@ -58,6 +82,7 @@ impl Waiting {
             Waiting::Refused(_) => line_room(0),
             Waiting::Asked { .. } => 0,
             Waiting::Answered { seen: _, frame } => line_room(frame.k() as usize),
+            Waiting::Counted(counted) => line_room(1 + counted.tally.buckets().len()),
         }
     }
 
@@ -71,6 +96,10 @@ impl Waiting {
             Waiting::Refused(refusal) => put_refusal(text, form, number, refusal),
             Waiting::Asked { .. } => {}
             Waiting::Answered { seen, frame } => put_answer(text, form, number, seen, frame.ids()),
+            Waiting::Counted(counted) => {
+                let Counted { seen, tally } = counted;
+                put_count(text, form, number, seen, tally.total(), tally.buckets());
+            }
         }
     }
 }

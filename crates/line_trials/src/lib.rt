@@ -1,5 +1,5 @@
-//! Trials of the crates that read and write lines: terms, texts, queries, words of a command, sources and sinks,
-//! made input and images, each against rows that were worked by hand.
+//! Trials of the crates that read and write lines: terms, texts, queries, words of a command,
+//! sources and sinks, made input and images. Each is compared with rows that were worked by hand.
 #![tactic(auto)]
 
 #[cfg(test)]

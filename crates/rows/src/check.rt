@@ -94,7 +94,8 @@ fn difference(row: &Row, left: &Left) -> Option<&'static str> {
     difference_of_points(row, left)
 }
 
-// In what a run with a fault differs from its row. Of two faults that of the sink is told, and none after the whole text.
+// In what a run with a fault differs from its row. Of two faults that of the sink counts, and none
+// after the whole text.
 fn difference_at(row: &Row, fault: Fault, text: &[u8], left: &Left) -> Option<&'static str> {
     if fault.leaves as usize == text.len() {
         return difference(row, left);

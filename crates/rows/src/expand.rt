@@ -4,8 +4,8 @@ use crate::numbers::put_numbers;
 use anyhow::{Context, Result, bail};
 use std::alloc::Global;
 
-// Where the reading of a text stands: at a byte that stands for itself, after a backslash, among digits of two for a byte, or
-// after the mark of a number.
+// Where the reading of a text is: at a byte that means itself, after a backslash, among digits of
+// two for a byte, or after the mark of a number.
 #[derive(Clone, Copy)]
 enum State {
     Text,
@@ -14,7 +14,8 @@ enum State {
     Number { value: u64, sign: Option<u8> },
 }
 
-// What the marks of a text stand for: `#` the number of its line, `%` the number of what is repeated in it.
+// What the marks of a text mean: `#` the number of its line, `%` the number of what is repeated in
+// it.
 #[derive(Clone, Copy)]
 struct Marks {
     line: Option<u64>,
@@ -26,7 +27,7 @@ fn put_decimal(bytes: &mut Vec<u8>, alloc: Global, value: u64) -> Result<()> {
     Ok(())
 }
 
-// After a byte that stands for itself, or at the begin of a text.
+// After a byte that means itself, or at the begin of a text.
 fn put_byte(bytes: &mut Vec<u8>, alloc: Global, marks: Marks, byte: u8) -> Result<State> {
     match (byte, marks.line, marks.part) {
         (b'\\', _, _) => return Ok(State::Escape),
@@ -84,7 +85,8 @@ fn put_number(bytes: &mut Vec<u8>, alloc: Global, value: u64, sign: Option<u8>) 
     Ok(())
 }
 
-// After the mark of a number: `*`, `+` or `-` and one digit go on with it, and any other byte ends it.
+// After the mark of a number: `*`, `+` or `-` and one digit go on with it, and any other byte ends
+// it.
 fn go_on(
     bytes: &mut Vec<u8>,
     alloc: Global,
@@ -143,7 +145,7 @@ fn range(alloc: Global, word: &str) -> Result<Vec<u64>> {
     Ok(numbers)
 }
 
-// Puts what stands between `<<` and `>>`, a range and a text, as often as the range has numbers.
+// Puts the text between `<<` and `>>`, a range and a text, as often as the range has numbers.
 fn put_repeated(bytes: &mut Vec<u8>, alloc: Global, line: Option<u64>, text: &str) -> Result<()> {
     let (numbers, text) = text.split_once(' ').context("<< has no range and text")?;
     for number in range(alloc, numbers)?.as_slice() {
@@ -169,8 +171,8 @@ fn put_once(bytes: &mut Vec<u8>, alloc: Global, line: Option<u64>, text: &str) -
     Ok(())
 }
 
-// Puts the text of a line, and a LF unless a backslash stands at its end: once where the range is empty, else for each of
-// its numbers.
+// Puts the text of a line, and a LF unless it ends with a backslash: once where the range is empty,
+// else for each of its numbers.
 pub(crate) fn put_line(
     bytes: &mut Vec<u8>,
     alloc: Global,

@@ -1,5 +1,6 @@
-//! Runs the rows of a folder: whole runs of the program's commands in memory, each with what it has to print, to say and how it
-//! has to end. Prints what differs, and after it how many rows and runs there were.
+//! Runs the rows of a folder: whole runs of the program's commands in memory, each with what it has
+//! to print, to say and how it has to end. Prints what differs, and after it how many rows and runs
+//! there were.
 #![tactic(auto)]
 
 mod check;

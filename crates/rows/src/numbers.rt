@@ -8,7 +8,8 @@ fn number(word: &str) -> Result<u64> {
         .context(format_args!("a number is wanted, and not {word}"))
 }
 
-// Puts the numbers of a word: one number `N`, those from `A` to `B` of `A..B`, or each so-manyth of them of `A..B/STEP`.
+// Puts the numbers of a word: one number `N`, those from `A` to `B` of `A..B`, or each so-manyth of
+// them of `A..B/STEP`.
 pub(crate) fn put_numbers(numbers: &mut Vec<u64>, word: &str) -> Result<()> {
     let Some((first, rest)) = word.split_once("..") else {
         numbers.push(number(word)?)?;
@@ -33,7 +34,7 @@ pub(crate) fn numbers(alloc: Global, words: &str) -> Result<Vec<u64>> {
     Ok(numbers)
 }
 
-// The number of a place, in a list where one number stands for all; 0 in an empty list.
+// The number of a place, in a list where one number serves for all; 0 in an empty list.
 pub(crate) fn number_at(numbers: &[u64], at: usize) -> Result<u64> {
     match numbers {
         [] => Ok(0),

@@ -11,8 +11,8 @@ use std::sync::Wait;
 use std::sync::atomic::Ordering;
 use std::thread::Threads;
 
-// What a run left: the exit code, what it printed and said, what the gate was told, and whether the source's next call is its
-// first one.
+// What a run left: the exit code, what it printed and said, what the gate observed, and whether the
+// source's next call is its first one.
 #[derive(Drop)]
 pub(crate) struct Left {
     pub(crate) status: u8,
@@ -41,8 +41,8 @@ fn run_by<R: Threads + Wait + Sync>(
     }
 }
 
-// Runs a command line of a row. The source gives, and the output takes, at most so many bytes a call. Where the row wants
-// that the source isn't called, its first call fails.
+// Runs a command line of a row. The source gives, and the output takes, at most this many bytes a
+// call. Where the row wants that the source isn't called, its first call fails.
 pub(crate) fn run_once<R: Threads + Wait + Sync>(
     rt: &R,
     alloc: Global,

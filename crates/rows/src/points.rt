@@ -1,10 +1,10 @@
-//! A gate that counts what it is told, and keeps the order.
+//! A gate that counts what it observes, and keeps the order.
 
 use eb_base::{Gate, Point};
 use std::sync::atomic::{AtomicU64, Ordering};
 
-// How many documents were added and how many counts loaded, and a number that all points in order come to: where threads
-// reach the gate at once, it is no number of theirs.
+// How many documents were added and how many counts loaded, and a number that all points in order
+// come to: where threads reach the gate at once, it is no number of theirs.
 #[derive(Drop)]
 pub(crate) struct Points {
     pub(crate) added: AtomicU64,

@@ -7,6 +7,7 @@ mod parts;
 mod rounds;
 mod sinks;
 mod turns;
+mod waiting;
 mod words;
 
 use eb_base::Gate;
@@ -17,7 +18,7 @@ use std::sync::Wait;
 use std::test::Fail;
 use std::thread::Threads;
 
-// The words between which a blank stands.
+// The words of this line, with a blank between them.
 fn words_of(alloc: Global, line: &str) -> Result<Vec<String>, AllocError> {
     let mut words = Vec::new(alloc);
     for word in line.split(' ') {
@@ -26,7 +27,8 @@ fn words_of(alloc: Global, line: &str) -> Result<Vec<String>, AllocError> {
     Ok(words)
 }
 
-// What a run or a feed of this command line with this gate prints, over a source that gives its input at once.
+// What a run or a feed of this command line with this gate prints, over a source that gives its
+// input at once.
 fn printed<R: Threads + Wait + Sync, G: Gate + Sync>(
     rt: &R,
     alloc: Global,

@@ -15,7 +15,7 @@ const LOAD_FLAGS: [&str; 3] = ["json", "stats", "counts"];
 // The options of `load` with a number: none.
 const LOAD_OPTIONS: [&str; 0] = [];
 
-// The options with a value of both, those that say how lines are read in front.
+// The options with a value of both; first those that say how lines are read.
 pub(super) const LOAD_VALUES: [&str; 4] = ["fields", "words", "id", "text"];
 
 pub(super) const SAVE_VALUES: [&str; 7] = [

@@ -4,7 +4,7 @@ ghost use Rattle.eb_run.specs.Command.{run_by, run_flags, run_of, run_options, r
 ghost use Rattle.eb_run.specs.Requests.{counting_view};
 
 use crate::command::form::read_form;
-use crate::command::{Command, CommandFault, Counting, with_counts};
+use crate::command::{Command, CommandFault, Counting};
 use eb_base::{Config, MAX_WORDS};
 use eb_lines::Form;
 use eb_options::{Items, OptionFault, read_options, read_setting};
@@ -15,7 +15,7 @@ const RUN_FLAGS: [&str; 5] = ["overlap", "watch", "json", "stats", "counts"];
 
 const RUN_OPTIONS: [&str; 5] = ["workers", "parts", "segments", "docs", "terms"];
 
-// Its options with a value, those that say how lines are read in front.
+// Its options with a value; first those that say how lines are read.
 pub(super) const RUN_VALUES: [&str; 9] = [
     "fields", "words", "id", "text", "workers", "parts", "segments", "docs", "terms",
 ];
@@ -23,8 +23,8 @@ pub(super) const RUN_VALUES: [&str; 9] = [
 // The most workers and the most parts of a run.
 const MOST: u32 = 16;
 
-// To run with so many workers.
-fn run_with_workers(workers: u32, form: Form, config: Config) -> Option<Command>
+// To run with `workers` workers.
+fn eb_workers(workers: u32, form: Form, config: Config) -> Option<Command>
     ensures { result ≡ with_workers workers form config }
 {
     if workers < 1 || workers > MOST {
@@ -37,8 +37,8 @@ fn run_with_workers(workers: u32, form: Form, config: Config) -> Option<Command>
     })
 }
 
-// To run over so many parts.
-fn run_over_parts(parts: u32, overlap: bool, form: Form, config: Config) -> Option<Command>
+// To run over `parts` parts.
+fn eb_parts(parts: u32, overlap: bool, form: Form, config: Config) -> Option<Command>
     ensures { result ≡ over_parts parts overlap form config }
 {
     if parts < 1 || parts > MOST || u64::from(parts) * config.words() > MAX_WORDS {
@@ -70,8 +70,8 @@ fn run_in_way(
             config,
         }),
         (None, None) if !overlap => Some(Command::RunWatches { form, config }),
-        (Some(workers), None) if !overlap && !watch => run_with_workers(workers, form, config),
-        (None, Some(parts)) if !watch => run_over_parts(parts, overlap, form, config),
+        (Some(workers), None) if !overlap && !watch => eb_workers(workers, form, config),
+        (None, Some(parts)) if !watch => eb_parts(parts, overlap, form, config),
         _ => None,
     }
 }
@@ -110,8 +110,8 @@ pub(super) fn read_run(alloc: Global, words: &[String]) -> Result<Counting, Comm
     let Some(command) = read_way(&items) else {
         return Err(CommandFault::Usage);
     };
-    match with_counts(items.has("counts"), command) {
-        Some(command) => Ok(command),
-        None => Err(CommandFault::Usage),
-    }
+    Ok(Counting {
+        counts: items.has("counts"),
+        command,
+    })
 }

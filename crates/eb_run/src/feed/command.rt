@@ -1,8 +1,7 @@
-ghost use Rattle.std.specs.Prelude.{◌≡◌, ◌≤◌, Some, None, IfSome, IfOk, IsErrOf, map, option_map, string_bytes};
+ghost use Rattle.std.specs.Prelude.{◌≡◌, ◌≤◌, Some, None, IfSome, IfOk, IsErrOf, map, string_bytes};
 ghost use Rattle.eb_options.specs.Items.{items_of};
 ghost use Rattle.eb_run.specs.FeedCommand.{feed_asked_of, feed_command_of, feed_flags, feed_of, feed_options, feed_with, way_by, way_with};
 ghost use Rattle.eb_run.specs.FeedCommand.{HasFewWorkers};
-ghost use Rattle.eb_run.specs.FeedCommand as spec;
 ghost use Rattle.eb_run.specs.FeedRequests.{feed_request_view, feed_counting_view};
 
 use crate::command::CommandFault;
@@ -14,12 +13,13 @@ use eb_lines::Form;
 use eb_options::{Items, OptionFault, read_options, read_setting};
 use std::alloc::Global;
 
-// The flags of a feed, and its options: how many workers it has, how many generations it keeps, and those of their setting.
+// The flags of a feed, and its options: how many workers it has, how many generations it keeps, and
+// those of their setting.
 const FEED_FLAGS: [&str; 5] = ["overlap", "watch", "json", "stats", "counts"];
 
 const FEED_OPTIONS: [&str; 5] = ["workers", "keep", "segments", "docs", "terms"];
 
-// Its options with a value, those that say how lines are read in front.
+// Its options with a value; first those that say how lines are read.
 const FEED_VALUES: [&str; 9] = [
     "fields", "words", "id", "text", "workers", "keep", "segments", "docs", "terms",
 ];
@@ -34,9 +34,10 @@ pub enum FeedWay {
     InOrder,
     /// One after the other, of which some set watches (`--watch`).
     Watches,
-    /// Read by several threads, and then one after the other (`--overlap`).
+    /// Several threads read the lines, which are then processed one after the other (`--overlap`).
     Overlap,
-    /// One after the other, while so many standing workers, 1 to 16, answer the queries (`--workers`).
+    /// One after the other, while this many standing workers, 1 to 16, answer the queries
+    /// (`--workers`).
     Workers(u32),
 }
 
@@ -47,7 +48,8 @@ pub struct FeedCommand {
     pub keep: u32,
     /// How its lines are processed.
     pub way: FeedWay,
-    /// How what is printed is written (`--json`), and whether the generations are told after the summary (`--stats`).
+    /// How the output is written (`--json`), and whether the generations are printed after the
+    /// summary (`--stats`).
     pub form: Form,
     /// The setting of each; what the options don't name is as in `Config::usual`.
     pub config: Config,
@@ -64,12 +66,13 @@ pub struct FeedRequest<'a> {
 
 /// The feed that the words ask for; they are without the program's name and the word `feed`.
 ///
-/// They are items in any order, each at most once: `--overlap`, `--watch`, `--json`, `--stats`, `--counts`, and for x of `workers`, `keep`, `segments`,
-/// `docs` and `terms` the two words `--x V` or the one word `--x=V`; and `--fields`, `--words`, `--id` and `--text` as after `run`.
-/// V is one to nine digits, leading zeros allowed; what isn't named is 4 generations, and else as in
-/// `Config::usual`. At most one of `--overlap`, `--watch` and `--workers` stands there, and
-/// neither `--stats` nor `--counts` beside `--workers`, of which there are 1 to 16. `Config::new` has to allow the setting, and keep is 2 to 64;
-/// keep + 1 indexes have at most 134,217,728 words together.
+/// They are items in any order, each at most once: `--overlap`, `--watch`, `--json`, `--stats`,
+/// `--counts`, and for x of `workers`, `keep`, `segments`, `docs` and `terms` the two words `--x V`
+/// or the one word `--x=V`; and `--fields`, `--words`, `--id` and `--text` as after `run`. V is one
+/// to nine digits, leading zeros allowed; what isn't named is 4 generations, and else as in
+/// `Config::usual`. There is at most one of `--overlap`, `--watch` and `--workers`, and no
+/// `--stats` with `--workers`, of which there are 1 to 16. `Config::new` has to allow the setting,
+/// and keep is 2 to 64; keep + 1 indexes have at most 134,217,728 words together.
 ///
 /// Usage comes exactly where the words are none of these; NoMemory is free.
 pub fn read_feed_command<'a>(
@@ -96,7 +99,7 @@ pub fn read_feed_command<'a>(
     }
 }
 
-// The feed that the words ask for beside how its lines are read.
+// The feed that the words ask for, without how its lines are read.
 fn read_command(alloc: Global, words: &[String]) -> Result<FeedCounting, CommandFault>
     ensures command { IfOk result (λ c. feed_command_of (map string_bytes words.now) ≡ Some (feed_counting_view c)) }
     ensures keep { IfOk result (λ c. (2 ≤ c.command.keep) × (c.command.keep ≤ 64)) }
@@ -107,10 +110,10 @@ fn read_command(alloc: Global, words: &[String]) -> Result<FeedCounting, Command
     let Some(command) = read_feed(&items) else {
         return Err(CommandFault::Usage);
     };
-    match counting(items.has("counts"), command) {
-        Some(command) => Ok(command),
-        None => Err(CommandFault::Usage),
-    }
+    Ok(FeedCounting {
+        counts: items.has("counts"),
+        command,
+    })
 }
 
 // A feed, and whether its lines may ask for counts (`--counts`).
@@ -120,30 +123,7 @@ struct FeedCounting {
     command: FeedCommand,
 }
 
-// Whether a feed whose lines are processed so answers counts.
-fn way_counts(way: FeedWay) -> bool
-    ensures { result ≡ spec.way_counts way }
-{
-    match way {
-        FeedWay::InOrder => true,
-        FeedWay::Watches => true,
-        FeedWay::Overlap => true,
-        FeedWay::Workers(_) => false,
-    }
-}
-
-// The feed, of which lines may ask for counts where that is asked for and it answers them.
-fn counting(counts: bool, command: FeedCommand) -> Option<FeedCounting>
-    ensures counting { option_map feed_counting_view result ≡ spec.feed_counting counts command }
-    ensures command { IfSome result (λ c. c.command ≡ command) }
-{
-    if counts && !way_counts(command.way) {
-        return None;
-    }
-    Some(FeedCounting { counts, command })
-}
-
-// The items that the words are without those that say how lines are read.
+// The items of the words, without those that say how lines are read.
 fn read_items(alloc: Global, words: &[String]) -> Result<Items, CommandFault>
     ensures items { IfOk result (λ items. items_of feed_flags feed_options (map string_bytes words.now) ≡ Some items) }
     ensures usage { IsErrOf result CommandFault.Usage → items_of feed_flags feed_options (map string_bytes words.now) ≡ None }
@@ -169,7 +149,7 @@ fn way_of(overlap: bool, watch: bool, workers: Option<u32>, stats: bool) -> Opti
     }
 }
 
-// The way with so many workers, if that is allowed.
+// The way with this many workers, if that is allowed.
 fn work_with(workers: u32) -> Option<FeedWay>
     ensures way { result ≡ way_with workers }
     ensures workers { IfSome result HasFewWorkers }
@@ -197,7 +177,7 @@ fn read_feed(items: &Items) -> Option<FeedCommand>
     allow(keep, way, form, read_setting(items)?)
 }
 
-// The feed that keeps so many generations of this setting, if it is allowed.
+// The feed that keeps this many generations of this setting, if it is allowed.
 fn allow(keep: u32, way: FeedWay, form: Form, config: Config) -> Option<FeedCommand>
     ensures feed { result ≡ feed_of keep form way config }
     ensures keep { IfSome result (λ command. (2 ≤ command.keep) × (command.keep ≤ 64)) }

@@ -1,4 +1,4 @@
-//! The feed that lines fill and ask.
+//! The feed that lines fill and query.
 ghost use Rattle.eb_fields.specs.Dialect.{Dialect as Spoken};
 ghost use Rattle.std.specs.Prelude.{◌≡◌, ◌<◌, ◌≤◌, ℕ, List, [], length, IfOk, OnErr, OnOk};
 ghost use Rattle.eb_answer.specs.Rules.{Rules};
@@ -17,7 +17,6 @@ ghost use Rattle.eb_feed.specs.Held.{IsFedWith};
 ghost use Rattle.eb_run.specs.Fed.{IsFed};
 ghost use Rattle.eb_run.specs.FeedOutput.{feed_rules, feed_tail};
 
-use eb_answer::Store;
 use eb_base::{Config, Document, Gate, NoMemory, Query};
 use eb_count::Tally;
 use eb_cursor::Frame;
@@ -26,18 +25,19 @@ use eb_fields::Dialect;
 use eb_lines::{Form, Refusal, Tail, line_room, put_answer, put_count};
 use eb_place::Steps;
 use eb_query::Ask;
+use eb_answer::Store;
 use std::alloc::Global;
 use std::marker::Brand;
 use std::sync::ledger::{Blank, Ledger};
 
-// A feed, as the lines of an input fill and ask it, and how what is printed is written.
+// A feed that the lines of an input fill and query, and how the output is written.
 #[derive(Drop)]
 pub(crate) struct Fed {
     feed: Feed,
     form: Form,
 }
 
-// Searches what the feed keeps, and gives the number of accepted documents. Takes no memory.
+// Searches what the feed keeps, and returns the number of accepted documents. Takes no memory.
 fn search_kept<G: Gate, L: Ledger>(
     feed: &mut Feed,
     frame: &mut Frame,
@@ -56,8 +56,8 @@ fn search_kept<G: Gate, L: Ledger>(
     feed.search(frame, gate, &mut steps)
 }
 
-// Counts what matches among what the feed keeps, after what the tally held, and gives the number of accepted documents. The
-// frame stays as it is. Takes no memory.
+// Counts what matches among what the feed keeps, added to what the tally held, and returns the
+// number of accepted documents. The frame stays as it is. Takes no memory.
 fn count_kept<G: Gate, L: Ledger>(
     feed: &mut Feed,
     frame: &mut Frame,
@@ -108,7 +108,7 @@ impl Fed {
         Ok(())
     }
 
-    // Answers line `number` by the counts of this tally, in which nothing is counted yet.
+    // Answers line `number` by the counts of this tally, which is empty.
     fn answer_counts<G: Gate>(
         &mut self,
         alloc: Global,
@@ -147,7 +147,7 @@ impl Fed {
         Ok(())
     }
 
-    // What is told beside the counts at the end.
+    // What is printed beside the counts at the end.
     fn tail(&self) -> Tail
         requires { (σ : Setting) × (keep : ℕ) × (history : List Doc) × IsFedWith self.now.feed σ keep history }
         ensures { (σ : Setting) (keep : ℕ) (history : List Doc) → IsFedWith self.now.feed σ keep history → result ≡ feed_tail σ keep self.now.form history }

@@ -3,7 +3,7 @@ use eb_base::{Config, ConfigFault, DocFault, Document, Queries, Query, Term, Ter
 use std::alloc::Global;
 use std::test::Fail;
 
-// So many terms of so many bytes.
+// This many terms of this many bytes.
 fn terms_of(alloc: Global, count: usize, bytes: usize) -> Result<Terms, Fail> {
     let letters = vec![in alloc; b'a'; bytes]?;
     let mut terms = Terms::new(alloc);
@@ -72,7 +72,7 @@ fn an_and_of_one_part_is_not_well_formed(rt: HostRuntime) -> Result<(), Fail> {
     Ok(())
 }
 
-// How many terms in which reach, and whether that is well formed; none where it is no query.
+// How many terms in which reach, and whether that is well formed; none where it isn't a query.
 const WINDOWS: [(usize, u32, Option<bool>); 8] = [
     (0, 1, None),
     (1, 1, Some(true)),

@@ -132,7 +132,7 @@ fn tells_documents_with_fields(rt: HostRuntime) -> Result<(), Fail> {
     Ok(())
 }
 
-// A document line whose member `from` is this value so often repeated, in quotes.
+// A document line whose member `from` is this value, repeated this many times, in quotes.
 fn repeated_value(alloc: Global, part: &str, times: usize) -> Result<String, AllocError> {
     let mut line = String::from_str(alloc, r#"{"id":1,"text":"a","from":""#)?;
     for _at in 0..times {
@@ -142,7 +142,7 @@ fn repeated_value(alloc: Global, part: &str, times: usize) -> Result<String, All
     Ok(line)
 }
 
-// A document line whose member `from` is an array of so many.
+// A document line whose member `from` is an array of this many.
 fn repeated_item(alloc: Global, times: usize) -> Result<String, AllocError> {
     let mut line = String::from_str(alloc, r#"{"id":1,"text":"a","from":[7"#)?;
     for _at in 1..times {
@@ -152,7 +152,7 @@ fn repeated_item(alloc: Global, times: usize) -> Result<String, AllocError> {
     Ok(line)
 }
 
-// How many terms the line gives with the field `from`, or its fault.
+// How many terms the line has with the field `from`, or its fault.
 fn counted(alloc: Global, line: &str) -> Result<usize, LineFault> {
     let Some(fields) = Fields::read("from") else {
         return Ok(0);

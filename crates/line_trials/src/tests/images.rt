@@ -8,7 +8,8 @@ use std::alloc::Global;
 use std::process::Abort;
 use std::test::Fail;
 
-// An image of two segments of two documents and 1,024 terms, with one document: the id 7, `hello`, `world`.
+// An image of two segments of two documents and 1,024 terms, with one document: the id 7, `hello`,
+// `world`.
 const IMAGE: [u8; 46] = [
     b'E', b'B', b'I', b'M', b'A', b'G', b'E', b'1', 0, 0, 0, 2, 0, 0, 0, 2, 0, 0, 4, 0, 1, 0, 0, 0,
     0, 0, 0, 0, 7, 0, 2, 0, 5, b'h', b'e', b'l', b'l', b'o', 0, 5, b'w', b'o', b'r', b'l', b'd', 0,
@@ -22,7 +23,7 @@ const EMPTY: [u8; 21] = [
 // How a reading ends.
 #[derive(Clone, Copy, Debug, PartialEq, Eq)]
 enum Read {
-    // to the byte 0, with so many documents
+    // to the byte 0, with this many documents
     All(u64),
     BadImage,
     ReadFault,
@@ -78,7 +79,8 @@ fn read_again<S: Source>(
     }
 }
 
-// What is to be read next where so many bytes are left, of a source that gives so many at a time.
+// What is to be read next where this many bytes are left, of a source that gives at most this many
+// at a time.
 fn next_of(left: usize, piece: usize) -> Got {
     if left == 0 {
         return Got::End;
@@ -86,7 +88,8 @@ fn next_of(left: usize, piece: usize) -> Got {
     Got::Bytes(left.min(4).min(piece))
 }
 
-// Whether the bytes begin with those that were written for them, and what stands after these is still in the source.
+// Whether the bytes begin with those that were written for them, and what comes after these is
+// still in the source.
 fn is_left<S: Source>(source: &mut S, bytes: &[u8], piece: usize, out: &[u8]) -> bool {
     let Some(rest) = bytes.strip_prefix(out) else {
         return false;
@@ -95,8 +98,9 @@ fn is_left<S: Source>(source: &mut S, bytes: &[u8], piece: usize, out: &[u8]) ->
     source.read(&mut buffer) == next_of(rest.len(), piece)
 }
 
-// Looks that a reading of these bytes, from a source that gives so many at a time and fails at some of its calls, ends so;
-// and, where it comes to the byte 0, that it wrote them again and left what stands after them in the source.
+// Asserts that a reading of these bytes, from a source that gives at most this many at a time and
+// fails at some of its calls, ends so; and, where it reaches the byte 0, that it wrote them again
+// and left what comes after them in the source.
 fn read_as(
     rt: &impl Abort,
     alloc: Global,
@@ -137,7 +141,7 @@ fn writes_the_bytes_of_an_image(rt: HostRuntime) -> Result<(), Fail> {
 // How many bytes a source gives at a time.
 const PIECES: [usize; 4] = [1, 2, 7, 100];
 
-// Looks that a reading of these bytes ends so, however many a source gives at a time.
+// Asserts that a reading of these bytes ends so, however many a source gives at a time.
 fn read_by_pieces(
     rt: &impl Abort,
     alloc: Global,
@@ -179,8 +183,9 @@ fn a_source_of_single_bytes_fails(rt: HostRuntime) -> Result<(), Fail> {
     Ok(())
 }
 
-// Where a source gives many bytes, 7 calls read the image: the head, the byte 1, 10 bytes to the number of terms, 4, 5 and 5 that
-// must follow what was taken, and the byte 0. The 8th call finds the end.
+// Where a source gives many bytes, 7 calls read the image: the head, the byte 1, 10 bytes to the
+// number of terms, 4, 5 and 5 that must follow what was taken, and the byte 0. The 8th call finds
+// the end.
 #[test]
 fn a_source_of_many_bytes_fails(rt: HostRuntime) -> Result<(), Fail> {
     for call in 1..8 {
@@ -190,9 +195,10 @@ fn a_source_of_many_bytes_fails(rt: HostRuntime) -> Result<(), Fail> {
     Ok(())
 }
 
-// Ends of some places of the image, and the least and the greatest byte that may stand at each of these, where all others
-// stay: none but their own in the mark, the number of the terms and their lengths; 1 to 64 segments; 1 to 16,777,216 documents;
-// a power of two of terms, of which no other is tried; any id and any letters; and one document.
+// Ends of some places of the image, and the least and the greatest byte that may be at each of
+// these, where all others stay: none but their own in the mark, the number of the terms and their
+// lengths; 1 to 64 segments; 1 to 16,777,216 documents; a power of two of terms, of which no other
+// is tried; any id and any letters; and one document.
 const PLACES: [(usize, u8, u8); 15] = [
     (8, 1, 0),
     (11, 0, 0),
@@ -211,7 +217,7 @@ const PLACES: [(usize, u8, u8); 15] = [
     (45, 0, 255),
 ];
 
-// Whether this byte may stand at this place. At the last one only its own does.
+// Whether this byte may be at this place. At the last one only its own may.
 fn may_stand(at: usize, byte: u8) -> bool {
     for (end, least, greatest) in PLACES {
         if at < end {
@@ -221,7 +227,8 @@ fn may_stand(at: usize, byte: u8) -> bool {
     false
 }
 
-// What the image with another byte at this place reads as. A byte 0 before the document ends the image there.
+// What the image with another byte at this place reads as. A byte 0 before the document ends the
+// image there.
 fn changed(at: usize, byte: u8) -> Read {
     if at == 20 && byte == 0 {
         return Read::All(0);

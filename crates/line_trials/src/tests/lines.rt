@@ -7,7 +7,7 @@ use std::alloc::Global;
 use std::process::Abort;
 use std::test::Fail;
 
-// Looks that the lines of a text that comes in pieces of so many bytes are these.
+// Asserts that the lines of a text that comes in pieces of this many bytes are these.
 fn cut_as(
     rt: &impl Abort,
     alloc: Global,
@@ -41,7 +41,7 @@ fn cuts_a_text_however_it_is_read(rt: HostRuntime) -> Result<(), Fail> {
     Ok(())
 }
 
-// How many bytes stand before a rest, what comes of the line that they begin, and its length.
+// How many bytes come before a rest, what comes of the line that they begin, and its length.
 const LENGTHS: [(usize, &[u8], Next, Option<usize>); 6] = [
     (65_535, b"\nb", Next::Line, Some(65_535)),
     (65_536, b"\nb", Next::Line, Some(65_536)),
@@ -51,8 +51,8 @@ const LENGTHS: [(usize, &[u8], Next, Option<usize>); 6] = [
     (65_536, b"\r\nb", Next::LongLine, None),
 ];
 
-// What comes of a text of so many letters and a rest: of its first line, with the length of what is a line; of its second, with
-// whether that is `b`; and of its end.
+// What comes of a text of this many letters and a rest: of its first line, with the length of what
+// is a line; of its second, with whether that is `b`; and of its end.
 fn passed(
     alloc: Global,
     length: usize,
@@ -86,8 +86,8 @@ fn passes_over_long_lines(rt: HostRuntime) -> Result<(), Fail> {
     Ok(())
 }
 
-// What comes of a text of 11 bytes where 8 are the limit: what the first line is, whether it is `abc`, and twice what comes then,
-// with the number of bytes that were taken.
+// What comes of a text of 11 bytes where 8 are the limit: what the first line is, whether it is
+// `abc`, and twice what comes then, with the number of bytes that were taken.
 fn stopped(alloc: Global) -> Result<(Next, bool, [(Next, u64); 2]), NoMemory> {
     let mut source = SureSource::new(alloc, b"abc\ndefg\nhi")?;
     let mut lines = Lines::new(alloc, 8)?;
@@ -105,7 +105,7 @@ fn stops_at_its_limit(rt: HostRuntime) -> Result<(), Fail> {
     Ok(())
 }
 
-// What comes of a source that fails at its second call, and the line that stands then.
+// What comes of a source that fails at its second call, and the line that is there then.
 const BEHIND_A_FAULT: [(Next, &[u8]); 5] = [
     (Next::Line, b"abc"),
     (Next::ReadFault, b"abc"),

@@ -6,7 +6,7 @@ use std::fmt::Write;
 use std::process::Abort;
 use std::test::Fail;
 
-// A command with these flags and options; one of the names is the front of another.
+// A command with these flags and options; one of the names is a prefix of another.
 const FLAGS: [&str; 2] = ["all", "fast"];
 
 const OPTIONS: [&str; 3] = ["depth", "doc", "docs"];
@@ -14,7 +14,7 @@ const OPTIONS: [&str; 3] = ["depth", "doc", "docs"];
 // All names.
 const NAMES: [&str; 5] = ["all", "fast", "depth", "doc", "docs"];
 
-// The words of this line, between which stands a bar.
+// The words of this line, with a bar between them.
 fn words_of(alloc: Global, line: &str) -> Result<Vec<String>, AllocError> {
     let mut words = Vec::new(alloc);
     for word in line.split('|') {
@@ -46,7 +46,7 @@ fn reading(alloc: Global, words: &[String]) -> Result<String, Fail> {
     }
 }
 
-// Looks that the words of this line are read so.
+// Asserts that the words of this line are read so.
 fn read_as(rt: &impl Abort, alloc: Global, line: &str, want: &str) -> Result<(), Fail> {
     let words = words_of(alloc, line)?;
     let text = reading(alloc, words.as_slice())?;
@@ -133,7 +133,8 @@ fn refuses_other_words(rt: HostRuntime) -> Result<(), Fail> {
     Ok(())
 }
 
-// The setting that these words ask for; none where they are no items, or no setting that is allowed.
+// The setting that these words ask for; none where they are no items, or no setting that is
+// allowed.
 fn setting_of(alloc: Global, words: &[String]) -> Option<Config> {
     match read_options(alloc, words, &[], &SETTING_OPTIONS) {
         Ok(items) => read_setting(&items),

@@ -30,7 +30,7 @@ fn reading(alloc: Global, line: &str) -> Result<String, NoMemory> {
     }
 }
 
-// Looks that each line reads as the text beside it.
+// Asserts that each line reads as the text beside it.
 pub(super) fn read_as(
     rt: &impl Abort,
     alloc: Global,
@@ -57,7 +57,7 @@ const NUMBERS: [(&str, &str); 10] = [
     ("?1000\ta", "?1000 \"a\""),
 ];
 
-// What can't stand.
+// What isn't allowed at its place.
 const OUT_OF_PLACE: [(&str, &str); 9] = [
     ("?5 (a", "bad query at 6"),
     ("?5 a)", "bad query at 5"),
@@ -133,7 +133,7 @@ fn reads_bounds(rt: HostRuntime) -> Result<(), Fail> {
     Ok(())
 }
 
-// A front, so many times a text, and a rear.
+// A beginning, a text this many times, and an end.
 pub(super) fn repeated(
     alloc: Global,
     front: &str,
@@ -149,8 +149,8 @@ pub(super) fn repeated(
     Ok(line)
 }
 
-// Lines of a front, so often a text, and a rear, and whether they are of size 64 or too large. 63 words side by side are of
-// size 64. A window counts as its terms, and a bound as one.
+// Lines of a beginning, a text this many times, and an end, and whether they are of size 64 or too
+// large. 63 words in a row are of size 64. A window counts as its terms, and a bound as one.
 const SIZES: [(&str, &str, u32, &str, bool); 4] = [
     ("?5", " \"a\"", 63, "", true),
     ("?5", " \"a\"", 64, "", false),

@@ -32,7 +32,7 @@ const TEXTS: [(&str, &str); 14] = [
     ("Straße 12 ÖBB", "strasse|12|öbb|"),
     ("tab\tand\nline feed", "tab|and|line|feed|"),
     ("x\u{2003} y", "x|y|"),
-    // a mark that is a letter stands on the space before it, and folds to an iota
+    // a mark that is a letter is combined with the space before it, and folds to an iota
     ("snow \u{345}fall", "snow| \u{3b9}|fall|"),
 ];
 

@@ -6,7 +6,8 @@ use std::alloc::Global;
 use std::process::Abort;
 use std::test::Fail;
 
-// What the watch line reads as: the number to remove, the number and the query to set, or the fault.
+// What the watch line reads as: the number to remove, the number and the query to set, or the
+// fault.
 fn watch_reading(alloc: Global, line: &str) -> Result<String, NoMemory> {
     if !line.starts_with('!') {
         return Ok(String::from_str(alloc, "no watch line")?);
@@ -21,7 +22,7 @@ fn watch_reading(alloc: Global, line: &str) -> Result<String, NoMemory> {
     }
 }
 
-// Looks that each line reads as the text beside it.
+// Asserts that each line reads as the text beside it.
 fn read_as(rt: &impl Abort, alloc: Global, rows: &[(&str, &str)]) -> Result<(), NoMemory> {
     for (line, want) in rows {
         let text = watch_reading(alloc, line)?;
@@ -61,7 +62,7 @@ const NUMBERS: [(&str, &str); 16] = [
     ("!1(a)", "bad number"),
 ];
 
-// What can't stand, and nesting.
+// What isn't allowed at its place, and nesting.
 const QUERIES: [(&str, &str); 6] = [
     ("!3 (", "bad query at 5"),
     ("!1 !", "bad query at 4"),
@@ -79,7 +80,7 @@ fn reads_watch_lines(rt: HostRuntime) -> Result<(), Fail> {
     Ok(())
 }
 
-// 63 words side by side are of size 64, and of 65 words the size is 66.
+// 63 words in a row are of size 64, and of 65 words the size is 66.
 #[test]
 fn sizes_are_at_most_64(rt: HostRuntime) -> Result<(), Fail> {
     let alloc = rt.alloc();

@@ -4,7 +4,7 @@ use eb_base::{NoMemory, Queries, Query, Term, Terms};
 use std::alloc::Global;
 use std::test::Fail;
 
-// Windows that stand.
+// Windows that are well formed.
 const WINDOWS: [(&str, &str); 12] = [
     ("?5 \"a a\"~2", "?5 \"a a\"~2"),
     ("?5 \"a a\"~1", "?5 \"a a\"~1"),

@@ -3,7 +3,8 @@ use eb_lines::{Form, line_room, put_count};
 use std::alloc::Global;
 use std::test::Fail;
 
-// A count in this line over so many documents, with so many matches, and in each bucket so many.
+// A count in this line over this many documents, with this many matches, and in each bucket this
+// many.
 fn line_of(
     alloc: Global,
     json: bool,

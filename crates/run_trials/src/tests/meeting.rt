@@ -1,4 +1,5 @@
-//! Workers are threads of their own, and only a bounded number of queries and lines waits: over an index, and over a feed.
+//! Workers are threads of their own, and only a bounded number of queries and lines waits: over an
+//! index, and over a feed.
 use super::printed;
 use eb_base::{Gate, Point};
 use std::alloc::{AllocError, Global};
@@ -8,9 +9,10 @@ use std::test::Fail;
 use std::thread;
 use std::thread::Threads;
 
-// A gate at which so many searches meet: each is held after the load of its count until that many came there, for at most
-// 10,000,000 turns. It keeps the count that the last of them loaded. Whoever adds the first document rests for some turns, in
-// which workers without a job fall asleep.
+// A gate at which `number` searches meet: each is held after the load of its count until that many
+// came there, for at most 10,000,000 turns. It keeps the count that the last of them loaded. The
+// thread that adds the first document rests for some turns, in which workers without a job fall
+// asleep.
 #[derive(Drop)]
 struct Meeting {
     searches: u64,
@@ -51,7 +53,7 @@ impl Gate for Meeting {
     }
 }
 
-// The count that the last of so many searches loaded that met, where none was held for too long.
+// The count that the last of the searches loaded that met, where none was held for too long.
 fn meet<R: Threads + Wait + Sync>(
     rt: &R,
     alloc: Global,
@@ -72,7 +74,7 @@ fn meet<R: Threads + Wait + Sync>(
     Ok(Some(gate.last.load(Ordering::SeqCst)))
 }
 
-// A text, and after it another one so many times.
+// A text, and after it another one this many times.
 fn with_many(alloc: Global, text: &str, other: &str, times: u64) -> Result<String, AllocError> {
     let mut all = String::from_str(alloc, text)?;
     for _ in 0..times {
@@ -93,7 +95,8 @@ const WORKERS: [(&str, u64); 6] = [
     ("feed --workers 16 --keep 2 --segments 2 --terms 1024", 17),
 ];
 
-// Each worker holds one query and the clerk one more, though all workers slept when the queries came.
+// Each worker holds one query and the clerk one more, though all workers slept when the queries
+// came.
 #[test]
 fn each_worker_is_a_thread_of_its_own(rt: HostRuntime) -> Result<(), Fail> {
     for (line, queries) in WORKERS {
@@ -109,8 +112,8 @@ const ONE_WORKER: [&str; 2] = [
     "feed --workers 1 --keep 2 --segments 2 --terms 1024",
 ];
 
-// The one worker holds the first query, until the clerk, who has no room for a further line, begins to answer the next one. So
-// far 512 queries came with 511 documents between them.
+// The one worker holds the first query, until the clerk, which has no room for a further line,
+// begins to answer the next one. So far 512 queries came with 511 documents between them.
 #[test]
 fn only_so_many_pairs_may_wait(rt: HostRuntime) -> Result<(), Fail> {
     let pair = "?5 a\n{\"id\":1,\"text\":\"a\"}\n";
@@ -141,8 +144,9 @@ fn only_so_many_lines_may_wait(rt: HostRuntime) -> Result<(), Fail> {
     Ok(())
 }
 
-// A gate that lets workers and clerk fall asleep: who adds the first document rests for some turns, who adds the second is held
-// until a search came, and a search rests for some turns.
+// A gate that lets workers and clerk fall asleep: the thread that adds the first document rests for
+// some turns, the thread that adds the second is held until a search came, and a search rests for
+// some turns.
 #[derive(Drop)]
 struct Sleepy {
     came: AtomicU64,
@@ -192,7 +196,8 @@ const SLEEPERS: [(&str, &str); 2] = [
     ),
 ];
 
-// A query wakes a worker, its answer wakes the clerk, and stops wake the other workers: else the run doesn't end.
+// A query wakes a worker, its answer wakes the clerk, and stops wake the other workers: else the
+// run doesn't end.
 #[test]
 fn who_sleeps_is_woken(rt: HostRuntime) -> Result<(), Fail> {
     let input = "{\"id\":1,\"text\":\"a\"}\n?5 a\n{\"id\":2,\"text\":\"b\"}\n";

@@ -8,8 +8,9 @@ use std::sync::atomic::{AtomicU64, Ordering};
 use std::test::Fail;
 use std::thread;
 
-// A gate that holds the second document's end until a count was loaded, and the load of a count below 3 until a further
-// document was added, each for at most 10,000,000 turns. So neither hold ends if one thread does all.
+// A gate that holds the second document's end until a count was loaded, and the load of a count
+// below 3 until a further document was added, each for at most 10,000,000 turns. So neither hold
+// ends if one thread does all.
 #[derive(Drop)]
 struct Crossing {
     added: AtomicU64,
@@ -73,7 +74,7 @@ fn documents_are_added_while_a_query_is_answered(rt: HostRuntime) -> Result<(), 
     Ok(())
 }
 
-// Two queries in a row, with documents behind them.
+// Two queries in a row, with documents after them.
 const TWO: &str =
     "{\"id\":1,\"text\":\"a\"}\n?5 a\n?5 a\n{\"id\":2,\"text\":\"a\"}\n{\"id\":3,\"text\":\"a\"}\n?5 a\n";
 

@@ -7,8 +7,8 @@ use std::sync::atomic::{AtomicU64, Ordering};
 use std::test::Fail;
 use std::thread;
 
-// A gate at which two first adds meet: each is held until another part added its first document, too, for at most 10,000,000
-// turns. So no hold ends if one thread does all.
+// A gate at which two first adds meet: each is held until another part added its first document,
+// too, for at most 10,000,000 turns. So no hold ends if one thread does all.
 #[derive(Drop)]
 struct Firsts {
     came: AtomicU64,
@@ -36,7 +36,7 @@ impl Gate for Firsts {
     }
 }
 
-// Documents with the ids from 1 on, and a query behind them.
+// Documents with the ids from 1 on, and a query after them.
 fn lines(alloc: Global, documents: u64) -> Result<String, AllocError> {
     let mut lines = String::new(alloc);
     for id in 0..documents {

@@ -1,18 +1,19 @@
-//! Rounds by themselves: lines are put into them and processed by `step`, over an index as a run has it.
+//! Rounds by themselves: lines are put into them and processed by `step`, over an index as a run
+//! has it.
 ghost use Rattle.std.specs.Prelude.{◌≡◌, ◌≤◌, IfOk};
-ghost use Rattle.eb_rounds.specs.Passed.{HasMark};
 
 use eb_base::{Config, OpenGate};
 use eb_engine::{Converter, Index, Reader, Writer};
 use eb_fields::Dialect;
-use eb_indexed::Counts;
 use eb_lines::{Form, LineKind, Refusal, plain_kind};
 use eb_rounds::{Input, Rounds};
+use eb_indexed::Counts;
 use std::alloc::Global;
 use std::test::Fail;
 use std::thread::Threads;
 
-// An index with its tokens, rounds that process lines over it, the number of the last line, and what was printed.
+// An index with its tokens, rounds that process lines over it, the number of the last line, and
+// what was printed.
 #[derive(Drop)]
 struct Desk {
     index: Index,
@@ -71,7 +72,8 @@ impl Desk {
         Ok(())
     }
 
-    // Takes the next line, which isn't blank, and processes what is held where it doesn't go after that.
+    // Takes the next line, which isn't blank, and processes what is held where it doesn't go after
+    // that.
     fn hold<R: Threads + Sync>(
         &mut self,
         rt: &R,
@@ -80,7 +82,6 @@ impl Desk {
     ) -> Result<(), Fail>
         requires stands { (self.old.writer.index ≡ self.old.index) × (self.old.reader.index ≡ self.old.index) × (self.old.converter.index ≡ self.old.index)
             × (self.old.rounds.greatest ≤ self.old.number) }
-        requires question_mark { HasMark input }
         ensures { (self.new.writer.index ≡ self.new.index) × (self.new.reader.index ≡ self.new.index) × (self.new.converter.index ≡ self.new.index)
             × (self.new.rounds.greatest ≤ self.new.number) }
     {
@@ -136,8 +137,9 @@ fn printed<R: Threads + Sync>(
     Ok((desk.printed, desk.rounds.counts()))
 }
 
-// Lines over an index of so many segments, documents a segment and terms; what they print, in each text that is allowed; and how many
-// documents are accepted, queries answered and lines refused.
+// Lines over an index of this many segments, documents a segment and terms; what they print, in
+// each text that is allowed; and how many documents are accepted, queries answered and lines
+// refused.
 struct Row {
     setting: (u32, u32, u32),
     lines: &'static str,
@@ -205,8 +207,8 @@ const ROWS: [Row; 8] = [
     },
 ];
 
-// Whether a row's lines print a text that is allowed, where each line is a round (then the first one), or each round takes as many as it may;
-// and are counted so.
+// Whether a row's lines print a text that is allowed, where each line is a round (then the first
+// one), or each round takes as many as it may; and are counted so.
 fn is_right<R: Threads + Sync>(
     rt: &R,
     alloc: Global,

@@ -15,9 +15,13 @@ use std::thread::Threads;
 
 const FIRST: &[u8] = b"{\"id\":1,\"text\":\"a\"}\n?5 a\n";
 
+const COUNTED: &[u8] = b"{\"id\":1,\"text\":\"a\"}\n# a\n";
+
 const SECOND: &[u8] = b"?5 b\n";
 
 const ANSWER: &str = "2 seen 1: 1\n";
+
+const WHOLE_COUNTED: &str = "2 count 1: 1\n3 seen 1:\nend: documents 1, queries 2, refused 0\n";
 
 const WHOLE: &str = "2 seen 1: 1\n3 seen 1:\nend: documents 1, queries 2, refused 0\n";
 
@@ -29,8 +33,8 @@ struct Asker<'a> {
     has_asked: bool,
 }
 
-// Copies the bytes into the front of the buffer, as many as there is room for.
-fn give(bytes: &[u8], into: &mut [u8]) -> usize
+// Copies the bytes into the start of the buffer, as many as there is room for.
+pub(crate) fn give(bytes: &[u8], into: &mut [u8]) -> usize
     ensures { result ≤ length into.old }
 {
     let count = bytes.len().min(into.len());
@@ -73,8 +77,8 @@ impl<'a> io::Write for Taker<'a> {
     }
 }
 
-// Runs between the two by this command line, where the first read gives these bytes, and gives how it ended and how many bytes
-// were taken.
+// Runs between the two by this command line, where the first read gives these bytes, and returns
+// how it ended and how many bytes were taken.
 fn run_in_turns<R: Threads + Wait + Sync>(
     rt: &R,
     alloc: Global,
@@ -107,11 +111,12 @@ fn feed_in_turns<R: Threads + Wait + Sync>(
     rt: &R,
     alloc: Global,
     line: &str,
+    first: &[u8],
 ) -> Result<(Status, u64), Fail> {
     let words = words_of(alloc, line)?;
     let taken = AtomicU64::new(0);
     let mut source = StdSource::new(Asker {
-        first: FIRST,
+        first,
         taken: &taken,
         has_asked: false,
     });
@@ -159,15 +164,49 @@ const FEED_LINES: [&str; 4] = [
 #[test]
 fn each_answer_of_a_feed_is_out_before_the_next_line_is_read(rt: HostRuntime) -> Result<(), Fail> {
     for line in FEED_LINES {
-        let left = feed_in_turns(&rt, rt.alloc(), line)?;
+        let left = feed_in_turns(&rt, rt.alloc(), line, FIRST)?;
         assert_eq!(rt; left, (Status::Done, WHOLE.len() as u64 + 8), "{line}");
+    }
+    Ok(())
+}
+
+// The lines by which runs and feeds count.
+const COUNTING_LINES: [&str; 6] = [
+    "run --terms=1024 --counts",
+    "run --terms=1024 --counts --overlap",
+    "run --terms=1024 --counts --workers=2",
+    "run --terms=1024 --counts --parts=2",
+    "run --terms=1024 --counts --parts=2 --overlap",
+    "run --terms=1024 --counts --watch",
+];
+
+const COUNTING_FEED_LINES: [&str; 4] = [
+    "--terms=1024 --counts",
+    "--terms=1024 --counts --overlap",
+    "--terms=1024 --counts --workers=2",
+    "--terms=1024 --counts --watch",
+];
+
+#[test]
+fn each_count_is_out_before_the_next_line_is_read(rt: HostRuntime) -> Result<(), Fail> {
+    for line in COUNTING_LINES {
+        let left = run_in_turns(&rt, rt.alloc(), line, COUNTED)?;
+        assert_eq!(rt; left, (Status::Done, WHOLE_COUNTED.len() as u64), "{line}");
+    }
+    for line in COUNTING_FEED_LINES {
+        let left = feed_in_turns(&rt, rt.alloc(), line, COUNTED)?;
+        assert_eq!(rt;
+            left,
+            (Status::Done, WHOLE_COUNTED.len() as u64 + 8),
+            "{line}"
+        );
     }
     Ok(())
 }
 
 const LOADED: &str = "1 seen 1: 1\n2 seen 1:\nend: documents 1, queries 2, refused 0\n";
 
-// The image of the first document, and behind it its query.
+// The image of the first document, and after it its query.
 #[test]
 fn each_answer_over_an_image_is_out_before_the_next_line_is_read(
     rt: HostRuntime,

@@ -199,7 +199,7 @@ fn words_ask_for_a_feed(rt: HostRuntime) -> Result<(), Fail> {
     Ok(())
 }
 
-// Words that say fields, beside the words of the same command without them, and the names.
+// Words that say fields, compared with the words of the same command without them, and the names.
 const FIELDS: [(&str, &str, &str); 8] = [
     ("run --fields from", "run", "from "),
     ("run --fields=from,room", "run", "from room "),

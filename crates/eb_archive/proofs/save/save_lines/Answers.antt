@@ -1,12 +1,23 @@
-use Rattle.eb_lines.proofs.Told.{ends_told, ends_mean, completes}
+use Rattle.eb_fields.specs.Dialect.{dialect_of}
+use Rattle.std.proofs.Common.{◌≡◌, [], sym, subst, ◌∙◌}
+use Rattle.eb_lines.proofs.PassingLines.{ends_at_once}
+use Rattle.eb_image.specs.Image.{head_of}
+use Rattle.eb_archive.specs.Saved.{asked}
+use Rattle.eb_archive.specs.Saving.{HasSaved}
+use Rattle.eb_archive.specs.SavingLaws.{parts_first}
+use Rattle.eb_archive.proofs.Savings.{parts_none}
 use Rattle.eb_archive.proofs.save.save_lines.Goals as goal
 
-pub returns-clause-output : goal.returns-clause-output
-returns-clause-output g c = λ bytes before source sink. ends_told _ _ _ _ c.pass_saved.result _ _ _ _ bytes c.pass_saved.ensures.ends source before sink
+pub returns-in_default-clause-ends : goal.returns-in_default-clause-ends
+returns-in_default-clause-ends g c =
+    ends_at_once _ _ _ _ (parts_first (asked (dialect_of c.args.dialect) c.args.config)) _ _ (head_of c.args.config) (parts_none (asked (dialect_of c.args.dialect) c.args.config))
 
-pub returns-clause-means : goal.returns-clause-means
-returns-clause-means g c = λ bytes source. ends_mean _ _ _ _ c.pass_saved.result _ _ _ _ bytes c.pass_saved.ensures.ends source
+pub returns-in_default-new-clause-ends : goal.returns-in_default-new-clause-ends
+returns-in_default-new-clause-ends g c = ends_at_once _ _ _ _ (parts_first (asked (dialect_of c.args.dialect) c.args.config)) _ _ (head_of c.args.config)
+    (parts_none (asked (dialect_of c.args.dialect) c.args.config))
 
-pub returns-clause-completes : goal.returns-clause-completes
-returns-clause-completes g c = λ no_read no_write bytes source short.
-    completes _ _ _ _ c.pass_saved.result _ _ _ _ _ _ bytes c.pass_saved.ensures.ends c.pass_saved.ensures.read_fault c.pass_saved.ensures.write_fault no_read no_write source short
+pub returns-clause-ends : goal.returns-clause-ends
+returns-clause-ends g c =
+    let head : c.in-Ok.head.items ≡ head_of c.args.config = c.in-Ok.ensures.items_if_clones_equal (λ x y e. e) ∙ c.write_head.ensures in
+    let a = asked (dialect_of c.args.dialect) c.args.config in
+    c.pass_lines.ensures.ends a (subst (HasSaved c.in-Ok-new.saving a []) (sym head) c.in-Ok-new.ensures)

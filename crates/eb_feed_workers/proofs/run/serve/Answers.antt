@@ -1,19 +1,16 @@
-use Rattle.eb_fields.specs.Dialect.{uncounted_of}
-use Rattle.eb_feed_workers.specs.Output.{asked}
-use Rattle.eb_feed_workers.proofs.Beginnings.{new_side, served_none}
+use Rattle.eb_fields.specs.Dialect.{dialect_of}
+use Rattle.eb_feed_workers.specs.FeedRules.{workers_rules}
+use Rattle.eb_feed_workers.proofs.FeedOffices.{new_side, opens_feed}
 use Rattle.eb_feed_workers.proofs.run.serve.Goals as goal
 
-pub pass_and_stop-requires-after_bounds : goal.pass_and_stop-requires-after_bounds
-pass_and_stop-requires-after_bounds g c = λ κs bounds.
-    let n = new_side c.args.desk.now.queues c.args.config c.args.keep c.args.side.now c.in-Some.field-0 c.requires c.in-Some.ensures.value in (
-      asked (uncounted_of c.args.dialect) c.args.config c.args.keep c.args.form,
-      served_none c.new.result _ (uncounted_of c.args.dialect) c.args.config c.args.keep c.args.form c.new.ensures.office (cc n.0) (cc n.1) (cc n.2) (cc n.3)
-          c.new.ensures.dialect c.new.ensures.form c.new.ensures.number c.new.ensures.waiting,
-    )
+pub serve_lines-status-requires : goal.serve_lines-status-requires
+serve_lines-status-requires g c =
+    let p = c.args.plan.now in
+    let n = new_side c.args.desk.now.queues p.config c.args.keep c.args.side.now c.in-Some.field-0 c.requires c.in-Some.ensures.value in
+    (workers_rules (dialect_of p.dialect) p.config c.args.keep p.form, opens_feed _ (dialect_of p.dialect) p.config c.args.keep n.0 n.1 n.2 n.3)
 
 pub returns-clause-ends : goal.returns-clause-ends
 returns-clause-ends g c =
-    let n = new_side c.args.desk.now.queues c.args.config c.args.keep c.args.side.now c.in-Some.field-0 c.requires c.in-Some.ensures.value in
-    c.pass_and_stop.ensures.ends (asked (uncounted_of c.args.dialect) c.args.config c.args.keep c.args.form)
-    (served_none c.new.result _ (uncounted_of c.args.dialect) c.args.config c.args.keep c.args.form c.new.ensures.office (cc n.0) (cc n.1) (cc n.2) (cc n.3)
-    c.new.ensures.dialect c.new.ensures.form c.new.ensures.number c.new.ensures.waiting)
+    let p = c.args.plan.now in
+    let n = new_side c.args.desk.now.queues p.config c.args.keep c.args.side.now c.in-Some.field-0 c.requires c.in-Some.ensures.value in
+    c.serve_lines-status.ensures.ends (workers_rules (dialect_of p.dialect) p.config c.args.keep p.form) (opens_feed _ (dialect_of p.dialect) p.config c.args.keep n.0 n.1 n.2 n.3)

@@ -1,11 +1,11 @@
 use Rattle.eb_fields.specs.Dialect.{Dialect, dialect_of, uncounted, uncounted_of}
-use Rattle.std.proofs.Common.{◌≡◌, ℕ, List, false, true, refl, ap, subst, sym, ◌∙◌}
+use Rattle.std.proofs.Common.{◌≡◌, ℕ, List, refl, ap, subst, sym}
 use Rattle.std.specs.Prelude.{IfOk}
 use Rattle.eb_io.specs.Lines.{line}
 use Rattle.eb_query.proofs.Heads.{begins_newest}
 use Rattle.eb_lines.specs.declared.refusal.Refusal.TheVariants.{BadLine}
 use Rattle.eb_lines.specs.Kinds.{Kind, query_line, kind_of}
-use Rattle.eb_lines.specs.Reading.{Reading, blank, refused}
+use Rattle.eb_lines.specs.Reading.{blank, refused}
 use Rattle.eb_lines.specs.Reads.{ReadsByKind, Reads}
 use Rattle.eb_lines.specs.Works.{reading_of}
 use Rattle.eb_lines.proofs.LineKinds.{reads_as}

@@ -1,12 +1,20 @@
-use Rattle.eb_lines.proofs.Told.{ends_told, ends_mean, completes}
+use Rattle.eb_fields.specs.Dialect.{dialect_of}
+use Rattle.std.proofs.Common.{refl}
+use Rattle.eb_answer.specs.Rules.{is_bad}
+use Rattle.eb_answer.specs.Sees.{exactly}
+use Rattle.eb_answer.proofs.Taking.{ends_none}
+use Rattle.eb_parts.specs.Texts.{parts_rules}
 use Rattle.eb_parts.proofs.run.run_parts.Goals as goal
 
-pub returns-clause-output : goal.returns-clause-output
-returns-clause-output g c = λ bytes before source sink. ends_told _ _ _ _ c.pass_parts.result _ _ _ _ bytes c.pass_parts.ensures.ends source before sink
+pub returns-in_default-clause-ends : goal.returns-in_default-clause-ends
+returns-in_default-clause-ends g c = ends_none is_bad exactly (parts_rules (dialect_of c.args.plan.now.dialect) c.args.parts c.args.plan.now.config c.args.plan.now.form) _ _
 
-pub returns-clause-means : goal.returns-clause-means
-returns-clause-means g c = λ bytes source. ends_mean _ _ _ _ c.pass_parts.result _ _ _ _ bytes c.pass_parts.ensures.ends source
+pub answer_lines-requires : goal.answer_lines-requires
+answer_lines-requires g c = (parts_rules (dialect_of c.args.plan.now.dialect) c.args.parts c.args.plan.now.config c.args.plan.now.form, refl, c.in-Ok.ensures (dialect_of c.args.plan.now.dialect))
 
-pub returns-clause-completes : goal.returns-clause-completes
-returns-clause-completes g c = λ no_read no_write bytes source short.
-    completes _ _ _ _ c.pass_parts.result _ _ _ _ _ _ bytes c.pass_parts.ensures.ends c.pass_parts.ensures.read_fault c.pass_parts.ensures.write_fault no_read no_write source short
+pub answer_lines_ahead-requires-clause-store : goal.answer_lines_ahead-requires-clause-store
+answer_lines_ahead-requires-clause-store g c κs within = (
+  parts_rules (dialect_of c.args.plan.now.dialect) c.args.parts c.args.plan.now.config c.args.plan.now.form,
+  refl,
+  c.in-Ok.ensures (dialect_of c.args.plan.now.dialect),
+)

@@ -1,13 +1,14 @@
-use Rattle.eb_fields.specs.Dialect.{uncounted_of}
-use Rattle.std.proofs.Common.{[], true, rules}
-use Rattle.eb_lines.proofs.PassingLines.{ends_at_once}
-use Rattle.eb_run.specs.Output.{asked}
-use Rattle.eb_run.specs.Running.{body_first}
-use Rattle.eb_run.proofs.Runs.{body_none}
+use Rattle.eb_fields.specs.Dialect.{dialect_of}
+use Rattle.std.proofs.Common.{rules}
+use Rattle.eb_answer.specs.Rules.{is_bad}
+use Rattle.eb_answer.specs.Sees.{between}
+use Rattle.eb_answer.proofs.Taking.{ends_none}
+use Rattle.eb_indexed.specs.IndexRules.{rules_of}
+use Rattle.eb_run.specs.Running.{asked}
 use Rattle.eb_run.proofs.dispatch.run_beside.Goals as goal
 
 pub returns-in_default-clause-ends : goal.returns-in_default-clause-ends
-returns-in_default-clause-ends g c = let a = asked (uncounted_of c.args.dialect) c.args.config true c.args.form in ends_at_once _ _ _ _ (body_first a) _ _ [] (body_none a)
+returns-in_default-clause-ends g c = ends_none is_bad between (rules_of (dialect_of c.args.plan.now.dialect) c.args.plan.now) _ _
 
 pub returns-clause-ends : goal.returns-clause-ends
-returns-clause-ends g c = c.pass_lines.ensures.ends (asked (uncounted_of c.args.dialect) c.args.config true c.args.form) (search rules)
+returns-clause-ends g c = c.pass_lines.ensures.ends (asked (dialect_of c.args.plan.now.dialect) c.args.plan.now.config c.args.plan.now.form) (search rules)

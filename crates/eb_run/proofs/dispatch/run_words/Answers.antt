@@ -14,8 +14,8 @@ run_workers-requires-after_bounds g c = λ κs bounds.
     few_workers (map string_bytes c.args.words.now.items) (dialect_of c.in-Ok.request.dialect) c.in-RunWorkers.workers c.in-RunWorkers.form c.in-RunWorkers.config
     (c.in-Ok.ensures.request ∙ ap (λ x. Some (asks (dialect_of c.in-Ok.request.dialect) x)) c.in-RunWorkers.is)
 
-pub run_in_parts-requires-after_bounds : goal.run_in_parts-requires-after_bounds
-run_in_parts-requires-after_bounds g c = λ κs bounds.
+pub run_parts-requires-after_bounds : goal.run_parts-requires-after_bounds
+run_parts-requires-after_bounds g c = λ κs bounds.
     few_parts (map string_bytes c.args.words.now.items) (dialect_of c.in-Ok.request.dialect) c.in-RunParts.parts c.in-RunParts.overlap c.in-RunParts.form c.in-RunParts.config
     (c.in-Ok.ensures.request ∙ ap (λ x. Some (asks (dialect_of c.in-Ok.request.dialect) x)) c.in-RunParts.is)
 

@@ -1,12 +1,12 @@
 use Rattle.eb_fields.specs.Dialect.{dialect_of}
 use Rattle.std.proofs.Common.{refl}
 use Rattle.eb_run.specs.declared.feed.command.FeedWay.TheVariants.{InOrder, Watches, Overlap}
-use Rattle.eb_run.specs.FeedOutput.{read_in, rules_of}
+use Rattle.eb_run.specs.FeedOutput.{rules_of}
 use Rattle.eb_run.proofs.Feeds.{fed_none, ended}
 use Rattle.eb_run.proofs.feed.run_lines.Goals as goal
 
 pub returns-in_default-clause-ends : goal.returns-in_default-clause-ends
-returns-in_default-clause-ends g c = fed_none c.args.command.way (read_in c.args.command.way (dialect_of c.args.dialect)) c.args.command _ _
+returns-in_default-clause-ends g c = fed_none c.args.command.way (dialect_of c.args.dialect) c.args.command _ _
 
 pub answer_watched-requires : goal.answer_watched-requires
 answer_watched-requires g c = (rules_of (dialect_of c.args.dialect) c.args.command, refl, c.in-Ok.ensures (dialect_of c.args.dialect))

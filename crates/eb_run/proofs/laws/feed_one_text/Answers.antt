@@ -1,7 +1,6 @@
 use Rattle.eb_io.specs.Lines.{lines_of}
-use Rattle.eb_run.specs.FeedOutput.{read_in}
 use Rattle.eb_run.proofs.Feeds.{one_fed}
 use Rattle.eb_run.proofs.laws.feed_one_text.Goals as goal
 
 pub returns : goal.returns
-returns c = λ how asked bytes a b settled. one_fed asked.way (read_in asked.way how) asked (lines_of bytes) a b settled
+returns c = λ how asked bytes a b settled. one_fed asked.way how asked (lines_of bytes) a b settled

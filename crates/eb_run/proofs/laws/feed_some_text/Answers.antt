@@ -1,7 +1,6 @@
 use Rattle.eb_io.specs.Lines.{lines_of}
-use Rattle.eb_run.specs.FeedOutput.{read_in}
 use Rattle.eb_run.proofs.Feeds.{some_fed}
 use Rattle.eb_run.proofs.laws.feed_some_text.Goals as goal
 
 pub returns : goal.returns
-returns c = λ how asked bytes. some_fed asked.way (read_in asked.way how) asked (lines_of bytes)
+returns c = λ how asked bytes. some_fed asked.way how asked (lines_of bytes)

@@ -1,12 +1,25 @@
-use Rattle.eb_lines.proofs.Told.{ends_told, ends_mean, completes}
+use Rattle.eb_fields.specs.Dialect.{dialect_of}
+use Rattle.std.proofs.Common.{[], refl}
+use Rattle.eb_answer.specs.Sees.{exactly}
+use Rattle.eb_answer.proofs.Taking.{ends_none}
+use Rattle.eb_indexed.proofs.Indexes.{indexed_none}
+use Rattle.eb_indexed.specs.IndexRules.{index_rules}
+use Rattle.eb_watching.specs.Others.{ReadsOther}
+use Rattle.eb_watching.specs.WatchRules.{watch_rules}
 use Rattle.eb_watching.proofs.run.run_watches.Goals as goal
 
-pub returns-clause-output : goal.returns-clause-output
-returns-clause-output g c = λ bytes before source sink. ends_told _ _ _ _ c.pass_watched.result _ _ _ _ bytes c.pass_watched.ensures.ends source before sink
+pub returns-in_default-clause-ends : goal.returns-in_default-clause-ends
+returns-in_default-clause-ends g c = ends_none ReadsOther exactly (watch_rules (dialect_of c.args.plan.now.dialect) c.args.plan.now.config c.args.plan.now.form) _ _
 
-pub returns-clause-means : goal.returns-clause-means
-returns-clause-means g c = λ bytes source. ends_mean _ _ _ _ c.pass_watched.result _ _ _ _ bytes c.pass_watched.ensures.ends source
+pub answer_watched-requires : goal.answer_watched-requires
+answer_watched-requires g c = (
+  index_rules (dialect_of c.args.plan.now.dialect) c.args.plan.now.config c.args.plan.now.form [],
+  refl,
+  indexed_none c.in-Ok.indexed
+      (dialect_of c.args.plan.now.dialect) c.args.plan.now.config c.args.plan.now.form [] c.in-Ok.ensures.holds c.in-Ok.ensures.form,
+)
 
-pub returns-clause-completes : goal.returns-clause-completes
-returns-clause-completes g c = λ no_read no_write bytes source short.
-    completes _ _ _ _ c.pass_watched.result _ _ _ _ _ _ bytes c.pass_watched.ensures.ends c.pass_watched.ensures.read_fault c.pass_watched.ensures.write_fault no_read no_write source short
+pub returns-clause-ends : goal.returns-clause-ends
+returns-clause-ends g c =
+    c.answer_watched.ensures.ends (index_rules (dialect_of c.args.plan.now.dialect) c.args.plan.now.config c.args.plan.now.form []) refl
+    (indexed_none c.in-Ok.indexed (dialect_of c.args.plan.now.dialect) c.args.plan.now.config c.args.plan.now.form [] c.in-Ok.ensures.holds c.in-Ok.ensures.form)

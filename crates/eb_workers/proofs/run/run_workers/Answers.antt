@@ -1,12 +1,21 @@
-use Rattle.eb_lines.proofs.Told.{ends_told, ends_mean, completes}
+use Rattle.eb_fields.specs.Dialect.{dialect_of}
+use Rattle.std.proofs.Common.{[], subst}
+use Rattle.eb_answer.specs.Rules.{is_bad}
+use Rattle.eb_answer.specs.Sees.{at_least}
+use Rattle.eb_answer.specs.Text.{EndsOf}
+use Rattle.eb_answer.proofs.Taking.{ends_none}
+use Rattle.eb_base.specs.Setting.{Setting}
+use Rattle.eb_indexed.specs.IndexRules.{index_rules, rules_of}
 use Rattle.eb_workers.proofs.run.run_workers.Goals as goal
 
-pub returns-clause-output : goal.returns-clause-output
-returns-clause-output g c = λ bytes before source sink. ends_told _ _ _ _ c.pass_at_desk.result _ _ _ _ bytes c.pass_at_desk.ensures.ends source before sink
+pub returns-in_default-clause-ends : goal.returns-in_default-clause-ends
+returns-in_default-clause-ends g c = ends_none is_bad at_least (rules_of (dialect_of c.args.plan.now.dialect) c.args.plan.now) _ _
 
-pub returns-clause-means : goal.returns-clause-means
-returns-clause-means g c = λ bytes source. ends_mean _ _ _ _ c.pass_at_desk.result _ _ _ _ bytes c.pass_at_desk.ensures.ends source
+pub returns-in_default-open-clause-ends : goal.returns-in_default-open-clause-ends
+returns-in_default-open-clause-ends g c = ends_none is_bad at_least (rules_of (dialect_of c.args.plan.now.dialect) c.args.plan.now) _ _
 
-pub returns-clause-completes : goal.returns-clause-completes
-returns-clause-completes g c = λ no_read no_write bytes source short.
-    completes _ _ _ _ c.pass_at_desk.result _ _ _ _ _ _ bytes c.pass_at_desk.ensures.ends c.pass_at_desk.ensures.read_fault c.pass_at_desk.ensures.write_fault no_read no_write source short
+pub returns-clause-ends : goal.returns-clause-ends
+returns-clause-ends g c =
+    subst (λ (σ : Setting). EndsOf is_bad at_least (index_rules (dialect_of c.args.plan.now.dialect) σ c.args.plan.now.form []) c.serve_beside.result
+    (g.S.Source.left c.args.source.now) (g.S.Source.left c.serve_beside.new.source) (g.K.Sink.taken c.args.out.now) (g.K.Sink.taken c.serve_beside.new.out))
+    c.in-Ok.ensures.setting c.serve_beside.ensures.ends

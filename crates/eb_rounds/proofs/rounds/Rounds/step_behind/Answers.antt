@@ -1,4 +1,4 @@
-use Rattle.eb_fields.specs.Dialect.{uncounted_of}
+use Rattle.eb_fields.specs.Dialect.{dialect_of}
 use Rattle.std.proofs.Common.{◌+◌, ◌++◌, List, ap, refl, sym, subst, ◌∙◌, arith, append_assoc}
 use Rattle.eb_base.specs.Document.{Doc}
 use Rattle.eb_engine.specs.Tokens.{HistoryToken}
@@ -10,18 +10,18 @@ use Rattle.eb_rounds.proofs.rounds.Rounds.step_behind.Goals as goal
 
 pub work_tasks-first-requires-clause-few : goal.work_tasks-first-requires-clause-few
 work_tasks-first-requires-clause-few g c κs within =
-    let long = tasks_long (uncounted_of c.args.dialect) c.args.self.now.ahead c.in_ok-ahead.ahead c.in_ok-ahead.ensures.ahead in
+    let long = tasks_long (dialect_of c.args.dialect) c.args.self.now.ahead c.in_ok-ahead.ahead c.in_ok-ahead.ensures.ahead in
     omega (arith, long, c.in_ok-ahead.ensures.few.0)
 
 pub work_tasks-then-requires-clause-few : goal.work_tasks-then-requires-clause-few
 work_tasks-then-requires-clause-few g c κs within =
-    let long = tasks_long (uncounted_of c.args.dialect) c.args.self.now.held c.in_ok-ahead.held c.in_ok-ahead.ensures.held in
+    let long = tasks_long (dialect_of c.args.dialect) c.args.self.now.held c.in_ok-ahead.held c.in_ok-ahead.ensures.held in
     omega (arith, long, c.in_ok-ahead.ensures.few.1)
 
 pub close-requires : goal.close-requires
 close-requires g c =
-    let ahead = tasks_long (uncounted_of c.args.dialect) c.args.self.now.ahead c.in_ok-ahead.ahead c.in_ok-ahead.ensures.ahead in
-    let held = tasks_long (uncounted_of c.args.dialect) c.args.self.now.held c.in_ok-ahead.held c.in_ok-ahead.ensures.held in
+    let ahead = tasks_long (dialect_of c.args.dialect) c.args.self.now.ahead c.in_ok-ahead.ahead c.in_ok-ahead.ensures.ahead in
+    let held = tasks_long (dialect_of c.args.dialect) c.args.self.now.held c.in_ok-ahead.held c.in_ok-ahead.ensures.held in
     omega (arith, ahead, held, c.work_tasks-first.ensures.few, c.work_tasks-then.ensures.few)
 
 pub returns-clause-ok : goal.returns-clause-ok
@@ -36,10 +36,10 @@ returns-clause-ok g c =
     } in
     let after = c.close.new.self.counts in
     let counts = ap (λ (x : Standing). x.counts) c.close.ensures in
-    let a = first.ensures.works (uncounted_of c.args.dialect) s.ahead c.in_ok-ahead.ensures.ahead s.counts between refl refl refl in
-    let b = last.ensures.works (uncounted_of c.args.dialect) s.held c.in_ok-ahead.ensures.held between after (omega (arith, ap (λ (k : Counted). k.documents) counts))
+    let a = first.ensures.works (dialect_of c.args.dialect) s.ahead c.in_ok-ahead.ensures.ahead s.counts between refl refl refl in
+    let b = last.ensures.works (dialect_of c.args.dialect) s.held c.in_ok-ahead.ensures.held between after (omega (arith, ap (λ (k : Counted). k.documents) counts))
     (omega (arith, ap (λ (k : Counted). k.queries) counts)) (omega (arith, ap (λ (k : Counted). k.refused) counts)) in
-    let W : List Doc → Type 0 = λ docs. WorkedOff (uncounted_of c.args.dialect) c.args.form c.args.index.now.setting s.held first.new.writer.docs docs between after b.0 in (
+    let W : List Doc → Type 0 = λ docs. WorkedOff (dialect_of c.args.dialect) c.args.form c.args.index.now.setting s.held first.new.writer.docs docs between after b.0 in (
       a.0 ++ b.0,
       record {
         docs_between = first.new.writer.docs;

@@ -1,4 +1,4 @@
-use Rattle.eb_fields.specs.Dialect.{uncounted_of}
+use Rattle.eb_fields.specs.Dialect.{dialect_of}
 use Rattle.std.proofs.Common.{◌≡◌, sym, ap, ◌∙◌, subst}
 use Rattle.eb_run.specs.Holding.{held_as}
 use Rattle.eb_run.specs.declared.running.Running.{Running}
@@ -16,7 +16,7 @@ pub returns-clause-ok : goal.returns-clause-ok
 returns-clause-ok g c =
     let r = c.requires.state in
     let after = c.make_way.ensures.on r.0 r.1 r.2 r.3 in
-    let same : uncounted_of c.make_way.new.self.dialect ≡ uncounted_of c.args.self.now.dialect = after.1.dialect ∙ sym r.3.dialect in
+    let same : dialect_of c.make_way.new.self.dialect ≡ dialect_of c.args.self.now.dialect = after.1.dialect ∙ sym r.3.dialect in
     ok_on c.put.result c.put.ensures.ok (λ f l is. goes_after c.args.self.now c.make_way.new.self c.put.new.self c.args.text.now.items c.make_way.new.text.items
     c.make_way.new.text.items l c.make_way.ensures.on (f l (ap (λ d. held_as d l) same ∙ is) c.make_way.new.text.items))
 

@@ -3,4 +3,5 @@ use Rattle.eb_workers.specs.Serving.{HasServed}
 use Rattle.eb_workers.proofs.program.WorkersProgramLineProgram.finish.Goals as goal
 
 pub returns-clause-ok : goal.returns-clause-ok
-returns-clause-ok g c = finishes_within HasServed (λ p. p.serving) c.args.self.now _ _ _ c.args.text.now.items c.finish.new.text.items c.finish.result c.finish.ensures.ok
+returns-clause-ok g c =
+    finishes_within (HasServed g.O.Office.holds g.O.Office.above) (λ p. p.serving) c.args.self.now _ _ _ c.args.text.now.items c.finish.new.text.items c.finish.result c.finish.ensures.ok

@@ -1,29 +1,35 @@
-use Rattle.std.proofs.Common.{ℕ, ◌+◌, List, refl, sym, ap, subst, ◌∙◌, arith, append-nil}
-use Rattle.std.specs.Prelude.{if◌then◌else◌}
-use Rattle.eb_lines.specs.Reading.{document, refused}
-use Rattle.eb_lines.specs.declared.refusal.Refusal.TheVariants.{Full}
-use Rattle.eb_desk.specs.Rule.{IsAboveEach}
-use Rattle.eb_desk.specs.Desk.{ClerkBook}
+use Rattle.std.proofs.Common.{None, Some, refl, subst, arith}
+use Rattle.eb_answer.specs.Stores.{Places}
 use Rattle.eb_workers.specs.declared.waiting.Waiting.TheVariants as waits
-use Rattle.eb_workers.specs.Offices.{WithPlaced}
-use Rattle.eb_workers.proofs.Servings.{served_line, above_more}
+use Rattle.eb_workers.proofs.Servings.{holding_of, few_refused, served_document}
 use Rattle.eb_workers.proofs.serving.Serving.add.Goals as goal
 
-pub returns-then-add : goal.returns-then-add
-returns-then-add g c =
-    let r = c.requires.running in
-    let d = c.args.document.now in
-    let p = subst (WithPlaced c.args.self.now.office c.add.new.self d) c.if-add.true c.add.ensures.placed in
-    served_line c.args.self.now _ (document d) waits.Nothing (document d)
-    (ap (λ b. if b then document d else refused Full) p.0) c.add.ensures.keeps p.1 refl refl refl (omega arith) (omega arith) (omega arith, omega arith)
-    (above_more _ _ (subst (λ (k : ClerkBook (List ℕ)). IsAboveEach (c.args.self.now.number + 1) k.put) (sym c.add.ensures.clerk) r.3.above)) c.push.ensures
-    (record { asks = refl; nothing = λ form number seen docs. refl })
+pub place-requires : goal.place-requires
+place-requires g c = holding_of g.O.Office.holds g.O.Office.above c.args.self.now c.requires.running
 
-pub returns-else-add : goal.returns-else-add
-returns-else-add g c =
-    let r = c.requires.running in
+pub returns-in-None-clause-ok : goal.returns-in-None-clause-ok
+returns-in-None-clause-ok g c =
+    let H = g.O.Office.holds in
+    let B = g.O.Office.above in
     let d = c.args.document.now in
-    let p = subst (WithPlaced c.args.self.now.office c.add.new.self d) c.if-add.false c.add.ensures.placed in
-    served_line c.args.self.now _ (document d) (waits.Refused Full) (refused Full) (ap (λ b. if b then document d else refused Full) p.0) c.add.ensures.keeps
-    (p.1 ∙ sym (append-nil _)) refl refl refl (omega arith) refl (omega arith, omega arith)
-    (above_more _ _ (subst (λ (k : ClerkBook (List ℕ)). IsAboveEach (c.args.self.now.number + 1) k.put) (sym c.add.ensures.clerk) r.3.above)) c.push-else-add.ensures refl
+    let placed = subst (Places H c.args.self.now.office c.place.new.self d) c.in-None.is c.in_ok-place.ensures.placed in
+    served_document H B c.args.self.now _ d None waits.Nothing refl refl c.requires.number
+    (g.met.O.Office.rises _ _ (c.in_ok-place.ensures.rises _ c.requires.running.3.is_above)) c.push.ensures placed
+    (λ rules docs. record { asks = refl; fails = refl }) (omega arith) (omega arith)
+
+pub returns-in-Some-clause-ok : goal.returns-in-Some-clause-ok
+returns-in-Some-clause-ok g c =
+    let H = g.O.Office.holds in
+    let B = g.O.Office.above in
+    let d = c.args.document.now in
+    let x = c.in-Some.refusal in
+    let placed = subst (Places H c.args.self.now.office c.place.new.self d) c.in-Some.is c.in_ok-place.ensures.placed in
+    served_document H B c.args.self.now _ d (Some x) (waits.Refused x) refl refl c.requires.number
+    (g.met.O.Office.rises _ _ (c.in_ok-place.ensures.rises _ c.requires.running.3.is_above)) c.push-in-Some.ensures
+    placed (λ rules docs. refl) (omega arith) refl
+
+pub overflow_add-self-in-Some-2 : goal.overflow_add-self-in-Some-2
+overflow_add-self-in-Some-2 g c =
+    let r = c.requires.running in
+    let few = few_refused g.O.Office.holds g.O.Office.above c.args.self.now r.0 r.1 r.2 r.3 in
+    omega (arith, few, c.requires.number)

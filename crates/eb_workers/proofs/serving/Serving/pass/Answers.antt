@@ -1,12 +1,12 @@
-use Rattle.std.proofs.Common.{refl, sym, arith, append-nil}
+use Rattle.std.proofs.Common.{refl, arith}
 use Rattle.eb_lines.specs.Reading.{blank}
 use Rattle.eb_workers.specs.declared.waiting.Waiting.TheVariants as waits
-use Rattle.eb_workers.proofs.Servings.{served_line, above_more}
+use Rattle.eb_workers.proofs.Servings.{held_none, served_line}
 use Rattle.eb_workers.proofs.serving.Serving.pass.Goals as goal
 
 pub returns : goal.returns
-returns c =
-    let r = c.requires.running in
-    served_line c.args.self.now _ blank waits.Nothing blank refl (record { staffed = r.3.staffed; index = refl }) (sym (append-nil _)) refl refl refl (omega arith) (omega arith)
-    (omega arith, omega arith)
-    (above_more _ _ r.3.above) c.push.ensures (record { asks = refl; nothing = λ form number seen docs. refl })
+returns g c =
+    let H = g.O.Office.holds in
+    let B = g.O.Office.above in
+    served_line H B c.args.self.now _ blank waits.Nothing refl refl c.requires.number (g.met.O.Office.rises _ _ c.requires.running.3.is_above) c.push.ensures
+    (λ rules docs office few start. (held_none H rules docs office, record { asks = refl; fails = refl }, omega arith, omega arith))

@@ -1,13 +1,19 @@
-use Rattle.std.proofs.Common.{refl, sym, arith, append-nil}
+use Rattle.std.proofs.Common.{refl, arith}
 use Rattle.eb_lines.specs.Reading.{refused}
 use Rattle.eb_workers.specs.declared.waiting.Waiting.TheVariants as waits
-use Rattle.eb_workers.proofs.Servings.{served_line, above_more}
+use Rattle.eb_workers.proofs.Servings.{few_refused, held_none, served_line}
 use Rattle.eb_workers.proofs.serving.Serving.refuse.Goals as goal
 
-pub returns : goal.returns
-returns c =
+pub overflow_add-self-2 : goal.overflow_add-self-2
+overflow_add-self-2 g c =
     let r = c.requires.running in
-    let x = refused c.args.refusal in
-    served_line c.args.self.now _ x (waits.Refused c.args.refusal) x refl (record { staffed = r.3.staffed; index = refl }) (sym (append-nil _)) refl refl refl (omega arith) refl
-    (omega arith, omega arith)
-    (above_more _ _ r.3.above) c.push.ensures refl
+    let few = few_refused g.O.Office.holds g.O.Office.above c.args.self.now r.0 r.1 r.2 r.3 in
+    omega (arith, few, c.requires.number)
+
+pub returns : goal.returns
+returns g c =
+    let H = g.O.Office.holds in
+    let B = g.O.Office.above in
+    let x = c.args.refusal in
+    served_line H B c.args.self.now _ (refused x) (waits.Refused x) refl refl c.requires.number (g.met.O.Office.rises _ _ c.requires.running.3.is_above) c.push.ensures
+    (λ rules docs office few start. (held_none H rules docs office, refl, omega arith, refl))

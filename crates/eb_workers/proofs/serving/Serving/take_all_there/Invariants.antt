@@ -2,4 +2,4 @@ use Rattle.eb_workers.specs.Serving.{IsFurther}
 use Rattle.eb_workers.proofs.serving.Serving.take_all_there.Given as goal
 
 abbrev pub invariant-loop : goal.invariant-loop
-invariant-loop l = IsFurther l.initial.self l.self
+invariant-loop g l = IsFurther g.O.Office.holds g.O.Office.above l.initial.self l.self

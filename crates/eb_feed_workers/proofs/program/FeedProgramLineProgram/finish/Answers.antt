@@ -1,6 +1,0 @@
-use Rattle.eb_lines.proofs.Runs.{finishes_within}
-use Rattle.eb_feed_workers.specs.Serving.{HasServed}
-use Rattle.eb_feed_workers.proofs.program.FeedProgramLineProgram.finish.Goals as goal
-
-pub returns-clause-ok : goal.returns-clause-ok
-returns-clause-ok g c = finishes_within HasServed (λ p. p.serving) c.args.self.now _ _ _ c.args.text.now.items c.finish.new.text.items c.finish.result c.finish.ensures.ok

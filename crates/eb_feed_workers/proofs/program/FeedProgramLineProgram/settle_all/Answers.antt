@@ -1,6 +1,0 @@
-use Rattle.eb_lines.proofs.Results.{ok_on}
-use Rattle.eb_feed_workers.proofs.Endings.{served_body}
-use Rattle.eb_feed_workers.proofs.program.FeedProgramLineProgram.settle_all.Goals as goal
-
-pub returns-clause-printed : goal.returns-clause-printed
-returns-clause-printed g c = ok_on c.settle_all.result c.settle_all.ensures.all (λ none a given so_far h. served_body c.settle_all.new.self a given so_far h none)
