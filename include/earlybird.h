@@ -51,7 +51,10 @@ enum {
     EB_BAD_SIZE = 14,        /* not as many words as the setting needs */
     EB_NOT_BEGUN = 15,       /* the numbers aren't those of an index that was begun, or the number of words isn't that of its setting */
     EB_BAD_HANDLE = 16,      /* a handle is closed or of the wrong type, or one that the call is to make isn't closed */
-    EB_BAD_READING = 17      /* how lines are to be read isn't as struct eb_reading has it */
+    EB_BAD_READING = 17,     /* how lines are to be read isn't as struct eb_reading has it */
+    EB_WATCH_TAKEN = 18,     /* a watch has the number of the one that is to be set */
+    EB_WATCHES_FULL = 19,    /* no watch has it, and 10,000 are set */
+    EB_NO_WATCH = 20         /* no watch has the number of the one that is to be removed */
 };
 
 /* How much of a segment is used. It has room for `docs` documents, `terms` distinct terms, 4 * terms text words (1 and the
@@ -189,7 +192,7 @@ void eb_last_segment(const struct eb_index *index, struct eb_segment *last);
 /* A handle. It is closed where it is all zero. */
 struct eb_handle {
     void *at;
-    uint32_t kind; /* 0 closed, 1 a writer, 2 a reader, 3 a converter, 4 a leader, 5 a follower, 6 a spare index, 7 a released generation */
+    uint32_t kind; /* 0 closed, 1 a writer, 2 a reader, 3 a converter, 4 a leader, 5 a follower, 6 a spare index, 7 a released generation, 8 watches */
 };
 
 /* Opens an index of this setting, as eb_words has it, without a document. Both handles are closed before. EB_BAD_SETTING,
@@ -200,6 +203,19 @@ uint32_t eb_open(struct eb_handle *writer, struct eb_handle *converter, uint32_t
  * history is as before. */
 uint32_t eb_writer_add_line(struct eb_handle *writer, const unsigned char *line, size_t line_len);
 uint32_t eb_writer_add_text(struct eb_handle *writer, uint64_t id, const unsigned char *text, size_t text_len);
+
+/* A document of many: its id, and its text, in UTF-8. */
+struct eb_text {
+    uint64_t id;
+    const unsigned char *text;
+    size_t text_len;
+};
+
+/* Adds documents one after the other, each as eb_writer_add_text_with does, until one is refused: it answers why that is. EB_OK: all are
+ * added. `added` is how many were added before the refused one, and these stay; 0 where the handle is a bad one. So after a refusal,
+ * go on from `texts + *added`, or from the next one. For languages where a call costs more than an add does. */
+uint32_t eb_writer_add_texts_with(struct eb_handle *writer, const struct eb_reading *how, const struct eb_text *texts, size_t texts_len,
+                                  uint64_t *added);
 
 /* Makes a reader, which knows all that the writer added, or all that the other reader knows. EB_NO_MEMORY. */
 uint32_t eb_reader(struct eb_handle *from, struct eb_handle *reader);
@@ -313,6 +329,8 @@ uint32_t eb_follower_count_text(struct eb_handle *follower, const unsigned char 
 /* The same where lines and texts are read so, as of eb_add_line_with and those beside it. */
 uint32_t eb_leader_add_line_with(struct eb_handle *leader, const struct eb_reading *how, const unsigned char *line, size_t line_len);
 uint32_t eb_leader_add_text_with(struct eb_handle *leader, const struct eb_reading *how, uint64_t id, const unsigned char *text, size_t text_len);
+uint32_t eb_leader_add_texts_with(struct eb_handle *leader, const struct eb_reading *how, const struct eb_text *texts, size_t texts_len,
+                                  uint64_t *added);
 uint32_t eb_follower_ask_line_with(struct eb_handle *follower, const struct eb_reading *how, const unsigned char *line, size_t line_len,
                                    uint64_t *ids, size_t ids_len, struct eb_answer *answer);
 uint32_t eb_follower_ask_text_with(struct eb_handle *follower, const struct eb_reading *how, uint32_t k, const unsigned char *text,
@@ -324,11 +342,44 @@ uint32_t eb_follower_count_text_with(struct eb_handle *follower, const struct eb
 uint32_t eb_follower_seen(struct eb_handle *follower, uint64_t *seen);
 uint32_t eb_follower_held(struct eb_handle *follower, uint64_t *held);
 
+/* ---- watches
+ *
+ * A watch is a query with a number of its own, 0 to 4,294,967,295. A set of at most 10,000 is behind a handle, apart from every index: a
+ * program asks which of them a document matches, and adds the document where it wants to. Handles are as above, and what is proved of each
+ * call is stated beside it. */
+
+/* Makes a set in which no watch is set. The handle is closed before. EB_NO_MEMORY. */
+uint32_t eb_watches(struct eb_handle *watches);
+
+/* Sets the watch of this number to a query text, as eb_ask_text has it, which is read as `how` says. EB_WATCH_TAKEN, EB_WATCHES_FULL, EB_BAD_READING,
+ * EB_BAD_TEXT, EB_BAD_QUERY and its column in the text, EB_QUERY_TOO_DEEP, EB_QUERY_TOO_LARGE, EB_NO_MEMORY. Where it isn't EB_OK, the
+ * watches are as before. `column` is 0 where it isn't EB_BAD_QUERY. */
+uint32_t eb_watch_set(struct eb_handle *watches, const struct eb_reading *how, uint32_t number, const unsigned char *text, size_t text_len,
+                      uint64_t *column);
+
+/* Removes the watch of this number. EB_NO_WATCH. */
+uint32_t eb_watch_remove(struct eb_handle *watches, uint32_t number);
+
+/* What a call reports besides the numbers of watches; all 0 where it is refused. */
+struct eb_told {
+    uint64_t count;   /* how many watches match */
+    uint64_t written; /* how many of their numbers were written: the lesser of count and numbers_len */
+};
+
+/* Tell which watches match the document of a line, or of an id and a text, which is read as of eb_add_line_with and eb_add_text_with. EB_OK:
+ * `numbers` has their numbers, rising, as many as there is room for (10,000 is always enough). Else it is what those calls would answer,
+ * but for EB_NOT_BEGUN and EB_FULL; no number is written. */
+uint32_t eb_watches_tell_line(struct eb_handle *watches, const struct eb_reading *how, const unsigned char *line, size_t line_len,
+                              uint32_t *numbers, size_t numbers_len, struct eb_told *told);
+uint32_t eb_watches_tell_text(struct eb_handle *watches, const struct eb_reading *how, uint64_t id, const unsigned char *text, size_t text_len,
+                              uint32_t *numbers, size_t numbers_len, struct eb_told *told);
+
 /* The name of what a call answers. */
 static inline const char *eb_name(uint32_t number) {
     static const char *const names[] = {
         "ok", "bad line", "long line", "bad json", "bad document", "too long", "full", "bad number", "bad query",
         "query too deep", "query too large", "bad text", "no memory", "bad setting", "bad size", "not begun", "bad handle", "bad reading",
+        "watch taken", "watches full", "no watch",
     };
     return number < sizeof names / sizeof *names ? names[number] : "unknown";
 }

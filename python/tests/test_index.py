@@ -94,7 +94,7 @@ class Calls(unittest.TestCase):
             self.assertRaises(TypeError, call, self.index)
 
     def test_names(self):
-        self.assertEqual(9, len(earlybird.__all__))
+        self.assertEqual(10, len(earlybird.__all__))
         for module in (earlybird.refusals, earlybird.shared, earlybird.stream):
             for name in module.__all__:
                 self.assertIs(getattr(module, name), getattr(earlybird, name))

@@ -1,4 +1,7 @@
 """The index that threads share: what its objects answer and refuse, and a search beside a writer."""
+import os
+import subprocess
+import sys
 import threading
 import unittest
 
@@ -24,6 +27,11 @@ class Shared(unittest.TestCase):
         reader = writer.reader()
         self.assertEqual([writer.converter.convert() for _ in range(3)], [1, 2, 2])
         self.assertEqual(list(reader.search('"a b"')), [3, 2, 1])
+
+    def test_without_the_library_one_error_alone_is_told(self):
+        words = [sys.executable, "-c", "from earlybird import Writer; Writer()"]
+        done = subprocess.run(words, env={**os.environ, "EARLYBIRD_LIBRARY": "/nowhere/libearlybird.so"}, stderr=subprocess.PIPE)
+        self.assertEqual((1, False, True), (done.returncode, b"Exception ignored" in done.stderr, b"/nowhere/libearlybird.so" in done.stderr))
 
     def test_refusals_change_nothing(self):
         writer = Writer(segments=1, docs=1, terms=1024)

@@ -19,6 +19,7 @@
 //! tested.
 
 pub use reading::Reading;
+pub use watches::Watches;
 use reading::How;
 use std::fmt;
 
@@ -26,6 +27,7 @@ mod handle;
 mod reading;
 pub mod shared;
 pub mod stream;
+mod watches;
 
 /// The most ids of an answer.
 const MOST_IDS: usize = 1000;
@@ -153,6 +155,12 @@ pub enum Refusal {
     BadHandle,
     /// A name of a [`Reading`] isn't one, or there are too many, or one stands twice.
     BadReading,
+    /// A watch has the number of the one that is to be set.
+    WatchTaken,
+    /// No watch has the number, and 10,000 are set.
+    WatchesFull,
+    /// No watch has the number of the one that is to be removed.
+    NoWatch,
 }
 
 impl Refusal {
@@ -176,6 +184,9 @@ impl Refusal {
             14 => Refusal::BadSize,
             15 => Refusal::NotBegun,
             17 => Refusal::BadReading,
+            18 => Refusal::WatchTaken,
+            19 => Refusal::WatchesFull,
+            20 => Refusal::NoWatch,
             _ => Refusal::BadHandle,
         })
     }
@@ -201,6 +212,9 @@ impl fmt::Display for Refusal {
             Refusal::NotBegun => "not begun",
             Refusal::BadHandle => "bad handle",
             Refusal::BadReading => "bad reading",
+            Refusal::WatchTaken => "watch taken",
+            Refusal::WatchesFull => "watches full",
+            Refusal::NoWatch => "no watch",
         })
     }
 }
@@ -253,6 +267,14 @@ pub struct Count {
     pub total: u64,
     /// How many of these have an id in each bucket.
     pub buckets: Vec<u64>,
+}
+
+/// The messages that an add refuses, and where each stands among them.
+fn refused<'a>(
+    messages: impl IntoIterator<Item = (u64, &'a str)>, mut add: impl FnMut(u64, &'a str) -> Result<(), Refusal>,
+) -> Vec<(usize, Refusal)> {
+    let added = messages.into_iter().map(|(id, text)| add(id, text)).enumerate();
+    added.filter_map(|(at, done)| done.err().map(|why| (at, why))).collect()
 }
 
 /// An index. Any number of threads may search it at once; who adds to it has it alone.
@@ -329,8 +351,7 @@ impl Index {
     /// # Ok::<(), Refusal>(())
     /// ```
     pub fn add_all<'a>(&mut self, messages: impl IntoIterator<Item = (u64, &'a str)>) -> Vec<(usize, Refusal)> {
-        let added = messages.into_iter().map(|(id, text)| self.add(id, text)).enumerate();
-        added.filter_map(|(at, done)| done.err().map(|why| (at, why))).collect()
+        refused(messages, |id, text| self.add(id, text))
     }
 
     /// Answers a query line, as `?10 train`, without its end.

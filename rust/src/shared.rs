@@ -3,7 +3,7 @@
 
 use crate::handle::{Handle, Room, Side};
 use crate::reading::How;
-use crate::{counted, Answer, Count, Counted, Reading, Refusal, Told};
+use crate::{counted, refused, Answer, Count, Counted, Reading, Refusal, Told};
 use std::sync::Arc;
 
 extern "C" {
@@ -84,6 +84,18 @@ impl Writer {
     pub fn add(&mut self, id: u64, text: &str) -> Result<(), Refusal> {
         // SAFETY: a handle that no other call has, and the bytes of a text.
         Refusal::of(unsafe { eb_writer_add_text_with(self.side.at(), &self.reading.how(), id, text.as_ptr(), text.len()) }, 0)
+    }
+
+    /// Adds messages in order, and goes on after a refusal. Answers the refused ones: where each stands among the messages, from 0,
+    /// and why. Each can be found before the next is taken.
+    ///
+    /// ```
+    /// let (mut writer, _converter) = earlybird::shared::open(1, 1, 1024)?;
+    /// assert_eq!(writer.add_all([(7, "hello"), (8, "again")]), [(1, earlybird::Refusal::Full)]);
+    /// # Ok::<(), earlybird::Refusal>(())
+    /// ```
+    pub fn add_all<'a>(&mut self, messages: impl IntoIterator<Item = (u64, &'a str)>) -> Vec<(usize, Refusal)> {
+        refused(messages, |id, text| self.add(id, text))
     }
 
     /// Adds the message of a line of JSON, without its end.

@@ -4,7 +4,7 @@
 use crate::handle::{Handle, Room, Side};
 use crate::shared::Converter;
 use crate::reading::How;
-use crate::{counted, Answer, Count, Counted, Reading, Refusal, Told};
+use crate::{counted, refused, Answer, Count, Counted, Reading, Refusal, Told};
 use std::sync::Arc;
 
 extern "C" {
@@ -88,6 +88,18 @@ impl Leader {
     pub fn add(&mut self, id: u64, text: &str) -> Result<(), Refusal> {
         // SAFETY: a handle that no other call has, and the bytes of a text.
         Refusal::of(unsafe { eb_leader_add_text_with(self.side.at(), &self.reading.how(), id, text.as_ptr(), text.len()) }, 0)
+    }
+
+    /// Adds messages in order, and goes on after a refusal. Answers the refused ones: where each stands among the messages, from 0,
+    /// and why. Each can be found before the next is taken.
+    ///
+    /// ```
+    /// let mut leader = earlybird::stream::open(1, 10, 1024, 2)?;
+    /// assert_eq!(leader.add_all([(7, "hello"), (8, "again")]), []);
+    /// # Ok::<(), earlybird::Refusal>(())
+    /// ```
+    pub fn add_all<'a>(&mut self, messages: impl IntoIterator<Item = (u64, &'a str)>) -> Vec<(usize, Refusal)> {
+        refused(messages, |id, text| self.add(id, text))
     }
 
     /// Adds the message of a line of JSON, without its end, as [`Leader::add`] does.

@@ -35,6 +35,16 @@ fn refusals_change_nothing() -> Result<(), Refusal> {
 }
 
 #[test]
+fn many_are_added_in_order() -> Result<(), Refusal> {
+    let (mut writer, _converter) = open(1, 3, 1024)?;
+    let long = "w ".repeat(1025);
+    let messages = [(1, "a"), (2, long.as_str()), (3, "a"), (4, "a"), (5, "a")];
+    assert_eq!(writer.add_all(messages), [(1, Refusal::TooLong), (4, Refusal::Full)]);
+    assert_eq!(writer.reader()?.search(10, "a")?.ids, [4, 3, 1]);
+    Ok(())
+}
+
+#[test]
 fn each_goes_to_a_thread_of_its_own() -> Result<(), Refusal> {
     fn goes<T: Send>(_: &T) {}
     let (mut writer, converter): (Writer, Converter) = open(1, 10, 1024)?;

@@ -228,12 +228,6 @@ function check_list(option, value,    list, n, i, seen) {
 function check_together(    names, n, list, m, i, k, one, other) {
     # (in the order of the table, so that the same words get the same reason on each machine)
     n = split(takes[name], names, " ")
-    for (i = 1; i <= n; i++) for (k = 1; k <= n; k++) if (names[i] in given && names[k] in given && ((name " " names[i] " " names[k]) in unless)) {
-        other = unless[name " " names[i] " " names[k]]
-        if (other in given) continue
-        say("--" names[i] " and --" names[k] " are given together only beside --" other ": leave one of them out")
-        return
-    }
     for (i = 1; i <= n; i++) if (names[i] in given && ((name " " names[i]) in apart)) {
         one = names[i]
         m = split(apart[name " " one], list, " ")

@@ -17,7 +17,7 @@ pub adds_read : (σ : Setting) (docs : List Doc) (read r : Result Doc Refusal) (
 adds_read σ docs read r number i words (inl none) n h = inl (n ∙ ap (number_after σ docs) none, subst (λ (x : Result Doc Refusal). Holds i words (docs_after σ docs x)) none h)
 adds_read σ docs read r number i words (inr same) n h = inr (n ∙ ap (number_after σ docs) same, subst (λ (x : Result Doc Refusal). Holds i words (docs_after σ docs x)) same h)
 
--- the words and the numbers of an index that has one document more
+-- the words and the numbers of an index that has one more document
 pub with_added : (σ : Setting) (docs : List Doc) (d : Doc) (placed : Bool) (i : Index) (words : List ℕ) (f : Flat) (n : Moment) → placed ≡ true → has_room σ docs d ≡ true → i.mark ≡ 0x6561_726c
     → StandsFor f n → PlacerStands (progress_of i) n → n.documents.accepted ≡ docs ++ d ∷ [] → words ≡ f.words → WithAdded σ docs d placed i words
 with_added σ docs d placed i words f n taken room mark image placer accepted same =

@@ -1,4 +1,4 @@
--- What is counted, and what a count tells.
+-- What is counted, and what a count reports.
 use Rattle.std.proofs.Common.{◌≡◌, ◌⊎◌, ℕ, zero, suc, ◌<◌, ◌≤◌, max, List, length, get_or, replicate, inl, inr, refl, ap, ◌∙◌, arith}
 use Rattle.std.proofs.lemmas.List.{length-replicate, get_or-replicate}
 use Rattle.eb_base.specs.Document.{Doc}

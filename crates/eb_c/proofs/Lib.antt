@@ -4,3 +4,6 @@ pub mod Sealing
 pub mod Sharings
 pub mod Counted
 pub mod Dialected
+pub mod Watched
+pub mod WatchesCrossing
+pub mod UnderWay

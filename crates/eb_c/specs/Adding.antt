@@ -57,11 +57,11 @@ abbrev pub document_in_by : Dialect → List ℕ → Result Doc Refusal
 document_in_by how line =
     if is_long line then Err refusal.LongLine else (if begins_with 123 line then or_refused (doc.document_with how line) else Err refusal.BadLine)
 
--- the document of an id and a text, which is cut by it
+-- the document of an id and a text, which is cut by the dialect
 abbrev pub document_by : Dialect → ℕ → List ℕ → Result Doc Refusal
 document_by how id text = if is_utf8 text then or_refused (message id (tokens_by how.cut text)) else Err refusal.BadText
 
--- what is read by this, or that it says nothing how
+-- what is read by this; or it doesn't say how to read
 abbrev pub read_by : (Dialect → Result Doc Refusal) → Option Dialect → Result Doc Refusal
 read_by read None = Err refusal.BadReading
 read_by read (Some how) = read how
@@ -87,18 +87,21 @@ docs_after σ docs (Err r) = docs
 
 -- ---- between two calls
 
--- what placing a document after those of a moment comes to: the words and the placer have it, or there was no room
+-- what placing a document after those of a moment leaves: the words and the placer have it, or
+-- there was no room
 abbrev pub WithPlaced : Moment → Flat → PlacerProgress → Doc → Bool → Type 0
 WithPlaced m f p d true =
     (has_room m.setting m.documents.accepted d ≡ true) × (n : Moment) × StandsFor f n × PlacerStands p n × (n.documents.accepted ≡ m.documents.accepted ++ d ∷ [])
 WithPlaced m f p d false = has_room m.setting m.documents.accepted d ≡ false
 
--- what adding a document after these comes to: the index has it, or there was no room and it is as before
+-- what adding a document after these leaves: the index has it, or there was no room and it is as
+-- before
 abbrev pub WithAdded : Setting → List Doc → Doc → Bool → Index → List ℕ → Type 0
 WithAdded σ docs d true i words = (has_room σ docs d ≡ true) × Holds i words (docs ++ d ∷ [])
 WithAdded σ docs d false i words = (has_room σ docs d ≡ false) × Holds i words docs
 
--- what a call answers that adds what it read, and what the index holds then; it may have had no memory to read it
+-- what a call answers that adds what it read, and what the index holds then; it may have had no
+-- memory to read it
 abbrev pub Adds : Result Doc Refusal → List Doc → Setting → ℕ → Index → List ℕ → Type 0
 Adds r docs σ number i words = ((number ≡ refusal_number refusal.NoMemory) × Holds i words docs)
     ⊎ ((number ≡ number_after σ docs r) × Holds i words (docs_after σ docs r))

@@ -1,20 +1,18 @@
 -- How lines and texts are read, as a caller says it.
 use Rattle.std.specs.Prelude.{ℕ, ◌==◌, ◌&&◌, List, [], ◌∷◌, Option, Some, None, option_map, option_and_then, if◌then◌else◌}
-use Rattle.std.specs.Borrow.{Bor}
 use Rattle.std.specs.Str.{is_utf8}
 use Rattle.eb_text.specs.declared.cutting.Cut.{Cut}
 use Rattle.eb_text.specs.declared.cutting.Cut.TheVariants.{Words, Pieces}
 use Rattle.eb_fields.specs.Dialect.{Dialect, plain}
-use Rattle.eb_fields.specs.Fields.{is_field_list, names, names_in}
-use Rattle.eb_fields.specs.declared.fields.Fields.{Fields}
+use Rattle.eb_fields.specs.Fields.{is_field_list, names_in}
 use Rattle.eb_c.specs.declared.dialects.Reading.{Reading}
 
--- the names of fields, with commas between; none where nothing stands there
+-- the names of fields, with commas between; none where the text is empty
 abbrev pub names_by : List ℕ → Option (List (List ℕ))
 names_by [] = Some []
 names_by (b ∷ bs) = if is_utf8 (b ∷ bs) && is_field_list (b ∷ bs) then Some (names_in (b ∷ bs)) else None
 
--- the name of a member; the usual one where nothing stands there
+-- the name of a member; the usual one where the text is empty
 abbrev pub member_by : List ℕ → Option (Option (List ℕ))
 member_by [] = Some None
 member_by (b ∷ bs) = if is_utf8 (b ∷ bs) then Some (Some (b ∷ bs)) else None
@@ -28,10 +26,3 @@ abbrev pub dialect_by : Reading → Option Dialect
 dialect_by how =
     option_and_then (λ names. option_and_then (λ cut. option_and_then (λ id. option_map (λ text. record plain { names = names; cut = cut; id = id; text = text })
     (member_by how.text.now)) (member_by how.id.now)) (cut_by how.words)) (names_by how.fields.now)
-
--- as the code has them
-abbrev pub told_fields : Option Fields → Option (List (List ℕ))
-told_fields fields = option_map names fields
-
-abbrev pub told_member : Option (Option (Bor (List ℕ))) → Option (Option (List ℕ))
-told_member member = option_map (λ (name : Option (Bor (List ℕ))). option_map (λ (text : Bor (List ℕ)). text.now) name) member

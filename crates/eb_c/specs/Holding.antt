@@ -17,11 +17,12 @@ setting_of i = record { segments = i.segments; docs = i.docs; terms = i.terms }
 abbrev pub used_of : Segment → Used
 used_of s = record { documents = s.documents; terms = s.terms; text = s.text; pool0 = s.pool0; pool1 = s.pool1; pool2 = s.pool2; pool3 = s.pool3 }
 
--- how far the placer came
+-- how far the placer is
 abbrev pub progress_of : Index → PlacerProgress
 progress_of i = record { setting = setting_of i; segments = i.begun; documents = i.documents; used = used_of i.last }
 
--- what a call can test: the mark of an index that was begun (`earl`), an allowed setting, and so many words as it needs
+-- what a call can test: the mark of an index that was begun (`earl`), an allowed setting, and as
+-- many words as it needs
 pub record IsBegunIndex (i : Index) (n : ℕ) : Type 0 where
   pub mark : i.mark ≡ 0x6561_726c
   pub setting : IsSetting (setting_of i)

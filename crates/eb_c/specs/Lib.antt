@@ -6,4 +6,6 @@ pub mod Asking
 pub mod Sealing
 pub mod Sharing
 pub mod Streaming
+pub mod AddingMany
 pub mod Counting
+pub mod Watching

@@ -21,3 +21,6 @@ refusal_number refusal.BadSetting = 13
 refusal_number refusal.BadSize = 14
 refusal_number refusal.NotBegun = 15
 refusal_number refusal.BadReading = 17
+refusal_number refusal.WatchTaken = 18
+refusal_number refusal.WatchesFull = 19
+refusal_number refusal.NoWatch = 20

@@ -2,10 +2,10 @@
 use Rattle.std.specs.Prelude.{◌≡◌, ◌⊎◌, ℕ, Option, Some, None}
 use Rattle.eb_engine.specs.Tokens.{HistoryToken, ConverterToken}
 use Rattle.eb_c.specs.declared.held.Held.{Held}
-use Rattle.eb_c.specs.declared.held.Held.TheVariants.{Writer, Reader, Converter, Leader, Follower, FeedConverter, Spare, Released}
+use Rattle.eb_c.specs.declared.held.Held.TheVariants.{Writer, Reader, Converter, Leader, Follower, FeedConverter, Spare, Released, Watches}
 
--- 0: nothing; 1: a writer; 2: a reader; 3: a converter, also of a generation of a feed; 4: a leader; 5: a follower; 6: a spare index;
--- 7: a generation that a feed let go
+-- 0: nothing; 1: a writer; 2: a reader; 3: a converter, also of a generation of a feed; 4: a
+-- leader; 5: a follower; 6: a spare index; 7: a generation that a feed dropped; 8: watches
 abbrev pub kind_of : Option Held → ℕ
 kind_of None = 0
 kind_of (Some (Writer w)) = 1
@@ -16,6 +16,7 @@ kind_of (Some (Follower f)) = 5
 kind_of (Some (FeedConverter c)) = 3
 kind_of (Some (Spare s)) = 6
 kind_of (Some (Released p)) = 7
+kind_of (Some (Watches w)) = 8
 
 -- it is closed
 abbrev pub LeadsNowhere : Option Held → Type 0
@@ -29,7 +30,8 @@ LeadsToWriter h w = h ≡ Some (Writer w)
 abbrev pub LeadsToReader : Option Held → HistoryToken → Type 0
 LeadsToReader h r = h ≡ Some (Reader r)
 
--- it is the converter of this index, by itself or as a generation of a feed, which converted so many segments
+-- it is the converter of this index, by itself or as a generation of a feed, which converted this
+-- many segments
 abbrev pub IsConverter : Held → ConverterToken → Type 0
 IsConverter h c = (h ≡ Converter c) ⊎ (h ≡ FeedConverter c)
 

@@ -27,11 +27,12 @@ LeadsToFollower h f = h ≡ Some (Follower f)
 abbrev pub LeadsToSpare : Option Held → Words → Type 0
 LeadsToSpare h s = h ≡ Some (Spare (Some s))
 
--- it leads to a generation that a feed let go
+-- it leads to a generation that a feed dropped
 abbrev pub LeadsToReleased : Option Held → PieceToken → Type 0
 LeadsToReleased h p = h ≡ Some (Released p)
 
--- after it was lent, it leads to another one of this setting, which was lent before it, or to nothing
+-- after it was lent, it leads to another one of this setting, which was lent before it, or to
+-- nothing
 abbrev pub LeadsBack : Option Held → Setting → Type 0
 LeadsBack h σ = (h ≡ None) ⊎ ((s : Words) × LeadsToSpare h s × (s.setting ≡ σ))
 
@@ -48,16 +49,16 @@ pub record Takes (old new : WriterToken) (d : Doc) : Type 0 where
   pub generations : generations_of new.feed.log new.feed.docs ≡ with_generation old.setting (generations_of old.feed.log old.feed.docs) d
   pub history : (history : List Doc) → HasTaken old history → HasTaken new (history ++ d ∷ [])
 
--- what an add answers that read this, and what the leader has then: a document is refused only for want of memory for another
--- generation, where the newest has no room for it
+-- what an add that read this answers, and what the leader has then: a document is refused only
+-- where memory runs out for another generation, where the newest has no room for it
 abbrev pub LeaderAdds : Result Doc Refusal → WriterToken → ℕ → WriterToken → Type 0
 LeaderAdds (Ok d) old number new =
     ((number ≡ 0) × Takes old new d) ⊎ ((number ≡ refusal_number refusal.NoMemory) × (has_room old.setting old.feed.docs d ≡ false) × (new ≡ old))
 LeaderAdds (Err r) old number new = (number ≡ refusal_number r) × (new ≡ old)
 
--- what a follower knows that took in what it was told: of the same feed the turns that it knew, if not more, and all that it knew of
--- the history, unless it has lapsed; the closed generations that it knew at any rate, and where no turn is new, the documents of the
--- newest one
+-- what a follower knows that took its news in: of the same feed at least the turns that it knew,
+-- and all that it knew of the history, unless it has lapsed; the closed generations that it knew in
+-- any case, and where no turn is new, the documents of the newest one
 pub record Hears (old new : FeedToken) : Type 0 where
   pub book : new.book ≡ old.book
   pub turns : IsPrefix old.log new.log
@@ -65,7 +66,7 @@ pub record Hears (old new : FeedToken) : Type 0 where
   pub closed : IsPrefix (history_of old.log []) (history_of new.log new.docs)
   pub newest : new.log ≡ old.log → IsPrefix old.docs new.docs
 
--- what a follower knows that searched: of its newest generation the documents that it knew, if not more
+-- what a follower knows that searched: of its newest generation at least the documents that it knew
 pub record Learns (old new : FeedToken) : Type 0 where
   pub book : new.book ≡ old.book
   pub log : new.log ≡ old.log
@@ -77,11 +78,12 @@ abbrev pub Follows : Asked → FeedToken → FeedToken → Type 0
 Follows (asks k q) old new = (heard : FeedToken) × Hears old heard × Learns heard new
 Follows (refused r column) old new = new ≡ old
 
--- what an ask of a follower tells that knows this then: over the generations that it holds, and how many documents it knows
+-- what an ask of a follower that knows this then reports: over the generations that it holds, and
+-- how many documents it knows
 abbrev pub FollowerTells : FeedToken → Asked → ℕ → Answer → List ℕ → List ℕ → Type 0
 FollowerTells f asked number a old new = TellsOver (counted (history_of f.log f.docs)) (stretch_of f.held f.log f.docs) asked number a old new
 
--- so for what is asked, or it is refused since there was no memory for it
+-- the same for what is asked, or it is refused since memory ran out for it
 abbrev pub FollowerAnswers : (Asked → Type 0) → FeedToken → FeedToken → ℕ → Answer → List ℕ → List ℕ → Type 0
 FollowerAnswers IsAsked before after number a old new =
     (x : Asked) × ((x ≡ refused refusal.NoMemory 0) ⊎ IsAsked x) × Follows x before after × FollowerTells after x number a old new

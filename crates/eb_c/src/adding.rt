@@ -27,7 +27,8 @@ fn place(words: &mut LentWordsMut<'_>, placer: &mut Placer, document: &Document)
     }
 }
 
-// Adds a document to an index of this setting. False exactly where there is no room for it; all is then as before.
+// Adds a document to an index of this setting. False exactly where there is no room for it; all is
+// then as before.
 fn add(words: &mut [u64], index: &mut Index, config: Config, document: &Document) -> bool
     requires setting { config ≡ setting_of index.old }
     requires kept { IsIndex index.old words.old }

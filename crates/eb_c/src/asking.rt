@@ -19,7 +19,7 @@ use eb_search::search;
 use std::marker::Brand;
 use std::sync::ledger::{Blank, Ledger};
 
-// What is told of a question that is refused.
+// What is reported of a question that is refused.
 pub(crate) fn refused(column: u64) -> Answer
     ensures { result ≡ nothing_told column }
 {
@@ -31,7 +31,7 @@ pub(crate) fn refused(column: u64) -> Answer
     }
 }
 
-// Searches all accepted documents, and gives their number.
+// Searches all accepted documents, and returns their number.
 fn search_words<L: Ledger>(words: &[u64], config: Config, frame: &mut Frame, blank: Blank) -> u64
     requires blank { (blank.name ≡ L.name) × (blank.parts ≡ L.parts) × (0 < blank.parts) }
     requires words { (m : Moment) × StandsFor (record { setting = config; words = words.now }) m }
@@ -44,7 +44,8 @@ fn search_words<L: Ledger>(words: &[u64], config: Config, frame: &mut Frame, bla
     search(&mut port, frame, &OpenGate, &mut steps)
 }
 
-// Writes the first of the ids, as many as there is room for, and tells of them and over how many documents they are.
+// Writes the first of the ids, as many as there is room for, and reports how many there are and
+// over how many documents.
 pub(crate) fn put_ids(found: &[u64], seen: u64, ids: &mut [u64], answer: &mut Answer)
     ensures ids { ids.new ≡ written found.now ids.old }
     ensures answer { answer.new ≡ ids_told seen found.now (length ids.old) }
@@ -59,7 +60,8 @@ pub(crate) fn put_ids(found: &[u64], seen: u64, ids: &mut [u64], answer: &mut An
     };
 }
 
-// Answers what was read of a question, over an index that was begun: 0, or the number of the refusal.
+// Answers what was read of a question, over an index that was begun: 0, or the number of the
+// refusal.
 pub(crate) fn ask_read(
     words: &[u64],
     index: &Index,

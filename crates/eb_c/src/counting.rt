@@ -22,11 +22,12 @@ use std::alloc::Global;
 use std::marker::Brand;
 use std::sync::ledger::{Blank, Ledger};
 
-/// What a call that counts tells beside the numbers of the buckets.
+/// What a call that counts reports besides the numbers of the buckets.
 #[repr(C)]
 #[derive(Clone, Copy, Debug, PartialEq, Eq)]
 pub struct Count {
-    /// How many documents were accepted; the count is over all of them. 0 where the call is refused.
+    /// How many documents were accepted; the count is over all of them. 0 where the call is
+    /// refused.
     pub seen: u64,
     /// How many of them match. 0 where the call is refused.
     pub total: u64,
@@ -88,7 +89,7 @@ pub(crate) fn prepare(alloc: Global, read: Question, axis: Axis, number: usize) 
     }
 }
 
-// Counts over all accepted documents, and gives their number.
+// Counts over all accepted documents, and returns their number.
 fn count_words<L: Ledger>(
     words: &[u64],
     config: Config,
@@ -107,7 +108,7 @@ fn count_words<L: Ledger>(
     count_on(&mut port, frame, tally, &OpenGate, &mut steps)
 }
 
-// Writes what was counted over these documents, and tells it.
+// Writes what was counted over these documents, and reports it.
 pub(crate) fn put_counts(tally: &Tally, seen: u64, buckets: &mut [u64], count: &mut Count)
     requires { length tally.now.buckets ≡ length buckets.old }
     ensures count { count.new ≡ record { seen = seen; total = tally.now.total; column = 0 } }
@@ -121,7 +122,8 @@ pub(crate) fn put_counts(tally: &Tally, seen: u64, buckets: &mut [u64], count: &
     };
 }
 
-// Counts what was read of a question, over an index that was begun: 0, or the number of the refusal.
+// Counts what was read of a question, over an index that was begun: 0, or the number of the
+// refusal.
 pub(crate) fn count_read(
     words: &[u64],
     index: &Index,

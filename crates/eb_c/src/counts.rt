@@ -17,11 +17,13 @@ use crate::index::Index;
 use crate::reading::question_in_text;
 use std::alloc::Global;
 
-/// Counts the matches of a query text, which is UTF-8, among all accepted documents: 0, and `count` tells how many there
-/// are; of each bucket, how many of them have an id that is at least the start and as many widths as buckets stand before
-/// it, and less than one width more. Else it is the number of the refusal, no number is written, and `count` tells the column
-/// of a bad query, counted in the text; 7 where there are buckets of width 0. Without buckets start and width aren't read.
-/// Numbers stay at 2^64 - 1. Takes memory for the query and the numbers, which is given back.
+/// Counts the matches of a query text, which is UTF-8, among all accepted documents: 0, and `count`
+/// reports how many there are. Each bucket's number is how many of them have an id that is at least
+/// the start and as many widths as there are buckets before it, and less than one width more. Else
+/// the result is the number of the refusal, no number is written, and `count` reports the column of
+/// a bad query, counted in the text; 7 where there are buckets of width 0. Without buckets start
+/// and width aren't read. Numbers stay at 2^64 - 1. Takes memory for the query and the numbers,
+/// which is given back.
 #[unsafe(no_mangle)]
 pub extern "C" fn eb_count_text(
     alloc: Global,
@@ -43,8 +45,9 @@ pub extern "C" fn eb_count_text(
     count_read(words, index, asked, axis, buckets, count)
 }
 
-/// Counts as `eb_count_text` does, over all documents that are accepted when the call counts them, which begin with all that
-/// this reader knew; it knows them from then on. 16 where the handle leads to no reader.
+/// Counts as `eb_count_text` does, over all documents that are accepted when the call counts them.
+/// All that this reader knew are a prefix of them, and it knows them from then on. 16 where the
+/// handle isn't that of a reader.
 #[unsafe(no_mangle)]
 pub extern "C" fn eb_reader_count_text(
     alloc: Global,
@@ -66,7 +69,8 @@ pub extern "C" fn eb_reader_count_text(
     count_by_reader(alloc, reader, asked, axis, buckets, count)
 }
 
-// Counts what is to be counted: 0, or the number of the refusal; 16 where the handle leads to no reader.
+// Counts what is to be counted: 0, or the number of the refusal; 16 where the handle isn't that of
+// a reader.
 pub(crate) fn count_by_reader(
     alloc: Global,
     reader: &mut Handle,
@@ -92,6 +96,7 @@ pub(crate) fn count_by_reader(
     number
 }
 
+// Counts what is to be counted, by what the handle leads to.
 fn count_read_by(
     held: &mut Held,
     asked: Counting,
@@ -125,10 +130,11 @@ fn count_read_by(
     }
 }
 
-/// Takes in what this follower was told, and counts as `eb_count_text` does, over the generations that it then holds: those
-/// that its feed keeps, as far as it knows them, and of the newest of them the documents that are accepted when the call
-/// counts them. `count` tells how many documents stand in the history that the follower knows then. Where it isn't 0, the
-/// follower is as before; 16 where the handle leads to no follower.
+/// Takes in this follower's news, and counts as `eb_count_text` does, over the generations that it
+/// then holds: those that its feed keeps, as far as it knows them, and of the newest of them the
+/// documents that are accepted when the call counts them. `count` reports how many documents are in
+/// the history that the follower knows then. Where the result isn't 0, the follower is as before;
+/// 16 where the handle isn't that of a follower.
 #[unsafe(no_mangle)]
 pub extern "C" fn eb_follower_count_text(
     alloc: Global,
@@ -150,7 +156,8 @@ pub extern "C" fn eb_follower_count_text(
     count_by_follower(alloc, follower, asked, axis, buckets, count)
 }
 
-// Counts what is to be counted: 0, or the number of the refusal; 16 where the handle leads to no follower.
+// Counts what is to be counted: 0, or the number of the refusal; 16 where the handle isn't that of
+// a follower.
 pub(crate) fn count_by_follower(
     alloc: Global,
     follower: &mut Handle,
@@ -176,6 +183,7 @@ pub(crate) fn count_by_follower(
     number
 }
 
+// Counts what is to be counted, by what the handle leads to.
 fn count_heard_by(
     held: &mut Held,
     asked: Counting,

@@ -16,7 +16,8 @@ use crate::refusal::Refusal;
 use eb_writer::Placer;
 use std::alloc::Global;
 
-/// How many words an index of this setting has; 0 where the numbers are no setting. Takes no memory.
+/// How many words an index of this setting has; 0 where the numbers aren't a setting. Takes no
+/// memory.
 #[unsafe(no_mangle)]
 pub extern "C" fn eb_words(segments: u32, docs: u32, terms: u32) -> u64
     ensures words { let σ : Setting = record { segments = segments; docs = docs; terms = terms } in IsSetting σ → result ≡ words_of σ }
@@ -28,8 +29,9 @@ pub extern "C" fn eb_words(segments: u32, docs: u32, terms: u32) -> u64
     }
 }
 
-/// Begins an index of this setting without a document, in exactly as many words as it has, whatever stood in them and
-/// in the numbers. Else it answers `BadSetting` or `BadSize`, and all is as before. Takes no memory.
+/// Begins an index of this setting without a document, in exactly as many words as it has, whatever
+/// the words and the numbers were. Else the result is `BadSetting` or `BadSize`, and all is as
+/// before. Takes no memory.
 #[unsafe(no_mangle)]
 pub extern "C" fn eb_begin(
     words: &mut [u64],
@@ -58,9 +60,10 @@ pub extern "C" fn eb_begin(
     0
 }
 
-/// Adds the document of a document line, the bytes of one line without its end: 0 where it is accepted, after those
-/// before it, else the number of its refusal, and all is as before. `Full` comes exactly where there is no room for
-/// the document. Takes memory while it reads, which is given back.
+/// Adds the document of a document line, the bytes of one line without its end: 0 where it is
+/// accepted, after those before it, else the number of its refusal, and all is as before. `Full`
+/// comes exactly where there is no room for the document. Takes memory while it reads, which is
+/// given back.
 #[unsafe(no_mangle)]
 pub extern "C" fn eb_add_line(
     alloc: Global,
@@ -95,10 +98,11 @@ pub extern "C" fn eb_add_text(
     add_read(words, index, document_with(alloc, id, text))
 }
 
-/// Answers a query line, the bytes of one line without its end, over all accepted documents: 0, and the ids of the
-/// newest that match, newest first, as many as there is room for; `answer` tells how many there are. Else it is the
-/// number of the refusal, no id is written, and `answer` tells the column of a bad query. Takes memory for the query and
-/// its search, which is given back.
+/// Answers a query line, the bytes of one line without its end, over all accepted documents: 0, and
+/// the ids of the newest that match, newest first, as many as there is room for; `answer` reports
+/// how many there are. Else the result is the number of the refusal, no id is written, and `answer`
+/// reports the column of a bad query. Takes memory for the query and its search, which is given
+/// back.
 #[unsafe(no_mangle)]
 pub extern "C" fn eb_ask_line(
     alloc: Global,
@@ -115,8 +119,8 @@ pub extern "C" fn eb_ask_line(
     ask_read(words, index, question_in_line(alloc, line), ids, answer)
 }
 
-/// Answers a query text, which is UTF-8, of which the newest `k` matches are wanted, as `eb_ask_line` does. The column
-/// of a bad query is counted in the text.
+/// Answers a query text, which is UTF-8, of which the newest `k` matches are wanted, as
+/// `eb_ask_line` does. The column of a bad query is counted in the text.
 #[unsafe(no_mangle)]
 pub extern "C" fn eb_ask_text(
     alloc: Global,

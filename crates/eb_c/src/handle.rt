@@ -12,8 +12,9 @@ use std::mem;
 // What a call answers where a handle isn't of the kind that it takes.
 pub(crate) const BAD_HANDLE: u32 = 16;
 
-/// A handle: it leads to a writer (1), to a reader (2), to a converter (3), to a leader (4), to a follower (5), to a spare index
-/// (6), to a generation that was let go (7), or to nothing (0, and it is closed).
+/// A handle: it leads to a writer (1), to a reader (2), to a converter (3), to a leader (4), to a
+/// follower (5), to a spare index (6), to a generation that a feed dropped (7), to watches (8), or
+/// to nothing (0, and it is closed).
 #[repr(C)]
 #[derive(Drop)]
 pub struct Handle {
@@ -22,6 +23,7 @@ pub struct Handle {
     ghost kind_is: { kind ≡ kind_of seal.held },
 }
 
+// The number of the kind of what a handle leads to.
 fn kind(held: &Held) -> u32
     ensures { result ≡ kind_of (Some held.now) }
 {
@@ -33,10 +35,12 @@ fn kind(held: &Held) -> u32
         Held::Follower(_) => 5,
         Held::Spare(_) => 6,
         Held::Released(_) => 7,
+        Held::Watches(_) => 8,
     }
 }
 
 impl Handle {
+    // A closed handle.
     pub(crate) fn closed(alloc: Global) -> Handle
         ensures { result.seal.held ≡ None }
     {
@@ -46,6 +50,7 @@ impl Handle {
         }
     }
 
+    // A handle that leads to what is in the box.
     pub(crate) fn of(held: Box<Held, Global>) -> Handle
         ensures { result.seal.held ≡ Some held.value }
     {
@@ -56,6 +61,7 @@ impl Handle {
         }
     }
 
+    // What the handle leads to, in its box.
     pub(crate) fn into_box(self) -> Option<Box<Held, Global>>
         ensures { MatchOption result (self.seal.held ≡ None) (λ b. self.seal.held ≡ Some b.value) }
     {
@@ -75,7 +81,7 @@ impl Handle {
     }
 }
 
-// A handle may go to another thread: this call is let through only since what it leads to may.
+// A handle may go to another thread: this call is accepted only since what it leads to may.
 pub(crate) fn crosses<T: Send>(handle: &mut T)
     ensures { handle.new ≡ handle.old }
 {

@@ -1,5 +1,5 @@
-//! What a handle leads to: a writer, a reader or a converter, with its share of the index; a leader or a follower of a feed, a
-//! spare index for one, or a generation that one let go.
+//! What a handle leads to: a writer, a reader or a converter, with its share of the index; a leader
+//! or a follower of a feed, a spare index for one, or a generation that one dropped; or watches.
 ghost use Rattle.std.specs.Prelude.{◌≡◌, ◌<◌, ◌++◌, ◌∷◌, [], false, length, IfSome};
 ghost use mathlib.Core.List.{IsPrefix};
 ghost use Rattle.eb_base.specs.Match.{answer as answer_of};
@@ -16,14 +16,16 @@ use eb_count::Tally;
 use eb_cursor::Frame;
 use eb_engine::{Converter, Index as Shared, Reader, Writer};
 use eb_place::Steps;
-use eb_stream::{FeedConverter, Released, Spare};
+use eb_watch::Watches;
 use eb_writer::Full;
+use eb_stream::{FeedConverter, Released, Spare};
 use std::alloc::Global;
 use std::marker::{Brand, Model};
 use std::sync::Arc;
 use std::sync::ledger::{Blank, Ledger};
 
-/// The writer of a shared index. What it plans in lies apart, so that what a handle leads to is small.
+/// The writer of a shared index. It has an allocation of its own, so that what a handle leads to is
+/// small.
 #[derive(Drop)]
 pub struct HeldWriter {
     index: Arc<Shared, Global>,
@@ -95,10 +97,13 @@ pub enum Held {
     Follower(HeldFollower),
     /// The converter of a generation of a feed.
     FeedConverter(FeedConverter),
-    /// A spare index: one that was opened ahead, for the next generation of a feed. Nothing where it was just lent, and none came back.
+    /// A spare index: one that was opened ahead, for the next generation of a feed. Nothing where
+    /// it was just lent, and none came back.
     Spare(Option<Spare>),
-    /// A generation that a feed let go.
+    /// A generation that a feed dropped.
     Released(Released),
+    /// Watches.
+    Watches(Watches),
 }
 
 impl HeldConverter {
@@ -109,7 +114,8 @@ impl HeldConverter {
         HeldConverter { index, converter }
     }
 
-    // Converts the next segment, where it is closed, and gives the number of those that are converted.
+    // Converts the next segment, if it is closed, and returns the number of those that are
+    // converted.
     pub(crate) fn convert(&mut self) -> u32
         ensures index { self.new.index ≡ self.old.index }
         ensures known { IsPrefix self.old.docs self.new.docs }
@@ -175,7 +181,7 @@ impl HeldReader {
         self.reader.seen()
     }
 
-    // Takes in what another reader of the index knows.
+    // Meets another reader of the index.
     pub(crate) fn meet(&mut self, other: &mut HeldReader)
         requires { other.old.index ≡ self.old.index }
         ensures index { self.new.index ≡ self.old.index }
@@ -187,7 +193,7 @@ impl HeldReader {
         self.reader.meet(&self.index, told);
     }
 
-    // Searches all documents that are accepted, and gives their number.
+    // Searches all documents that are accepted, and returns their number.
     pub(crate) fn search(&mut self, frame: &mut Frame) -> u64
         ensures index { self.new.index ≡ self.old.index }
         ensures known { IsPrefix self.old.docs self.new.docs }
@@ -197,6 +203,7 @@ impl HeldReader {
         self.search_in::<Brand>(frame, Blank::new(1))
     }
 
+    // Searches with a counter of loads that nobody reads.
     fn search_in<L: Ledger>(&mut self, frame: &mut Frame, blank: Blank) -> u64
         requires blank { (blank.name ≡ L.name) × (blank.parts ≡ L.parts) × (0 < blank.parts) }
         ensures index { self.new.index ≡ self.old.index }
@@ -209,7 +216,8 @@ impl HeldReader {
             .search(&self.index, frame, &OpenGate, &mut steps)
     }
 
-    // Counts, in the tally, all matches among the documents that are accepted, and gives their number.
+    // Counts, in the tally, all matches among the documents that are accepted, and returns their
+    // number.
     pub(crate) fn count(&mut self, frame: &mut Frame, tally: &mut Tally) -> u64
         ensures index { self.new.index ≡ self.old.index }
         ensures known { IsPrefix self.old.docs self.new.docs }
@@ -219,6 +227,7 @@ impl HeldReader {
         self.count_in::<Brand>(frame, tally, Blank::new(1))
     }
 
+    // Counts with a counter of loads that nobody reads.
     fn count_in<L: Ledger>(&mut self, frame: &mut Frame, tally: &mut Tally, blank: Blank) -> u64
         requires blank { (blank.name ≡ L.name) × (blank.parts ≡ L.parts) × (0 < blank.parts) }
         ensures index { self.new.index ≡ self.old.index }

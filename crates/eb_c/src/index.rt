@@ -46,17 +46,20 @@ pub struct Index {
     pub last: Segment,
 }
 
-/// What a call that asks tells beside the ids.
+/// What a call that asks reports besides the ids.
 #[repr(C)]
 #[derive(Clone, Copy, Debug, PartialEq, Eq)]
 pub struct Answer {
-    /// How many documents were accepted; the answer is over all of them. 0 where the call is refused.
+    /// How many documents were accepted; the answer is over all of them. 0 where the call is
+    /// refused.
     pub seen: u64,
-    /// How many ids the answer has, also where there is no room for all of them. 0 where the call is refused.
+    /// How many ids the answer has, also where there is no room for all of them. 0 where the call
+    /// is refused.
     pub count: u64,
     /// The column of a bad query's fault, counted from 1; else 0.
     pub column: u64,
-    /// How many ids were written: all of the answer, or as many as there is room for. 0 where the call is refused.
+    /// How many ids were written: all of the answer, or as many as there is room for. 0 where the
+    /// call is refused.
     pub written: u64,
 }
 
@@ -74,7 +77,7 @@ pub(crate) fn setting(segments: u32, docs: u32, terms: u32) -> Option<Config>
     }
 }
 
-// The setting of an index that has so many words, where it was begun.
+// The setting of an index that has this many words, where it was begun.
 pub(crate) fn begun_setting(index: &Index, words: usize) -> Option<Config>
     ensures { MatchOption result (IsBegunIndex index.now words → ⊥) (λ config. IsBegunIndex index.now words × (config ≡ setting_of index.now)) }
 {
@@ -93,6 +96,7 @@ pub(crate) fn placer_of(index: &Index, config: Config) -> Placer
     Placer::resume(config, index.begun, index.documents, used_of(&index.last))
 }
 
+// What is used of the last segment, as the placer has it.
 fn used_of(last: &Segment) -> Used
     ensures { result ≡ used_of last.now }
 {

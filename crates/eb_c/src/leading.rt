@@ -17,7 +17,7 @@ use std::alloc::Global;
 use std::marker::{Brand, Model};
 use std::sync::ledger::{Blank, Ledger};
 
-/// The leader of a feed. It lies apart, so that what a handle leads to is small.
+/// The leader of a feed. It has an allocation of its own, so that what a handle leads to is small.
 #[derive(Drop)]
 pub struct HeldLeader {
     leader: Box<Leader, Global>,
@@ -65,8 +65,8 @@ impl HeldLeader {
         Ok(HeldLeader { leader })
     }
 
-    // Adds a document. False only where another generation has to be begun and there is no memory for it; all is then as
-    // before.
+    // Adds a document. False only where another generation has to be begun and memory runs out for
+    // it; all is then as before.
     pub(crate) fn add(&mut self, document: &Document) -> bool
         ensures taken { result ≡ true → Takes self.old self.new document.now }
         ensures no_memory { result ≡ false → (has_room self.old.setting self.old.feed.docs document.now ≡ false) × (self.new ≡ self.old) }
@@ -77,7 +77,7 @@ impl HeldLeader {
         }
     }
 
-    // A follower that knows the whole history. `None` where there is no memory for it.
+    // A follower that knows the whole history. `None` where memory runs out for it.
     pub(crate) fn follower(&mut self) -> Option<HeldFollower>
         ensures this { self.new ≡ self.old }
         ensures follower { IfSome result (λ f. f ≡ self.old.feed) }
@@ -97,8 +97,8 @@ impl HeldLeader {
         self.leader.converter()
     }
 
-    // Takes an index for the next generation, and puts in its place the one that it had for it, if it had one. False where there is no
-    // index of the feed's setting; all is then as before.
+    // Takes an index for the next generation, and puts in its place the one that it had for it, if
+    // it had one. False where there is no index of the feed's setting; all is then as before.
     pub(crate) fn exchange(&mut self, spare: &mut Option<Spare>) -> bool
         ensures this { self.new ≡ self.old }
         ensures taken { result ≡ true → IfSome spare.new (λ s. s.setting ≡ self.old.setting) }
@@ -114,7 +114,8 @@ impl HeldLeader {
         self.take_from(spare)
     }
 
-    // Takes an index of the feed's setting, and puts in its place the one that it had. False where there is none.
+    // Takes an index of the feed's setting, and puts in its place the one that it had. False where
+    // there is none.
     fn take_from(&mut self, spare: &mut Option<Spare>) -> bool
         requires { IfSome spare.old (λ s. s.setting ≡ self.old.setting) }
         ensures this { self.new ≡ self.old }
@@ -131,7 +132,8 @@ impl HeldLeader {
         }
     }
 
-    // The generation that the last turn let go, where that one began a lent index, and it wasn't taken.
+    // The generation that the last turn dropped, if that turn began a lent index, and the
+    // generation wasn't taken.
     pub(crate) fn released(&mut self) -> Option<Released>
         ensures this { self.new ≡ self.old }
         ensures let_go { IfSome result (λ r. IsLetGo r self.old.keep self.old.feed.log) }
@@ -139,7 +141,7 @@ impl HeldLeader {
         self.leader.released()
     }
 
-    // Tells each follower of the newest turns. False where one couldn't be told.
+    // Sends the newest turns to each follower. False where that failed for one.
     pub(crate) fn tell(&mut self) -> bool
         ensures { self.new ≡ self.old }
     {
@@ -162,7 +164,8 @@ impl HeldFollower {
         self.follower.held() as u64
     }
 
-    // Takes in what it was told, searches the generations that it then holds, and gives how many documents it knows.
+    // Takes in its news, searches the generations that it then holds, and returns how many
+    // documents it knows.
     pub(crate) fn search(&mut self, frame: &mut Frame) -> u64
         ensures learned { (g : FeedToken) × Hears self.old g × Learns g self.new }
         ensures count { result ≡ counted (history_of self.new.log self.new.docs) }
@@ -171,6 +174,7 @@ impl HeldFollower {
         self.search_in::<Brand>(frame, Blank::new(1))
     }
 
+    // Searches with a counter of loads that nobody reads.
     fn search_in<L: Ledger>(&mut self, frame: &mut Frame, blank: Blank) -> u64
         requires blank { (blank.name ≡ L.name) × (blank.parts ≡ L.parts) × (0 < blank.parts) }
         ensures learned { (g : FeedToken) × Hears self.old g × Learns g self.new }
@@ -183,7 +187,8 @@ impl HeldFollower {
         self.seen
     }
 
-    // Takes in what it was told, counts the matches in the generations that it then holds, and gives how many documents it knows.
+    // Takes in its news, counts the matches in the generations that it then holds, and returns how
+    // many documents it knows.
     pub(crate) fn count(&mut self, frame: &mut Frame, tally: &mut Tally) -> u64
         ensures learned { (g : FeedToken) × Hears self.old g × Learns g self.new }
         ensures count { result ≡ counted (history_of self.new.log self.new.docs) }
@@ -192,6 +197,7 @@ impl HeldFollower {
         self.count_in::<Brand>(frame, tally, Blank::new(1))
     }
 
+    // Counts with a counter of loads that nobody reads.
     fn count_in<L: Ledger>(&mut self, frame: &mut Frame, tally: &mut Tally, blank: Blank) -> u64
         requires blank { (blank.name ≡ L.name) × (blank.parts ≡ L.parts) × (0 < blank.parts) }
         ensures learned { (g : FeedToken) × Hears self.old g × Learns g self.new }

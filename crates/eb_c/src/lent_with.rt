@@ -16,8 +16,8 @@ use crate::reading::{document_as, document_in_line_as, question_in_line_as, ques
 use crate::refusal::Refusal;
 use std::alloc::Global;
 
-/// Tests how lines and texts are to be read: 0, or `BadReading` (17) where it isn't in the grammar of the options, and each call that
-/// is given it is refused. Takes no memory.
+/// Tests how lines and texts are to be read: 0, or `BadReading` (17) where it isn't in the grammar
+/// of the options, and each call that is given it is refused. Takes no memory.
 #[unsafe(no_mangle)]
 pub extern "C" fn eb_check_reading(how: &Reading<'_>) -> u32
     ensures { MatchOption (dialect_by how.now) (result ≡ 17) (λ _. result ≡ 0) }
@@ -28,8 +28,8 @@ pub extern "C" fn eb_check_reading(how: &Reading<'_>) -> u32
     }
 }
 
-/// Adds the document of a document line as `eb_add_line` does, where lines are read so: `BadReading` (17) where that isn't in the
-/// grammar of the options.
+/// Adds the document of a document line as `eb_add_line` does, where lines are read so:
+/// `BadReading` (17) where that isn't in the grammar of the options.
 #[unsafe(no_mangle)]
 pub extern "C" fn eb_add_line_with(
     alloc: Global,

@@ -1,15 +1,18 @@
-//! The index for programs in C, and in each language that calls C: one in memory that the caller lends, one that threads
-//! share, behind handles (`sharing`), and a feed that they share and that never ends (`streaming`). `include/earlybird.h`
-//! declares the calls, and says of each what its caller owes.
+//! The index for programs in C, and in each language that calls C: one in memory that the caller
+//! lends, one that threads share, behind handles (`sharing`), and a feed that they share and that
+//! never ends (`streaming`). `include/earlybird.h` declares the calls, and says of each what its
+//! caller owes.
 //!
-//! Of an index that is lent the caller keeps all memory: its words, and a struct of numbers. A call tests what it can:
-//! whether the numbers are those of an index that was begun, and whether there are as many words as its setting needs.
-//! What it can't test is its `requires`: that such numbers and words are as the last call left them. Then they are an
-//! index that has accepted some documents (`Holds` of `specs/`), and the clauses say what the call answers and leaves,
-//! for the documents of any such index.
+//! Of an index that is lent the caller keeps all memory: its words, and a struct of numbers. A call
+//! tests what it can: whether the numbers are those of an index that was begun, and whether there
+//! are as many words as its setting needs. What it can't test is its `requires`: that such numbers
+//! and words are as the last call left them. Then they are an index that has accepted some
+//! documents (`Holds` of `specs/`), and the clauses say what the call answers and leaves, for the
+//! documents of any such index.
 #![tactic(auto)]
 
 mod adding;
+mod adding_many;
 mod asking;
 mod counting;
 mod counts;
@@ -20,6 +23,7 @@ mod held;
 mod index;
 mod leading;
 mod lent_with;
+mod parsed;
 mod parts;
 mod reading;
 mod refusal;
@@ -28,7 +32,10 @@ mod sharing;
 mod sharing_with;
 mod streaming;
 mod streaming_with;
+mod told;
+mod watching;
 
+pub use adding_many::{Text, eb_leader_add_texts_with, eb_writer_add_texts_with};
 pub use counting::Count;
 pub use counts::{eb_count_text, eb_follower_count_text, eb_reader_count_text};
 pub use dialects::Reading;
@@ -62,4 +69,8 @@ pub use streaming::{
 pub use streaming_with::{
     eb_follower_ask_line_with, eb_follower_ask_text_with, eb_follower_count_text_with,
     eb_leader_add_line_with, eb_leader_add_text_with,
+};
+pub use told::Told;
+pub use watching::{
+    eb_watch_remove, eb_watch_set, eb_watches, eb_watches_tell_line, eb_watches_tell_text,
 };

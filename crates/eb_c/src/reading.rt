@@ -1,4 +1,5 @@
-//! What documents and questions the bytes of a caller are, by a dialect: by that of no option, or by one that the caller says.
+//! What documents and questions the bytes of a caller are, by a dialect: the one without options,
+//! or one that the caller gives.
 ghost use Rattle.std.specs.Prelude.{◌≡◌, ◌⊎◌, ◌++◌, false, Err, IfOk, Some, slice_get, length};
 ghost use Rattle.std.specs.Str.{is_utf8};
 ghost use Rattle.std.specs.String.{string_bytes};
@@ -7,10 +8,11 @@ ghost use Rattle.eb_fields.specs.Dialect.{dialect_of};
 ghost use Rattle.eb_doc.specs.DocumentLine.{message};
 ghost use Rattle.eb_doc.specs.WithFields as doc;
 ghost use Rattle.eb_c.specs.Adding.{document_in, document_in_by, document_in_as, document_with, document_by, document_as, or_refused};
-ghost use Rattle.eb_c.specs.Asking.{asked_of, refused, line_front, ReadsBy, AsksBy, LineAsks, LineAsksBy, LineAsksAs};
+ghost use Rattle.eb_c.specs.Asking.{asked_of, parsed_of, refused, line_front, ReadsBy, AsksBy, LineAsks, LineAsksBy, LineAsksAs};
 ghost use Rattle.eb_c.specs.Asking.{TextAsks, TextAsksBy, TextAsksAs};
 
 use crate::dialects::{Reading, read_dialect};
+use crate::parsed::{Parsed, Wanted};
 use crate::refusal::{Refusal, refusal_of};
 use eb_base::{Document, NoMemory, Query};
 use eb_cursor::Frame;
@@ -47,6 +49,7 @@ fn line_document(alloc: Global, dialect: Dialect<'_>, line: &[u8]) -> Result<Doc
     }
 }
 
+// The document of a document line that isn't too long, by a dialect.
 fn document_of_line(alloc: Global, dialect: Dialect<'_>, line: &[u8]) -> Result<Document, Refusal>
     ensures { (result ≡ Err Refusal.NoMemory) ⊎ (result ≡ or_refused (doc.document_with (dialect_of dialect.entry) line.now)) }
 {
@@ -64,7 +67,7 @@ pub(crate) fn document_in_line(alloc: Global, line: &[u8]) -> Result<Document, R
     line_document(alloc, Dialect::plain(), line)
 }
 
-// The same where lines are read so.
+// The document of a document line, by the dialect that a caller gives.
 pub(crate) fn document_in_line_as(
     alloc: Global,
     how: &Reading<'_>,
@@ -93,6 +96,7 @@ fn text_document(
     }
 }
 
+// The document of an id and a text, by a dialect.
 fn document_of_text(
     alloc: Global,
     dialect: Dialect<'_>,
@@ -117,7 +121,7 @@ pub(crate) fn document_with(alloc: Global, id: u64, text: &[u8]) -> Result<Docum
     text_document(alloc, Dialect::plain(), id, text)
 }
 
-// The same where texts are read so.
+// The document of an id and a text, by the dialect that a caller gives.
 pub(crate) fn document_as(
     alloc: Global,
     how: &Reading<'_>,
@@ -133,87 +137,130 @@ pub(crate) fn document_as(
 }
 
 // What a query line asks, by a dialect.
-fn line_question(alloc: Global, dialect: Dialect<'_>, line: &[u8]) -> Question
-    ensures { (asked_of result ≡ refused Refusal.NoMemory 0) ⊎ LineAsksBy (dialect_of dialect.entry) line.now (asked_of result) }
+fn line_parsed(alloc: Global, dialect: Dialect<'_>, line: &[u8]) -> Parsed
+    ensures { (parsed_of result ≡ refused Refusal.NoMemory 0) ⊎ LineAsksBy (dialect_of dialect.entry) line.now (parsed_of result) }
 {
     if line.len() > MAX_LINE {
-        return Question::Refused(Refusal::LongLine, 0);
+        return Parsed::Refused(Refusal::LongLine, 0);
     }
     match line.first() {
-        Some(b'?') => question_of_line(alloc, dialect, line),
-        _ => Question::Refused(Refusal::BadLine, 0),
+        Some(b'?') => parsed_of_line(alloc, dialect, line),
+        _ => Parsed::Refused(Refusal::BadLine, 0),
     }
 }
 
-fn question_of_line(alloc: Global, dialect: Dialect<'_>, line: &[u8]) -> Question
+// What a query line asks that isn't too long, by a dialect.
+fn parsed_of_line(alloc: Global, dialect: Dialect<'_>, line: &[u8]) -> Parsed
     requires { slice_get line.now 0 ≡ Some 63 }
-    ensures { (asked_of result ≡ refused Refusal.NoMemory 0) ⊎ AsksBy (dialect_of dialect.entry) false (is_utf8 line.now) line.now (asked_of result) }
+    ensures { (parsed_of result ≡ refused Refusal.NoMemory 0) ⊎ AsksBy (dialect_of dialect.entry) false (is_utf8 line.now) line.now (parsed_of result) }
 {
     match str::from_utf8(line) {
-        Ok(line) => question_behind(alloc, dialect, line, 0),
-        Err(_) => Question::Refused(Refusal::BadLine, 0),
+        Ok(line) => parsed_behind(alloc, dialect, line, 0),
+        Err(_) => Parsed::Refused(Refusal::BadLine, 0),
     }
 }
 
 // What a query line asks.
-pub(crate) fn question_in_line(alloc: Global, line: &[u8]) -> Question
-    ensures { (asked_of result ≡ refused Refusal.NoMemory 0) ⊎ LineAsks line.now (asked_of result) }
+fn parsed_in_line(alloc: Global, line: &[u8]) -> Parsed
+    ensures { (parsed_of result ≡ refused Refusal.NoMemory 0) ⊎ LineAsks line.now (parsed_of result) }
 {
-    line_question(alloc, Dialect::plain(), line)
+    line_parsed(alloc, Dialect::plain(), line)
 }
 
-// The same where lines are read so.
-pub(crate) fn question_in_line_as(alloc: Global, how: &Reading<'_>, line: &[u8]) -> Question
-    ensures { (asked_of result ≡ refused Refusal.NoMemory 0) ⊎ LineAsksAs how.now line.now (asked_of result) }
+// What a query line asks, by the dialect that a caller gives.
+fn parsed_in_line_as(alloc: Global, how: &Reading<'_>, line: &[u8]) -> Parsed
+    ensures { (parsed_of result ≡ refused Refusal.NoMemory 0) ⊎ LineAsksAs how.now line.now (parsed_of result) }
 {
     match read_dialect(how) {
-        Some(dialect) => line_question(alloc, dialect, line),
-        None => Question::Refused(Refusal::BadReading, 0),
+        Some(dialect) => line_parsed(alloc, dialect, line),
+        None => Parsed::Refused(Refusal::BadReading, 0),
     }
 }
 
 // What a query text asks of which k matches are wanted, by a dialect.
-fn text_question(alloc: Global, dialect: Dialect<'_>, k: u32, text: &[u8]) -> Question
-    ensures { (asked_of result ≡ refused Refusal.NoMemory 0) ⊎ TextAsksBy (dialect_of dialect.entry) k text.now (asked_of result) }
+fn text_parsed(alloc: Global, dialect: Dialect<'_>, k: u32, text: &[u8]) -> Parsed
+    ensures { (parsed_of result ≡ refused Refusal.NoMemory 0) ⊎ TextAsksBy (dialect_of dialect.entry) k text.now (parsed_of result) }
 {
     match str::from_utf8(text) {
-        Ok(text) => question_of_text(alloc, dialect, k, text),
-        Err(_) => Question::Refused(Refusal::BadText, 0),
+        Ok(text) => parsed_of_text(alloc, dialect, k, text),
+        Err(_) => Parsed::Refused(Refusal::BadText, 0),
     }
 }
 
-fn question_of_text(alloc: Global, dialect: Dialect<'_>, k: u32, text: &str) -> Question
-    ensures { (asked_of result ≡ refused Refusal.NoMemory 0)
-        ⊎ ReadsBy (dialect_of dialect.entry) (length (line_front k)) (line_front k ++ text.now) (asked_of result) }
+// What a query text asks of which k matches are wanted, by a dialect.
+fn parsed_of_text(alloc: Global, dialect: Dialect<'_>, k: u32, text: &str) -> Parsed
+    ensures { (parsed_of result ≡ refused Refusal.NoMemory 0)
+        ⊎ ReadsBy (dialect_of dialect.entry) (length (line_front k)) (line_front k ++ text.now) (parsed_of result) }
 {
     let Ok(mut line) = line_front(alloc, k) else {
-        return Question::Refused(Refusal::NoMemory, 0);
+        return Parsed::Refused(Refusal::NoMemory, 0);
     };
     let front = line.len();
     if line.push_str(text).is_err() {
-        return Question::Refused(Refusal::NoMemory, 0);
+        return Parsed::Refused(Refusal::NoMemory, 0);
     }
-    question_behind(alloc, dialect, line.as_str(), front as u64)
+    parsed_behind(alloc, dialect, line.as_str(), front as u64)
 }
 
 // What a query text asks of which k matches are wanted.
-pub(crate) fn question_in_text(alloc: Global, k: u32, text: &[u8]) -> Question
-    ensures { (asked_of result ≡ refused Refusal.NoMemory 0) ⊎ TextAsks k text.now (asked_of result) }
+fn parsed_in_text(alloc: Global, k: u32, text: &[u8]) -> Parsed
+    ensures { (parsed_of result ≡ refused Refusal.NoMemory 0) ⊎ TextAsks k text.now (parsed_of result) }
 {
-    text_question(alloc, Dialect::plain(), k, text)
+    text_parsed(alloc, Dialect::plain(), k, text)
 }
 
-// The same where texts are read so.
-pub(crate) fn question_in_text_as(alloc: Global, how: &Reading<'_>, k: u32, text: &[u8]) -> Question
-    ensures { (asked_of result ≡ refused Refusal.NoMemory 0) ⊎ TextAsksAs how.now k text.now (asked_of result) }
+// What a query text asks of which k matches are wanted, by the dialect that a caller gives.
+pub(crate) fn parsed_in_text_as(alloc: Global, how: &Reading<'_>, k: u32, text: &[u8]) -> Parsed
+    ensures { (parsed_of result ≡ refused Refusal.NoMemory 0) ⊎ TextAsksAs how.now k text.now (parsed_of result) }
 {
     match read_dialect(how) {
-        Some(dialect) => text_question(alloc, dialect, k, text),
-        None => Question::Refused(Refusal::BadReading, 0),
+        Some(dialect) => text_parsed(alloc, dialect, k, text),
+        None => Parsed::Refused(Refusal::BadReading, 0),
     }
 }
 
-// What stands before the query text in the line that asks for k matches of it.
+// The question of what was read.
+fn question_of(alloc: Global, parsed: Parsed) -> Question
+    ensures { (asked_of result ≡ refused Refusal.NoMemory 0) ⊎ (asked_of result ≡ parsed_of parsed) }
+{
+    match parsed {
+        Parsed::Asks(wanted) => match Frame::new(alloc, wanted.query, wanted.k) {
+            Ok(frame) => Question::Asks(frame),
+            Err(NoMemory) => Question::Refused(Refusal::NoMemory, 0),
+        },
+        Parsed::Refused(refusal, column) => Question::Refused(refusal, column),
+    }
+}
+
+// The question of a query line.
+pub(crate) fn question_in_line(alloc: Global, line: &[u8]) -> Question
+    ensures { (asked_of result ≡ refused Refusal.NoMemory 0) ⊎ LineAsks line.now (asked_of result) }
+{
+    question_of(alloc, parsed_in_line(alloc, line))
+}
+
+// The question of a query line, by the dialect that a caller gives.
+pub(crate) fn question_in_line_as(alloc: Global, how: &Reading<'_>, line: &[u8]) -> Question
+    ensures { (asked_of result ≡ refused Refusal.NoMemory 0) ⊎ LineAsksAs how.now line.now (asked_of result) }
+{
+    question_of(alloc, parsed_in_line_as(alloc, how, line))
+}
+
+// The question of a query text of which k matches are wanted.
+pub(crate) fn question_in_text(alloc: Global, k: u32, text: &[u8]) -> Question
+    ensures { (asked_of result ≡ refused Refusal.NoMemory 0) ⊎ TextAsks k text.now (asked_of result) }
+{
+    question_of(alloc, parsed_in_text(alloc, k, text))
+}
+
+// The question of a query text of which k matches are wanted, by the dialect that a caller gives.
+pub(crate) fn question_in_text_as(alloc: Global, how: &Reading<'_>, k: u32, text: &[u8]) -> Question
+    ensures { (asked_of result ≡ refused Refusal.NoMemory 0) ⊎ TextAsksAs how.now k text.now (asked_of result) }
+{
+    question_of(alloc, parsed_in_text_as(alloc, how, k, text))
+}
+
+// What comes before the query text in the line that asks for k matches of it.
 fn line_front(alloc: Global, k: u32) -> Result<String, NoMemory>
     ensures { IfOk result (λ line. string_bytes line ≡ line_front k) }
 {
@@ -222,22 +269,19 @@ fn line_front(alloc: Global, k: u32) -> Result<String, NoMemory>
     Ok(line)
 }
 
-// What a line asks that begins with a question mark, the columns counted from after so many bytes.
-fn question_behind(alloc: Global, dialect: Dialect<'_>, line: &str, front: u64) -> Question
+// What a line asks that begins with a question mark, the columns counted after this many bytes.
+fn parsed_behind(alloc: Global, dialect: Dialect<'_>, line: &str, front: u64) -> Parsed
     requires { slice_get line.now 0 ≡ Some 63 }
-    ensures { (asked_of result ≡ refused Refusal.NoMemory 0) ⊎ ReadsBy (dialect_of dialect.entry) front line.now (asked_of result) }
+    ensures { (parsed_of result ≡ refused Refusal.NoMemory 0) ⊎ ReadsBy (dialect_of dialect.entry) front line.now (parsed_of result) }
 {
     match read_query_with(alloc, dialect, line) {
-        Ok((k, query)) => match Frame::new(alloc, query, k) {
-            Ok(frame) => Question::Asks(frame),
-            Err(NoMemory) => Question::Refused(Refusal::NoMemory, 0),
-        },
-        Err(QueryFault::BadNumber) => Question::Refused(Refusal::BadNumber, 0),
+        Ok((k, query)) => Parsed::Asks(Wanted { k, query }),
+        Err(QueryFault::BadNumber) => Parsed::Refused(Refusal::BadNumber, 0),
         Err(QueryFault::BadQuery { column }) => {
-            Question::Refused(Refusal::BadQuery, column.saturating_sub(front))
+            Parsed::Refused(Refusal::BadQuery, column.saturating_sub(front))
         }
-        Err(QueryFault::TooDeep) => Question::Refused(Refusal::QueryTooDeep, 0),
-        Err(QueryFault::TooManyNodes) => Question::Refused(Refusal::QueryTooLarge, 0),
-        Err(QueryFault::NoMemory) => Question::Refused(Refusal::NoMemory, 0),
+        Err(QueryFault::TooDeep) => Parsed::Refused(Refusal::QueryTooDeep, 0),
+        Err(QueryFault::TooManyNodes) => Parsed::Refused(Refusal::QueryTooLarge, 0),
+        Err(QueryFault::NoMemory) => Parsed::Refused(Refusal::NoMemory, 0),
     }
 }

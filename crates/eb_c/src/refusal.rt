@@ -4,11 +4,11 @@ ghost use Rattle.eb_c.specs.Numbers.{refusal_number};
 
 use eb_doc::LineFault;
 
-/// Why a call did nothing. C sees its number, from 1, and 16 where a handle isn't what the call takes; the first ten have the names
-/// and the meaning of the refusals of the program `earlybird`.
+/// Why a call did nothing. C sees its number, from 1, and 16 where a handle isn't what the call
+/// takes; the first ten have the names and the meaning of the refusals of the program `earlybird`.
 #[derive(Clone, Copy, Debug, PartialEq, Eq)]
 pub enum Refusal {
-    /// The line is no document line or no query line, as the call wants one.
+    /// The line isn't a document line, or isn't a query line, as the call wants one.
     BadLine,
     /// The line has more than 65,536 bytes.
     LongLine,
@@ -18,13 +18,14 @@ pub enum Refusal {
     BadDocument,
     /// A document has more than 1,024 tokens, or more than 16,384 bytes of them.
     TooLong,
-    /// There is no room for the document: it doesn't fit the last segment, and all segments are begun.
+    /// There is no room for the document: it doesn't fit the last segment, and all segments are
+    /// begun.
     Full,
     /// The number of matches isn't one of 1 to 1,000, or isn't written as a query line wants it.
     BadNumber,
-    /// The query text isn't in the grammar; the call tells the column.
+    /// The query text isn't in the grammar; the call reports the column.
     BadQuery,
-    /// A `(` or a `-` stands at nesting 16.
+    /// A `(` or a `-` is at nesting 16.
     QueryTooDeep,
     /// The query has more than 64 nodes.
     QueryTooLarge,
@@ -32,14 +33,21 @@ pub enum Refusal {
     BadText,
     /// Memory ran out. It can come for any line and text.
     NoMemory,
-    /// The three numbers are no setting.
+    /// The three numbers aren't a setting.
     BadSetting,
     /// There are not as many words as the setting needs.
     BadSize,
-    /// The numbers aren't those of an index that was begun, or there are not as many words as its setting needs.
+    /// The numbers aren't those of an index that was begun, or there are not as many words as its
+    /// setting needs.
     NotBegun,
     /// How lines are to be read isn't in the grammar of the options that say it.
     BadReading,
+    /// A watch has the number of the one that is to be set.
+    WatchTaken,
+    /// No watch has the number, and 10,000 are set.
+    WatchesFull,
+    /// No watch has the number of the one that is to be removed.
+    NoWatch,
 }
 
 impl Refusal {
@@ -64,6 +72,9 @@ impl Refusal {
             Refusal::BadSize => 14,
             Refusal::NotBegun => 15,
             Refusal::BadReading => 17,
+            Refusal::WatchTaken => 18,
+            Refusal::WatchesFull => 19,
+            Refusal::NoWatch => 20,
         }
     }
 }

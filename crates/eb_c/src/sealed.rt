@@ -23,6 +23,7 @@ impl Model for Sealed {
 }
 
 impl Sealed {
+    // A seal of nothing.
     pub(crate) fn empty(alloc: Global) -> Sealed
         ensures { result.held ≡ None }
     {
@@ -32,6 +33,7 @@ impl Sealed {
         }
     }
 
+    // A seal of what these parts own.
     pub(crate) fn of_parts(parts: Parts<Held, Global>) -> Sealed
         ensures { result.held ≡ Some parts.value }
     {
@@ -42,6 +44,7 @@ impl Sealed {
         }
     }
 
+    // The parts of what the seal owns.
     pub(crate) fn into_parts(self) -> Parts<Held, Global>
         requires { IsSome self.held }
         ensures { self.held ≡ Some result.value }

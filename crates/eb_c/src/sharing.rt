@@ -1,9 +1,11 @@
-//! The index that threads share, for C: one writer, one converter, and any number of readers, each behind a handle. A
-//! handle is a value that the caller keeps and only these calls write. It has its own share of the index, so handles are
-//! closed in any order, and the last one gives the memory back.
+//! The index that threads share, for C: one writer, one converter, and any number of readers, each
+//! behind a handle. A handle is a value that the caller keeps and only these calls write. It has
+//! its own share of the index, so handles are closed in any order, and the last one gives the
+//! memory back.
 //!
-//! A call tests what its handles lead to, and answers 16 where one is closed, of another kind, or, where one is to be
-//! made, not closed. Calls on different handles may run beside one another, on any threads.
+//! A call tests what its handles lead to. The result is 16 where one is closed, of another kind,
+//! or, where one is to be made, not closed. Calls on different handles may run at the same time, on
+//! any threads.
 ghost use Rattle.std.specs.Prelude.{◌≡◌, ◌≢◌, ◌⊎◌, Some, None, Err, Result, List, [], length, IfOk, IfSome};
 ghost use mathlib.Core.List.{IsPrefix};
 ghost use Rattle.eb_base.specs.Document.{Doc};
@@ -28,9 +30,9 @@ use eb_engine::Index as Shared;
 use std::alloc::Global;
 use std::sync::Arc;
 
-/// Opens an index of this setting without a document, with its writer and its converter, whose handles are closed before:
-/// 0; else `BadSetting` (13), `NoMemory` (12), or 16 where one of the handles isn't closed, and both are as before. Takes all
-/// memory that the index will ever take.
+/// Opens an index of this setting without a document, with its writer and its converter, whose
+/// handles are closed before: 0; else `BadSetting` (13), `NoMemory` (12), or 16 where one of the
+/// handles isn't closed, and both are as before. Takes all memory that the index will ever take.
 #[unsafe(no_mangle)]
 pub extern "C" fn eb_open(
     alloc: Global,
@@ -67,6 +69,7 @@ pub extern "C" fn eb_open(
     }
 }
 
+// An empty index, as the handles of its writer and its converter.
 fn open(alloc: Global, config: Config) -> Result<(Handle, Handle), NoMemory>
     ensures { IfOk result (λ h. (i : Words) × (i.setting ≡ config) × LeadsToWriter h.0.seal.held (record { index = i; docs = []; converted = 0 })
         × LeadsToConverter h.1.seal.held (record { index = i; docs = []; placing = None; converted = 0 })) }
@@ -93,9 +96,9 @@ fn open(alloc: Global, config: Config) -> Result<(Handle, Handle), NoMemory>
     Ok((Handle::of(writes), Handle::of(converts)))
 }
 
-/// Adds the document of an id and a text, which is UTF-8, after those that this writer added: 0 where there is room for it,
-/// else the number of its refusal, and the history is as before; 16 where the handle leads to no writer. Takes memory while
-/// it reads, which is given back.
+/// Adds the document of an id and a text, which is UTF-8, after those that this writer added: 0
+/// where there is room for it, else the number of its refusal, and the history is as before; 16
+/// where the handle isn't that of a writer. Takes memory while it reads, which is given back.
 #[unsafe(no_mangle)]
 pub extern "C" fn eb_writer_add_text(
     alloc: Global,
@@ -112,7 +115,8 @@ pub extern "C" fn eb_writer_add_text(
     add_by(alloc, writer, document_with(alloc, id, text))
 }
 
-/// Adds the document of a document line, the bytes of one line without its end, as `eb_writer_add_text` does.
+/// Adds the document of a document line, the bytes of one line without its end, as
+/// `eb_writer_add_text` does.
 #[unsafe(no_mangle)]
 pub extern "C" fn eb_writer_add_line(alloc: Global, writer: &mut Handle, line: &[u8]) -> u32
     ensures added { (w : HistoryToken) → LeadsToWriter writer.old.seal.held w
@@ -124,7 +128,8 @@ pub extern "C" fn eb_writer_add_line(alloc: Global, writer: &mut Handle, line: &
     add_by(alloc, writer, document_in_line(alloc, line))
 }
 
-// Adds what was read of a document: 0, or the number of the refusal; 16 where the handle leads to no writer.
+// Adds what was read of a document: 0, or the number of the refusal; 16 where the handle isn't that
+// of a writer.
 pub(crate) fn add_by(alloc: Global, writer: &mut Handle, read: Result<Document, Refusal>) -> u32
     ensures added { (w : HistoryToken) → LeadsToWriter writer.old.seal.held w → (result ≡ number_after w.index.setting w.docs read)
         × LeadsToWriter writer.new.seal.held (record { index = w.index; docs = docs_after w.index.setting w.docs read; converted = w.converted }) }
@@ -139,7 +144,8 @@ pub(crate) fn add_by(alloc: Global, writer: &mut Handle, read: Result<Document, 
     number
 }
 
-fn add_read(held: &mut Held, read: Result<Document, Refusal>) -> u32
+// Adds what was read of a document: 0, or the number of the refusal.
+pub(crate) fn add_read(held: &mut Held, read: Result<Document, Refusal>) -> u32
     ensures added { (w : HistoryToken) → held.old ≡ Held.Writer w → (result ≡ number_after w.index.setting w.docs read)
         × (held.new ≡ Held.Writer (record { index = w.index; docs = docs_after w.index.setting w.docs read; converted = w.converted })) }
     ensures bad { kind_of (Some held.old) ≢ 1 → (result ≡ 16) × (held.new ≡ held.old) }
@@ -159,8 +165,9 @@ fn add_read(held: &mut Held, read: Result<Document, Refusal>) -> u32
     }
 }
 
-/// Makes a reader that knows all that this writer added, or all that this reader knows: 0; else `NoMemory` (12), or 16 where
-/// the one handle leads to neither, or the other isn't closed, and both are as before.
+/// Makes a reader that knows all that this writer added, or all that this reader knows: 0; else
+/// `NoMemory` (12), or 16 where the one handle leads to neither, or the other isn't closed, and
+/// both are as before.
 #[unsafe(no_mangle)]
 pub extern "C" fn eb_reader(alloc: Global, from: &mut Handle, reader: &mut Handle) -> u32
     ensures made { (w : HistoryToken) → (LeadsToWriter from.old.seal.held w ⊎ LeadsToReader from.old.seal.held w)
@@ -192,6 +199,7 @@ pub extern "C" fn eb_reader(alloc: Global, from: &mut Handle, reader: &mut Handl
     }
 }
 
+// A reader that knows what this writer or reader knows.
 fn reader_of(held: &mut Held) -> Option<HeldReader>
     ensures held { held.new ≡ held.old }
     ensures made { (w : HistoryToken) → ((held.old ≡ Held.Writer w) ⊎ (held.old ≡ Held.Reader w)) → IfSome result (λ r. r ≡ w) }
@@ -203,11 +211,13 @@ fn reader_of(held: &mut Held) -> Option<HeldReader>
     }
 }
 
-/// Answers a query text, which is UTF-8, of which the newest `k` matches are wanted, over all documents that are accepted
-/// when the call counts them, which begin with all that this reader knew; it knows them from then on. 0, and the ids of the
-/// newest that match, newest first, as many as there is room for; `answer` tells over how many documents, and how many there
-/// are. Else the number of the refusal, no id is written, and `answer` tells the column of a bad query; 16 where the handle
-/// leads to no reader. Takes memory for the query and its search, which is given back.
+/// Answers a query text, which is UTF-8, of which the newest `k` matches are wanted, over all
+/// documents that are accepted when the call counts them. All that this reader knew are a prefix of
+/// them, and it knows them from then on. 0, and the ids of the newest that match, newest first, as
+/// many as there is room for; `answer` reports over how many documents, and how many ids there are.
+/// Else the number of the refusal, no id is written, and `answer` reports the column of a bad
+/// query; 16 where the handle isn't that of a reader. Takes memory for the query and its search,
+/// which is given back.
 #[unsafe(no_mangle)]
 pub extern "C" fn eb_reader_ask_text(
     alloc: Global,
@@ -244,7 +254,8 @@ pub extern "C" fn eb_reader_ask_line(
     ask_by(alloc, reader, question_in_line(alloc, line), ids, answer)
 }
 
-// Answers what was read of a question: 0, or the number of the refusal; 16 where the handle leads to no reader.
+// Answers what was read of a question: 0, or the number of the refusal; 16 where the handle isn't
+// that of a reader.
 pub(crate) fn ask_by(
     alloc: Global,
     reader: &mut Handle,
@@ -268,6 +279,7 @@ pub(crate) fn ask_by(
     number
 }
 
+// Answers what was read of a question, by what the handle leads to.
 fn ask_held(held: &mut Held, read: Question, ids: &mut [u64], answer: &mut Answer) -> u32
     ensures told { (r : HistoryToken) → held.old ≡ Held.Reader r
         → (s : HistoryToken) × (held.new ≡ Held.Reader s) × (s.index ≡ r.index) × IsPrefix r.docs s.docs
@@ -292,8 +304,8 @@ fn ask_held(held: &mut Held, read: Question, ids: &mut [u64], answer: &mut Answe
     }
 }
 
-/// Tells how many documents this reader knows: 0; or 16 where the handle leads to no reader, and nothing is told. Takes no
-/// memory.
+/// Reports how many documents this reader knows: 0; or 16 where the handle isn't that of a reader,
+/// and nothing is reported. Takes no memory.
 #[unsafe(no_mangle)]
 pub extern "C" fn eb_reader_seen(alloc: Global, reader: &mut Handle, seen: &mut u64) -> u32
     ensures told { (r : HistoryToken) → LeadsToReader reader.old.seal.held r → (result ≡ 0) × (seen.new ≡ length r.docs) }
@@ -309,6 +321,7 @@ pub extern "C" fn eb_reader_seen(alloc: Global, reader: &mut Handle, seen: &mut 
     number
 }
 
+// How many documents a reader knows: 0, or 16 where it isn't a reader.
 fn seen_by(held: &mut Held, seen: &mut u64) -> u32
     ensures held { held.new ≡ held.old }
     ensures told { (r : HistoryToken) → held.old ≡ Held.Reader r → (result ≡ 0) × (seen.new ≡ length r.docs) }
@@ -321,8 +334,8 @@ fn seen_by(held: &mut Held, seen: &mut u64) -> u32
     0
 }
 
-/// Closes a handle, whatever it leads to; a closed one stays closed. The memory of an index is given back with its last
-/// handle.
+/// Closes a handle, whatever it leads to; a closed one stays closed. The memory of an index is
+/// given back with its last handle.
 #[unsafe(no_mangle)]
 pub extern "C" fn eb_close(alloc: Global, handle: &mut Handle)
     ensures { LeadsNowhere handle.new.seal.held }
@@ -330,8 +343,8 @@ pub extern "C" fn eb_close(alloc: Global, handle: &mut Handle)
     let _held = handle.take(alloc);
 }
 
-/// Converts the next segment, where it is closed, and tells how many are converted then: 0; or 16 where the handle leads to
-/// no converter, and all is as before. Takes no memory.
+/// Converts the next segment, if it is closed, and reports how many are converted then: 0; or 16
+/// where the handle isn't that of a converter, and all is as before. Takes no memory.
 #[unsafe(no_mangle)]
 pub extern "C" fn eb_converter_convert(
     alloc: Global,
@@ -353,6 +366,7 @@ pub extern "C" fn eb_converter_convert(
     number
 }
 
+// Converts the next segment, by what the handle leads to.
 fn convert_held(held: &mut Held, converted: &mut u32) -> u32
     ensures converts { (c : ConverterToken) → IsConverter held.old c
         → (d : ConverterToken) × IsConverter held.new d × (d.index ≡ c.index) × IsPrefix c.docs d.docs

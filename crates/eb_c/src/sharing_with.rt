@@ -18,8 +18,8 @@ use crate::refusal::Refusal;
 use crate::sharing::{add_by, ask_by};
 use std::alloc::Global;
 
-/// Adds the document of an id and a text as `eb_writer_add_text` does, where texts are cut so: `BadReading` (17) where that isn't in
-/// the grammar of the options.
+/// Adds the document of an id and a text as `eb_writer_add_text` does, where texts are cut so:
+/// `BadReading` (17) where that isn't in the grammar of the options.
 #[unsafe(no_mangle)]
 pub extern "C" fn eb_writer_add_text_with(
     alloc: Global,

@@ -1,5 +1,6 @@
-//! The feed that threads share, for C: it never ends and is never full. One leader adds, and any number of followers search
-//! the newest generations that the feed keeps, each behind a handle, as those of `sharing` are.
+//! The feed that threads share, for C: it never ends and is never full. One leader adds, and any
+//! number of followers search the newest generations that the feed keeps, each behind a handle, as
+//! those of `sharing` are.
 ghost use Rattle.std.specs.Prelude.{◌≡◌, ◌≢◌, ◌⊎◌, ◌≤◌, false, None, Some, Err, Result, [], IfOk, IfSome};
 ghost use Rattle.std.specs.Bool.{MatchBool};
 ghost use Rattle.eb_base.specs.Document.{Doc};
@@ -26,9 +27,9 @@ use eb_base::{Config, Document, NoMemory};
 use eb_stream::{FeedConverter, Released, Spare};
 use std::alloc::Global;
 
-/// Opens a feed without a document, which keeps so many generations of an index of this setting, 2 to 64, with its leader,
-/// whose handle is closed before: 0; else `BadSetting` (13), `NoMemory` (12), or 16 where the handle isn't closed, and it is
-/// as before. Takes memory for one generation.
+/// Opens a feed without a document, which keeps `keep` generations of an index of this setting, 2
+/// to 64, with its leader, whose handle is closed before: 0; else `BadSetting` (13), `NoMemory`
+/// (12), or 16 where the handle isn't closed, and it is as before. Takes memory for one generation.
 #[unsafe(no_mangle)]
 pub extern "C" fn eb_stream_open(
     alloc: Global,
@@ -66,6 +67,7 @@ pub extern "C" fn eb_stream_open(
     }
 }
 
+// An empty feed, as the handle of its leader.
 fn open(alloc: Global, config: Config, keep: u32) -> Result<Handle, NoMemory>
     requires { (2 ≤ keep) × (keep ≤ 64) }
     ensures { IfOk result (λ h. (w : WriterToken) × LeadsToLeader h.seal.held w × (w.setting ≡ config) × (w.keep ≡ keep) × HasTaken w []) }
@@ -76,10 +78,11 @@ fn open(alloc: Global, config: Config, keep: u32) -> Result<Handle, NoMemory>
     }
 }
 
-/// Adds the document of an id and a text, which is UTF-8, after those that this leader added: 0; else the number of its
-/// refusal, and the history is as before; 16 where the handle leads to no leader. It is never full: where the newest
-/// generation has no room, another is begun, the followers are told of it, and the oldest that the leader keeps is let go.
-/// `NoMemory` (12) where there is none for that, or to read the text.
+/// Adds the document of an id and a text, which is UTF-8, after those that this leader added: 0;
+/// else the number of its refusal, and the history is as before; 16 where the handle isn't that of
+/// a leader. It is never full: where the newest generation has no room, the leader begins another,
+/// sends the news to the followers, and drops the oldest that it keeps. `NoMemory` (12) where
+/// memory runs out for that, or to read the text.
 #[unsafe(no_mangle)]
 pub extern "C" fn eb_leader_add_text(
     alloc: Global,
@@ -95,7 +98,8 @@ pub extern "C" fn eb_leader_add_text(
     add_by(alloc, leader, document_with(alloc, id, text))
 }
 
-/// Adds the document of a document line, the bytes of one line without its end, as `eb_leader_add_text` does.
+/// Adds the document of a document line, the bytes of one line without its end, as
+/// `eb_leader_add_text` does.
 #[unsafe(no_mangle)]
 pub extern "C" fn eb_leader_add_line(alloc: Global, leader: &mut Handle, line: &[u8]) -> u32
     ensures added { (w : WriterToken) → LeadsToLeader leader.old.seal.held w
@@ -106,7 +110,8 @@ pub extern "C" fn eb_leader_add_line(alloc: Global, leader: &mut Handle, line: &
     add_by(alloc, leader, document_in_line(alloc, line))
 }
 
-// Adds what was read of a document: 0, or the number of the refusal; 16 where the handle leads to no leader.
+// Adds what was read of a document: 0, or the number of the refusal; 16 where the handle isn't that
+// of a leader.
 pub(crate) fn add_by(alloc: Global, leader: &mut Handle, read: Result<Document, Refusal>) -> u32
     ensures added { (w : WriterToken) → LeadsToLeader leader.old.seal.held w
         → (v : WriterToken) × LeadsToLeader leader.new.seal.held v × LeaderAdds read w result v }
@@ -121,7 +126,8 @@ pub(crate) fn add_by(alloc: Global, leader: &mut Handle, read: Result<Document, 
     number
 }
 
-fn add_read(held: &mut Held, read: Result<Document, Refusal>) -> u32
+// Adds what was read of a document: 0, or the number of the refusal.
+pub(crate) fn add_read(held: &mut Held, read: Result<Document, Refusal>) -> u32
     ensures added { (w : WriterToken) → held.old ≡ Held.Leader w → (v : WriterToken) × (held.new ≡ Held.Leader v) × LeaderAdds read w result v }
     ensures bad { kind_of (Some held.old) ≢ 4 → (result ≡ 16) × (held.new ≡ held.old) }
 {
@@ -140,9 +146,10 @@ fn add_read(held: &mut Held, read: Result<Document, Refusal>) -> u32
     }
 }
 
-/// Tells each follower of the generations that were begun, as an add does too, and says by `told` whether each knows of them
-/// now (1), or one couldn't be told, since it was just at its letters or there was no memory (0): 0; or 16 where the handle
-/// leads to no leader, and nothing is told.
+/// Sends the news of the generations that were begun to each follower, as an add does too. `told`
+/// is 1 where all followers have them now, and 0 where that failed for one, since it was just at
+/// its mailbox or memory ran out: 0; or 16 where the handle isn't that of a leader, and nothing is
+/// reported.
 #[unsafe(no_mangle)]
 pub extern "C" fn eb_leader_tell(alloc: Global, leader: &mut Handle, told: &mut u32) -> u32
     ensures leader { leader.new.seal.held ≡ leader.old.seal.held }
@@ -158,6 +165,7 @@ pub extern "C" fn eb_leader_tell(alloc: Global, leader: &mut Handle, told: &mut 
     number
 }
 
+// Sends the news to the followers of a leader: 0, or 16 where it isn't a leader.
 fn tell_held(held: &mut Held, told: &mut u32) -> u32
     ensures held { held.new ≡ held.old }
     ensures done { kind_of (Some held.old) ≡ 4 → (result ≡ 0) × (told.new ≤ 1) }
@@ -170,9 +178,10 @@ fn tell_held(held: &mut Held, told: &mut u32) -> u32
     0
 }
 
-/// Makes the converter of the leader's newest generation, where it wasn't made since that was begun; else the handle stays
-/// closed: 0; else `NoMemory` (12), and the generation stays as it is, or 16 where the one handle leads to no leader, or the
-/// other isn't closed. `eb_converter_convert` takes it, also where the generation isn't the newest any more.
+/// Makes the converter of the leader's newest generation, if it wasn't made since that was begun;
+/// else the handle stays closed: 0; else `NoMemory` (12), and the generation stays as it is, or 16
+/// where the one handle isn't that of a leader, or the other isn't closed. `eb_converter_convert`
+/// takes it, even where the generation isn't the newest any more.
 #[unsafe(no_mangle)]
 pub extern "C" fn eb_leader_converter(
     alloc: Global,
@@ -207,6 +216,7 @@ pub extern "C" fn eb_leader_converter(
     }
 }
 
+// The converter of a leader's newest generation, if it wasn't made yet.
 fn converter_of(held: &mut Held) -> Option<FeedConverter>
     ensures held { held.new ≡ held.old }
     ensures made { (w : WriterToken) → held.old ≡ Held.Leader w → IfSome result (λ c. IsOfNewest c.index w.feed.log) }
@@ -217,8 +227,9 @@ fn converter_of(held: &mut Held) -> Option<FeedConverter>
     }
 }
 
-/// Opens an index of this setting ahead, for the next generation of a feed, on any thread; its handle is closed before: 0; else
-/// `BadSetting` (13), `NoMemory` (12), or 16 where the handle isn't closed, and it is as before. Takes memory for one generation.
+/// Opens an index of this setting ahead, for the next generation of a feed, on any thread; its
+/// handle is closed before: 0; else `BadSetting` (13), `NoMemory` (12), or 16 where the handle
+/// isn't closed, and it is as before. Takes memory for one generation.
 #[unsafe(no_mangle)]
 pub extern "C" fn eb_spare_open(
     alloc: Global,
@@ -251,6 +262,7 @@ pub extern "C" fn eb_spare_open(
     }
 }
 
+// An index that is opened ahead, as its handle.
 fn open_spare(alloc: Global, config: Config) -> Result<Handle, NoMemory>
     ensures { IfOk result (λ h. (s : Words) × LeadsToSpare h.seal.held s × (s.setting ≡ config)) }
 {
@@ -260,10 +272,11 @@ fn open_spare(alloc: Global, config: Config) -> Result<Handle, NoMemory>
     }
 }
 
-/// Gives this leader an index that was opened ahead: the add that begins the next generation takes it, and opens none. The
-/// spare's handle leads then to the one that the leader was given before and didn't begin yet, or it is closed where there is
-/// none: 0; else `BadSetting` (13) where its setting isn't that of the feed, or 16 where the one handle leads to no leader, or the
-/// other to no spare index, and both are as before. Takes no memory.
+/// Gives this leader an index that was opened ahead: the add that begins the next generation takes
+/// it, and opens none. The spare's handle then leads to the one that the leader was given before
+/// and didn't begin yet, or it is closed where there is none: 0; else `BadSetting` (13) where its
+/// setting isn't that of the feed, or 16 where the one handle isn't that of a leader, or the other
+/// isn't that of a spare index, and both are as before. Takes no memory.
 #[unsafe(no_mangle)]
 pub extern "C" fn eb_leader_lend(alloc: Global, leader: &mut Handle, spare: &mut Handle) -> u32
     ensures leader { leader.new.seal.held ≡ leader.old.seal.held }
@@ -285,6 +298,7 @@ pub extern "C" fn eb_leader_lend(alloc: Global, leader: &mut Handle, spare: &mut
     number
 }
 
+// Lends the index that a handle leads to: 0, or the number of the refusal.
 fn lend_by(alloc: Global, held: &mut Held, spare: &mut Handle) -> u32
     ensures held { held.new ≡ held.old }
     ensures lent { (w : WriterToken) (s : Words) → held.old ≡ Held.Leader w → LeadsToSpare spare.old.seal.held s
@@ -296,7 +310,8 @@ fn lend_by(alloc: Global, held: &mut Held, spare: &mut Handle) -> u32
     let Some(lent) = spare.take(alloc) else {
         return BAD_HANDLE;
     };
-    // The handle of the one that comes back is that of the one that is lent, so that none is lost for want of memory.
+    // The one that comes back gets the handle of the one that is lent, so that none is lost where
+    // memory runs out.
     let mut lent = lent;
     if !lend_held(held, &mut lent) {
         *spare = Handle::of(lent);
@@ -315,8 +330,8 @@ fn is_out(lent: &Held) -> bool
     matches!(lent, Held::Spare(None))
 }
 
-// Gives an index to a leader, and has the one that it had in its place, or nothing. False where these are no leader and no index of its
-// feed's setting; both are then as before.
+// Gives an index to a leader, and gets the one that it had, or nothing. False where these aren't a
+// leader and an index of its feed's setting; both are then as before.
 fn lend_held(held: &mut Held, lent: &mut Held) -> bool
     ensures held { held.new ≡ held.old }
     ensures lent { (w : WriterToken) (s : Words) → held.old ≡ Held.Leader w → lent.old ≡ Held.Spare (Some s)
@@ -330,10 +345,12 @@ fn lend_held(held: &mut Held, lent: &mut Held) -> bool
     }
 }
 
-/// Takes the generation that this leader's last turn let go, where that turn began an index that was lent, and it wasn't taken yet;
-/// else the handle stays closed: 0; else 16 where the one handle leads to no leader, or the other isn't closed. So the add of that
-/// turn gives no memory back: `eb_close` does, on any thread, unless a follower or the generation's converter holds it on. Takes
-/// memory for the handle; where there is none, `NoMemory` (12), and the generation is let go in this call.
+/// Takes the generation that this leader's last turn dropped, if that turn began an index that was
+/// lent, and the generation wasn't taken yet; else the handle stays closed: 0; else 16 where the
+/// one handle isn't that of a leader, or the other isn't closed. So the add of that turn gives no
+/// memory back: `eb_close` does, on any thread, unless a follower or the generation's converter
+/// still holds it. Takes memory for the handle; where memory runs out, `NoMemory` (12), and this
+/// call drops the generation.
 #[unsafe(no_mangle)]
 pub extern "C" fn eb_leader_released(
     alloc: Global,
@@ -368,6 +385,7 @@ pub extern "C" fn eb_leader_released(
     }
 }
 
+// The generation that a leader's last turn dropped, if it wasn't taken yet.
 fn released_by(held: &mut Held) -> Option<Released>
     ensures held { held.new ≡ held.old }
     ensures taken { (w : WriterToken) → held.old ≡ Held.Leader w → IfSome result (λ p. IsLetGo p w.keep w.feed.log) }
@@ -378,8 +396,8 @@ fn released_by(held: &mut Held) -> Option<Released>
     }
 }
 
-/// Makes a follower that knows all that this leader added: 0; else `NoMemory` (12), or 16 where the one handle leads to no
-/// leader, or the other isn't closed, and both are as before.
+/// Makes a follower that knows all that this leader added: 0; else `NoMemory` (12), or 16 where the
+/// one handle isn't that of a leader, or the other isn't closed, and both are as before.
 #[unsafe(no_mangle)]
 pub extern "C" fn eb_follower(alloc: Global, leader: &mut Handle, follower: &mut Handle) -> u32
     ensures made { (w : WriterToken) → LeadsToLeader leader.old.seal.held w → result ≡ 0 → LeadsToFollower follower.new.seal.held w.feed }
@@ -409,6 +427,7 @@ pub extern "C" fn eb_follower(alloc: Global, leader: &mut Handle, follower: &mut
     }
 }
 
+// A follower that knows what this leader knows.
 fn follower_of(held: &mut Held) -> Option<HeldFollower>
     ensures held { held.new ≡ held.old }
     ensures made { (w : WriterToken) → held.old ≡ Held.Leader w → IfSome result (λ f. f ≡ w.feed) }
@@ -419,12 +438,14 @@ fn follower_of(held: &mut Held) -> Option<HeldFollower>
     }
 }
 
-/// Takes in what this follower was told, and answers a query text, which is UTF-8, of which the newest `k` matches are wanted,
-/// over the generations that it then holds: those that its feed keeps, as far as it knows them, and of the newest of them the
-/// documents that are accepted when the call counts them. 0, and the ids of the newest that match, newest first, as many as
-/// there is room for; `answer` tells how many documents stand in the history that the follower knows then, and how many ids
-/// there are. Else the number of the refusal, no id is written, the follower is as before, and `answer` tells the column of a
-/// bad query; 16 where the handle leads to no follower. Takes memory for the query and its search, which is given back.
+/// Takes in this follower's news, and answers a query text, which is UTF-8, of which the newest `k`
+/// matches are wanted, over the generations that it then holds: those that its feed keeps, as far
+/// as it knows them, and of the newest of them the documents that are accepted when the call counts
+/// them. 0, and the ids of the newest that match, newest first, as many as there is room for;
+/// `answer` reports how many documents are in the history that the follower knows then, and how
+/// many ids there are. Else the number of the refusal, no id is written, the follower is as before,
+/// and `answer` reports the column of a bad query; 16 where the handle isn't that of a follower.
+/// Takes memory for the query and its search, which is given back.
 #[unsafe(no_mangle)]
 pub extern "C" fn eb_follower_ask_text(
     alloc: Global,
@@ -465,7 +486,8 @@ pub extern "C" fn eb_follower_ask_line(
     ask_by(alloc, follower, question_in_line(alloc, line), ids, answer)
 }
 
-// Answers what was read of a question: 0, or the number of the refusal; 16 where the handle leads to no follower.
+// Answers what was read of a question: 0, or the number of the refusal; 16 where the handle isn't
+// that of a follower.
 pub(crate) fn ask_by(
     alloc: Global,
     follower: &mut Handle,
@@ -489,6 +511,7 @@ pub(crate) fn ask_by(
     number
 }
 
+// Answers what was read of a question, by what the handle leads to.
 fn ask_held(held: &mut Held, read: Question, ids: &mut [u64], answer: &mut Answer) -> u32
     ensures told { (f : FeedToken) → held.old ≡ Held.Follower f
         → (g : FeedToken) × (held.new ≡ Held.Follower g) × Follows (asked_of read) f g
@@ -513,8 +536,8 @@ fn ask_held(held: &mut Held, read: Question, ids: &mut [u64], answer: &mut Answe
     }
 }
 
-/// Tells how many documents stand in the history that this follower knows: 0; or 16 where the handle leads to no follower,
-/// and nothing is told. Takes no memory.
+/// Reports how many documents are in the history that this follower knows: 0; or 16 where the
+/// handle isn't that of a follower, and nothing is reported. Takes no memory.
 #[unsafe(no_mangle)]
 pub extern "C" fn eb_follower_seen(alloc: Global, follower: &mut Handle, seen: &mut u64) -> u32
     ensures told { (f : FeedToken) → LeadsToFollower follower.old.seal.held f → (result ≡ 0) × (seen.new ≡ counted (history_of f.log f.docs)) }
@@ -530,6 +553,7 @@ pub extern "C" fn eb_follower_seen(alloc: Global, follower: &mut Handle, seen: &
     number
 }
 
+// How many documents a follower knows: 0, or 16 where it isn't a follower.
 fn seen_by(held: &mut Held, seen: &mut u64) -> u32
     ensures held { held.new ≡ held.old }
     ensures told { (f : FeedToken) → held.old ≡ Held.Follower f → (result ≡ 0) × (seen.new ≡ counted (history_of f.log f.docs)) }
@@ -542,8 +566,9 @@ fn seen_by(held: &mut Held, seen: &mut u64) -> u32
     0
 }
 
-/// Tells how many generations this follower holds, which its next answer is over unless it is told of more: 0; or 16 where
-/// the handle leads to no follower, and nothing is told. Takes no memory.
+/// Reports how many generations this follower holds, which its next answer is over unless news of
+/// more comes: 0; or 16 where the handle isn't that of a follower, and nothing is reported. Takes
+/// no memory.
 #[unsafe(no_mangle)]
 pub extern "C" fn eb_follower_held(alloc: Global, follower: &mut Handle, number: &mut u64) -> u32
     ensures told { (f : FeedToken) → LeadsToFollower follower.old.seal.held f → (result ≡ 0) × (number.new ≡ f.held) }
@@ -559,6 +584,7 @@ pub extern "C" fn eb_follower_held(alloc: Global, follower: &mut Handle, number:
     done
 }
 
+// How many generations a follower holds: 0, or 16 where it isn't a follower.
 fn held_by(held: &mut Held, number: &mut u64) -> u32
     ensures held { held.new ≡ held.old }
     ensures told { (f : FeedToken) → held.old ≡ Held.Follower f → (result ≡ 0) × (number.new ≡ f.held) }

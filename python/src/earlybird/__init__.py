@@ -8,7 +8,7 @@
     Answer([101], seen=2)
 
 Where one thread adds while others search, `Writer` of `earlybird.shared` opens an index that they share, and `Leader` of
-`earlybird.stream` a feed that never ends. `earlybird.refusals` has the reasons why a call did nothing.
+`earlybird.stream` a feed that never ends. `Watches` are standing queries. `earlybird.refusals` has the reasons why a call did nothing.
 
 A message can be found as soon as `add` returns, and the newest matches come first. Queries are those of the program `earlybird`
 (docs/QUERIES.md), and so are the refusals, each an exception of its name. The classes of the three modules are names of this one, too.
@@ -28,15 +28,19 @@ from earlybird._refusals import (
     Full,
     LongLine,
     NoMemory,
+    NoWatch,
     QueryTooDeep,
     QueryTooLarge,
     Refused,
     TooLong,
+    WatchesFull,
+    WatchTaken,
 )
 from earlybird._shared import Converter, Reader, Writer
 from earlybird._stream import Follower, Leader, Released, Spare
+from earlybird._watches import Watches
 
 __version__ = "0.5.0"
 
 # the first page; the other names are those of the modules
-__all__ = ["Answer", "Count", "Histogram", "Index", "Refused", "Segment", "refusals", "shared", "stream"]
+__all__ = ["Answer", "Count", "Histogram", "Index", "Refused", "Segment", "Watches", "refusals", "shared", "stream"]

@@ -1,12 +1,13 @@
 """What is common to the objects that threads share, each of which has a handle."""
 import ctypes
 import threading
-from typing import Any, List, Optional, Tuple
+from typing import Any, Iterable, List, Optional, Tuple
 
 from earlybird import _library
+from earlybird._blocks import add_all
 from earlybird._index import MOST_ID, MOST_IDS, Answer, Count, Histogram, at_least_one, bytes_of, counted
 from earlybird._reading import Reading
-from earlybird._refusals import BadDocument, BadNumber, refusal, whole
+from earlybird._refusals import BadDocument, BadNumber, Refused, refusal, whole
 
 
 class Side:
@@ -35,7 +36,9 @@ class Side:
         raise TypeError("a %s can't be pickled or copied: its memory belongs to this process" % type(self).__name__)
 
     def __del__(self) -> None:
-        self._calls.eb_close(self._at)
+        # (where the library can't be loaded, it has no handle)
+        if hasattr(self, "_at"):
+            self._calls.eb_close(self._at)
 
 
 class Adding(Side):
@@ -45,7 +48,8 @@ class Adding(Side):
 
     def __init__(self, *reading: Any) -> None:
         super().__init__()
-        self._by_text, self._by_line = (getattr(self._calls, self._name + word) for word in ("_add_text_with", "_add_line_with"))
+        words = ("_add_text_with", "_add_line_with", "_add_texts_with")
+        self._by_text, self._by_line, self._by_texts = (getattr(self._calls, self._name + word) for word in words)
         self._reading = Reading(self._calls, *reading)
 
     def _add(self, id: int, text: str) -> None:
@@ -57,6 +61,20 @@ class Adding(Side):
     def _add_line(self, line: bytes) -> None:
         with self._alone:
             self._done(self._by_line(self._at, self._reading.at, line, len(line)))
+
+    def _add_texts(self, texts: int, number: int) -> Tuple[int, int]:
+        added = ctypes.c_uint64()
+        with self._alone:
+            return self._by_texts(self._at, self._reading.at, texts, number, ctypes.addressof(added)), added.value
+
+    def add_all(self, messages: Iterable[Tuple[int, str]]) -> List[Tuple[int, Refused]]:
+        """Adds messages in order, each an id and a text, and goes on after a refusal, as `Index.add_all` does: many in a call, and so faster
+        than `add` beside other threads. They are added in blocks of at most 512 messages: where the iterable waits for one, those of the
+        block before it can't be found yet.
+
+        Answers the refused ones: where each stands among the messages, from 0, and why it was refused.
+        """
+        return add_all(self._add_texts, messages)
 
 
 class Asking(Side):

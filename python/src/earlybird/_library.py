@@ -24,6 +24,10 @@ class Counted(ctypes.Structure):
     _fields_ = [("seen", ctypes.c_uint64), ("total", ctypes.c_uint64), ("column", ctypes.c_uint64)]
 
 
+class ToldWatches(ctypes.Structure):
+    _fields_ = [("count", ctypes.c_uint64), ("written", ctypes.c_uint64)]
+
+
 class How(ctypes.Structure):
     _fields_ = [
         *((name + end, kind) for name in ("fields", "id", "text") for end, kind in (("", ctypes.c_char_p), ("_len", ctypes.c_size_t))),
@@ -57,6 +61,7 @@ def load() -> ctypes.CDLL:
         ("eb_open", u32, [pointer, pointer, u32, u32, u32]),
         ("eb_writer_add_line_with", u32, [pointer, pointer, *text]),
         ("eb_writer_add_text_with", u32, [pointer, pointer, u64, *text]),
+        ("eb_writer_add_texts_with", u32, [pointer, pointer, pointer, size, pointer]),
         ("eb_reader", u32, [pointer, pointer]),
         ("eb_reader_ask_line_with", u32, [pointer, pointer, *text, *ids]),
         ("eb_reader_ask_text_with", u32, [pointer, pointer, u32, *text, *ids]),
@@ -67,6 +72,7 @@ def load() -> ctypes.CDLL:
         ("eb_stream_open", u32, [pointer, u32, u32, u32, u32]),
         ("eb_leader_add_line_with", u32, [pointer, pointer, *text]),
         ("eb_leader_add_text_with", u32, [pointer, pointer, u64, *text]),
+        ("eb_leader_add_texts_with", u32, [pointer, pointer, pointer, size, pointer]),
         ("eb_leader_tell", u32, [pointer, pointer]),
         ("eb_leader_converter", u32, [pointer, pointer]),
         ("eb_spare_open", u32, [pointer, u32, u32, u32]),
@@ -78,6 +84,11 @@ def load() -> ctypes.CDLL:
         ("eb_follower_count_text_with", u32, [pointer, pointer, *counts]),
         ("eb_follower_seen", u32, [pointer, pointer]),
         ("eb_follower_held", u32, [pointer, pointer]),
+        ("eb_watches", u32, [pointer]),
+        ("eb_watch_set", u32, [pointer, pointer, u32, *text, pointer]),
+        ("eb_watch_remove", u32, [pointer, u32]),
+        ("eb_watches_tell_line", u32, [pointer, pointer, *text, *ids]),
+        ("eb_watches_tell_text", u32, [pointer, pointer, u64, *text, *ids]),
     ]:
         call = getattr(library, name)
         call.restype, call.argtypes = result, arguments

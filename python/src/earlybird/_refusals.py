@@ -121,11 +121,29 @@ class BadReading(Refused, ValueError):
     number, name = 17, "bad reading"
 
 
+class WatchTaken(Refused):
+    """A watch has the number of the one that is to be set."""
+
+    number, name = 18, "watch taken"
+
+
+class WatchesFull(Refused):
+    """No watch has the number, and 10,000 are set."""
+
+    number, name = 19, "watches full"
+
+
+class NoWatch(Refused):
+    """No watch has the number of the one that is to be removed."""
+
+    number, name = 20, "no watch"
+
+
 BY_NUMBER: Dict[int, Type[Refused]] = {
     it.number: it
     for it in (
         BadLine, LongLine, BadJson, BadDocument, TooLong, Full, BadNumber, QueryTooDeep, QueryTooLarge, BadText, NoMemory, BadSetting, BadHandle,
-        BadReading,
+        BadReading, WatchTaken, WatchesFull, NoWatch,
     )
 }
 

@@ -20,13 +20,16 @@ from earlybird._refusals import (
     Full,
     LongLine,
     NoMemory,
+    NoWatch,
     QueryTooDeep,
     QueryTooLarge,
     Refused,
     TooLong,
+    WatchesFull,
+    WatchTaken,
 )
 
 __all__ = [
     "BadDocument", "BadHandle", "BadJson", "BadLine", "BadNumber", "BadQuery", "BadReading", "BadSetting", "BadText", "Full", "LongLine", "NoMemory",
-    "QueryTooDeep", "QueryTooLarge", "Refused", "TooLong",
+    "NoWatch", "QueryTooDeep", "QueryTooLarge", "Refused", "TooLong", "WatchTaken", "WatchesFull",
 ]

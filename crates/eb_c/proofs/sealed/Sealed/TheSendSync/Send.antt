@@ -11,10 +11,24 @@ use Rattle.std.proofs.Crossing as heap
 use Rattle.std.specs.Global.{Global}
 use Rattle.std_alloc.proofs.SendSync.{quiet, lies}
 use Rattle.std_heap.proofs.Global.TheSendSync as handle
+use Rattle.eb_stream.proofs.converter.FeedConverter.TheSendSync as feed_converter
+use Rattle.eb_stream.proofs.spare.Spare.TheSendSync as spare
+use Rattle.eb_stream.proofs.released.Released.TheSendSync as released
+use Rattle.eb_c.proofs.WatchesCrossing.{watches_send}
 use Rattle.eb_c.specs.Sealing.{sealed_owns}
 use Rattle.eb_c.specs.contracts.held.Held as Held
-use Rattle.eb_c.proofs.held.Held.TheSendSync.{the_send as held}
+use Rattle.eb_c.proofs.held.HeldWriter.TheSendSync as writer
+use Rattle.eb_c.proofs.held.HeldReader.TheSendSync as reader
+use Rattle.eb_c.proofs.held.HeldConverter.TheSendSync as converter
+use Rattle.eb_c.proofs.leading.HeldLeader.TheSendSync as leader
+use Rattle.eb_c.proofs.leading.HeldFollower.TheSendSync as follower
 use Rattle.eb_c.specs.contracts.sealed.Sealed.{the_row, the_type}
+
+held : IsSend Held.the_row
+held =
+    let watches = watches_send in
+    search (sendable, writer.the_send, reader.the_send, converter.the_send, leader.the_send, follower.the_send, feed_converter.the_send, spare.the_send, released.the_send)
+    depth 20
 
 owns_keyless : (a : Global) (p : Ptr) (h : Option Held.the_row.Denot) → Keyless (sealed_owns a p h)
 owns_keyless a p None = tt

@@ -4,17 +4,17 @@ use Rattle.std.proofs.lemmas.Str.{IsUtf8-from_is_utf8, is_utf8-from_IsUtf8}
 use Rattle.std.proofs.Common.{length, ◌++◌}
 use Rattle.eb_fields.specs.Dialect.{dialect_of}
 use Rattle.eb_c.specs.declared.refusal.Refusal.TheVariants.{NoMemory as out_of_memory, BadText}
-use Rattle.eb_c.specs.Asking.{ReadsBy, TextAsksIf, asked_of, refused, line_front}
-use Rattle.eb_c.proofs.reading.text_question.Goals as goal
+use Rattle.eb_c.specs.Asking.{ReadsBy, TextAsksIf, parsed_of, refused, line_front}
+use Rattle.eb_c.proofs.reading.text_parsed.Goals as goal
 
 pub returns-in-Ok : goal.returns-in-Ok
 returns-in-Ok c =
     let how = dialect_of c.args.dialect in
     let bytes = c.args.text.now in
-    let x = asked_of c.question_of_text.result in
+    let x = parsed_of c.parsed_of_text.result in
     let P : Bool → Type 0 = λ b. (x ≡ refused out_of_memory 0) ⊎ TextAsksIf how b c.args.k bytes x in
     let Q : List ℕ → Type 0 = λ t. (x ≡ refused out_of_memory 0) ⊎ ReadsBy how (length (line_front c.args.k)) (line_front c.args.k ++ t) x in
-    subst P (sym (is_utf8-from_IsUtf8 bytes c.in-Ok.ensures.cases.1)) (subst Q c.in-Ok.ensures.cases.0 c.question_of_text.ensures)
+    subst P (sym (is_utf8-from_IsUtf8 bytes c.in-Ok.ensures.cases.1)) (subst Q c.in-Ok.ensures.cases.0 c.parsed_of_text.ensures)
 
 pub returns-in-Err : goal.returns-in-Err
 returns-in-Err c =
