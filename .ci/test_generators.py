@@ -2,6 +2,7 @@
 built dist/ and with another one."""
 import contextlib
 import os
+import shutil
 import subprocess
 import tempfile
 
@@ -63,7 +64,8 @@ def try_phrases(check):
     check("the list of phrases has none fewer", True, len(instead) >= 58)
     check("each has other words to write", [], [it for it, words in instead.items() if not words or it in words.lower()])
     with tempfile.TemporaryDirectory(prefix="use-") as folder:
-        for name, form in (("README.md", "%s.\n"), ("docs/MORE.md", "So: %s\n\n"), ("include/more.h", " * %s\n"), ("rust/src/more.rs", "    /// %s\n")):
+        for name, form in (("README.md", "%s.\n"), ("docs/MORE.md", "So: %s\n\n"), ("include/more.h", " * %s\n"), ("rust/src/more.rs", "    /// %s\n"),
+                           ("crates/eb_more/src/more.rt", "    //! %s\n"), ("crates/eb_more/proofs/more/More.antt", "  -- %s\n")):
             begins = "\n" + (form[: form.index("%")] if form.startswith(" ") else "")
             texts = [it if at % 2 else it.upper().replace(" ", begins, 1) for at, it in enumerate(instead)]
             write(os.path.join(folder, name), "".join(form % it for it in texts))
@@ -80,6 +82,13 @@ def try_phrases(check):
         at = [fault.split(" says ")[0].rpartition(":")[2] for fault in phrases.found(folder, listed)]
         check("of the page, its scripts", ["1", "2"], at)
         os.remove(os.path.join(folder, "console/earlybird_console/page/more.js"))
+        code = "let so = many(b'\"', \"// so many\", '/'); // it is so\n// many, \"so many\"\nso many // not\n// so\nlet it = 0;\n// many\n"
+        write(os.path.join(folder, "crates/eb_more/src/more/more.rt"), code)
+        spec = 'so many = "-- so many" -- so\n-- many\nmany - so - many // so many\n'
+        write(os.path.join(folder, "crates/eb_more/specs/More.antt"), spec)
+        at = [fault.split(" says ")[0].rpartition("/")[2] for fault in phrases.found(folder, listed)]
+        check("of the crates, their comments", ["more.rt:1", "more.rt:2", "More.antt:1"], at)
+        shutil.rmtree(os.path.join(folder, "crates"))
         write(os.path.join(folder, "README.md"), "one\ntwo so\nmany\n")
         check("where it is", ["README.md:2 says 'so many'; write: %s" % instead["so many"]], phrases.found(folder, listed))
 

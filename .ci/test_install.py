@@ -183,7 +183,7 @@ def the_completions(place):
     given = [it for it in complete("run", "--parts", "3", "--docs", "5", "") if it]
     place.check("completion: at most one way, and each option once", ["--overlap", "--fields", "--words", "--counts", "--id", "--text", "--stats", "--json", "--segments", "--terms"], given)
     beside = [it for it in complete("feed", "--workers", "3", "--docs", "5", "") if it]
-    place.check("completion: what can't stand beside workers of a feed", ["--keep", "--fields", "--words", "--id", "--text", "--json", "--segments", "--terms"], beside)
+    place.check("completion: what can't stand beside workers of a feed", ["--keep", "--fields", "--words", "--counts", "--id", "--text", "--json", "--segments", "--terms"], beside)
     place.check("completion: a folder", True, ".local" in complete("install", "--prefix", ".lo"))
     for shell, file, words in [("zsh", "zsh/site-functions/_earlybird", ["-n"]), ("fish", "fish/vendor_completions.d/earlybird.fish", ["-n"])]:
         if place.has(shell):

@@ -163,8 +163,6 @@ TOLD = [
     ("", "a command is missing; earlybird help names all"), ("rum", "there is no command rum: did you mean run?"),
     ("app.log", "there is no command app.log; to search a file: earlybird live app.log"), ("--docs 5", "a command comes before --docs, as in: earlybird run --docs"),
     ("run --terms 3000", "--terms: 3000 is no power of two: 2048 or 4096"), ("run -d 5", "there is no option -d of run: did you mean --docs?"),
-    ("run --overlap --counts", "--overlap and --counts are given together only beside --parts: leave one of them out"),
-    ("run --counts --workers 2", "--workers and --counts can't be given together: leave one of them out"),
     ("run --fields", "--fields takes names with commas between, as in --fields from,level"), ("run --idd x", "there is no option --idd of run: did you mean --id?"),
     ("run --nope", "there is no option --nope of run; earlybird help run names all"), ("run file.jsonl", "run reads standard input, and takes no files: earlybird run < file.jsonl"),
     ("run 'a b'", "run reads standard input, and takes no files: earlybird run < 'a b'; for lines of text: earlybird live 'a b'"),

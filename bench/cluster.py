@@ -2,7 +2,7 @@
 """Measures the cluster on this machine, in turn with one program over a pipe: messages and queries a second, the processor time of
 each, the time of one query, and the time to build a partition again. Needs redis-server and Python's module redis:
 /usr/bin/python3 bench/cluster.py [--messages N] [--rounds N] [--before FOLDER], where FOLDER has the cluster of version 0.5.0, as commit 7b1faa30
-has it: that is measured in turn, too, with a fifth of the messages. The result goes to bench/results/, `cluster-` and the date and commit."""
+has it, in its folder cluster/: that is measured in turn, too, with a fifth of the messages. The result goes to bench/results/, `cluster-` and the date and commit."""
 import argparse
 import json
 import os
@@ -182,6 +182,8 @@ def main():
     parser.add_argument("--before", metavar="FOLDER", help="a checkout with the cluster of version 0.5.0")
     parser.add_argument("--out", metavar="FILE", help="where the result goes in place of bench/results/")
     given = parser.parse_args()
+    if given.before and not os.path.isfile(os.path.join(given.before, "cluster", "checking.py")):
+        parser.error("--before: %s has no cluster/checking.py, as version 0.5.0 has; name the folder above cluster/" % given.before)
     material = made(given.messages)
     told = result_files.begun(messages=given.messages, load_before=os.getloadavg()[0], rounds={})
     for _ in range(given.rounds):

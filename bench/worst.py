@@ -42,6 +42,9 @@ def texts(count):
         "of a, 16 of them": [["a"] * WORDS] * 16,
         "of a, with b at the end": [["a"] * (WORDS - 1) + ["b"]] * count,
         "of a and b in turn": [["a", "b"] * (WORDS // 2)] * count,
+        "of 63 a and b in turn": [(["a"] * 63 + ["b"]) * (WORDS // 64)] * count,
+        "of 4 a and b in turn": [(["a"] * 4 + ["b"]) * (WORDS // 5)] * count,
+        "of 31 a and b, and then c, in turn": [(["a", "b"] * 31 + ["c"]) * (WORDS // 63)] * count,
         "of 64 words in turn": [some * (WORDS // 64)] * count,
         "of 64 words at random": [[chance.choice(some) for _ in range(WORDS)] for _ in range(count)],
         "of 8 words, short": [[chance.choice(["a", "b", *some]) for _ in range(8)] for _ in range(8 * count)],
@@ -85,7 +88,9 @@ def queries():
         "8 minuses, nested": "-(" * 8 + "a b" + ")" * 8,
         "since in the middle": a(20) + " since:500 -since:900 " + a(20),
     }
-    for reach in (63, 64, 128, 1023):
+    for reach in (63, 77, 125):
+        found["a window of 32 a and b in turn, ~%d" % reach] = '"%s"~%d' % (joined(["a b"] * 32), reach)
+    for reach in (63, 64, 77, 125, 128, 1023):
         found["a window of 64 a, ~%d" % reach] = '"%s"~%d' % (a(64), reach)
         found["a window of 63 a and b, ~%d" % reach] = '"%s b"~%d' % (a(63), reach)
         found["a window of b and 63 a, ~%d" % reach] = '"b %s"~%d' % (a(63), reach)

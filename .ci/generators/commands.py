@@ -26,7 +26,7 @@ OPTIONS = {
     "watch": Option(text="take lines !N QUERY and !N, which set and remove a watch: each message prints the watches that it matches"),
     "fields": Option("LIST", None, None, None, (), "find messages by their members of these names, as by from:mara; LIST is 1 to 8 names with commas between", example="from,level"),
     "words": Option("pieces", None, None, None, ("pieces",), "find words by their pieces too, as billing in com.acme.billing: cut them at each ASCII character that is no letter or digit", only=True, example="pieces"),
-    "counts": Option(text="take lines # QUERY and #X+W*N QUERY: how many messages match, and how many in each of N buckets, W ids wide, from the id X on; in run not beside --overlap without --parts"),
+    "counts": Option(text="take lines # QUERY and #X+W*N QUERY: how many messages match, and how many in each of N buckets, W ids wide, from the id X on"),
     "id": Option("NAME", text="the member that is a message's id, in place of id: a whole number, or a string of its digits", example="seq"),
     "text": Option("NAME", text="the member that is a message's text, in place of text", letter="t", example="message"),
     "stats": Option(text="print the number of segments, and how many are converted, after the summary; of a feed those that it keeps, and the number of generations"),
@@ -47,9 +47,9 @@ OPTIONS = {
 
 # A command: its words that aren't options; the options of which at most one is given (`ways`), and the others; and what it does. The
 # launcher has some commands of its own, which the program doesn't know. `beside` says which of the ways may be given together, and
-# `apart` which others may not; `unless` has pairs that may not but beside a third. Its own help has `about`, what it reads and prints, and `examples`. `parser` is the program that reads
+# `apart` which others may not. Its own help has `about`, what it reads and prints, and `examples`. `parser` is the program that reads
 # the command's words, where that is one in Python, and `says` what an option does there, where that differs.
-Command = namedtuple("Command", "words ways options text launcher beside apart about examples parser says unless", defaults=((), (), (), "", False, {}, {}, "", (), "", {}, {}))
+Command = namedtuple("Command", "words ways options text launcher beside apart about examples parser says", defaults=((), (), (), "", False, {}, {}, "", (), "", {}))
 
 SETTING = ("segments", "docs", "terms")
 # what --memory stands for
@@ -62,13 +62,12 @@ LINES = (
     "  ?5 hello                        a query: the newest 5 messages that match, newest first\n"
     "  ?5 \"night train\" OR (late -rain)   a phrase, OR, groups, minus; more: docs/QUERIES.md")
 COMMANDS = {
-    "run": Command((), ("overlap", "workers", "parts", "watch"), ("fields", "words", "counts", "id", "text", "stats", "json", *SETTING, "memory"), "read messages and queries, and print answers", beside={"parts": ("overlap",)}, apart={"workers": ("counts",)},
+    "run": Command((), ("overlap", "workers", "parts", "watch"), ("fields", "words", "counts", "id", "text", "stats", "json", *SETTING, "memory"), "read messages and queries, and print answers", beside={"parts": ("overlap",)},
                    about=LINES + "\n\nOnce the index is full it refuses the newest messages; feed drops the oldest instead.",
                    examples=(("earlybird run < examples/first.jsonl", "the first answers"), ("{ cat old.jsonl; cat; } | earlybird run", "messages of a file, then ask by hand"),
                              ("earlybird run --memory 800M < big.jsonl", "room for more messages"), ("earlybird run --json < lines.jsonl | jq .", "answers as JSON"),
-                             ("earlybird run --id seq --text message < app.jsonl", "messages whose members have other names")),
-                   unless={("overlap", "counts"): "parts"}),
-    "feed": Command((), ("overlap", "workers", "watch"), ("keep", "fields", "words", "counts", "id", "text", "stats", "json", *SETTING, "memory"), "the same, without end: the oldest messages go where there is no room", apart={"workers": ("counts", "stats")},
+                             ("earlybird run --id seq --text message < app.jsonl", "messages whose members have other names"))),
+    "feed": Command((), ("overlap", "workers", "watch"), ("keep", "fields", "words", "counts", "id", "text", "stats", "json", *SETTING, "memory"), "the same, without end: the oldest messages go where there is no room", apart={"workers": ("stats",)},
                     about=LINES,
                     examples=(("tail -n +1 -F app.jsonl | earlybird feed --memory 400M", "the newest messages of a log"),
                               ("{ echo '!1 timeout'; tail -F app.jsonl; } | earlybird feed --watch", "tell which messages match"))),

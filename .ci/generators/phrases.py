@@ -1,4 +1,4 @@
-"""The phrases that no document has (phrases.txt): where one is, and what to write instead."""
+"""The phrases that no document and no comment has (phrases.txt): where one is, and what to write instead."""
 import glob
 import io
 import os
@@ -11,8 +11,10 @@ READ = ("*.md", "docs/*.md", "bench/*.md", "crates/*/README.md", "examples/*/REA
         "console/earlybird_console/page/*.html", "console/earlybird_console/page/*.js")
 # programs of which people read the strings alone, those that document them too
 PROGRAMS = tuple("%s/earlybird_%s/**/*.py" % (it, it) for it in ("console", "cluster", "live", "logs", "web"))
+# sources of which people read the comments alone, and what begins one
+SOURCES = (("crates/*/**/*.rt", "//"), ("crates/*/**/*.antt", "--"))
 # between two words: blanks, or the end of a line and how a comment goes on
-GAP = r"(?:[ \t]+|[ \t]*\n[ \t]*(?:///?|//!|\*|#)?[ \t]*)"
+GAP = r"(?:[ \t]+|[ \t]*\n[ \t]*(?://[/!]?|--|\*|#)?[ \t]*)"
 
 
 def rows(text):
@@ -36,9 +38,15 @@ def strings_of(source):
     return "\n".join("".join(line).rstrip("\n") for line in out)
 
 
+def comments_of(sign):
+    """What is left of a source whose comments begin so: these, in their lines. A sign in a text or in a character begins none."""
+    code = re.compile(r"""(?:"(?:\\.|[^"\\])*"|'(?:\\.|[^'\\])'|(?!%s).)*""" % sign)
+    return lambda source: "\n".join(line[code.match(line).end():] for line in source.split("\n"))
+
+
 def texts(root):
     """Each file that people read, and what they read of it."""
-    for patterns, said in ((READ, str), (PROGRAMS, strings_of)):
+    for patterns, said in ((READ, str), (PROGRAMS, strings_of), *(((pattern,), comments_of(sign)) for pattern, sign in SOURCES)):
         for path in sorted({path for pattern in patterns for path in glob.glob(os.path.join(root, pattern), recursive=True)}):
             with open(path, encoding="utf-8") as file:
                 yield path, said(file.read())

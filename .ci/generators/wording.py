@@ -47,5 +47,4 @@ def text():
             apart = excluded(name, option)
             if apart:
                 rows.append("    apart[%s] = %s" % (quoted(name + " " + option), quoted(" ".join(apart))))
-        rows += ["    unless[%s] = %s" % (quoted(" ".join((name, *pair))), quoted(third)) for pair, third in it.unless.items()]
     return MADE + "function set_table() {\n" + "\n".join(rows) + "\n}\n"
