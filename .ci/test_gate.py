@@ -5,7 +5,7 @@ import shutil
 import subprocess
 import tempfile
 
-BEFORE = (".ci/check-edits", ".ci/generate", "crates/rows/plain.py")
+BEFORE = (".ci/check-edits", ".ci/generate", "crates/golden_runs/plain.py")
 TRIED = (".ci/test-program", "examples/embed/check", "cluster/check", "console/check")
 
 # proves nothing, and builds what is in $BUILT

@@ -114,7 +114,7 @@ def try_all(check, a_copy):
             done = subprocess.run([os.path.join(copy, ".ci/generate"), "--check"], **how)
             return done.stdout.decode().splitlines(), done.stderr.decode().splitlines(), done.returncode
 
-        source, readme, other = "crates/line_trials/src/tests/texts.rt", "crates/eb_text/README.md", "crates/eb_gen/README.md"
+        source, readme, other = "crates/test_lines/src/tests/texts.rt", "crates/eb_text/README.md", "crates/eb_gen/README.md"
         check("generated, without a kit", ([], [], 0), told())
         changes = [(source, "bytes.push(b'|')?;", "bytes.push(b'-')?;"), (other, "<!-- code:", "<!-- once:"),
                    ("crates.txt", "eb_gen: eb_base", "eb_gen: eb_base uuid"), *((path, old, new) for path, old, new, _ in PUBLIC),

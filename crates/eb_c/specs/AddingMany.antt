@@ -2,7 +2,7 @@
 use Rattle.std.specs.Prelude.{◌≡◌, ◌≢◌, ◌⊎◌, ℕ, suc, List, [], ◌∷◌, Result, Err}
 use Rattle.eb_base.specs.Document.{Doc}
 use Rattle.eb_engine.specs.Tokens.{HistoryToken}
-use Rattle.eb_stream.specs.Turns.{WriterToken}
+use Rattle.feed_shared.specs.Turns.{WriterToken}
 use Rattle.eb_c.specs.declared.adding_many.Text.{Text}
 use Rattle.eb_c.specs.declared.dialects.Reading.{Reading}
 use Rattle.eb_c.specs.declared.refusal.Refusal.{Refusal}

@@ -4,7 +4,7 @@ use Rattle.eb_base.specs.Document.{Doc}
 use Rattle.eb_cursor.specs.Frames.{query_of, k_of}
 use Rattle.eb_count.specs.Counts.{match_count, bucket_count}
 use Rattle.eb_count.specs.Tallies.{Numbers, raised}
-use Rattle.eb_stream.specs.Turns.{FeedToken, history_of, stretch_of, counted}
+use Rattle.feed_shared.specs.Turns.{FeedToken, history_of, stretch_of, counted}
 use Rattle.eb_c.specs.declared.counting.Axis.{Axis}
 use Rattle.eb_c.specs.declared.counting.Count.{Count}
 use Rattle.eb_c.specs.declared.counting.Counting.{Counting}

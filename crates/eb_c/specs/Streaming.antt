@@ -6,7 +6,7 @@ use Rattle.eb_base.specs.Setting.{Setting}
 use Rattle.eb_place.specs.Room.{has_room}
 use Rattle.eb_feed.specs.Generations.{with_generation}
 use Rattle.eb_table.specs.Known.{Words}
-use Rattle.eb_stream.specs.Turns.{FeedToken, PieceToken, WriterToken, generations_of, history_of, stretch_of, counted, HasLapsed, HasTaken}
+use Rattle.feed_shared.specs.Turns.{FeedToken, PieceToken, WriterToken, generations_of, history_of, stretch_of, counted, HasLapsed, HasTaken}
 use Rattle.eb_c.specs.declared.held.Held.{Held}
 use Rattle.eb_c.specs.declared.held.Held.TheVariants.{Leader, Follower, Spare, Released}
 use Rattle.eb_c.specs.declared.index.Answer.{Answer}

@@ -1,7 +1,7 @@
 //! Adds the documents of many texts in one call, one after the other.
 ghost use Rattle.std.specs.Prelude.{◌≡◌, ◌≢◌};
 ghost use Rattle.eb_engine.specs.Tokens.{HistoryToken};
-ghost use Rattle.eb_stream.specs.Turns.{WriterToken};
+ghost use Rattle.feed_shared.specs.Turns.{WriterToken};
 ghost use Rattle.eb_c.specs.AddingMany.{AddsEach, WriterAddsText, LeaderAddsText};
 ghost use Rattle.eb_c.specs.Sharing.{kind_of, LeadsToWriter};
 ghost use Rattle.eb_c.specs.Streaming.{LeadsToLeader};

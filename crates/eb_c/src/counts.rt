@@ -3,7 +3,7 @@ ghost use Rattle.std.specs.Prelude.{◌≡◌, ◌≢◌, List, Some, length};
 ghost use mathlib.Core.List.{IsPrefix};
 ghost use Rattle.eb_base.specs.Document.{Doc};
 ghost use Rattle.eb_engine.specs.Tokens.{HistoryToken};
-ghost use Rattle.eb_stream.specs.Turns.{FeedToken};
+ghost use Rattle.feed_shared.specs.Turns.{FeedToken};
 ghost use Rattle.eb_c.specs.Asking.{TextAsks};
 ghost use Rattle.eb_c.specs.Counting.{nothing_counted, wanted, IsPrepared, Counts, CountsOver, FollowerCounts, FollowerCountsOver};
 ghost use Rattle.eb_c.specs.Holding.{IsBegunIndex, Holds, IsIndex};

@@ -18,7 +18,7 @@ use eb_engine::{Converter, Index as Shared, Reader, Writer};
 use eb_place::Steps;
 use eb_watch::Watches;
 use eb_writer::Full;
-use eb_stream::{FeedConverter, Released, Spare};
+use feed_shared::{FeedConverter, Released, Spare};
 use std::alloc::Global;
 use std::marker::{Brand, Model};
 use std::sync::Arc;

@@ -5,14 +5,14 @@ ghost use Rattle.eb_base.specs.Match.{answer as answer_of};
 ghost use Rattle.eb_count.specs.Tallies.{HasCounted};
 ghost use Rattle.eb_cursor.specs.Frames.{query_of, k_of, ids_of};
 ghost use Rattle.eb_place.specs.Room.{has_room};
-ghost use Rattle.eb_stream.specs.Turns.{FeedToken, history_of, stretch_of, counted, HasTaken, IsLetGo, IsOfNewest};
+ghost use Rattle.feed_shared.specs.Turns.{FeedToken, history_of, stretch_of, counted, HasTaken, IsLetGo, IsOfNewest};
 ghost use Rattle.eb_c.specs.Streaming.{Takes, Hears, Learns};
 
 use eb_base::{Config, Document, NoMemory, OpenGate};
 use eb_count::Tally;
 use eb_cursor::Frame;
 use eb_place::Steps;
-use eb_stream::{FeedConverter, FeedWriter, Follower, Leader, Released, Spare};
+use feed_shared::{FeedConverter, FeedWriter, Follower, Leader, Released, Spare};
 use std::alloc::Global;
 use std::marker::{Brand, Model};
 use std::sync::ledger::{Blank, Ledger};
@@ -24,7 +24,7 @@ pub struct HeldLeader {
 }
 
 impl Model for HeldLeader {
-    ghost use Rattle.eb_stream.specs.Turns.{WriterToken};
+    ghost use Rattle.feed_shared.specs.Turns.{WriterToken};
 
     ghost Value = { WriterToken };
 
@@ -40,7 +40,7 @@ pub struct HeldFollower {
 
 impl Model for HeldFollower {
     ghost use Rattle.std.specs.Prelude.{◌≡◌};
-    ghost use Rattle.eb_stream.specs.Turns.{FeedToken, history_of, counted};
+    ghost use Rattle.feed_shared.specs.Turns.{FeedToken, history_of, counted};
 
     ghost Value = { FeedToken };
 

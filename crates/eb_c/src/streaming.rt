@@ -7,7 +7,7 @@ ghost use Rattle.eb_base.specs.Document.{Doc};
 ghost use Rattle.eb_base.specs.Setting.{Setting, IsSetting};
 ghost use Rattle.eb_engine.specs.Tokens.{ConverterToken};
 ghost use Rattle.eb_table.specs.Known.{Words};
-ghost use Rattle.eb_stream.specs.Turns.{FeedToken, PieceToken, WriterToken, history_of, counted, HasTaken, IsLetGo, IsOfNewest};
+ghost use Rattle.feed_shared.specs.Turns.{FeedToken, PieceToken, WriterToken, history_of, counted, HasTaken, IsLetGo, IsOfNewest};
 ghost use Rattle.eb_c.specs.Adding.{document_in, document_with};
 ghost use Rattle.eb_c.specs.Asking.{asked_of, nothing_told, LineAsks, TextAsks};
 ghost use Rattle.eb_c.specs.Sharing.{kind_of, LeadsNowhere, LeadsToConverter};
@@ -24,7 +24,7 @@ use crate::reading::{
 };
 use crate::refusal::Refusal;
 use eb_base::{Config, Document, NoMemory};
-use eb_stream::{FeedConverter, Released, Spare};
+use feed_shared::{FeedConverter, Released, Spare};
 use std::alloc::Global;
 
 /// Opens a feed without a document, which keeps `keep` generations of an index of this setting, 2

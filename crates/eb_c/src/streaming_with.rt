@@ -1,7 +1,7 @@
 //! The calls on the handles of a feed where a caller says how lines and texts are read.
 ghost use Rattle.std.specs.Prelude.{◌≡◌, ◌≢◌, ◌⊎◌, Err, Result};
 ghost use Rattle.eb_base.specs.Document.{Doc};
-ghost use Rattle.eb_stream.specs.Turns.{FeedToken, WriterToken};
+ghost use Rattle.feed_shared.specs.Turns.{FeedToken, WriterToken};
 ghost use Rattle.eb_c.specs.Adding.{document_in_as, document_as};
 ghost use Rattle.eb_c.specs.Asking.{nothing_told, LineAsksAs, TextAsksAs};
 ghost use Rattle.eb_c.specs.Counting.{nothing_counted, FollowerCounts};

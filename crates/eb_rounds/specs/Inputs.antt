@@ -11,7 +11,7 @@ use Rattle.eb_lines.specs.Reads.{IsOfDocument, ReadsByKind}
 use Rattle.eb_lines.specs.declared.refusal.Refusal.{Refusal}
 use Rattle.eb_lines.specs.Reading.{Reading, refused}
 use Rattle.eb_lines.specs.Progress.{documents_in}
-use Rattle.eb_indexed.specs.IndexRules.{admit}
+use Rattle.run_index.specs.IndexRules.{admit}
 
 -- what a held line is
 pub data HeldInput : Type 0 where

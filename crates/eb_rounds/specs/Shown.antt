@@ -9,7 +9,7 @@ use Rattle.eb_lines.specs.declared.form.Form.{Form}
 use Rattle.eb_lines.specs.Reading.{Reading, blank, document, query, refused, watch}
 use Rattle.eb_lines.specs.Progress.{is_query, is_refused}
 use Rattle.eb_lines.specs.Text.{room_of, most_listed}
-use Rattle.eb_indexed.specs.IndexRules.{output_of}
+use Rattle.run_index.specs.IndexRules.{output_of}
 use Rattle.eb_rounds.specs.Inputs.{HeldLine, Entry, ReadsLine, admitted_in, added}
 
 -- a line, and how many documents it sees where it is a query

@@ -3,7 +3,7 @@
 //!
 //! [`Rounds`] holds lines until they are processed, round after round. `WorkedOff`
 //! (`specs/Shown.antt`) says what a query of a round may see, and what the lines print; `Sees` of
-//! `eb_indexed` says which prefixes the queries of a whole input may see.
+//! `run_index` says which prefixes the queries of a whole input may see.
 #![tactic(auto)]
 
 mod adding;
@@ -18,4 +18,4 @@ mod working;
 pub use eb_lines::Refusal;
 pub use input::{Input, Kind};
 pub use rounds::Rounds;
-pub use eb_indexed::Counts;
+pub use run_index::Counts;

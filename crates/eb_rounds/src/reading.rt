@@ -3,7 +3,7 @@ ghost use Rattle.std.specs.List.{AllZip};
 ghost use Rattle.eb_doc.specs.WithFields.{document_with};
 ghost use Rattle.eb_fields.specs.Dialect.{dialect_of};
 ghost use Rattle.eb_base.specs.Query.{tree};
-ghost use Rattle.eb_answer.specs.Questions.{MayAsk};
+ghost use Rattle.run_store.specs.Questions.{MayAsk};
 ghost use Rattle.eb_lines.specs.Reading.{query as reads_query};
 ghost use Rattle.eb_rounds.specs.Inputs.{ReadsInput, ReadsLine, query_line};
 ghost use Rattle.eb_query.specs.Head.{begins_query as begins};
@@ -20,7 +20,7 @@ use eb_fields::Dialect;
 use eb_lines::{Refusal, line_room, read_document_line};
 use eb_query::{Ask, begins_query};
 use rayon::prelude::*;
-use eb_answer::read_question;
+use run_store::read_question;
 use std::alloc::{AllocError, Global};
 use std::thread::{Threads, join_mut};
 

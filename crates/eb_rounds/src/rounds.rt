@@ -3,7 +3,7 @@
 //! A round is query lines and then document lines. None of its queries comes after one of its
 //! documents, so each query needs to see only documents of earlier rounds, and all queries of the
 //! round can be answered while its documents are added. A query may see some of these documents too
-//! (`Sees` of `eb_indexed` says which prefixes). Two rounds are held at most: one that is full, and
+//! (`Sees` of `run_index` says which prefixes). Two rounds are held at most: one that is full, and
 //! one that is open.
 //!
 //! A round takes the memory of its whole text before its first add: room for each line, and for
@@ -20,7 +20,7 @@ ghost use Rattle.std.specs.Prelude.{length, vec_len, vec_capacity, IfOk, OnErr, 
 ghost use Rattle.std.specs.List.{AllZip};
 ghost use mathlib.Core.List.{IsPrefix};
 ghost use Rattle.eb_fields.specs.Dialect.{dialect_of};
-ghost use Rattle.eb_indexed.specs.Conversions.{AreConverted};
+ghost use Rattle.run_index.specs.Conversions.{AreConverted};
 ghost use Rattle.eb_rounds.specs.Inputs.{ReadsLine, document_line, query_line, refused_line};
 ghost use Rattle.eb_rounds.specs.Passed.{input_of, input_kind};
 ghost use Rattle.eb_rounds.specs.Takes.{takes_kind};
@@ -37,7 +37,7 @@ use eb_base::{Gate, NoMemory};
 use eb_engine::{Converter, Index, Reader, Writer};
 use eb_fields::Dialect;
 use eb_lines::{Form, Refusal};
-use eb_indexed::Counts;
+use run_index::Counts;
 use std::alloc::Global;
 use std::marker::Model;
 use std::mem;

@@ -2,7 +2,7 @@ ghost use Rattle.eb_fields.specs.Dialect.{Dialect as Spoken};
 ghost use Rattle.std.specs.Prelude.{◌≡◌, ◌+◌, ◌*◌, ◌≤◌, ◌^◌, ℕ, List, [], length, map, sum_by, vec_len, vec_capacity};
 ghost use Rattle.std.specs.List.{AllZip, list_any};
 ghost use mathlib.Core.List.{IsPrefix};
-ghost use Rattle.eb_indexed.specs.Conversions.{AreConverted};
+ghost use Rattle.run_index.specs.Conversions.{AreConverted};
 ghost use Rattle.eb_rounds.specs.Inputs.{HeldLine, ReadsLine};
 ghost use Rattle.eb_lines.specs.Text.{room_of};
 ghost use Rattle.eb_rounds.specs.Shown.{AreAnswered, AreAdded, IsRoundOfLines, WorksOff};
@@ -14,7 +14,7 @@ use crate::tasks::{Asked, AskedWork, Given, GivenWork, Tasks};
 use eb_base::Gate;
 use eb_engine::{Converter, Index, Reader, Writer};
 use eb_lines::{Form, line_room};
-use eb_indexed::{Counts, convert_all, has_waiting};
+use run_index::{Counts, convert_all, has_waiting};
 use std::thread::{Threads, join_mut};
 
 // The most bytes that a line prints.

@@ -18,12 +18,12 @@ use Rattle.eb_lines.specs.declared.status.Status.TheVariants as status
 use Rattle.eb_lines.specs.Reading.{Reading, blank, document, query, refused, watch}
 use Rattle.eb_lines.specs.Reads.{Reads}
 use Rattle.eb_lines.specs.Progress.{documents_in, accepted, queries, refusals, is_query, is_refused, one_if}
-use Rattle.eb_answer.specs.Rules.{is_bad, document_outcome, come_behind}
-use Rattle.eb_answer.proofs.ByKind.{reads_plain, all_plain}
-use Rattle.eb_answer.proofs.Coming.{read_none, read_push, read_long}
-use Rattle.eb_indexed.specs.IndexRules.{admit}
-use Rattle.eb_indexed.specs.Indexed.{Holds, WithPlaced}
-use Rattle.eb_indexed.specs.declared.indexed.Indexed.{Indexed}
+use Rattle.run_store.specs.Rules.{is_bad, document_outcome, come_behind}
+use Rattle.run_store.proofs.ByKind.{reads_plain, all_plain}
+use Rattle.run_store.proofs.Coming.{read_none, read_push, read_long}
+use Rattle.run_index.specs.IndexRules.{admit}
+use Rattle.run_index.specs.Indexed.{Holds, WithPlaced}
+use Rattle.run_index.specs.declared.indexed.Indexed.{Indexed}
 use Rattle.eb_lines.specs.declared.refusal.Refusal.TheVariants.{Full}
 use Rattle.eb_run.specs.Bench.{usual, bench_rules, answer_in, answers_from, all_answers, bench_line, figures, Closes, PrintsFigures, WroteBench, MeansBench, HasCounted, Takes}
 use Rattle.eb_lines.specs.Outcomes.{IsWorkedOff}

@@ -2,20 +2,20 @@
 use Rattle.eb_fields.specs.Dialect.{Dialect}
 use Rattle.std.proofs.Common.{◌≡◌, ◌⊎◌, ℕ, inl, inr, List, [], ◌++◌, Option, Some, None, refl, sym, ap, subst, ◌∙◌, append-nil}
 use Rattle.std.specs.Prelude.{IfSome}
-use Rattle.eb_archive.specs.Loaded.{EndsLoad, IsUnread, IsRead, IsBodyBehind, IsTextBehind, HasRefusalBehind, HasNoRefusalBehind, Loaded}
-use Rattle.eb_archive.specs.Saved as saved
-use Rattle.eb_archive.proofs.LoadEnds.{load_completes, load_told, load_means}
+use Rattle.run_images.specs.Loaded.{EndsLoad, IsUnread, IsRead, IsBodyBehind, IsTextBehind, HasRefusalBehind, HasNoRefusalBehind, Loaded}
+use Rattle.run_images.specs.Saved as saved
+use Rattle.run_images.proofs.LoadEnds.{load_completes, load_told, load_means}
 use Rattle.eb_io.specs.Source.{after}
 use Rattle.eb_lines.specs.declared.form.Form.{Form}
 use Rattle.eb_lines.specs.declared.status.Status.{Status}
 use Rattle.eb_lines.specs.declared.status.Status.TheVariants.{Done, Refused, ReadFault, WriteFault, NoMemory, BadImage}
 use Rattle.eb_lines.specs.Outcomes as outcomes
 use Rattle.eb_lines.proofs.Told.{ends_told, ends_mean, completes}
-use Rattle.eb_answer.specs.Rules.{is_bad}
-use Rattle.eb_answer.specs.Sees.{exactly, at_least}
-use Rattle.eb_answer.proofs.Taking.{ends_none}
-use Rattle.eb_parts.specs.Texts.{parts_rules}
-use Rattle.eb_indexed.specs.IndexRules.{index_rules}
+use Rattle.run_store.specs.Rules.{is_bad}
+use Rattle.run_store.specs.Sees.{exactly, at_least}
+use Rattle.run_store.proofs.Taking.{ends_none}
+use Rattle.run_over_parts.specs.Texts.{parts_rules}
+use Rattle.run_index.specs.IndexRules.{index_rules}
 use Rattle.eb_run.specs.Command.{Asks, asks}
 use Rattle.eb_run.specs.declared.command.Command.{Command}
 use Rattle.eb_run.specs.declared.command.Command.TheVariants.{Run, RunWorkers, RunParts, RunWatches, Bench, Save, Load}
@@ -23,12 +23,12 @@ use Rattle.eb_run.specs.Output.{way_of}
 use Rattle.eb_run.specs.Ran.{EndsBy, HasImage, WroteLoad, Prints, Ran, Means, Completes}
 use Rattle.eb_run.proofs.Benches.{figures_told, figures_mean, figures_end, figures_none}
 use Rattle.eb_run.proofs.Loads.{bad_told, load_none}
-use Rattle.eb_archive.specs.SavingLaws.{parts_first}
-use Rattle.eb_archive.proofs.Savings.{parts_none}
+use Rattle.run_images.specs.SavingLaws.{parts_first}
+use Rattle.run_images.proofs.Savings.{parts_none}
 use Rattle.eb_image.specs.Image.{head_of, image_of}
 use Rattle.eb_lines.proofs.PassingLines as passing
-use Rattle.eb_watching.specs.Others.{ReadsOther}
-use Rattle.eb_watching.specs.WatchRules.{watch_rules}
+use Rattle.run_with_watches.specs.Others.{ReadsOther}
+use Rattle.run_with_watches.specs.WatchRules.{watch_rules}
 
 left_told : (bytes taken : List ℕ) (left : Option (List ℕ)) → Some bytes ≡ after taken left → (rest : List ℕ) × (left ≡ Some rest) × (bytes ≡ taken ++ rest)
 left_told bytes taken None e = let no : ⊥ = cc in absurd no

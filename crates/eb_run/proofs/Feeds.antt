@@ -1,10 +1,10 @@
 -- A feed by the way in which its lines are processed.
 use Rattle.eb_fields.specs.Dialect.{Dialect}
 use Rattle.std.proofs.Common.{◌≡◌, ℕ, List, Option, sym, subst}
-use Rattle.eb_answer.specs.Rules.{is_bad}
-use Rattle.eb_answer.specs.Sees.{exactly, at_least}
-use Rattle.eb_answer.proofs.OneText.{one_text_of, some_text_of, one_bad, some_bad}
-use Rattle.eb_answer.proofs.Taking.{ends_none}
+use Rattle.run_store.specs.Rules.{is_bad}
+use Rattle.run_store.specs.Sees.{exactly, at_least}
+use Rattle.run_store.proofs.OneText.{one_text_of, some_text_of, one_bad, some_bad}
+use Rattle.run_store.proofs.Taking.{ends_none}
 use Rattle.eb_io.specs.Lines.{Line}
 use Rattle.eb_lines.specs.declared.status.Status.{Status}
 use Rattle.eb_lines.specs.declared.status.Status.TheVariants.{NoMemory}
@@ -14,9 +14,9 @@ use Rattle.eb_run.specs.declared.feed.command.FeedWay.{FeedWay}
 use Rattle.eb_run.specs.declared.feed.command.FeedWay.TheVariants.{InOrder, Watches, Overlap, Workers}
 use Rattle.eb_run.specs.FeedLaws.{IsSettledWay}
 use Rattle.eb_run.specs.FeedOutput.{rules_of, workers_of, IsBodyFed, IsTextFed, HasRefusalFed, HasNoRefusalFed}
-use Rattle.eb_watching.proofs.OtherLines.{one_other, some_other}
-use Rattle.eb_watching.specs.Others.{ReadsOther}
-use Rattle.eb_watching.specs.WatchRules.{with_watches}
+use Rattle.run_with_watches.proofs.OtherLines.{one_other, some_other}
+use Rattle.run_with_watches.specs.Others.{ReadsOther}
+use Rattle.run_with_watches.specs.WatchRules.{with_watches}
 
 -- how a feed ends
 abbrev pub EndsFed : FeedWay → Dialect → FeedCommand → Status → Option (List ℕ) → Option (List ℕ) → Option (List ℕ) → Option (List ℕ) → Type 0

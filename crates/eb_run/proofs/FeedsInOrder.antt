@@ -2,10 +2,10 @@
 use Rattle.eb_fields.specs.Dialect.{Dialect}
 use Rattle.std.proofs.Common.{◌≡◌, ℕ, Bool, false, List, [], None, length, ap, subst}
 use Rattle.std.specs.Prelude.{if◌then◌else◌}
-use Rattle.eb_answer.specs.Rules.{Rules, plain_rules, is_bad}
-use Rattle.eb_answer.specs.Sees.{exactly, at_least}
-use Rattle.eb_answer.specs.Text.{IsText}
-use Rattle.eb_answer.proofs.OneText.{order_text_of}
+use Rattle.run_store.specs.Rules.{Rules, plain_rules, is_bad}
+use Rattle.run_store.specs.Sees.{exactly, at_least}
+use Rattle.run_store.specs.Text.{IsText}
+use Rattle.run_store.proofs.OneText.{order_text_of}
 use Rattle.eb_feed.specs.Generations.{generations, kept, kept_segments}
 use Rattle.eb_io.specs.Lines.{Line}
 use Rattle.eb_lines.specs.declared.form.Tail.TheVariants.{Kept, Generations}

@@ -12,20 +12,20 @@ use Rattle.eb_io.specs.Lines.{Line}
 use Rattle.eb_lines.specs.declared.form.Form.{Form}
 use Rattle.eb_lines.specs.Reading.{Reading, blank, document, query, refused, watch}
 use Rattle.eb_lines.specs.Progress.{documents_in, is_query, is_refused, one_if, accepted, queries, refusals}
-use Rattle.eb_answer.specs.Rules.{Rules, is_bad, come_behind, AreRead, ReadsWith}
-use Rattle.eb_answer.specs.Text.{body_from}
-use Rattle.eb_answer.proofs.ByKind.{all_plain}
-use Rattle.eb_answer.proofs.Coming.{read_long}
-use Rattle.eb_indexed.specs.IndexRules.{admit, output_of}
+use Rattle.run_store.specs.Rules.{Rules, is_bad, come_behind, AreRead, ReadsWith}
+use Rattle.run_store.specs.Text.{body_from}
+use Rattle.run_store.proofs.ByKind.{all_plain}
+use Rattle.run_store.proofs.Coming.{read_long}
+use Rattle.run_index.specs.IndexRules.{admit, output_of}
 use Rattle.eb_lines.specs.Text.{asked_line}
 use Rattle.eb_rounds.specs.Inputs.{ReadsLine, admitted_in, added}
 use Rattle.eb_rounds.specs.Shown.{shown_entry, shown_text, Counted, asks, fails, WorkedOff}
-use Rattle.eb_answer.specs.Sees.{is_document_line, is_query_line, IsAsked, SeesBetween}
-use Rattle.eb_answer.specs.Rows.{added_count, NoQueryLine, QueriesFirst, joined_numbers, SeesWithin}
+use Rattle.run_store.specs.Sees.{is_document_line, is_query_line, IsAsked, SeesBetween}
+use Rattle.run_store.specs.Rows.{added_count, NoQueryLine, QueriesFirst, joined_numbers, SeesWithin}
 use Rattle.eb_rounds.specs.Standing.{Standing}
-use Rattle.eb_answer.proofs.Seeing.{accepted-append, sees_on, front_is, back_is, next_within}
+use Rattle.run_store.proofs.Seeing.{accepted-append, sees_on, front_is, back_is, next_within}
 use Rattle.eb_rounds.proofs.Rounded.{zip_append}
-use Rattle.eb_answer.proofs.Texts.{body_append}
+use Rattle.run_store.proofs.Texts.{body_append}
 use Rattle.eb_lines.specs.Reads.{Reads}
 use Rattle.eb_run.specs.Holding.{entries_from}
 use Rattle.eb_run.specs.Waiting.{HasWorkedOff, HasSettled, counts_of, rules_in}

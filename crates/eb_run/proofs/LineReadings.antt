@@ -14,7 +14,7 @@ use Rattle.eb_lines.specs.Reading.{Reading}
 use Rattle.eb_lines.specs.Progress.{one_if}
 use Rattle.eb_rounds.specs.Inputs.{HeldInput, HeldLine}
 use Rattle.eb_lines.specs.Reads.{IsOfDocument, of_query}
-use Rattle.eb_answer.specs.Sees.{is_document_line, is_query_line}
+use Rattle.run_store.specs.Sees.{is_document_line, is_query_line}
 use Rattle.eb_rounds.specs.Standing.{documents_held, is_document_input, is_query_input}
 use Rattle.eb_lines.specs.Kinds.{Kind, blank_line, bad_line, kind_of}
 use Rattle.eb_lines.specs.Kinds as kind

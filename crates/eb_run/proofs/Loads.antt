@@ -1,8 +1,8 @@
 -- How a load ends that reads no image.
 use Rattle.eb_fields.specs.Dialect.{Dialect}
 use Rattle.std.proofs.Common.{◌≡◌, ℕ, List, [], ◌++◌, Option, inl, inr, refl, sym, ap, ◌∙◌, subst}
-use Rattle.eb_archive.specs.Loaded.{EndsLoad, IsImage}
-use Rattle.eb_archive.proofs.Images.{none_head}
+use Rattle.run_images.specs.Loaded.{EndsLoad, IsImage}
+use Rattle.run_images.proofs.Images.{none_head}
 use Rattle.eb_image.specs.Image.{head_of}
 use Rattle.eb_image.specs.Reading.{IsHead, HasNone, IsBad}
 use Rattle.eb_io.specs.Source.{after}

@@ -3,8 +3,8 @@ use Rattle.eb_fields.specs.Dialect.{Dialect}
 use Rattle.std.proofs.Common.{◌≡◌, ℕ, Bool, true, false, List, Option, Some, None, refl}
 use Rattle.std.specs.Prelude.{◌==◌, if◌then◌else◌, length}
 use Rattle.std.specs.List.{AllByRecursion}
-use Rattle.eb_answer.specs.Rules.{is_bad}
-use Rattle.eb_answer.proofs.NeverFull.{of_bad, none_full}
+use Rattle.run_store.specs.Rules.{is_bad}
+use Rattle.run_store.proofs.NeverFull.{of_bad, none_full}
 use Rattle.eb_base.specs.Query.{Tree}
 use Rattle.eb_query.specs.Reading.{asks, bad_number, bad_query, too_deep, too_many_nodes}
 use Rattle.eb_query.specs.WatchLine as outcome
@@ -16,8 +16,8 @@ use Rattle.eb_run.specs.declared.feed.command.FeedWay.TheVariants.{InOrder, Watc
 use Rattle.eb_run.specs.FeedLaws.{NeverFull}
 use Rattle.eb_run.specs.FeedOutput.{AreFed, rules_of, workers_of}
 use Rattle.eb_watch.specs.Watches.{Watched, is_set}
-use Rattle.eb_watching.specs.Others.{is_watch_line, of_watch_line, ReadsOtherBy, ReadsOther}
-use Rattle.eb_watching.specs.WatchRules.{watch_refusal, with_watches}
+use Rattle.run_with_watches.specs.Others.{is_watch_line, of_watch_line, ReadsOtherBy, ReadsOther}
+use Rattle.run_with_watches.specs.WatchRules.{watch_refusal, with_watches}
 
 of_watch : (o : outcome.WatchOutcome) → refused Full ≡ of_watch_line o → ⊥
 of_watch (outcome.removes n) e = (cc e)

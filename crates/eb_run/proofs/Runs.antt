@@ -1,13 +1,13 @@
 -- A run before its first line, and at its end.
 use Rattle.eb_fields.specs.Dialect.{Dialect}
 use Rattle.std.proofs.Common.{◌≡◌, ℕ, List, [], ◌++◌, length, refl, sym, ap, ap₂, subst, ◌∙◌, arith}
-use Rattle.eb_answer.specs.Answering.{body_text}
-use Rattle.eb_answer.specs.Rules.{is_bad, HasRefusal, HasNoRefusal}
-use Rattle.eb_answer.specs.Sees.{between}
-use Rattle.eb_answer.specs.Text.{body_from, end_of, IsBody, IsText}
-use Rattle.eb_answer.proofs.Coming.{read_none}
-use Rattle.eb_answer.proofs.OneText.{told_reaches}
-use Rattle.eb_answer.proofs.Texts.{body_empty}
+use Rattle.run_store.specs.Answering.{body_text}
+use Rattle.run_store.specs.Rules.{is_bad, HasRefusal, HasNoRefusal}
+use Rattle.run_store.specs.Sees.{between}
+use Rattle.run_store.specs.Text.{body_from, end_of, IsBody, IsText}
+use Rattle.run_store.proofs.Coming.{read_none}
+use Rattle.run_store.proofs.OneText.{told_reaches}
+use Rattle.run_store.proofs.Texts.{body_empty}
 use Rattle.eb_base.specs.Document.{Doc}
 use Rattle.eb_base.specs.Setting.{Setting}
 use Rattle.eb_io.specs.Lines.{Line}
@@ -16,8 +16,8 @@ use Rattle.eb_lines.specs.Programs.{Finishes}
 use Rattle.eb_lines.specs.Progress.{accepted, queries, refusals, told}
 use Rattle.eb_lines.specs.Text.{summary_with}
 use Rattle.eb_place.specs.Room.{cut}
-use Rattle.eb_indexed.specs.Conversions.{most_converted}
-use Rattle.eb_indexed.specs.IndexRules.{segments_tail}
+use Rattle.run_index.specs.Conversions.{most_converted}
+use Rattle.run_index.specs.IndexRules.{segments_tail}
 use Rattle.eb_rounds.specs.Shown.{Counted}
 use Rattle.eb_rounds.specs.Standing.{Standing, no_counts}
 use Rattle.eb_table.specs.Known.{Words}

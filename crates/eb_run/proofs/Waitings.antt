@@ -17,15 +17,15 @@ use Rattle.eb_query.specs.Reading.{Outcome, asks, bad_number, bad_query, too_dee
 use Rattle.eb_lines.specs.declared.form.Form.{Form}
 use Rattle.eb_lines.specs.Reading.{Reading, blank, document, query, refused, watch}
 use Rattle.eb_lines.specs.Progress.{documents_in, is_query, accepted}
-use Rattle.eb_answer.specs.Rules.{come_behind}
-use Rattle.eb_answer.specs.Text.{body_from}
-use Rattle.eb_indexed.specs.IndexRules.{admit, output_of}
+use Rattle.run_store.specs.Rules.{come_behind}
+use Rattle.run_store.specs.Text.{body_from}
+use Rattle.run_index.specs.IndexRules.{admit, output_of}
 use Rattle.eb_rounds.specs.Inputs.{HeldInput, document_line, query_line, refused_line, Entry, ReadsInput, ReadsLine, admitted_in, added}
 use Rattle.eb_lines.specs.Reads.{IsOfDocument, of_query}
 use Rattle.eb_rounds.specs.Shown.{Shown, shown_entry, output_in, shown_text, least_after, Rises}
 use Rattle.eb_rounds.proofs.Rounding.{rises_le}
-use Rattle.eb_answer.specs.Sees.{IsAsked}
-use Rattle.eb_answer.specs.Rows.{SeesWithin}
+use Rattle.run_store.specs.Sees.{IsAsked}
+use Rattle.run_store.specs.Rows.{SeesWithin}
 use Rattle.eb_lines.specs.Kinds.{Kind, blank_line, bad_line, kind_of}
 use Rattle.eb_lines.specs.Kinds as kind
 use Rattle.eb_lines.specs.Reads.{ReadsByKind, Reads}

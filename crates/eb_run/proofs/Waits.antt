@@ -9,8 +9,8 @@ use Rattle.eb_lines.specs.declared.form.Form.{Form}
 use Rattle.eb_lines.specs.Reading.{Reading}
 use Rattle.eb_rounds.specs.Inputs.{HeldInput, HeldLine, admitted_in, added}
 use Rattle.eb_rounds.specs.Shown.{Counted, shown_text, WorkedOff, WorkedOffBoth}
-use Rattle.eb_answer.specs.Rows.{NoQueryLine, QueriesFirst}
-use Rattle.eb_answer.specs.Sees.{is_document_line, is_query_line}
+use Rattle.run_store.specs.Rows.{NoQueryLine, QueriesFirst}
+use Rattle.run_store.specs.Sees.{is_document_line, is_query_line}
 use Rattle.eb_rounds.specs.Standing.{Standing, with_round}
 use Rattle.eb_lines.specs.Reads.{Reads}
 use Rattle.eb_run.specs.Holding.{held_as, before_held, held_from}

@@ -15,9 +15,9 @@ use Rattle.eb_lines.specs.declared.status.Status.TheVariants as status
 use Rattle.eb_lines.specs.Reading.{Reading, blank, document, query, refused, watch}
 use Rattle.eb_lines.specs.Reads.{Reads}
 use Rattle.eb_lines.specs.Progress.{documents_in, accepted, queries, refusals}
-use Rattle.eb_indexed.specs.Indexed.{Holds}
-use Rattle.eb_answer.specs.Rules.{Rules, is_bad, AreRead, HasRefusal, HasNoRefusal}
-use Rattle.eb_indexed.specs.IndexRules.{index_rules}
+use Rattle.run_index.specs.Indexed.{Holds}
+use Rattle.run_store.specs.Rules.{Rules, is_bad, AreRead, HasRefusal, HasNoRefusal}
+use Rattle.run_index.specs.IndexRules.{index_rules}
 
 -- the setting that an index has where none is asked for
 abbrev pub usual : Setting

@@ -1,7 +1,7 @@
 -- A feed that lines fill.
 use Rattle.eb_fields.specs.Dialect.{Dialect}
 use Rattle.std.specs.Prelude.{◌≡◌, ℕ, List}
-use Rattle.eb_answer.specs.Rules.{Rules}
+use Rattle.run_store.specs.Rules.{Rules}
 use Rattle.eb_base.specs.Document.{Doc}
 use Rattle.eb_base.specs.Setting.{Setting}
 use Rattle.eb_feed.specs.Held.{IsFedWith}

@@ -1,9 +1,9 @@
 -- What a feed prints for the bytes of an input.
 use Rattle.eb_fields.specs.Dialect.{Dialect}
 use Rattle.std.specs.Prelude.{ℕ, List, [], length, Option, None, if◌then◌else◌}
-use Rattle.eb_answer.specs.Rules.{Rules, plain_rules, is_bad, AreRead, HasRefusal, HasNoRefusal}
-use Rattle.eb_answer.specs.Sees.{exactly, at_least}
-use Rattle.eb_answer.specs.Text.{IsBody, IsText}
+use Rattle.run_store.specs.Rules.{Rules, plain_rules, is_bad, AreRead, HasRefusal, HasNoRefusal}
+use Rattle.run_store.specs.Sees.{exactly, at_least}
+use Rattle.run_store.specs.Text.{IsBody, IsText}
 use Rattle.eb_base.specs.Document.{Doc}
 use Rattle.eb_base.specs.Setting.{Setting}
 use Rattle.eb_feed.specs.Generations.{generations, kept, kept_segments}
@@ -15,12 +15,12 @@ use Rattle.eb_lines.specs.declared.status.Status.{Status}
 use Rattle.eb_lines.specs.Outcomes as outcomes
 use Rattle.eb_lines.specs.Passing as passing
 use Rattle.eb_lines.specs.Reading.{Reading}
-use Rattle.eb_feed_workers.specs.FeedRules.{workers_rules}
+use Rattle.feed_with_workers.specs.FeedRules.{workers_rules}
 use Rattle.eb_run.specs.declared.feed.command.FeedCommand.{FeedCommand}
 use Rattle.eb_run.specs.declared.feed.command.FeedWay.{FeedWay}
 use Rattle.eb_run.specs.declared.feed.command.FeedWay.TheVariants.{InOrder, Watches, Overlap, Workers}
-use Rattle.eb_watching.specs.Others.{ReadsOther}
-use Rattle.eb_watching.specs.WatchRules.{with_watches}
+use Rattle.run_with_watches.specs.Others.{ReadsOther}
+use Rattle.run_with_watches.specs.WatchRules.{with_watches}
 
 -- what is printed at last: how many documents are kept, and where the form says so the segments of
 -- the generations that keep them, of which none is converted, and how many generations were begun

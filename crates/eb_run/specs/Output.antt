@@ -1,11 +1,11 @@
 -- What a run prints for the bytes of an input.
 use Rattle.eb_fields.specs.Dialect.{Dialect}
 use Rattle.std.specs.Prelude.{ℕ, Bool, true, false, List, []}
-use Rattle.eb_answer.specs.Rules.{is_bad}
-use Rattle.eb_answer.specs.Sees.{Reach, exactly, between}
-use Rattle.eb_answer.specs.Text.{IsText}
+use Rattle.run_store.specs.Rules.{is_bad}
+use Rattle.run_store.specs.Sees.{Reach, exactly, between}
+use Rattle.run_store.specs.Text.{IsText}
 use Rattle.eb_base.specs.Setting.{Setting}
-use Rattle.eb_indexed.specs.IndexRules.{index_rules}
+use Rattle.run_index.specs.IndexRules.{index_rules}
 use Rattle.eb_io.specs.Lines.{lines_of}
 use Rattle.eb_lines.specs.declared.form.Form.{Form}
 

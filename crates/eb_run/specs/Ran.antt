@@ -3,11 +3,11 @@
 -- where that is known.
 use Rattle.eb_fields.specs.Dialect.{Dialect}
 use Rattle.std.specs.Prelude.{◌≡◌, ◌⊎◌, ℕ, ◌<◌, Bool, true, false, List, [], ◌++◌, length, Option, Some, None}
-use Rattle.eb_answer.specs.Rules.{is_bad}
-use Rattle.eb_answer.specs.Sees.{exactly, at_least}
-use Rattle.eb_answer.specs.Text.{EndsOf, WroteOf, MeansOf}
-use Rattle.eb_archive.specs.Loaded.{Loaded, EndsLoad, IsImage, WhyUnread, WroteLoaded, MeansLoaded, IsBodyBehind, IsTextBehind, HasRefusalBehind, HasNoRefusalBehind}
-use Rattle.eb_archive.specs.Saved as saved
+use Rattle.run_store.specs.Rules.{is_bad}
+use Rattle.run_store.specs.Sees.{exactly, at_least}
+use Rattle.run_store.specs.Text.{EndsOf, WroteOf, MeansOf}
+use Rattle.run_images.specs.Loaded.{Loaded, EndsLoad, IsImage, WhyUnread, WroteLoaded, MeansLoaded, IsBodyBehind, IsTextBehind, HasRefusalBehind, HasNoRefusalBehind}
+use Rattle.run_images.specs.Saved as saved
 use Rattle.eb_base.specs.Document.{Doc}
 use Rattle.eb_base.specs.Setting.{Setting, IsSetting}
 use Rattle.eb_gen.specs.Made.{made}
@@ -20,11 +20,11 @@ use Rattle.eb_lines.specs.declared.status.Status.{Status}
 use Rattle.eb_lines.specs.declared.status.Status.TheVariants.{Done, Refused, BadImage}
 use Rattle.eb_lines.specs.Outcomes as outcomes
 use Rattle.eb_lines.specs.Passing as passing
-use Rattle.eb_parts.specs.Texts.{parts_rules}
+use Rattle.run_over_parts.specs.Texts.{parts_rules}
 use Rattle.eb_place.specs.Room.{IsLawful}
-use Rattle.eb_indexed.specs.IndexRules.{index_rules}
-use Rattle.eb_watching.specs.Others.{ReadsOther}
-use Rattle.eb_watching.specs.WatchRules.{watch_rules}
+use Rattle.run_index.specs.IndexRules.{index_rules}
+use Rattle.run_with_watches.specs.Others.{ReadsOther}
+use Rattle.run_with_watches.specs.WatchRules.{watch_rules}
 use Rattle.eb_run.specs.declared.command.Command.{Command}
 use Rattle.eb_run.specs.declared.command.Command.TheVariants.{Run, RunWorkers, RunParts, RunWatches, Bench, Save, Load}
 use Rattle.eb_run.specs.Bench.{WroteBench, MeansBench, PrintsFigures}

@@ -4,10 +4,10 @@ use Rattle.std.specs.Prelude.{◌≡◌, ℕ, List, [], ◌++◌, length, Result
 use Rattle.std.specs.declared.vec.Vec.{Vec}
 use denote.MutBor.{MutBor}
 use Rattle.std.proofs.Common.{refl, sym, ap, ◌∙◌, append_assoc, append-nil}
-use Rattle.eb_answer.specs.Rules.{Rules, is_bad}
-use Rattle.eb_answer.specs.Sees.{between}
-use Rattle.eb_answer.specs.Text.{IsBody}
-use Rattle.eb_answer.proofs.Texts.{body_empty}
+use Rattle.run_store.specs.Rules.{Rules, is_bad}
+use Rattle.run_store.specs.Sees.{between}
+use Rattle.run_store.specs.Text.{IsBody}
+use Rattle.run_store.proofs.Texts.{body_empty}
 use Rattle.eb_base.specs.Setting.{Setting}
 use Rattle.eb_io.specs.Lines.{Line}
 use Rattle.eb_lines.specs.declared.form.Form.{Form}

@@ -1,10 +1,10 @@
 -- How far a run with overlap is between two lines, where some lines are held.
 use Rattle.eb_fields.specs.Dialect.{Dialect}
 use Rattle.std.specs.Prelude.{◌≡◌, ℕ, ◌≤◌, List, [], ◌++◌, length}
-use Rattle.eb_answer.specs.Rows.{QueriesFirst}
-use Rattle.eb_answer.specs.Rules.{Rules, is_bad, AreRead}
-use Rattle.eb_answer.specs.Sees.{SeesBetween}
-use Rattle.eb_answer.specs.Text.{body_from}
+use Rattle.run_store.specs.Rows.{QueriesFirst}
+use Rattle.run_store.specs.Rules.{Rules, is_bad, AreRead}
+use Rattle.run_store.specs.Sees.{SeesBetween}
+use Rattle.run_store.specs.Text.{body_from}
 use Rattle.std.specs.List.{AllZip}
 use Rattle.eb_base.specs.Document.{Doc}
 use Rattle.eb_base.specs.Setting.{Setting}
@@ -12,7 +12,7 @@ use Rattle.eb_io.specs.Lines.{Line}
 use Rattle.eb_lines.specs.declared.form.Form.{Form}
 use Rattle.eb_lines.specs.Reading.{Reading}
 use Rattle.eb_lines.specs.Progress.{accepted, queries, refusals}
-use Rattle.eb_indexed.specs.IndexRules.{index_rules}
+use Rattle.run_index.specs.IndexRules.{index_rules}
 use Rattle.eb_rounds.specs.Shown.{Counted}
 use Rattle.eb_rounds.specs.Standing.{Standing}
 use Rattle.eb_lines.specs.Reads.{Reads}

@@ -16,7 +16,7 @@ use eb_fields::Dialect;
 use eb_gen::{line_of, query_of};
 use eb_io::Sink;
 use eb_lines::{Form, Refusal, Status, Work, read_line};
-use eb_indexed::Indexed;
+use run_index::Indexed;
 use std::alloc::Global;
 
 // A run over a made input: its index, how many queries were answered and lines refused, and the

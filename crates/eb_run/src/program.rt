@@ -4,7 +4,7 @@
 use crate::running::Running;
 use eb_base::NoMemory;
 use eb_lines::LineProgram;
-use eb_indexed::put_end;
+use run_index::put_end;
 use std::alloc::Global;
 
 // A run, with its allocator, and with what processes the lines that it holds: a closure, since what
@@ -18,10 +18,10 @@ pub(crate) struct RunProgram<'a, W: Fn(&mut Running<'a>, &mut Vec<u8>) -> Result
 
 impl<'a, W: Fn(&mut Running<'a>, &mut Vec<u8>) -> Result<(), NoMemory>> LineProgram
     for RunProgram<'a, W> {
-    ghost use Rattle.eb_answer.specs.Answering.{body_first};
-    ghost use Rattle.eb_answer.specs.Rules.{is_bad, HasRefusal, HasNoRefusal};
-    ghost use Rattle.eb_answer.specs.Sees.{between};
-    ghost use Rattle.eb_answer.specs.Text.{IsBody, IsText};
+    ghost use Rattle.run_store.specs.Answering.{body_first};
+    ghost use Rattle.run_store.specs.Rules.{is_bad, HasRefusal, HasNoRefusal};
+    ghost use Rattle.run_store.specs.Sees.{between};
+    ghost use Rattle.run_store.specs.Text.{IsBody, IsText};
     ghost use Rattle.eb_run.specs.Running.{Asked as AskedRun, rules_of, HasRunBy, HoldsNone, run_first};
 
     ghost Asked = { AskedRun };

@@ -12,7 +12,7 @@ use eb_base::{Config, Document, NoMemory, OpenGate, Query, Term};
 use eb_cursor::Frame;
 use eb_place::Steps;
 use eb_text::tokens;
-use eb_stream::{FeedWriter, Follower, Leader};
+use feed_shared::{FeedWriter, Follower, Leader};
 use std::alloc::Global;
 use std::marker::Brand;
 use std::sync::ledger::{Blank, Ledger};

@@ -24,7 +24,7 @@ pub(super) const RUN_VALUES: [&str; 9] = [
 const MOST: u32 = 16;
 
 // To run with `workers` workers.
-fn eb_workers(workers: u32, form: Form, config: Config) -> Option<Command>
+fn run_with_workers(workers: u32, form: Form, config: Config) -> Option<Command>
     ensures { result ≡ with_workers workers form config }
 {
     if workers < 1 || workers > MOST {
@@ -38,7 +38,7 @@ fn eb_workers(workers: u32, form: Form, config: Config) -> Option<Command>
 }
 
 // To run over `parts` parts.
-fn eb_parts(parts: u32, overlap: bool, form: Form, config: Config) -> Option<Command>
+fn run_over_parts(parts: u32, overlap: bool, form: Form, config: Config) -> Option<Command>
     ensures { result ≡ over_parts parts overlap form config }
 {
     if parts < 1 || parts > MOST || u64::from(parts) * config.words() > MAX_WORDS {
@@ -70,8 +70,8 @@ fn run_in_way(
             config,
         }),
         (None, None) if !overlap => Some(Command::RunWatches { form, config }),
-        (Some(workers), None) if !overlap && !watch => eb_workers(workers, form, config),
-        (None, Some(parts)) if !watch => eb_parts(parts, overlap, form, config),
+        (Some(workers), None) if !overlap && !watch => run_with_workers(workers, form, config),
+        (None, Some(parts)) if !watch => run_over_parts(parts, overlap, form, config),
         _ => None,
     }
 }

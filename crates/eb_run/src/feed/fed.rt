@@ -1,9 +1,9 @@
 //! The feed that lines fill and query.
 ghost use Rattle.eb_fields.specs.Dialect.{Dialect as Spoken};
 ghost use Rattle.std.specs.Prelude.{◌≡◌, ◌<◌, ◌≤◌, ℕ, List, [], length, IfOk, OnErr, OnOk};
-ghost use Rattle.eb_answer.specs.Rules.{Rules};
-ghost use Rattle.eb_answer.specs.Questions.{MayAsk};
-ghost use Rattle.eb_answer.specs.Stores.{IsHolding, PutsAnswer};
+ghost use Rattle.run_store.specs.Rules.{Rules};
+ghost use Rattle.run_store.specs.Questions.{MayAsk};
+ghost use Rattle.run_store.specs.Stores.{IsHolding, PutsAnswer};
 ghost use Rattle.eb_base.specs.Document.{Doc};
 ghost use Rattle.eb_base.specs.Match.{answer};
 ghost use Rattle.eb_base.specs.Query.{tree, IsWellFormed};
@@ -25,7 +25,7 @@ use eb_fields::Dialect;
 use eb_lines::{Form, Refusal, Tail, line_room, put_answer, put_count};
 use eb_place::Steps;
 use eb_query::Ask;
-use eb_answer::Store;
+use run_store::Store;
 use std::alloc::Global;
 use std::marker::Brand;
 use std::sync::ledger::{Blank, Ledger};
@@ -166,7 +166,7 @@ impl Fed {
 }
 
 impl Store for Fed {
-    ghost use Rattle.eb_answer.specs.Rules.{is_bad};
+    ghost use Rattle.run_store.specs.Rules.{is_bad};
     ghost use Rattle.eb_run.specs.Fed.{IsFed as IsFedBy};
 
     ghost Watches = { Unit {0} };

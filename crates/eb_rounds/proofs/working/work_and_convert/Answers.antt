@@ -1,4 +1,4 @@
-use Rattle.eb_indexed.proofs.Conversions.{converted_front}
+use Rattle.run_index.proofs.Conversions.{converted_front}
 use Rattle.eb_rounds.proofs.working.work_and_convert.Goals as goal
 
 pub returns-then-has_answer-clause-converted : goal.returns-then-has_answer-clause-converted

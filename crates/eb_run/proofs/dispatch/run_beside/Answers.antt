@@ -1,9 +1,9 @@
 use Rattle.eb_fields.specs.Dialect.{dialect_of}
 use Rattle.std.proofs.Common.{rules}
-use Rattle.eb_answer.specs.Rules.{is_bad}
-use Rattle.eb_answer.specs.Sees.{between}
-use Rattle.eb_answer.proofs.Taking.{ends_none}
-use Rattle.eb_indexed.specs.IndexRules.{rules_of}
+use Rattle.run_store.specs.Rules.{is_bad}
+use Rattle.run_store.specs.Sees.{between}
+use Rattle.run_store.proofs.Taking.{ends_none}
+use Rattle.run_index.specs.IndexRules.{rules_of}
 use Rattle.eb_run.specs.Running.{asked}
 use Rattle.eb_run.proofs.dispatch.run_beside.Goals as goal
 

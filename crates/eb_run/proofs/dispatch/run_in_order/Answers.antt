@@ -1,10 +1,10 @@
 use Rattle.eb_fields.specs.Dialect.{dialect_of}
 use Rattle.std.proofs.Common.{[], refl}
-use Rattle.eb_answer.specs.Rules.{is_bad}
-use Rattle.eb_answer.specs.Sees.{exactly}
-use Rattle.eb_answer.proofs.Taking.{ends_none}
-use Rattle.eb_indexed.proofs.Indexes.{indexed_none}
-use Rattle.eb_indexed.specs.IndexRules.{rules_of}
+use Rattle.run_store.specs.Rules.{is_bad}
+use Rattle.run_store.specs.Sees.{exactly}
+use Rattle.run_store.proofs.Taking.{ends_none}
+use Rattle.run_index.proofs.Indexes.{indexed_none}
+use Rattle.run_index.specs.IndexRules.{rules_of}
 use Rattle.eb_run.proofs.dispatch.run_in_order.Goals as goal
 
 pub returns-in_default-clause-ends : goal.returns-in_default-clause-ends

@@ -1,8 +1,8 @@
 use Rattle.eb_fields.specs.Dialect.{dialect_of}
 use Rattle.std.proofs.Common.{Bool, sym, subst}
-use Rattle.eb_answer.specs.Rules.{is_bad}
-use Rattle.eb_answer.specs.Text.{EndsOf}
-use Rattle.eb_indexed.specs.IndexRules.{rules_of}
+use Rattle.run_store.specs.Rules.{is_bad}
+use Rattle.run_store.specs.Text.{EndsOf}
+use Rattle.run_index.specs.IndexRules.{rules_of}
 use Rattle.eb_run.specs.Output.{way_of}
 use Rattle.eb_run.proofs.dispatch.run_lines.Goals as goal
 

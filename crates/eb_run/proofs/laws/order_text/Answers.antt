@@ -1,9 +1,9 @@
 use Rattle.std.proofs.Common.{[]}
-use Rattle.eb_answer.specs.Rules.{is_bad}
-use Rattle.eb_answer.proofs.OneText.{order_text_of}
-use Rattle.eb_indexed.specs.IndexRules.{index_rules}
+use Rattle.run_store.specs.Rules.{is_bad}
+use Rattle.run_store.proofs.OneText.{order_text_of}
+use Rattle.run_index.specs.IndexRules.{index_rules}
 use Rattle.eb_io.specs.Lines.{lines_of}
-use Rattle.eb_answer.specs.Sees.{between}
+use Rattle.run_store.specs.Sees.{between}
 use Rattle.eb_run.proofs.laws.order_text.Goals as goal
 
 pub returns : goal.returns

@@ -1,7 +1,7 @@
 use Rattle.std.proofs.Common.{[]}
-use Rattle.eb_answer.specs.Rules.{is_bad}
-use Rattle.eb_answer.proofs.OneText.{some_text_of, some_bad}
-use Rattle.eb_indexed.specs.IndexRules.{index_rules}
+use Rattle.run_store.specs.Rules.{is_bad}
+use Rattle.run_store.proofs.OneText.{some_text_of, some_bad}
+use Rattle.run_index.specs.IndexRules.{index_rules}
 use Rattle.eb_io.specs.Lines.{lines_of}
 use Rattle.eb_run.specs.Output.{way_of}
 use Rattle.eb_run.proofs.laws.some_text.Goals as goal

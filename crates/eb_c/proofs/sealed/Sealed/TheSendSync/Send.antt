@@ -11,9 +11,9 @@ use Rattle.std.proofs.Crossing as heap
 use Rattle.std.specs.Global.{Global}
 use Rattle.std_alloc.proofs.SendSync.{quiet, lies}
 use Rattle.std_heap.proofs.Global.TheSendSync as handle
-use Rattle.eb_stream.proofs.converter.FeedConverter.TheSendSync as feed_converter
-use Rattle.eb_stream.proofs.spare.Spare.TheSendSync as spare
-use Rattle.eb_stream.proofs.released.Released.TheSendSync as released
+use Rattle.feed_shared.proofs.converter.FeedConverter.TheSendSync as feed_converter
+use Rattle.feed_shared.proofs.spare.Spare.TheSendSync as spare
+use Rattle.feed_shared.proofs.released.Released.TheSendSync as released
 use Rattle.eb_c.proofs.WatchesCrossing.{watches_send}
 use Rattle.eb_c.specs.Sealing.{sealed_owns}
 use Rattle.eb_c.specs.contracts.held.Held as Held

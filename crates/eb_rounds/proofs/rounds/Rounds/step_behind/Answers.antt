@@ -4,7 +4,7 @@ use Rattle.eb_base.specs.Document.{Doc}
 use Rattle.eb_engine.specs.Tokens.{HistoryToken}
 use Rattle.eb_rounds.specs.Shown.{Counted, WorkedOff}
 use Rattle.eb_rounds.specs.Standing.{Standing}
-use Rattle.eb_indexed.proofs.Conversions.{converted_among}
+use Rattle.run_index.proofs.Conversions.{converted_among}
 use Rattle.eb_rounds.proofs.Rounded.{tasks_long}
 use Rattle.eb_rounds.proofs.rounds.Rounds.step_behind.Goals as goal
 

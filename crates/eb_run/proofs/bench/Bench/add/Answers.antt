@@ -1,5 +1,5 @@
 use Rattle.std.proofs.Common.{Bool, refl, subst, arith}
-use Rattle.eb_indexed.specs.Indexed.{WithPlaced}
+use Rattle.run_index.specs.Indexed.{WithPlaced}
 use Rattle.eb_lines.specs.Progress.{accepted}
 use Rattle.eb_run.specs.Bench.{usual}
 use Rattle.eb_run.proofs.Benches.{refused_few, takes_placed, takes_full}

@@ -1,6 +1,6 @@
 use Rattle.std.proofs.Common.{[], refl, subst}
 use Rattle.eb_base.specs.Setting.{Setting}
-use Rattle.eb_indexed.specs.Indexed.{Holds}
+use Rattle.run_index.specs.Indexed.{Holds}
 use Rattle.eb_run.proofs.Benches.{counted_none}
 use Rattle.eb_run.proofs.bench.Bench.new.Goals as goal
 

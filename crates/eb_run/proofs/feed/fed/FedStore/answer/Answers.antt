@@ -1,7 +1,7 @@
 use Rattle.std.proofs.Common.{◌≡◌, ℕ, length, sym, ap, subst, ◌∙◌}
 use Rattle.std.specs.Prelude.{OnOk}
 use Rattle.std.proofs.lemmas.List.{length-replicate}
-use Rattle.eb_answer.specs.Stores.{PutsAnswer}
+use Rattle.run_store.specs.Stores.{PutsAnswer}
 use Rattle.eb_base.specs.Query.{tree}
 use Rattle.eb_count.specs.Tallies.{Numbers}
 use Rattle.eb_query.specs.declared.ask.Ask.{Ask}

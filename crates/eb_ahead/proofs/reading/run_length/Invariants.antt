@@ -1,6 +1,0 @@
-use Rattle.std.proofs.Common.{take}
-use Rattle.eb_ahead.specs.Tasks.{AreRun}
-use Rattle.eb_ahead.proofs.reading.run_length.Given as goal
-
-abbrev pub invariant-loop-at : goal.invariant-loop-at
-invariant-loop-at l = AreRun (take l.at l.tasks)

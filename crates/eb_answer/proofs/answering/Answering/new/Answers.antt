@@ -1,6 +1,0 @@
-use Rattle.std.proofs.Common.{refl}
-use Rattle.eb_answer.proofs.Taking.{answered_none}
-use Rattle.eb_answer.proofs.answering.Answering.new.Goals as goal
-
-pub returns : goal.returns
-returns g c = λ rules how h. answered_none g.S.Store.other g.S.Store.holds _ rules how h refl refl refl

@@ -1,8 +1,0 @@
-use Rattle.eb_fields.specs.Dialect.{dialect_of}
-use Rattle.std.proofs.Common.{refl}
-use Rattle.eb_archive.specs.Saved.{asked}
-use Rattle.eb_archive.proofs.Savings.{saved_none}
-use Rattle.eb_archive.proofs.saving.Saving.new.Goals as goal
-
-pub returns : goal.returns
-returns g c = saved_none _ c.in_ok-index.index (asked (dialect_of c.args.dialect) c.args.config) refl refl c.in_ok-index.ensures.setting c.in_ok-index.ensures.writer refl refl

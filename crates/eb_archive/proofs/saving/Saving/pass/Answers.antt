@@ -1,7 +1,0 @@
-use Rattle.std.proofs.Common.{refl, arith}
-use Rattle.eb_lines.specs.Reading.{blank}
-use Rattle.eb_archive.proofs.Savings.{takes_quiet}
-use Rattle.eb_archive.proofs.saving.Saving.pass.Goals as goal
-
-pub returns : goal.returns
-returns g c = takes_quiet c.args.self.now _ blank blank (λ σ e. refl) refl refl refl refl refl (omega arith) (omega arith)

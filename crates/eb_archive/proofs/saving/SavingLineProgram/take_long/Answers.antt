@@ -1,6 +1,0 @@
-use Rattle.std.proofs.Common.{refl}
-use Rattle.eb_io.specs.Lines.{long_line}
-use Rattle.eb_archive.proofs.saving.SavingLineProgram.take_long.Goals as goal
-
-pub returns-clause-ok : goal.returns-clause-ok
-returns-clause-ok g c = c.refuse.ensures _ long_line refl

@@ -1,6 +1,0 @@
-use Rattle.std.proofs.Common.{refl}
-use Rattle.eb_feed_workers.proofs.SameOffices.{same_office}
-use Rattle.eb_feed_workers.proofs.feed_office.FeedOffice.count_kept.Goals as goal
-
-pub returns-clause-same : goal.returns-clause-same
-returns-clause-same g c = same_office c.args.self.now _ refl refl c.count_held.ensures.feed refl

@@ -1,6 +1,0 @@
-use Rattle.std.proofs.Common.{refl}
-use Rattle.eb_feed_workers.proofs.SameOffices.{same_office}
-use Rattle.eb_feed_workers.proofs.feed_office.FeedOffice.has_front.Goals as goal
-
-pub returns-clause-same : goal.returns-clause-same
-returns-clause-same c = same_office c.args.self.now _ refl refl c.meet.ensures.this refl

@@ -1,5 +1,0 @@
-use Rattle.eb_json.proofs.JsonReading.{answers_read}
-use Rattle.eb_json.proofs.laws.answers_read.Goals as goal
-
-pub returns : goal.returns
-returns c = answers_read

@@ -1,5 +1,0 @@
-use Rattle.eb_json.proofs.JsonReading.{ends_read}
-use Rattle.eb_json.proofs.laws.ends_read.Goals as goal
-
-pub returns : goal.returns
-returns c = ends_read

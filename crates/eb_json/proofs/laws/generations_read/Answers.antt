@@ -1,5 +1,0 @@
-use Rattle.eb_json.proofs.JsonReading.{generations_read}
-use Rattle.eb_json.proofs.laws.generations_read.Goals as goal
-
-pub returns : goal.returns
-returns c = generations_read

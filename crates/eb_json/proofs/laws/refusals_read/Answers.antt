@@ -1,5 +1,0 @@
-use Rattle.eb_json.proofs.JsonReading.{refusals_read}
-use Rattle.eb_json.proofs.laws.refusals_read.Goals as goal
-
-pub returns : goal.returns
-returns c = refusals_read

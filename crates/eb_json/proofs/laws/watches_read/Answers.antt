@@ -1,5 +1,0 @@
-use Rattle.eb_json.proofs.JsonReading.{watches_read}
-use Rattle.eb_json.proofs.laws.watches_read.Goals as goal
-
-pub returns : goal.returns
-returns c = watches_read

@@ -1,5 +1,0 @@
-use Rattle.eb_stream.proofs.MailKept.{splits}
-use Rattle.eb_stream.proofs.mail.cut.Goals as goal
-
-pub another-requires-clause-rule : goal.another-requires-clause-rule
-another-requires-clause-rule g c = splits _ _ _ c.requires.rule

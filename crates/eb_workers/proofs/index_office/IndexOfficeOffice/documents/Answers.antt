@@ -1,5 +1,0 @@
-use Rattle.std.proofs.Common.{ap, ◌∙◌, length}
-use Rattle.eb_workers.proofs.index_office.IndexOfficeOffice.documents.Goals as goal
-
-pub returns : goal.returns
-returns c = λ rules docs ws h few. c.accepted.ensures ∙ ap length h.documents

@@ -1,6 +1,0 @@
-use Rattle.std.proofs.Common.{ap, sym}
-use Rattle.eb_answer.specs.Rules.{Rules}
-use Rattle.eb_workers.proofs.index_office.IndexOfficeOffice.form.Goals as goal
-
-pub returns : goal.returns
-returns c = λ rules docs ws h. sym (ap (λ (r : Rules (Unit {0})). r.form) h.by_rules)

@@ -1,5 +1,0 @@
-use Rattle.eb_workers.specs.Serving.{IsFurther}
-use Rattle.eb_workers.proofs.serving.Serving.take_all_there.Given as goal
-
-abbrev pub invariant-loop : goal.invariant-loop
-invariant-loop g l = IsFurther g.O.Office.holds g.O.Office.above l.initial.self l.self

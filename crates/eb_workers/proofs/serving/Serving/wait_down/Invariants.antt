@@ -1,6 +1,0 @@
-use Rattle.eb_lines.specs.Programs.{WorksOn}
-use Rattle.eb_workers.specs.Serving.{HasServed}
-use Rattle.eb_workers.proofs.serving.Serving.wait_down.Given as goal
-
-abbrev pub invariant-loop : goal.invariant-loop
-invariant-loop g l = WorksOn (HasServed g.O.Office.holds g.O.Office.above) l.initial.self l.self l.initial.text.items l.text.items

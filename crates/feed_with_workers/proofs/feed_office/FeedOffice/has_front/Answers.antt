@@ -1,0 +1,6 @@
+use Rattle.std.proofs.Common.{refl}
+use Rattle.feed_with_workers.proofs.SameOffices.{same_office}
+use Rattle.feed_with_workers.proofs.feed_office.FeedOffice.has_front.Goals as goal
+
+pub returns-clause-same : goal.returns-clause-same
+returns-clause-same c = same_office c.args.self.now _ refl refl c.meet.ensures.this refl

@@ -1,0 +1,5 @@
+use Rattle.run_store.proofs.OneText as law
+use Rattle.run_store.proofs.laws.one_text.Goals as goal
+
+pub returns : goal.returns
+returns c = law.one_text

@@ -1,0 +1,181 @@
+//! Workers and the clerk's part run at once.
+ghost use Rattle.std.specs.Prelude.{◌≡◌, ◌≤◌, [], All};
+ghost use Rattle.run_store.specs.Rules.{is_bad};
+ghost use Rattle.run_store.specs.Sees.{at_least};
+ghost use Rattle.run_store.specs.Text.{EndsOf};
+ghost use Rattle.eb_fields.specs.Dialect.{dialect_of};
+ghost use Rattle.run_index.specs.IndexRules.{index_rules, rules_of};
+ghost use Rattle.eb_io.specs.Faults.{HasRisen};
+ghost use Rattle.eb_serve.specs.Desk.{IsWorkerOf};
+ghost use Rattle.run_with_workers.specs.IndexOffices.{IsNewSide};
+
+use crate::index_office::{IndexOffice, Side};
+use crate::serve::serve_lines;
+use eb_base::Gate;
+use eb_engine::Index;
+use eb_io::{Sink, Source};
+use eb_lines::Status;
+use eb_serve::{Clerk, Desk, Worker, work_all};
+use run_store::Plan;
+use std::alloc::Global;
+use std::sync::Wait;
+use std::thread::{Threads, join_mut};
+
+// The clerk's part, which begins with a new clerk and an empty index. In it one stop is put for each worker, after a fault
+// and where memory runs out.
+fn serve<R: Threads + Wait + Sync, S: Source, K: Sink, G: Gate + Sync>(
+    rt: &R,
+    alloc: Global,
+    desk: &Desk,
+    index: &Index,
+    gate: &G,
+    side: &mut Option<Side>,
+    plan: &Plan<'_>,
+    source: &mut S,
+    out: &mut K,
+    workers: u32,
+) -> (Status, Clerk)
+    requires { IsNewSide desk.now.queues index.now side.old }
+    ensures stops { result.1.stops ≡ workers }
+    ensures ends { EndsOf is_bad at_least (index_rules (dialect_of plan.entry.now.dialect) index.now.setting plan.entry.now.form []) result.0
+        (S.left source.old) (S.left source.new) (K.taken out.old) (K.taken out.new) }
+    ensures read_fault { result.0 ≡ Status.ReadFault → HasRisen (S.faults source.old) (S.faults source.new) }
+    ensures write_fault { result.0 ≡ Status.WriteFault → HasRisen (K.faults out.old) (K.faults out.new) }
+{
+    let Some(
+        Side {
+            clerk,
+            writer,
+            converter,
+        },
+    ) = side.take()
+    else {
+        unreachable!();
+    };
+    let office = IndexOffice {
+        desk,
+        index,
+        clerk,
+        writer,
+        converter,
+        form: plan.form,
+    };
+    let (status, office) = serve_lines(rt, alloc, office, plan.dialect, source, out, gate);
+    (status, office.stop(rt, workers))
+}
+
+// Lets the workers work beside the clerk's part, which is called once.
+fn work_beside<R: Threads + Wait + Sync, G: Gate + Sync, C: FnMut() -> (Status, Clerk)>(
+    rt: &R,
+    desk: &Desk,
+    index: &Index,
+    gate: &G,
+    workers: &mut [Worker],
+    clerk: &mut C,
+) -> (Status, Clerk)
+    requires workers { All (λ w. IsWorkerOf desk.now.queues index.now w) workers.old }
+    requires clerk { C.pre clerk.old }
+    ensures { C.step clerk.old result clerk.new }
+{
+    let (_, answered) = join_mut(
+        rt,
+        &mut ||
+            requires { All (λ w. IsWorkerOf desk.now.queues index.now w) workers.now }
+        { work_all(rt, desk, index, gate, workers) },
+        clerk,
+    );
+    answered
+}
+
+// The clerk's part beside the workers'.
+fn serve_beside<R: Threads + Wait + Sync, S: Source, K: Sink, G: Gate + Sync>(
+    rt: &R,
+    alloc: Global,
+    desk: &Desk,
+    index: &Index,
+    gate: &G,
+    workers: &mut [Worker],
+    side: &mut Option<Side>,
+    plan: &Plan<'_>,
+    source: &mut S,
+    out: &mut K,
+    count: u32,
+) -> Status
+    requires workers { All (λ w. IsWorkerOf desk.now.queues index.now w) workers.old }
+    requires side { IsNewSide desk.now.queues index.now side.old }
+    ensures ends { EndsOf is_bad at_least (index_rules (dialect_of plan.entry.now.dialect) index.now.setting plan.entry.now.form []) result
+        (S.left source.old) (S.left source.new) (K.taken out.old) (K.taken out.new) }
+    ensures read_fault { result ≡ Status.ReadFault → HasRisen (S.faults source.old) (S.faults source.new) }
+    ensures write_fault { result ≡ Status.WriteFault → HasRisen (K.faults out.old) (K.faults out.new) }
+{
+    let (status, _) = work_beside(
+        rt,
+        desk,
+        index,
+        gate,
+        workers,
+        &mut ||
+            requires { IsNewSide desk.now.queues index.now side.now }
+            ensures ends { EndsOf is_bad at_least (index_rules (dialect_of plan.entry.now.dialect) index.entry.now.setting plan.entry.now.form []) result.0
+                (S.left source.entry.now) (S.left source.exit.now) (K.taken out.entry.now) (K.taken out.exit.now) }
+            ensures read_fault { result.0 ≡ Status.ReadFault → HasRisen (S.faults source.entry.now) (S.faults source.exit.now) }
+            ensures write_fault { result.0 ≡ Status.WriteFault → HasRisen (K.faults out.entry.now) (K.faults out.exit.now) }
+        { serve(rt, alloc, desk, index, gate, side, plan, source, out, count) },
+    );
+    status
+}
+
+/// Runs over the lines that the source gives, with 1 to 16 workers that live for the whole run and answer
+/// queries beside the one writer: document lines add, query lines ask, and answers and refusals are printed on `out`, each
+/// in its line's place, and after them the summary. A query's answer is over a prefix of the accepted documents that holds
+/// at least those before its line; the clerk itself counts, when it comes to a count line. The plan says how lines are read,
+/// how what is printed is written, and the setting of the index.
+///
+/// At most 512 queries are unanswered and 4,096 lines unprinted at once: where one of these numbers is reached, and at the
+/// end of the lines, the clerk waits for answers, or answers a query itself. The call may wait, and its promise holds if its
+/// waits end. Takes the memory of the index and of the desk at once. Faults come only from outside.
+pub fn run_workers<R, S, K, G>(
+    rt: &R,
+    alloc: Global,
+    workers: u32,
+    plan: &Plan<'_>,
+    source: &mut S,
+    out: &mut K,
+    gate: &G,
+) -> Status
+where
+    R: Threads + Wait + Sync,
+    S: Source,
+    K: Sink,
+    G: Gate + Sync,
+    requires { (1 ≤ workers) × (workers ≤ 16) }
+    ensures ends { EndsOf is_bad at_least (rules_of (dialect_of plan.entry.now.dialect) plan.entry.now) result
+        (S.left source.old) (S.left source.new) (K.taken out.old) (K.taken out.new) }
+    ensures read_fault { result ≡ Status.ReadFault → HasRisen (S.faults source.old) (S.faults source.new) }
+    ensures write_fault { result ≡ Status.WriteFault → HasRisen (K.faults out.old) (K.faults out.new) }
+{
+    let Ok((index, writer, converter)) = Index::open(alloc, plan.config) else {
+        return Status::NoMemory;
+    };
+    let Ok((desk, clerk, mut all)) = Desk::open(alloc, &index, workers) else {
+        return Status::NoMemory;
+    };
+    let mut side = Some(Side {
+        clerk,
+        writer,
+        converter,
+    });
+    serve_beside(
+        rt,
+        alloc,
+        &desk,
+        &index,
+        gate,
+        all.as_mut_slice(),
+        &mut side,
+        plan,
+        source,
+        out,
+        workers,
+    )
+}

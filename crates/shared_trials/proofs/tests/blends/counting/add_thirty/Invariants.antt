@@ -1,5 +1,0 @@
-use Rattle.std.proofs.Common.{◌≡◌}
-use Rattle.shared_trials.proofs.tests.blends.counting.add_thirty.Given as goal
-
-abbrev pub invariant-loop-id : goal.invariant-loop-id
-invariant-loop-id g l = l.writer.indexes ≡ l.blend.indexes

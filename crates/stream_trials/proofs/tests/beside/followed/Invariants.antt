@@ -1,4 +1,0 @@
-use Rattle.stream_trials.proofs.tests.beside.followed.Given as goal
-
-abbrev pub ghosts-follow_alone : goal.ghosts-follow_alone
-ghosts-follow_alone a = record { name = a.blank.name; parts = a.blank.parts }

@@ -1,5 +1,0 @@
-use Rattle.std.proofs.Common.{◌≡◌}
-use Rattle.stream_trials.proofs.tests.letting_go.row.Given as goal
-
-abbrev pub invariant-loop-lent : goal.invariant-loop-lent
-invariant-loop-lent g l = l.feed.setting ≡ l.config

@@ -1,5 +1,0 @@
-use Rattle.std.proofs.Common.{◌≡◌}
-use Rattle.stream_trials.proofs.tests.rows.add_ids.Given as goal
-
-abbrev pub invariant-loop-before : goal.invariant-loop-before
-invariant-loop-before l = l.feed.feed.book ≡ l.initial.feed.feed.book

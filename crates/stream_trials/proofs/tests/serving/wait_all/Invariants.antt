@@ -1,5 +1,0 @@
-use Rattle.std.proofs.Common.{◌≡◌}
-use Rattle.stream_trials.proofs.tests.serving.wait_all.Given as goal
-
-abbrev pub invariant-loop : goal.invariant-loop
-invariant-loop g l = (l.clerk.queues ≡ l.desk.queues) × (l.clerk.stops ≡ 0)
