@@ -114,5 +114,6 @@ first_told g g' w docs t (t0 ∷ u ∷ us) (s ∷ y ∷ ys) c end first last fou
     let told : (found ≡ top (is_posting docs t) (number_before (first_below docs (u ∷ us) (last - 1)))) × IsLeaf g' (is_posting docs t) c (number_before (first_below docs (u ∷ us) (last - 1))) =
     subst (λ (n : ℕ). (found ≡ top (is_posting docs t) n) × IsLeaf g' (is_posting docs t) c n) k x in
     let own : (found ≡ top (is_posting docs t0) (number_before (first_below docs (u ∷ us) (last - 1)))) × IsLeaf g' (is_posting docs t0) c (number_before (first_below docs (u ∷ us) (last - 1))) =
-    subst (λ (z : List ℕ). (found ≡ top (is_posting docs z) (number_before (first_below docs (u ∷ us) (last - 1)))) × IsLeaf g' (is_posting docs z) c (number_before (first_below docs (u ∷ us) (last - 1)))) (sym a.0) told in
+    subst (λ (z : List ℕ). (found ≡ top (is_posting docs z) (number_before (first_below docs (u ∷ us) (last - 1))))
+    × IsLeaf g' (is_posting docs z) c (number_before (first_below docs (u ∷ us) (last - 1)))) (sym a.0) told in
     (own.0, (own.1, behind_later g g' w docs (u ∷ us) (y ∷ ys) (last - 1) r.1))

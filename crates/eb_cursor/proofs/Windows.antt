@@ -1,7 +1,7 @@
 -- Windows: places where a window ends.
 use Rattle.std.proofs.Common.{◌≡◌, ℕ, zero, suc, ◌+◌, ◌*◌, ◌/◌, ◌<◌, ◌≤◌, Bool, true, leb, min, List, [], ◌∷◌, length, ◌-◌}
 use Rattle.std.proofs.Common.{get_or, set, slice_get, Option, Some, None, length-set, refl, sym, ap, ◌∙◌, subst, inl, inr, arith}
-use Rattle.std.proofs.lemmas.Bool.{cases_Bool, and_parts, and_from, le-leb, leb-true, false≢true}
+use Rattle.std.proofs.lemmas.Bool.{cases_Bool, and_parts, and_from, le-leb, leb-true, leb-false, false≢true}
 use Rattle.std.proofs.lemmas.Slice.Eq.{bytes_eq-Decides}
 use Rattle.eb_base.specs.Document.{Doc}
 use Rattle.eb_base.specs.Query.{window}
@@ -40,10 +40,10 @@ window_under docs ts w place = go (top (is_window_end docs ts w) place) refl
         let up = reach_up w (first_below docs ts (suc y)) (first_below docs ts place) (first_up docs ts (suc y) place low) in
         omega (arith, near, up, e)
 
--- where no window ends above that, the search goes on below it
-pub window_falls : (docs : List Doc) (ts : List (List ℕ)) (w place reached : ℕ) → reached ≡ reach_end w (first_below docs ts place) → reached ≤ place
+-- where no window ends above that, the search goes on below it, or below a greater end
+pub window_falls : (docs : List Doc) (ts : List (List ℕ)) (w place reached : ℕ) → reach_end w (first_below docs ts place) ≤ reached → reached ≤ place
     → top (is_window_end docs ts w) place ≡ top (is_window_end docs ts w) reached
-window_falls docs ts w place reached e h = sym (top_between (is_window_end docs ts w) reached place (omega (arith, window_under docs ts w place)) h)
+window_falls docs ts w place reached e h = sym (top_between (is_window_end docs ts w) reached place (omega (arith, e, window_under docs ts w place)) h)
 
 -- the terms begin where they do before the greatest place of the last
 first_at_last : (docs : List Doc) (t : List ℕ) (ts : List (List ℕ)) (place : ℕ) → first_below docs (t ∷ ts) place ≡ first_below docs (t ∷ ts) (top (is_posting docs (last_term (t ∷ ts))) place)
@@ -246,6 +246,24 @@ window_told g g' docs ts v cursors cursors2 d d' start end last found m h len w 
 
 -- ---- the leaves, from the last on
 
+-- where terms are, each as near as it can before the one after it
+abbrev pub IsSpan : Gives → List Doc → List (List ℕ) → List Cursor → ℕ → ℕ → ℕ → Type 0
+IsSpan g docs ts ss end first last = (first ≡ first_below docs ts end) × (last ≡ top (is_posting docs (last_term ts)) end) × AllBehind g docs ts ss end
+
+-- so it is within a limit
+abbrev pub IsWithin : Gives → List Doc → List (List ℕ) → ℕ → List Cursor → ℕ → ℕ → ℕ → Type 0
+IsWithin g docs ts limit ss end first last = (first_below docs ts end ≤ first) × (last ≤ first + limit → first ≡ first_below docs ts end)
+    × (last ≡ top (is_posting docs (last_term ts)) end) × AllBehind g docs ts ss end
+
+span_within : (g : Gives) (docs : List Doc) (ts : List (List ℕ)) (limit : ℕ) (ss : List Cursor) (end first last : ℕ)
+    → IsSpan g docs ts ss end first last → IsWithin g docs ts limit ss end first last
+span_within g docs ts limit ss end first last r = (omega (arith, r.0), λ near. r.0, r.1, r.2)
+
+-- a limit that nothing exceeds
+pub within_span : (g : Gives) (docs : List Doc) (ts : List (List ℕ)) (limit : ℕ) (ss : List Cursor) (end first last : ℕ) → end ≤ limit
+    → IsWithin g docs ts limit ss end first last → IsSpan g docs ts ss end first last
+within_span g docs ts limit ss end first last h r = (r.1 (omega (arith, r.2, h, top_le (is_posting docs (last_term ts)) end)), r.2, r.3)
+
 -- the first leaf of a window, and the others
 abbrev pub FrontBehind : Gives → List Doc → List (List ℕ) → Cursor → List Cursor → ℕ → Type 0
 FrontBehind g docs ts s ss y = (t : List ℕ) × (us : List (List ℕ)) × (ts ≡ t ∷ us) × IsLeaf g (is_posting docs t) s (number_before (first_below docs us y)) × AllBehind g docs us ss y
@@ -265,13 +283,12 @@ last_leaf g docs (u ∷ us) s [] t end y h e leaf r = absurd r
 last_leaf g docs (u ∷ us) s (x ∷ xs) t end y h e leaf r = absurd (omega arith)
 
 pub span_last : (g : Gives) (docs : List Doc) (ts us : List (List ℕ)) (t : List ℕ) (s' : Cursor) (ss : List Cursor) (end place : ℕ) → ts ≡ t ∷ us → us ≡ [] → ss ≡ []
-    → (place ≡ top (is_posting docs t) end) × IsLeaf g (is_posting docs t) s' end
-    → (place ≡ first_below docs ts end) × (place ≡ top (is_posting docs (last_term ts)) end) × AllBehind g docs ts (s' ∷ ss) end
+    → (place ≡ top (is_posting docs t) end) × IsLeaf g (is_posting docs t) s' end → IsSpan g docs ts (s' ∷ ss) end place place
 span_last g docs ts us t s' ss end place e i k w =
     let one : ts ≡ t ∷ [] = e ∙ ap (λ (z : List (List ℕ)). t ∷ z) i in
     let all : AllBehind g docs (t ∷ []) (s' ∷ ss) end = (w.1, k) in
-    let told : (place ≡ first_below docs (t ∷ []) end) × (place ≡ top (is_posting docs (last_term (t ∷ []))) end) × AllBehind g docs (t ∷ []) (s' ∷ ss) end = (w.0, w.0, all) in
-    subst (λ (z : List (List ℕ)). (place ≡ first_below docs z end) × (place ≡ top (is_posting docs (last_term z)) end) × AllBehind g docs z (s' ∷ ss) end) (sym one) told
+    let told : IsSpan g docs (t ∷ []) (s' ∷ ss) end place place = (w.0, w.0, all) in
+    subst (λ (z : List (List ℕ)). IsSpan g docs z (s' ∷ ss) end place place) (sym one) told
 
 -- where the last term is alone, its leaf may be asked
 pub alone_can : {S : Type 0} (stands : S → Moment → Type 0) (p : S) (cursors : List Cursor) (s : Cursor) (ss : List Cursor) (end : ℕ)
@@ -282,14 +299,19 @@ alone_can stands p cursors s ss end e none r =
 
 -- and it begins and ends the terms
 pub alone_found : {S : Type 0} {stands : S → Moment → Type 0} {keeps : S → Moment → S → Moment → Type 0} {p p1 : S} (cursors : List Cursor) (s s' : Cursor) (ss : List Cursor)
-    (end place : ℕ) → cursors ≡ s ∷ ss → length ss ≡ 0 → FindsLeaf stands keeps p p1 s s' end place
-    → FindsSpan stands keeps p p1 cursors (s' ∷ ss) end (record { first = place; last = place })
-alone_found cursors s s' ss end place e none found = λ docs ts last h. record {
+    (limit end place : ℕ) → cursors ≡ s ∷ ss → length ss ≡ 0 → FindsLeaf stands keeps p p1 s s' end place
+    → FindsSpan stands keeps p p1 limit cursors (s' ∷ ss) end (record { first = place; last = place })
+alone_found cursors s s' ss limit end place e none found = λ docs ts last h. record {
   told = λ m st r.
       let a = behind_asks (gives m) docs ts cursors s ss last e r in
       let l = last_leaf (gives m) docs a.1 s ss a.0 end last h none a.3 a.4 in
-      let x = (found (is_posting docs a.0)).told m st l.2 in
-      (x.0, x.1, x.2, x.3, span_last (gives x.0) docs ts a.1 a.0 s' ss end place a.2 l.0 l.1 (x.4.0, x.4.1));
+      let x = (found (is_posting docs a.0)).told m st l.2 in (
+        x.0,
+        x.1,
+        x.2,
+        x.3,
+        span_within (gives x.0) docs ts limit (s' ∷ ss) end place place (span_last (gives x.0) docs ts a.1 a.0 s' ss end place a.2 l.0 l.1 (x.4.0, x.4.1)),
+      );
 }
 
 -- so it is for a single cursor
@@ -299,33 +321,51 @@ single_can stands p [] d end some few r = absurd (omega arith)
 single_can stands p (s ∷ []) d end some few r = alone_can stands p (s ∷ []) s [] end refl refl r
 single_can stands p (s ∷ x ∷ xs) d end some few r = absurd (omega arith)
 
-pub single_found : {S : Type 0} {stands : S → Moment → Type 0} {keeps : S → Moment → S → Moment → Type 0} {p p1 : S} (cursors : List Cursor) (d s' : Cursor) (end place : ℕ)
+pub single_found : {S : Type 0} {stands : S → Moment → Type 0} {keeps : S → Moment → S → Moment → Type 0} {p p1 : S} (cursors : List Cursor) (d s' : Cursor) (limit end place : ℕ)
     → 0 < length cursors → length cursors ≤ 1 → FindsLeaf stands keeps p p1 (get_or cursors 0 d) s' end place
-    → FindsSpan stands keeps p p1 cursors (set cursors 0 s') end (record { first = place; last = place })
-single_found [] d s' end place some few found = absurd (omega arith)
-single_found (s ∷ []) d s' end place some few found = alone_found (s ∷ []) s s' [] end place refl refl found
-single_found (s ∷ x ∷ xs) d s' end place some few found = absurd (omega arith)
+    → FindsSpan stands keeps p p1 limit cursors (set cursors 0 s') end (record { first = place; last = place })
+single_found [] d s' limit end place some few found = absurd (omega arith)
+single_found (s ∷ []) d s' limit end place some few found = alone_found (s ∷ []) s s' [] limit end place refl refl found
+single_found (s ∷ x ∷ xs) d s' limit end place some few found = absurd (omega arith)
 
 -- the last of terms is that of those after the first, where there are some
 last_behind : (t : List ℕ) (us : List (List ℕ)) → 0 < length us → last_term (t ∷ us) ≡ last_term us
 last_behind t [] h = absurd (omega arith)
 last_behind t (u ∷ us) h = refl
 
--- the terms after don't occur in their order
-pub span_none : (g g' : Gives) → Later g g' → (docs : List Doc) (ts us : List (List ℕ)) (t : List ℕ) (s : Cursor) (ss : List Cursor) (end last first behind_last : ℕ) → ts ≡ t ∷ us
-    → 0 < length ss → end ≤ last → first ≡ 0
-    → (first ≡ first_below docs us end) × (behind_last ≡ top (is_posting docs (last_term us)) end) × AllBehind g' docs us ss end
-    → IsLeaf g (is_posting docs t) s (number_before (first_below docs us last))
-    → (first ≡ first_below docs ts end) × (behind_last ≡ top (is_posting docs (last_term ts)) end) × AllBehind g' docs ts (s ∷ ss) end
-span_none g g' w docs ts us t s ss end last first behind_last e some h none r leaf =
-    let zero_is : first_below docs us end ≡ 0 = sym r.0 ∙ none in
-    let none_is : first ≡ first_below docs (t ∷ us) end = none ∙ sym (ap (λ (k : ℕ). top (is_posting docs t) (number_before k)) zero_is) in
-    let last_is = r.1 ∙ ap (λ (z : List ℕ). top (is_posting docs z) end) (sym (last_behind t us (omega (arith, behind_length g' docs us ss end r.2)))) in
-    let own : IsLeaf g' (is_posting docs t) s (number_before (first_below docs us end)) = leaf_lower g' (is_posting docs t) s (number_before (first_below docs us end))
+last_behind_is : (g : Gives) (docs : List Doc) (us : List (List ℕ)) (t : List ℕ) (ss : List Cursor) (end last : ℕ) → 0 < length ss → AllBehind g docs us ss end
+    → last ≡ top (is_posting docs (last_term us)) end → last ≡ top (is_posting docs (last_term (t ∷ us))) end
+last_behind_is g docs us t ss end last some r e = e ∙ ap (λ (z : List ℕ). top (is_posting docs z) end) (sym (last_behind t us (omega (arith, some, behind_length g docs us ss end r))))
+
+-- the first leaf isn't asked
+front_waits : (g g' : Gives) → Later g g' → (docs : List Doc) (us : List (List ℕ)) (t : List ℕ) (s : Cursor) (end last : ℕ) → end ≤ last
+    → IsLeaf g (is_posting docs t) s (number_before (first_below docs us last)) → IsLeaf g' (is_posting docs t) s (number_before (first_below docs us end))
+front_waits g g' w docs us t s end last h leaf =
+    leaf_lower g' (is_posting docs t) s (number_before (first_below docs us end))
     (number_before (first_below docs us last)) (before_up (first_below docs us end) (first_below docs us last) (first_up docs us end last h))
-    (leaf_later g g' w (is_posting docs t) s (number_before (first_below docs us last)) leaf) in
-    let told : (first ≡ first_below docs (t ∷ us) end) × (behind_last ≡ top (is_posting docs (last_term (t ∷ us))) end) × AllBehind g' docs (t ∷ us) (s ∷ ss) end = (none_is, last_is, (own, r.2)) in
-    subst (λ (z : List (List ℕ)). (first ≡ first_below docs z end) × (behind_last ≡ top (is_posting docs (last_term z)) end) × AllBehind g' docs z (s ∷ ss) end) (sym e) told
+    (leaf_later g g' w (is_posting docs t) s (number_before (first_below docs us last)) leaf)
+
+-- the terms after don't occur in their order
+pub span_none : (g g' : Gives) → Later g g' → (docs : List Doc) (ts us : List (List ℕ)) (t : List ℕ) (limit nearer : ℕ) (s : Cursor) (ss : List Cursor) (end last first behind_last : ℕ)
+    → ts ≡ t ∷ us → 0 < length ss → end ≤ last → first ≡ 0 → IsWithin g' docs us nearer ss end first behind_last
+    → IsLeaf g (is_posting docs t) s (number_before (first_below docs us last)) → IsWithin g' docs ts limit (s ∷ ss) end first behind_last
+span_none g g' w docs ts us t limit nearer s ss end last first behind_last e some h none r leaf =
+    let zero_is : first_below docs us end ≡ 0 = omega (arith, r.0, none) in
+    let none_is : first ≡ first_below docs (t ∷ us) end = none ∙ sym (ap (λ (k : ℕ). top (is_posting docs t) (number_before k)) zero_is) in
+    let told : IsSpan g' docs (t ∷ us) (s ∷ ss) end first behind_last =
+    (none_is, last_behind_is g' docs us t ss end behind_last some r.3 r.2, (front_waits g g' w docs us t s end last h leaf, r.3)) in
+    subst (λ (z : List (List ℕ)). IsWithin g' docs z limit (s ∷ ss) end first behind_last) (sym e) (span_within g' docs (t ∷ us) limit (s ∷ ss) end first behind_last told)
+
+-- the terms after are too far apart
+pub span_far : (g g' : Gives) → Later g g' → (docs : List Doc) (ts us : List (List ℕ)) (t : List ℕ) (limit nearer : ℕ) (s : Cursor) (ss : List Cursor) (end last behind behind_last : ℕ)
+    → ts ≡ t ∷ us → 0 < length ss → end ≤ last → limit ≤ nearer + 1 → 0 < behind → behind + nearer < behind_last → IsWithin g' docs us nearer ss end behind behind_last
+    → IsLeaf g (is_posting docs t) s (number_before (first_below docs us last)) → IsWithin g' docs ts limit (s ∷ ss) end (behind - 1) behind_last
+span_far g g' w docs ts us t limit nearer s ss end last behind behind_last e some h less stands far r leaf =
+    let under : first_below docs (t ∷ us) end ≤ behind - 1 =
+    omega (arith, top_le (is_posting docs t) (number_before (first_below docs us end)), before_up (first_below docs us end) behind r.0, before_is behind) in
+    let told : IsWithin g' docs (t ∷ us) limit (s ∷ ss) end (behind - 1) behind_last =
+    (under, λ near. absurd (omega (arith, near, far, less, stands)), last_behind_is g' docs us t ss end behind_last some r.3 r.2, (front_waits g g' w docs us t s end last h leaf, r.3)) in
+    subst (λ (z : List (List ℕ)). IsWithin g' docs z limit (s ∷ ss) end (behind - 1) behind_last) (sym e) told
 
 -- the first leaf is asked below the terms after it
 pub front_asked : (g g' : Gives) → Later g g' → (docs : List Doc) (us : List (List ℕ)) (t : List ℕ) (s : Cursor) (end last first : ℕ) → end ≤ last → first ≡ first_below docs us end
@@ -334,21 +374,30 @@ front_asked g g' w docs us t s end last first h e leaf =
     let low : first - 1 ≤ number_before (first_below docs us last) = omega (arith, before_is first, before_up first (first_below docs us last) (omega (arith, e, first_up docs us end last h))) in
     leaf_lower g' (is_posting docs t) s (first - 1) (number_before (first_below docs us last)) low (leaf_later g g' w (is_posting docs t) s (number_before (first_below docs us last)) leaf)
 
-pub span_step : (g g' : Gives) → Later g g' → (docs : List Doc) (ts us : List (List ℕ)) (t : List ℕ) (s' : Cursor) (ss : List Cursor) (end behind behind_last first : ℕ) → ts ≡ t ∷ us → 0 < length ss
-    → (behind ≡ first_below docs us end) × (behind_last ≡ top (is_posting docs (last_term us)) end) × AllBehind g docs us ss end
-    → (first ≡ top (is_posting docs t) (behind - 1)) × IsLeaf g' (is_posting docs t) s' (behind - 1)
-    → (first ≡ first_below docs ts end) × (behind_last ≡ top (is_posting docs (last_term ts)) end) × AllBehind g' docs ts (s' ∷ ss) end
-span_step g g' w docs ts us t s' ss end behind behind_last first e some r own =
+pub span_step : (g g' : Gives) → Later g g' → (docs : List Doc) (ts us : List (List ℕ)) (t : List ℕ) (limit : ℕ) (s' : Cursor) (ss : List Cursor) (end behind behind_last first : ℕ)
+    → ts ≡ t ∷ us → 0 < length ss → IsSpan g docs us ss end behind behind_last
+    → (first ≡ top (is_posting docs t) (behind - 1)) × IsLeaf g' (is_posting docs t) s' (behind - 1) → IsWithin g' docs ts limit (s' ∷ ss) end first behind_last
+span_step g g' w docs ts us t limit s' ss end behind behind_last first e some r own =
     let at : behind - 1 ≡ number_before (first_below docs us end) = sym (before_is behind) ∙ ap number_before r.0 in
-    let last_is = r.1 ∙ ap (λ (z : List ℕ). top (is_posting docs z) end) (sym (last_behind t us (omega (arith, behind_length g docs us ss end r.2)))) in
-    let told : (first ≡ first_below docs (t ∷ us) end) × (behind_last ≡ top (is_posting docs (last_term (t ∷ us))) end) × AllBehind g' docs (t ∷ us) (s' ∷ ss) end =
-    (own.0 ∙ ap (top (is_posting docs t)) at, last_is, (subst (λ (k : ℕ). IsLeaf g' (is_posting docs t) s' k) at own.1, behind_later g g' w docs us ss end r.2)) in
-    subst (λ (z : List (List ℕ)). (first ≡ first_below docs z end) × (behind_last ≡ top (is_posting docs (last_term z)) end) × AllBehind g' docs z (s' ∷ ss) end) (sym e) told
+    let told : IsSpan g' docs (t ∷ us) (s' ∷ ss) end first behind_last = (
+      own.0 ∙ ap (top (is_posting docs t)) at,
+      last_behind_is g docs us t ss end behind_last some r.2 r.1,
+      (subst (λ (k : ℕ). IsLeaf g' (is_posting docs t) s' k) at own.1, behind_later g g' w docs us ss end r.2),
+    ) in
+    subst (λ (z : List (List ℕ)). IsWithin g' docs z limit (s' ∷ ss) end first behind_last) (sym e) (span_within g' docs (t ∷ us) limit (s' ∷ ss) end first behind_last told)
 
 -- the terms of a window begin below the end
 pub first_within : (docs : List Doc) (ts : List (List ℕ)) (end : ℕ) → 0 < length ts → first_below docs ts end ≤ end
 first_within docs [] end h = absurd (omega arith)
 first_within docs (t ∷ ts) end h = omega (arith, top_le (is_posting docs t) (number_before (first_below docs ts end)), first_low docs ts end)
+
+-- so they do in a span
+pub span_begins : (g : Gives) (docs : List Doc) (ts : List (List ℕ)) (limit : ℕ) (ss : List Cursor) (end first last : ℕ) → 0 < length ts
+    → IsWithin g docs ts limit ss end first last → first ≤ end
+span_begins g docs ts limit ss end first last some r = elim (cases_Bool (leb last (first + limit))) [
+  | inl near ↦ omega (arith, r.1 (leb-true last (first + limit) near), first_within docs ts end some)
+  | inr far ↦ omega (arith, leb-false last (first + limit) far, r.2, top_le (is_posting docs (last_term ts)) end)
+]
 
 pub top_zero : (f : ℕ → Bool) (place : ℕ) → place ≤ 0 → place ≡ top f place
 top_zero f zero h = refl

@@ -8,7 +8,7 @@ use Rattle.eb_place.specs.Told.{Told}
 use Rattle.eb_cursor.specs.Lists.{gives}
 use Rattle.eb_cursor.specs.Opened.{CanRead}
 use Rattle.eb_cursor.specs.Ready.{Ready, AllReady, AllLeaves, AllBehind, IsBound, IsLeaf}
-use Rattle.eb_cursor.specs.Asked.{FoundMatch, FoundLeaf, FoundNot, FoundSome, FoundAll, FoundStart, FoundBound, FoundSpan, FoundEnd, IsLed, IsRound, IsLedRun, IsRun}
+use Rattle.eb_cursor.specs.Asked.{FoundMatch, FoundLeaf, FoundNot, FoundSome, FoundAll, FoundStart, FoundBound, FoundSpan, FoundWithin, FoundEnd, IsLed, IsRound, IsLedRun, IsRun}
 use Rattle.eb_cursor.specs.Posted.{is_posting, last_term, AreAll}
 use Rattle.eb_cursor.specs.Tops.{top}
 use Rattle.eb_cursor.specs.declared.cursor.Cursor.{Cursor}
@@ -74,10 +74,10 @@ abbrev pub FindsStart : {S : Type 0} → (S → Moment → Type 0) → (S → Mo
 FindsStart stands keeps s t old new end found = (docs : List Doc) (us : List (List ℕ)) (last : ℕ) → end ≤ last
     → Told stands keeps s t (λ m. AllLeaves (gives m) docs us old last) (FoundStart us docs new end found)
 
--- where the terms of a window are
-abbrev pub FindsSpan : {S : Type 0} → (S → Moment → Type 0) → (S → Moment → S → Moment → Type 0) → S → S → List Cursor → List Cursor → ℕ → Span → Type 0
-FindsSpan stands keeps s t old new end span = (docs : List Doc) (us : List (List ℕ)) (last : ℕ) → end ≤ last
-    → Told stands keeps s t (λ m. AllBehind (gives m) docs us old last) (FoundSpan us docs new end span)
+-- where the terms of a window are, the first where it is within the limit
+abbrev pub FindsSpan : {S : Type 0} → (S → Moment → Type 0) → (S → Moment → S → Moment → Type 0) → S → S → ℕ → List Cursor → List Cursor → ℕ → Span → Type 0
+FindsSpan stands keeps s t limit old new end span = (docs : List Doc) (us : List (List ℕ)) (last : ℕ) → end ≤ last
+    → Told stands keeps s t (λ m. AllBehind (gives m) docs us old last) (FoundWithin us docs limit new end span)
 
 -- the greatest place where a window ends
 abbrev pub FindsEnd : {S : Type 0} → (S → Moment → Type 0) → (S → Moment → S → Moment → Type 0) → S → S → ℕ → List Cursor → List Cursor → ℕ → ℕ → Type 0

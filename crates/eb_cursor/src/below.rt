@@ -43,6 +43,8 @@ use std::sync::ledger::Ledger;
 /// One more than the greatest document below `end` that matches, or 0. A query that is a word reads
 /// its postings one by one, which bounds its loads. The loads of an and of words are bounded by the
 /// documents of any one of them.
+// Both a search and a count call it.
+#[inline(always)]
 pub fn query_below<P: Port, L: Ledger>(
     query: &Query,
     cursors: &mut [Cursor],

@@ -72,6 +72,7 @@ impl PostingList {
     }
 
     /// The next posting, until all are given. Takes no memory.
+    #[inline(always)]
     pub fn next<P: Port, L: Ledger>(
         &mut self,
         port: &mut P,

@@ -8,6 +8,12 @@
 //! last term leaps to the end of that reach. Places only fall, so the loop terminates, and no list
 //! of places is kept.
 //!
+//! A look stops early where the terms asked so far are too far apart for the reach, since each of
+//! the others needs a place of its own before them. The last place that leaves room for the others
+//! then stands for that of the first term, which is there or before. So the leap from it skips no
+//! window either. Without that test, where 64 terms miss their reach by one place, each look at a
+//! place of the last asked all 64.
+//!
 //! Where all terms of a window are one, and they are more than two, each stands at the place below
 //! that of the term after it. So where the last falls to its next place, each other falls to the
 //! place of the term before it, and the first to its own next place. Only the first and the last
@@ -39,17 +45,20 @@ use std::sync::ledger::Ledger;
 /// Where the terms of a window are, each as near as it can before the one after it.
 #[derive(Clone, Copy)]
 pub struct Span {
-    /// One more than the place of the first term, 0 where the terms don't occur in their order.
+    /// One more than the place of the first term, 0 where the terms don't occur in their order. It
+    /// may be more than that where both are further apart than the look was asked for.
     pub first: u64,
     /// One more than the place of the last term, 0 where it doesn't occur.
     pub last: u64,
 }
 
-// Asks the terms from the last on, each for its greatest place below that of the term after it. Two
-// terms, which most windows have, are asked here, without a call.
+// Asks the terms from the last on, each for its greatest place below that of the term after it,
+// until the first can't be within `limit` places of the last. Two terms, which most windows have,
+// are asked here, without a call.
 #[inline(always)]
 #[cycle(span_below)]
 fn span_below<P: Port, L: Ledger>(
+    limit: u64,
     cursors: &mut [Cursor],
     port: &mut P,
     steps: &mut Steps<L>,
@@ -57,7 +66,7 @@ fn span_below<P: Port, L: Ledger>(
 ) -> Span
     requires some { 0 < length cursors.old }
     requires ready { CanAskBehind P.stands port.old cursors.old end }
-    ensures found { FindsSpan P.stands P.keeps port.old port.new cursors.old cursors.new end result }
+    ensures found { FindsSpan P.stands P.keeps port.old port.new limit cursors.old cursors.new end result }
     ensures loads { steps.new + loads_left cursors.new ≤ steps.old + loads_left cursors.old }
 {
     let Some((own, rest)) = cursors.split_first_mut() else {
@@ -70,9 +79,17 @@ fn span_below<P: Port, L: Ledger>(
             last: place,
         };
     }
-    let behind = rest_below(rest, port, steps, end);
+    let nearer = limit.saturating_sub(1);
+    let behind = rest_below(nearer, rest, port, steps, end);
     if behind.first == 0 {
         return behind;
+    }
+    // (the terms behind are too far apart, wherever this one is)
+    if behind.last.saturating_sub(behind.first) > nearer {
+        return Span {
+            first: behind.first - 1,
+            last: behind.last,
+        };
     }
     let first = leaf_below(own, port, steps, behind.first - 1);
     Span {
@@ -85,6 +102,7 @@ fn span_below<P: Port, L: Ledger>(
 #[inline(always)]
 #[cycle(span_below)]
 fn rest_below<P: Port, L: Ledger>(
+    limit: u64,
     cursors: &mut [Cursor],
     port: &mut P,
     steps: &mut Steps<L>,
@@ -92,11 +110,11 @@ fn rest_below<P: Port, L: Ledger>(
 ) -> Span
     requires some { 0 < length cursors.old }
     requires ready { CanAskBehind P.stands port.old cursors.old end }
-    ensures found { FindsSpan P.stands P.keeps port.old port.new cursors.old cursors.new end result }
+    ensures found { FindsSpan P.stands P.keeps port.old port.new limit cursors.old cursors.new end result }
     ensures loads { steps.new + loads_left cursors.new ≤ steps.old + loads_left cursors.old }
 {
     if cursors.len() > 1 {
-        return more_below(cursors, port, steps, end);
+        return more_below(limit, cursors, port, steps, end);
     }
     let place = leaf_below(&mut cursors[0], port, steps, end);
     Span {
@@ -108,6 +126,7 @@ fn rest_below<P: Port, L: Ledger>(
 // Asks more than one term, by a call.
 #[cycle(span_below)]
 fn more_below<P: Port, L: Ledger>(
+    limit: u64,
     cursors: &mut [Cursor],
     port: &mut P,
     steps: &mut Steps<L>,
@@ -115,10 +134,10 @@ fn more_below<P: Port, L: Ledger>(
 ) -> Span
     requires some { 0 < length cursors.old }
     requires ready { CanAskBehind P.stands port.old cursors.old end }
-    ensures found { FindsSpan P.stands P.keeps port.old port.new cursors.old cursors.new end result }
+    ensures found { FindsSpan P.stands P.keeps port.old port.new limit cursors.old cursors.new end result }
     ensures loads { steps.new + loads_left cursors.new ≤ steps.old + loads_left cursors.old }
 {
-    span_below(cursors, port, steps, end)
+    span_below(limit, cursors, port, steps, end)
 }
 
 // The end below which the last term of a window is whose first term is before `first`: at most
@@ -146,7 +165,7 @@ fn windows_below<P: Port, L: Ledger>(
 {
     let mut place = end;
     while place > 0 {
-        let span = span_below(cursors, port, steps, place);
+        let span = span_below(u64::from(reach), cursors, port, steps, place);
         let reached = end_of_reach(span.first, reach);
         if span.last <= reached {
             return span.last;
@@ -208,7 +227,8 @@ fn repeated_below<P: Port, L: Ledger>(
     ensures found { FindsEndRepeated P.stands P.keeps port.old port.new reach cursors.old cursors.new end result }
     ensures loads { steps.new + loads_left cursors.new ≤ steps.old + loads_left cursors.old }
 {
-    let mut span = span_below(cursors, port, steps, end);
+    // (each span's places are needed for the next, so this look has no limit)
+    let mut span = span_below(u64::MAX, cursors, port, steps, end);
     while span.first > 0 {
         if span.last <= end_of_reach(span.first, reach) {
             return span.last;

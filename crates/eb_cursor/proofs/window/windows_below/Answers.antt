@@ -1,9 +1,10 @@
-use Rattle.std.proofs.Common.{◌≡◌, ℕ, ◌<◌, ◌≤◌, length, arith, ◌∙◌, sym, subst, refl}
+use Rattle.std.proofs.Common.{ℕ, ◌<◌, ◌≤◌, length, arith, ◌∙◌, sym, subst, refl}
 use Rattle.eb_cursor.specs.Lists.{gives}
 use Rattle.eb_cursor.specs.Posted.{is_posting, is_window_end, first_below, reach_end, last_term}
 use Rattle.eb_cursor.proofs.Tops.{top_le}
 use Rattle.eb_cursor.proofs.Readies.{behind_lower}
-use Rattle.eb_cursor.proofs.Windows.{window_here, window_falls, first_within, behind_length, top_zero}
+use Rattle.eb_cursor.proofs.Windows.{window_here, window_falls, span_begins, behind_length, top_zero}
+use Rattle.eb_cursor.proofs.Spans.{reach_up}
 use Rattle.eb_cursor.proofs.Tellings.{told_itself, told_as, told_on}
 use Rattle.eb_cursor.proofs.window.windows_below.Goals as goal
 
@@ -24,7 +25,7 @@ end_of_reach-reached-requires g c = let r = c.requires.ready in
     let i = (c.loop-place.invariant.found r.1 r.2 r.3 r.5).told r.0 r.4 r.6 in
     let x = (c.span_below-span.ensures.found r.1 r.2 c.loop-place.place (omega arith)).told i.0 i.1 i.4.1 in
     let few = behind_length (gives r.0) r.1 r.2 c.args.cursors.now r.3 r.6 in
-    omega (arith, x.4.0, first_within r.1 r.2 c.loop-place.place (omega (arith, few, c.requires.some)), c.requires.small, c.loop-place.invariant.falls)
+    omega (arith, span_begins (gives x.0) r.1 r.2 _ _ c.loop-place.place _ _ (omega (arith, few, c.requires.some)) x.4, c.requires.small, c.loop-place.invariant.falls)
 
 pub returns-then-span-reached-clause-found : goal.returns-then-span-reached-clause-found
 returns-then-span-reached-clause-found g c = λ docs ts last h.
@@ -33,11 +34,12 @@ returns-then-span-reached-clause-found g c = λ docs ts last h.
     (λ l m n w1 w2 r i x.
     let few = behind_length (gives l) docs ts c.args.cursors.now last r in
     let some : 0 < length ts = omega (arith, few, c.requires.some) in
+    let near : c.span_below-span.result.last ≤ reach_end c.args.reach c.span_below-span.result.first = omega (arith, c.if-span-reached.true, c.end_of_reach-reached.ensures) in
     let within : c.span_below-span.result.last ≤ reach_end c.args.reach (first_below docs ts c.loop-place.place) =
-    subst (λ (k : ℕ). c.span_below-span.result.last ≤ reach_end c.args.reach k) x.0 (omega (arith, c.if-span-reached.true, c.end_of_reach-reached.ensures)) in (
-      window_here docs ts c.args.reach c.loop-place.place c.span_below-span.result.last some x.1 within ∙ sym i.0,
+    subst (λ (k : ℕ). c.span_below-span.result.last ≤ reach_end c.args.reach k) (x.1 (omega (arith, near))) near in (
+      window_here docs ts c.args.reach c.loop-place.place c.span_below-span.result.last some x.2 within ∙ sym i.0,
       behind_lower (gives n) docs ts c.span_below-span.new.cursors c.span_below-span.result.last c.loop-place.place
-          (omega (arith, x.1, top_le (is_posting docs (last_term ts)) c.loop-place.place)) x.2,
+          (omega (arith, x.2, top_le (is_posting docs (last_term ts)) c.loop-place.place)) x.3,
     ))
 
 pub loop-place-smaller : goal.loop-place-smaller
@@ -45,14 +47,14 @@ loop-place-smaller g c = let r = c.requires.ready in
     let i = (c.loop-place.invariant.found r.1 r.2 r.3 r.5).told r.0 r.4 r.6 in
     let x = (c.span_below-span.ensures.found r.1 r.2 c.loop-place.place (omega arith)).told i.0 i.1 i.4.1 in
     let over : c.end_of_reach-reached.result < c.span_below-span.result.last = c.if-span-reached.false in
-    omega (arith, x.4.1, top_le (is_posting r.1 (last_term r.2)) c.loop-place.place, over)
+    omega (arith, x.4.2, top_le (is_posting r.1 (last_term r.2)) c.loop-place.place, over)
 
 pub loop-place-preserved : goal.loop-place-preserved
 loop-place-preserved g c = let r = c.requires.ready in
     let i = (c.loop-place.invariant.found r.1 r.2 r.3 r.5).told r.0 r.4 r.6 in
     let x = (c.span_below-span.ensures.found r.1 r.2 c.loop-place.place (omega arith)).told i.0 i.1 i.4.1 in
     let over : c.end_of_reach-reached.result < c.span_below-span.result.last = c.if-span-reached.false in
-    let falls : c.end_of_reach-reached.result ≤ c.loop-place.place = omega (arith, x.4.1, top_le (is_posting r.1 (last_term r.2)) c.loop-place.place, over) in
+    let falls : c.end_of_reach-reached.result ≤ c.loop-place.place = omega (arith, x.4.2, top_le (is_posting r.1 (last_term r.2)) c.loop-place.place, over) in
     record {
       falls = omega (arith, falls, c.loop-place.invariant.falls);
       loads = omega (arith, c.span_below-span.ensures.loads, c.loop-place.invariant.loads);
@@ -60,10 +62,10 @@ loop-place-preserved g c = let r = c.requires.ready in
           λ docs ts last h. told_on g.met.P.Port.lawful g.met.P.Port.keeps_on (c.loop-place.invariant.found docs ts last h) (c.span_below-span.ensures.found docs ts c.loop-place.place (omega arith))
           (λ l r. r) (λ l m w r i. i.1)
           (λ l m n w1 w2 r i x.
-          let reached : c.end_of_reach-reached.result ≡ reach_end c.args.reach (first_below docs ts c.loop-place.place) =
-          subst (λ (k : ℕ). c.end_of_reach-reached.result ≡ reach_end c.args.reach k) x.0 c.end_of_reach-reached.ensures in (
+          let up = reach_up c.args.reach (first_below docs ts c.loop-place.place) c.span_below-span.result.first x.0 in
+          let reached : reach_end c.args.reach (first_below docs ts c.loop-place.place) ≤ c.end_of_reach-reached.result = omega (arith, up, c.end_of_reach-reached.ensures) in (
             i.0 ∙ window_falls docs ts c.args.reach c.loop-place.place c.end_of_reach-reached.result reached falls,
-            behind_lower (gives n) docs ts c.span_below-span.new.cursors c.end_of_reach-reached.result c.loop-place.place falls x.2,
+            behind_lower (gives n) docs ts c.span_below-span.new.cursors c.end_of_reach-reached.result c.loop-place.place falls x.3,
           ));
     }
 
