@@ -70,6 +70,7 @@ pub fn query_below<P: Port, L: Ledger>(
 }
 
 // One more than the greatest document below `end` that has the term, or 0, posting by posting.
+#[inline(always)]
 fn posting_below<P: Port, L: Ledger>(
     cursors: &mut [Cursor],
     port: &mut P,

@@ -10,7 +10,7 @@ ghost use Rattle.eb_doc.specs.WithFields.{id_name, text_name, read_with};
 ghost use Rattle.eb_doc.specs.Seen.{ShowsMember, ShowsMembers};
 ghost use Rattle.eb_fields.specs.Given.{told_text};
 
-use crate::seen::{Members, Names, Seen};
+use crate::seen::{Members, Seen};
 use crate::{LineFault, message_of};
 use eb_base::Document;
 use eb_fields::{Dialect, read_id};
@@ -25,17 +25,6 @@ fn name_or<'a>(given: Option<&'a str>, usual: &'a str) -> &'a str
     match given {
         Some(name) => name,
         None => usual,
-    }
-}
-
-// The names of the members that are the id and the text.
-pub(crate) fn names_by(dialect: Dialect<'_>) -> Names<'_>
-    ensures id { result.id.now ≡ id_name (dialect_of dialect.entry) }
-    ensures text { result.text.now ≡ text_name (dialect_of dialect.entry) }
-{
-    Names {
-        id: name_or(dialect.id, "id"),
-        text: name_or(dialect.text, "text"),
     }
 }
 
@@ -112,5 +101,5 @@ pub(crate) fn id_in(dialect: Dialect<'_>, value: &Value) -> Option<u64>
 pub(crate) fn text_in<'a>(dialect: Dialect<'_>, value: &'a Value) -> Option<&'a str>
     ensures { told_text result ≡ spec.text_in (dialect_of dialect.entry) (view value.now) }
 {
-    string_in(names_by(dialect).text, value)
+    string_in(name_or(dialect.text, "text"), value)
 }

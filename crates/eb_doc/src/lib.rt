@@ -26,7 +26,7 @@ use crate::fielded::read_with_fields;
 pub use crate::fields::MAX_ITEMS;
 use crate::given::document_by;
 pub use crate::laws::in_plain;
-use crate::look::{Look, look_by};
+use crate::look::{Look, look_at};
 use eb_base::{Document, NoMemory, Terms};
 use eb_fields::Dialect;
 use json::Scratch;
@@ -130,7 +130,7 @@ impl DocumentReader {
         ensures refused { IfErr result (λ fault.
             (fault ≡ LineFault.NoMemory) ⊎ (document_with (dialect_of dialect.entry) line.now ≡ Err fault)) }
     {
-        match look_by(line, &mut self.scratch, dialect) {
+        match look_at(line, &mut self.scratch, dialect) {
             Ok(Look::Object(found)) => document_by(self.alloc, dialect, found),
             Ok(Look::NoJson) => Err(LineFault::BadJson),
             Ok(Look::Other) => read_with_fields(self.alloc, dialect, line),

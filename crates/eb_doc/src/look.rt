@@ -5,9 +5,8 @@ ghost use Rattle.eb_doc.specs.Looked.{IsLook};
 ghost use Rattle.eb_doc.specs.WithFields.{id_name, text_name};
 ghost use Rattle.eb_fields.specs.Dialect.{dialect_of};
 
-use crate::given::names_by;
 use crate::members::read_members;
-use crate::seen::{Members, Names};
+use crate::seen::Members;
 use eb_base::NoMemory;
 use eb_fields::Dialect;
 use json::{Reader, Scratch, Token};
@@ -22,14 +21,15 @@ pub(crate) enum Look<'a> {
     Other,
 }
 
-// Looks at a line token by token, without a tree of its values.
+// Looks at a line token by token, without a tree of its values, for the members that are the id and
+// the text by this dialect.
 #[inline(always)]
-fn look_at<'a>(
+pub(crate) fn look_at<'a>(
     line: &'a [u8],
     scratch: &'a mut Scratch,
-    names: Names<'_>,
+    dialect: Dialect<'_>,
 ) -> Result<Look<'a>, NoMemory>
-    ensures { IfOk result (λ look. IsLook names.entry.id.now names.entry.text.now look (value_of line.now)) }
+    ensures { let how = dialect_of dialect.entry in IfOk result (λ look. IsLook (id_name how) (text_name how) look (value_of line.now)) }
 {
     let Ok(text) = str::from_utf8(line) else {
         return Ok(Look::NoJson);
@@ -40,31 +40,11 @@ fn look_at<'a>(
     let Some(Token::BeginObject) = reader.next() else {
         return Ok(Look::Other);
     };
-    let Some(found) = read_members(&mut reader, MAX_DEPTH - 1, names) else {
+    let Some(found) = read_members(&mut reader, MAX_DEPTH - 1, dialect) else {
         return Ok(Look::NoJson);
     };
     match reader.next() {
         Some(_more) => Ok(Look::NoJson),
         None => Ok(Look::Object(found)),
     }
-}
-
-// Looks at a line for the members that are the id and the text by this dialect. The usual names stand
-// here as constants, which makes comparing them cheap.
-#[inline(always)]
-pub(crate) fn look_by<'a>(
-    line: &'a [u8],
-    scratch: &'a mut Scratch,
-    dialect: Dialect<'_>,
-) -> Result<Look<'a>, NoMemory>
-    ensures { let how = dialect_of dialect.entry in IfOk result (λ look. IsLook (id_name how) (text_name how) look (value_of line.now)) }
-{
-    if dialect.id.is_none() && dialect.text.is_none() {
-        let usual = Names {
-            id: "id",
-            text: "text",
-        };
-        return look_at(line, scratch, usual);
-    }
-    look_at(line, scratch, names_by(dialect))
 }

@@ -13,13 +13,6 @@ pub(crate) const NEITHER: Seen<'static> = Seen {
     string: None,
 };
 
-// The names of the members that are looked at: the id, and the text.
-#[derive(Clone, Copy)]
-pub(crate) struct Names<'a> {
-    pub id: &'a str,
-    pub text: &'a str,
-}
-
 // What is seen of an object: its last member with the id's name, and its last one with the text's.
 #[derive(Clone, Copy)]
 pub(crate) struct Members<'a> {
