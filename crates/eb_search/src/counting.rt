@@ -41,9 +41,9 @@ pub fn count_on<P: Port, G: Gate, L: Ledger>(
         → (n : Moment) × P.stands port.new n × IsNotBefore n m × P.keeps port.old m port.new n
         × (steps.new ≤ steps.old + count_bound [] m n result t (length tally.old.buckets)) }
 {
+    let mut firsts = [0; MAX_SEGMENTS as usize];
     let count = port.load(0, steps);
     gate.reached(Point::CountLoaded(count));
-    let mut firsts = [0; MAX_SEGMENTS as usize];
     let begun = visible_segments(port, count, &mut firsts, steps);
     tally_walk(port, frame, tally, count, &firsts, begun, steps);
     count
@@ -69,9 +69,9 @@ pub fn count_likely<P: Port, G: Gate, L: Ledger>(
         → (n : Moment) × P.stands port.new n × IsNotBefore n m × P.keeps port.old m port.new n
         × (steps.new ≤ steps.old + count_bound likely.now m n result t (length tally.old.buckets)) }
 {
+    let mut firsts = [0; MAX_SEGMENTS as usize];
     let count = port.load(0, steps);
     gate.reached(Point::CountLoaded(count));
-    let mut firsts = [0; MAX_SEGMENTS as usize];
     let begun = visible_segments(port, count, &mut firsts, steps);
     tally_walk_likely(port, frame, tally, count, &firsts, likely, begun, steps);
     count

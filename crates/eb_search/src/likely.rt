@@ -39,10 +39,11 @@ pub fn search_likely<P: Port, G: Gate, L: Ledger>(
         → (n : Moment) × P.stands port.new n × IsNotBefore n m × P.keeps port.old m port.new n
         × (steps.new ≤ steps.old + and_bound likely.now n result ts (length (ids_of frame.new))) }
 {
+    // (before the load, across which it would be cleared twice)
+    let mut firsts = [0; MAX_SEGMENTS as usize];
     frame.clear();
     let count = port.load(0, steps);
     gate.reached(Point::CountLoaded(count));
-    let mut firsts = [0; MAX_SEGMENTS as usize];
     let begun = visible_segments(port, count, &mut firsts, steps);
     walk_likely(port, frame, count, &firsts, likely, begun, steps);
     count
