@@ -50,6 +50,7 @@ impl Cursor {
 }
 
 /// One more than the greatest number of the list below `end`, or 0, posting by posting.
+#[inline(always)]
 pub fn walk_below<P: Port, L: Ledger>(
     cursor: &mut Cursor,
     port: &mut P,
