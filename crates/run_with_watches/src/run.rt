@@ -17,7 +17,7 @@ use run_store::{Plan, Store, answer_lines};
 use std::alloc::Global;
 
 /// Processes the lines that the source gives, in order, over a store that holds what it holds at first, as `answer_lines`
-/// does, with watches: a line `!N QUERY` sets the watch N, and `!N` takes it away, and a document that is accepted tells
+/// does, with watches: a line `!N QUERY` sets the watch N, and `!N` removes it, and a document that is accepted tells
 /// those that are set and whose query it matches. No watch is set at first.
 pub fn answer_watched<P: Store + Drop, S: Source, K: Sink, G: Gate>(
     alloc: Global,
