@@ -1,6 +1,7 @@
 pub mod Sorting
 pub mod Each
 pub mod Blends
+pub mod PartAfterPart
 pub mod Copies
 pub mod Closings
 pub mod Law

@@ -1,4 +1,5 @@
 pub mod Blended
+pub mod Bounded
 pub mod Counted
 pub mod Parts
 pub mod Refused

@@ -3,12 +3,16 @@
 //! A blend is a list of indexes, each with its own tokens. Its frame copies the query for each
 //! part, so that a search takes no memory. The parts are asked one after the other, since a thread
 //! costs more than most searches.
-ghost use Rattle.std.specs.Prelude.{◌≡◌, ◌<◌, ℕ, map, length};
-ghost use Rattle.eb_base.specs.Query.{Tree};
+ghost use Rattle.std.specs.Prelude.{◌≡◌, ◌<◌, ℕ, List, map, length, All};
+ghost use Rattle.eb_base.specs.Query.{Tree, word, conjunction};
+ghost use Rattle.eb_base.specs.Setting.{Setting};
+ghost use Rattle.eb_base.specs.Term.{Term};
+ghost use Rattle.eb_cursor.specs.AndCosts.{word_parts};
 ghost use Rattle.eb_base.specs.Match.{answer};
 ghost use Rattle.eb_count.specs.Tallies.{HasCounted};
 ghost use Rattle.eb_cursor.specs.Frames.{ids_of, query_of, SeenAs};
 ghost use Rattle.eb_blend.specs.Blended.{blended};
+ghost use Rattle.eb_blend.specs.Bounded.{AreBounded, AreAndBounded};
 ghost use Rattle.eb_blend.specs.Counted.{all_of};
 ghost use Rattle.eb_blend.specs.Parts.{indexes_of, histories_of, lengths_of, counted, AreFronts};
 ghost use Rattle.eb_blend.specs.Frames.{AllAsk, Asks, found_of, searched_of};
@@ -61,8 +65,9 @@ impl BlendReader {
     /// and how many documents it searched of each part; the result is the sum of these numbers. No
     /// clause says that these documents are together the first ones that the blend accepted, since
     /// the writer may add between two loads. Each count is reported to the gate directly after its
-    /// load, and the steps count each load of a word. The reader must have been made with this
-    /// blend, and the frame for as many parts. Takes no memory.
+    /// load, and the steps count each load of a word. A search of a word, or of an And of words, makes
+    /// no more loads than one of each part by itself (`AreBounded`, `AreAndBounded`). The reader must
+    /// have been made with this blend, and the frame for as many parts. Takes no memory.
     pub fn search<G: Gate, L: Ledger>(
         &mut self,
         blend: &Blend,
@@ -79,6 +84,10 @@ impl BlendReader {
         ensures asks { (q : Tree) (k parts : ℕ) → Asks frame.old q k parts → Asks frame.new q k parts }
         ensures ids { (q : Tree) (k : ℕ) → Asks frame.old q k (length blend.now.indexes)
             → found_of frame.new ≡ blended q k self.new.histories (searched_of frame.new) }
+        ensures loads { (t : Term) (k : ℕ) → Asks frame.old (word t) k (length blend.now.indexes)
+            → AreBounded blend.now.setting self.old.histories self.new.histories t k steps.old steps.new }
+        ensures rounds { (ts : List Term) (k : ℕ) → Asks frame.old (conjunction (word_parts ts)) k (length blend.now.indexes)
+            → AreAndBounded blend.now.setting self.new.histories ts k steps.old steps.new }
     {
         search_each(
             self.readers.as_mut_slice(),
@@ -157,6 +166,10 @@ fn search_each<G: Gate, L: Ledger>(
     ensures fronts { AreFronts (histories_of readers.old) (histories_of readers.new) }
     ensures ask { (q : Tree) (k : ℕ) → AllAsk q k frames.old → AllAsk q k frames.new }
     ensures found { (q : Tree) (k : ℕ) → AllAsk q k frames.old → map ids_of frames.new ≡ map (answer q k) (histories_of readers.new) }
+    ensures loads { (σ : Setting) (t : Term) (k : ℕ) → All (λ w. w.setting ≡ σ) indexes.now → AllAsk (word t) k frames.old
+        → AreBounded σ (histories_of readers.old) (histories_of readers.new) t k steps.old steps.new }
+    ensures rounds { (σ : Setting) (ts : List Term) (k : ℕ) → All (λ w. w.setting ≡ σ) indexes.now → AllAsk (conjunction (word_parts ts)) k frames.old
+        → AreAndBounded σ (histories_of readers.new) ts k steps.old steps.new }
 {
     for at in 0..readers.len() {
         readers[at].search(&indexes[at], &mut frames[at], gate, steps);
