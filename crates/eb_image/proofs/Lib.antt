@@ -6,3 +6,4 @@ pub mod Nexts
 pub mod Taken
 pub mod Decode
 pub mod Heads
+pub mod Firsts

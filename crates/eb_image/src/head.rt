@@ -15,7 +15,7 @@ use eb_base::Config;
 use eb_io::{Got, Source};
 
 // The bytes of a head.
-const HEAD: usize = 20;
+pub(crate) const HEAD: usize = 20;
 
 // The bytes that a head begins with.
 const MARK: &[u8; 8] = b"EBIMAGE1";
@@ -95,7 +95,7 @@ fn first_number(bytes: &[u8], at: usize, least: u32) -> u32
 
 // Whether the bytes are a prefix of the head of an allowed setting, or all of it. If they are, they
 // are a prefix of the head of the setting that has the least of each number that they leave open.
-fn begins_head(bytes: &[u8]) -> bool
+pub(crate) fn begins_head(bytes: &[u8]) -> bool
     ensures { IsTrue result ↔ Begins IsHead bytes.now }
 {
     if bytes.len() > HEAD {
@@ -111,7 +111,7 @@ fn begins_head(bytes: &[u8]) -> bool
 }
 
 // The setting whose head these bytes are.
-fn setting_of(head: &[u8]) -> Option<Config>
+pub(crate) fn setting_of(head: &[u8]) -> Option<Config>
     requires { length head.now ≡ HEAD }
     ensures { MatchOption result (IsHead head.now → ⊥) (λ config. IsHeadOf config head.now) }
 {

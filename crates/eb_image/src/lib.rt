@@ -4,6 +4,7 @@
 
 mod fault;
 mod fill;
+mod first;
 mod head;
 mod law;
 mod part;
@@ -11,6 +12,7 @@ mod reader;
 mod scan;
 
 pub use fault::{HeadFault, ImageFault};
+pub use first::{FirstHead, FirstPart, first_head, first_part};
 pub use head::{read_head, write_head};
 pub use law::images_differ;
 pub use part::write_part;
