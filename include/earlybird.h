@@ -54,7 +54,11 @@ enum {
     EB_BAD_READING = 17,     /* how lines are to be read isn't as struct eb_reading has it */
     EB_WATCH_TAKEN = 18,     /* a watch has the number of the one that is to be set */
     EB_WATCHES_FULL = 19,    /* no watch has it, and 10,000 are set */
-    EB_NO_WATCH = 20         /* no watch has the number of the one that is to be removed */
+    EB_NO_WATCH = 20,        /* no watch has the number of the one that is to be removed */
+    EB_BAD_IMAGE = 21,       /* the bytes begin no head of an image, or no part and no byte 0, as the call wants them */
+    EB_MORE_BYTES = 22,      /* they begin what the call wants, and a whole one isn't there */
+    EB_SHORT_ROOM = 23,      /* no room for the bytes that are to be written */
+    EB_IMAGE_END = 24        /* the bytes begin with the byte 0, which ends an image */
 };
 
 /* How much of a segment is used. It has room for `docs` documents, `terms` distinct terms, 4 * terms text words (1 and the
@@ -374,12 +378,51 @@ uint32_t eb_watches_tell_line(struct eb_handle *watches, const struct eb_reading
 uint32_t eb_watches_tell_text(struct eb_handle *watches, const struct eb_reading *how, uint64_t id, const unsigned char *text, size_t text_len,
                               uint32_t *numbers, size_t numbers_len, struct eb_told *told);
 
+/* ---- images
+ *
+ * An image keeps a setting and documents in bytes, those that the program `earlybird` saves and loads: a head, a part for each document
+ * in order, and the byte 0 (docs/FORMATS.md). An index keeps no part, so a program writes an image as it adds: the head, and the part of
+ * each document that was accepted, by eb_part_of_line or eb_part_of_text; at the end the byte 0. To load one, read the setting of
+ * its head, make an index of it, and add part after part, from any pieces of the bytes, until EB_IMAGE_END:
+ *
+ *     while ((done = eb_add_part(words, words_len, &index, bytes + at, len - at, &taken)) == EB_OK)
+ *         at += taken;
+ *
+ * Proved: head, part and byte 0 are those of docs/FORMATS.md; what is taken is exactly the part of the document that is added. */
+
+/* How many bytes a head has, and a part at most. */
+enum { EB_HEAD_LEN = 20, EB_LONGEST_PART = 18443 };
+
+/* Writes the head of this setting, as eb_words has it, into the first EB_HEAD_LEN bytes of `head`. EB_BAD_SETTING, EB_SHORT_ROOM: `head`
+ * has fewer. Where it isn't EB_OK, nothing is written. */
+uint32_t eb_image_head(uint32_t segments, uint32_t docs, uint32_t terms, unsigned char *head, size_t head_len);
+
+/* Reads the setting of the head with which the bytes begin. EB_MORE_BYTES: they are the first bytes of one. EB_BAD_IMAGE: they begin
+ * none. Where it isn't EB_OK, the numbers are as before. */
+uint32_t eb_image_setting(const unsigned char *bytes, size_t bytes_len, uint32_t *segments, uint32_t *docs, uint32_t *terms);
+
+/* Write the part of the document of a line, or of an id and a text, which is read as of eb_add_line_with and eb_add_text_with, into the
+ * first bytes of `part`. EB_OK: `len` says how many these are. EB_SHORT_ROOM: it says how many there must be; EB_LONGEST_PART are always
+ * enough. Else it is what those calls would answer, but for EB_NOT_BEGUN and EB_FULL, and `len` is 0. Where it isn't EB_OK, nothing is
+ * written. */
+uint32_t eb_part_of_line(const struct eb_reading *how, const unsigned char *line, size_t line_len, unsigned char *part, size_t part_len,
+                         uint64_t *len);
+uint32_t eb_part_of_text(const struct eb_reading *how, uint64_t id, const unsigned char *text, size_t text_len, unsigned char *part,
+                         size_t part_len, uint64_t *len);
+
+/* Add the document of the part with which the bytes begin, as eb_add_text and eb_writer_add_text do. EB_OK: `taken` says how many bytes
+ * the part has, and the next one begins behind them. EB_IMAGE_END: they begin with the byte 0, and the image is over with it.
+ * EB_MORE_BYTES: there is none, or they are the first bytes of a part; call again with them and those behind. EB_BAD_IMAGE: they begin
+ * neither. EB_FULL, EB_NO_MEMORY. Where it isn't EB_OK, nothing is changed, and `taken` is 0. */
+uint32_t eb_add_part(uint64_t *words, size_t words_len, struct eb_index *index, const unsigned char *bytes, size_t bytes_len, uint64_t *taken);
+uint32_t eb_writer_add_part(struct eb_handle *writer, const unsigned char *bytes, size_t bytes_len, uint64_t *taken);
+
 /* The name of what a call answers. */
 static inline const char *eb_name(uint32_t number) {
     static const char *const names[] = {
         "ok", "bad line", "long line", "bad json", "bad document", "too long", "full", "bad number", "bad query",
         "query too deep", "query too large", "bad text", "no memory", "bad setting", "bad size", "not begun", "bad handle", "bad reading",
-        "watch taken", "watches full", "no watch",
+        "watch taken", "watches full", "no watch", "bad image", "more bytes", "short room", "image end",
     };
     return number < sizeof names / sizeof *names ? names[number] : "unknown";
 }

@@ -9,3 +9,4 @@ pub mod Streaming
 pub mod AddingMany
 pub mod Counting
 pub mod Watching
+pub mod Images

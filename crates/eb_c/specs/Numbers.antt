@@ -24,3 +24,7 @@ refusal_number refusal.BadReading = 17
 refusal_number refusal.WatchTaken = 18
 refusal_number refusal.WatchesFull = 19
 refusal_number refusal.NoWatch = 20
+refusal_number refusal.BadImage = 21
+refusal_number refusal.MoreBytes = 22
+refusal_number refusal.ShortRoom = 23
+refusal_number refusal.ImageEnd = 24

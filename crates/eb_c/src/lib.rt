@@ -20,6 +20,7 @@ mod dialects;
 mod exports;
 mod handle;
 mod held;
+mod images;
 mod index;
 mod leading;
 mod lent_with;
@@ -45,6 +46,10 @@ pub use exports::{
 };
 pub use handle::Handle;
 pub use held::{Held, HeldConverter, HeldReader, HeldWriter};
+pub use images::{
+    eb_add_part, eb_image_head, eb_image_setting, eb_part_of_line, eb_part_of_text,
+    eb_writer_add_part,
+};
 pub use index::{Answer, Index, Segment};
 pub use leading::{HeldFollower, HeldLeader};
 pub use lent_with::{

@@ -48,6 +48,15 @@ pub enum Refusal {
     WatchesFull,
     /// No watch has the number of the one that is to be removed.
     NoWatch,
+    /// The bytes begin no head of an image of an allowed setting, or no part of a document within
+    /// the limits and no byte 0, as the call wants them.
+    BadImage,
+    /// The bytes begin what the call wants, and a whole one isn't there.
+    MoreBytes,
+    /// There is no room for the bytes.
+    ShortRoom,
+    /// The bytes begin with the byte 0, which ends an image.
+    ImageEnd,
 }
 
 impl Refusal {
@@ -75,6 +84,10 @@ impl Refusal {
             Refusal::WatchTaken => 18,
             Refusal::WatchesFull => 19,
             Refusal::NoWatch => 20,
+            Refusal::BadImage => 21,
+            Refusal::MoreBytes => 22,
+            Refusal::ShortRoom => 23,
+            Refusal::ImageEnd => 24,
         }
     }
 }
