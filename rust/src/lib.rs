@@ -11,6 +11,8 @@
 //! # Ok::<(), earlybird::Refusal>(())
 //! ```
 //!
+//! An index is gone with its process; [`Saving`] writes its image as it adds, and [`Index::load`] reads one.
+//!
 //! [`shared`] has an index that threads share: one thread adds while others search. [`stream`] has a feed that they share and that
 //! never ends.
 //!
@@ -18,12 +20,14 @@
 //! private, belong together, and only the calls write them. What the calls answer is proved (`crates/eb_c`); these types are
 //! tested.
 
+pub use images::{Adds, ImageError, Saving};
 pub use reading::Reading;
 pub use watches::Watches;
 use reading::How;
 use std::fmt;
 
 mod handle;
+mod images;
 mod reading;
 pub mod shared;
 pub mod stream;

@@ -3,7 +3,8 @@
 
 use crate::handle::{Handle, Room, Side};
 use crate::reading::How;
-use crate::{counted, refused, Answer, Count, Counted, Reading, Refusal, Told};
+use crate::{counted, images, refused, Answer, Count, Counted, ImageError, Reading, Refusal, Told};
+use std::io::Read;
 use std::sync::Arc;
 
 extern "C" {
@@ -64,7 +65,26 @@ pub fn open_with(segments: u32, docs: u32, terms: u32, reading: Reading) -> Resu
     let (writer, converter) = (Side::closed(), Side::closed());
     // SAFETY: two handles that no other call has.
     Refusal::of(unsafe { eb_open(writer.at(), converter.at(), segments, docs, terms) }, 0)?;
-    Ok((Writer { side: writer, reading }, Converter { side: converter }))
+    Ok((Writer { side: writer, reading, setting: [segments, docs, terms] }, Converter { side: converter }))
+}
+
+/// Opens an index as [`open_with`] does, of the setting and the messages of an image, as [`Index::load`](crate::Index::load) reads it.
+///
+/// ```
+/// use earlybird::{shared, Reading, Saving};
+/// # fn main() -> Result<(), earlybird::ImageError> {
+/// let (writer, _converter) = shared::open(1, 1000, 1024)?;
+/// let mut saving = Saving::new(writer, Vec::new())?;
+/// saving.add(7, "hello world")?;
+/// let (_, image) = saving.finish()?;
+///
+/// let (mut writer, _converter) = shared::load(&image[..], Reading::new())?;
+/// assert_eq!(writer.reader()?.search(10, "hello")?.ids, [7]);
+/// # Ok(())
+/// # }
+/// ```
+pub fn load(reader: impl Read, reading: Reading) -> Result<(Writer, Converter), ImageError> {
+    images::load_shared(reader, reading)
 }
 
 /// The one writer of an index. It may go to another thread, and can't be cloned.
@@ -75,8 +95,9 @@ pub fn open_with(segments: u32, docs: u32, terms: u32, reading: Reading) -> Resu
 /// # Ok::<(), earlybird::Refusal>(())
 /// ```
 pub struct Writer {
-    side: Side,
-    reading: Arc<Reading>,
+    pub(crate) side: Side,
+    pub(crate) reading: Arc<Reading>,
+    pub(crate) setting: [u32; 3],
 }
 
 impl Writer {

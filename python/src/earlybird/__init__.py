@@ -8,7 +8,8 @@
     Answer([101], seen=2)
 
 Where one thread adds while others search, `Writer` of `earlybird.shared` opens an index that they share, and `Leader` of
-`earlybird.stream` a feed that never ends. `Watches` are standing queries. `earlybird.refusals` has the reasons why a call did nothing.
+`earlybird.stream` a feed that never ends. `Watches` are standing queries. An `Index` or `Writer` with an `image` keeps its messages
+in a file, which `load` reads again. `earlybird.refusals` has the reasons why a call did nothing.
 
 A message can be found as soon as `add` returns, and the newest matches come first. Queries are those of the program `earlybird`
 (docs/QUERIES.md), and so are the refusals, each an exception of its name. The classes of the three modules are names of this one, too.
@@ -18,6 +19,7 @@ from earlybird._index import Answer, Count, Histogram, Index, Segment
 from earlybird._refusals import (
     BadDocument,
     BadHandle,
+    BadImage,
     BadJson,
     BadLine,
     BadNumber,

@@ -4,6 +4,7 @@ import threading
 from typing import Any, Callable, Iterable, List, NamedTuple, Optional, Tuple, Union
 
 from earlybird import _library
+from earlybird._images import Image, Path, Saved
 from earlybird._reading import Reading
 from earlybird._refusals import BadDocument, BadHandle, BadNumber, BadSetting, BadText, Refused, refusal, shown, whole
 
@@ -51,7 +52,7 @@ class Histogram(NamedTuple):
     seen: int
 
 
-class Index:
+class Index(Saved):
     """An index of `segments` segments, each with room for `docs` messages (1 to 16,777,216) and `terms` distinct words (a power
     of two from 1,024 to 1,048,576). It takes all its memory at once: 58 MiB by default, at most 1 GiB. Any thread may call
     it; calls on one index go one after another.
@@ -60,8 +61,12 @@ class Index:
     messages are found too, one to 8 names; with `words="pieces"` the parts of a word between its marks are words; `id` and `text`
     name the members that are a line's id and text.
 
-    Raises `BadSetting` where no index can have these numbers, `BadReading` where lines can't be read so, and MemoryError where there
-    is no room for it.
+    With `image`, each message that is accepted is also written to a file beside that path, whose name has `.adding` behind it. `close`, or
+    the end of a `with`, has the path lead to the image of all of them; until then the file that was there stays, also where the process
+    ends. Another index is made of it by `load`. An image keeps the ids and the words of messages, and no texts.
+
+    Raises `BadSetting` where no index can have these numbers, `BadReading` where lines can't be read so, MemoryError where there is no
+    room for it, and OSError where no file can be made beside the path.
 
         >>> Index(segments=1, docs=1000, terms=1024)
         Index(segments=1, docs=1000, terms=1024)
@@ -81,6 +86,7 @@ class Index:
         words: Optional[str] = None,
         id: Optional[str] = None,
         text: Optional[str] = None,
+        image: Optional[Path] = None,
     ) -> None:
         self._setting = numbers_of(segments, docs, terms)
         self._calls = _library.load()
@@ -90,10 +96,12 @@ class Index:
             raise BadSetting(told_setting(*self._setting))
         self._words, self._numbers = (ctypes.c_uint64 * size)(), _library.Numbers()
         self._ids, self._told = (ctypes.c_uint64 * MOST_IDS)(), _library.Told()
-        self._index = (ctypes.addressof(self._words), size, ctypes.addressof(self._numbers))
+        self._to = (ctypes.addressof(self._words), size, ctypes.addressof(self._numbers))
         self._room = (ctypes.addressof(self._ids), MOST_IDS, ctypes.addressof(self._told))
-        self._alone, self._closed = threading.Lock(), False
-        self._done(self._calls.eb_begin(*self._index, *self._setting))
+        self._alone, self._closed, self._by_part = threading.Lock(), False, self._calls.eb_add_part
+        self._done(self._calls.eb_begin(*self._to, *self._setting))
+        if image is not None:
+            self._image = Image(self._calls, image, self._setting)
 
     def __repr__(self) -> str:
         return "Index(segments=%d, docs=%d, terms=%d)" % self._setting
@@ -103,10 +111,15 @@ class Index:
             raise BadHandle() if self._closed else refusal(number, self._told.column)
 
     def close(self) -> None:
-        """Gives its memory back; it then has no message, and calls that add or ask raise `BadHandle`."""
+        """Gives its memory back; it then has no message, and calls that add or ask raise `BadHandle`. Its `image`, if it has one, is whole
+        then, and is what the path leads to.
+
+        Raises OSError where the image can't be written; the file at the path is then as before.
+        """
         with self._alone:
             self._closed, self._words, self._numbers = True, (ctypes.c_uint64 * 0)(), _library.Numbers()
-            self._index = (ctypes.addressof(self._words), 0, ctypes.addressof(self._numbers))
+            self._to = (ctypes.addressof(self._words), 0, ctypes.addressof(self._numbers))
+            self._end_image()
 
     def __enter__(self) -> "Index":
         return self
@@ -124,7 +137,8 @@ class Index:
     def add(self, id: int, text: str) -> None:
         """Adds the message of an id (0 to 2**64 - 1) and a text; the next search finds it.
 
-        Raises `BadDocument` for another id, `BadText`, `TooLong`, `Full` or `NoMemory`; then nothing is changed.
+        Raises `BadDocument` for another id, `BadText`, `TooLong`, `Full` or `NoMemory`; then nothing is changed. Raises OSError where
+        the message is added, and can't be written to the `image`: that is given up.
 
             >>> index = Index(segments=1, docs=1, terms=1024)
             >>> index.add(7, "hello world")
@@ -135,8 +149,7 @@ class Index:
         """
         whole(id, 0, MOST_ID, "id", BadDocument)
         data = bytes_of(text)
-        with self._alone:
-            self._done(self._calls.eb_add_text_with(*self._index, self._reading.at, id, data, len(data)))
+        self._add_by(self._calls.eb_add_text_with, self._calls.eb_part_of_text, id, data, len(data))
 
     def add_all(self, messages: Iterable[Tuple[int, str]]) -> List[Tuple[int, Refused]]:
         """Adds messages in order, each an id and a text, and goes on after a refusal. Answers the refused ones: where each stands
@@ -146,13 +159,7 @@ class Index:
             >>> index.add_all([(7, "hello world"), (-1, "no id")])
             [(1, BadDocument('bad document'))]
         """
-        refused = []
-        for at, (id, text) in enumerate(messages):
-            try:
-                self.add(id, text)
-            except Refused as why:
-                refused.append((at, why))
-        return refused
+        return added(self.add, messages)
 
     def search(self, query: str, k: int = 10) -> Answer:
         """Answers a query, as `train -late`, with the ids of the newest `k` matches, 1 to 1,000.
@@ -171,7 +178,7 @@ class Index:
         whole(k, 1, MOST_IDS, "k", BadNumber)
         data = bytes_of(query)
         with self._alone:
-            return self._answer(self._calls.eb_ask_text_with(*self._index, self._reading.at, k, data, len(data), *self._room))
+            return self._answer(self._calls.eb_ask_text_with(*self._to, self._reading.at, k, data, len(data), *self._room))
 
     def search_all(self, queries: Iterable[str], k: int = 10) -> List[Union[Answer, Refused]]:
         """Answers queries in order; in the place of one that is refused stands why.
@@ -217,7 +224,7 @@ class Index:
 
     def _counted(self, query: str, start: int, width: int, number: int) -> Tuple[List[int], int, int]:
         with self._alone:
-            return counted(self._done_of, self._calls.eb_count_text_with, (*self._index, self._reading.at), query, start, width, number)
+            return counted(self._done_of, self._calls.eb_count_text_with, (*self._to, self._reading.at), query, start, width, number)
 
     def _done_of(self, number: int, column: int) -> None:
         if number:
@@ -226,10 +233,9 @@ class Index:
     def add_line(self, line: bytes) -> None:
         """Adds the message of a line of `earlybird run`, as `{"id":7,"text":"hello world"}`, without its end.
 
-        Raises `BadLine`, `LongLine`, `BadJson`, `BadDocument`, `TooLong`, `Full` or `NoMemory`; then nothing is changed.
+        Raises `BadLine`, `LongLine`, `BadJson`, `BadDocument`, `TooLong`, `Full` or `NoMemory`; then nothing is changed. OSError as `add`.
         """
-        with self._alone:
-            self._done(self._calls.eb_add_line_with(*self._index, self._reading.at, line, len(line)))
+        self._add_by(self._calls.eb_add_line_with, self._calls.eb_part_of_line, line, len(line))
 
     def search_line(self, line: bytes) -> Answer:
         """Answers a query line of `earlybird run`, as `?10 train`, without its end. A column counts from the `?`.
@@ -237,7 +243,7 @@ class Index:
         Raises `BadLine`, `LongLine`, and what `search` raises.
         """
         with self._alone:
-            return self._answer(self._calls.eb_ask_line_with(*self._index, self._reading.at, line, len(line), *self._room))
+            return self._answer(self._calls.eb_ask_line_with(*self._to, self._reading.at, line, len(line), *self._room))
 
     def __len__(self) -> int:
         """How many messages are accepted."""
@@ -257,6 +263,17 @@ class Index:
         with self._alone:
             self._calls.eb_last_segment(ctypes.addressof(self._numbers), ctypes.addressof(last))
         return Segment(*(getattr(last, name) for name in Segment._fields))
+
+
+def added(add: Callable[[int, str], None], messages: Iterable[Tuple[int, str]]) -> List[Tuple[int, Refused]]:
+    """Adds messages one by one, and answers the refused ones: where each stands, from 0, and why."""
+    refused = []
+    for at, (id, text) in enumerate(messages):
+        try:
+            add(id, text)
+        except Refused as why:
+            refused.append((at, why))
+    return refused
 
 
 def bytes_of(text: str) -> bytes:

@@ -139,11 +139,17 @@ class NoWatch(Refused):
     number, name = 20, "no watch"
 
 
+class BadImage(Refused, ValueError):
+    """The file isn't a whole image, as `earlybird save` and an index with an `image` write it; `detail` says why."""
+
+    number, name = 21, "bad image"
+
+
 BY_NUMBER: Dict[int, Type[Refused]] = {
     it.number: it
     for it in (
         BadLine, LongLine, BadJson, BadDocument, TooLong, Full, BadNumber, QueryTooDeep, QueryTooLarge, BadText, NoMemory, BadSetting, BadHandle,
-        BadReading, WatchTaken, WatchesFull, NoWatch,
+        BadReading, WatchTaken, WatchesFull, NoWatch, BadImage,
     )
 }
 

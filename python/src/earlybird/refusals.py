@@ -10,6 +10,7 @@
 from earlybird._refusals import (
     BadDocument,
     BadHandle,
+    BadImage,
     BadJson,
     BadLine,
     BadNumber,
@@ -30,6 +31,6 @@ from earlybird._refusals import (
 )
 
 __all__ = [
-    "BadDocument", "BadHandle", "BadJson", "BadLine", "BadNumber", "BadQuery", "BadReading", "BadSetting", "BadText", "Full", "LongLine", "NoMemory",
-    "NoWatch", "QueryTooDeep", "QueryTooLarge", "Refused", "TooLong", "WatchTaken", "WatchesFull",
+    "BadDocument", "BadHandle", "BadImage", "BadJson", "BadLine", "BadNumber", "BadQuery", "BadReading", "BadSetting", "BadText", "Full", "LongLine",
+    "NoMemory", "NoWatch", "QueryTooDeep", "QueryTooLarge", "Refused", "TooLong", "WatchTaken", "WatchesFull",
 ]

@@ -1,6 +1,6 @@
-//! Fields, a watch and a count: what this prints is tour.txt, as the programs of the same name in the other languages do.
+//! Fields, a watch, a count and an image: what this prints is tour.txt, as the programs of the same name in the other languages do.
 
-use earlybird::{Index, Reading, Refusal, Watches};
+use earlybird::{ImageError, Index, Reading, Saving, Watches};
 
 const LINES: [&[u8]; 3] = [
     br#"{"id":100,"text":"com.acme.billing failed","level":"error"}"#,
@@ -13,10 +13,11 @@ fn row(numbers: impl IntoIterator<Item = u64>) -> String {
     numbers.into_iter().map(|number| format!(" {number}")).collect()
 }
 
-fn main() -> Result<(), Refusal> {
+fn main() -> Result<(), ImageError> {
     let how = Reading::new().fields(["level"]).pieces();
-    let mut index = Index::with_reading(1, 1000, 1024, how.clone())?;
-    let mut watches = Watches::with_reading(how)?;
+    // the image keeps the messages that the index accepts
+    let mut index = Saving::new(Index::with_reading(1, 1000, 1024, how.clone())?, Vec::new())?;
+    let mut watches = Watches::with_reading(how.clone())?;
 
     // a watch is told of each message that matches it
     watches.set(7, "level:error billing")?;
@@ -34,5 +35,10 @@ fn main() -> Result<(), Refusal> {
     // how many there are, and when: the ids are times
     let count = index.histogram("level:error", 100, 60, 2)?;
     println!("errors: {}, by the minute:{}", count.total, row(count.buckets));
+
+    // the image makes another index
+    let (_, image) = index.finish()?;
+    let again = Index::load(&image[..], how)?;
+    println!("from the image:{}", row(again.search(10, "failed")?));
     Ok(())
 }
